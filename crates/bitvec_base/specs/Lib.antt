@@ -1,0 +1,11 @@
+pub mod Accessors
+pub mod Element
+pub mod MaskLaws
+pub mod Memory
+pub mod MemoryLaws
+pub mod Order
+pub mod OrderLaws
+pub mod PartLaws
+pub mod Window
+pub mod WindowLaws
+pub mod WriteLaws

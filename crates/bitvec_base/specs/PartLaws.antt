@@ -1,0 +1,84 @@
+-- A part of one element, its bits from the index `from` up to, without, `to`: what a masked read or write of it is to the memory.
+use Rattle.std.specs.Prelude.{◌≡◌, ℕ, ◌+◌, ◌-◌, ◌*◌, ◌^◌, ◌<◌, ◌≤◌, ◌==◌, Bool, true, false, not, List, length, map, replicate, count_by, slice_range, slice_set, slice_index, bit_and, bit_or, bit_xor, count_ones}
+use Rattle.std.specs.List.{range_with_len}
+use Rattle.std.specs.Int.{bit_at}
+use Rattle.std.proofs.Common.{arith, sym, ◌∙◌, ap}
+use Rattle.std.proofs.lemmas.List.{same_lists, length-replicate, get_or-replicate, length-map}
+use Rattle.std.proofs.lemmas.List.FromFn.{length-map-range_with_len, get_or-map-range_with_len}
+use Rattle.std.proofs.lemmas.Nat.Bits.{bit_at_ones, bit_at-zero}
+use Rattle.bitvec_base.specs.Memory.{memory_bits, element_bits}
+use Rattle.bitvec_base.specs.Order.{Permutes, mask_of}
+use Rattle.bitvec_base.specs.Window.{write_at}
+use Rattle.bitvec_base.specs.WriteLaws.{length-slice_range, get-slice_range, write_at-inside, range-range}
+use Rattle.bitvec_base.specs.MaskLaws.{mask_of-count}
+use Rattle.bitvec_base.specs.MemoryLaws.{length-memory_bits, length-element_bits, get-element_bits, element_fits, element-range, set-element, element-or_mask, element-and_not_mask, element-xor_mask}
+
+-- a slice of one element is a slice of the memory
+pub part-range : (b : ℕ) (at : ℕ → ℕ → ℕ) (xs : List ℕ) (e from to : ℕ) → e < length xs → to ≤ b → slice_range (element_bits b at (slice_index xs e)) from to ≡ slice_range (memory_bits b at xs) (e * b + from) (e * b + to)
+part-range b at xs e from to h fits =
+    let whole = length-memory_bits b at xs in
+    let inside = element_fits b e (length xs) h in
+    ap (λ (l : List Bool). slice_range l from to) (sym (element-range b at xs e h))
+    ∙ range-range (memory_bits b at xs) (e * b) (e * b + b) from to (omega arith) (omega arith)
+
+-- a write into one element is a write into the memory
+pub part-write : (b : ℕ) (at : ℕ → ℕ → ℕ) (xs : List ℕ) (e from to v : ℕ) (new : List Bool) → 0 < b → e < length xs → from ≤ to → to ≤ b → length new ≡ to - from
+    → element_bits b at v ≡ write_at (element_bits b at (slice_index xs e)) from new
+    → memory_bits b at (slice_set xs e v) ≡ write_at (memory_bits b at xs) (e * b + from) new
+part-write b at xs e from to v new some h le fits long wrote =
+    let whole = length-memory_bits b at xs in
+    let inside = element_fits b e (length xs) h in
+    set-element b at xs e v some h
+    ∙ ap (λ (l : List Bool). write_at (memory_bits b at xs) (e * b) l) (wrote ∙ ap (λ (l : List Bool). write_at l from new) (sym (element-range b at xs e h)))
+    ∙ write_at-inside (memory_bits b at xs) (e * b) (e * b + b) from new (omega arith) (omega arith)
+
+-- all bits of an element set, or none
+pub element-all : (b : ℕ) (at : ℕ → ℕ → ℕ) (p : Permutes b (at b)) → element_bits b at (2 ^ b - 1) ≡ replicate b true
+element-all b at p =
+    let long = length-element_bits b at (2 ^ b - 1) in
+    let same = length-replicate b true in
+    same_lists _ _ (omega arith) (λ k d inside.
+    let below : k < b = omega arith in
+    get-element_bits b at (2 ^ b - 1) k d below ∙ ap (λ (c : ℕ). c == 1) (bit_at_ones b (at b k) (p.below k below)) ∙ sym (get_or-replicate b k true d below))
+
+pub element-none : (b : ℕ) (at : ℕ → ℕ → ℕ) → element_bits b at 0 ≡ replicate b false
+element-none b at =
+    let long = length-element_bits b at 0 in
+    let same = length-replicate b false in
+    same_lists _ _ (omega arith) (λ k d inside.
+    let below : k < b = omega arith in
+    get-element_bits b at 0 k d below ∙ ap (λ (c : ℕ). c == 1) (bit_at-zero (at b k)) ∙ sym (get_or-replicate b k false d below))
+
+-- the masked writes
+pub part-set : (b : ℕ) (at : ℕ → ℕ → ℕ) (p : Permutes b (at b)) (xs : List ℕ) (e from to : ℕ) → 0 < b → e < length xs → from ≤ to → to ≤ b → memory_bits b at (slice_set xs e (bit_or (slice_index xs e) (mask_of (at b) from to))) ≡ write_at (memory_bits b at xs) (e * b + from) (replicate (to - from) true)
+part-set b at p xs e from to some h le fits =
+    part-write b at xs e from to _ _ some h le fits (length-replicate (to - from) true) (element-or_mask b at p (slice_index xs e) from to le fits)
+
+pub part-clear : (b : ℕ) (at : ℕ → ℕ → ℕ) (p : Permutes b (at b)) (xs : List ℕ) (e from to : ℕ) → 0 < b → e < length xs → from ≤ to → to ≤ b → memory_bits b at (slice_set xs e (bit_and (slice_index xs e) (2 ^ b - 1 - mask_of (at b) from to))) ≡ write_at (memory_bits b at xs) (e * b + from) (replicate (to - from) false)
+part-clear b at p xs e from to some h le fits =
+    part-write b at xs e from to _ _ some h le fits (length-replicate (to - from) false) (element-and_not_mask b at p (slice_index xs e) from to le fits)
+
+pub part-flip : (b : ℕ) (at : ℕ → ℕ → ℕ) (p : Permutes b (at b)) (xs : List ℕ) (e from to : ℕ) → 0 < b → e < length xs → from ≤ to → to ≤ b → memory_bits b at (slice_set xs e (bit_xor (slice_index xs e) (mask_of (at b) from to))) ≡ write_at (memory_bits b at xs) (e * b + from) (map not (slice_range (memory_bits b at xs) (e * b + from) (e * b + to)))
+part-flip b at p xs e from to some h le fits =
+    let whole = length-element_bits b at (slice_index xs e) in
+    let part = length-slice_range (element_bits b at (slice_index xs e)) from to (omega arith) in
+    let flipped = length-map (slice_range (element_bits b at (slice_index xs e)) from to) not in
+    part-write b at xs e from to _ _ some h le fits (omega arith) (element-xor_mask b at p (slice_index xs e) from to le fits)
+    ∙ ap (λ (l : List Bool). write_at (memory_bits b at xs) (e * b + from) (map not l)) (part-range b at xs e from to h fits)
+
+-- the bits of a part, as a list
+part-bits : (b : ℕ) (at : ℕ → ℕ → ℕ) (v from to : ℕ) → from ≤ to → to ≤ b → map (λ i. bit_at v (at b i) == 1) (range_with_len from (to - from)) ≡ slice_range (element_bits b at v) from to
+part-bits b at v from to le fits =
+    let f = λ (i : ℕ). bit_at v (at b i) == 1 in
+    let whole = length-element_bits b at v in
+    let part = length-slice_range (element_bits b at v) from to (omega arith) in
+    let long = length-map-range_with_len f from (to - from) in
+    same_lists _ _ (omega arith) (λ k d inside.
+    get_or-map-range_with_len f from (to - from) k (from + k) d (omega arith) (omega arith)
+    ∙ sym (get-slice_range (element_bits b at v) from to k d (omega arith) ∙ get-element_bits b at v (from + k) d (omega arith)))
+
+-- the ones behind a mask are the ones of the part
+pub part-count : (b : ℕ) (at : ℕ → ℕ → ℕ) (p : Permutes b (at b)) (xs : List ℕ) (e from to : ℕ) → e < length xs → from ≤ to → to ≤ b → count_ones (bit_and (slice_index xs e) (mask_of (at b) from to)) ≡ count_by (λ (bit : Bool). bit) (slice_range (memory_bits b at xs) (e * b + from) (e * b + to))
+part-count b at p xs e from to h le fits =
+    mask_of-count b (at b) p (slice_index xs e) from to le fits
+    ∙ ap (λ (l : List Bool). count_by (λ (bit : Bool). bit) l) (part-bits b at (slice_index xs e) from to le fits ∙ part-range b at xs e from to h fits)

@@ -1,0 +1,24 @@
+-- Windows of a list of bits, and writes into them.
+use Rattle.std.specs.Prelude.{ℕ, ◌+◌, ◌-◌, ◌/◌, ◌^◌, ◌≤◌, List, ◌++◌, length, take, drop, slice_range}
+use Rattle.bitvec_base.specs.declared.window.Window.{Window}
+
+-- the most bits that a memory may have
+abbrev pub max_bits : ℕ
+max_bits = (2 ^ 64 - 1) / 8
+
+-- the list with `new` in place of as many values, from the place s on
+unfoldable pub write_at : {X : Type 0} → List X → ℕ → List X → List X
+write_at list s new = take s list ++ (new ++ drop (s + length new) list)
+
+-- the window lies in a memory of n bits
+pub record IsWithin (window : Window) (n : ℕ) : Type 0 where
+  pub start : window.start ≤ n
+  pub len : window.len ≤ n - window.start
+
+-- the bits in a window
+unfoldable pub window_of : {X : Type 0} → List X → Window → List X
+window_of bits window = slice_range bits window.start (window.start + window.len)
+
+-- the memory's bits with the window holding `new`
+abbrev pub write_window : {X : Type 0} → List X → Window → List X → List X
+write_window bits window new = write_at bits window.start new

@@ -1,0 +1,43 @@
+//! How many loads and stores an accessor made. The counts exist only in proofs.
+ghost use Rattle.std.specs.Prelude.{◌≡◌, ℕ, ◌+◌};
+ghost use Rattle.std.specs.Borrow.{ftrue};
+
+use std::marker::Model;
+
+// The counts of one accessor. A value takes no bytes, and only these three functions make one.
+#[derive(Drop)]
+pub(crate) struct Counts {
+    pub ghost loads: { ℕ },
+    pub ghost stores: { ℕ },
+}
+
+impl Model for Counts {
+    ghost also_owns = { λ _. ftrue };
+}
+
+impl Counts {
+    pub(crate) fn new() -> Counts
+        ensures loads { result.loads ≡ 0 }
+        ensures stores { result.stores ≡ 0 }
+    {
+        Counts {}
+    }
+
+    // The counts after one more load.
+    #[inline(always)]
+    pub(crate) fn loaded(&self) -> Counts
+        ensures loads { result.loads ≡ self.now.loads + 1 }
+        ensures stores { result.stores ≡ self.now.stores }
+    {
+        Counts {}
+    }
+
+    // The counts after one more store.
+    #[inline(always)]
+    pub(crate) fn stored(&self) -> Counts
+        ensures loads { result.loads ≡ self.now.loads }
+        ensures stores { result.stores ≡ self.now.stores + 1 }
+    {
+        Counts {}
+    }
+}

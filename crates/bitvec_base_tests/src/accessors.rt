@@ -1,0 +1,141 @@
+//! What a caller knows of its slices after a call through accessors.
+ghost use Rattle.std.specs.Prelude.{◌≡◌, ◌+◌, ◌<◌, ◌≤◌, length, map, slice_index, slice_set};
+
+use bitvec_base::{BitStore, Cells, CellsRead, Exclusive, Shared};
+use bitvec_test_support::Counted;
+
+fn copy_first<C: Cells>(cells: &mut C, index: usize)
+    requires { index < length (C.numbers cells.old) }
+    ensures numbers { C.numbers cells.new
+        ≡ slice_set (C.numbers cells.old) index (slice_index (C.numbers cells.old) 0) }
+    ensures memory { C.memory cells.new ≡ C.memory cells.old }
+    ensures loads { C.loads cells.new ≡ C.loads cells.old + 1 }
+    ensures stores { C.stores cells.new ≡ C.stores cells.old + 1 }
+{
+    let element = cells.load(0);
+    cells.store(index, element);
+}
+
+fn copy_between<C: Cells, D: CellsRead<Elem = C::Elem>>(to: &mut C, from: &mut D, index: usize)
+    requires to { index < length (C.numbers to.old) }
+    requires from { index < length (D.numbers from.old) }
+    ensures numbers { C.numbers to.new
+        ≡ slice_set (C.numbers to.old) index (slice_index (D.numbers from.old) index) }
+    ensures from { D.numbers from.new ≡ D.numbers from.old }
+    ensures memory { C.memory to.new ≡ C.memory to.old }
+    ensures from_memory { D.memory from.new ≡ D.memory from.old }
+    ensures loads { D.loads from.new ≡ D.loads from.old + 1 }
+    ensures stores { C.stores to.new ≡ C.stores to.old + 1 }
+{
+    let element = from.load(index);
+    to.store(index, element);
+}
+
+fn set_first(cells: &mut [u8])
+    requires { 0 < length cells.old }
+    ensures { cells.new ≡ slice_set cells.old 0 7 }
+{
+    let mut accessor = Exclusive::new(cells);
+    accessor.store(0, 7);
+}
+
+fn set_first_to<T: BitStore>(cells: &mut [T], element: T)
+    requires { 0 < length cells.old }
+    ensures { map T.value cells.new ≡ slice_set (map T.value cells.old) 0 (T.value element) }
+{
+    let mut accessor = Exclusive::new(cells);
+    accessor.store(0, element);
+}
+
+fn first<T: BitStore>(cells: &[T]) -> T
+    requires { 0 < length cells.now }
+    ensures { T.value result ≡ slice_index (map T.value cells.now) 0 }
+{
+    Shared::new(cells).load(0)
+}
+
+fn copy_first_in<T: BitStore>(cells: &mut [T], index: usize)
+    requires { index < length cells.old }
+    ensures { map T.value cells.new
+        ≡ slice_set (map T.value cells.old) index (slice_index (map T.value cells.old) 0) }
+{
+    let mut accessor = Exclusive::new(cells);
+    copy_first(&mut accessor, index);
+}
+
+fn copy_first_in_bytes(cells: &mut [u8], index: usize)
+    requires { index < length cells.old }
+    ensures { cells.new ≡ slice_set cells.old index (slice_index cells.old 0) }
+{
+    let mut accessor = Exclusive::new(cells);
+    copy_first(&mut accessor, index);
+}
+
+fn copy_from<T: BitStore>(to: &mut [T], from: &[T], index: usize)
+    requires to { index < length to.old }
+    requires from { index < length from.now }
+    ensures { map T.value to.new
+        ≡ slice_set (map T.value to.old) index (slice_index (map T.value from.now) index) }
+{
+    let mut target = Exclusive::new(to);
+    let mut source = Shared::new(from);
+    copy_between(&mut target, &mut source, index);
+}
+
+fn copy_first_in_halves<T: BitStore>(cells: &mut [T], mid: usize)
+    requires left { 0 < mid }
+    requires right { mid < length cells.old }
+    ensures { map T.value cells.new
+        ≡ slice_set (map T.value cells.old) mid (slice_index (map T.value cells.old) 0) }
+{
+    let (left, right) = cells.split_at_mut(mid);
+    let mut source = Exclusive::new(left);
+    let mut target = Exclusive::new(right);
+    copy_between(&mut target, &mut source, 0);
+}
+
+#[test]
+fn a_store_reaches_the_slice(rt: HostRuntime) {
+    let mut bytes = [1, 2, 3];
+    set_first(&mut bytes);
+    assert_eq!(rt; bytes, [7, 2, 3]);
+    let mut words = [1u64, 2];
+    set_first_to(&mut words, u64::MAX);
+    assert_eq!(rt; words, [u64::MAX, 2]);
+    assert_eq!(rt; first(&words), u64::MAX);
+}
+
+#[test]
+fn generic_code_reaches_the_slices(rt: HostRuntime) {
+    let mut cells = [1u16, 2, 3];
+    copy_first_in(&mut cells, 2);
+    assert_eq!(rt; cells, [1, 2, 1]);
+    copy_from(&mut cells, &[4, 5, 6], 1);
+    assert_eq!(rt; cells, [1, 5, 1]);
+    copy_first_in_halves(&mut cells, 1);
+    assert_eq!(rt; cells, [1, 1, 1]);
+    let mut bytes = [8, 9];
+    copy_first_in_bytes(&mut bytes, 1);
+    assert_eq!(rt; bytes, [8, 8]);
+}
+
+#[test]
+fn an_accessor_tells_its_length(rt: HostRuntime) {
+    let mut cells = [1u32, 2, 3];
+    assert_eq!(rt; Shared::new(&cells).len(), 3);
+    assert_eq!(rt; Exclusive::new(&mut cells).len(), 3);
+    assert_eq!(rt; Counted::new(Shared::new(&cells)).len(), 3);
+}
+
+#[test]
+fn a_counted_accessor_tallies_each_call(rt: HostRuntime) {
+    let mut cells = [1usize, 2, 3];
+    let mut accessor = Counted::new(Exclusive::new(&mut cells));
+    copy_first(&mut accessor, 2);
+    accessor.store(1, 9);
+    assert_eq!(rt; (accessor.loads(), accessor.stores()), (1, 2));
+    assert_eq!(rt; cells, [1, 9, 1]);
+    let mut reader = Counted::new(Shared::new(&cells));
+    assert_eq!(rt; reader.load(1), 9);
+    assert_eq!(rt; (reader.loads(), reader.stores()), (1, 0));
+}

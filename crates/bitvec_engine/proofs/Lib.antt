@@ -1,0 +1,3 @@
+pub mod BitLemmas
+pub mod PartLemmas
+pub mod WalkLemmas

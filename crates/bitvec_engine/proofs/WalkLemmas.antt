@@ -1,0 +1,81 @@
+-- A walk over a window, a part of one element at a time.
+use Rattle.std.specs.Prelude.{◌≡◌, ℕ, ◌+◌, ◌-◌, ◌*◌, ◌/◌, ◌%◌, ◌<◌, ◌≤◌, min, Bool, List, ◌++◌, length, count_by, slice_range, cond, refl, zero, suc}
+use Rattle.std.proofs.Common.{arith, rules, sym, ◌∙◌, ap, subst, ⊎_elim, eqb}
+use Rattle.std.proofs.lemmas.Bool.{cases_lt, cond-false, ne_eqb}
+use Rattle.std.proofs.lemmas.List.{same_lists, places}
+use Rattle.std.proofs.lemmas.List.Sums.{sum_by-append, count_by-le-length}
+use Rattle.std.proofs.Math.Nat.{sub_self}
+use Rattle.bitvec_base.specs.WriteLaws.{length-slice_range}
+use Rattle.std.proofs.lemmas.Nat.{div-mul-add, div-add-mod', mod_below, le-div, div_below}
+use Rattle.bitvec_engine.specs.Cost.{touched}
+
+pub touched-none : (b s : ℕ) → touched b s 0 ≡ 0
+unfolding touched
+touched-none b s = refl
+
+pub touched-some : (b s n : ℕ) → touched b s (suc n) ≡ (s + n) / b - s / b + 1
+unfolding touched
+touched-some b s n =
+    cond-false (eqb (suc n) 0) 0 _ (ne_eqb (suc n) 0 (λ e. omega arith))
+    ∙ ap (λ (m : ℕ). m / b - s / b + 1) (let e : s + suc n - 1 ≡ s + n = omega arith in e)
+
+-- the end of a walk inside one element
+within_one : (b q h n : ℕ) → h + n < b → (q * b + h + n) / b ≡ q
+within_one b q h n fits = ap (λ (m : ℕ). m / b) (let e : q * b + h + n ≡ q * b + (h + n) = omega arith in e) ∙ div-mul-add q b (h + n) fits
+
+-- each step of a walk takes one element
+touched-parts : (b q h n t : ℕ) → h < b → t ≡ min (suc n) (b - h) → touched b (q * b + h) (suc n) ≡ touched b (q * b + h + t) (suc n - t) + 1
+touched-parts b q h n t head step =
+    let here = div-mul-add q b h head in
+    ⊎_elim
+    (λ short.
+    let all : t ≡ suc n = omega arith in
+    let last = within_one b q h n (omega arith) in
+    let gone : suc n - t ≡ 0 = omega arith in
+    let first = touched-some b (q * b + h) n in
+    let rest : touched b (q * b + h + t) (suc n - t) ≡ 0 = rw gone (touched-none b (q * b + h + t)) in
+    omega arith)
+    (λ long.
+    let next : q * b + h + t ≡ (q + 1) * b + 0 = omega arith in
+    let more : suc n - t ≡ suc (n - t) = omega arith in
+    let first = touched-some b (q * b + h) n in
+    let start = div-mul-add (q + 1) b 0 (omega arith) in
+    let reach = le-div (q + 1) (q * b + h + n) b (omega arith) (omega arith) in
+    let rest = touched-some b ((q + 1) * b + 0) (n - t) in
+    let end : (q + 1) * b + 0 + (n - t) ≡ q * b + h + n = omega arith in
+    let same = ap (λ (m : ℕ). m / b) end in
+    rw (next, more) (omega arith))
+    (cases_lt n (b - h))
+
+pub touched-step : (b s n t : ℕ) → 0 < b → 0 < n → t ≡ min n (b - s % b) → touched b s n ≡ touched b (s + t) (n - t) + 1
+touched-step b s zero t some more step = absurd (omega arith)
+touched-step b s (suc n) t some more step =
+    let place : s / b * b + s % b ≡ s = div-add-mod' s b in
+    subst (λ (m : ℕ). touched b m (suc n) ≡ touched b (m + t) (suc n - t) + 1) place (touched-parts b (s / b) (s % b) n t (mod_below s b some) step)
+
+-- slices that meet
+pub range-join : {X : Type 0} (list : List X) (a m e : ℕ) → a ≤ m → m ≤ e → e ≤ length list → slice_range list a m ++ slice_range list m e ≡ slice_range list a e
+range-join list a m e low high within = same_lists _ _ (search (rules, places)) (λ k d inside. grind (arith, places))
+
+pub count-join : (list : List Bool) (a m e : ℕ) → a ≤ m → m ≤ e → e ≤ length list → count_by (λ (bit : Bool). bit) (slice_range list a m) + count_by (λ (bit : Bool). bit) (slice_range list m e) ≡ count_by (λ (bit : Bool). bit) (slice_range list a e)
+count-join list a m e low high within =
+    sym (sum_by-append (λ (bit : Bool). cond bit 1 0) (slice_range list a m) (slice_range list m e))
+    ∙ ap (λ (l : List Bool). count_by (λ (bit : Bool). bit) l) (range-join list a m e low high within)
+
+-- a slice has no more ones than bits
+pub count-range : (list : List Bool) (a e : ℕ) → e ≤ length list → count_by (λ (bit : Bool). bit) (slice_range list a e) ≤ e - a
+count-range list a e within =
+    let long = length-slice_range list a e within in
+    let most = count_by-le-length (λ (bit : Bool). bit) (slice_range list a e) in
+    omega arith
+
+pub count-none : (list : List Bool) (a : ℕ) → count_by (λ (bit : Bool). bit) (slice_range list a a) ≡ 0
+count-none list a = rw (sub_self a) refl
+
+-- the elements of a walk lie in the memory
+pub element-below : (b place n : ℕ) → 0 < b → place < b * n → place / b < n
+element-below b place n some h = div_below place b n some (omega arith)
+
+-- a part of an element, by the place where it starts
+pub part-place : (b place : ℕ) → place / b * b + place % b ≡ place
+part-place b place = div-add-mod' place b

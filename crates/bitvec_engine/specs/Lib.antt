@@ -1,0 +1,2 @@
+pub mod Cost
+pub mod Element

@@ -1,0 +1,11 @@
+//! Every bit operation on a window of a memory, through counted access to its elements.
+#![tactic(auto)]
+
+mod bit;
+mod part;
+mod query;
+mod slice_order;
+
+pub use bit::{get_bit, replace_bit};
+pub use query::count;
+pub use slice_order::SliceOrder;

@@ -1,0 +1,10 @@
+//! Lists of commands run through a window of a memory.
+#![tactic(auto)]
+
+mod command;
+mod runner;
+mod step;
+
+pub use bitvec_base::Window;
+pub use command::{Op, Refusal, Reply, RunError, Step};
+pub use runner::run;
