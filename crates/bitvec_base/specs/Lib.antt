@@ -1,5 +1,7 @@
 pub mod Accessors
 pub mod Element
+pub mod Lists
+pub mod ListsLaws
 pub mod MaskLaws
 pub mod Memory
 pub mod MemoryLaws

@@ -1,12 +1,13 @@
 -- A walk over a window, a part of one element at a time.
-use Rattle.std.specs.Prelude.{◌≡◌, ℕ, ◌+◌, ◌-◌, ◌*◌, ◌/◌, ◌%◌, ◌<◌, ◌≤◌, min, Bool, List, ◌++◌, length, count_by, slice_range, cond, refl, zero, suc}
+use Rattle.std.specs.Prelude.{◌≡◌, ℕ, ◌+◌, ◌-◌, ◌*◌, ◌/◌, ◌%◌, ◌<◌, ◌≤◌, min, Bool, not, List, ◌++◌, length, map, replicate, count_by, slice_range, cond, refl, zero, suc}
 use Rattle.std.proofs.Common.{arith, rules, sym, ◌∙◌, ap, subst, ⊎_elim, eqb}
 use Rattle.std.proofs.lemmas.Bool.{cases_lt, cond-false, ne_eqb}
-use Rattle.std.proofs.lemmas.List.{same_lists, places}
+use Rattle.std.proofs.lemmas.List.{same_lists, places, length-replicate, length-map, map-append, replicate-append-replicate}
 use Rattle.std.proofs.lemmas.List.Sums.{sum_by-append, count_by-le-length}
 use Rattle.std.proofs.Math.Nat.{sub_self}
-use Rattle.bitvec_base.specs.WriteLaws.{length-slice_range}
-use Rattle.std.proofs.lemmas.Nat.{div-mul-add, div-add-mod', mod_below, le-div, div_below}
+use Rattle.bitvec_base.specs.Window.{write_at}
+use Rattle.bitvec_base.specs.WriteLaws.{length-slice_range, range-write_at_after, write_at-next, write_at-nil}
+use Rattle.std.proofs.lemmas.Nat.{div-mul-add, div-add-mod', mod_below, mod-mul-add, le-div, div_below}
 use Rattle.bitvec_engine.specs.Cost.{touched}
 
 pub touched-none : (b s : ℕ) → touched b s 0 ≡ 0
@@ -28,14 +29,14 @@ touched-parts : (b q h n t : ℕ) → h < b → t ≡ min (suc n) (b - h) → to
 touched-parts b q h n t head step =
     let here = div-mul-add q b h head in
     ⊎_elim
-    (λ short.
+    (λ (short : n < b - h).
     let all : t ≡ suc n = omega arith in
     let last = within_one b q h n (omega arith) in
     let gone : suc n - t ≡ 0 = omega arith in
     let first = touched-some b (q * b + h) n in
     let rest : touched b (q * b + h + t) (suc n - t) ≡ 0 = rw gone (touched-none b (q * b + h + t)) in
     omega arith)
-    (λ long.
+    (λ (long : b - h ≤ n).
     let next : q * b + h + t ≡ (q + 1) * b + 0 = omega arith in
     let more : suc n - t ≡ suc (n - t) = omega arith in
     let first = touched-some b (q * b + h) n in
@@ -79,3 +80,42 @@ element-below b place n some h = div_below place b n some (omega arith)
 -- a part of an element, by the place where it starts
 pub part-place : (b place : ℕ) → place / b * b + place % b ≡ place
 part-place b place = div-add-mod' place b
+
+-- where a walk goes on, an element begins
+pub next-aligned : (b s n t : ℕ) → 0 < b → t ≡ min n (b - s % b) → 0 < n - t → (s + t) % b ≡ 0
+next-aligned b s n t some step more =
+    let place = div-add-mod' s b in
+    let head = mod_below s b some in
+    let next : s + t ≡ (s / b + 1) * b + 0 = omega arith in
+    rw next (mod-mul-add (s / b + 1) b 0 some)
+
+-- a fill of nothing
+pub fill-none : {X : Type 0} (list : List X) (s : ℕ) (x : X) → s ≤ length list → write_at list s (replicate (s - s) x) ≡ list
+fill-none list s x within = rw (sub_self s) (write_at-nil list s within)
+
+-- a fill that goes on behind a fill
+pub fill-step : {X : Type 0} (list : List X) (s m t : ℕ) (x : X) → s ≤ m → m + t ≤ length list → write_at (write_at list s (replicate (m - s) x)) m (replicate t x) ≡ write_at list s (replicate (m + t - s) x)
+fill-step list s m t x low within =
+    let before = length-replicate (m - s) x in
+    let new = length-replicate t x in
+    let place : s + length (replicate (m - s) x) ≡ m = omega arith in
+    let sum : m - s + t ≡ m + t - s = omega arith in
+    subst (λ (p : ℕ). write_at (write_at list s (replicate (m - s) x)) p (replicate t x) ≡ write_at list s (replicate (m + t - s) x)) place
+    (write_at-next list s (replicate (m - s) x) (replicate t x) (omega arith)
+    ∙ ap (λ (l : List _). write_at list s l) (replicate-append-replicate (m - s) t x ∙ ap (λ (n : ℕ). replicate n x) sum))
+
+-- a part flipped behind a flipped part
+pub flip-step : (list : List Bool) (s m e : ℕ) → s ≤ m → m ≤ e → e ≤ length list → write_at (write_at list s (map not (slice_range list s m))) m (map not (slice_range (write_at list s (map not (slice_range list s m))) m e)) ≡ write_at list s (map not (slice_range list s e))
+flip-step list s m e low high within =
+    let before = length-slice_range list s m (omega arith) in
+    let flipped = length-map (slice_range list s m) not in
+    let part = length-slice_range list m e within in
+    let new = length-map (slice_range list m e) not in
+    let place : s + length (map not (slice_range list s m)) ≡ m = omega arith in
+    rw (range-write_at_after list s (map not (slice_range list s m)) m e (omega arith) (omega arith) within)
+    (subst (λ (p : ℕ). write_at (write_at list s (map not (slice_range list s m))) p (map not (slice_range list m e)) ≡ write_at list s (map not (slice_range list s e))) place
+    (write_at-next list s (map not (slice_range list s m)) (map not (slice_range list m e)) (omega arith)
+    ∙ ap (λ (l : List Bool). write_at list s l) (sym (map-append not (slice_range list s m) (slice_range list m e)) ∙ ap (map not) (range-join list s m e low high within))))
+
+pub flip-none : (list : List Bool) (s : ℕ) → s ≤ length list → write_at list s (map not (slice_range list s s)) ≡ list
+flip-none list s within = rw (sub_self s) (write_at-nil list s within)

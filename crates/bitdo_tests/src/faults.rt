@@ -1,0 +1,131 @@
+//! Readers and writers that give little or fail, and want of memory.
+use crate::support::words;
+use bitdo_work::work;
+use std::io::ErrorKind;
+use std::test::Fail;
+use test_streams::{FailingReader, FailingWriter, OneByteReader, Refusing};
+
+const ARGS: &str = "8 lsb0 01,02 FF 0 16";
+
+const INPUT: &[u8] = b"0 8 get 0\r\n\n0 16 count_ones\n0 8 set 7 1";
+
+const PRINTED: &[u8] = b"bit 1\ncount 2\ndone\n= 81,02\n";
+
+#[test]
+fn a_byte_a_read_is_enough(rt: HostRuntime) -> Result<(), Fail> {
+    let args = words(rt.alloc(), ARGS)?;
+    let mut output = Vec::new(rt.alloc());
+    let mut input = OneByteReader::new(INPUT);
+    let status = work(rt.alloc(), args.as_slice(), &mut input, &mut output);
+    assert_eq!(rt; status, 0);
+    assert_eq!(rt; output.as_slice(), PRINTED);
+    Ok(())
+}
+
+#[test]
+fn many_chunks_are_one_input(rt: HostRuntime) -> Result<(), Fail> {
+    let args = words(rt.alloc(), ARGS)?;
+    let mut input = Vec::new(rt.alloc());
+    let mut printed = Vec::new(rt.alloc());
+    for _ in 0..500 {
+        input.extend_from_slice(b"0 16 count_ones\n")?;
+        printed.extend_from_slice(b"count 2\n")?;
+    }
+    printed.extend_from_slice(b"= 01,02\n")?;
+    let mut output = Vec::new(rt.alloc());
+    let status = work(
+        rt.alloc(),
+        args.as_slice(),
+        &mut input.as_slice(),
+        &mut output,
+    );
+    assert_eq!(rt; status, 0);
+    assert_eq!(rt; output.as_slice(), printed.as_slice());
+    Ok(())
+}
+
+#[test]
+fn a_reader_that_fails_is_bad_input(rt: HostRuntime) -> Result<(), Fail> {
+    for (given, kind) in [
+        (b"".as_slice(), ErrorKind::TimedOut),
+        (INPUT, ErrorKind::TimedOut),
+        (INPUT, ErrorKind::OutOfMemory),
+        (b"no line\n".as_slice(), ErrorKind::UnexpectedEof),
+    ] {
+        for (args, printed) in [
+            (ARGS, b"bad input\n".as_slice()),
+            ("8 lsb0 01 - 8 1", b"bad input\n".as_slice()),
+            ("8 lsb0 0 - 0 8", b"bad arguments\n".as_slice()),
+        ] {
+            let args = words(rt.alloc(), args)?;
+            let mut output = Vec::new(rt.alloc());
+            let mut input = FailingReader::new(given, kind);
+            let status = work(rt.alloc(), args.as_slice(), &mut input, &mut output);
+            assert_eq!(rt; output.as_slice(), printed);
+            assert_eq!(rt; status, 2);
+        }
+    }
+    Ok(())
+}
+
+#[test]
+fn an_input_is_text_before_its_first_line(rt: HostRuntime) -> Result<(), Fail> {
+    let args = words(rt.alloc(), ARGS)?;
+    for given in [
+        b"\xFF".as_slice(),
+        b"no line\n\xC3".as_slice(),
+        b"0 8 get 0\n\xED\xA0\x80\n".as_slice(),
+    ] {
+        let mut input = given;
+        let mut output = Vec::new(rt.alloc());
+        let status = work(rt.alloc(), args.as_slice(), &mut input, &mut output);
+        assert_eq!(rt; output.as_slice(), b"bad input\n".as_slice());
+        assert_eq!(rt; status, 2);
+    }
+    Ok(())
+}
+
+#[test]
+fn an_output_that_fails_is_status_1(rt: HostRuntime) -> Result<(), Fail> {
+    for (args, input, printed) in [
+        (ARGS, INPUT, PRINTED.len()),
+        (ARGS, b"no line".as_slice(), "bad line 1\n".len()),
+        ("8 lsb0 0 - 0 8", b"".as_slice(), "bad arguments\n".len()),
+    ] {
+        let args = words(rt.alloc(), args)?;
+        for room in 0..=printed {
+            let mut input = input;
+            let mut output = FailingWriter::new(room, ErrorKind::StorageFull);
+            let status = work(rt.alloc(), args.as_slice(), &mut input, &mut output);
+            assert_eq!(rt; status, 1, "with room for {room}");
+        }
+    }
+    Ok(())
+}
+
+#[test]
+fn want_of_memory_is_told_at_each_request(rt: HostRuntime) -> Result<(), Fail> {
+    let args = words(rt.alloc(), ARGS)?;
+    let mut needed = None;
+    for granted in 0..100 {
+        let refusing = Refusing::new(rt.alloc(), granted);
+        let mut input = INPUT;
+        let mut output = Vec::new(rt.alloc());
+        let status = work(&refusing, args.as_slice(), &mut input, &mut output);
+        if refusing.granted_all() {
+            assert_eq!(rt; output.as_slice(), PRINTED);
+            assert_eq!(rt; status, 0);
+            needed = Some(granted);
+            break;
+        }
+        assert_eq!(rt;
+            output.as_slice(),
+            b"run error: memory\n".as_slice(),
+            "after {granted}"
+        );
+        assert_eq!(rt; status, 3, "after {granted}");
+    }
+    // One at least for each memory, the input, the steps and the replies.
+    assert!(rt; needed >= Some(5), "{needed:?} requests");
+    Ok(())
+}

@@ -1,0 +1,75 @@
+//! The lines of the input.
+use crate::support::expect;
+use std::test::Fail;
+
+#[test]
+fn lines_are_ended_in_three_ways(rt: HostRuntime) -> Result<(), Fail> {
+    for (input, printed) in [
+        ("", "= 01\n"),
+        ("\n\r\n\n", "= 01\n"),
+        ("0 8 get 0", "bit 1\n= 01\n"),
+        ("0 8 get 0\r\n0 8 get 1\r\n", "bit 1\nbit 0\n= 01\n"),
+        ("\n0 8 get 0\n\n\n0 8 get 1", "bit 1\nbit 0\n= 01\n"),
+        ("000 08 get 00000000000000000000007", "bit 0\n= 01\n"),
+        ("0 8 set 0 0\n0 8 set 7 1\n", "done\ndone\n= 80\n"),
+        ("0 8 get 18446744073709551615", "refused index\n= 01\n"),
+        ("18446744073709551615 0 get 0", "refused range\n= 01\n"),
+    ] {
+        expect(&rt, "8 lsb0 01 - 0 8", input, 0, printed)?;
+    }
+    Ok(())
+}
+
+#[test]
+fn other_lines_are_bad(rt: HostRuntime) -> Result<(), Fail> {
+    for line in [
+        " ",
+        "0",
+        "0 8",
+        "0 8 ",
+        "0 8 get",
+        "0 8 get ",
+        "0 8 get 0 ",
+        "0 8 get 0 0",
+        " 0 8 get 0",
+        "0  8 get 0",
+        "0 8\tget 0",
+        "0 8 get\t0",
+        "0 8 get 0\t",
+        "0 8 get 0\r",
+        "0 8 get 0\r\r\n",
+        "0 8 get +0",
+        "0 8 get -1",
+        "0 8 get 0x0",
+        "0 8 get 18446744073709551616",
+        "18446744073709551616 8 get 0",
+        "0 18446744073709551616 get 0",
+        "x 8 get 0",
+        "0 8 GET 0",
+        "0 8 gets 0",
+        "0 8 ge 0",
+        "0 8 set 0",
+        "0 8 set 0 2",
+        "0 8 set 0 01",
+        "0 8 set 0 1 1",
+        "0 8 set 0 true",
+        "0 8 count_ones 0",
+        "0 8 get ٣",
+    ] {
+        expect(&rt, "8 lsb0 01 - 0 8", line, 2, "bad line 1\n")?;
+    }
+    Ok(())
+}
+
+#[test]
+fn the_first_bad_line_is_named(rt: HostRuntime) -> Result<(), Fail> {
+    for (input, printed) in [
+        ("0 8 set 0 1\n0 8 set 0 2\n", "bad line 2\n"),
+        ("\n\r\n0 8 get 0\n\nno\nnor this\n", "bad line 5\n"),
+        ("0 8 get 9\n9 8 get 0\n\nno", "bad line 4\n"),
+    ] {
+        expect(&rt, "8 lsb0 00 - 0 8", input, 2, printed)?;
+        expect(&rt, "8 lsb0 00 - 8 1", input, 2, printed)?;
+    }
+    Ok(())
+}

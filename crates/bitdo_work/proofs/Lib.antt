@@ -1,0 +1,8 @@
+pub mod ArgumentLaws
+pub mod ByteLaws
+pub mod ElementLaws
+pub mod LineLaws
+pub mod OptionLaws
+pub mod ReadLaws
+pub mod SplitLaws
+pub mod WordLaws

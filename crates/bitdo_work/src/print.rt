@@ -1,0 +1,140 @@
+//! What a run prints: a line a reply, and the memory.
+ghost use Rattle.std.specs.Prelude.{◌≡◌, ◌^◌, ◌<◌, All, map, OnOk};
+ghost use Rattle.std.specs.List.{flat_map};
+ghost use Rattle.std.specs.Io.KnownBytes.{Appends};
+ghost use Rattle.bitdo_work.specs.Texts.{refusal_text, bit_text, order_text, reply_text, run_text, element_text, memory_text, next_text};
+
+use crate::fault::Fault;
+use bitvec_base::BitStore;
+use bitvec_run::{Refusal, Reply};
+use std::cmp::Ordering;
+use std::io::{self, Write};
+
+/// The word of a refusal.
+fn refusal_word(refusal: Refusal) -> &'static str
+    ensures { result.now ≡ refusal_text refusal }
+{
+    match refusal {
+        Refusal::Range => "range",
+        Refusal::Index => "index",
+        Refusal::Amount => "amount",
+        Refusal::Source => "source",
+        Refusal::Dest => "dest",
+        Refusal::Right => "right",
+        Refusal::Length => "length",
+        Refusal::Width => "width",
+    }
+}
+
+/// The digit of a bit.
+fn bit_word(bit: bool) -> &'static str
+    ensures { result.now ≡ bit_text bit }
+{
+    if bit { "1" } else { "0" }
+}
+
+/// The word of an order.
+fn order_word(order: Ordering) -> &'static str
+    ensures { result.now ≡ order_text order }
+{
+    match order {
+        Ordering::Less => "less",
+        Ordering::Equal => "equal",
+        Ordering::Greater => "greater",
+    }
+}
+
+/// Prints a reply, on a line of its own.
+fn print_reply<W: Write>(output: &mut W, reply: Reply) -> io::Result<()>
+    ensures { OnOk result (Appends (W.contents output.old) (W.contents output.new) (reply_text reply)) }
+{
+    match reply {
+        Reply::Done => writeln!(output, "done"),
+        Reply::Bit(bit) => writeln!(output, "bit {}", bit_word(bit)),
+        Reply::Count(count) => writeln!(output, "count {count}"),
+        Reply::Index(Some(index)) => writeln!(output, "index {index}"),
+        Reply::Index(None) => writeln!(output, "index none"),
+        Reply::Order(order) => writeln!(output, "order {}", order_word(order)),
+        Reply::Number(number) => writeln!(output, "number {number}"),
+        Reply::Refused(refusal) => writeln!(output, "refused {}", refusal_word(refusal)),
+    }
+}
+
+/// Prints the replies, in their order.
+fn print_replies<W: Write>(output: &mut W, replies: &[Reply]) -> io::Result<()>
+    ensures { OnOk result (Appends (W.contents output.old) (W.contents output.new) (flat_map reply_text replies.now)) }
+{
+    for reply in replies {
+        print_reply(output, *reply)?;
+    }
+    Ok(())
+}
+
+/// Prints an element in upper case digits, as many as its width has.
+fn print_element<T: BitStore, W: Write>(output: &mut W, element: T) -> io::Result<()>
+    ensures text { OnOk result (Appends (W.contents output.old) (W.contents output.new) (element_text T.BITS (T.value element))) }
+    ensures in_range { T.value element < 2 ^ T.BITS }
+{
+    let digits = T::BITS as usize / 4;
+    let number = element.to_u128() as u64;
+    write!(output, "{number:0digits$X}")
+}
+
+/// Prints an element that follows another one.
+fn print_next<T: BitStore, W: Write>(output: &mut W, element: T) -> io::Result<()>
+    ensures text { OnOk result (Appends (W.contents output.old) (W.contents output.new) (next_text T.BITS (T.value element))) }
+    ensures in_range { OnOk result (T.value element < 2 ^ T.BITS) }
+{
+    write!(output, ",")?;
+    print_element(output, element)
+}
+
+/// Prints the elements after the first.
+fn print_following<T: BitStore, W: Write>(output: &mut W, elements: &[T]) -> io::Result<()>
+    ensures text { OnOk result (Appends (W.contents output.old) (W.contents output.new)
+        (flat_map (next_text T.BITS) (map T.value elements.now))) }
+    ensures in_range { OnOk result (All (λ number. number < 2 ^ T.BITS) (map T.value elements.now)) }
+{
+    for element in elements {
+        print_next(output, *element)?;
+    }
+    Ok(())
+}
+
+/// Prints the memory in the arguments' notation, on a line of its own.
+fn print_memory<T: BitStore, W: Write>(output: &mut W, elements: &[T]) -> io::Result<()>
+    ensures text { OnOk result (Appends (W.contents output.old) (W.contents output.new)
+        (memory_text T.BITS (map T.value elements.now))) }
+    ensures in_range { OnOk result (All (λ number. number < 2 ^ T.BITS) (map T.value elements.now)) }
+{
+    write!(output, "= ")?;
+    match elements {
+        [] => write!(output, "-")?,
+        [first, following @ ..] => {
+            print_element(output, *first)?;
+            print_following(output, following)?;
+        }
+    }
+    writeln!(output)
+}
+
+/// Prints the replies of a run and the memory that it left.
+pub(crate) fn print_run<T: BitStore, W: Write>(
+    output: &mut W,
+    replies: &[Reply],
+    elements: &[T],
+) -> io::Result<()>
+    ensures text { OnOk result (Appends (W.contents output.old) (W.contents output.new)
+        (run_text T.BITS replies.now (map T.value elements.now))) }
+    ensures in_range { OnOk result (All (λ number. number < 2 ^ T.BITS) (map T.value elements.now)) }
+{
+    print_replies(output, replies)?;
+    print_memory(output, elements)?;
+    output.flush()
+}
+
+/// Prints the line of a fault.
+pub(crate) fn print_fault<W: Write>(output: &mut W, fault: &Fault) -> io::Result<()> {
+    writeln!(output, "{fault}")?;
+    output.flush()
+}

@@ -1,0 +1,41 @@
+-- Words on lists of bits.
+use Rattle.std.specs.Prelude.{ℕ, ◌+◌, ◌-◌, Bool, false, not, ◌&&◌, nat_le, Option, None, List, length, map, take, drop, filter, slice_get, slice_index_or, slice_range}
+use Rattle.std.specs.Bool.{beq}
+use Rattle.std.specs.Cmp.Lexicographic.{pointwise}
+use Rattle.std.specs.List.{list_any, last_or, range_with_len}
+
+-- whether two lists have the same bits
+abbrev pub same_bits : List Bool → List Bool → Bool
+same_bits = pointwise beq
+
+-- whether two bits differ
+abbrev pub differs : Bool → Bool → Bool
+differs a b = not (beq a b)
+
+-- whether the part begins the list, and whether it ends it
+unfoldable pub is_prefix : List Bool → List Bool → Bool
+is_prefix part list = nat_le (length part) (length list) && same_bits (take (length part) list) part
+
+unfoldable pub is_suffix : List Bool → List Bool → Bool
+is_suffix part list = nat_le (length part) (length list) && same_bits (drop (length list - length part) list) part
+
+-- whether the part stands in the list from place k on, and whether it does from some place on
+unfoldable pub stands_at : List Bool → List Bool → ℕ → Bool
+stands_at part list k = nat_le (k + length part) (length list) && same_bits (slice_range list k (k + length part)) part
+
+unfoldable pub stands_in : List Bool → List Bool → Bool
+stands_in part list = list_any (stands_at part list) (range_with_len 0 (length list + 1))
+
+-- at each place of the list, f of its bit and of the other list's, which is 0 past its end
+unfoldable pub combined : (Bool → Bool → Bool) → List Bool → List Bool → List Bool
+combined f list other = map (λ i. f (slice_index_or list i false) (slice_index_or other i false)) (range_with_len 0 (length list))
+
+-- the places whose bit is `wanted`, in their order; the least and the greatest of them, if there is one
+unfoldable pub places_of : Bool → List Bool → List ℕ
+places_of wanted list = filter (λ i. beq (slice_index_or list i false) wanted) (range_with_len 0 (length list))
+
+abbrev pub first_place : Bool → List Bool → Option ℕ
+first_place wanted list = slice_get (places_of wanted list) 0
+
+abbrev pub last_place : Bool → List Bool → Option ℕ
+last_place wanted list = last_or None (places_of wanted list)

@@ -1,0 +1,13 @@
+-- One command, refused or carried out, on the list of its bits.
+use Rattle.std.specs.Prelude.{Bool, List, length}
+use Rattle.bitvec_run.specs.declared.command.Op.{Op}
+use Rattle.bitvec_run.specs.declared.command.Reply.{Reply}
+use Rattle.bitvec_run.specs.Commands.{op_refusal, op_reply, op_list, reply_unless, list_unless}
+
+-- what it replies
+abbrev pub command_reply : List Bool → List Bool → Op → Reply
+command_reply right list op = reply_unless (op_refusal right (length list) op) (op_reply right list op)
+
+-- the list afterwards
+abbrev pub command_list : List Bool → List Bool → Op → List Bool
+command_list right list op = list_unless (op_refusal right (length list) op) list (op_list right list op)

@@ -1,0 +1,20 @@
+//! Runs whose answers come from worked rows and from the plain program, and what no clause of a
+//! run says.
+#![tactic(auto)]
+
+#[cfg(test)]
+mod agreement;
+#[cfg(test)]
+mod cost;
+#[cfg(test)]
+mod errors;
+#[cfg(test)]
+mod own_element;
+#[cfg(test)]
+mod own_order;
+#[cfg(test)]
+mod rows;
+#[cfg(test)]
+mod slices;
+#[cfg(test)]
+mod want_of_memory;

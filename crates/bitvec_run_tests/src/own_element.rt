@@ -1,0 +1,102 @@
+//! A run on elements of a type of the tests' own.
+ghost use Rattle.std.specs.Prelude.{◌≡◌, ◌-◌, ◌^◌, refl};
+ghost use Rattle.std.proofs.Common.{rules};
+
+use crate::slices::{FOUR_NIBBLES_REPLIES, four_nibbles, run_in};
+use bitvec_base::{BitStore, Lsb0};
+use bitvec_run::Window;
+use std::test::Fail;
+
+/// A register of 16 bits.
+#[derive(Clone, Copy)]
+struct Register {
+    value: u16,
+}
+
+impl BitStore for Register {
+    ghost BITS = { 16 };
+
+    const BITS: u32 = 16;
+
+    ghost ZERO = { record { value = 0 } };
+
+    const ZERO: Self = Register { value: 0 };
+
+    ghost ALL = { record { value = 2 ^ 16 - 1 } };
+
+    const ALL: Self = Register { value: u16::MAX };
+
+    ghost value = { λ x. x.value };
+
+    ghost width_law = { Prim.search rules };
+
+    ghost zero_law = { refl };
+
+    ghost all_law = { refl };
+
+    fn in_range(self) {
+        let Register { value: _value } = self;
+    }
+
+    fn from_u128(number: u128) -> Self {
+        let value = number as u16;
+        Register { value }
+    }
+
+    fn to_u128(self) -> u128 {
+        self.value as u128
+    }
+
+    fn and(self, other: Self) -> Self {
+        let value = self.value & other.value;
+        Register { value }
+    }
+
+    fn or(self, other: Self) -> Self {
+        let value = self.value | other.value;
+        Register { value }
+    }
+
+    fn xor(self, other: Self) -> Self {
+        let value = self.value ^ other.value;
+        Register { value }
+    }
+
+    fn not(self) -> Self {
+        let value = !self.value;
+        Register { value }
+    }
+
+    fn shl(self, by: u32) -> Self {
+        let value = self.value << by;
+        Register { value }
+    }
+
+    fn shr(self, by: u32) -> Self {
+        let value = self.value >> by;
+        Register { value }
+    }
+
+    fn count_ones(self) -> u32 {
+        self.value.count_ones()
+    }
+
+    fn leading_zeros(self) -> u32 {
+        self.value.leading_zeros()
+    }
+
+    fn trailing_zeros(self) -> u32 {
+        self.value.trailing_zeros()
+    }
+}
+
+// The row of four nibbles of u8, 21 84 at the end, with the two bytes in one element.
+#[test]
+fn a_struct_is_an_element(rt: HostRuntime) -> Result<(), Fail> {
+    let mut cells = [Register { value: 0x0000 }];
+    let window = Window { start: 0, len: 16 };
+    let replies = run_in::<_, Lsb0, _>(rt.alloc(), &mut cells, window, &[], &four_nibbles())?;
+    assert_eq!(rt; replies.as_slice(), FOUR_NIBBLES_REPLIES.as_slice());
+    assert_eq!(rt; cells[0].value, 0x8421);
+    Ok(())
+}

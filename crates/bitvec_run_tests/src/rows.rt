@@ -1,0 +1,101 @@
+//! Worked rows: what a run replies, and the memory that it leaves.
+use crate::slices::{FOUR_NIBBLES_REPLIES, four_nibbles, run_in, step};
+use bitvec_base::{HiLo, Lsb0};
+use bitvec_engine::SliceOrder;
+use bitvec_run::{Op, Refusal, Reply, Step, Window};
+use std::process::Abort;
+use std::test::Fail;
+
+#[derive(Drop)]
+struct Row<'a> {
+    window: Window,
+    steps: &'a [Step],
+    replies: &'a [Reply],
+    after: &'a [u8],
+}
+
+fn check<O: SliceOrder, R: Abort + AllocGlobal>(
+    rt: &R,
+    cells: &mut [u8],
+    row: &Row,
+) -> Result<(), Fail> {
+    let replies = run_in::<u8, O, _>(rt.alloc(), cells, row.window, &[], row.steps)?;
+    assert_eq!(rt; replies.as_slice(), row.replies);
+    assert_eq!(rt; &*cells, row.after);
+    Ok(())
+}
+
+#[test]
+fn a_bit_of_each_nibble_is_set_and_counted(rt: HostRuntime) -> Result<(), Fail> {
+    let row = Row {
+        window: Window { start: 0, len: 16 },
+        steps: &four_nibbles(),
+        replies: &FOUR_NIBBLES_REPLIES,
+        after: &[0x21, 0x84],
+    };
+    check::<Lsb0, _>(&rt, &mut [0x00, 0x00], &row)
+}
+
+#[test]
+fn a_refused_step_changes_nothing_and_the_next_follows(rt: HostRuntime) -> Result<(), Fail> {
+    let row = Row {
+        window: Window { start: 3, len: 4 },
+        steps: &[
+            step(0, 4, Op::CountOnes),
+            step(1, 5, Op::Get(0)),
+            step(0, 4, Op::Get(4)),
+            step(3, 2, Op::Set(0, false)),
+            step(0, 4, Op::Set(4, false)),
+            step(0, 4, Op::CountOnes),
+        ],
+        replies: &[
+            Reply::Count(4),
+            Reply::Refused(Refusal::Range),
+            Reply::Refused(Refusal::Index),
+            Reply::Refused(Refusal::Range),
+            Reply::Refused(Refusal::Index),
+            Reply::Count(4),
+        ],
+        after: &[0xFF],
+    };
+    check::<Lsb0, _>(&rt, &mut [0xFF], &row)
+}
+
+#[test]
+fn places_follow_the_order(rt: HostRuntime) -> Result<(), Fail> {
+    let bits = [false, true, false, true, true, false, true, false];
+    for (index, bit) in bits.into_iter().enumerate() {
+        let row = Row {
+            window: Window { start: 0, len: 8 },
+            steps: &[step(0, 8, Op::Get(index))],
+            replies: &[Reply::Bit(bit)],
+            after: &[0xA5],
+        };
+        check::<HiLo, _>(&rt, &mut [0xA5], &row)?;
+    }
+    let row = Row {
+        window: Window { start: 0, len: 8 },
+        steps: &[step(0, 8, Op::Get(0))],
+        replies: &[Reply::Bit(true)],
+        after: &[0x10],
+    };
+    check::<HiLo, _>(&rt, &mut [0x10], &row)
+}
+
+#[test]
+fn a_memory_may_be_empty_and_a_window_may_lie_at_its_end(rt: HostRuntime) -> Result<(), Fail> {
+    let empty = Row {
+        window: Window { start: 0, len: 0 },
+        steps: &[step(0, 0, Op::CountOnes), step(0, 1, Op::Get(0))],
+        replies: &[Reply::Count(0), Reply::Refused(Refusal::Range)],
+        after: &[],
+    };
+    check::<Lsb0, _>(&rt, &mut [], &empty)?;
+    let end = Row {
+        window: Window { start: 16, len: 0 },
+        steps: &[step(0, 0, Op::CountOnes)],
+        replies: &[Reply::Count(0)],
+        after: &[0x5A, 0xC3],
+    };
+    check::<Lsb0, _>(&rt, &mut [0x5A, 0xC3], &end)
+}

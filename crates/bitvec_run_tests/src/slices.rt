@@ -1,0 +1,57 @@
+//! Runs on slices, which every other test here makes.
+ghost use Rattle.std.specs.Prelude.{◌≡◌, IfOk, OnOk, OnErr, map};
+ghost use Rattle.bitvec_base.specs.Memory.{memory_bits};
+ghost use Rattle.bitvec_base.specs.Window.{window_of, write_window};
+ghost use Rattle.bitvec_run.specs.Commands.{replies_of, list_after};
+
+use bitvec_base::{BitStore, Exclusive, Shared};
+use bitvec_engine::SliceOrder;
+use bitvec_run::{Op, Reply, RunError, Step, Window, run};
+use std::alloc::Allocator;
+
+/// A bit set in each of four nibbles, and their count.
+pub(crate) fn four_nibbles() -> [Step; 5] {
+    [
+        step(0, 4, Op::Set(0, true)),
+        step(4, 8, Op::Set(1, true)),
+        step(8, 12, Op::Set(2, true)),
+        step(12, 16, Op::Set(3, true)),
+        step(0, 16, Op::CountOnes),
+    ]
+}
+
+/// What those steps reply.
+pub(crate) const FOUR_NIBBLES_REPLIES: [Reply; 5] = [
+    Reply::Done,
+    Reply::Done,
+    Reply::Done,
+    Reply::Done,
+    Reply::Count(4),
+];
+
+/// A step, on one line.
+pub(crate) fn step(from: usize, to: usize, op: Op) -> Step {
+    Step { from, to, op }
+}
+
+/// A run through a window of a slice; the right memory is a slice too.
+pub(crate) fn run_in<T: BitStore, O: SliceOrder, A: Allocator>(
+    alloc: A,
+    cells: &mut [T],
+    window: Window,
+    right: &[T],
+    steps: &[Step],
+) -> Result<Vec<Reply, A>, RunError>
+    ensures replies { let list = window_of (memory_bits T.BITS O.at (map T.value cells.old)) window in
+        let other = memory_bits T.BITS O.at (map T.value right.now) in
+        IfOk result (λ replies. replies.items ≡ replies_of other list steps.now) }
+    ensures bits { let before = memory_bits T.BITS O.at (map T.value cells.old) in
+        let other = memory_bits T.BITS O.at (map T.value right.now) in
+        OnOk result (memory_bits T.BITS O.at (map T.value cells.new)
+        ≡ write_window before window (list_after other (window_of before window) steps.now)) }
+    ensures unchanged { OnErr result (map T.value cells.new ≡ map T.value cells.old) }
+{
+    let mut left = Exclusive::new(cells);
+    let mut source = Shared::new(right);
+    run::<O, A, _, _>(alloc, &mut left, window, &mut source, steps)
+}
