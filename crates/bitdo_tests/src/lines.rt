@@ -53,6 +53,13 @@ fn other_lines_are_bad(rt: HostRuntime) -> Result<(), Fail> {
         "0 8 set 0 01",
         "0 8 set 0 1 1",
         "0 8 set 0 true",
+        "0 8 replace 0 2",
+        "0 8 fill 01",
+        "0 8 swap 0 x",
+        "0 8 swap x 0",
+        "0 8 copy_within 0 0 18446744073709551616",
+        "0 8 xor 0 18446744073709551616",
+        "0 8 shift-start 0",
         "0 8 count_ones 0",
         "0 8 get ٣",
     ] {
@@ -65,6 +72,7 @@ fn other_lines_are_bad(rt: HostRuntime) -> Result<(), Fail> {
 fn the_first_bad_line_is_named(rt: HostRuntime) -> Result<(), Fail> {
     for (input, printed) in [
         ("0 8 set 0 1\n0 8 set 0 2\n", "bad line 2\n"),
+        ("0 8 fill 1\n0 8 fill 2\n", "bad line 2\n"),
         ("\n\r\n0 8 get 0\n\nno\nnor this\n", "bad line 5\n"),
         ("0 8 get 9\n9 8 get 0\n\nno", "bad line 4\n"),
     ] {

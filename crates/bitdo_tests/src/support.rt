@@ -14,6 +14,17 @@ pub(crate) fn words(alloc: Global, text: &str) -> Result<Vec<String>, AllocError
     Ok(words)
 }
 
+/// A line of a command with so many arguments, each of them 0, and a bad line after it.
+pub(crate) fn line(alloc: Global, word: &str, arguments: usize) -> Result<String, AllocError> {
+    let mut text = String::from_str(alloc, "0 8 ")?;
+    text.push_str(word)?;
+    for _ in 0..arguments {
+        text.push_str(" 0")?;
+    }
+    text.push_str("\nno line")?;
+    Ok(text)
+}
+
 /// Asserts what `work` prints on these arguments and this input, and its status.
 pub(crate) fn expect<R: Abort + AllocGlobal>(
     rt: &R,

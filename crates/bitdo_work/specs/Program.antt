@@ -7,8 +7,7 @@ use Rattle.bitvec_base.specs.Memory.{memory_bits}
 use Rattle.bitvec_base.specs.Window.{window_of, write_window}
 use Rattle.bitvec_run.specs.declared.command.Reply.{Reply}
 use Rattle.bitvec_run.specs.declared.command.Step.{Step}
-use Rattle.bitvec_run.specs.Commands.{replies_of, list_after}
-use Rattle.bitvec_run.specs.Runs.{FitsMaxBits, HasWindow}
+use Rattle.bitvec_run.specs.Runs.{FitsMaxBits, HasWindow, replies_of, list_after}
 use Rattle.bitdo_work.specs.Arguments.{Given, arguments_of, bits_of, place_in}
 use Rattle.bitdo_work.specs.Elements.{elements_of}
 use Rattle.bitdo_work.specs.Steps.{steps_of}

@@ -1,21 +1,11 @@
 -- The lines of the input, each a step.
-use Rattle.std.specs.Prelude.{ℕ, Bool, ◌+◌, ◌&&◌, nat_lt, if◌then◌else◌, List, ◌∷◌, length, position, Option, Some, None, is_none, codes}
+use Rattle.std.specs.Prelude.{ℕ, Bool, ◌+◌, ◌&&◌, nat_lt, if◌then◌else◌, List, ◌∷◌, length, position, Option, Some, None, is_none}
 use Rattle.std.specs.List.{filter_map, list_any}
 use Rattle.std.specs.Option.{option_map}
-use Rattle.std.specs.Str.{bytes_eq}
 use Rattle.std.specs.Str.Lines.{lines}
-use Rattle.bitvec_run.specs.declared.command.Op.{Op}
-use Rattle.bitvec_run.specs.declared.command.Op.TheVariants.{Get, Set, CountOnes}
 use Rattle.bitvec_run.specs.declared.command.Step.{Step}
-use Rattle.bitdo_work.specs.Words.{◌>>=◌, number_of, words_of, no_argument, one_number, number_and_bit}
-
--- the command of a word and its arguments
-unfoldable pub op_of : List ℕ → List (List ℕ) → Option Op
-op_of word arguments =
-    if bytes_eq word (codes "get") then option_map Get (one_number arguments)
-    else if bytes_eq word (codes "set") then option_map (λ given. Set given.0 given.1) (number_and_bit arguments)
-    else if bytes_eq word (codes "count_ones") then option_map (λ _. CountOnes) (no_argument arguments)
-    else None
+use Rattle.bitdo_work.specs.Ops.{op_of}
+use Rattle.bitdo_work.specs.Words.{◌>>=◌, number_of, words_of}
 
 -- FROM, TO, the command and its arguments
 unfoldable pub step_of_words : List (List ℕ) → Option Step

@@ -5,6 +5,7 @@ use Rattle.std.specs.List.{list_all, slice_split}
 use Rattle.std.specs.Char.{is_ascii_digit}
 use Rattle.std.specs.Str.{bytes_eq}
 use Rattle.std.specs.Str.Parse.{digits_value}
+use Rattle.bitvec_base.specs.declared.window.Window.{Window}
 use Rattle.bitdo_work.specs.declared.words.Words.{Words}
 
 infixl 10 ◌>>=◌
@@ -45,6 +46,9 @@ one_word _ = None
 abbrev pub one_number : List (List ℕ) → Option ℕ
 one_number words = one_word words >>= number_of
 
+abbrev pub one_bit : List (List ℕ) → Option Bool
+one_bit words = one_word words >>= bit_of
+
 abbrev pub number_and_bit : List (List ℕ) → Option (ℕ × Bool)
 number_and_bit [] = None
 number_and_bit (first ∷ more) = do
@@ -52,3 +56,23 @@ number_and_bit (first ∷ more) = do
   last ← one_word more
   bit ← bit_of last
   Some (number, bit)
+
+abbrev pub two_numbers : List (List ℕ) → Option (ℕ × ℕ)
+two_numbers [] = None
+two_numbers (first ∷ more) = do
+  number ← number_of first
+  other ← one_number more
+  Some (number, other)
+
+abbrev pub three_numbers : List (List ℕ) → Option (ℕ × ℕ × ℕ)
+three_numbers [] = None
+three_numbers (first ∷ more) = do
+  number ← number_of first
+  others ← two_numbers more
+  Some (number, others.0, others.1)
+
+-- a start and a length
+abbrev pub one_window : List (List ℕ) → Option Window
+one_window words = do
+  numbers ← two_numbers words
+  Some (record { start = numbers.0; len = numbers.1 })

@@ -6,6 +6,7 @@ mod elements;
 mod fault;
 mod input;
 mod lines;
+mod ops;
 mod print;
 mod program;
 mod words;

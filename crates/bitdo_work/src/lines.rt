@@ -1,28 +1,13 @@
 //! The lines of the input: one step each.
 ghost use Rattle.std.specs.Prelude.{◌≡◌, ◌⊎◌, Some, IsSomeAnd, IfOk, IfErr};
-ghost use Rattle.bitdo_work.specs.Steps.{op_of, step_of, steps_of, bad_line_of};
+ghost use Rattle.bitdo_work.specs.Steps.{step_of, steps_of, bad_line_of};
 ghost use Rattle.bitdo_work.specs.declared.fault.Fault.TheVariants.{Line, Memory};
-ghost use Rattle.bitdo_work.specs.Words.{words_left};
 
 use crate::fault::Fault;
+use crate::ops::parse_op;
 use crate::words::{Words, parse_number};
-use bitvec_run::{Op, Step};
+use bitvec_run::Step;
 use std::alloc::Allocator;
-
-/// The command of a word and the arguments after it: a row a command, as many arguments as it
-/// shows. A word without a row is no command.
-fn parse_op(word: &str, arguments: Words<'_>) -> Option<Op>
-    ensures { result ≡ op_of word.now (words_left arguments.entry) }
-{
-    match word {
-        "get" => arguments.number().map(Op::Get),
-        "set" => arguments
-            .number_and_bit()
-            .map(|(index, bit)| Op::Set(index, bit)),
-        "count_ones" => arguments.none().map(|()| Op::CountOnes),
-        _ => None,
-    }
-}
 
 /// The step of a line: FROM, TO, the command and its arguments.
 #[tactic(auto, unfolding(crate::specs::Steps::step_of, crate::specs::Steps::step_of_words))]

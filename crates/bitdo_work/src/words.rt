@@ -2,7 +2,9 @@
 ghost use Rattle.std.specs.Prelude.{◌≡◌, ◌∷◌, [], None, IfSome, IfNone};
 ghost use Rattle.std.specs.Char.{is_ascii_digit};
 ghost use Rattle.std.specs.List.{list_all};
-ghost use Rattle.bitdo_work.specs.Words.{number_of, bit_of, words_of, words_left, no_argument, one_word, one_number, number_and_bit};
+ghost use Rattle.bitdo_work.specs.Words.{number_of, bit_of, words_of, words_left, no_argument, one_word, one_number, one_bit, number_and_bit, two_numbers, three_numbers, one_window};
+
+use bitvec_base::Window;
 
 /// Whether each byte is a decimal digit.
 fn is_decimal(word: &str) -> bool
@@ -95,11 +97,43 @@ impl<'a> Words<'a> {
         parse_number(self.last()?)
     }
 
+    /// One bit, and no word after it.
+    pub(crate) fn bit(self) -> Option<bool>
+        ensures { result ≡ one_bit (words_left self.entry) }
+    {
+        parse_bit(self.last()?)
+    }
+
     /// A number and a bit, and no word after them.
     pub(crate) fn number_and_bit(mut self) -> Option<(usize, bool)>
         ensures { result ≡ number_and_bit (words_left self.entry) }
     {
         let number = parse_number(self.next()?)?;
         Some((number, parse_bit(self.last()?)?))
+    }
+
+    /// Two numbers, and no word after them.
+    pub(crate) fn two_numbers(mut self) -> Option<(usize, usize)>
+        ensures { result ≡ two_numbers (words_left self.entry) }
+    {
+        let first = parse_number(self.next()?)?;
+        Some((first, self.number()?))
+    }
+
+    /// Three numbers, and no word after them.
+    pub(crate) fn three_numbers(mut self) -> Option<(usize, usize, usize)>
+        ensures { result ≡ three_numbers (words_left self.entry) }
+    {
+        let first = parse_number(self.next()?)?;
+        let (second, third) = self.two_numbers()?;
+        Some((first, second, third))
+    }
+
+    /// The start and the length of a window, and no word after them.
+    pub(crate) fn window(self) -> Option<Window>
+        ensures { result ≡ one_window (words_left self.entry) }
+    {
+        let (start, len) = self.two_numbers()?;
+        Some(Window { start, len })
     }
 }

@@ -105,7 +105,7 @@ set-element b at xs e v some h =
 -- ---- an element's bits behind a mask
 
 -- a number that has new bits at some indices of an element, and the old ones at all others
-masked_write : (b : ℕ) (at : ℕ → ℕ → ℕ) (v changed from to : ℕ) (new : List Bool) → from ≤ to → to ≤ b → length new ≡ to - from
+pub masked_write : (b : ℕ) (at : ℕ → ℕ → ℕ) (v changed from to : ℕ) (new : List Bool) → from ≤ to → to ≤ b → length new ≡ to - from
     → ((i : ℕ) → from ≤ i → i < to → (d : Bool) → (bit_at changed (at b i) == 1) ≡ slice_index_or new (i - from) d)
     → ((i : ℕ) → i < b → (i < from) ⊎ (to ≤ i) → bit_at changed (at b i) ≡ bit_at v (at b i))
     → element_bits b at changed ≡ write_at (element_bits b at v) from new
@@ -151,7 +151,7 @@ single_sum (suc zero) (suc (suc d)) w hc hd some e = absurd (omega arith)
 single_sum (suc (suc c)) d w hc hd some e = absurd (omega arith)
 
 -- a bit of a number's complement at b bits
-bit_of_complement : (b m k : ℕ) → m < 2 ^ b → k < b → bit_at (2 ^ b - 1 - m) k + bit_at m k ≡ 1
+pub bit_of_complement : (b m k : ℕ) → m < 2 ^ b → k < b → bit_at (2 ^ b - 1 - m) k + bit_at m k ≡ 1
 bit_of_complement b m k small below =
     let power = pow_below k b below in
     let sum = and-not b m (2 ^ k) small power in

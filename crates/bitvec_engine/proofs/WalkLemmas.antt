@@ -1,10 +1,10 @@
 -- A walk over a window, a part of one element at a time.
-use Rattle.std.specs.Prelude.{◌≡◌, ℕ, ◌+◌, ◌-◌, ◌*◌, ◌/◌, ◌%◌, ◌<◌, ◌≤◌, min, Bool, not, List, ◌++◌, length, map, replicate, count_by, slice_range, cond, refl, zero, suc}
+use Rattle.std.specs.Prelude.{◌≡◌, ℕ, ◌+◌, ◌-◌, ◌*◌, ◌/◌, ◌%◌, ◌<◌, ◌≤◌, min, Bool, true, false, not, List, [], ◌∷◌, ◌++◌, length, map, replicate, count_by, slice_range, cond, refl, zero, suc}
 use Rattle.std.proofs.Common.{arith, rules, sym, ◌∙◌, ap, subst, ⊎_elim, eqb}
 use Rattle.std.proofs.lemmas.Bool.{cases_lt, cond-false, ne_eqb}
 use Rattle.std.proofs.lemmas.List.{same_lists, places, length-replicate, length-map, map-append, replicate-append-replicate}
-use Rattle.std.proofs.lemmas.List.Sums.{sum_by-append, count_by-le-length}
-use Rattle.std.proofs.Math.Nat.{sub_self}
+use Rattle.std.proofs.lemmas.List.Sums.{sum_by-append, sum_by-cons, count_by-le-length}
+use Rattle.std.proofs.Math.Nat.{sub_self, add-div_right}
 use Rattle.bitvec_base.specs.Window.{write_at}
 use Rattle.bitvec_base.specs.WriteLaws.{length-slice_range, range-write_at_after, write_at-next, write_at-nil}
 use Rattle.std.proofs.lemmas.Nat.{div-mul-add, div-add-mod', mod_below, mod-mul-add, le-div, div_below}
@@ -54,6 +54,36 @@ touched-step b s (suc n) t some more step =
     let place : s / b * b + s % b ≡ s = div-add-mod' s b in
     subst (λ (m : ℕ). touched b m (suc n) ≡ touched b (m + t) (suc n - t) + 1) place (touched-parts b (s / b) (s % b) n t (mod_below s b some) step)
 
+-- and so does each step of a walk from the back
+touched-back_parts : (b s m t : ℕ) → 0 < b → t ≡ min (suc m) ((s + m) % b + 1) → touched b s (suc m) ≡ touched b s (suc m - t) + 1
+touched-back_parts b s m t some step =
+    let last = div-add-mod' (s + m) b in
+    let below = mod_below (s + m) b some in
+    let whole = touched-some b s m in
+    ⊎_elim
+    (λ (short : m < (s + m) % b + 1).
+    let gone : suc m - t ≡ 0 = omega arith in
+    let rest : touched b s (suc m - t) ≡ 0 = rw gone (touched-none b s) in
+    let start : s ≡ (s + m) / b * b + ((s + m) % b - m) = omega arith in
+    let same : s / b ≡ (s + m) / b = ap (λ (n : ℕ). n / b) start ∙ div-mul-add ((s + m) / b) b ((s + m) % b - m) (omega arith) in
+    omega arith)
+    (λ (long : (s + m) % b + 1 ≤ m).
+    let more : suc m - t ≡ suc (m - t) = omega arith in
+    let rest = touched-some b s (m - t) in
+    let end : s + (m - t) + b ≡ (s + m) / b * b + (b - 1) = omega arith in
+    let high = ap (λ (n : ℕ). n / b) end ∙ div-mul-add ((s + m) / b) b (b - 1) (omega arith) in
+    let next : (s + (m - t) + b) / b ≡ (s + (m - t)) / b + 1 = add-div_right (s + (m - t)) some in
+    let first = div-add-mod' s b in
+    let order = le-div (s / b) (s + (m - t)) b some (omega arith) in
+    rw more (omega arith))
+    (cases_lt m ((s + m) % b + 1))
+
+pub touched-back : (b s n t : ℕ) → 0 < b → 0 < n → t ≡ min n ((s + n - 1) % b + 1) → touched b s n ≡ touched b s (n - t) + 1
+touched-back b s zero t some more step = absurd (omega arith)
+touched-back b s (suc m) t some more step =
+    let last : s + suc m - 1 ≡ s + m = omega arith in
+    touched-back_parts b s m t some (subst (λ (e : ℕ). t ≡ min (suc m) (e % b + 1)) last step)
+
 -- slices that meet
 pub range-join : {X : Type 0} (list : List X) (a m e : ℕ) → a ≤ m → m ≤ e → e ≤ length list → slice_range list a m ++ slice_range list m e ≡ slice_range list a e
 range-join list a m e low high within = same_lists _ _ (search (rules, places)) (λ k d inside. grind (arith, places))
@@ -72,6 +102,18 @@ count-range list a e within =
 
 pub count-none : (list : List Bool) (a : ℕ) → count_by (λ (bit : Bool). bit) (slice_range list a a) ≡ 0
 count-none list a = rw (sub_self a) refl
+
+one_or_zero : (bit : Bool) → cond bit 1 0 + cond (not bit) 1 0 ≡ 1
+one_or_zero true = refl
+one_or_zero false = refl
+
+-- the ones and the zeros of a list make up its length
+pub count-ones_and_zeros : (list : List Bool) → count_by (λ (bit : Bool). bit) list + count_by (λ (bit : Bool). not bit) list ≡ length list
+count-ones_and_zeros [] = refl
+count-ones_and_zeros (bit ∷ bits) =
+    let rest = count-ones_and_zeros bits in
+    let here = one_or_zero bit in
+    rw (sum_by-cons (λ (b : Bool). cond b 1 0) bit bits, sum_by-cons (λ (b : Bool). cond (not b) 1 0) bit bits) (omega arith)
 
 -- the elements of a walk lie in the memory
 pub element-below : (b place n : ℕ) → 0 < b → place < b * n → place / b < n

@@ -1,2 +1,4 @@
 pub mod Cost
+pub mod CostLaws
 pub mod Element
+pub mod Operator

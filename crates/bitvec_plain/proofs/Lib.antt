@@ -1,2 +1,4 @@
+pub mod Moves
 pub mod Places
+pub mod Scans
 pub mod Steps

@@ -2,15 +2,13 @@
 use Rattle.std.proofs.Common.{◌≡◌, ℕ, ◌+◌, ◌*◌, ◌/◌, ◌^◌, ◌<◌, ◌==◌, List, [], ◌∷◌, ◌++◌, length, map, get_or, refl, ap, ◌∙◌, arith, bit_and}
 use Rattle.std.specs.List.{range_with_len}
 use Rattle.std.proofs.lemmas.List.FromFn.{map-range_with_len_more}
-use Rattle.std.proofs.lemmas.Nat.{div-mul-add, mod-mul-add}
 use Rattle.std.proofs.lemmas.Nat.Bits.{shr_and_one}
 use Rattle.bitvec_base.specs.Memory.{place_of, memory_bits}
+use Rattle.bitvec_base.specs.MemoryLaws.{place_of-element}
 
--- a place by its element and its index
-pub place_of-at : (b : ℕ) (at : ℕ → ℕ → ℕ) (xs : List ℕ) (element index number : ℕ) → index < b → number ≡ get_or xs element 0 → place_of b at xs (element * b + index) ≡ (bit_and (number / 2 ^ at b index) 1 == 1)
-unfolding place_of
-place_of-at b at xs element index number inside same =
-    rw (div-mul-add element b index inside, mod-mul-add element b index inside, shr_and_one, same) refl
+-- a place as the code reads it: from the element's number, by a shift
+place_of-shift : (b : ℕ) (at : ℕ → ℕ → ℕ) (xs : List ℕ) (element index number : ℕ) → index < b → number ≡ get_or xs element 0 → place_of b at xs (element * b + index) ≡ (bit_and (number / 2 ^ at b index) 1 == 1)
+place_of-shift b at xs element index number inside same = place_of-element b at xs element index inside ∙ rw (shr_and_one, same) refl
 
 -- one place more
 pub places-more : (b : ℕ) (at : ℕ → ℕ → ℕ) (xs : List ℕ) (element index number : ℕ) → index < b → number ≡ get_or xs element 0
@@ -18,7 +16,7 @@ pub places-more : (b : ℕ) (at : ℕ → ℕ → ℕ) (xs : List ℕ) (element 
 places-more b at xs element index number inside same =
     let next : element * b + (index + 1) ≡ element * b + index + 1 = omega arith in
     rw next (map-range_with_len_more (place_of b at xs) 0 (element * b + index) _ (omega arith)
-    ∙ ap (λ bit. map (place_of b at xs) (range_with_len 0 (element * b + index)) ++ (bit ∷ [])) (place_of-at b at xs element index number inside same))
+    ∙ ap (λ bit. map (place_of b at xs) (range_with_len 0 (element * b + index)) ++ (bit ∷ [])) (place_of-shift b at xs element index number inside same))
 
 -- all of them
 pub places-all : (b : ℕ) (at : ℕ → ℕ → ℕ) (xs : List ℕ) (n : ℕ) → n ≡ length xs → map (place_of b at xs) (range_with_len 0 (n * b)) ≡ memory_bits b at xs

@@ -1,6 +1,6 @@
 //! A run of commands, a step at a time.
 ghost use Rattle.std.specs.Prelude.{◌≡◌, IfOk};
-ghost use Rattle.bitvec_run.specs.Commands.{step_reply, step_list, replies_of, list_after};
+ghost use Rattle.bitvec_run.specs.Runs.{step_reply, step_list, replies_of, list_after};
 
 use crate::command::apply;
 use bitvec_run::{Refusal, Reply, Step};

@@ -1,2 +1,4 @@
+pub mod NeedleLemmas
+pub mod RightLemmas
 pub mod RunLemmas
 pub mod StepLemmas

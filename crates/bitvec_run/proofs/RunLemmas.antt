@@ -11,25 +11,29 @@ use Rattle.bitvec_base.specs.WriteLaws.{length-slice_range, length-write_at}
 use Rattle.bitvec_base.specs.WindowLaws.{length-window, window-written, window-rewritten}
 use Rattle.bitvec_run.specs.declared.command.Step.{Step}
 use Rattle.bitvec_run.specs.declared.command.Reply.{Reply}
-use Rattle.bitvec_run.specs.Commands.{op_refusal, op_list, is_in_range, step_reply, step_list, replies_of, list_after, list_unless}
+use Rattle.bitvec_run.specs.declared.command.Refusal.{Refusal}
+use Rattle.bitvec_run.specs.Commands.{op_refusal, op_list}
+use Rattle.bitvec_run.specs.CommandsLaws.{length-op_list}
+use Rattle.bitvec_run.specs.Runs.{is_in_range, step_reply, step_list, replies_of, list_after, list_unless}
 use Rattle.bitvec_run.specs.Costs.{step_cost, run_loads, run_stores, run_right_loads}
-use Rattle.bitvec_run.proofs.StepLemmas.{length-op_list, step_list-outside, step_list-inside, range-order}
+use Rattle.bitvec_run.proofs.StepLemmas.{step_list-outside, step_list-inside, range-order}
 
-length-unless : (r : Option _) (old new : List Bool) → length new ≡ length old → length (list_unless r old new) ≡ length old
-length-unless None old new same = same
-length-unless (Some refusal) old new same = refl
+-- what a command in range leaves is as long as the list, whether it was refused or not
+length-unless : (right list : List Bool) (step : Step) (r : Option Refusal) → (step.from ≤ step.to) × (step.to ≤ length list) → op_refusal right (step.to - step.from) step.op ≡ r → length (list_unless r list (write_at list step.from (op_list right (slice_range list step.from step.to) step.op))) ≡ length list
+length-unless right list step None order met =
+    let slice = slice_range list step.from step.to in
+    let size : length slice ≡ step.to - step.from = length-slice_range list step.from step.to (omega (arith, order)) in
+    let kept = length-op_list right slice step.op (subst (λ (m : ℕ). op_refusal right m step.op ≡ None) (sym size) met) in
+    length-write_at list step.from (op_list right slice step.op) (omega (arith, order))
+length-unless right list step (Some refusal) order met = refl
 
 -- a step keeps the list's length
 pub length-step_list : (right list : List Bool) (step : Step) → length (step_list right list step) ≡ length list
 length-step_list right list step =
     ⊎_elim
     (λ inside.
-    let order = range-order (length list) step inside in
-    let new = op_list right (slice_range list step.from step.to) step.op in
-    let size = length-slice_range list step.from step.to (omega (arith, order)) in
-    let kept = length-op_list right (slice_range list step.from step.to) step.op in
     ap length (step_list-inside right list (length list) step refl inside)
-    ∙ length-unless (op_refusal right (step.to - step.from) step.op) list (write_at list step.from new) (length-write_at list step.from new (omega (arith, order))))
+    ∙ length-unless right list step (op_refusal right (step.to - step.from) step.op) (range-order (length list) step inside) refl)
     (λ outside. ap length (step_list-outside right list (length list) step refl outside))
     (cases_Bool (is_in_range (length list) step))
 

@@ -1,26 +1,21 @@
 -- One step, from what its command does on its part of the window.
-use Rattle.std.specs.Prelude.{◌≡◌, ℕ, ◌+◌, ◌-◌, ◌≤◌, Bool, true, false, Option, Some, None, List, length, slice_range, nat_le, refl}
+use Rattle.std.specs.Prelude.{◌≡◌, ℕ, ◌+◌, ◌*◌, ◌-◌, ◌≤◌, Bool, true, false, Option, Some, None, List, length, slice_range, nat_le, refl}
 use Rattle.std.proofs.Common.{arith, sym, ◌∙◌, ap, subst}
 use Rattle.std.proofs.lemmas.Bool.{and_parts, leb-true, cond-true, cond-false}
-use Rattle.std.proofs.lemmas.List.{length-set}
 use Rattle.bitvec_base.specs.declared.window.Window.{Window}
 use Rattle.bitvec_base.specs.Window.{IsWithin, window_of, write_at, write_window}
+use Rattle.bitvec_base.specs.Memory.{memory_bits}
+use Rattle.bitvec_base.specs.MemoryLaws.{length-memory_bits}
 use Rattle.bitvec_base.specs.WriteLaws.{length-slice_range}
 use Rattle.bitvec_base.specs.WindowLaws.{length-window, window-kept, part-of_window, part-written}
-use Rattle.bitvec_run.specs.declared.command.Op.{Op}
-use Rattle.bitvec_run.specs.declared.command.Op.TheVariants.{Get, Set, CountOnes}
 use Rattle.bitvec_run.specs.declared.command.Step.{Step}
 use Rattle.bitvec_run.specs.declared.command.Reply.TheVariants.{Refused}
 use Rattle.bitvec_run.specs.declared.command.Refusal.{Refusal}
 use Rattle.bitvec_run.specs.declared.command.Refusal.TheVariants.{Range}
-use Rattle.bitvec_run.specs.Commands.{op_refusal, op_reply, op_list, is_in_range, step_refusal, reply_unless, list_unless, step_reply, step_list}
+use Rattle.bitvec_run.specs.Commands.{op_refusal, op_reply, op_list}
+use Rattle.bitvec_run.specs.CommandsLaws.{length-op_list}
+use Rattle.bitvec_run.specs.Runs.{is_in_range, step_refusal, reply_unless, list_unless, step_reply, step_list}
 use Rattle.bitvec_run.specs.Costs.{op_cost, cost_unless, step_cost}
-
--- a command that is not refused keeps the list's length
-pub length-op_list : (right list : List Bool) (op : Op) → length (op_list right list op) ≡ length list
-length-op_list right list (Get i) = refl
-length-op_list right list (Set i bit) = length-set list i bit
-length-op_list right list CountOnes = refl
 
 -- ---- out of range
 
@@ -83,23 +78,32 @@ step_reply-part right bits window part step within inside place long =
     ∙ ap (λ (l : List Bool). reply_unless (op_refusal right (step.to - step.from) step.op) (op_reply right l step.op)) (part-list bits window part step within inside place long)
     ∙ sym (step_reply-inside right list window.len step (length-window bits window within) inside)
 
--- what the command leaves, as the window's list
-unless-written : (r : Option Refusal) (bits : List Bool) (window : Window) (list new : List Bool) → window_of bits window ≡ list → IsWithin window (length bits) → list_unless r bits (write_window bits window new) ≡ write_window bits window (list_unless r list new)
-unless-written None bits window list new same within = refl
-unless-written (Some refusal) bits window list new same within = sym (ap (λ (l : List Bool). write_window bits window l) (sym same) ∙ window-kept bits window within)
+-- a part that keeps its list
+pub unless-kept : (b : ℕ) (at : ℕ → ℕ → ℕ) (xs : List ℕ) (part : Window) (r : Option Refusal) → IsWithin part (b * length xs) → memory_bits b at xs ≡ list_unless r (memory_bits b at xs) (write_window (memory_bits b at xs) part (window_of (memory_bits b at xs) part))
+unless-kept b at xs part None within = sym (window-kept (memory_bits b at xs) part (subst (λ (n : ℕ). IsWithin part n) (sym (length-memory_bits b at xs)) within))
+unless-kept b at xs part (Some refusal) within = refl
+
+-- what the command leaves, as the window's list, by whether it was refused
+unless-written : (right bits : List Bool) (window part : Window) (step : Step) (r : Option Refusal) → IsWithin window (length bits) → is_in_range window.len step ≡ true → part.start ≡ window.start + step.from → part.len ≡ step.to - step.from → op_refusal right part.len step.op ≡ r
+    → list_unless r bits (write_window bits part (op_list right (window_of bits part) step.op)) ≡ write_window bits window (list_unless r (window_of bits window) (write_at (window_of bits window) step.from (op_list right (slice_range (window_of bits window) step.from step.to) step.op)))
+unless-written right bits window part step None within inside place long met =
+    let order = range-order window.len step inside in
+    let list = window_of bits window in
+    let slice = slice_range list step.from step.to in
+    let whole = length-window bits window within in
+    let size : length slice ≡ step.to - step.from = length-slice_range list step.from step.to (omega (arith, order)) in
+    let same = part-list bits window part step within inside place long in
+    let asked = subst (λ (m : ℕ). op_refusal right m step.op ≡ None) (long ∙ sym size) met in
+    let kept = length-op_list right slice step.op asked in
+    ap (λ (l : List Bool). write_window bits part (op_list right l step.op)) same
+    ∙ part-written bits window part step.from (op_list right slice step.op) within place (omega (arith, order))
+unless-written right bits window part step (Some refusal) within inside place long met = sym (window-kept bits window within)
 
 pub step-written : (right bits : List Bool) (window part : Window) (step : Step) → IsWithin window (length bits) → is_in_range window.len step ≡ true → part.start ≡ window.start + step.from → part.len ≡ step.to - step.from
     → list_unless (op_refusal right part.len step.op) bits (write_window bits part (op_list right (window_of bits part) step.op)) ≡ write_window bits window (step_list right (window_of bits window) step)
 step-written right bits window part step within inside place long =
-    let order = range-order window.len step inside in
-    let whole = length-window bits window within in
     let list = window_of bits window in
-    let same = part-list bits window part step within inside place long in
-    let new = op_list right (slice_range list step.from step.to) step.op in
-    let size = length-slice_range list step.from step.to (omega (arith, order)) in
-    let kept = length-op_list right (slice_range list step.from step.to) step.op in
-    ap (λ (l : List Bool). list_unless (op_refusal right part.len step.op) bits (write_window bits part (op_list right l step.op))) same
-    ∙ ap (λ (l : List Bool). list_unless (op_refusal right part.len step.op) bits l) (part-written bits window part step.from new within place (omega (arith, order)))
-    ∙ unless-written (op_refusal right part.len step.op) bits window list (write_at list step.from new) refl within
-    ∙ ap (λ (m : ℕ). write_window bits window (list_unless (op_refusal right m step.op) list (write_at list step.from new))) long
+    let whole = length-window bits window within in
+    unless-written right bits window part step (op_refusal right part.len step.op) within inside place long refl
+    ∙ ap (λ (m : ℕ). write_window bits window (list_unless (op_refusal right m step.op) list (write_at list step.from (op_list right (slice_range list step.from step.to) step.op)))) long
     ∙ ap (λ (l : List Bool). write_window bits window l) (sym (step_list-inside right list window.len step whole inside))

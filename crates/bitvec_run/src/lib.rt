@@ -2,6 +2,9 @@
 #![tactic(auto)]
 
 mod command;
+mod edit;
+mod query;
+mod right;
 mod runner;
 mod step;
 

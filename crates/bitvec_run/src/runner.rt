@@ -2,9 +2,8 @@
 ghost use Rattle.std.specs.Prelude.{◌≡◌, ℕ, ◌+◌, ◌*◌, ◌≤◌, ◌<◌, ◌↔◌, length, [], IfOk, OnOk, OnErr, IsOk, IsTrue, Err};
 ghost use Rattle.bitvec_base.specs.Memory.{memory_bits};
 ghost use Rattle.bitvec_base.specs.Window.{window_of, write_window};
-ghost use Rattle.bitvec_run.specs.Commands.{replies_of, list_after};
 ghost use Rattle.bitvec_run.specs.Costs.{run_loads, run_stores, run_right_loads};
-ghost use Rattle.bitvec_run.specs.Runs.{FitsMaxBits, HasWindow};
+ghost use Rattle.bitvec_run.specs.Runs.{FitsMaxBits, HasWindow, replies_of, list_after};
 
 use crate::step::run_step;
 use crate::{Reply, RunError, Step};

@@ -2,12 +2,16 @@
 ghost use Rattle.std.specs.Prelude.{◌≡◌, ℕ, ◌+◌, ◌*◌, ◌≤◌, length};
 ghost use Rattle.bitvec_base.specs.Memory.{memory_bits};
 ghost use Rattle.bitvec_base.specs.Window.{IsWithin, window_of, write_window, max_bits};
-ghost use Rattle.bitvec_run.specs.Commands.{op_refusal, op_reply, op_list, reply_unless, list_unless, step_reply, step_list, is_in_range as in_range};
+ghost use Rattle.bitvec_run.specs.Commands.{op_refusal, op_reply, op_list};
+ghost use Rattle.bitvec_run.specs.Runs.{reply_unless, list_unless, step_reply, step_list, is_in_range as in_range};
 ghost use Rattle.bitvec_run.specs.Costs.{op_cost, cost_unless, step_cost};
 
+use crate::edit::{run_bit_edit, run_move, run_shift};
+use crate::query::run_query;
+use crate::right::{Comparison, ask, combine, copy_from};
 use crate::{Op, Refusal, Reply, Step};
 use bitvec_base::{BitStore, Cells, CellsRead, Window};
-use bitvec_engine::{SliceOrder, count, get_bit, replace_bit};
+use bitvec_engine::{BitOp, SliceOrder};
 
 // Whether the sub-range of a step lies in a window of that many bits.
 fn is_in_range(len: usize, step: &Step) -> bool
@@ -49,22 +53,33 @@ where
     ensures right_stores { D.stores right.new ≡ D.stores right.old }
 {
     match op {
-        Op::Get(index) => {
-            if index < part.len {
-                Reply::Bit(get_bit::<O, C>(cells, part, index))
-            } else {
-                Reply::Refused(Refusal::Index)
-            }
+        Op::Get(_)
+        | Op::CountOnes
+        | Op::CountZeros
+        | Op::FirstOne
+        | Op::FirstZero
+        | Op::LastOne
+        | Op::LastZero
+        | Op::Any
+        | Op::All => run_query::<O, C>(cells, part, op),
+        Op::Set(..) | Op::Replace(..) | Op::Swap(..) | Op::Fill(_) | Op::Invert => {
+            run_bit_edit::<O, C>(cells, part, op)
         }
-        Op::Set(index, bit) => {
-            if index < part.len {
-                let _old = replace_bit::<O, C>(cells, part, index, bit);
-                Reply::Done
-            } else {
-                Reply::Refused(Refusal::Index)
-            }
+        Op::Reverse | Op::CopyWithin(..) => run_move::<O, C>(cells, part, op),
+        Op::ShiftStart(_) | Op::ShiftEnd(_) | Op::RotateLeft(_) | Op::RotateRight(_) => {
+            run_shift::<O, C>(cells, part, op)
         }
-        Op::CountOnes => Reply::Count(count::<O, C>(cells, part)),
+        Op::CopyFrom(window) => copy_from::<O, C, D>(cells, part, right, window),
+        Op::And(window) => combine::<O, C, D>(cells, part, right, window, BitOp::And),
+        Op::Or(window) => combine::<O, C, D>(cells, part, right, window, BitOp::Or),
+        Op::Xor(window) => combine::<O, C, D>(cells, part, right, window, BitOp::Xor),
+        Op::Eq(window) => ask::<O, C, D>(cells, part, right, window, Comparison::Eq),
+        Op::Cmp(window) => ask::<O, C, D>(cells, part, right, window, Comparison::Cmp),
+        Op::StartsWith(window) => {
+            ask::<O, C, D>(cells, part, right, window, Comparison::StartsWith)
+        }
+        Op::EndsWith(window) => ask::<O, C, D>(cells, part, right, window, Comparison::EndsWith),
+        Op::Contains(window) => ask::<O, C, D>(cells, part, right, window, Comparison::Contains),
     }
 }
 

@@ -1,80 +1,106 @@
-//! Runs at each width and order, against the plain program on the memory's bits.
-ghost use Rattle.std.specs.Prelude.{ℕ, ◌+◌, ◌*◌, ◌%◌, ◌≤◌, ◌<◌, ◌^◌};
+//! Runs at each width and order, against the plain program on the memories' bits.
+ghost use Rattle.std.specs.Prelude.{◌^◌, ◌<◌};
 
-use crate::slices::{run_in, step};
+use crate::slices::run_in;
+use crate::steps::{edits, moves, queries, right_commands};
 use bitvec_base::{BitStore, HiLo, Lsb0, Msb0};
 use bitvec_engine::SliceOrder;
 use bitvec_plain::{bits_of_elements, plain_run, same_bits};
-use bitvec_run::{Op, Step, Window};
+use bitvec_run::{Step, Window};
 use std::process::Abort;
 use std::test::Fail;
 
-/// Steps in a window of that many bits, at least 8, with refused ones among them.
-fn steps_at(len: usize) -> [Step; 12]
-    requires least { 8 ≤ len }
-    requires most { len < 2 ^ 32 }
-{
-    [
-        step(0, len, Op::CountOnes),
-        step(0, len, Op::Set(0, true)),
-        step(0, len, Op::Set(len, true)),
-        step(1, len, Op::Set(len - 2, false)),
-        step(1, len + 1, Op::Set(0, true)),
-        step(0, len, Op::Get(len - 1)),
-        step(3, 2, Op::CountOnes),
-        step(2, 7, Op::Get(5)),
-        step(2, 7, Op::Get(4)),
-        step(5, 5, Op::CountOnes),
-        step(2, len - 1, Op::CountOnes),
-        step(0, len, Op::CountOnes),
-    ]
+const LEFT: u64 = 0x9E37_79B9_7F4A_7C15;
+
+const RIGHT: u64 = 0xBF58_476D_1CE4_E5B9;
+
+/// Elements with no pattern, other ones for another seed. They hold a window of 131 bits from the
+/// last bit of the first element on.
+fn mixed_elements<T: BitStore>(seed: u64) -> [T; 18] {
+    let mut number = seed;
+    let mut elements = [T::ZERO; 18];
+    for element in elements.iter_mut() {
+        number = number.wrapping_mul(0x5851_F42D_4C95_7F2D).wrapping_add(1);
+        *element = T::from_u128((number ^ number >> 29) as u128 & T::ALL.to_u128());
+    }
+    elements
 }
 
-/// A run in a window of `B + 8` bits from each bit of the first element on, where three elements
-/// are of `B` bits each.
+/// A run of those steps in that window, and the same by the plain program.
 fn agrees<T: BitStore, O: SliceOrder, R: Abort + AllocGlobal>(
     rt: &R,
-    elements: [T; 3],
+    left: &[T],
+    right: &[T],
+    window: Window,
+    steps: &[Step],
+) -> Result<(), Fail>
+    requires start { window.start < 2 ^ 32 }
+    requires len { window.len < 2 ^ 32 }
+{
+    let end = window.start + window.len;
+    let before = bits_of_elements::<T, O, _>(rt.alloc(), left)?;
+    let right_bits = bits_of_elements::<T, O, _>(rt.alloc(), right)?;
+    assert!(rt; end <= before.len(), "{window:?}");
+    let plain = plain_run(rt.alloc(), &before[window.start..end], &right_bits, steps)?;
+    let mut cells = Vec::from_slice(rt.alloc(), left)?;
+    let replies = run_in::<T, O, _>(rt.alloc(), &mut cells, window, right, steps)?;
+    assert_eq!(rt; replies.as_slice(), plain.replies.as_slice(), "{window:?}");
+    let after = bits_of_elements::<T, O, _>(rt.alloc(), &cells)?;
+    assert_eq!(rt; after.len(), before.len(), "{window:?}");
+    assert!(rt;
+        same_bits(&after[..window.start], &before[..window.start]),
+        "{window:?}"
+    );
+    assert!(rt;
+        same_bits(&after[window.start..end], &plain.list),
+        "{window:?}"
+    );
+    assert!(rt; same_bits(&after[end..], &before[end..]), "{window:?}");
+    Ok(())
+}
+
+/// Every command in windows of few bits, of about an element and of several elements, at the
+/// start of an element, behind its first bit and at its last bit, on both sides.
+fn agrees_everywhere<T: BitStore, O: SliceOrder, R: Abort + AllocGlobal>(
+    rt: &R,
+    left: &[T],
+    right: &[T],
 ) -> Result<(), Fail> {
-    let before = bits_of_elements::<T, O, _>(rt.alloc(), &elements)?;
-    let steps = steps_at(T::BITS as usize + 8);
-    for start in 0..T::BITS as usize {
-        let end = start + T::BITS as usize + 8;
-        assert!(rt; end <= before.len(), "at {start}");
-        let plain = plain_run(rt.alloc(), &before[start..end], &[], &steps)?;
-        let mut cells = elements;
-        let len = end - start;
-        let replies = run_in::<T, O, _>(
-            rt.alloc(),
-            &mut cells,
-            Window { start, len },
-            &[],
-            &steps,
-        )?;
-        assert_eq!(rt; replies.as_slice(), plain.replies.as_slice(), "at {start}");
-        let after = bits_of_elements::<T, O, _>(rt.alloc(), &cells)?;
-        assert_eq!(rt; after.len(), before.len(), "at {start}");
-        assert!(rt; same_bits(&after[..start], &before[..start]), "at {start}");
-        assert!(rt; same_bits(&after[start..end], &plain.list), "at {start}");
-        assert!(rt; same_bits(&after[end..], &before[end..]), "at {start}");
+    let width = T::BITS as usize;
+    for len in [0, 1, width - 1, width, width + 1, 130] {
+        for start in [0, 1, width - 1] {
+            let window = Window { start, len };
+            agrees::<T, O, R>(rt, left, right, window, &queries(len))?;
+            agrees::<T, O, R>(rt, left, right, window, &edits(len))?;
+            agrees::<T, O, R>(rt, left, right, window, &moves(len))?;
+            for right_start in [0, 1, width - 1] {
+                let steps = right_commands(len, right_start);
+                agrees::<T, O, R>(rt, left, right, window, &steps)?;
+            }
+        }
     }
     Ok(())
 }
 
-fn agrees_in_each_order<T: BitStore, R: Abort + AllocGlobal>(
-    rt: &R,
-    elements: [T; 3],
-) -> Result<(), Fail> {
-    agrees::<T, Lsb0, R>(rt, elements)?;
-    agrees::<T, Msb0, R>(rt, elements)?;
-    agrees::<T, HiLo, R>(rt, elements)
+#[test]
+fn bytes_agree_with_the_plain_program(rt: HostRuntime) -> Result<(), Fail> {
+    let (left, right) = (mixed_elements(LEFT), mixed_elements(RIGHT));
+    agrees_everywhere::<u8, Lsb0, _>(&rt, &left, &right)?;
+    agrees_everywhere::<u8, Msb0, _>(&rt, &left, &right)?;
+    agrees_everywhere::<u8, HiLo, _>(&rt, &left, &right)
 }
 
 #[test]
-fn a_run_agrees_with_the_plain_program(rt: HostRuntime) -> Result<(), Fail> {
-    agrees_in_each_order(&rt, [0xA5u8, 0x3C, 0x0F])?;
-    agrees_in_each_order(&rt, [0xA53Cu16, 0x0FF1, 0x8001])?;
-    agrees_in_each_order(&rt, [0xA53C_0FF1u32, 0x8001_7FFE, 0x1234_5678])?;
-    agrees_in_each_order(&rt, [0xA53C_0FF1_8001_7FFEu64, 0x0123_4567_89AB_CDEF, 1])?;
-    agrees_in_each_order(&rt, [0xFEDC_BA98_7654_3210usize, 0x0F0F_F0F0_3333_CCCC, 0])
+fn long_elements_agree_with_the_plain_program(rt: HostRuntime) -> Result<(), Fail> {
+    let (left, right) = (mixed_elements(LEFT), mixed_elements(RIGHT));
+    agrees_everywhere::<u64, Lsb0, _>(&rt, &left, &right)?;
+    agrees_everywhere::<u64, Msb0, _>(&rt, &left, &right)?;
+    agrees_everywhere::<u64, HiLo, _>(&rt, &left, &right)
+}
+
+#[test]
+fn other_widths_agree_with_the_plain_program(rt: HostRuntime) -> Result<(), Fail> {
+    agrees_everywhere::<u16, Msb0, _>(&rt, &mixed_elements(LEFT), &mixed_elements(RIGHT))?;
+    agrees_everywhere::<u32, Lsb0, _>(&rt, &mixed_elements(LEFT), &mixed_elements(RIGHT))?;
+    agrees_everywhere::<usize, HiLo, _>(&rt, &mixed_elements(LEFT), &mixed_elements(RIGHT))
 }

@@ -2,23 +2,26 @@
 ghost use Rattle.std.specs.Prelude.{replicate};
 
 use crate::slices::{four_nibbles, run_in};
-use bitvec_base::{BitStore, Cells, CellsRead, Lsb0, MAX_BITS, Shared};
+use bitvec_base::{Cells, CellsRead, Lsb0, MAX_BITS};
 use bitvec_run::{RunError, Window, run};
-use std::marker::PhantomData;
 use std::process::Abort;
 use std::test::Fail;
 
-/// A memory of zeros that is as long as a test wants and holds nothing: a load or a store ends the
-/// test.
+/// Zero bytes, as many as a test wants, which are held nowhere: a load or a store ends the test.
 #[derive(Drop)]
-struct Untouched<'a, T, R> {
+struct Untouched<'a, R> {
     len: usize,
     rt: &'a R,
-    element: PhantomData<T>,
 }
 
-impl<'a, T: BitStore, R: Abort> CellsRead for Untouched<'a, T, R> {
-    type Elem = T;
+impl<'a, R> Untouched<'a, R> {
+    fn new(rt: &'a R, len: usize) -> Self {
+        Untouched { len, rt }
+    }
+}
+
+impl<'a, R: Abort> CellsRead for Untouched<'a, R> {
+    type Elem = u8;
 
     ghost memory = { λ _. 0 };
 
@@ -32,20 +35,15 @@ impl<'a, T: BitStore, R: Abort> CellsRead for Untouched<'a, T, R> {
         self.len
     }
 
-    fn load(&mut self, index: usize) -> T {
+    fn load(&mut self, index: usize) -> u8 {
         panic!(self.rt; "a load at {index}")
     }
 }
 
-impl<'a, T: BitStore, R: Abort> Cells for Untouched<'a, T, R> {
-    fn store(&mut self, index: usize, _element: T) {
+impl<'a, R: Abort> Cells for Untouched<'a, R> {
+    fn store(&mut self, index: usize, _element: u8) {
         panic!(self.rt; "a store at {index}")
     }
-}
-
-fn untouched_bytes<R: Abort>(rt: &R, len: usize) -> Untouched<u8, R> {
-    let element = PhantomData;
-    Untouched { len, rt, element }
 }
 
 #[test]
@@ -66,28 +64,42 @@ fn a_window_outside_is_an_error(rt: HostRuntime) {
     }
 }
 
-// The lengths of the two memories in bytes, the first bit of an empty window, and the error.
+// The length of the memory and the first bit of an empty window in it, the length of the right
+// memory, and the error.
 #[test]
 fn a_memory_of_too_many_bits_is_an_error(rt: HostRuntime) {
     let most = MAX_BITS / 8;
     let long = usize::MAX / 16;
     let table = [
-        (most, most * 8, most, None),
-        (most + 1, 0, 0, Some(RunError::Window)),
-        (0, 0, most + 1, Some(RunError::Right)),
-        (0, 0, long, Some(RunError::Right)),
-        (long, 0, 0, Some(RunError::Window)),
-        (long, 0, long, Some(RunError::Window)),
-        (0, 1, long, Some(RunError::Window)),
-        (long, usize::MAX, long, Some(RunError::Window)),
+        (most + 1, 0, 0, RunError::Window),
+        (0, 0, most + 1, RunError::Right),
+        (most, most * 8, long, RunError::Right),
+        (long, 0, 0, RunError::Window),
+        (long, 0, long, RunError::Window),
+        (0, 1, long, RunError::Window),
+        (long, usize::MAX, long, RunError::Window),
     ];
-    for (left_len, start, right_len, error) in table {
-        let mut cells = untouched_bytes(&rt, left_len);
-        let mut right = untouched_bytes(&rt, right_len);
+    for (len, start, right_len, error) in table {
+        let mut cells = Untouched::new(&rt, len);
+        let mut right = Untouched::new(&rt, right_len);
         let window = Window { start, len: 0 };
-        let outcome = run::<Lsb0, _, _, _>(rt.alloc(), &mut cells, window, &mut right, &[]);
-        assert_eq!(rt; outcome.err(), error, "{left_len} {start} {right_len}");
+        let steps = four_nibbles();
+        let outcome = run::<Lsb0, _, _, _>(rt.alloc(), &mut cells, window, &mut right, &steps);
+        assert_eq!(rt; outcome.err(), Some(error), "{len} {start} {right_len}");
     }
+}
+
+#[test]
+fn memories_of_the_most_bits_are_none(rt: HostRuntime) {
+    let most = MAX_BITS / 8;
+    let mut cells = Untouched::new(&rt, most);
+    let mut right = Untouched::new(&rt, most);
+    let window = Window {
+        start: most * 8,
+        len: 0,
+    };
+    let outcome = run::<Lsb0, _, _, _>(rt.alloc(), &mut cells, window, &mut right, &[]);
+    assert_eq!(rt; outcome.map(|replies| replies.len()), Ok(0));
 }
 
 #[test]

@@ -5,6 +5,8 @@
 #[cfg(test)]
 mod agreement;
 #[cfg(test)]
+mod command_rows;
+#[cfg(test)]
 mod cost;
 #[cfg(test)]
 mod errors;
@@ -16,5 +18,7 @@ mod own_order;
 mod rows;
 #[cfg(test)]
 mod slices;
+#[cfg(test)]
+mod steps;
 #[cfg(test)]
 mod want_of_memory;

@@ -1,10 +1,15 @@
 //! A run in a bit order of the tests' own.
+#![tactic(auto, using(bitvec_engine::specs::CostLaws::enough))]
+
 ghost use Rattle.std.specs.Prelude.{Bool, false};
-ghost use Rattle.bitvec_run_tests.specs.Scattered.{scattered, scattered_permutes};
+ghost use Rattle.bitvec_run_tests.specs.Scattered.{scattered};
+ghost use Rattle.bitvec_run_tests.specs.ScatteredLaws.{scattered_permutes};
 
 use crate::slices::{run_in, step};
-use bitvec_base::{BitOrder, BitStore};
-use bitvec_engine::SliceOrder;
+use bitvec_base::{BitOrder, BitStore, Cells, CellsRead};
+use bitvec_engine::{
+    BitOp, SliceOrder, bits_copy, bits_copy_within, bits_eq, bits_op, bits_reverse, bits_swap,
+};
 use bitvec_run::{Op, Reply, Window};
 use std::test::Fail;
 
@@ -30,6 +35,57 @@ impl SliceOrder for Scattered {
     ghost WORDS = { false };
 
     const WORDS: bool = false;
+
+    fn block_eq<C: CellsRead, D: CellsRead<Elem = C::Elem>>(
+        left: &mut C,
+        left_window: Window,
+        right: &mut D,
+        right_window: Window,
+    ) -> bool {
+        bits_eq::<Self, Self, C, D>(left, left_window, right, right_window)
+    }
+
+    fn block_copy<C: Cells, D: CellsRead<Elem = C::Elem>>(
+        left: &mut C,
+        to: Window,
+        right: &mut D,
+        from: Window,
+    ) {
+        bits_copy::<Self, Self, C, D>(left, to, right, from);
+    }
+
+    fn block_swap<C: Cells, D: Cells + CellsRead<Elem = C::Elem>>(
+        left: &mut C,
+        left_window: Window,
+        right: &mut D,
+        right_window: Window,
+    ) {
+        bits_swap::<Self, Self, C, D>(left, left_window, right, right_window);
+    }
+
+    fn block_copy_within<C: Cells>(
+        cells: &mut C,
+        window: Window,
+        from: usize,
+        to: usize,
+        dest: usize,
+    ) {
+        bits_copy_within::<Self, C>(cells, window, from, to, dest);
+    }
+
+    fn block_op<C: Cells, D: CellsRead<Elem = C::Elem>>(
+        left: &mut C,
+        to: Window,
+        right: &mut D,
+        from: Window,
+        op: BitOp,
+    ) {
+        bits_op::<Self, Self, C, D>(left, to, right, from, op);
+    }
+
+    fn block_reverse<C: Cells>(cells: &mut C, window: Window) {
+        bits_reverse::<Self, C>(cells, window);
+    }
 }
 
 // Indices 0, 1 and 2 of a byte are bits 3, 0 and 5.

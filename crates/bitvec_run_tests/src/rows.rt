@@ -7,19 +7,20 @@ use std::process::Abort;
 use std::test::Fail;
 
 #[derive(Drop)]
-struct Row<'a> {
-    window: Window,
-    steps: &'a [Step],
-    replies: &'a [Reply],
-    after: &'a [u8],
+pub(crate) struct Row<'a> {
+    pub(crate) window: Window,
+    pub(crate) right: &'a [u8],
+    pub(crate) steps: &'a [Step],
+    pub(crate) replies: &'a [Reply],
+    pub(crate) after: &'a [u8],
 }
 
-fn check<O: SliceOrder, R: Abort + AllocGlobal>(
+pub(crate) fn check<O: SliceOrder, R: Abort + AllocGlobal>(
     rt: &R,
     cells: &mut [u8],
     row: &Row,
 ) -> Result<(), Fail> {
-    let replies = run_in::<u8, O, _>(rt.alloc(), cells, row.window, &[], row.steps)?;
+    let replies = run_in::<u8, O, _>(rt.alloc(), cells, row.window, row.right, row.steps)?;
     assert_eq!(rt; replies.as_slice(), row.replies);
     assert_eq!(rt; &*cells, row.after);
     Ok(())
@@ -29,6 +30,7 @@ fn check<O: SliceOrder, R: Abort + AllocGlobal>(
 fn a_bit_of_each_nibble_is_set_and_counted(rt: HostRuntime) -> Result<(), Fail> {
     let row = Row {
         window: Window { start: 0, len: 16 },
+        right: &[],
         steps: &four_nibbles(),
         replies: &FOUR_NIBBLES_REPLIES,
         after: &[0x21, 0x84],
@@ -40,6 +42,7 @@ fn a_bit_of_each_nibble_is_set_and_counted(rt: HostRuntime) -> Result<(), Fail> 
 fn a_refused_step_changes_nothing_and_the_next_follows(rt: HostRuntime) -> Result<(), Fail> {
     let row = Row {
         window: Window { start: 3, len: 4 },
+        right: &[],
         steps: &[
             step(0, 4, Op::CountOnes),
             step(1, 5, Op::Get(0)),
@@ -67,6 +70,7 @@ fn places_follow_the_order(rt: HostRuntime) -> Result<(), Fail> {
     for (index, bit) in bits.into_iter().enumerate() {
         let row = Row {
             window: Window { start: 0, len: 8 },
+            right: &[],
             steps: &[step(0, 8, Op::Get(index))],
             replies: &[Reply::Bit(bit)],
             after: &[0xA5],
@@ -75,6 +79,7 @@ fn places_follow_the_order(rt: HostRuntime) -> Result<(), Fail> {
     }
     let row = Row {
         window: Window { start: 0, len: 8 },
+        right: &[],
         steps: &[step(0, 8, Op::Get(0))],
         replies: &[Reply::Bit(true)],
         after: &[0x10],
@@ -86,6 +91,7 @@ fn places_follow_the_order(rt: HostRuntime) -> Result<(), Fail> {
 fn a_memory_may_be_empty_and_a_window_may_lie_at_its_end(rt: HostRuntime) -> Result<(), Fail> {
     let empty = Row {
         window: Window { start: 0, len: 0 },
+        right: &[],
         steps: &[step(0, 0, Op::CountOnes), step(0, 1, Op::Get(0))],
         replies: &[Reply::Count(0), Reply::Refused(Refusal::Range)],
         after: &[],
@@ -93,6 +99,7 @@ fn a_memory_may_be_empty_and_a_window_may_lie_at_its_end(rt: HostRuntime) -> Res
     check::<Lsb0, _>(&rt, &mut [], &empty)?;
     let end = Row {
         window: Window { start: 16, len: 0 },
+        right: &[],
         steps: &[step(0, 0, Op::CountOnes)],
         replies: &[Reply::Count(0)],
         after: &[0x5A, 0xC3],

@@ -1,8 +1,8 @@
-//! Runs on slices, which every other test here makes.
+//! A run on slices, and the row that several tests share.
 ghost use Rattle.std.specs.Prelude.{◌≡◌, IfOk, OnOk, OnErr, map};
 ghost use Rattle.bitvec_base.specs.Memory.{memory_bits};
 ghost use Rattle.bitvec_base.specs.Window.{window_of, write_window};
-ghost use Rattle.bitvec_run.specs.Commands.{replies_of, list_after};
+ghost use Rattle.bitvec_run.specs.Runs.{replies_of, list_after};
 
 use bitvec_base::{BitStore, Exclusive, Shared};
 use bitvec_engine::SliceOrder;

@@ -1,4 +1,4 @@
-use Rattle.std.proofs.Common.{◌≡◌, ℕ, ◌+◌, ◌-◌, ◌*◌, ◌/◌, ◌%◌, arith, rules, sym, subst, ◌∙◌, Bool, count_by, slice_range, min, refl}
+use Rattle.std.proofs.Common.{◌≡◌, ℕ, ◌+◌, ◌-◌, ◌*◌, ◌/◌, ◌%◌, arith, rules, sym, subst, ◌∙◌, Bool, count_by, slice_range, min}
 use Rattle.bitvec_base.specs.Memory.{memory_bits}
 use Rattle.bitvec_base.specs.MemoryLaws.{length-memory_bits}
 use Rattle.bitvec_base.specs.OrderLaws.{width_some}
@@ -78,7 +78,7 @@ unfolding window_of
 returns-clause-value g c =
     let inv = c.loop-left.invariant in
     let all : c.loop-left.place ≡ c.args.window.start + c.args.window.len = omega arith in
-    rw (inv.ones, all) refl
+    rw (← all) inv.ones
 
 pub returns-clause-loads : goal.returns-clause-loads
 returns-clause-loads g c =

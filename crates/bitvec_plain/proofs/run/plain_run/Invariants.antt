@@ -1,7 +1,7 @@
 use Rattle.std.proofs.Common.{◌≡◌, List, ◌++◌, drop, Bool}
 use Rattle.bitvec_run.specs.declared.command.Reply.{Reply}
 use Rattle.bitvec_run.specs.declared.command.Step.{Step}
-use Rattle.bitvec_run.specs.Commands.{replies_of, list_after}
+use Rattle.bitvec_run.specs.Runs.{replies_of, list_after}
 use Rattle.bitvec_plain.proofs.run.plain_run.Given as goal
 
 -- what was replied and what will be is the run's, and the bits so far lead to the run's

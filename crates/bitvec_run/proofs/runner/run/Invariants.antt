@@ -1,7 +1,7 @@
 use Rattle.std.proofs.Common.{◌≡◌, ◌+◌, ◌≤◌, ◌++◌, length, drop, vec_len, vec_capacity}
 use Rattle.bitvec_base.specs.Memory.{memory_bits}
 use Rattle.bitvec_base.specs.Window.{window_of, write_window}
-use Rattle.bitvec_run.specs.Commands.{replies_of, list_after}
+use Rattle.bitvec_run.specs.Runs.{replies_of, list_after}
 use Rattle.bitvec_run.specs.Costs.{run_loads, run_stores, run_right_loads}
 use Rattle.bitvec_run.proofs.runner.run.Given as goal
 

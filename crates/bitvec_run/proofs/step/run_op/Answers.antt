@@ -1,18 +1,21 @@
-use Rattle.std.proofs.Common.{ℕ, sym, subst}
-use Rattle.std.proofs.lemmas.Bool.{lt-ltb}
-use Rattle.bitvec_base.specs.Window.{IsWithin}
-use Rattle.bitvec_base.specs.MemoryLaws.{length-memory_bits}
-use Rattle.bitvec_base.specs.WindowLaws.{window-kept}
+use Rattle.bitvec_run.proofs.StepLemmas.{unless-kept}
 use Rattle.bitvec_run.proofs.step.run_op.Goals as goal
 
-pub returns-then-index-part-clause-bits : goal.returns-then-index-part-clause-bits
-returns-then-index-part-clause-bits g c =
-    let long = length-memory_bits g.C.Elem.BitStore.BITS g.O.BitOrder.at (g.C.CellsRead.numbers c.args.cells.now) in
-    rw (c.get_bit.ensures.numbers, c.in-Get.is, lt-ltb _ _ c.if-index-part.true)
-    (sym (window-kept _ _ (subst (λ (n : ℕ). IsWithin c.args.part n) (sym long) c.requires.within)))
+pub returns-in-Get-clause-bits : goal.returns-in-Get-clause-bits
+returns-in-Get-clause-bits g c =
+    rw (c.run_query.ensures.numbers, c.run_query.ensures.list) (unless-kept g.C.Elem.BitStore.BITS g.O.BitOrder.at (g.C.CellsRead.numbers c.args.cells.now) c.args.part _ c.requires.within)
 
-pub returns-in-CountOnes-clause-bits : goal.returns-in-CountOnes-clause-bits
-returns-in-CountOnes-clause-bits g c =
-    let long = length-memory_bits g.C.Elem.BitStore.BITS g.O.BitOrder.at (g.C.CellsRead.numbers c.args.cells.now) in
-    rw (c.count.ensures.numbers, c.in-CountOnes.is)
-    (sym (window-kept _ _ (subst (λ (n : ℕ). IsWithin c.args.part n) (sym long) c.requires.within)))
+pub returns-in-Eq-clause-bits : goal.returns-in-Eq-clause-bits
+returns-in-Eq-clause-bits g c = rw (c.ask.ensures.numbers, c.in-Eq.is) (unless-kept g.C.Elem.BitStore.BITS g.O.BitOrder.at (g.C.CellsRead.numbers c.args.cells.now) c.args.part _ c.requires.within)
+
+pub returns-in-Cmp-clause-bits : goal.returns-in-Cmp-clause-bits
+returns-in-Cmp-clause-bits g c = rw (c.ask-in-Cmp.ensures.numbers, c.in-Cmp.is) (unless-kept g.C.Elem.BitStore.BITS g.O.BitOrder.at (g.C.CellsRead.numbers c.args.cells.now) c.args.part _ c.requires.within)
+
+pub returns-in-StartsWith-clause-bits : goal.returns-in-StartsWith-clause-bits
+returns-in-StartsWith-clause-bits g c = rw (c.ask-in-StartsWith.ensures.numbers, c.in-StartsWith.is) (unless-kept g.C.Elem.BitStore.BITS g.O.BitOrder.at (g.C.CellsRead.numbers c.args.cells.now) c.args.part _ c.requires.within)
+
+pub returns-in-EndsWith-clause-bits : goal.returns-in-EndsWith-clause-bits
+returns-in-EndsWith-clause-bits g c = rw (c.ask-in-EndsWith.ensures.numbers, c.in-EndsWith.is) (unless-kept g.C.Elem.BitStore.BITS g.O.BitOrder.at (g.C.CellsRead.numbers c.args.cells.now) c.args.part _ c.requires.within)
+
+pub returns-in-Contains-clause-bits : goal.returns-in-Contains-clause-bits
+returns-in-Contains-clause-bits g c = rw (c.ask-in-Contains.ensures.numbers, c.in-Contains.is) (unless-kept g.C.Elem.BitStore.BITS g.O.BitOrder.at (g.C.CellsRead.numbers c.args.cells.now) c.args.part _ c.requires.within)

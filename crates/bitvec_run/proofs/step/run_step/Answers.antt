@@ -3,7 +3,7 @@ use Rattle.bitvec_base.specs.Memory.{memory_bits}
 use Rattle.bitvec_base.specs.MemoryLaws.{length-memory_bits}
 use Rattle.bitvec_base.specs.Window.{IsWithin, window_of, write_window}
 use Rattle.bitvec_base.specs.WindowLaws.{length-window, window-kept}
-use Rattle.bitvec_run.specs.Commands.{is_in_range}
+use Rattle.bitvec_run.specs.Runs.{is_in_range}
 use Rattle.bitvec_run.proofs.StepLemmas.{step_reply-outside, step_list-outside, step_reply-part, step_cost-inside, step-written}
 use Rattle.bitvec_run.proofs.step.run_step.Goals as goal
 
@@ -53,3 +53,8 @@ pub returns-clause-stores : goal.returns-clause-stores
 returns-clause-stores g c =
     let inside : is_in_range c.args.window.len c.args.step ≡ true = sym c.is_in_range.ensures ∙ c.if-not-is_in_range.false in
     rw (step_cost-inside _ _ _ _ _ inside) c.run_op.ensures.stores
+
+pub returns-clause-right_loads : goal.returns-clause-right_loads
+returns-clause-right_loads g c =
+    let inside : is_in_range c.args.window.len c.args.step ≡ true = sym c.is_in_range.ensures ∙ c.if-not-is_in_range.false in
+    rw (step_cost-inside _ _ _ _ _ inside) c.run_op.ensures.right_loads

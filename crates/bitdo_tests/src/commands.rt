@@ -1,0 +1,163 @@
+//! What each command answers and leaves.
+use crate::support::{expect, line};
+use std::test::Fail;
+
+#[test]
+fn commands_work_on_their_own_bits(rt: HostRuntime) -> Result<(), Fail> {
+    let fills = "0 5 fill 1\n0 6 fill 1\n1 4 shift_end 4\n1 4 count_ones\n";
+    for (args, input, printed) in [
+        (
+            "32 lsb0 00000000,00000000,00000000 - 0 96",
+            "16 80 invert\n40 56 invert\n",
+            "done\ndone\n= FFFF0000,FF0000FF,0000FFFF\n",
+        ),
+        (
+            "8 msb0 F0 - 2 5",
+            fills,
+            "done\nrefused range\nrefused amount\ncount 3\n= FE\n",
+        ),
+        (
+            "8 msb0 C1 - 0 8",
+            "0 8 replace 7 0\n0 8 swap 1 2\n0 8 reverse\n0 8 shift_start 1\n0 8 shift_end 3\n",
+            "bit 1\ndone\ndone\ndone\ndone\n= 01\n",
+        ),
+        (
+            "8 msb0 B0 - 0 8",
+            "0 8 rotate_right 1\n0 8 copy_within 1 4 5\n0 8 count_zeros\n",
+            "done\ndone\ncount 3\n= 5D\n",
+        ),
+        (
+            "8 lsb0 16 - 0 8",
+            "0 8 first_one\n0 8 first_zero\n0 8 last_one\n0 8 last_zero\n1 3 all\n5 8 any\n",
+            "index 1\nindex 0\nindex 4\nindex 7\nbit 1\nbit 0\n= 16\n",
+        ),
+    ] {
+        expect(&rt, args, input, 0, printed)?;
+    }
+    Ok(())
+}
+
+#[test]
+fn commands_ask_beside_a_right_window(rt: HostRuntime) -> Result<(), Fail> {
+    for (command, printed) in [
+        ("0 5 last_one", "index 3\n= 0B\n"),
+        ("0 2 first_zero", "index none\n= 0B\n"),
+        ("0 5 starts_with 0 2", "bit 1\n= 0B\n"),
+        ("0 5 ends_with 0 8", "bit 0\n= 0B\n"),
+        ("0 5 contains 1 2", "bit 1\n= 0B\n"),
+        ("0 5 contains 7 2", "refused right\n= 0B\n"),
+        ("0 2 eq 0 2", "bit 1\n= 0B\n"),
+        ("0 2 eq 0 3", "bit 0\n= 0B\n"),
+        ("0 2 cmp 0 2", "order equal\n= 0B\n"),
+        ("0 4 cmp 0 4", "order greater\n= 0B\n"),
+        ("0 4 and 0 2", "done\n= 03\n"),
+        ("0 4 or 1 3", "done\n= 0B\n"),
+        ("1 4 or 0 3", "done\n= 0F\n"),
+        ("0 0 all", "bit 1\n= 0B\n"),
+        ("0 0 any", "bit 0\n= 0B\n"),
+    ] {
+        expect(&rt, "8 lsb0 0B 03 0 5", command, 0, printed)?;
+    }
+    Ok(())
+}
+
+#[test]
+fn commands_change_by_a_right_window(rt: HostRuntime) -> Result<(), Fail> {
+    let copies = "0 8 copy_from 0 3\n0 8 copy_from 6 3\n0 3 copy_from 0 3\n";
+    expect(
+        &rt,
+        "8 msb0 F0 A0 0 8",
+        copies,
+        0,
+        "refused length\nrefused right\ndone\n= B0\n",
+    )?;
+    let more = "0 8 xor 0 3\n0 8 cmp 0 8\n0 8 copy_within 2 9 0\n0 8 copy_within 2 6 5\n";
+    expect(
+        &rt,
+        "8 msb0 B0 A0 0 8",
+        more,
+        0,
+        "done\norder less\nrefused source\nrefused dest\n= 10\n",
+    )?;
+    expect(
+        &rt,
+        "8 msb0 10 A0 0 8",
+        "0 8 rotate_left 3\n",
+        0,
+        "done\n= 80\n",
+    )
+}
+
+#[test]
+fn sums_past_the_greatest_number_are_refused(rt: HostRuntime) -> Result<(), Fail> {
+    for (command, printed) in [
+        ("5 3 invert", "refused range\n= 5A\n"),
+        ("0 18446744073709551615 fill 1", "refused range\n= 5A\n"),
+        ("0 8 get 18446744073709551615", "refused index\n= 5A\n"),
+        (
+            "0 8 copy_within 0 4 18446744073709551615",
+            "refused dest\n= 5A\n",
+        ),
+        ("0 8 copy_within 4 2 0", "refused source\n= 5A\n"),
+        ("0 8 or 18446744073709551615 1", "refused right\n= 5A\n"),
+        (
+            "0 8 copy_from 1 18446744073709551615",
+            "refused right\n= 5A\n",
+        ),
+        ("0 8 rotate_right 9", "refused amount\n= 5A\n"),
+        ("8 8 shift_end 0", "done\n= 5A\n"),
+    ] {
+        expect(&rt, "8 lsb0 5A 00 0 8", command, 0, printed)?;
+    }
+    Ok(())
+}
+
+/// Each command's word, and how many arguments it takes.
+const ARGUMENTS: [(&str, usize); 29] = [
+    ("get", 1),
+    ("set", 2),
+    ("replace", 2),
+    ("swap", 2),
+    ("fill", 1),
+    ("invert", 0),
+    ("reverse", 0),
+    ("shift_start", 1),
+    ("shift_end", 1),
+    ("rotate_left", 1),
+    ("rotate_right", 1),
+    ("copy_within", 3),
+    ("copy_from", 2),
+    ("and", 2),
+    ("or", 2),
+    ("xor", 2),
+    ("eq", 2),
+    ("cmp", 2),
+    ("starts_with", 2),
+    ("ends_with", 2),
+    ("contains", 2),
+    ("count_ones", 0),
+    ("count_zeros", 0),
+    ("first_one", 0),
+    ("first_zero", 0),
+    ("last_one", 0),
+    ("last_zero", 0),
+    ("any", 0),
+    ("all", 0),
+];
+
+/// A line is good where only the bad one after it is named.
+#[test]
+fn each_command_takes_so_many_arguments(rt: HostRuntime) -> Result<(), Fail> {
+    for (word, count) in ARGUMENTS {
+        for given in 0..=4 {
+            let input = line(rt.alloc(), word, given)?;
+            let printed = if given == count {
+                "bad line 2\n"
+            } else {
+                "bad line 1\n"
+            };
+            expect(&rt, "8 lsb0 00 00 0 8", input.as_str(), 2, printed)?;
+        }
+    }
+    Ok(())
+}

@@ -1,0 +1,90 @@
+-- Two lists of bits, compared bit by bit.
+use Rattle.std.specs.Prelude.{◌≡◌, ◌≢◌, ℕ, ◌+◌, ◌<◌, ◌≤◌, min, Bool, true, false, List, [], ◌∷◌, length, slice_index_or, refl, zero, suc}
+use Rattle.std.specs.Bool.{beq}
+use Rattle.std.specs.Cmp.{nat_cmp_is}
+use Rattle.std.specs.Cmp.Lexicographic.{slice_cmp, unequal}
+use Rattle.std.specs.Ordering.{bool_cmp, nat_cmp, ordering_then}
+use Rattle.std.proofs.Common.{arith, sym, ◌∙◌, ap, ⊎_elim, subst, Ordering, Less, Greater}
+use Rattle.std.proofs.lemmas.Bool.{false_from_ne_true, cases_eq}
+use Rattle.std.proofs.lemmas.Bool.Decides.{nat_tests}
+use Rattle.std.proofs.lemmas.List.{same_lists, get_or_default}
+use Rattle.bitvec_base.specs.Lists.{same_bits, differs}
+use Rattle.bitvec_base.specs.ListsLaws.{same_bits-decides}
+
+-- two lists agree below an index
+abbrev pub SameBelow : List Bool → List Bool → ℕ → Type 0
+SameBelow a b n = (k : ℕ) → k < n → slice_index_or a k false ≡ slice_index_or b k false
+
+pub same-none : (a b : List Bool) → SameBelow a b 0
+same-none a b k h = absurd (omega arith)
+
+pub same-more : (a b : List Bool) (n : ℕ) → SameBelow a b n → slice_index_or a n false ≡ slice_index_or b n false → SameBelow a b (n + 1)
+same-more a b n before here k h =
+    ⊎_elim (λ e. subst (λ i. slice_index_or a i false ≡ slice_index_or b i false) (sym e) here) (λ other. before k (omega arith)) (cases_eq k n)
+
+-- what a test of two bits has told
+apart : (x y : Bool) → differs x y ≡ true → x ≢ y
+apart false false told e = absurd cc
+apart false true told e = absurd cc
+apart true false told e = absurd cc
+apart true true told e = absurd cc
+
+-- ---- equality
+
+pub same-equal : (a b : List Bool) (n : ℕ) → length a ≡ n → length b ≡ n → SameBelow a b n → true ≡ same_bits a b
+same-equal a b n a-long b-long same =
+    sym ((same_bits-decides a b).1 (same_lists a b (omega arith) (λ k d inside.
+    get_or_default a k d false inside ∙ same k (omega arith) ∙ get_or_default b k false d (omega arith))))
+
+pub same-differ : (a b : List Bool) (i : ℕ) (x y : Bool) → x ≡ slice_index_or a i false → y ≡ slice_index_or b i false → differs x y ≡ true → false ≡ same_bits a b
+same-differ a b i x y left right told =
+    sym (false_from_ne_true _ (λ e. apart x y told (left ∙ ap (λ l. slice_index_or l i false) ((same_bits-decides a b).0 e) ∙ sym right)))
+
+pub same-unequal : (a b : List Bool) (m n : ℕ) → length a ≡ m → length b ≡ n → m ≢ n → false ≡ same_bits a b
+same-unequal a b m n a-long b-long apart = sym (unequal beq a b (λ e. apart (sym a-long ∙ e ∙ b-long)))
+
+-- ---- order
+
+first_decides : (x y : Bool) (rest : Ordering) → x ≢ y → bool_cmp x y ≡ ordering_then (bool_cmp x y) rest
+first_decides false false rest differ = absurd (differ refl)
+first_decides false true rest differ = refl
+first_decides true false rest differ = refl
+first_decides true true rest differ = absurd (differ refl)
+
+same_passes : (x y : Bool) (rest : Ordering) → x ≡ y → ordering_then (bool_cmp x y) rest ≡ rest
+same_passes false false rest same = refl
+same_passes false true rest same = absurd cc
+same_passes true false rest same = absurd cc
+same_passes true true rest same = refl
+
+same-tail : (x y : Bool) (a b : List Bool) (n : ℕ) → SameBelow (x ∷ a) (y ∷ b) (suc n) → SameBelow a b n
+same-tail x y a b n same k h = same (suc k) (omega arith)
+
+first_apart : (a b : List Bool) (i : ℕ) → i < length a → i < length b → SameBelow a b i → slice_index_or a i false ≢ slice_index_or b i false → bool_cmp (slice_index_or a i false) (slice_index_or b i false) ≡ slice_cmp bool_cmp a b
+first_apart [] b i left right same differ = absurd (omega arith)
+first_apart (x ∷ a) [] i left right same differ = absurd (omega arith)
+first_apart (x ∷ a) (y ∷ b) zero left right same differ = first_decides x y _ differ
+first_apart (x ∷ a) (y ∷ b) (suc i) left right same differ =
+    first_apart a b i (omega arith) (omega arith) (same-tail x y a b i same) differ
+    ∙ sym (same_passes x y _ (same 0 (omega arith)))
+
+-- the first bits that differ decide
+pub order-differ : (a b : List Bool) (i : ℕ) (x y : Bool) → i < length a → i < length b → SameBelow a b i → x ≡ slice_index_or a i false → y ≡ slice_index_or b i false → differs x y ≡ true → bool_cmp x y ≡ slice_cmp bool_cmp a b
+order-differ a b i x y a-long b-long same left right told =
+    rw (left, right) (first_apart a b i a-long b-long same (λ e. apart x y told (left ∙ e ∙ sym right)))
+
+longer_same : (m n : ℕ) → nat_cmp m n ≡ nat_cmp (suc m) (suc n)
+longer_same m n = grind (arith, nat_tests)
+
+lengths_decide : (a b : List Bool) → SameBelow a b (min (length a) (length b)) → nat_cmp (length a) (length b) ≡ slice_cmp bool_cmp a b
+lengths_decide [] [] same = refl
+lengths_decide [] (y ∷ b) same = sym (nat_cmp_is 0 (suc (length b)) Less (omega arith))
+lengths_decide (x ∷ a) [] same = sym (nat_cmp_is (suc (length a)) 0 Greater (omega arith))
+lengths_decide (x ∷ a) (y ∷ b) same =
+    sym (longer_same (length a) (length b))
+    ∙ lengths_decide a b (λ k h. same (suc k) (omega arith))
+    ∙ sym (same_passes x y _ (same 0 (omega arith)))
+
+-- where none differs, the lengths do
+pub order-same : (a b : List Bool) (m n i : ℕ) → length a ≡ m → length b ≡ n → min m n ≤ i → SameBelow a b i → nat_cmp m n ≡ slice_cmp bool_cmp a b
+order-same a b m n i a-long b-long all same = rw (← a-long, ← b-long) (lengths_decide a b (λ k h. same k (omega arith)))

@@ -1,0 +1,168 @@
+-- A list whose ends are exchanged, pair by pair, and a list rotated by reversals.
+use Rattle.std.specs.Prelude.{◌≡◌, ◌≢◌, ℕ, ◌+◌, ◌-◌, ◌<◌, ◌≤◌, ◌⊎◌, List, ◌++◌, length, take, drop, reverse, slice_range, slice_index_or}
+use Rattle.std.specs.List.{swap}
+use Rattle.std.proofs.Common.{arith, rules, sym, ◌∙◌, ap, subst, ⊎_elim, inl, inr}
+use Rattle.std.proofs.lemmas.Bool.{cases_lt, cases_eq}
+use Rattle.std.proofs.lemmas.List.{same_lists, places, get_or-reverse, length-reverse, length-set, get_or-set_same, get_or-set_other}
+use Rattle.std.proofs.lemmas.List.Edits.{swap_is, length-swap}
+use Rattle.bitvec_base.specs.Window.{write_at}
+use Rattle.bitvec_base.specs.WriteLaws.{length-write_at, length-slice_range, get-slice_range, get-write_at_below, get-write_at_inside, get-write_at_above}
+
+-- ---- two places exchanged
+
+get-swap_second : {X : Type 0} (xs : List X) (i j : ℕ) (d : X) → i < length xs → j < length xs → slice_index_or (swap xs i j) j d ≡ slice_index_or xs i d
+get-swap_second xs i j d first second =
+    let long = length-set xs i (slice_index_or xs j d) in
+    rw (← swap_is xs i j d first second) (get_or-set_same _ j _ d (omega arith))
+
+get-swap_first : {X : Type 0} (xs : List X) (i j : ℕ) (d : X) → i < length xs → j < length xs → i ≢ j → slice_index_or (swap xs i j) i d ≡ slice_index_or xs j d
+get-swap_first xs i j d first second apart =
+    rw (← swap_is xs i j d first second) (get_or-set_other _ j i _ d apart ∙ get_or-set_same xs i _ d first)
+
+get-swap_other : {X : Type 0} (xs : List X) (i j k : ℕ) (d : X) → i < length xs → j < length xs → k ≢ i → k ≢ j → slice_index_or (swap xs i j) k d ≡ slice_index_or xs k d
+get-swap_other xs i j k d first second not-first not-second =
+    rw (← swap_is xs i j d first second) (get_or-set_other _ j k _ d not-second ∙ get_or-set_other xs i k _ d not-first)
+
+-- ---- a list reversed but for the places from `low` up to `high`
+
+pub length-mirrored : {X : Type 0} (list : List X) (low high : ℕ) → low + high ≡ length list → low ≤ high → length (write_at (reverse list) low (slice_range list low high)) ≡ length list
+length-mirrored list low high ends order =
+    let turned = length-reverse list in
+    let middle = length-slice_range list low high (omega arith) in
+    length-write_at (reverse list) low (slice_range list low high) (omega arith) ∙ turned
+
+mirrored-inside : {X : Type 0} (list : List X) (low high k : ℕ) (d : X) → low + high ≡ length list → low ≤ k → k < high → slice_index_or (write_at (reverse list) low (slice_range list low high)) k d ≡ slice_index_or list k d
+mirrored-inside list low high k d ends above below =
+    let turned = length-reverse list in
+    let middle = length-slice_range list low high (omega arith) in
+    get-write_at_inside (reverse list) low (slice_range list low high) k d (omega arith) above (omega arith)
+    ∙ get-slice_range list low high (k - low) d (omega arith)
+    ∙ ap (λ (n : ℕ). slice_index_or list n d) (let e : low + (k - low) ≡ k = omega arith in e)
+
+mirrored-outside : {X : Type 0} (list : List X) (low high k : ℕ) (d : X) → low + high ≡ length list → low ≤ high → k < length list → (k < low) ⊎ (high ≤ k) → slice_index_or (write_at (reverse list) low (slice_range list low high)) k d ≡ slice_index_or list (length list - 1 - k) d
+mirrored-outside list low high k d ends order inside side =
+    let turned = length-reverse list in
+    let middle = length-slice_range list low high (omega arith) in
+    ⊎_elim
+    (λ (below : k < low). get-write_at_below (reverse list) low (slice_range list low high) k d (omega arith) below)
+    (λ (above : high ≤ k). get-write_at_above (reverse list) low (slice_range list low high) k d (omega arith) (omega arith))
+    side
+    ∙ get_or-reverse list k d inside
+
+pub mirror-none : {X : Type 0} (list : List X) (high : ℕ) → high ≡ length list → write_at (reverse list) 0 (slice_range list 0 high) ≡ list
+unfolding write_at
+mirror-none list high all = same_lists _ _ (search (rules, places)) (λ k d inside. grind (arith, places))
+
+-- one pair more is exchanged
+mirror-first : {X : Type 0} (list : List X) (low high : ℕ) (d : X) → low + high ≡ length list → low + 1 < high → slice_index_or (swap (write_at (reverse list) low (slice_range list low high)) low (high - 1)) low d ≡ slice_index_or (write_at (reverse list) (low + 1) (slice_range list (low + 1) (high - 1))) low d
+mirror-first list low high d ends some =
+    let long = length-mirrored list low high ends (omega arith) in
+    let other : length list - 1 - low ≡ high - 1 = omega arith in
+    get-swap_first _ low (high - 1) d (omega arith) (omega arith) (λ e. omega arith)
+    ∙ mirrored-inside list low high (high - 1) d ends (omega arith) (omega arith)
+    ∙ sym (mirrored-outside list (low + 1) (high - 1) low d (omega arith) (omega arith) (omega arith) (inl (omega arith)) ∙ ap (λ (n : ℕ). slice_index_or list n d) other)
+
+mirror-second : {X : Type 0} (list : List X) (low high : ℕ) (d : X) → low + high ≡ length list → low + 1 < high → slice_index_or (swap (write_at (reverse list) low (slice_range list low high)) low (high - 1)) (high - 1) d ≡ slice_index_or (write_at (reverse list) (low + 1) (slice_range list (low + 1) (high - 1))) (high - 1) d
+mirror-second list low high d ends some =
+    let long = length-mirrored list low high ends (omega arith) in
+    let other : length list - 1 - (high - 1) ≡ low = omega arith in
+    get-swap_second _ low (high - 1) d (omega arith) (omega arith)
+    ∙ mirrored-inside list low high low d ends (omega arith) (omega arith)
+    ∙ sym (mirrored-outside list (low + 1) (high - 1) (high - 1) d (omega arith) (omega arith) (omega arith) (inr (omega arith)) ∙ ap (λ (n : ℕ). slice_index_or list n d) other)
+
+mirror-other : {X : Type 0} (list : List X) (low high k : ℕ) (d : X) → low + high ≡ length list → low + 1 < high → k < length list → k ≢ low → k ≢ high - 1 → slice_index_or (swap (write_at (reverse list) low (slice_range list low high)) low (high - 1)) k d ≡ slice_index_or (write_at (reverse list) (low + 1) (slice_range list (low + 1) (high - 1))) k d
+mirror-other list low high k d ends some inside not-first not-second =
+    let long = length-mirrored list low high ends (omega arith) in
+    get-swap_other _ low (high - 1) k d (omega arith) (omega arith) not-first not-second
+    ∙ ⊎_elim
+    (λ (below : k < low).
+    mirrored-outside list low high k d ends (omega arith) inside (inl below)
+    ∙ sym (mirrored-outside list (low + 1) (high - 1) k d (omega arith) (omega arith) inside (inl (omega arith))))
+    (λ (above : low ≤ k). ⊎_elim
+    (λ (within : k < high).
+    mirrored-inside list low high k d ends above within
+    ∙ sym (mirrored-inside list (low + 1) (high - 1) k d (omega arith) (omega arith) (omega arith)))
+    (λ (past : high ≤ k).
+    mirrored-outside list low high k d ends (omega arith) inside (inr past)
+    ∙ sym (mirrored-outside list (low + 1) (high - 1) k d (omega arith) (omega arith) inside (inr (omega arith))))
+    (cases_lt k high))
+    (cases_lt k low)
+
+pub mirror-step : {X : Type 0} (list : List X) (low high : ℕ) → low + high ≡ length list → low + 1 < high → swap (write_at (reverse list) low (slice_range list low high)) low (high - 1) ≡ write_at (reverse list) (low + 1) (slice_range list (low + 1) (high - 1))
+mirror-step list low high ends some =
+    let old = length-swap (write_at (reverse list) low (slice_range list low high)) low (high - 1) ∙ length-mirrored list low high ends (omega arith) in
+    let new = length-mirrored list (low + 1) (high - 1) (omega arith) (omega arith) in
+    same_lists _ _ (old ∙ sym new) (λ k d inside. ⊎_elim
+    (λ (first : k ≡ low). rw first (mirror-first list low high d ends some))
+    (λ not-first. ⊎_elim
+    (λ (second : k ≡ high - 1). rw second (mirror-second list low high d ends some))
+    (λ not-second. mirror-other list low high k d ends some (omega arith) not-first not-second)
+    (cases_eq k (high - 1)))
+    (cases_eq k low))
+
+-- no pair is left
+pub mirror-all : {X : Type 0} (list : List X) (low high : ℕ) → low + high ≡ length list → low ≤ high → high ≤ low + 1 → write_at (reverse list) low (slice_range list low high) ≡ reverse list
+unfolding write_at
+mirror-all list low high ends order met = same_lists _ _ (search (rules, places, get_or-reverse, length-reverse)) (λ k d inside. grind (arith, places, get_or-reverse, length-reverse))
+
+-- ---- a part reversed
+
+pub length-turned : {X : Type 0} (list : List X) (from to : ℕ) → from ≤ to → to ≤ length list → length (write_at list from (reverse (slice_range list from to))) ≡ length list
+length-turned list from to order bound =
+    let part = length-slice_range list from to bound in
+    let turned = length-reverse (slice_range list from to) in
+    length-write_at list from (reverse (slice_range list from to)) (omega arith)
+
+turned-inside : {X : Type 0} (list : List X) (from to k : ℕ) (d : X) → to ≤ length list → from ≤ k → k < to → slice_index_or (write_at list from (reverse (slice_range list from to))) k d ≡ slice_index_or list (from + (to - 1 - k)) d
+turned-inside list from to k d bound above below =
+    let part = length-slice_range list from to bound in
+    let turned = length-reverse (slice_range list from to) in
+    let mirror : length (slice_range list from to) - 1 - (k - from) ≡ to - 1 - k = omega arith in
+    get-write_at_inside list from (reverse (slice_range list from to)) k d (omega arith) above (omega arith)
+    ∙ get_or-reverse (slice_range list from to) (k - from) d (omega arith)
+    ∙ ap (λ (n : ℕ). slice_index_or (slice_range list from to) n d) mirror
+    ∙ get-slice_range list from to (to - 1 - k) d (omega arith)
+
+turned-outside : {X : Type 0} (list : List X) (from to k : ℕ) (d : X) → from ≤ to → to ≤ length list → (k < from) ⊎ (to ≤ k) → slice_index_or (write_at list from (reverse (slice_range list from to))) k d ≡ slice_index_or list k d
+turned-outside list from to k d order bound side =
+    let part = length-slice_range list from to bound in
+    let turned = length-reverse (slice_range list from to) in
+    ⊎_elim
+    (λ (below : k < from). get-write_at_below list from (reverse (slice_range list from to)) k d (omega arith) below)
+    (λ (above : to ≤ k). get-write_at_above list from (reverse (slice_range list from to)) k d (omega arith) (omega arith))
+    side
+
+-- ---- a rotation is three reversals
+
+get-rotated_first : {X : Type 0} (list : List X) (by k : ℕ) (d : X) → by + k < length list → slice_index_or (drop by list ++ take by list) k d ≡ slice_index_or list (by + k) d
+get-rotated_first list by k d inside = grind (arith, places)
+
+get-rotated_last : {X : Type 0} (list : List X) (by k : ℕ) (d : X) → by ≤ length list → k < by → slice_index_or (drop by list ++ take by list) (length list - by + k) d ≡ slice_index_or list k d
+get-rotated_last list by k d fits inside = grind (arith, places)
+
+pub rotated : {X : Type 0} (list : List X) (by n : ℕ) → n ≡ length list → by ≤ n → let first = write_at list 0 (reverse (slice_range list 0 by)) in let both = write_at first by (reverse (slice_range first by n)) in write_at both 0 (reverse (slice_range both 0 n)) ≡ drop by list ++ take by list
+rotated {X} list by n all fits =
+    let first : List X = write_at list 0 (reverse (slice_range list 0 by)) in
+    let both : List X = write_at first by (reverse (slice_range first by n)) in
+    let first-long : length first ≡ length list = length-turned list 0 by (omega arith) (omega arith) in
+    let both-long : length both ≡ length first = length-turned first by n (omega arith) (omega arith) in
+    let last-long : length (write_at both 0 (reverse (slice_range both 0 n))) ≡ length both = length-turned both 0 n (omega arith) (omega arith) in
+    let new-long : length (drop by list ++ take by list) ≡ length list = search (rules, places) in
+    same_lists _ _ (last-long ∙ both-long ∙ first-long ∙ sym new-long) (λ k d inside.
+    let below : k < n = omega arith in
+    turned-inside both 0 n k d (omega arith) (omega arith) below
+    ∙ ⊎_elim
+    (λ (early : by + k < n).
+    let from : by + (n - 1 - (0 + (n - 1 - k))) ≡ by + k = omega arith in
+    turned-inside first by n (0 + (n - 1 - k)) d (omega arith) (omega arith) (omega arith)
+    ∙ ap (λ (m : ℕ). slice_index_or first m d) from
+    ∙ turned-outside list 0 by (by + k) d (omega arith) (omega arith) (inr (omega arith))
+    ∙ sym (get-rotated_first list by k d (omega arith)))
+    (λ (late : n ≤ by + k).
+    let from : 0 + (by - 1 - (0 + (n - 1 - k))) ≡ by + k - n = omega arith in
+    let place : length list - by + (by + k - n) ≡ k = omega arith in
+    turned-outside first by n (0 + (n - 1 - k)) d (omega arith) (omega arith) (inl (omega arith))
+    ∙ turned-inside list 0 by (0 + (n - 1 - k)) d (omega arith) (omega arith) (omega arith)
+    ∙ ap (λ (m : ℕ). slice_index_or list m d) from
+    ∙ sym (subst (λ (m : ℕ). slice_index_or (drop by list ++ take by list) m d ≡ slice_index_or list (by + k - n) d) place (get-rotated_last list by (by + k - n) d (omega arith) (omega arith))))
+    (cases_lt (by + k) n))

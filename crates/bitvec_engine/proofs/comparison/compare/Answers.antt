@@ -1,0 +1,21 @@
+use Rattle.std.proofs.Common.{arith, ◌≡◌, false, slice_index_or}
+use Rattle.bitvec_base.specs.Memory.{memory_bits}
+use Rattle.bitvec_base.specs.Window.{window_of}
+use Rattle.bitvec_engine.proofs.TransferLemmas.{window-long}
+use Rattle.bitvec_engine.proofs.ComparisonLemmas.{order-differ, order-same}
+use Rattle.bitvec_engine.proofs.comparison.compare.Goals as goal
+
+pub returns-then-bit-other-clause-value : goal.returns-then-bit-other-clause-value
+returns-then-bit-other-clause-value g c =
+    let inv = c.loop-index.invariant in
+    let bit : c.get_bit-bit.result ≡ slice_index_or (window_of (memory_bits g.C.Elem.BitStore.BITS g.O.BitOrder.at (g.C.CellsRead.numbers c.args.left.now)) c.args.left_window) c.loop-index.index false = rw (← inv.numbers) c.get_bit-bit.ensures.value in
+    let other : c.get_bit-other.result ≡ slice_index_or (window_of (memory_bits g.D.Elem.BitStore.BITS g.P.BitOrder.at (g.D.CellsRead.numbers c.args.right.now)) c.args.right_window) c.loop-index.index false = rw (← inv.right_numbers) c.get_bit-other.ensures.value in
+    let left = window-long g.C.Elem.BitStore.BITS g.O.BitOrder.at (g.C.CellsRead.numbers c.args.left.now) c.args.left_window c.requires.within in
+    let right = window-long g.D.Elem.BitStore.BITS g.P.BitOrder.at (g.D.CellsRead.numbers c.args.right.now) c.args.right_window c.requires.right_within in
+    rw c.cmp.ensures (order-differ (window_of (memory_bits g.C.Elem.BitStore.BITS g.O.BitOrder.at (g.C.CellsRead.numbers c.args.left.now)) c.args.left_window) (window_of (memory_bits g.D.Elem.BitStore.BITS g.P.BitOrder.at (g.D.CellsRead.numbers c.args.right.now)) c.args.right_window) c.loop-index.index _ _ (omega arith) (omega arith) inv.same bit other c.if-bit-other.true)
+
+pub returns-clause-value : goal.returns-clause-value
+returns-clause-value g c =
+    let left = window-long g.C.Elem.BitStore.BITS g.O.BitOrder.at (g.C.CellsRead.numbers c.args.left.now) c.args.left_window c.requires.within in
+    let right = window-long g.D.Elem.BitStore.BITS g.P.BitOrder.at (g.D.CellsRead.numbers c.args.right.now) c.args.right_window c.requires.right_within in
+    rw c.cmp-2.ensures (order-same _ _ _ _ c.loop-index.index left right (omega arith) c.loop-index.invariant.same)

@@ -1,0 +1,18 @@
+use Rattle.std.proofs.Common.{arith, sym, ◌+◌, ◌-◌}
+use Rattle.bitvec_base.specs.declared.window.Window.{Window}
+use Rattle.bitvec_base.specs.ListsLaws.{is_suffix-long}
+use Rattle.bitvec_engine.proofs.TransferLemmas.{within-bits, window-long}
+use Rattle.bitvec_engine.proofs.SearchLemmas.{suffix-part}
+use Rattle.bitvec_engine.proofs.search.ends_with.Goals as goal
+
+pub returns-then-right_window-left_window-clause-value : goal.returns-then-right_window-left_window-clause-value
+returns-then-right_window-left_window-clause-value g c =
+    let left = window-long g.C.Elem.BitStore.BITS g.O.BitOrder.at (g.C.CellsRead.numbers c.args.left.now) c.args.left_window c.requires.within in
+    let right = window-long g.D.Elem.BitStore.BITS g.P.BitOrder.at (g.D.CellsRead.numbers c.args.right.now) c.args.right_window c.requires.right_within in
+    sym (is_suffix-long _ _ (omega arith))
+
+pub returns-clause-value : goal.returns-clause-value
+returns-clause-value g c =
+    let right = window-long g.D.Elem.BitStore.BITS g.P.BitOrder.at (g.D.CellsRead.numbers c.args.right.now) c.args.right_window c.requires.right_within in
+    let part : Window = record { start = c.args.left_window.start + (c.args.left_window.len - c.args.right_window.len); len = c.args.right_window.len } in
+    rw c.bits_eq.ensures.value (suffix-part _ _ _ part (within-bits _ _ _ _ c.requires.within) right (omega arith) c.if-right_window-left_window.false)

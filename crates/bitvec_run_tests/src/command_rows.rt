@@ -1,0 +1,100 @@
+//! Worked rows of one command or a few.
+use crate::rows::{Row, check};
+use crate::slices::step;
+use bitvec_base::{HiLo, Lsb0, Msb0};
+use bitvec_run::{Op, Refusal, Reply, Window};
+use std::test::Fail;
+
+#[test]
+fn a_window_inside_an_element_is_filled(rt: HostRuntime) -> Result<(), Fail> {
+    let row = Row {
+        window: Window { start: 2, len: 5 },
+        right: &[],
+        steps: &[
+            step(0, 5, Op::Fill(true)),
+            step(0, 6, Op::Fill(true)),
+            step(1, 4, Op::ShiftEnd(4)),
+            step(1, 4, Op::CountOnes),
+        ],
+        replies: &[
+            Reply::Done,
+            Reply::Refused(Refusal::Range),
+            Reply::Refused(Refusal::Amount),
+            Reply::Count(3),
+        ],
+        after: &[0xFE],
+    };
+    check::<Msb0, _>(&rt, &mut [0xF0], &row)
+}
+
+#[test]
+fn a_fill_follows_the_order(rt: HostRuntime) -> Result<(), Fail> {
+    let row = Row {
+        window: Window { start: 0, len: 8 },
+        right: &[],
+        steps: &[step(0, 3, Op::Fill(true))],
+        replies: &[Reply::Done],
+        after: &[0x70],
+    };
+    check::<HiLo, _>(&rt, &mut [0x00], &row)
+}
+
+#[test]
+fn an_operator_takes_zeros_past_the_right_window(rt: HostRuntime) -> Result<(), Fail> {
+    let side = Window { start: 0, len: 3 };
+    for (op, after) in [(Op::And(side), 0xA0), (Op::Xor(side), 0x5F)] {
+        let row = Row {
+            window: Window { start: 0, len: 8 },
+            right: &[0xA0],
+            steps: &[step(0, 8, op)],
+            replies: &[Reply::Done],
+            after: &[after],
+        };
+        check::<Msb0, _>(&rt, &mut [0xFF], &row)?;
+    }
+    Ok(())
+}
+
+#[test]
+fn a_copy_may_overlap_its_source(rt: HostRuntime) -> Result<(), Fail> {
+    let row = Row {
+        window: Window { start: 0, len: 80 },
+        right: &[],
+        steps: &[step(0, 80, Op::CopyWithin(0, 70, 3))],
+        replies: &[Reply::Done],
+        after: &[0x09, 0, 0, 0, 0, 0, 0, 0, 0x01, 0],
+    };
+    check::<Lsb0, _>(&rt, &mut [0x01, 0, 0, 0, 0, 0, 0, 0x20, 0, 0], &row)
+}
+
+// The bits 01001 turn to 00101, and back.
+#[test]
+fn a_rotation_turns_back(rt: HostRuntime) -> Result<(), Fail> {
+    let mut bits = [0x12];
+    for (op, after) in [(Op::RotateLeft(2), 0x14), (Op::RotateRight(2), 0x12)] {
+        let row = Row {
+            window: Window { start: 0, len: 5 },
+            right: &[],
+            steps: &[step(0, 5, op)],
+            replies: &[Reply::Done],
+            after: &[after],
+        };
+        check::<Lsb0, _>(&rt, &mut bits, &row)?;
+    }
+    Ok(())
+}
+
+#[test]
+fn a_bit_that_is_nowhere_has_no_last_place(rt: HostRuntime) -> Result<(), Fail> {
+    for (op, byte) in [(Op::LastOne, 0x00), (Op::LastZero, 0xFF)] {
+        let row = Row {
+            window: Window { start: 0, len: 16 },
+            right: &[],
+            steps: &[step(0, 16, op)],
+            replies: &[Reply::Index(None)],
+            after: &[byte, byte],
+        };
+        check::<Msb0, _>(&rt, &mut [byte, byte], &row)?;
+    }
+    Ok(())
+}
