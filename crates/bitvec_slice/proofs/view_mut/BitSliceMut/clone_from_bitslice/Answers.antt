@@ -1,0 +1,14 @@
+use Rattle.std.specs.Prelude.{length}
+use Rattle.std.proofs.Common.{ap, ◌∙◌, sym}
+use Rattle.bitvec_slice.specs.Views.{bits_of, bits_of_mut, memory_of, memory_of_mut}
+use Rattle.bitvec_slice.proofs.ViewBits.{length-bits_of}
+use Rattle.bitvec_slice.proofs.Writes.{writes_bits}
+use Rattle.bitvec_slice.proofs.view_mut.BitSliceMut.clone_from_bitslice.Goals as goal
+
+pub returns : goal.returns
+unfolding bits_of bits_of_mut memory_of memory_of_mut
+returns g c =
+    let v = c.args.self.now in
+    let elements = c.elements_mut.ensures.elements in
+    let wrote = rw (elements, c.window-window.ensures, c.window-from.ensures, c.into_slice.ensures) at c.copy_bits_in.ensures.bits in
+    writes_bits v c.copy_bits_in.new.cells _ (c.copy_bits_in.ensures.length ∙ ap length elements) (length-bits_of c.args.src ∙ sym c.requires) wrote

@@ -1,0 +1,17 @@
+-- What a borrowed slice ends as, where it was lent on: as many elements as before.
+use Rattle.std.specs.Prelude.{◌≡◌, List, [], length, refl}
+use Rattle.std.specs.List.{refill, length_refill}
+use Rattle.std.specs.Borrow.{MutBor}
+use denote.Ref.{NamedLft}
+use mir.Syntax.{named}
+
+-- the slice with the list xs, cut or filled up from the old one to the old length
+abbrev pub refilled : {T : Type 0} → MutBor (List T) → List T → MutBor (List T)
+refilled r xs = record r { now = refill (length r.now) r.now xs }
+
+pub length_refilled : {T : Type 0} (r : MutBor (List T)) (xs : List T) → length r.now ≡ length (refilled r xs).now
+length_refilled r xs = length_refill (length r.now) r.now xs refl
+
+-- the lifetime of a lender's own borrow, the second of its method's
+abbrev pub of_lender : NamedLft
+of_lender = record { mir = named 1; lft = [] }

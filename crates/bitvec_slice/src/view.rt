@@ -1,0 +1,170 @@
+//! A shared view of bits.
+ghost use Rattle.std.specs.Prelude.{◌≡◌, ℕ, ◌+◌, ◌-◌, ◌*◌, ◌≤◌, ◌==◌, ◌↔◌, ⊤, IfSome, IsSome, count_by, length, map, not, slice_range};
+ghost use Rattle.bitvec_base.specs.Window.{max_bits};
+
+use crate::bit_domain::bit_domain_of;
+use crate::domain::domain_of;
+use crate::queries::count_in;
+use crate::{BitDomain, Domain};
+use bitvec_base::{BitOrder, BitStore, MAX_BITS, Window};
+use std::alloc::AllocError;
+use std::marker::PhantomData;
+use std::ops::Range;
+
+/// Bits of a borrowed slice of elements, in an order: it stands for the crate's `&BitSlice<T, O>`.
+///
+/// Contracts see a view as its memory, which is the bits of the whole slice, and as its window
+/// there. Its own bits are the memory's in the window.
+pub struct BitSlice<'a, T: BitStore, O: BitOrder> {
+    elements: &'a [T],
+    head: usize,
+    len: usize,
+    order: PhantomData<O>,
+    ghost inside: { head + len ≤ T.BITS * length elements.now },
+    ghost bounded: { T.BITS * length elements.now ≤ max_bits },
+}
+
+impl<'a, T: BitStore, O: BitOrder> Copy for BitSlice<'a, T, O> {}
+
+impl<'a, T: BitStore, O: BitOrder> Clone for BitSlice<'a, T, O> {
+    ghost is_clone = { λ x y. y ≡ x };
+
+    ghost is_infallible = { λ _. ⊤ };
+
+    fn clone(&self) -> Result<Self, AllocError> {
+        Ok(*self)
+    }
+}
+
+impl<'a, T: BitStore, O: BitOrder> BitSlice<'a, T, O> {
+    ghost use Rattle.bitvec_base.specs.Memory.{memory_bits};
+    ghost use Rattle.bitvec_slice.specs.BitDomains.{IsBitDomain, bits_of_bit_domain};
+    ghost use Rattle.bitvec_slice.specs.Cuts.{cut_of};
+    ghost use Rattle.bitvec_slice.specs.Domains.{IsDomain, bits_of_domain};
+    ghost use Rattle.bitvec_slice.specs.Views.{bits_of, elements_of, window_in};
+
+    /// The most bits that a view's memory may have.
+    pub const MAX_BITS: usize = MAX_BITS;
+
+    /// The most elements that a view's memory may have.
+    pub const MAX_ELTS: usize = (MAX_BITS + T::BITS as usize - 1) / (T::BITS as usize) + 1;
+
+    /// A view of all bits of the elements. Condition: they are at most `MAX_BITS` bits.
+    pub fn from_slice(elements: &'a [T]) -> Self
+        requires { T.BITS * length elements.now ≤ max_bits }
+        ensures bits { bits_of result ≡ memory_bits T.BITS O.at (map T.value elements.now) }
+        ensures start { (window_in result).start ≡ 0 }
+        ensures len { (window_in result).len ≡ T.BITS * length elements.now }
+        ensures elements { elements_of result ≡ elements.now }
+    {
+        let len = elements.len() * (T::BITS as usize);
+        BitSlice::from_parts(elements, 0, len)
+    }
+
+    pub(crate) fn from_parts(elements: &'a [T], head: usize, len: usize) -> Self
+        requires inside { head + len ≤ T.BITS * length elements.now }
+        requires bounded { T.BITS * length elements.now ≤ max_bits }
+        ensures start { (window_in result).start ≡ head }
+        ensures len { (window_in result).len ≡ len }
+        ensures elements { elements_of result ≡ elements.now }
+    {
+        BitSlice {
+            elements,
+            head,
+            len,
+            order: PhantomData,
+        }
+    }
+
+    /// The elements of the view's memory.
+    pub fn into_slice(self) -> &'a [T]
+        ensures { result.now ≡ elements_of self.entry }
+    {
+        self.elements
+    }
+
+    /// How many bits there are.
+    pub fn len(&self) -> usize
+        ensures value { result ≡ length (bits_of self.now) }
+        ensures window { result ≡ (window_in self.now).len }
+        ensures bound { result ≤ max_bits }
+    {
+        self.len
+    }
+
+    /// Whether there is no bit.
+    pub fn is_empty(&self) -> bool
+        ensures { result ≡ ((window_in self.now).len == 0) }
+    {
+        self.len == 0
+    }
+
+    /// How many bits are 1.
+    #[tactic(auto, unfolding(crate::specs::Views::memory_of, crate::specs::Views::bits_of))]
+    pub fn count_ones(&self) -> usize
+        ensures { result ≡ count_by (λ bit. bit) (bits_of self.now) }
+    {
+        count_in::<T, O>(self.elements, self.window())
+    }
+
+    /// How many bits are 0.
+    pub fn count_zeros(&self) -> usize
+        ensures { result ≡ count_by not (bits_of self.now) }
+    {
+        self.len - self.count_ones()
+    }
+
+    /// The bits of a range, if the view has them: `None` exactly where `start <= end <= len` fails.
+    pub fn get(self, range: Range<usize>) -> Option<Self>
+        ensures some { IsSome result ↔ ((range.start ≤ range.end) × (range.end ≤ (window_in self.entry).len)) }
+        ensures bits { IfSome result
+            (λ part. bits_of part ≡ slice_range (bits_of self.entry) range.start range.end) }
+        ensures start { IfSome result
+            (λ part. (window_in part).start ≡ (window_in self.entry).start + range.start) }
+        ensures len { IfSome result (λ part. (window_in part).len ≡ range.end - range.start) }
+        ensures elements { IfSome result (λ part. elements_of part ≡ elements_of self.entry) }
+    {
+        if range.start <= range.end && range.end <= self.len {
+            Some(self.into_part(range.start, range.end))
+        } else {
+            None
+        }
+    }
+
+    /// The elements that the view touches, in their order.
+    pub fn domain(self) -> Domain<'a, T, O>
+        ensures parts { let window = window_in self.entry in
+            IsDomain (elements_of self.entry) (cut_of T.BITS window.start (window.start + window.len)) result }
+        ensures bits { bits_of_domain result ≡ bits_of self.entry }
+    {
+        domain_of(self.elements, self.head, self.head + self.len)
+    }
+
+    /// The view, cut at the edges of elements.
+    pub fn bit_domain(self) -> BitDomain<'a, T, O>
+        ensures parts { let window = window_in self.entry in
+            IsBitDomain (elements_of self.entry) (cut_of T.BITS window.start (window.start + window.len)) result }
+        ensures bits { bits_of_bit_domain result ≡ bits_of self.entry }
+    {
+        bit_domain_of(self.elements, self.head, self.head + self.len)
+    }
+
+    pub(crate) fn into_part(self, from: usize, to: usize) -> Self
+        requires order { from ≤ to }
+        requires bound { to ≤ (window_in self).len }
+        ensures start { (window_in result).start ≡ (window_in self.entry).start + from }
+        ensures len { (window_in result).len ≡ to - from }
+        ensures elements { elements_of result ≡ elements_of self.entry }
+    {
+        BitSlice::from_parts(self.elements, self.head + from, to - from)
+    }
+
+    pub(crate) fn window(&self) -> Window
+        ensures { result ≡ window_in self.now }
+    {
+        Window {
+            start: self.head,
+            len: self.len,
+        }
+    }
+}

@@ -1,0 +1,276 @@
+//! A writable view of bits.
+ghost use Rattle.std.specs.Prelude.{◌≡◌, ℕ, ◌+◌, ◌-◌, ◌*◌, ◌<◌, ◌≤◌, ◌==◌, ◌↔◌, IfSome, IsSome, count_by, length, map, not, replicate, slice_range, slice_set};
+ghost use Rattle.bitvec_base.specs.Window.{max_bits};
+
+use crate::bit_domain_mut::bit_domain_mut_of;
+use crate::domain_mut::domain_mut_of;
+use crate::edits::{fill_in, invert_in, set_in};
+use crate::{BitDomain, BitDomainMut, BitSlice, Domain, DomainMut};
+use bitvec_base::{BitOrder, BitStore, Window};
+use std::marker::PhantomData;
+use std::ops::Range;
+
+/// Bits of a slice of elements that is borrowed for writing, in an order: it stands for the
+/// crate's `&mut BitSlice<T, O>`.
+///
+/// Contracts see it as they see a [`BitSlice`], and besides know its memory by its name among
+/// borrows.
+#[derive(Drop)]
+pub struct BitSliceMut<'a, T: BitStore, O: BitOrder> {
+    elements: &'a mut [T],
+    head: usize,
+    len: usize,
+    mark: PhantomData<(O, &'a mut T)>,
+    ghost inside: { head + len ≤ T.BITS * length elements.now },
+    ghost bounded: { T.BITS * length elements.now ≤ max_bits },
+}
+
+impl<'a, T: BitStore, O: BitOrder> BitSliceMut<'a, T, O> {
+    ghost use Rattle.std.specs.Borrow.{sem};
+    ghost use Rattle.bitvec_base.specs.Memory.{memory_bits};
+    ghost use Rattle.bitvec_slice.specs.BitDomains.{IsBitDomain, IsBitDomainMut, bits_of_bit_domain, bits_of_bit_domain_mut};
+    ghost use Rattle.bitvec_slice.specs.Cuts.{cut_of};
+    ghost use Rattle.bitvec_slice.specs.Domains.{IsDomain, IsDomainMut, bits_of_domain, bits_of_domain_mut};
+    ghost use Rattle.bitvec_slice.specs.Writes.{WritesBits};
+    ghost use Rattle.bitvec_slice.specs.Lending.{lends};
+    ghost use Rattle.bitvec_slice.specs.Views.{bits_of, elements_of, window_in, bits_of_mut, elements_of_mut, memory_of_mut, name_of_mut, window_in_mut};
+
+    /// A view of all bits of the elements. Condition: they are at most `MAX_BITS` bits.
+    #[tactic(auto, unfolding(crate::specs::Views::memory_of_mut))]
+    pub fn from_slice_mut(elements: &'a mut [T]) -> Self
+        requires { T.BITS * length elements.old ≤ max_bits }
+        ensures bits { bits_of_mut result ≡ memory_bits T.BITS O.at (map T.value elements.old) }
+        ensures start { (window_in_mut result).start ≡ 0 }
+        ensures len { (window_in_mut result).len ≡ T.BITS * length elements.old }
+        ensures elements { elements_of_mut result ≡ elements.old }
+        ensures memory { memory_of_mut result ≡ memory_bits T.BITS O.at (map T.value elements.old) }
+        ensures name { name_of_mut result ≡ elements.entry.ghost_name }
+    {
+        let len = elements.len() * (T::BITS as usize);
+        BitSliceMut::from_parts(elements, 0, len)
+    }
+
+    pub(crate) fn from_parts(elements: &'a mut [T], head: usize, len: usize) -> Self
+        requires inside { head + len ≤ T.BITS * length elements.old }
+        requires bounded { T.BITS * length elements.old ≤ max_bits }
+        ensures start { (window_in_mut result).start ≡ head }
+        ensures len { (window_in_mut result).len ≡ len }
+        ensures elements { elements_of_mut result ≡ elements.old }
+        ensures name { name_of_mut result ≡ elements.entry.ghost_name }
+    {
+        BitSliceMut {
+            elements,
+            head,
+            len,
+            mark: PhantomData,
+        }
+    }
+
+    /// Ends the view, and gives back the slice that it borrowed.
+    #[tactic(auto, unfolding(crate::specs::Views::memory_of_mut))]
+    pub fn into_slice(self) -> &'a mut [T]
+        ensures elements { result.now ≡ elements_of_mut self.entry }
+        ensures memory { memory_bits T.BITS O.at (map T.value result.now) ≡ memory_of_mut self.entry }
+        ensures name { result.ghost_name ≡ name_of_mut self.entry }
+    {
+        let BitSliceMut {
+            elements,
+            head: _,
+            len: _,
+            mark: _,
+        } = self;
+        elements
+    }
+
+    /// A shared view of the same bits.
+    #[tactic(auto, unfolding(crate::specs::Views::memory_of, crate::specs::Views::bits_of, crate::specs::Views::memory_of_mut, crate::specs::Views::bits_of_mut))]
+    pub fn as_ref(&self) -> BitSlice<'_, T, O>
+        ensures bits { bits_of result ≡ bits_of_mut self.now }
+        ensures window { window_in result ≡ window_in_mut self.now }
+        ensures elements { elements_of result ≡ elements_of_mut self.now }
+    {
+        BitSlice::from_parts(&*self.elements, self.head, self.len)
+    }
+
+    /// A view of the same bits for a shorter time.
+    #[tactic(auto, unfolding(crate::specs::Views::memory_of_mut, crate::specs::Views::bits_of_mut))]
+    pub fn as_mut(&mut self) -> BitSliceMut<'_, T, O>
+        ensures* writes_back { sem 𝓛 (lends T.row O.row self.entry (name_of_mut result)) }
+        ensures bits { bits_of_mut result ≡ bits_of_mut self.old }
+        ensures window { window_in_mut result ≡ window_in_mut self.old }
+        ensures elements { elements_of_mut result ≡ elements_of_mut self.old }
+    {
+        let head = self.head;
+        let len = self.len;
+        BitSliceMut::from_parts(self.elements_mut(), head, len)
+    }
+
+    /// How many bits there are.
+    pub fn len(&self) -> usize
+        ensures value { result ≡ length (bits_of_mut self.now) }
+        ensures window { result ≡ (window_in_mut self.now).len }
+        ensures bound { result ≤ max_bits }
+    {
+        self.len
+    }
+
+    /// Whether there is no bit.
+    pub fn is_empty(&self) -> bool
+        ensures { result ≡ ((window_in_mut self.now).len == 0) }
+    {
+        self.len == 0
+    }
+
+    /// How many bits are 1.
+    pub fn count_ones(&self) -> usize
+        ensures { result ≡ count_by (λ bit. bit) (bits_of_mut self.now) }
+    {
+        self.as_ref().count_ones()
+    }
+
+    /// How many bits are 0.
+    pub fn count_zeros(&self) -> usize
+        ensures { result ≡ count_by not (bits_of_mut self.now) }
+    {
+        self.as_ref().count_zeros()
+    }
+
+    /// The bits of a range, if the view has them: `None` exactly where `start <= end <= len` fails.
+    pub fn get(&self, range: Range<usize>) -> Option<BitSlice<'_, T, O>>
+        ensures some { IsSome result ↔ ((range.start ≤ range.end) × (range.end ≤ (window_in_mut self.now).len)) }
+        ensures bits { IfSome result
+            (λ part. bits_of part ≡ slice_range (bits_of_mut self.now) range.start range.end) }
+        ensures start { IfSome result
+            (λ part. (window_in part).start ≡ (window_in_mut self.now).start + range.start) }
+        ensures len { IfSome result (λ part. (window_in part).len ≡ range.end - range.start) }
+        ensures elements { IfSome result (λ part. elements_of part ≡ elements_of_mut self.now) }
+    {
+        self.as_ref().get(range)
+    }
+
+    /// The bits of a range for writing, if the view has them: `None` exactly where
+    /// `start <= end <= len` fails.
+    pub fn get_mut(&mut self, range: Range<usize>) -> Option<BitSliceMut<'_, T, O>>
+        ensures some { IsSome result
+            ↔ ((range.start ≤ range.end) × (range.end ≤ (window_in_mut self.old).len)) }
+        ensures bits { IfSome result
+            (λ part. bits_of_mut part ≡ slice_range (bits_of_mut self.old) range.start range.end) }
+        ensures start { IfSome result
+            (λ part. (window_in_mut part).start ≡ (window_in_mut self.old).start + range.start) }
+        ensures len { IfSome result (λ part. (window_in_mut part).len ≡ range.end - range.start) }
+        ensures elements { IfSome result (λ part. elements_of_mut part ≡ elements_of_mut self.old) }
+    {
+        if range.start <= range.end && range.end <= self.len {
+            Some(self.part_mut(range.start, range.end))
+        } else {
+            None
+        }
+    }
+
+    /// Makes the bit at an index `bit`. Condition: the index is below `len`.
+    pub fn set(&mut self, index: usize, bit: bool)
+        requires { index < (window_in_mut self.old).len }
+        ensures { WritesBits self.old self.new (slice_set (bits_of_mut self.old) index bit) }
+    {
+        let window = self.window();
+        set_in::<T, O>(self.elements_mut(), window, index, bit);
+    }
+
+    /// Makes each bit `bit`.
+    pub fn fill(&mut self, bit: bool)
+        ensures { WritesBits self.old self.new (replicate (window_in_mut self.old).len bit) }
+    {
+        let window = self.window();
+        fill_in::<T, O>(self.elements_mut(), window, bit);
+    }
+
+    /// Flips each bit.
+    pub fn invert(&mut self)
+        ensures { WritesBits self.old self.new (map not (bits_of_mut self.old)) }
+    {
+        let window = self.window();
+        invert_in::<T, O>(self.elements_mut(), window);
+    }
+
+    /// The elements that the view touches, in their order.
+    pub fn domain(&self) -> Domain<'_, T, O>
+        ensures parts { let window = window_in_mut self.now in
+            IsDomain (elements_of_mut self.now) (cut_of T.BITS window.start (window.start + window.len)) result }
+        ensures bits { bits_of_domain result ≡ bits_of_mut self.now }
+    {
+        self.as_ref().domain()
+    }
+
+    /// The elements that the view touches for writing, in their order.
+    pub fn domain_mut(&mut self) -> DomainMut<'_, T, O>
+        ensures parts { let window = window_in_mut self.old in
+            IsDomainMut (elements_of_mut self.old) (cut_of T.BITS window.start (window.start + window.len)) result }
+        ensures bits { bits_of_domain_mut result ≡ bits_of_mut self.old }
+    {
+        let window = self.window();
+        domain_mut_of(self.elements_mut(), window.start, window.start + window.len)
+    }
+
+    /// The view, cut at the edges of elements.
+    pub fn bit_domain(&self) -> BitDomain<'_, T, O>
+        ensures parts { let window = window_in_mut self.now in
+            IsBitDomain (elements_of_mut self.now) (cut_of T.BITS window.start (window.start + window.len)) result }
+        ensures bits { bits_of_bit_domain result ≡ bits_of_mut self.now }
+    {
+        self.as_ref().bit_domain()
+    }
+
+    /// The view for writing, cut at the edges of elements.
+    pub fn bit_domain_mut(&mut self) -> BitDomainMut<'_, T, O>
+        ensures parts { let window = window_in_mut self.old in
+            IsBitDomainMut (elements_of_mut self.old) (cut_of T.BITS window.start (window.start + window.len)) result }
+        ensures bits { bits_of_bit_domain_mut result ≡ bits_of_mut self.old }
+    {
+        let window = self.window();
+        bit_domain_mut_of(self.elements_mut(), window.start, window.start + window.len)
+    }
+
+    pub(crate) fn into_part(self, from: usize, to: usize) -> Self
+        requires order { from ≤ to }
+        requires bound { to ≤ (window_in_mut self).len }
+        ensures start { (window_in_mut result).start ≡ (window_in_mut self.entry).start + from }
+        ensures len { (window_in_mut result).len ≡ to - from }
+        ensures elements { elements_of_mut result ≡ elements_of_mut self.entry }
+        ensures name { name_of_mut result ≡ name_of_mut self.entry }
+    {
+        let BitSliceMut {
+            elements,
+            head,
+            len: _,
+            mark: _,
+        } = self;
+        BitSliceMut::from_parts(elements, head + from, to - from)
+    }
+
+    pub(crate) fn part_mut(&mut self, from: usize, to: usize) -> BitSliceMut<'_, T, O>
+        requires order { from ≤ to }
+        requires bound { to ≤ (window_in_mut self.old).len }
+        ensures* writes_back { sem 𝓛 (lends T.row O.row self.entry (name_of_mut result)) }
+        ensures start { (window_in_mut result).start ≡ (window_in_mut self.old).start + from }
+        ensures len { (window_in_mut result).len ≡ to - from }
+        ensures elements { elements_of_mut result ≡ elements_of_mut self.old }
+    {
+        self.as_mut().into_part(from, to)
+    }
+
+    pub(crate) fn window(&self) -> Window
+        ensures { result ≡ window_in_mut self.now }
+    {
+        Window {
+            start: self.head,
+            len: self.len,
+        }
+    }
+
+    pub(crate) fn elements_mut(&mut self) -> &mut [T]
+        ensures* writes_back { sem 𝓛 (lends T.row O.row self.entry result.ghost_name) }
+        ensures elements { result.now ≡ elements_of_mut self.old }
+    {
+        &mut *self.elements
+    }
+}

@@ -1,0 +1,152 @@
+//! Domains: the elements that a view touches.
+ghost use Rattle.std.specs.Prelude.{◌*◌, ◌≤◌, length};
+ghost use Rattle.bitvec_base.specs.Window.{max_bits};
+
+use bitvec_base::{BitOrder, BitStore, Lsb0, Msb0};
+use bitvec_slice::{BitSlice, BitSliceMut, Domain, DomainMut};
+use std::test::Fail;
+
+/// Which of a domain's parts there are.
+#[derive(Clone, Copy, PartialEq, Eq, Debug)]
+enum Parts {
+    Enclave,
+    Region(bool, usize, bool),
+    Missing,
+}
+
+/// The parts of a range of the elements' bits, with the number of whole elements.
+fn parts_of<T: BitStore, O: BitOrder>(elements: &[T], from: usize, to: usize) -> Parts
+    requires { T.BITS * length elements.now ≤ max_bits }
+{
+    match BitSlice::<T, O>::from_slice(elements).get(from..to) {
+        Some(range) => match range.domain() {
+            Domain::Enclave(_) => Parts::Enclave,
+            Domain::Region { head, body, tail } => {
+                Parts::Region(head.is_some(), body.len(), tail.is_some())
+            }
+        },
+        None => Parts::Missing,
+    }
+}
+
+/// Stores a value into each part of a range and each whole element, if the elements have it.
+fn store_parts<T: BitStore, O: BitOrder>(elements: &mut [T], from: usize, to: usize, value: T)
+    requires { T.BITS * length elements.old ≤ max_bits }
+{
+    let mut view = BitSliceMut::<T, O>::from_slice_mut(elements);
+    if let Some(mut range) = view.get_mut(from..to) {
+        match range.domain_mut() {
+            DomainMut::Enclave(mut part) => part.store_value(value),
+            DomainMut::Region { head, body, tail } => {
+                if let Some(mut part) = head {
+                    part.store_value(value);
+                }
+                for element in body {
+                    *element = value;
+                }
+                if let Some(mut part) = tail {
+                    part.store_value(value);
+                }
+            }
+        }
+    }
+}
+
+/// Inverts each part of a range that is part of an element, if the elements have it.
+fn invert_parts<T: BitStore, O: BitOrder>(elements: &mut [T], from: usize, to: usize)
+    requires { T.BITS * length elements.old ≤ max_bits }
+{
+    let mut view = BitSliceMut::<T, O>::from_slice_mut(elements);
+    if let Some(mut range) = view.get_mut(from..to) {
+        match range.domain_mut() {
+            DomainMut::Enclave(mut part) => part.invert(),
+            DomainMut::Region {
+                head,
+                body: _,
+                tail,
+            } => {
+                if let Some(mut part) = head {
+                    part.invert();
+                }
+                if let Some(mut part) = tail {
+                    part.invert();
+                }
+            }
+        }
+    }
+}
+
+#[test]
+fn an_enclave_loads_its_bits_alone(rt: HostRuntime) -> Result<(), Fail> {
+    let cells = [0xB4u8];
+    let view = BitSlice::<u8, Lsb0>::from_slice(&cells);
+    match view.get(2..6).ok_or("no such bits")?.domain() {
+        Domain::Enclave(part) => {
+            assert_eq!(rt; part.load_value(), 0x34);
+            assert_eq!(rt; (part.head(), part.tail()), (2, 6));
+            assert_eq!(rt; part.mask(), 0x3C);
+            Ok(())
+        }
+        Domain::Region { .. } => Err("a region".into()),
+    }
+}
+
+#[test]
+fn an_enclave_stores_and_inverts_its_bits_alone(rt: HostRuntime) {
+    let mut cells = [0xB4u8];
+    store_parts::<u8, Lsb0>(&mut cells, 2, 6, 0xFF);
+    assert_eq!(rt; cells, [0xBC]);
+    invert_parts::<u8, Lsb0>(&mut cells, 2, 6);
+    assert_eq!(rt; cells, [0x80]);
+    let mut cells = [0x0Fu8, 0xF0, 0x0F];
+    invert_parts::<u8, Lsb0>(&mut cells, 6, 18);
+    assert_eq!(rt; cells, [0xCF, 0xF0, 0x0C]);
+}
+
+#[test]
+fn each_case_of_a_domain(rt: HostRuntime) {
+    let cells = [0u32; 3];
+    assert_eq!(rt;
+        parts_of::<u32, Msb0>(&cells, 2, 94),
+        Parts::Region(true, 1, true)
+    );
+    assert_eq!(rt; parts_of::<u32, Msb0>(&cells, 34, 62), Parts::Enclave);
+    assert_eq!(rt;
+        parts_of::<u32, Msb0>(&cells, 2, 32),
+        Parts::Region(true, 0, false)
+    );
+    assert_eq!(rt;
+        parts_of::<u32, Msb0>(&cells, 0, 30),
+        Parts::Region(false, 0, true)
+    );
+    assert_eq!(rt;
+        parts_of::<u32, Msb0>(&cells, 32, 64),
+        Parts::Region(false, 1, false)
+    );
+    assert_eq!(rt;
+        parts_of::<u32, Msb0>(&cells, 5, 5),
+        Parts::Region(false, 0, false)
+    );
+    assert_eq!(rt;
+        parts_of::<u32, Msb0>(&cells, 96, 96),
+        Parts::Region(false, 0, false)
+    );
+    assert_eq!(rt; parts_of::<u32, Msb0>(&cells, 95, 97), Parts::Missing);
+    let none: [u8; 0] = [];
+    assert_eq!(rt;
+        parts_of::<u8, Lsb0>(&none, 0, 0),
+        Parts::Region(false, 0, false)
+    );
+}
+
+#[test]
+fn parts_are_written_where_they_were(rt: HostRuntime) {
+    let mut cells = [0u32; 3];
+    store_parts::<u32, Msb0>(&mut cells, 2, 94, u32::MAX);
+    assert_eq!(rt; cells, [0x3FFF_FFFF, 0xFFFF_FFFF, 0xFFFF_FFFC]);
+    store_parts::<u32, Msb0>(&mut cells, 34, 62, 0);
+    assert_eq!(rt; cells, [0x3FFF_FFFF, 0xC000_0003, 0xFFFF_FFFC]);
+    let mut cells = [0u8; 3];
+    store_parts::<u8, Lsb0>(&mut cells, 3, 20, 0x5A);
+    assert_eq!(rt; cells, [0x58, 0x5A, 0x0A]);
+}

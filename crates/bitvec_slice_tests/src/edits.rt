@@ -1,0 +1,98 @@
+//! Edits of views: what a user does, and what the user's elements are afterwards.
+ghost use Rattle.std.specs.Prelude.{◌*◌, ◌≤◌, length};
+ghost use Rattle.bitvec_base.specs.Window.{max_bits};
+
+use bitvec_base::{BitOrder, BitStore, HiLo, Lsb0, Msb0};
+use bitvec_slice::{BitSlice, BitSliceMut};
+
+/// Makes the bits `from` up to `to` all `bit`, if the elements have them.
+pub fn fill_range<T: BitStore, O: BitOrder>(
+    elements: &mut [T],
+    from: usize,
+    to: usize,
+    bit: bool,
+) -> bool
+    requires { T.BITS * length elements.old ≤ max_bits }
+{
+    let mut view = BitSliceMut::<T, O>::from_slice_mut(elements);
+    match view.get_mut(from..to) {
+        Some(mut part) => {
+            part.fill(bit);
+            true
+        }
+        None => false,
+    }
+}
+
+#[test]
+fn fill_leaves_the_neighbours(rt: HostRuntime) {
+    let mut cells = [0u8, 0, 0];
+    assert!(rt; fill_range::<u8, Lsb0>(&mut cells, 3, 21, true));
+    assert_eq!(rt; cells, [0xF8, 0xFF, 0x1F]);
+    let mut cells = [0u8, 0, 0];
+    assert!(rt; fill_range::<u8, Msb0>(&mut cells, 3, 21, true));
+    assert_eq!(rt; cells, [0x1F, 0xFF, 0xF8]);
+    assert!(rt; fill_range::<u8, Msb0>(&mut cells, 11, 13, false));
+    assert_eq!(rt; cells, [0x1F, 0xE7, 0xF8]);
+}
+
+#[test]
+fn fill_under_hilo_takes_the_high_half_first(rt: HostRuntime) {
+    let mut cells = [0u8];
+    assert!(rt; fill_range::<u8, HiLo>(&mut cells, 0, 3, true));
+    assert_eq!(rt; cells, [0x70]);
+}
+
+/// Flips the bits 16 to 79, and of these flips 24 to 39 again.
+fn invert_twice<T: BitStore, O: BitOrder>(elements: &mut [T])
+    requires { T.BITS * length elements.old ≤ max_bits }
+{
+    let mut view = BitSliceMut::<T, O>::from_slice_mut(elements);
+    if let Some(part) = view.get_mut(16..80) {
+        let mut part = !part;
+        if let Some(middle) = part.get_mut(24..40) {
+            let _middle = !middle;
+        }
+    }
+}
+
+#[test]
+fn not_twice(rt: HostRuntime) {
+    let mut cells = [0u32; 3];
+    invert_twice::<u32, Lsb0>(&mut cells);
+    assert_eq!(rt; cells, [0xFFFF_0000, 0xFF00_00FF, 0x0000_FFFF]);
+    let view = BitSlice::<u32, Lsb0>::from_slice(&cells);
+    assert_eq!(rt; (view.count_ones(), view.count_zeros()), (48, 48));
+}
+
+#[test]
+fn a_view_of_no_elements_has_no_bit(rt: HostRuntime) {
+    let none: [u16; 0] = [];
+    let view = BitSlice::<u16, Lsb0>::from_slice(&none);
+    assert_eq!(rt; view.len(), 0);
+    assert!(rt; view.is_empty());
+    assert_eq!(rt; view.count_ones(), 0);
+    assert_eq!(rt; view.count_zeros(), 0);
+    assert!(rt; view.get(0..0).is_some());
+    assert!(rt; view.get(0..1).is_none());
+}
+
+#[test]
+fn a_range_is_there_exactly_where_the_view_has_it(rt: HostRuntime) {
+    let cells = [0xF0u8, 0x0F];
+    let view = BitSlice::<u8, Lsb0>::from_slice(&cells);
+    assert!(rt; view.get(0..16).is_some());
+    assert!(rt; view.get(16..16).is_some());
+    assert!(rt; view.get(16..17).is_none());
+    assert!(rt; view.get(9..8).is_none());
+    assert!(rt; view.get(17..17).is_none());
+    let part = view.get(4..12);
+    assert!(rt; part.is_some_and(|part| part.len() == 8 && part.count_ones() == 8));
+}
+
+#[test]
+fn the_constants_are_the_crates(rt: HostRuntime) {
+    assert_eq!(rt; BitSlice::<u8, Lsb0>::MAX_BITS, 0x1FFF_FFFF_FFFF_FFFF);
+    assert_eq!(rt; BitSlice::<u8, Lsb0>::MAX_ELTS, 0x0400_0000_0000_0001);
+    assert_eq!(rt; BitSlice::<u64, Msb0>::MAX_ELTS, 0x0080_0000_0000_0001);
+}

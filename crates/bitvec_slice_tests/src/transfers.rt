@@ -1,0 +1,79 @@
+//! Edits of a view by another: what the user's elements are afterwards.
+ghost use Rattle.std.specs.Prelude.{◌*◌, ◌≤◌, length};
+ghost use Rattle.bitvec_base.specs.Window.{max_bits};
+
+use bitvec_base::{BitOrder, BitStore, Lsb0, Msb0};
+use bitvec_slice::{BitSlice, BitSliceMut};
+
+/// Exchanges the bits 3 to 9 of the one with the bits 0 to 6 of the other.
+fn swap_seven(elements: &mut [u8], others: &mut [u8])
+    requires fits { 8 * length elements.old ≤ max_bits }
+    requires others_fit { 8 * length others.old ≤ max_bits }
+{
+    let mut view = BitSliceMut::<u8, Lsb0>::from_slice_mut(elements);
+    let mut other_view = BitSliceMut::<u8, Lsb0>::from_slice_mut(others);
+    if let Some(mut part) = view.get_mut(3..10) {
+        if let Some(mut other) = other_view.get_mut(0..7) {
+            part.swap_with_bitslice(&mut other);
+        }
+    }
+}
+
+#[test]
+fn an_exchange_leaves_the_neighbours(rt: HostRuntime) {
+    let mut cells = [0xFFu8, 0];
+    let mut others = [0u8, 0];
+    swap_seven(&mut cells, &mut others);
+    assert_eq!(rt; cells, [0x07, 0]);
+    assert_eq!(rt; others, [0x1F, 0]);
+}
+
+/// Copies the first five bits, if both have as many.
+fn copy_five<T: BitStore, O: BitOrder, U: BitStore, P: BitOrder>(elements: &mut [T], source: &[U])
+    requires fits { T.BITS * length elements.old ≤ max_bits }
+    requires source_fits { U.BITS * length source.now ≤ max_bits }
+{
+    let mut view = BitSliceMut::<T, O>::from_slice_mut(elements);
+    if let Some(mut part) = view.get_mut(0..5) {
+        if let Some(from) = BitSlice::<U, P>::from_slice(source).get(0..5) {
+            part.clone_from_bitslice(from);
+        }
+    }
+}
+
+#[test]
+fn a_copy_from_another_width_and_order(rt: HostRuntime) {
+    let mut cells = [0xE0u8];
+    copy_five::<u8, Lsb0, u16, Msb0>(&mut cells, &[0x9FFF]);
+    assert_eq!(rt; cells, [0xF9]);
+}
+
+/// What becomes of the first five bits under an operator with the first two of another.
+fn combine_five(elements: &mut [u8], source: &[u8], operator: u8)
+    requires fits { 8 * length elements.old ≤ max_bits }
+    requires source_fits { 8 * length source.now ≤ max_bits }
+{
+    let mut view = BitSliceMut::<u8, Lsb0>::from_slice_mut(elements);
+    if let Some(mut part) = view.get_mut(0..5) {
+        if let Some(two) = BitSlice::<u8, Lsb0>::from_slice(source).get(0..2) {
+            match operator {
+                b'&' => part &= two,
+                b'|' => part |= two,
+                _ => part ^= two,
+            }
+        }
+    }
+}
+
+#[test]
+fn a_shorter_right_side_is_extended_by_zeros(rt: HostRuntime) {
+    let mut cells = [0xFFu8];
+    combine_five(&mut cells, &[0xFD], b'&');
+    assert_eq!(rt; cells, [0xE1]);
+    let mut cells = [0xE2u8];
+    combine_five(&mut cells, &[0xFD], b'|');
+    assert_eq!(rt; cells, [0xE3]);
+    let mut cells = [0x12u8];
+    combine_five(&mut cells, &[0xFF], b'^');
+    assert_eq!(rt; cells, [0x11]);
+}
