@@ -12,19 +12,19 @@ use Rattle.bitvec_base.specs.WriteLaws.{length-slice_range, get-slice_range}
 use Rattle.bitvec_base.specs.declared.store.BitStore.{Ghosts as Store}
 use Rattle.bitvec_base.specs.declared.order.BitOrder.{Ghosts as Order}
 use Rattle.bitvec_slice.specs.BitDomains.{IsView, IsBitDomain, bits_of_bit_domain, IsViewMut, IsBitDomainMut, bits_of_bit_domain_mut}
-use Rattle.bitvec_slice.specs.Cuts.{cut_of, IsCutWithin}
+use Rattle.bitvec_domain.specs.Cuts.{cut_of, IsCutWithin}
 use Rattle.bitvec_slice.specs.Views.{bits_of, memory_of, bits_of_mut, memory_of_mut}
 use Rattle.bitvec_slice.specs.declared.bit_domain.BitDomain.{BitDomain}
 use Rattle.bitvec_slice.specs.declared.bit_domain.BitDomain.TheVariants.{Enclave, Region}
 use Rattle.bitvec_slice.specs.declared.bit_domain_mut.BitDomainMut.{BitDomainMut}
 use Rattle.bitvec_slice.specs.declared.bit_domain_mut.BitDomainMut.TheVariants.{Enclave as EnclaveMut, Region as RegionMut}
-use Rattle.bitvec_slice.specs.declared.cut.Cut.{Cut}
-use Rattle.bitvec_slice.specs.declared.cut.Cut.TheVariants.{Inside, Across}
+use Rattle.bitvec_domain.specs.declared.cut.Cut.{Cut}
+use Rattle.bitvec_domain.specs.declared.cut.Cut.TheVariants.{Inside, Across}
 use Rattle.bitvec_slice.specs.declared.view.BitSlice.{BitSlice}
 use Rattle.bitvec_slice.specs.declared.view_mut.BitSliceMut.{BitSliceMut}
-use Rattle.bitvec_slice.proofs.CutBits.{cut_bits, cut_is, cut_within, range-map, range-none}
-use Rattle.bitvec_slice.proofs.DomainBits.{appended}
-use Rattle.bitvec_slice.proofs.ViewBits.{range-all}
+use Rattle.bitvec_domain.specs.CutLaws.{cut_bits, cut_is, cut_within, range-map, range-none}
+use Rattle.bitvec_domain.specs.DomainLaws.{appended}
+use Rattle.bitvec_slice.specs.ViewLaws.{range-all}
 
 module _ (b : ℕ) (at : ℕ → ℕ → ℕ) where
   -- a part of the first of some elements, which may be none

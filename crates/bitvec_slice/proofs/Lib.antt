@@ -1,14 +1,5 @@
 pub mod BitDomainBits
-pub mod Counts
-pub mod CutBits
-pub mod DomainBits
 pub mod Lender
-pub mod Lengths
-pub mod Masks
-pub mod Parts
 pub mod Rests
-pub mod Runs
 pub mod Steps
 pub mod Through
-pub mod ViewBits
-pub mod Writes

@@ -13,7 +13,7 @@ use Rattle.bitvec_base.specs.declared.store.BitStore.{Ghosts as Store}
 use Rattle.bitvec_base.specs.declared.order.BitOrder.{Ghosts as Order}
 use Rattle.bitvec_slice.specs.Views.{bits_of, memory_of, window_in}
 use Rattle.bitvec_slice.specs.declared.view.BitSlice.{BitSlice}
-use Rattle.bitvec_slice.proofs.ViewBits.{length-bits_of}
+use Rattle.bitvec_slice.specs.ViewLaws.{length-bits_of}
 
 pub prefix-no_longer : (part list : List Bool) → is_prefix part list ≡ true → length part ≤ length list
 prefix-no_longer part list begins =

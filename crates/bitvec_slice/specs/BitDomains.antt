@@ -7,8 +7,8 @@ use Rattle.bitvec_slice.specs.declared.bit_domain.BitDomain.{BitDomain}
 use Rattle.bitvec_slice.specs.declared.bit_domain.BitDomain.TheVariants.{Enclave, Region}
 use Rattle.bitvec_slice.specs.declared.bit_domain_mut.BitDomainMut.{BitDomainMut}
 use Rattle.bitvec_slice.specs.declared.bit_domain_mut.BitDomainMut.TheVariants.{Enclave as EnclaveMut, Region as RegionMut}
-use Rattle.bitvec_slice.specs.declared.cut.Cut.{Cut}
-use Rattle.bitvec_slice.specs.declared.cut.Cut.TheVariants.{Inside, Across}
+use Rattle.bitvec_domain.specs.declared.cut.Cut.{Cut}
+use Rattle.bitvec_domain.specs.declared.cut.Cut.TheVariants.{Inside, Across}
 use Rattle.bitvec_slice.specs.declared.view.BitSlice.{BitSlice}
 use Rattle.bitvec_slice.specs.declared.view_mut.BitSliceMut.{BitSliceMut}
 

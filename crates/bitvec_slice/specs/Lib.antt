@@ -1,8 +1,7 @@
 pub mod BitDomains
-pub mod Cuts
-pub mod Domains
 pub mod Lending
-pub mod Parts
 pub mod Refill
+pub mod ViewLaws
 pub mod Views
+pub mod WriteLaws
 pub mod Writes

@@ -2,11 +2,11 @@
 ghost use Rattle.std.specs.Prelude.{◌≡◌, ℕ, ◌+◌, ◌-◌, ◌*◌, ◌<◌, ◌≤◌, ◌==◌, if◌then◌else◌, length};
 ghost use Rattle.bitvec_base.specs.Window.{max_bits};
 ghost use Rattle.bitvec_slice.specs.BitDomains.{IsBitDomain, IsView};
-ghost use Rattle.bitvec_slice.specs.Cuts.{cut_of};
+ghost use Rattle.bitvec_domain.specs.Cuts.{cut_of};
 
 use crate::BitSlice;
-use crate::cut::Cut;
 use bitvec_base::{BitOrder, BitStore};
+use bitvec_domain::Cut;
 
 /// A view, cut at the edges of elements: the crate's `BitDomain` over shared elements.
 #[derive(Drop)]

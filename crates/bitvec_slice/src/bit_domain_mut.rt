@@ -2,12 +2,12 @@
 ghost use Rattle.std.specs.Prelude.{◌≡◌, ℕ, ◌+◌, ◌-◌, ◌*◌, ◌<◌, ◌≤◌, ◌==◌, if◌then◌else◌, length};
 ghost use Rattle.bitvec_base.specs.Window.{max_bits};
 ghost use Rattle.bitvec_slice.specs.BitDomains.{IsBitDomainMut, IsViewMut};
-ghost use Rattle.bitvec_slice.specs.Cuts.{cut_of};
-ghost use Rattle.bitvec_slice.specs.declared.cut.Cut.TheVariants.{Inside, Across};
+ghost use Rattle.bitvec_domain.specs.Cuts.{cut_of};
+ghost use Rattle.bitvec_domain.specs.declared.cut.Cut.TheVariants.{Inside, Across};
 
 use crate::BitSliceMut;
-use crate::cut::Cut;
 use bitvec_base::{BitOrder, BitStore};
+use bitvec_domain::Cut;
 
 /// A writable view, cut at the edges of elements: the crate's `BitDomain` over exclusive elements.
 #[derive(Drop)]

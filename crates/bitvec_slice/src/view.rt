@@ -1,12 +1,11 @@
 //! A shared view of bits.
-ghost use Rattle.std.specs.Prelude.{◌≡◌, ℕ, ◌+◌, ◌-◌, ◌*◌, ◌≤◌, ◌==◌, ◌↔◌, ⊤, IfSome, IsSome, count_by, length, map, not, slice_range};
-ghost use Rattle.bitvec_base.specs.Window.{max_bits};
+ghost use Rattle.std.specs.Prelude.{◌≡◌, ℕ, ◌+◌, ◌-◌, ◌*◌, ◌≤◌, ◌==◌, ◌↔◌, ⊤, IfSome, IsSome, length, map, slice_range};
+ghost use Rattle.bitvec_base.specs.Window.{IsWithin, max_bits};
 
 use crate::bit_domain::bit_domain_of;
-use crate::domain::domain_of;
-use crate::queries::count_in;
 use crate::{BitDomain, Domain};
 use bitvec_base::{BitOrder, BitStore, MAX_BITS, Window};
+use bitvec_domain::domain_of;
 use std::alloc::AllocError;
 use std::marker::PhantomData;
 use std::ops::Range;
@@ -14,7 +13,8 @@ use std::ops::Range;
 /// Bits of a borrowed slice of elements, in an order: it stands for the crate's `&BitSlice<T, O>`.
 ///
 /// Contracts see a view as its memory, which is the bits of the whole slice, and as its window
-/// there. Its own bits are the memory's in the window.
+/// there. Its own bits are the memory's in the window. Lengths, indices and ranges are in bits. A
+/// call has the name and the meaning of the crate's, unless its text says what it stands for.
 pub struct BitSlice<'a, T: BitStore, O: BitOrder> {
     elements: &'a [T],
     head: usize,
@@ -39,8 +39,8 @@ impl<'a, T: BitStore, O: BitOrder> Clone for BitSlice<'a, T, O> {
 impl<'a, T: BitStore, O: BitOrder> BitSlice<'a, T, O> {
     ghost use Rattle.bitvec_base.specs.Memory.{memory_bits};
     ghost use Rattle.bitvec_slice.specs.BitDomains.{IsBitDomain, bits_of_bit_domain};
-    ghost use Rattle.bitvec_slice.specs.Cuts.{cut_of};
-    ghost use Rattle.bitvec_slice.specs.Domains.{IsDomain, bits_of_domain};
+    ghost use Rattle.bitvec_domain.specs.Cuts.{cut_of};
+    ghost use Rattle.bitvec_domain.specs.Domains.{IsDomain, bits_of_domain};
     ghost use Rattle.bitvec_slice.specs.Views.{bits_of, elements_of, window_in};
 
     /// The most bits that a view's memory may have.
@@ -76,7 +76,7 @@ impl<'a, T: BitStore, O: BitOrder> BitSlice<'a, T, O> {
         }
     }
 
-    /// The elements of the view's memory.
+    /// The elements of the view's memory. The crate has no such call.
     pub fn into_slice(self) -> &'a [T]
         ensures { result.now ≡ elements_of self.entry }
     {
@@ -97,21 +97,6 @@ impl<'a, T: BitStore, O: BitOrder> BitSlice<'a, T, O> {
         ensures { result ≡ ((window_in self.now).len == 0) }
     {
         self.len == 0
-    }
-
-    /// How many bits are 1.
-    #[tactic(auto, unfolding(crate::specs::Views::memory_of, crate::specs::Views::bits_of))]
-    pub fn count_ones(&self) -> usize
-        ensures { result ≡ count_by (λ bit. bit) (bits_of self.now) }
-    {
-        count_in::<T, O>(self.elements, self.window())
-    }
-
-    /// How many bits are 0.
-    pub fn count_zeros(&self) -> usize
-        ensures { result ≡ count_by not (bits_of self.now) }
-    {
-        self.len - self.count_ones()
     }
 
     /// The bits of a range, if the view has them: `None` exactly where `start <= end <= len` fails.
@@ -159,8 +144,12 @@ impl<'a, T: BitStore, O: BitOrder> BitSlice<'a, T, O> {
         BitSlice::from_parts(self.elements, self.head + from, to - from)
     }
 
-    pub(crate) fn window(&self) -> Window
-        ensures { result ≡ window_in self.now }
+    /// Where the view stands among the elements that [`BitSlice::into_slice`] gives. The crate has no
+    /// such call.
+    pub fn window(&self) -> Window
+        ensures value { result ≡ window_in self.now }
+        ensures within { IsWithin result (T.BITS * length (elements_of self.now)) }
+        ensures bounded { T.BITS * length (elements_of self.now) ≤ max_bits }
     {
         Window {
             start: self.head,

@@ -1,12 +1,12 @@
 //! A writable view of bits.
-ghost use Rattle.std.specs.Prelude.{◌≡◌, ℕ, ◌+◌, ◌-◌, ◌*◌, ◌<◌, ◌≤◌, ◌==◌, ◌↔◌, IfSome, IsSome, count_by, length, map, not, replicate, slice_range, slice_set};
-ghost use Rattle.bitvec_base.specs.Window.{max_bits};
+ghost use Rattle.std.specs.Prelude.{◌≡◌, ℕ, ◌+◌, ◌-◌, ◌*◌, ◌<◌, ◌≤◌, ◌==◌, ◌↔◌, IfSome, IsSome, length, map, not, replicate, slice_range, slice_set};
+ghost use Rattle.bitvec_base.specs.Window.{IsWithin, max_bits};
 
 use crate::bit_domain_mut::bit_domain_mut_of;
-use crate::domain_mut::domain_mut_of;
-use crate::edits::{fill_in, invert_in, set_in};
 use crate::{BitDomain, BitDomainMut, BitSlice, Domain, DomainMut};
 use bitvec_base::{BitOrder, BitStore, Window};
+use bitvec_domain::domain_mut_of;
+use bitvec_elements::{fill_in, invert_in, set_in};
 use std::marker::PhantomData;
 use std::ops::Range;
 
@@ -14,7 +14,8 @@ use std::ops::Range;
 /// crate's `&mut BitSlice<T, O>`.
 ///
 /// Contracts see it as they see a [`BitSlice`], and besides know its memory by its name among
-/// borrows.
+/// borrows. Lengths, indices and ranges are in bits. A call has the name and the meaning of the
+/// crate's, unless its text says what it stands for.
 #[derive(Drop)]
 pub struct BitSliceMut<'a, T: BitStore, O: BitOrder> {
     elements: &'a mut [T],
@@ -29,8 +30,8 @@ impl<'a, T: BitStore, O: BitOrder> BitSliceMut<'a, T, O> {
     ghost use Rattle.std.specs.Borrow.{sem};
     ghost use Rattle.bitvec_base.specs.Memory.{memory_bits};
     ghost use Rattle.bitvec_slice.specs.BitDomains.{IsBitDomain, IsBitDomainMut, bits_of_bit_domain, bits_of_bit_domain_mut};
-    ghost use Rattle.bitvec_slice.specs.Cuts.{cut_of};
-    ghost use Rattle.bitvec_slice.specs.Domains.{IsDomain, IsDomainMut, bits_of_domain, bits_of_domain_mut};
+    ghost use Rattle.bitvec_domain.specs.Cuts.{cut_of};
+    ghost use Rattle.bitvec_domain.specs.Domains.{IsDomain, IsDomainMut, bits_of_domain, bits_of_domain_mut};
     ghost use Rattle.bitvec_slice.specs.Writes.{WritesBits};
     ghost use Rattle.bitvec_slice.specs.Lending.{lends};
     ghost use Rattle.bitvec_slice.specs.Views.{bits_of, elements_of, window_in, bits_of_mut, elements_of_mut, memory_of_mut, name_of_mut, window_in_mut};
@@ -66,7 +67,7 @@ impl<'a, T: BitStore, O: BitOrder> BitSliceMut<'a, T, O> {
         }
     }
 
-    /// Ends the view, and gives back the slice that it borrowed.
+    /// Ends the view, and gives back the slice that it borrowed. The crate has no such call.
     #[tactic(auto, unfolding(crate::specs::Views::memory_of_mut))]
     pub fn into_slice(self) -> &'a mut [T]
         ensures elements { result.now ≡ elements_of_mut self.entry }
@@ -82,7 +83,7 @@ impl<'a, T: BitStore, O: BitOrder> BitSliceMut<'a, T, O> {
         elements
     }
 
-    /// A shared view of the same bits.
+    /// A shared view of the same bits: `&*bits` of the crate.
     #[tactic(auto, unfolding(crate::specs::Views::memory_of, crate::specs::Views::bits_of, crate::specs::Views::memory_of_mut, crate::specs::Views::bits_of_mut))]
     pub fn as_ref(&self) -> BitSlice<'_, T, O>
         ensures bits { bits_of result ≡ bits_of_mut self.now }
@@ -92,7 +93,7 @@ impl<'a, T: BitStore, O: BitOrder> BitSliceMut<'a, T, O> {
         BitSlice::from_parts(&*self.elements, self.head, self.len)
     }
 
-    /// A view of the same bits for a shorter time.
+    /// A view of the same bits for a shorter time: `&mut *bits` of the crate.
     #[tactic(auto, unfolding(crate::specs::Views::memory_of_mut, crate::specs::Views::bits_of_mut))]
     pub fn as_mut(&mut self) -> BitSliceMut<'_, T, O>
         ensures* writes_back { sem 𝓛 (lends T.row O.row self.entry (name_of_mut result)) }
@@ -119,20 +120,6 @@ impl<'a, T: BitStore, O: BitOrder> BitSliceMut<'a, T, O> {
         ensures { result ≡ ((window_in_mut self.now).len == 0) }
     {
         self.len == 0
-    }
-
-    /// How many bits are 1.
-    pub fn count_ones(&self) -> usize
-        ensures { result ≡ count_by (λ bit. bit) (bits_of_mut self.now) }
-    {
-        self.as_ref().count_ones()
-    }
-
-    /// How many bits are 0.
-    pub fn count_zeros(&self) -> usize
-        ensures { result ≡ count_by not (bits_of_mut self.now) }
-    {
-        self.as_ref().count_zeros()
     }
 
     /// The bits of a range, if the view has them: `None` exactly where `start <= end <= len` fails.
@@ -176,6 +163,14 @@ impl<'a, T: BitStore, O: BitOrder> BitSliceMut<'a, T, O> {
         set_in::<T, O>(self.elements_mut(), window, index, bit);
     }
 
+    /// The same as [`BitSliceMut::set`], under the same condition.
+    pub fn set_unchecked(&mut self, index: usize, bit: bool)
+        requires { index < (window_in_mut self.old).len }
+        ensures { WritesBits self.old self.new (slice_set (bits_of_mut self.old) index bit) }
+    {
+        self.set(index, bit);
+    }
+
     /// Makes each bit `bit`.
     pub fn fill(&mut self, bit: bool)
         ensures { WritesBits self.old self.new (replicate (window_in_mut self.old).len bit) }
@@ -184,7 +179,7 @@ impl<'a, T: BitStore, O: BitOrder> BitSliceMut<'a, T, O> {
         fill_in::<T, O>(self.elements_mut(), window, bit);
     }
 
-    /// Flips each bit.
+    /// Flips each bit: what `!` does of the crate.
     pub fn invert(&mut self)
         ensures { WritesBits self.old self.new (map not (bits_of_mut self.old)) }
     {
@@ -258,8 +253,12 @@ impl<'a, T: BitStore, O: BitOrder> BitSliceMut<'a, T, O> {
         self.as_mut().into_part(from, to)
     }
 
-    pub(crate) fn window(&self) -> Window
-        ensures { result ≡ window_in_mut self.now }
+    /// Where the view stands among the elements that [`BitSliceMut::into_slice`] gives. The crate has
+    /// no such call.
+    pub fn window(&self) -> Window
+        ensures value { result ≡ window_in_mut self.now }
+        ensures within { IsWithin result (T.BITS * length (elements_of_mut self.now)) }
+        ensures bounded { T.BITS * length (elements_of_mut self.now) ≤ max_bits }
     {
         Window {
             start: self.head,
@@ -267,7 +266,10 @@ impl<'a, T: BitStore, O: BitOrder> BitSliceMut<'a, T, O> {
         }
     }
 
-    pub(crate) fn elements_mut(&mut self) -> &mut [T]
+    /// The elements, lent to an edit of a crate above, which owes that the bits outside the view stay:
+    /// its contract says so by `WritesBits`.
+    #[doc(hidden)]
+    pub fn elements_mut(&mut self) -> &mut [T]
         ensures* writes_back { sem 𝓛 (lends T.row O.row self.entry result.ghost_name) }
         ensures elements { result.now ≡ elements_of_mut self.old }
     {

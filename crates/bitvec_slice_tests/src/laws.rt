@@ -4,6 +4,7 @@ ghost use Rattle.bitvec_base.specs.Memory.{memory_bits};
 ghost use Rattle.bitvec_base.specs.Window.{max_bits};
 
 use bitvec_base::{BitOrder, BitStore};
+use bitvec_edit::BitEdits;
 use bitvec_slice::BitSliceMut;
 
 /// Reverses all bits of the elements twice: they are as before.

@@ -4,6 +4,7 @@ ghost use Rattle.std.specs.Prelude.{◌*◌, ◌≤◌, length};
 ghost use Rattle.bitvec_base.specs.Window.{max_bits};
 
 use bitvec_base::{BitOrder, BitStore, Lsb0, Msb0};
+use bitvec_edit::BitEdits;
 use bitvec_slice::BitSliceMut;
 
 /// Rotates the first five bits, if there are as many, by two places to the left, and by as many to

@@ -1,6 +1,7 @@
 //! Searches of a view, and comparisons of two.
 
 use bitvec_base::{Lsb0, Msb0};
+use bitvec_query::BitQueries;
 use bitvec_slice::{BitSlice, BitSliceMut};
 use std::cmp::Ordering;
 use std::test::Fail;

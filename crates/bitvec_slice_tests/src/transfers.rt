@@ -3,6 +3,7 @@ ghost use Rattle.std.specs.Prelude.{◌*◌, ◌≤◌, length};
 ghost use Rattle.bitvec_base.specs.Window.{max_bits};
 
 use bitvec_base::{BitOrder, BitStore, Lsb0, Msb0};
+use bitvec_edit::BitEdits;
 use bitvec_slice::{BitSlice, BitSliceMut};
 
 /// Exchanges the bits 3 to 9 of the one with the bits 0 to 6 of the other.

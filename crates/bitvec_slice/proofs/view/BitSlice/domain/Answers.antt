@@ -2,7 +2,7 @@ use Rattle.std.proofs.Common.{◌+◌, arith}
 use Rattle.bitvec_base.specs.OrderLaws.{width_some}
 use Rattle.bitvec_base.specs.Window.{window_of}
 use Rattle.bitvec_slice.specs.Views.{bits_of, memory_of}
-use Rattle.bitvec_slice.proofs.DomainBits.{domain_bits}
+use Rattle.bitvec_domain.specs.DomainLaws.{domain_bits}
 use Rattle.bitvec_slice.proofs.view.BitSlice.domain.Goals as goal
 
 pub returns-clause-bits : goal.returns-clause-bits

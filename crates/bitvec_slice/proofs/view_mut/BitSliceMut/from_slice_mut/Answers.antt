@@ -1,5 +1,5 @@
 use Rattle.std.proofs.Common.{arith}
-use Rattle.bitvec_slice.proofs.ViewBits.{whole_bits_mut}
+use Rattle.bitvec_slice.specs.ViewLaws.{whole_bits_mut}
 use Rattle.bitvec_slice.proofs.view_mut.BitSliceMut.from_slice_mut.Goals as goal
 
 pub returns-clause-bits : goal.returns-clause-bits

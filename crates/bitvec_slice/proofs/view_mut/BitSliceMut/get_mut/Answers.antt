@@ -1,5 +1,5 @@
 use Rattle.std.proofs.Common.{arith}
-use Rattle.bitvec_slice.proofs.ViewBits.{part_of_bits_mut}
+use Rattle.bitvec_slice.specs.ViewLaws.{part_of_bits_mut}
 use Rattle.bitvec_slice.proofs.view_mut.BitSliceMut.get_mut.Goals as goal
 
 pub returns-then-range-self-clause-bits : goal.returns-then-range-self-clause-bits

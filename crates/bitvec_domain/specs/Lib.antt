@@ -1,0 +1,5 @@
+pub mod CutLaws
+pub mod Cuts
+pub mod DomainLaws
+pub mod Domains
+pub mod Parts

@@ -1,0 +1,93 @@
+//! Parts of one element that is written.
+ghost use Rattle.std.specs.Prelude.{◌≡◌, ℕ, ◌-◌, ◌^◌, ◌≤◌, bit_and, bit_or, bit_xor, map, not, replicate, slice_range, false};
+ghost use Rattle.bitvec_base.specs.Memory.{element_bits};
+ghost use Rattle.bitvec_base.specs.Order.{mask_of};
+ghost use Rattle.bitvec_base.specs.Window.{write_at};
+
+use bitvec_base::{BitOrder, BitStore};
+use std::marker::PhantomData;
+
+/// Bits of one element that is borrowed for writing: the crate's `PartialElement` over an
+/// exclusive element.
+#[derive(Drop)]
+pub struct PartialElementMut<'a, T: BitStore, O: BitOrder> {
+    element: &'a mut T,
+    head: usize,
+    tail: usize,
+    mask: T,
+    order: PhantomData<O>,
+    ghost ordered: { head ≤ tail },
+    ghost inside: { tail ≤ T.BITS },
+    ghost masked: { T.value mask ≡ mask_of (O.at T.BITS) head tail },
+}
+
+impl<'a, T: BitStore, O: BitOrder> PartialElementMut<'a, T, O> {
+    ghost use Rattle.bitvec_domain.specs.Parts.{WritesPart, bits_of_part_mut, element_of_part_mut, head_of_part_mut, tail_of_part_mut, name_of_part_mut};
+
+    /// The bits of an element from index `head` up to, without, `tail`.
+    pub(crate) fn new(element: &'a mut T, head: usize, tail: usize) -> Self
+        requires order { head ≤ tail }
+        requires bound { tail ≤ T.BITS }
+        ensures element { element_of_part_mut result ≡ element.old }
+        ensures head { head_of_part_mut result ≡ head }
+        ensures tail { tail_of_part_mut result ≡ tail }
+        ensures name { name_of_part_mut result ≡ element.entry.ghost_name }
+    {
+        PartialElementMut {
+            element,
+            head,
+            tail,
+            mask: O::mask::<T>(head, tail),
+            order: PhantomData,
+        }
+    }
+
+    /// The element with the bits outside the part 0.
+    pub fn load_value(&self) -> T
+        ensures value { T.value result
+            ≡ bit_and (T.value (element_of_part_mut self.now)) (mask_of (O.at T.BITS) (head_of_part_mut self.now) (tail_of_part_mut self.now)) }
+        ensures bits { element_bits T.BITS O.at (T.value result)
+            ≡ write_at (replicate T.BITS false) (head_of_part_mut self.now) (bits_of_part_mut self.now) }
+    {
+        self.element.and(self.mask)
+    }
+
+    /// Gives the part the bits that `value` has at its indices; all other bits of the element
+    /// stay, and all others of `value` are passed over.
+    pub fn store_value(&mut self, value: T)
+        ensures { WritesPart self.old self.new
+            (slice_range (element_bits T.BITS O.at (T.value value)) (head_of_part_mut self.old) (tail_of_part_mut self.old)) }
+    {
+        let outside = self.element.and(self.mask.not());
+        *self.element = outside.or(value.and(self.mask));
+    }
+
+    /// Flips each bit of the part; all other bits of the element stay.
+    pub fn invert(&mut self)
+        ensures { WritesPart self.old self.new (map not (bits_of_part_mut self.old)) }
+    {
+        *self.element = self.element.xor(self.mask);
+    }
+
+    /// The index in the element of the part's first bit.
+    pub fn head(&self) -> usize
+        ensures { result ≡ head_of_part_mut self.now }
+    {
+        self.head
+    }
+
+    /// The index in the element past the part's last bit.
+    pub fn tail(&self) -> usize
+        ensures { result ≡ tail_of_part_mut self.now }
+    {
+        self.tail
+    }
+
+    /// The element whose bits are 1 exactly in the part.
+    pub fn mask(&self) -> T
+        ensures { T.value result
+            ≡ mask_of (O.at T.BITS) (head_of_part_mut self.now) (tail_of_part_mut self.now) }
+    {
+        self.mask
+    }
+}

@@ -1,0 +1,117 @@
+//! Writable views are edited.
+ghost use Rattle.bitvec_base.specs.Lists.{combined};
+ghost use Rattle.bitvec_engine.specs.Operator.{operator};
+ghost use Rattle.bitvec_slice.specs.Views.{bits_of, bits_of_mut, window_in_mut};
+ghost use Rattle.bitvec_slice.specs.Writes.{WritesBits};
+
+use crate::BitEdits;
+use bitvec_base::{BitOrder, BitStore};
+use bitvec_elements::{
+    combine_bits_in, copy_bits_in, copy_within_in, replace_in, reverse_in, rotate_left_in,
+    rotate_right_in, shift_end_in, shift_start_in, swap_bits_in, swap_in,
+};
+use bitvec_engine::BitOp;
+use bitvec_slice::{BitSlice, BitSliceMut};
+use std::ops::Range;
+
+impl<'a, T: BitStore, O: BitOrder> BitEdits for BitSliceMut<'a, T, O> {
+    ghost bits = { bits_of_mut };
+
+    ghost len = { λ view. (window_in_mut view).len };
+
+    ghost writes = { WritesBits };
+
+    fn replace(&mut self, index: usize, bit: bool) -> bool {
+        let window = self.window();
+        replace_in::<T, O>(self.elements_mut(), window, index, bit)
+    }
+
+    fn swap(&mut self, first: usize, second: usize) {
+        let window = self.window();
+        swap_in::<T, O>(self.elements_mut(), window, first, second);
+    }
+
+    fn reverse(&mut self) {
+        let window = self.window();
+        reverse_in::<T, O>(self.elements_mut(), window);
+    }
+
+    fn rotate_left(&mut self, by: usize) {
+        let window = self.window();
+        rotate_left_in::<T, O>(self.elements_mut(), window, by);
+    }
+
+    fn rotate_right(&mut self, by: usize) {
+        let window = self.window();
+        rotate_right_in::<T, O>(self.elements_mut(), window, by);
+    }
+
+    fn shift_start(&mut self, by: usize) {
+        let window = self.window();
+        shift_start_in::<T, O>(self.elements_mut(), window, by);
+    }
+
+    fn shift_end(&mut self, by: usize) {
+        let window = self.window();
+        shift_end_in::<T, O>(self.elements_mut(), window, by);
+    }
+
+    fn copy_within(&mut self, src: Range<usize>, dest: usize) {
+        let window = self.window();
+        copy_within_in::<T, O>(self.elements_mut(), window, src, dest);
+    }
+
+    fn replace_unchecked(&mut self, index: usize, bit: bool) -> bool {
+        self.replace(index, bit)
+    }
+
+    fn swap_unchecked(&mut self, first: usize, second: usize) {
+        self.swap(first, second);
+    }
+
+    fn copy_within_unchecked(&mut self, src: Range<usize>, dest: usize) {
+        self.copy_within(src, dest);
+    }
+
+    fn clone_from_bitslice<U: BitStore, P: BitOrder>(&mut self, src: BitSlice<'_, U, P>) {
+        let window = self.window();
+        let from = src.window();
+        copy_bits_in::<T, O, U, P>(self.elements_mut(), window, src.into_slice(), from);
+    }
+
+    fn and_bits<U: BitStore, P: BitOrder>(&mut self, src: BitSlice<'_, U, P>) {
+        combine(self, src, BitOp::And);
+    }
+
+    fn or_bits<U: BitStore, P: BitOrder>(&mut self, src: BitSlice<'_, U, P>) {
+        combine(self, src, BitOp::Or);
+    }
+
+    fn xor_bits<U: BitStore, P: BitOrder>(&mut self, src: BitSlice<'_, U, P>) {
+        combine(self, src, BitOp::Xor);
+    }
+
+    fn swap_with_bits<U: BitStore, P: BitOrder>(&mut self, other: &mut BitSliceMut<'_, U, P>) {
+        let window = self.window();
+        let other_window = other.window();
+        swap_bits_in::<T, O, U, P>(
+            self.elements_mut(),
+            window,
+            other.elements_mut(),
+            other_window,
+        );
+    }
+}
+
+fn combine<T: BitStore, O: BitOrder, U: BitStore, P: BitOrder>(
+    view: &mut BitSliceMut<'_, T, O>,
+    src: BitSlice<'_, U, P>,
+    op: BitOp,
+)
+    ensures { WritesBits view.old view.new
+        (combined (operator op) (bits_of_mut view.old) (bits_of src.entry)) }
+{
+    let window = view.window();
+    let from = src.window();
+    combine_bits_in::<T, O, U, P>(view.elements_mut(), window, src.into_slice(), from, op);
+}

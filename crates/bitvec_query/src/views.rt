@@ -1,0 +1,22 @@
+//! The two view types answer questions.
+ghost use Rattle.bitvec_slice.specs.Views.{bits_of, bits_of_mut};
+
+use crate::BitQueries;
+use bitvec_base::{BitOrder, BitStore};
+use bitvec_slice::{BitSlice, BitSliceMut};
+
+impl<'a, T: BitStore, O: BitOrder> BitQueries<T, O> for BitSlice<'a, T, O> {
+    ghost bits = { bits_of };
+
+    fn as_bitslice(&self) -> BitSlice<'_, T, O> {
+        *self
+    }
+}
+
+impl<'a, T: BitStore, O: BitOrder> BitQueries<T, O> for BitSliceMut<'a, T, O> {
+    ghost bits = { bits_of_mut };
+
+    fn as_bitslice(&self) -> BitSlice<'_, T, O> {
+        self.as_ref()
+    }
+}
