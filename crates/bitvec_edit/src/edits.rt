@@ -3,6 +3,7 @@ ghost use Rattle.std.specs.Prelude.{◌≡◌, ℕ, ◌+◌, ◌-◌, ◌<◌, �
 ghost use Rattle.std.specs.List.{swap};
 ghost use Rattle.bitvec_base.specs.Lists.{combined};
 ghost use Rattle.bitvec_base.specs.Window.{write_at};
+ghost use Rattle.bitvec_elements.specs.Asked.{CallableBelow, CallableOnBits, FillsWith, RefillsWith};
 ghost use Rattle.bitvec_engine.specs.Operator.{operator};
 ghost use Rattle.bitvec_engine.specs.declared.combine.BitOp.TheVariants.{And, Or, Xor};
 ghost use Rattle.bitvec_slice.specs.Views.{bits_of, bits_of_mut, window_in, window_in_mut};
@@ -121,4 +122,24 @@ pub trait BitEdits {
         requires { len self.old ≡ (window_in_mut other.old).len }
         ensures bits { writes self.old self.new (bits_of_mut other.old) }
         ensures other_bits { WritesBits other.old other.new (bits self.old) };
+
+    /// Makes each bit what `f` answers for its index: `f` is called once for each index, in
+    /// ascending order from 0 on, and what it keeps goes from each call to the next. Condition:
+    /// `f` may be called for each index below `len`, once the calls for those before it are done,
+    /// whatever they answered.
+    fn fill_with<F: FnMut(usize) -> bool>(&mut self, f: F)
+        requires { CallableBelow F.FnMut f (len self.old) }
+        ensures answers { FillsWith F.FnMut f (bits self.new) }
+        ensures bits { writes self.old self.new (bits self.new) }
+        ensures len { length (bits self.new) ≡ len self.old };
+
+    /// Makes each bit what `f` answers for its index and the bit that stands there: `f` is called
+    /// once for each index, in ascending order from 0 on, and what it keeps goes from each call to
+    /// the next. Condition: `f` may be called for each index and the bit there, once the calls for
+    /// those before it are done, whatever they answered.
+    fn for_each<F: FnMut(usize, bool) -> bool>(&mut self, f: F)
+        requires { CallableOnBits F.FnMut f (bits self.old) }
+        ensures answers { RefillsWith F.FnMut f (bits self.old) (bits self.new) }
+        ensures bits { writes self.old self.new (bits self.new) }
+        ensures len { length (bits self.new) ≡ len self.old };
 }

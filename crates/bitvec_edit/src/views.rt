@@ -7,8 +7,9 @@ ghost use Rattle.bitvec_slice.specs.Writes.{WritesBits};
 use crate::BitEdits;
 use bitvec_base::{BitOrder, BitStore};
 use bitvec_elements::{
-    combine_bits_in, copy_bits_in, copy_within_in, replace_in, reverse_in, rotate_left_in,
-    rotate_right_in, shift_end_in, shift_start_in, swap_bits_in, swap_in,
+    combine_bits_in, copy_bits_in, copy_within_in, fill_with_in, for_each_in, replace_in,
+    reverse_in, rotate_left_in, rotate_right_in, shift_end_in, shift_start_in, swap_bits_in,
+    swap_in,
 };
 use bitvec_engine::BitOp;
 use bitvec_slice::{BitSlice, BitSliceMut};
@@ -100,6 +101,16 @@ impl<'a, T: BitStore, O: BitOrder> BitEdits for BitSliceMut<'a, T, O> {
             other.elements_mut(),
             other_window,
         );
+    }
+
+    fn fill_with<F: FnMut(usize) -> bool>(&mut self, f: F) {
+        let window = self.window();
+        fill_with_in::<T, O, F>(self.elements_mut(), window, f);
+    }
+
+    fn for_each<F: FnMut(usize, bool) -> bool>(&mut self, f: F) {
+        let window = self.window();
+        for_each_in::<T, O, F>(self.elements_mut(), window, f);
     }
 }
 

@@ -1,6 +1,7 @@
 //! The bit operations on windows of borrowed slices of elements, without counts: what views call.
 #![tactic(auto)]
 
+mod asked;
 mod comparisons;
 mod edits;
 mod moves;
@@ -8,6 +9,7 @@ mod queries;
 mod scans;
 mod transfers;
 
+pub use asked::{fill_with_in, for_each_in};
 pub use comparisons::{compare_in, contains_in, ends_in, equal_in, starts_in};
 pub use edits::{fill_in, invert_in, set_in};
 pub use moves::{

@@ -1,1 +1,1 @@
-pub mod Undo
+pub mod Whole

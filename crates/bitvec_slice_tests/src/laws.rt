@@ -1,7 +1,9 @@
-//! What two edits of a view, one after the other, come to.
-ghost use Rattle.std.specs.Prelude.{◌≡◌, ◌*◌, ◌≤◌, length, map};
+//! What edits of a view that undo one another come to, and what closures fill it with.
+ghost use Rattle.std.specs.Prelude.{◌≡◌, ℕ, ◌+◌, ◌*◌, ◌%◌, ◌^◌, ◌<◌, ◌≤◌, ◌==◌, length, map};
+ghost use Rattle.std.specs.List.{range_with_len};
 ghost use Rattle.bitvec_base.specs.Memory.{memory_bits};
 ghost use Rattle.bitvec_base.specs.Window.{max_bits};
+ghost use Rattle.bitvec_elements.specs.Asked.{FillsWith, RefillsWith};
 
 use bitvec_base::{BitOrder, BitStore};
 use bitvec_edit::BitEdits;
@@ -29,5 +31,79 @@ pub fn rotated_back<T: BitStore, O: BitOrder>(elements: &mut [T], by: usize) -> 
     let mut view = BitSliceMut::<T, O>::from_slice_mut(elements);
     view.rotate_left(by);
     view.rotate_right(by);
+    view.into_slice()
+}
+
+/// Flips all bits of the elements twice, by the method and by the operator: they are as before.
+pub fn inverted_twice<T: BitStore, O: BitOrder>(elements: &mut [T]) -> &mut [T]
+    requires { T.BITS * length elements.old ≤ max_bits }
+    ensures { memory_bits T.BITS O.at (map T.value result.now)
+        ≡ memory_bits T.BITS O.at (map T.value elements.old) }
+{
+    let mut view = BitSliceMut::<T, O>::from_slice_mut(elements);
+    view.invert();
+    let view = !view;
+    view.into_slice()
+}
+
+/// Makes the bits of the elements 1 at even indices and 0 at odd ones.
+pub fn filled_with_even<T: BitStore, O: BitOrder>(elements: &mut [T]) -> &mut [T]
+    requires { T.BITS * length elements.old ≤ max_bits }
+    ensures { memory_bits T.BITS O.at (map T.value result.now)
+        ≡ map (λ i. i % 2 == 0) (range_with_len 0 (T.BITS * length elements.old)) }
+{
+    let mut view = BitSliceMut::<T, O>::from_slice_mut(elements);
+    view.fill_with(|index| index % 2 == 0);
+    view.into_slice()
+}
+
+/// Makes each third bit of the elements 1 and the others 0, by a count of the calls.
+pub fn filled_by_count<T: BitStore, O: BitOrder>(elements: &mut [T]) -> &mut [T]
+    requires { T.BITS * length elements.old ≤ max_bits }
+    ensures { memory_bits T.BITS O.at (map T.value result.now)
+        ≡ map (λ i. (i + 1) % 3 == 0) (range_with_len 0 (T.BITS * length elements.old)) }
+{
+    let mut view = BitSliceMut::<T, O>::from_slice_mut(elements);
+    let mut calls = 0usize;
+    view.fill_with(
+        move |_index|
+            requires { calls + 1 < 2 ^ 64 }
+        {
+            calls += 1;
+            calls % 3 == 0
+        },
+    );
+    view.into_slice()
+}
+
+/// Makes each bit of the elements what `f` answers for its index, in ascending order.
+pub fn filled_by<T: BitStore, O: BitOrder, F: FnMut(usize) -> bool>(
+    elements: &mut [T],
+    f: F,
+) -> &mut [T]
+    requires fits { T.BITS * length elements.old ≤ max_bits }
+    requires callable { F.IsAlwaysCallable f }
+    ensures answers { FillsWith F.FnMut f (memory_bits T.BITS O.at (map T.value result.now)) }
+    ensures length { length result.now ≡ length elements.old }
+{
+    let mut view = BitSliceMut::<T, O>::from_slice_mut(elements);
+    view.fill_with(f);
+    view.into_slice()
+}
+
+/// Makes each bit of the elements what `f` answers for its index and the bit there, in ascending
+/// order.
+pub fn refilled_by<T: BitStore, O: BitOrder, F: FnMut(usize, bool) -> bool>(
+    elements: &mut [T],
+    f: F,
+) -> &mut [T]
+    requires fits { T.BITS * length elements.old ≤ max_bits }
+    requires callable { F.IsAlwaysCallable f }
+    ensures answers { RefillsWith F.FnMut f (memory_bits T.BITS O.at (map T.value elements.old))
+        (memory_bits T.BITS O.at (map T.value result.now)) }
+    ensures length { length result.now ≡ length elements.old }
+{
+    let mut view = BitSliceMut::<T, O>::from_slice_mut(elements);
+    view.for_each(f);
     view.into_slice()
 }

@@ -1,0 +1,24 @@
+use Rattle.std.proofs.Common.{length, ap, subst, sym, ◌∙◌}
+use Rattle.bitvec_elements.specs.Asked.{FillsWith}
+use Rattle.bitvec_slice.specs.Lending.{with_elements}
+use Rattle.bitvec_slice.specs.Views.{memory_of_mut}
+use Rattle.bitvec_slice.specs.Writes.{WritesBits}
+use Rattle.bitvec_slice.specs.WriteLaws.{writes_bits}
+use Rattle.bitvec_edit.proofs.views.BitSliceMutBitEdits.fill_with.Goals as goal
+
+pub fill_with_in-requires-clause-callable : goal.fill_with_in-requires-clause-callable
+fill_with_in-requires-clause-callable g c = rw c.window-window.ensures.value c.requires
+
+pub returns : goal.returns
+unfolding memory_of_mut
+returns g c =
+    let v = c.args.self.now in
+    let cells = c.fill_with_in.new.cells in
+    let elements = c.elements_mut.ensures.elements in
+    let wrote = rw (elements, c.window-window.ensures.value) at c.fill_with_in.ensures.bits in
+    let written = writes_bits v cells wrote.0 (c.fill_with_in.ensures.length ∙ ap length elements) wrote.2 wrote.3 in
+    record {
+      answers = subst (FillsWith g.F.FnMut c.args.f) (sym written.bits) wrote.1;
+      bits = subst (WritesBits v (with_elements v cells)) (sym written.bits) written;
+      len = ap length written.bits ∙ wrote.2;
+    }
