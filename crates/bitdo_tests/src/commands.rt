@@ -88,30 +88,6 @@ fn commands_change_by_a_right_window(rt: HostRuntime) -> Result<(), Fail> {
     )
 }
 
-#[test]
-fn sums_past_the_greatest_number_are_refused(rt: HostRuntime) -> Result<(), Fail> {
-    for (command, printed) in [
-        ("5 3 invert", "refused range\n= 5A\n"),
-        ("0 18446744073709551615 fill 1", "refused range\n= 5A\n"),
-        ("0 8 get 18446744073709551615", "refused index\n= 5A\n"),
-        (
-            "0 8 copy_within 0 4 18446744073709551615",
-            "refused dest\n= 5A\n",
-        ),
-        ("0 8 copy_within 4 2 0", "refused source\n= 5A\n"),
-        ("0 8 or 18446744073709551615 1", "refused right\n= 5A\n"),
-        (
-            "0 8 copy_from 1 18446744073709551615",
-            "refused right\n= 5A\n",
-        ),
-        ("0 8 rotate_right 9", "refused amount\n= 5A\n"),
-        ("8 8 shift_end 0", "done\n= 5A\n"),
-    ] {
-        expect(&rt, "8 lsb0 5A 00 0 8", command, 0, printed)?;
-    }
-    Ok(())
-}
-
 /// Each command's word, and how many arguments it takes.
 const ARGUMENTS: [(&str, usize); 29] = [
     ("get", 1),

@@ -10,6 +10,8 @@ mod faults;
 #[cfg(test)]
 mod lines;
 #[cfg(test)]
+mod refusals;
+#[cfg(test)]
 mod rows;
 #[cfg(test)]
 mod support;

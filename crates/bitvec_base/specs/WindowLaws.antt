@@ -1,9 +1,14 @@
 -- Windows of a list of bits: what is read, written and left.
-use Rattle.std.specs.Prelude.{◌≡◌, ℕ, ◌+◌, ◌≤◌, List, length, slice_range}
+use Rattle.std.specs.Prelude.{◌≡◌, ℕ, ◌+◌, ◌<◌, ◌≤◌, List, length, slice_index_or, slice_range}
 use Rattle.std.proofs.Common.{arith, sym, ◌∙◌, ap}
 use Rattle.bitvec_base.specs.declared.window.Window.{Window}
 use Rattle.bitvec_base.specs.Window.{IsWithin, window_of, write_at, write_window}
-use Rattle.bitvec_base.specs.WriteLaws.{length-slice_range, length-write_at, write_at-same, write_at-inside, write_at-over, range-range, range-write_at}
+use Rattle.bitvec_base.specs.WriteLaws.{length-slice_range, get-slice_range, length-write_at, write_at-same, write_at-inside, write_at-over, range-range, range-write_at}
+
+-- a value of a window
+pub get-window : {X : Type 0} (bits : List X) (window : Window) (i : ℕ) (d : X) → i < window.len → slice_index_or (window_of bits window) i d ≡ slice_index_or bits (window.start + i) d
+unfolding window_of
+get-window bits window i d inside = get-slice_range bits window.start (window.start + window.len) i d (omega arith)
 
 pub length-window : {X : Type 0} (bits : List X) (window : Window) → IsWithin window (length bits) → length (window_of bits window) ≡ window.len
 unfolding window_of

@@ -1,5 +1,6 @@
 //! The elements that a memory is made of.
 ghost use Rattle.std.specs.Prelude.{◌≡◌, ℕ, ◌+◌, ◌-◌, ◌*◌, ◌/◌, ◌%◌, ◌^◌, ◌<◌, bit_and, bit_or, bit_xor, count_ones};
+ghost use Rattle.std.specs.Mem.{FitsInMemory};
 ghost use Rattle.bitvec_base.specs.Order.{IsWidth};
 ghost use Rattle.bitvec_base.specs.Element.{leading_zeros_of, trailing_zeros_of};
 
@@ -28,6 +29,10 @@ pub trait BitStore: Copy + Drop {
     /// Tells a proof that the element's number fits the width; it does nothing when it runs.
     fn in_range(self)
         ensures { value self < 2 ^ BITS };
+
+    /// Tells a proof that an element takes fewer than `2^63` bytes; it does nothing when it runs.
+    fn fits_in_memory()
+        ensures { FitsInMemory Self.row };
 
     /// The element of a number. Condition: the number fits the width.
     fn from_u128(number: u128) -> Self

@@ -27,6 +27,8 @@ impl BitStore for u8 {
 
     fn in_range(self) {}
 
+    fn fits_in_memory() {}
+
     fn from_u128(number: u128) -> Self {
         number as u8
     }
@@ -94,6 +96,8 @@ impl BitStore for u16 {
     ghost all_law = { refl };
 
     fn in_range(self) {}
+
+    fn fits_in_memory() {}
 
     fn from_u128(number: u128) -> Self {
         number as u16
@@ -163,6 +167,8 @@ impl BitStore for u32 {
 
     fn in_range(self) {}
 
+    fn fits_in_memory() {}
+
     fn from_u128(number: u128) -> Self {
         number as u32
     }
@@ -231,6 +237,8 @@ impl BitStore for u64 {
 
     fn in_range(self) {}
 
+    fn fits_in_memory() {}
+
     fn from_u128(number: u128) -> Self {
         number as u64
     }
@@ -298,6 +306,8 @@ impl BitStore for usize {
     ghost all_law = { refl };
 
     fn in_range(self) {}
+
+    fn fits_in_memory() {}
 
     fn from_u128(number: u128) -> Self {
         number as usize

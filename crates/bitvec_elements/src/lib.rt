@@ -16,7 +16,7 @@ pub use moves::{
     copy_within_in, replace_in, reverse_in, rotate_left_in, rotate_right_in, shift_end_in,
     shift_start_in, swap_in,
 };
-pub use queries::count_in;
+pub use queries::{bit_in, count_in};
 pub use scans::{all_in, any_in, first_in, last_in};
 pub use transfers::{
     combine_bits_in, combine_block_in, copy_bits_in, copy_block_in, swap_bits_in, swap_block_in,

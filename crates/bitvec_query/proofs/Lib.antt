@@ -1,2 +1,2 @@
 pub mod Counts
-pub mod Runs
+pub mod Places

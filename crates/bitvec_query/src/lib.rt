@@ -2,6 +2,7 @@
 #![tactic(auto)]
 
 mod queries;
+mod runs;
 mod views;
 
 pub use queries::BitQueries;

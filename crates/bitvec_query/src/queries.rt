@@ -6,6 +6,7 @@ ghost use Rattle.std.specs.Ordering.{bool_cmp};
 ghost use Rattle.bitvec_base.specs.Lists.{first_place, is_prefix, is_suffix, last_place, same_bits, stands_in};
 ghost use Rattle.bitvec_slice.specs.Views.{bits_of};
 
+use crate::runs::{before_first, behind_last};
 use bitvec_base::{BitOrder, BitStore};
 use bitvec_elements::{
     all_in, any_in, compare_in, contains_in, count_in, ends_in, equal_in, first_in, last_in,
@@ -79,36 +80,28 @@ pub trait BitQueries<T: BitStore, O: BitOrder> {
     fn leading_ones(&self) -> usize
         ensures { result ≡ prefix_len (λ bit. bit) (bits self.now) }
     {
-        self.first_zero().unwrap_or(self.as_bitslice().len())
+        before_first(self.as_bitslice(), false)
     }
 
     /// How many bits from the first on are 0.
     fn leading_zeros(&self) -> usize
         ensures { result ≡ prefix_len not (bits self.now) }
     {
-        self.first_one().unwrap_or(self.as_bitslice().len())
+        before_first(self.as_bitslice(), true)
     }
 
     /// How many bits up to the last are 1.
     fn trailing_ones(&self) -> usize
         ensures { result ≡ suffix_len (λ bit. bit) (bits self.now) }
     {
-        let len = self.as_bitslice().len();
-        match self.last_zero() {
-            Some(index) => len - index - 1,
-            None => len,
-        }
+        behind_last(self.as_bitslice(), false)
     }
 
     /// How many bits up to the last are 0.
     fn trailing_zeros(&self) -> usize
         ensures { result ≡ suffix_len not (bits self.now) }
     {
-        let len = self.as_bitslice().len();
-        match self.last_one() {
-            Some(index) => len - index - 1,
-            None => len,
-        }
+        behind_last(self.as_bitslice(), true)
     }
 
     /// Whether a bit is 1; none of an empty view's is.

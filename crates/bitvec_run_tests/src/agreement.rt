@@ -1,6 +1,7 @@
 //! Runs at each width and order, against the plain program on the memories' bits.
 ghost use Rattle.std.specs.Prelude.{◌^◌, ◌<◌};
 
+use crate::own_order::Scattered;
 use crate::slices::run_in;
 use crate::steps::{edits, moves, queries, right_commands};
 use bitvec_base::{BitStore, HiLo, Lsb0, Msb0};
@@ -82,25 +83,31 @@ fn agrees_everywhere<T: BitStore, O: SliceOrder, R: Abort + AllocGlobal>(
     Ok(())
 }
 
-#[test]
-fn bytes_agree_with_the_plain_program(rt: HostRuntime) -> Result<(), Fail> {
-    let (left, right) = (mixed_elements(LEFT), mixed_elements(RIGHT));
-    agrees_everywhere::<u8, Lsb0, _>(&rt, &left, &right)?;
-    agrees_everywhere::<u8, Msb0, _>(&rt, &left, &right)?;
-    agrees_everywhere::<u8, HiLo, _>(&rt, &left, &right)
+/// The same at each width.
+fn agrees_at_each_width<O: SliceOrder, R: Abort + AllocGlobal>(rt: &R) -> Result<(), Fail> {
+    agrees_everywhere::<u8, O, R>(rt, &mixed_elements(LEFT), &mixed_elements(RIGHT))?;
+    agrees_everywhere::<u16, O, R>(rt, &mixed_elements(LEFT), &mixed_elements(RIGHT))?;
+    agrees_everywhere::<u32, O, R>(rt, &mixed_elements(LEFT), &mixed_elements(RIGHT))?;
+    agrees_everywhere::<u64, O, R>(rt, &mixed_elements(LEFT), &mixed_elements(RIGHT))?;
+    agrees_everywhere::<usize, O, R>(rt, &mixed_elements(LEFT), &mixed_elements(RIGHT))
 }
 
 #[test]
-fn long_elements_agree_with_the_plain_program(rt: HostRuntime) -> Result<(), Fail> {
-    let (left, right) = (mixed_elements(LEFT), mixed_elements(RIGHT));
-    agrees_everywhere::<u64, Lsb0, _>(&rt, &left, &right)?;
-    agrees_everywhere::<u64, Msb0, _>(&rt, &left, &right)?;
-    agrees_everywhere::<u64, HiLo, _>(&rt, &left, &right)
+fn the_low_bit_first_agrees_with_the_plain_program(rt: HostRuntime) -> Result<(), Fail> {
+    agrees_at_each_width::<Lsb0, _>(&rt)
 }
 
 #[test]
-fn other_widths_agree_with_the_plain_program(rt: HostRuntime) -> Result<(), Fail> {
-    agrees_everywhere::<u16, Msb0, _>(&rt, &mixed_elements(LEFT), &mixed_elements(RIGHT))?;
-    agrees_everywhere::<u32, Lsb0, _>(&rt, &mixed_elements(LEFT), &mixed_elements(RIGHT))?;
-    agrees_everywhere::<usize, HiLo, _>(&rt, &mixed_elements(LEFT), &mixed_elements(RIGHT))
+fn the_high_bit_first_agrees_with_the_plain_program(rt: HostRuntime) -> Result<(), Fail> {
+    agrees_at_each_width::<Msb0, _>(&rt)
+}
+
+#[test]
+fn the_high_half_first_agrees_with_the_plain_program(rt: HostRuntime) -> Result<(), Fail> {
+    agrees_at_each_width::<HiLo, _>(&rt)
+}
+
+#[test]
+fn an_own_order_agrees_with_the_plain_program(rt: HostRuntime) -> Result<(), Fail> {
+    agrees_at_each_width::<Scattered, _>(&rt)
 }

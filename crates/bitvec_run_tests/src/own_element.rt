@@ -38,6 +38,8 @@ impl BitStore for Register {
         let Register { value: _value } = self;
     }
 
+    fn fits_in_memory() {}
+
     fn from_u128(number: u128) -> Self {
         let value = number as u16;
         Register { value }

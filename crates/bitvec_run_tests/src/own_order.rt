@@ -14,7 +14,7 @@ use bitvec_run::{Op, Reply, Window};
 use std::test::Fail;
 
 /// The order in which index `i` is bit `(5 * i + 3) % BITS`.
-struct Scattered;
+pub(crate) struct Scattered;
 
 impl BitOrder for Scattered {
     ghost at = { scattered };

@@ -3,3 +3,4 @@ pub mod Lender
 pub mod Rests
 pub mod Steps
 pub mod Through
+pub mod Wholes

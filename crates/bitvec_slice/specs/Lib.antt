@@ -1,7 +1,10 @@
 pub mod BitDomains
+pub mod Indices
 pub mod Lending
 pub mod Refill
+pub mod Seen
 pub mod ViewLaws
 pub mod Views
+pub mod Wholes
 pub mod WriteLaws
 pub mod Writes

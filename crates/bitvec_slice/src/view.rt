@@ -8,7 +8,6 @@ use bitvec_base::{BitOrder, BitStore, MAX_BITS, Window};
 use bitvec_domain::domain_of;
 use std::alloc::AllocError;
 use std::marker::PhantomData;
-use std::ops::Range;
 
 /// Bits of a borrowed slice of elements, in an order: it stands for the crate's `&BitSlice<T, O>`.
 ///
@@ -97,23 +96,6 @@ impl<'a, T: BitStore, O: BitOrder> BitSlice<'a, T, O> {
         ensures { result ≡ ((window_in self.now).len == 0) }
     {
         self.len == 0
-    }
-
-    /// The bits of a range, if the view has them: `None` exactly where `start <= end <= len` fails.
-    pub fn get(self, range: Range<usize>) -> Option<Self>
-        ensures some { IsSome result ↔ ((range.start ≤ range.end) × (range.end ≤ (window_in self.entry).len)) }
-        ensures bits { IfSome result
-            (λ part. bits_of part ≡ slice_range (bits_of self.entry) range.start range.end) }
-        ensures start { IfSome result
-            (λ part. (window_in part).start ≡ (window_in self.entry).start + range.start) }
-        ensures len { IfSome result (λ part. (window_in part).len ≡ range.end - range.start) }
-        ensures elements { IfSome result (λ part. elements_of part ≡ elements_of self.entry) }
-    {
-        if range.start <= range.end && range.end <= self.len {
-            Some(self.into_part(range.start, range.end))
-        } else {
-            None
-        }
     }
 
     /// The elements that the view touches, in their order.

@@ -8,7 +8,6 @@ use bitvec_base::{BitOrder, BitStore, Window};
 use bitvec_domain::domain_mut_of;
 use bitvec_elements::{fill_in, invert_in, set_in};
 use std::marker::PhantomData;
-use std::ops::Range;
 
 /// Bits of a slice of elements that is borrowed for writing, in an order: it stands for the
 /// crate's `&mut BitSlice<T, O>`.
@@ -120,38 +119,6 @@ impl<'a, T: BitStore, O: BitOrder> BitSliceMut<'a, T, O> {
         ensures { result ≡ ((window_in_mut self.now).len == 0) }
     {
         self.len == 0
-    }
-
-    /// The bits of a range, if the view has them: `None` exactly where `start <= end <= len` fails.
-    pub fn get(&self, range: Range<usize>) -> Option<BitSlice<'_, T, O>>
-        ensures some { IsSome result ↔ ((range.start ≤ range.end) × (range.end ≤ (window_in_mut self.now).len)) }
-        ensures bits { IfSome result
-            (λ part. bits_of part ≡ slice_range (bits_of_mut self.now) range.start range.end) }
-        ensures start { IfSome result
-            (λ part. (window_in part).start ≡ (window_in_mut self.now).start + range.start) }
-        ensures len { IfSome result (λ part. (window_in part).len ≡ range.end - range.start) }
-        ensures elements { IfSome result (λ part. elements_of part ≡ elements_of_mut self.now) }
-    {
-        self.as_ref().get(range)
-    }
-
-    /// The bits of a range for writing, if the view has them: `None` exactly where
-    /// `start <= end <= len` fails.
-    pub fn get_mut(&mut self, range: Range<usize>) -> Option<BitSliceMut<'_, T, O>>
-        ensures some { IsSome result
-            ↔ ((range.start ≤ range.end) × (range.end ≤ (window_in_mut self.old).len)) }
-        ensures bits { IfSome result
-            (λ part. bits_of_mut part ≡ slice_range (bits_of_mut self.old) range.start range.end) }
-        ensures start { IfSome result
-            (λ part. (window_in_mut part).start ≡ (window_in_mut self.old).start + range.start) }
-        ensures len { IfSome result (λ part. (window_in_mut part).len ≡ range.end - range.start) }
-        ensures elements { IfSome result (λ part. elements_of_mut part ≡ elements_of_mut self.old) }
-    {
-        if range.start <= range.end && range.end <= self.len {
-            Some(self.part_mut(range.start, range.end))
-        } else {
-            None
-        }
     }
 
     /// Makes the bit at an index `bit`. Condition: the index is below `len`.

@@ -87,6 +87,26 @@ fn views_without_their_ends(rt: HostRuntime) -> Result<(), Fail> {
 }
 
 #[test]
+fn what_a_needle_leaves_of_five_bits(rt: HostRuntime) -> Result<(), Fail> {
+    // 0, 1, 0, 0, 1
+    let cells = [0x48u8];
+    let all = BitSlice::<u8, Msb0>::from_slice(&cells);
+    let view = all.get(..5).ok_or("no such bits")?;
+    // 0, 1, 0, 0, 1, 0
+    let parts = [0x12u8];
+    let others = BitSlice::<u8, Lsb0>::from_slice(&parts);
+    let zero_one = others.get(0..2).ok_or("no such bits")?;
+    let one_zero = others.get(1..=2).ok_or("no such bits")?;
+    assert!(rt; view.strip_prefix(one_zero).is_none());
+    assert!(rt; view.strip_suffix(one_zero).is_none());
+    let rest = view.strip_prefix(zero_one).ok_or("not its beginning")?;
+    assert!(rt; rest.eq_bits(others.get(2..5).ok_or("no such bits")?));
+    let rest = view.strip_suffix(zero_one).ok_or("not its end")?;
+    assert!(rt; rest.eq_bits(others.get(..3).ok_or("no such bits")?));
+    Ok(())
+}
+
+#[test]
 fn views_of_two_orders_compared(rt: HostRuntime) -> Result<(), Fail> {
     let low = [0x21u8];
     let high = [0x84u8];

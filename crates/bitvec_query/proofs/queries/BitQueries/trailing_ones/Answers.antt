@@ -1,27 +1,9 @@
-use Rattle.std.specs.Prelude.{Bool, false, length}
-use Rattle.std.proofs.Common.{◌∙◌, ap, arith, sym}
-use Rattle.bitvec_query.proofs.Runs.{last_place-some, last_place-whole, ones_are_other}
+use Rattle.std.specs.Prelude.{Bool}
+use Rattle.std.specs.List.{suffix_len}
+use Rattle.std.proofs.Common.{◌∙◌, ap}
+use Rattle.bitvec_slice.specs.Views.{bits_of}
+use Rattle.bitvec_query.proofs.Places.{trailing-ones}
 use Rattle.bitvec_query.proofs.queries.BitQueries.trailing_ones.Goals as goal
 
-pub overflow_sub-result : goal.overflow_sub-result
-overflow_sub-result g c =
-    let long = c.len-len.ensures.value ∙ ap length c.as_bitslice.ensures in
-    let inside = (last_place-some (λ (bit : Bool). bit) false ones_are_other _ _ (sym c.last_zero.ensures ∙ c.in-Some.is)).0 in
-    omega arith
-
-pub overflow_sub-result-in-Some : goal.overflow_sub-result-in-Some
-overflow_sub-result-in-Some g c =
-    let long = c.len-len.ensures.value ∙ ap length c.as_bitslice.ensures in
-    let inside = (last_place-some (λ (bit : Bool). bit) false ones_are_other _ _ (sym c.last_zero.ensures ∙ c.in-Some.is)).0 in
-    omega arith
-
-pub returns-in-Some : goal.returns-in-Some
-returns-in-Some g c =
-    let long = c.len-len.ensures.value ∙ ap length c.as_bitslice.ensures in
-    let behind = (last_place-some (λ (bit : Bool). bit) false ones_are_other _ _ (sym c.last_zero.ensures ∙ c.in-Some.is)).1 in
-    omega arith
-
-pub returns-in-None : goal.returns-in-None
-returns-in-None g c =
-    c.len-len.ensures.value ∙ ap length c.as_bitslice.ensures
-    ∙ sym (last_place-whole (λ (bit : Bool). bit) false ones_are_other _ (sym c.last_zero.ensures ∙ c.in-None.is))
+pub returns : goal.returns
+returns g c = c.behind_last.ensures ∙ trailing-ones (bits_of c.as_bitslice.result) ∙ ap (suffix_len (λ (bit : Bool). bit)) c.as_bitslice.ensures

@@ -1,0 +1,69 @@
+//! Bit operations on whole windows under `HiLo`: bit by bit.
+#![tactic(auto, using(crate::specs::CostLaws::enough))]
+
+ghost use Rattle.std.specs.Prelude.{false};
+
+use crate::combine::{BitOp, bits_op};
+use crate::comparison::bits_eq;
+use crate::moves::bits_copy_within;
+use crate::shuffle::bits_reverse;
+use crate::slice_order::SliceOrder;
+use crate::transfer::{bits_copy, bits_swap};
+use bitvec_base::{Cells, CellsRead, HiLo, Window};
+
+impl SliceOrder for HiLo {
+    ghost WORDS = { false };
+
+    const WORDS: bool = false;
+
+    fn block_eq<C: CellsRead, D: CellsRead<Elem = C::Elem>>(
+        left: &mut C,
+        left_window: Window,
+        right: &mut D,
+        right_window: Window,
+    ) -> bool {
+        bits_eq::<Self, Self, C, D>(left, left_window, right, right_window)
+    }
+
+    fn block_copy<C: Cells, D: CellsRead<Elem = C::Elem>>(
+        left: &mut C,
+        to: Window,
+        right: &mut D,
+        from: Window,
+    ) {
+        bits_copy::<Self, Self, C, D>(left, to, right, from);
+    }
+
+    fn block_swap<C: Cells, D: Cells + CellsRead<Elem = C::Elem>>(
+        left: &mut C,
+        left_window: Window,
+        right: &mut D,
+        right_window: Window,
+    ) {
+        bits_swap::<Self, Self, C, D>(left, left_window, right, right_window);
+    }
+
+    fn block_copy_within<C: Cells>(
+        cells: &mut C,
+        window: Window,
+        from: usize,
+        to: usize,
+        dest: usize,
+    ) {
+        bits_copy_within::<Self, C>(cells, window, from, to, dest);
+    }
+
+    fn block_op<C: Cells, D: CellsRead<Elem = C::Elem>>(
+        left: &mut C,
+        to: Window,
+        right: &mut D,
+        from: Window,
+        op: BitOp,
+    ) {
+        bits_op::<Self, Self, C, D>(left, to, right, from, op);
+    }
+
+    fn block_reverse<C: Cells>(cells: &mut C, window: Window) {
+        bits_reverse::<Self, C>(cells, window);
+    }
+}

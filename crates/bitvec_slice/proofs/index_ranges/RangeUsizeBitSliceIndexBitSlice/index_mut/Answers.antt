@@ -1,0 +1,14 @@
+use Rattle.bitvec_slice.specs.ViewLaws.{part_of_bits_mut}
+use Rattle.bitvec_slice.proofs.index_ranges.RangeUsizeBitSliceIndexBitSlice.index_mut.Goals as goal
+
+pub returns : goal.returns
+returns g c =
+    let range = c.args.self in
+    let part = c.into_part.ensures in
+    record {
+      bits = part_of_bits_mut c.args.bits c.into_part.result range.start range.end c.requires.0 c.requires.1 part.start part.len part.elements;
+      start = part.start;
+      len = part.len;
+      elements = part.elements;
+      name = part.name;
+    }

@@ -1,0 +1,173 @@
+//! What a view is indexed by.
+ghost use Rattle.std.specs.Prelude.{◌≡◌, ℕ, ◌<◌, ◌↔◌, IfSome, IsSome, IsTrue};
+ghost use Rattle.std.specs.Borrow.{GName};
+
+use crate::{BitRef, BitRefMut, BitSlice, BitSliceMut};
+use bitvec_base::{BitOrder, BitStore};
+
+/// A shared view, as an index meets it.
+pub trait Viewed: Drop {
+    ghost use Rattle.bitvec_slice.specs.Seen.{Seen};
+
+    /// The elements of its memory.
+    type Element;
+
+    /// The writable view of the same bits.
+    type Writable: ViewedMut;
+
+    // What contracts see of it.
+    ghost sees: { Self → Seen Self.Element };
+
+    /// How many bits there are.
+    fn bit_len(&self) -> usize
+        ensures { result ≡ (sees self.now).window.len };
+}
+
+/// A writable view, as an index meets it.
+pub trait ViewedMut: Drop {
+    ghost use Rattle.bitvec_slice.specs.Seen.{Seen};
+
+    /// The elements of its memory.
+    type Element;
+
+    // What contracts see of it, and the name among borrows of its memory.
+    ghost sees: { Self → Seen Self.Element };
+
+    ghost borrows: { Self → GName };
+
+    /// How many bits there are.
+    fn bit_len(&self) -> usize
+        ensures { result ≡ (sees self.now).window.len };
+}
+
+/// An index of a view, or a range of its indices, in bits: it stands for the crate's
+/// `BitSliceIndex<'a, T, O>`, at the view `BitSlice<'a, T, O>`.
+///
+/// That a view has the index is the condition of the calls that give no `Option`.
+pub trait BitSliceIndex<V: Viewed>: Sized + Drop {
+    ghost use Rattle.bitvec_slice.specs.Seen.{Seen};
+
+    /// What is read at the index.
+    type Immut;
+
+    /// What is written at the index.
+    type Mut;
+
+    // Holds where a view of so many bits has the index.
+    ghost fits: { Self → ℕ → Type 0 };
+
+    // Holds of the index, a view and what stands there.
+    ghost gives: { Self → Seen V.Element → Self.Immut → Type 0 };
+
+    // The same for writing, with the name among borrows of the view's memory.
+    ghost gives_mut: { Self → Seen V.Writable.Element → GName → Self.Mut → Type 0 };
+
+    /// Whether a view of so many bits has the index. The crate has no such call.
+    fn fits(&self, len: usize) -> bool
+        ensures { IsTrue result ↔ fits self.now len };
+
+    /// What stands at the index. Condition: the view has it.
+    fn index(self, bits: V) -> Self::Immut
+        requires { fits self (V.sees bits).window.len }
+        ensures { gives self (V.sees bits) result };
+
+    /// What stands at the index, for writing. Condition: the view has it.
+    fn index_mut(self, bits: V::Writable) -> Self::Mut
+        requires { fits self (V.Writable.sees bits).window.len }
+        ensures { gives_mut self (V.Writable.sees bits) (V.Writable.borrows bits) result };
+
+    /// What stands at the index: `None` exactly where the view does not have it.
+    fn get(self, bits: V) -> Option<Self::Immut>
+        ensures some { IsSome result ↔ fits self (V.sees bits).window.len }
+        ensures gives { IfSome result (gives self (V.sees bits)) }
+    {
+        if self.fits(bits.bit_len()) {
+            Some(self.index(bits))
+        } else {
+            None
+        }
+    }
+
+    /// What stands at the index, for writing: `None` exactly where the view does not have it.
+    fn get_mut(self, bits: V::Writable) -> Option<Self::Mut>
+        ensures some { IsSome result ↔ fits self (V.Writable.sees bits).window.len }
+        ensures gives { IfSome result (gives_mut self (V.Writable.sees bits) (V.Writable.borrows bits)) }
+    {
+        if self.fits(bits.bit_len()) {
+            Some(self.index_mut(bits))
+        } else {
+            None
+        }
+    }
+
+    /// What stands at the index. Condition: the view has it.
+    fn get_unchecked(self, bits: V) -> Self::Immut
+        requires { fits self (V.sees bits).window.len }
+        ensures { gives self (V.sees bits) result }
+    {
+        self.index(bits)
+    }
+
+    /// What stands at the index, for writing. Condition: the view has it.
+    fn get_unchecked_mut(self, bits: V::Writable) -> Self::Mut
+        requires { fits self (V.Writable.sees bits).window.len }
+        ensures { gives_mut self (V.Writable.sees bits) (V.Writable.borrows bits) result }
+    {
+        self.index_mut(bits)
+    }
+}
+
+impl<'a, T: BitStore, O: BitOrder> Viewed for BitSlice<'a, T, O> {
+    ghost use Rattle.bitvec_slice.specs.Indices.{seen};
+
+    type Element = T;
+
+    type Writable = BitSliceMut<'a, T, O>;
+
+    ghost sees = { seen };
+
+    fn bit_len(&self) -> usize {
+        self.len()
+    }
+}
+
+impl<'a, T: BitStore, O: BitOrder> ViewedMut for BitSliceMut<'a, T, O> {
+    ghost use Rattle.bitvec_slice.specs.Indices.{seen_mut};
+    ghost use Rattle.bitvec_slice.specs.Views.{name_of_mut};
+
+    type Element = T;
+
+    ghost sees = { seen_mut };
+
+    ghost borrows = { name_of_mut };
+
+    fn bit_len(&self) -> usize {
+        self.len()
+    }
+}
+
+impl<'a, T: BitStore + 'a, O: BitOrder> BitSliceIndex<BitSlice<'a, T, O>> for usize {
+    ghost use Rattle.bitvec_slice.specs.Indices.{IsBitOf, IsBitOfMut};
+
+    type Immut = BitRef<'a, T, O>;
+
+    type Mut = BitRefMut<'a, T, O>;
+
+    ghost fits = { λ index len. index < len };
+
+    ghost gives = { λ index view bit. IsBitOf view index bit };
+
+    ghost gives_mut = { λ index view memory bit. IsBitOfMut view memory index bit };
+
+    fn fits(&self, len: usize) -> bool {
+        *self < len
+    }
+
+    fn index(self, bits: BitSlice<'a, T, O>) -> BitRef<'a, T, O> {
+        bits.into_bit(self)
+    }
+
+    fn index_mut(self, bits: BitSliceMut<'a, T, O>) -> BitRefMut<'a, T, O> {
+        bits.into_bit(self)
+    }
+}

@@ -1,0 +1,171 @@
+//! Ranges of indices of a view.
+ghost use Rattle.std.specs.Prelude.{◌≡◌, ◌+◌, ◌<◌, ◌≤◌, ⊤};
+ghost use Rattle.std.specs.Range.{range_inclusive_start, range_inclusive_end};
+
+use crate::{BitSlice, BitSliceIndex, BitSliceMut};
+use bitvec_base::{BitOrder, BitStore};
+use std::ops::{Range, RangeFrom, RangeFull, RangeInclusive, RangeTo, RangeToInclusive};
+
+impl<'a, T: BitStore + 'a, O: BitOrder> BitSliceIndex<BitSlice<'a, T, O>> for Range<usize> {
+    ghost use Rattle.bitvec_slice.specs.Indices.{HasRange, IsRangeOf, IsRangeOfMut};
+
+    type Immut = BitSlice<'a, T, O>;
+
+    type Mut = BitSliceMut<'a, T, O>;
+
+    ghost fits = { HasRange };
+
+    ghost gives = { λ range view part. IsRangeOf view range.start range.end part };
+
+    ghost gives_mut = { λ range view memory part. IsRangeOfMut view memory range.start range.end part };
+
+    fn fits(&self, len: usize) -> bool {
+        self.start <= self.end && self.end <= len
+    }
+
+    fn index(self, bits: BitSlice<'a, T, O>) -> BitSlice<'a, T, O> {
+        bits.into_part(self.start, self.end)
+    }
+
+    fn index_mut(self, bits: BitSliceMut<'a, T, O>) -> BitSliceMut<'a, T, O> {
+        bits.into_part(self.start, self.end)
+    }
+}
+
+impl<'a, T: BitStore + 'a, O: BitOrder> BitSliceIndex<BitSlice<'a, T, O>> for RangeFrom<usize> {
+    ghost use Rattle.bitvec_slice.specs.Indices.{IsRangeOf, IsRangeOfMut};
+
+    type Immut = BitSlice<'a, T, O>;
+
+    type Mut = BitSliceMut<'a, T, O>;
+
+    ghost fits = { λ range len. range.start ≤ len };
+
+    ghost gives = { λ range view part. IsRangeOf view range.start view.window.len part };
+
+    ghost gives_mut = { λ range view memory part. IsRangeOfMut view memory range.start view.window.len part };
+
+    fn fits(&self, len: usize) -> bool {
+        self.start <= len
+    }
+
+    fn index(self, bits: BitSlice<'a, T, O>) -> BitSlice<'a, T, O> {
+        let end = bits.len();
+        (self.start..end).index(bits)
+    }
+
+    fn index_mut(self, bits: BitSliceMut<'a, T, O>) -> BitSliceMut<'a, T, O> {
+        let end = bits.len();
+        (self.start..end).index_mut(bits)
+    }
+}
+
+impl<'a, T: BitStore + 'a, O: BitOrder> BitSliceIndex<BitSlice<'a, T, O>> for RangeTo<usize> {
+    ghost use Rattle.bitvec_slice.specs.Indices.{IsRangeOf, IsRangeOfMut};
+
+    type Immut = BitSlice<'a, T, O>;
+
+    type Mut = BitSliceMut<'a, T, O>;
+
+    ghost fits = { λ range len. range.end ≤ len };
+
+    ghost gives = { λ range view part. IsRangeOf view 0 range.end part };
+
+    ghost gives_mut = { λ range view memory part. IsRangeOfMut view memory 0 range.end part };
+
+    fn fits(&self, len: usize) -> bool {
+        self.end <= len
+    }
+
+    fn index(self, bits: BitSlice<'a, T, O>) -> BitSlice<'a, T, O> {
+        (0..self.end).index(bits)
+    }
+
+    fn index_mut(self, bits: BitSliceMut<'a, T, O>) -> BitSliceMut<'a, T, O> {
+        (0..self.end).index_mut(bits)
+    }
+}
+
+impl<'a, T: BitStore + 'a, O: BitOrder> BitSliceIndex<BitSlice<'a, T, O>> for RangeFull {
+    ghost use Rattle.bitvec_slice.specs.Indices.{IsRangeOf, IsRangeOfMut};
+
+    type Immut = BitSlice<'a, T, O>;
+
+    type Mut = BitSliceMut<'a, T, O>;
+
+    ghost fits = { λ _ _. ⊤ };
+
+    ghost gives = { λ _ view part. IsRangeOf view 0 view.window.len part };
+
+    ghost gives_mut = { λ _ view memory part. IsRangeOfMut view memory 0 view.window.len part };
+
+    fn fits(&self, _len: usize) -> bool {
+        true
+    }
+
+    fn index(self, bits: BitSlice<'a, T, O>) -> BitSlice<'a, T, O> {
+        let end = bits.len();
+        (0..end).index(bits)
+    }
+
+    fn index_mut(self, bits: BitSliceMut<'a, T, O>) -> BitSliceMut<'a, T, O> {
+        let end = bits.len();
+        (0..end).index_mut(bits)
+    }
+}
+
+impl<'a, T: BitStore + 'a, O: BitOrder> BitSliceIndex<BitSlice<'a, T, O>>
+    for RangeInclusive<usize> {
+    ghost use Rattle.bitvec_slice.specs.Indices.{HasInclusive, IsRangeOf, IsRangeOfMut};
+
+    type Immut = BitSlice<'a, T, O>;
+
+    type Mut = BitSliceMut<'a, T, O>;
+
+    ghost fits = { HasInclusive };
+
+    ghost gives = { λ range view part. IsRangeOf view (range_inclusive_start range) (range_inclusive_end range + 1) part };
+
+    ghost gives_mut = { λ range view memory part. IsRangeOfMut view memory (range_inclusive_start range) (range_inclusive_end range + 1) part };
+
+    fn fits(&self, len: usize) -> bool {
+        *self.start() <= *self.end() && *self.end() < len
+    }
+
+    fn index(self, bits: BitSlice<'a, T, O>) -> BitSlice<'a, T, O> {
+        let (first, last) = self.into_inner();
+        (first..last + 1).index(bits)
+    }
+
+    fn index_mut(self, bits: BitSliceMut<'a, T, O>) -> BitSliceMut<'a, T, O> {
+        let (first, last) = self.into_inner();
+        (first..last + 1).index_mut(bits)
+    }
+}
+
+impl<'a, T: BitStore + 'a, O: BitOrder> BitSliceIndex<BitSlice<'a, T, O>>
+    for RangeToInclusive<usize> {
+    ghost use Rattle.bitvec_slice.specs.Indices.{IsRangeOf, IsRangeOfMut};
+
+    type Immut = BitSlice<'a, T, O>;
+
+    type Mut = BitSliceMut<'a, T, O>;
+
+    ghost fits = { λ range len. range.end < len };
+
+    ghost gives = { λ range view part. IsRangeOf view 0 (range.end + 1) part };
+
+    ghost gives_mut = { λ range view memory part. IsRangeOfMut view memory 0 (range.end + 1) part };
+
+    fn fits(&self, len: usize) -> bool {
+        self.end < len
+    }
+
+    fn index(self, bits: BitSlice<'a, T, O>) -> BitSlice<'a, T, O> {
+        (0..self.end + 1).index(bits)
+    }
+
+    fn index_mut(self, bits: BitSliceMut<'a, T, O>) -> BitSliceMut<'a, T, O> {
+        (0..self.end + 1).index_mut(bits)
+    }
+}

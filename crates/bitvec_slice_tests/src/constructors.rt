@@ -1,0 +1,117 @@
+//! Views that are made of no element, of one, and of slices of any length.
+use bitvec_base::{BitOrder, BitStore, HiLo, Lsb0, Msb0};
+use bitvec_query::BitQueries;
+use bitvec_slice::{BitSlice, BitSliceMut, from_mut, from_ref};
+
+#[test]
+fn an_empty_view_has_no_bit(rt: HostRuntime) {
+    let view = BitSlice::<u8, Lsb0>::empty();
+    assert_eq!(rt; view.len(), 0);
+    assert_eq!(rt; view.into_slice().len(), 0);
+    let view: BitSlice<'_, u64, Msb0> = Default::default();
+    assert_eq!(rt; view.len(), 0);
+    let view = BitSliceMut::<u16, Msb0>::empty_mut();
+    assert_eq!(rt; view.len(), 0);
+    assert_eq!(rt; view.into_slice().len(), 0);
+    let view: BitSliceMut<'_, u32, HiLo> = Default::default();
+    assert_eq!(rt; view.len(), 0);
+}
+
+#[test]
+fn a_slice_of_no_elements_is_viewed(rt: HostRuntime) {
+    let mut none: [u8; 0] = [];
+    assert_eq!(rt; BitSlice::<u8, Lsb0>::from_slice(&none).len(), 0);
+    assert_eq!(rt; BitSlice::<u8, Lsb0>::from_slice_unchecked(&none).len(), 0);
+    let view = BitSlice::<u8, Lsb0>::try_from_slice(&none);
+    assert!(rt; view.is_ok());
+    let view = BitSliceMut::<u8, Lsb0>::try_from_slice_mut(&mut none);
+    assert!(rt; view.is_ok());
+}
+
+#[test]
+fn an_element_is_viewed_in_its_order(rt: HostRuntime) {
+    let view = BitSlice::<u8, Lsb0>::from_element(&0xF1);
+    assert_eq!(rt;
+        (view.len(), view.first_one(), view.last_zero()),
+        (8, Some(0), Some(3))
+    );
+    let view = BitSlice::<u8, Msb0>::from_element(&0xF1);
+    assert_eq!(rt;
+        (view.len(), view.first_zero(), view.last_one()),
+        (8, Some(4), Some(7))
+    );
+    let view = from_ref::<u32, Lsb0>(&0x8000_0000);
+    assert_eq!(rt; (view.len(), view.first_one()), (32, Some(31)));
+}
+
+/// Sets an element's bit at an index of its order, if it has as many.
+fn set_bit<T: BitStore, O: BitOrder>(element: &mut T, index: usize) {
+    let mut view = BitSliceMut::<T, O>::from_element_mut(element);
+    if index < view.len() {
+        view.set(index, true);
+    }
+}
+
+/// Flips each bit of an element.
+fn invert<T: BitStore, O: BitOrder>(element: &mut T) {
+    let mut view = from_mut::<T, O>(element);
+    view.invert();
+}
+
+#[test]
+fn an_element_is_written_through_its_view(rt: HostRuntime) {
+    let mut byte = 0u8;
+    set_bit::<u8, Lsb0>(&mut byte, 1);
+    assert_eq!(rt; byte, 0x02);
+    set_bit::<u8, Msb0>(&mut byte, 1);
+    assert_eq!(rt; byte, 0x42);
+    set_bit::<u8, Msb0>(&mut byte, 8);
+    assert_eq!(rt; byte, 0x42);
+    invert::<u8, HiLo>(&mut byte);
+    assert_eq!(rt; byte, 0xBD);
+    let mut wide = 1u64;
+    set_bit::<u64, Lsb0>(&mut wide, 63);
+    assert_eq!(rt; wide, 0x8000_0000_0000_0001);
+}
+
+#[test]
+fn a_slice_that_is_short_enough_is_viewed(rt: HostRuntime) {
+    let cells = [0x0Fu8, 0x01];
+    let view = BitSlice::<u8, Lsb0>::try_from_slice(&cells);
+    assert!(rt; view.is_ok_and(|view| view.len() == 16 && view.count_ones() == 5));
+    let view = BitSlice::<u8, Lsb0>::from_slice_unchecked(&cells);
+    assert_eq!(rt; (view.len(), view.last_one()), (16, Some(8)));
+    let view: Result<BitSlice<'_, u8, Msb0>, &[u8]> = BitSlice::try_from(&cells[..]);
+    assert!(rt; view.is_ok_and(|view| view.len() == 16 && view.last_one() == Some(15)));
+}
+
+/// Fills the elements with ones, if they can be viewed.
+fn fill<T: BitStore, O: BitOrder>(elements: &mut [T]) {
+    if let Ok(mut view) = BitSliceMut::<T, O>::try_from_slice_mut(elements) {
+        view.fill(true);
+    }
+}
+
+/// Clears the elements, if they can be viewed, and answers whether.
+fn clear<T: BitStore, O: BitOrder>(elements: &mut [T]) -> bool {
+    let view: Result<BitSliceMut<'_, T, O>, &mut [T]> = BitSliceMut::try_from(elements);
+    match view {
+        Ok(mut view) => {
+            view.fill(false);
+            true
+        }
+        Err(_) => false,
+    }
+}
+
+#[test]
+fn a_slice_that_is_short_enough_is_written(rt: HostRuntime) {
+    let mut cells = [0u16, 3, 5];
+    fill::<u16, Msb0>(&mut cells);
+    assert_eq!(rt; cells, [0xFFFF, 0xFFFF, 0xFFFF]);
+    assert!(rt; clear::<u16, Lsb0>(&mut cells));
+    assert_eq!(rt; cells, [0, 0, 0]);
+    let mut view = BitSliceMut::<u16, Lsb0>::from_slice_unchecked_mut(&mut cells);
+    view.set(17, true);
+    assert_eq!(rt; view.into_slice()[1], 2);
+}

@@ -1,0 +1,122 @@
+//! A table of needles in all pairs of three orders and two widths, against lists of truth values.
+
+use bitvec_base::{BitOrder, BitStore, HiLo, Lsb0, Msb0};
+use bitvec_query::BitQueries;
+use bitvec_slice::BitSlice;
+use std::alloc::{AllocError, Allocator};
+use std::process::Abort;
+use std::test::Fail;
+
+const HAYSTACKS: [&str; 5] = ["", "1", "0100101101", "111111111", "0000000001000"];
+
+const NEEDLES: [&str; 12] = [
+    "",
+    "0",
+    "1",
+    "01",
+    "11",
+    "011",
+    "101",
+    "0101",
+    "0000",
+    "0100101101",
+    "111111111",
+    "11111111111",
+];
+
+/// Three elements with those bits from an index on, in an order; all other bits are 0.
+fn packed<T: BitStore, O: BitOrder, A: Allocator>(
+    alloc: A,
+    bits: &str,
+    start: usize,
+) -> Result<Vec<T, A>, AllocError> {
+    let width = T::BITS as usize;
+    let mut elements = vec![in alloc; T::ZERO; 3]?;
+    for (index, bit) in bits.bytes().enumerate() {
+        let place = start.saturating_add(index);
+        if let Some(element) = elements.get_mut(place / width) {
+            if bit == b'1' {
+                *element = element.or(O::select(place % width));
+            }
+        }
+    }
+    Ok(elements)
+}
+
+/// Whether the needle stands in the text, by its own search.
+fn finds_as_text<T: BitStore, O: BitOrder, U: BitStore, P: BitOrder, R: Abort + AllocGlobal>(
+    rt: &R,
+    text: &str,
+    needle: &str,
+) -> Result<(), Fail> {
+    let cells = packed::<T, O, _>(rt.alloc(), text, 3)?;
+    let parts = packed::<U, P, _>(rt.alloc(), needle, 1)?;
+    let all = BitSlice::<T, O>::try_from_slice(&cells).map_err(|_| "too long")?;
+    let view = all
+        .get(3..text.len().saturating_add(3))
+        .ok_or("no such bits")?;
+    let others = BitSlice::<U, P>::try_from_slice(&parts).map_err(|_| "too long")?;
+    let part = others
+        .get(1..needle.len().saturating_add(1))
+        .ok_or("no such bits")?;
+    assert_eq!(rt;
+        view.contains(part),
+        text.contains(needle),
+        "{needle} in {text}"
+    );
+    assert_eq!(rt;
+        view.starts_with(part),
+        text.starts_with(needle),
+        "{needle} in {text}"
+    );
+    assert_eq!(rt;
+        view.ends_with(part),
+        text.ends_with(needle),
+        "{needle} in {text}"
+    );
+    let behind = view.strip_prefix(part).map(|rest| rest.len());
+    assert_eq!(rt;
+        behind,
+        text.strip_prefix(needle).map(|rest| rest.len()),
+        "{needle} in {text}"
+    );
+    let before = view.strip_suffix(part).map(|rest| rest.len());
+    assert_eq!(rt;
+        before,
+        text.strip_suffix(needle).map(|rest| rest.len()),
+        "{needle} in {text}"
+    );
+    Ok(())
+}
+
+/// The whole table, for a pair of element types and orders.
+fn table<T: BitStore, O: BitOrder, U: BitStore, P: BitOrder, R: Abort + AllocGlobal>(
+    rt: &R,
+) -> Result<(), Fail> {
+    for text in HAYSTACKS {
+        for needle in NEEDLES {
+            finds_as_text::<T, O, U, P, R>(rt, text, needle)?;
+        }
+    }
+    Ok(())
+}
+
+/// The whole table, with needles of two widths and three orders.
+fn every_needle<T: BitStore, O: BitOrder, R: Abort + AllocGlobal>(rt: &R) -> Result<(), Fail> {
+    table::<T, O, u8, Lsb0, R>(rt)?;
+    table::<T, O, u8, Msb0, R>(rt)?;
+    table::<T, O, u8, HiLo, R>(rt)?;
+    table::<T, O, u16, Lsb0, R>(rt)?;
+    table::<T, O, u16, Msb0, R>(rt)?;
+    table::<T, O, u16, HiLo, R>(rt)
+}
+
+#[test]
+fn needles_are_found_as_in_texts(rt: HostRuntime) -> Result<(), Fail> {
+    every_needle::<u8, Lsb0, _>(&rt)?;
+    every_needle::<u8, Msb0, _>(&rt)?;
+    every_needle::<u8, HiLo, _>(&rt)?;
+    every_needle::<u16, Lsb0, _>(&rt)?;
+    every_needle::<u16, Msb0, _>(&rt)?;
+    every_needle::<u16, HiLo, _>(&rt)
+}

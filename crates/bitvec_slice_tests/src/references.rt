@@ -1,0 +1,91 @@
+//! References to one bit: what they read, and what they write.
+ghost use Rattle.std.specs.Prelude.{◌*◌, ◌≤◌, length};
+ghost use Rattle.bitvec_base.specs.Window.{max_bits};
+
+use bitvec_base::{BitOrder, BitStore, Lsb0, Msb0};
+use bitvec_edit::BitEdits;
+use bitvec_slice::{BitRef, BitSlice, BitSliceMut};
+use std::test::Fail;
+
+/// Writes the bit at an index to 1, to 0 and to 1 again, if the elements have it: gives the bit
+/// before the first write, and those after the first and the second.
+fn write_thrice<T: BitStore, O: BitOrder>(
+    elements: &mut [T],
+    index: usize,
+) -> Option<(bool, bool, bool)>
+    requires { T.BITS * length elements.old ≤ max_bits }
+{
+    let mut view = BitSliceMut::<T, O>::from_slice_mut(elements);
+    match view.get_mut(index) {
+        Some(mut bit) => {
+            let before = bit.replace(true);
+            let first = *bit;
+            bit.set(false);
+            let second = *bit;
+            bit.commit(true);
+            Some((before, first, second))
+        }
+        None => None,
+    }
+}
+
+#[test]
+fn a_reference_writes_at_once(rt: HostRuntime) {
+    let mut cells = [0x00u8];
+    assert_eq!(rt;
+        write_thrice::<u8, Lsb0>(&mut cells, 2),
+        Some((false, true, false))
+    );
+    assert_eq!(rt; cells, [0x04]);
+    assert_eq!(rt;
+        write_thrice::<u8, Lsb0>(&mut cells, 2),
+        Some((true, true, false))
+    );
+    assert_eq!(rt; cells, [0x04]);
+    assert_eq!(rt; write_thrice::<u8, Lsb0>(&mut cells, 8), None);
+    let mut cells = [0xFFFFu16, 0];
+    assert_eq!(rt;
+        write_thrice::<u16, Msb0>(&mut cells, 17),
+        Some((false, true, false))
+    );
+    assert_eq!(rt; cells, [0xFFFF, 0x4000]);
+}
+
+/// Clears the bit at an index through the call that gives no `Option`.
+fn clear<T: BitStore, O: BitOrder>(elements: &mut [T], from: usize, index: usize)
+    requires { T.BITS * length elements.old ≤ max_bits }
+{
+    let mut view = BitSliceMut::<T, O>::from_slice_mut(elements);
+    if let Some(mut part) = view.get_mut(from..) {
+        if index < part.len() {
+            let mut bit = part.bit_mut(index);
+            bit.set(false);
+        }
+    }
+}
+
+#[test]
+fn the_bit_of_a_part(rt: HostRuntime) {
+    let mut cells = [0xFFu8, 0xFF];
+    clear::<u8, Lsb0>(&mut cells, 3, 7);
+    assert_eq!(rt; cells, [0xFF, 0xFB]);
+}
+
+/// A reference's bit, read through a copy.
+fn read_copy<'a, T: BitStore, O: BitOrder>(bit: &BitRef<'a, T, O>) -> bool {
+    let copy = *bit;
+    *copy
+}
+
+#[test]
+fn a_shared_reference_is_copied(rt: HostRuntime) -> Result<(), Fail> {
+    let cells = [0x12u8];
+    let view = BitSlice::<u8, Lsb0>::from_slice(&cells);
+    let one = view.get(1).ok_or("no such bit")?;
+    let zero = view.get(2).ok_or("no such bit")?;
+    assert_eq!(rt; (*one, *zero), (true, false));
+    assert_eq!(rt; (read_copy(&one), read_copy(&zero)), (true, false));
+    let again = one.clone()?;
+    assert_eq!(rt; (*one, *again), (true, true));
+    Ok(())
+}
