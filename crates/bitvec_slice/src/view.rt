@@ -119,6 +119,7 @@ impl<'a, T: BitStore, O: BitOrder> BitSlice<'a, T, O> {
     pub(crate) fn into_part(self, from: usize, to: usize) -> Self
         requires order { from ≤ to }
         requires bound { to ≤ (window_in self).len }
+        ensures bits { bits_of result ≡ slice_range (bits_of self.entry) from to }
         ensures start { (window_in result).start ≡ (window_in self.entry).start + from }
         ensures len { (window_in result).len ≡ to - from }
         ensures elements { elements_of result ≡ elements_of self.entry }

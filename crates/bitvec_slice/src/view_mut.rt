@@ -195,6 +195,7 @@ impl<'a, T: BitStore, O: BitOrder> BitSliceMut<'a, T, O> {
     pub(crate) fn into_part(self, from: usize, to: usize) -> Self
         requires order { from ≤ to }
         requires bound { to ≤ (window_in_mut self).len }
+        ensures bits { bits_of_mut result ≡ slice_range (bits_of_mut self.entry) from to }
         ensures start { (window_in_mut result).start ≡ (window_in_mut self.entry).start + from }
         ensures len { (window_in_mut result).len ≡ to - from }
         ensures elements { elements_of_mut result ≡ elements_of_mut self.entry }
@@ -207,17 +208,6 @@ impl<'a, T: BitStore, O: BitOrder> BitSliceMut<'a, T, O> {
             mark: _,
         } = self;
         BitSliceMut::from_parts(elements, head + from, to - from)
-    }
-
-    pub(crate) fn part_mut(&mut self, from: usize, to: usize) -> BitSliceMut<'_, T, O>
-        requires order { from ≤ to }
-        requires bound { to ≤ (window_in_mut self.old).len }
-        ensures* writes_back { sem 𝓛 (lends T.row O.row self.entry (name_of_mut result)) }
-        ensures start { (window_in_mut result).start ≡ (window_in_mut self.old).start + from }
-        ensures len { (window_in_mut result).len ≡ to - from }
-        ensures elements { elements_of_mut result ≡ elements_of_mut self.old }
-    {
-        self.as_mut().into_part(from, to)
     }
 
     /// Where the view stands among the elements that [`BitSliceMut::into_slice`] gives. The crate has

@@ -1,13 +1,13 @@
 //! Indices of a writable view.
-ghost use Rattle.std.specs.Prelude.{◌≡◌, ◌+◌, ◌<◌, ◌↔◌, IfSome, IsSome, false, slice_index_or};
+ghost use Rattle.std.specs.Prelude.{◌≡◌, ◌+◌, ◌-◌, ◌<◌, ◌↔◌, IfSome, IsSome, false, slice_index_or, slice_range};
 
 use crate::{BitRefMut, BitSlice, BitSliceIndex, BitSliceMut};
 use bitvec_base::{BitOrder, BitStore};
-use std::ops::Index;
+use std::ops::{Index, Range};
 
 impl<'a, T: BitStore, O: BitOrder> BitSliceMut<'a, T, O> {
     ghost use Rattle.std.specs.Borrow.{GName, sem};
-    ghost use Rattle.bitvec_slice.specs.Indices.{seen_mut};
+    ghost use Rattle.bitvec_slice.specs.Indices.{HasRange, seen_mut};
     ghost use Rattle.bitvec_slice.specs.Lending.{lends};
     ghost use Rattle.bitvec_reference.specs.References.{bit_of_ref_mut, elements_of_ref_mut, name_of_ref_mut, place_of_ref_mut};
     ghost use Rattle.bitvec_slice.specs.Views.{bits_of_mut, elements_of_mut, name_of_mut, window_in_mut};
@@ -50,8 +50,21 @@ impl<'a, T: BitStore, O: BitOrder> BitSliceMut<'a, T, O> {
         index.get_unchecked_mut(self.as_mut())
     }
 
+    /// The bits of a range for writing, as `get_mut(range)` gives them. Condition:
+    /// `start <= end <= len`. The crate has no such call: with it a caller knows what the view ends as.
+    pub fn part_mut(&mut self, range: Range<usize>) -> BitSliceMut<'_, T, O>
+        requires { HasRange range (window_in_mut self.old).len }
+        ensures* writes_back { sem 𝓛 (lends T.row O.row self.entry (name_of_mut result)) }
+        ensures bits { bits_of_mut result ≡ slice_range (bits_of_mut self.old) range.start range.end }
+        ensures start { (window_in_mut result).start ≡ (window_in_mut self.old).start + range.start }
+        ensures len { (window_in_mut result).len ≡ range.end - range.start }
+        ensures elements { elements_of_mut result ≡ elements_of_mut self.old }
+    {
+        self.as_mut().into_part(range.start, range.end)
+    }
+
     /// The bit at an index for writing, as `get_mut(index)` gives it. Condition: the index is below
-    /// `len`. The crate has no such call.
+    /// `len`. The crate has no such call: with it a caller knows what the view ends as.
     pub fn bit_mut(&mut self, index: usize) -> BitRefMut<'_, T, O>
         requires { index < (window_in_mut self.old).len }
         ensures* writes_back { sem 𝓛 (lends T.row O.row self.entry (name_of_ref_mut result)) }

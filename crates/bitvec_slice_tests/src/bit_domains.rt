@@ -99,3 +99,23 @@ fn the_edges_of_a_cut_are_where_they_were(rt: HostRuntime) {
     fill_edges::<u16, Lsb0>(&mut cells, 0, 32);
     assert_eq!(rt; cells, [0xFFF0, 0x000F]);
 }
+
+/// The parts of all bits of the elements, which a writable view shows.
+fn parts_of_all<T: BitStore, O: BitOrder>(elements: &mut [T]) -> Parts
+    requires { T.BITS * length elements.old ≤ max_bits }
+{
+    let view = BitSliceMut::<T, O>::from_slice_mut(elements);
+    match view.bit_domain() {
+        BitDomain::Enclave(part) => Parts::Enclave(part.len()),
+        BitDomain::Region { head, body, tail } => Parts::Region(head.len(), body.len(), tail.len()),
+    }
+}
+
+#[test]
+fn a_writable_view_shows_its_parts(rt: HostRuntime) {
+    let mut cells = [0u8; 3];
+    assert_eq!(rt;
+        parts_of_all::<u8, Lsb0>(&mut cells),
+        Parts::Region(0, 24, 0)
+    );
+}

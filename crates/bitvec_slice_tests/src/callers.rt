@@ -34,3 +34,19 @@ pub fn bit_at<T: BitStore, O: BitOrder>(
         None => None,
     }
 }
+
+/// Fills the bits before an index, and gives how many the view has, which stays.
+pub fn fill_before<T: BitStore, O: BitOrder>(
+    view: &mut BitSliceMut<'_, T, O>,
+    index: usize,
+) -> usize
+    requires { index ≤ (window_in_mut view.old).len }
+    ensures value { result ≡ (window_in_mut view.old).len }
+    ensures window { window_in_mut view.new ≡ window_in_mut view.old }
+{
+    {
+        let mut front = view.part_mut(0..index);
+        front.fill(true);
+    }
+    view.len()
+}

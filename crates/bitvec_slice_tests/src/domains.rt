@@ -150,3 +150,16 @@ fn parts_are_written_where_they_were(rt: HostRuntime) {
     store_parts::<u8, Lsb0>(&mut cells, 3, 20, 0x5A);
     assert_eq!(rt; cells, [0x58, 0x5A, 0x0A]);
 }
+
+#[test]
+fn a_writable_view_shows_its_elements(rt: HostRuntime) {
+    let mut cells = [0u8, 0xFF, 0];
+    let view = BitSliceMut::<u8, Msb0>::from_slice_mut(&mut cells);
+    match view.domain() {
+        Domain::Region { head, body, tail } => {
+            assert!(rt; head.is_none() && tail.is_none());
+            assert_eq!(rt; body, [0, 0xFF, 0].as_slice());
+        }
+        Domain::Enclave(_) => assert!(rt; false, "whole elements are no enclave"),
+    }
+}

@@ -3,9 +3,10 @@ ghost use Rattle.std.specs.Prelude.{◌*◌, ◌≤◌, length};
 ghost use Rattle.bitvec_base.specs.Window.{max_bits};
 ghost use Rattle.bitvec_slice.specs.Views.{window_in_mut};
 
-use bitvec_base::{BitOrder, BitStore, Lsb0};
+use crate::callers::fill_before;
+use bitvec_base::{BitOrder, BitStore, Lsb0, Window};
 use bitvec_query::BitQueries;
-use bitvec_slice::{BitSlice, BitSliceIndex, BitSliceMut};
+use bitvec_slice::{BitSlice, BitSliceIndex, BitSliceMut, Viewed, ViewedMut};
 use std::test::Fail;
 
 /// How many bits a range has, and how many of them are 1.
@@ -178,4 +179,43 @@ fn brackets_of_a_writable_view(rt: HostRuntime) {
     let view = BitSliceMut::<u8, Lsb0>::from_slice_mut(&mut cells);
     assert_eq!(rt; first_three(&view), (true, false, true));
     assert_eq!(rt; view.get(8).is_none(), true);
+}
+
+/// Fills the first ten bits, if there are as many, and gives how many there are in all.
+fn fill_ten<T: BitStore, O: BitOrder>(elements: &mut [T]) -> usize
+    requires { T.BITS * length elements.old ≤ max_bits }
+{
+    let mut view = BitSliceMut::<T, O>::from_slice_mut(elements);
+    if view.len() < 10 {
+        return 0;
+    }
+    fill_before(&mut view, 10)
+}
+
+#[test]
+fn a_part_for_writing_leaves_the_others(rt: HostRuntime) {
+    let mut cells = [0x00u8, 0x80];
+    assert_eq!(rt; fill_ten::<u8, Lsb0>(&mut cells), 16);
+    assert_eq!(rt; cells, [0xFF, 0x83]);
+}
+
+#[test]
+fn a_view_says_where_it_stands(rt: HostRuntime) -> Result<(), Fail> {
+    let mut cells = [0u8; 3];
+    let all = BitSlice::<u8, Lsb0>::from_slice(&cells);
+    let part = all.get(5..17).ok_or("no such bits")?;
+    assert_eq!(rt; part.window(), Window { start: 5, len: 12 });
+    assert_eq!(rt; part.bit_len(), 12);
+    let view = BitSliceMut::<u8, Lsb0>::from_slice_mut(&mut cells);
+    assert_eq!(rt; view.window(), Window { start: 0, len: 24 });
+    assert_eq!(rt; view.as_ref().window(), Window { start: 0, len: 24 });
+    assert_eq!(rt; view.bit_len(), 24);
+    Ok(())
+}
+
+#[test]
+fn an_index_says_whether_it_fits(rt: HostRuntime) {
+    assert!(rt; BitSliceIndex::<BitSlice<u8, Lsb0>>::fits(&(1..3), 3));
+    assert!(rt; !BitSliceIndex::<BitSlice<u8, Lsb0>>::fits(&(1..=3), 3));
+    assert!(rt; !BitSliceIndex::<BitSlice<u8, Lsb0>>::fits(&3, 3));
 }

@@ -142,3 +142,25 @@ fn replace_gives_the_old_bit(rt: HostRuntime) {
     let mut none: [u8; 0] = [];
     assert_eq!(rt; replace_second::<u8, Lsb0>(&mut none, true), None);
 }
+
+/// Edits the first five bits by the unchecked names. The result is the bit that was replaced.
+fn edit_unchecked<T: BitStore, O: BitOrder>(elements: &mut [T]) -> Option<bool>
+    requires { T.BITS * length elements.old ≤ max_bits }
+{
+    let mut view = BitSliceMut::<T, O>::from_slice_mut(elements);
+    if let Some(mut five) = view.get_mut(0..5) {
+        five.set_unchecked(0, true);
+        let old = five.replace_unchecked(1, false);
+        five.swap_unchecked(0, 3);
+        five.copy_within_unchecked(3..5, 0);
+        return Some(old);
+    }
+    None
+}
+
+#[test]
+fn unchecked_names_are_the_checked_calls(rt: HostRuntime) {
+    let mut cells = [0x12u8];
+    assert_eq!(rt; edit_unchecked::<u8, Lsb0>(&mut cells), Some(true));
+    assert_eq!(rt; cells, [0x1B]);
+}

@@ -123,3 +123,24 @@ fn views_of_two_orders_compared(rt: HostRuntime) -> Result<(), Fail> {
     assert_eq!(rt; long.cmp_bits(long), Ordering::Equal);
     Ok(())
 }
+
+#[test]
+fn a_writable_view_without_its_ends(rt: HostRuntime) -> Result<(), Fail> {
+    // 0, 1, 0, 0, 1, 0, 0, 0
+    let mut cells = [0x12u8];
+    let view = BitSliceMut::<u8, Lsb0>::from_slice_mut(&mut cells);
+    let parts = [0x40u8];
+    let needles = BitSlice::<u8, Msb0>::from_slice(&parts);
+    let needle = needles.get(..2).ok_or("no such bits")?;
+    let rest = view.strip_prefix(needle).ok_or("not its beginning")?;
+    assert_eq!(rt; (rest.len(), rest.first_one()), (6, Some(2)));
+    assert!(rt; view.strip_suffix(needle).is_none());
+    let needle = needles.get(..4).ok_or("no such bits")?;
+    assert!(rt; view.strip_prefix(needle).is_some());
+    let zeros = needles.get(4..).ok_or("no such bits")?;
+    assert!(rt; view.strip_suffix(zeros).is_none());
+    let zeros = needles.get(5..).ok_or("no such bits")?;
+    let rest = view.strip_suffix(zeros).ok_or("not its end")?;
+    assert_eq!(rt; (rest.len(), rest.last_one()), (5, Some(4)));
+    Ok(())
+}

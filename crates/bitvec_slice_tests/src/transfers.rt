@@ -78,3 +78,80 @@ fn a_shorter_right_side_is_extended_by_zeros(rt: HostRuntime) {
     combine_five(&mut cells, &[0xFF], b'^');
     assert_eq!(rt; cells, [0x11]);
 }
+
+/// Copies the first five bits of the one to the bits 2 to 6 of the other.
+fn copy_five_of_one_type(elements: &mut [u8], source: &[u8])
+    requires fits { 8 * length elements.old ≤ max_bits }
+    requires source_fits { 8 * length source.now ≤ max_bits }
+{
+    let mut view = BitSliceMut::<u8, Msb0>::from_slice_mut(elements);
+    if let Some(mut part) = view.get_mut(2..7) {
+        if let Some(from) = BitSlice::<u8, Msb0>::from_slice(source).get(..5) {
+            part.copy_from_bitslice(from);
+        }
+    }
+}
+
+#[test]
+fn a_copy_of_one_type(rt: HostRuntime) {
+    let mut cells = [0x41u8];
+    copy_five_of_one_type(&mut cells, &[0xAF]);
+    assert_eq!(rt; cells, [0x6B]);
+}
+
+/// Exchanges the first four bits of the one with those of the other.
+fn swap_four<T: BitStore, O: BitOrder, U: BitStore, P: BitOrder>(
+    elements: &mut [T],
+    others: &mut [U],
+)
+    requires fits { T.BITS * length elements.old ≤ max_bits }
+    requires others_fit { U.BITS * length others.old ≤ max_bits }
+{
+    let mut view = BitSliceMut::<T, O>::from_slice_mut(elements);
+    let mut other_view = BitSliceMut::<U, P>::from_slice_mut(others);
+    if let Some(mut part) = view.get_mut(0..4) {
+        if let Some(mut other) = other_view.get_mut(0..4) {
+            part.swap_with_bits(&mut other);
+        }
+    }
+}
+
+#[test]
+fn an_exchange_with_another_width_and_order(rt: HostRuntime) {
+    let mut cells = [0xF6u8];
+    let mut others = [0x9001u16];
+    swap_four::<u8, Lsb0, u16, Msb0>(&mut cells, &mut others);
+    assert_eq!(rt; cells, [0xF9]);
+    assert_eq!(rt; others, [0x6001]);
+}
+
+/// What becomes of the first five bits under a named operator with three bits of another type.
+fn combine_named(elements: &mut [u8], source: &[u16], operator: u8)
+    requires fits { 8 * length elements.old ≤ max_bits }
+    requires source_fits { 16 * length source.now ≤ max_bits }
+{
+    let mut view = BitSliceMut::<u8, Lsb0>::from_slice_mut(elements);
+    if let Some(mut part) = view.get_mut(0..5) {
+        if let Some(three) = BitSlice::<u16, Msb0>::from_slice(source).get(0..3) {
+            match operator {
+                b'&' => part.and_bits(three),
+                b'|' => part.or_bits(three),
+                _ => part.xor_bits(three),
+            }
+        }
+    }
+}
+
+#[test]
+fn named_operators_take_another_width_and_order(rt: HostRuntime) {
+    // on the right 1, 0, 1
+    let mut cells = [0xFFu8];
+    combine_named(&mut cells, &[0xBFFF], b'&');
+    assert_eq!(rt; cells, [0xE5]);
+    let mut cells = [0x42u8];
+    combine_named(&mut cells, &[0xBFFF], b'|');
+    assert_eq!(rt; cells, [0x47]);
+    let mut cells = [0x9Fu8];
+    combine_named(&mut cells, &[0xBFFF], b'^');
+    assert_eq!(rt; cells, [0x9A]);
+}
