@@ -3,7 +3,10 @@
 ghost use Rattle.std.specs.Prelude.{◌*◌, ◌≤◌, length};
 ghost use Rattle.bitvec_base.specs.Window.{max_bits};
 
-use crate::laws::{filled_by, filled_by_count, filled_with_even, inverted_twice, refilled_by};
+use crate::laws::{
+    filled_by, filled_by_count, filled_with_even, inverted_twice, refilled_by, reversed_twice,
+    rotated_back,
+};
 use bitvec_base::{BitOrder, BitStore, HiLo, Lsb0, Msb0};
 use bitvec_edit::BitEdits;
 use bitvec_slice::BitSliceMut;
@@ -124,6 +127,10 @@ fn the_laws_at_concrete_types(rt: HostRuntime) {
     let mut cells = [0x3Cu8];
     inverted_twice::<u8, HiLo>(&mut cells);
     assert_eq!(rt; cells, [0x3C]);
+    let mut cells = [0x1234u16, 0x5678];
+    reversed_twice::<u16, HiLo>(&mut cells);
+    rotated_back::<u16, Msb0>(&mut cells, 21);
+    assert_eq!(rt; cells, [0x1234, 0x5678]);
     let mut cells = [0xFFu8, 0x00];
     filled_with_even::<u8, Lsb0>(&mut cells);
     assert_eq!(rt; cells, [0x55, 0x55]);
