@@ -3,7 +3,6 @@ ghost use Rattle.std.specs.Prelude.{◌*◌, ◌≤◌, length};
 ghost use Rattle.bitvec_base.specs.Window.{max_bits};
 
 use bitvec_base::{BitOrder, BitStore, Lsb0, Msb0};
-use bitvec_edit::BitEdits;
 use bitvec_slice::{BitRef, BitSlice, BitSliceMut};
 use std::test::Fail;
 

@@ -4,7 +4,6 @@ ghost use Rattle.bitvec_base.specs.Memory.{memory_bits};
 ghost use Rattle.bitvec_base.specs.Window.{max_bits, write_at};
 
 use bitvec_base::{BitOrder, BitStore, HiLo, Lsb0, Msb0};
-use bitvec_edit::BitEdits;
 use bitvec_slice::BitSliceMut;
 
 /// Fills three elements' bits from 5 on but the last 3; in what it lends of that, sets the first

@@ -2,8 +2,8 @@ use Rattle.std.proofs.Common.{sym, subst, ap, ◌∙◌}
 use Rattle.std.specs.Prelude.{length}
 use Rattle.bitvec_elements.specs.Asked.{FillsWith}
 use Rattle.bitvec_elements.specs.AskedLaws.{callable_below-always}
-use Rattle.bitvec_slice_tests.proofs.Whole.{whole-written}
-use Rattle.bitvec_slice_tests.proofs.laws.filled_by.Goals as goal
+use Rattle.bitvec_edit_tests.proofs.Whole.{whole-written}
+use Rattle.bitvec_edit_tests.proofs.laws.filled_by.Goals as goal
 
 pub fill_with-requires : goal.fill_with-requires
 fill_with-requires g c = callable_below-always _ _ _ c.requires.callable

@@ -2,8 +2,8 @@ use Rattle.std.specs.Prelude.{ℕ, ◌%◌, ◌==◌, Bool, map}
 use Rattle.std.specs.List.{range_with_len}
 use Rattle.std.proofs.Common.{rules, ap, ◌∙◌}
 use Rattle.bitvec_elements.specs.AskedLaws.{filled-by}
-use Rattle.bitvec_slice_tests.proofs.Whole.{whole-written}
-use Rattle.bitvec_slice_tests.proofs.laws.filled_with_even.Goals as goal
+use Rattle.bitvec_edit_tests.proofs.Whole.{whole-written}
+use Rattle.bitvec_edit_tests.proofs.laws.filled_with_even.Goals as goal
 
 pub returns : goal.returns
 returns g c =

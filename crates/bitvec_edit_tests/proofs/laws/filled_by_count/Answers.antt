@@ -4,9 +4,9 @@ use Rattle.std.proofs.Common.{arith, rules, sym, ap, ◌∙◌}
 use Rattle.std.proofs.lemmas.List.{length-append}
 use Rattle.std.proofs.lemmas.List.FromFn.{map-range_with_len_more}
 use Rattle.bitvec_elements.specs.AskedLaws.{callable_below-by, filled-keeps}
-use Rattle.bitvec_slice_tests.proofs.Whole.{whole-written}
-use Rattle.bitvec_slice_tests.specs.contracts.laws.fn.filled_by_count.fill_with as closure
-use Rattle.bitvec_slice_tests.proofs.laws.filled_by_count.Goals as goal
+use Rattle.bitvec_edit_tests.proofs.Whole.{whole-written}
+use Rattle.bitvec_edit_tests.specs.contracts.laws.fn.filled_by_count.fill_with as closure
+use Rattle.bitvec_edit_tests.proofs.laws.filled_by_count.Goals as goal
 
 abbrev third : ℕ → Bool
 third i = (i + 1) % 3 == 0

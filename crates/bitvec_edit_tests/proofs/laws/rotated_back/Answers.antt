@@ -2,7 +2,7 @@ use Rattle.std.specs.Prelude.{◌≤◌}
 use Rattle.std.proofs.Common.{sym, subst, ◌∙◌}
 use Rattle.bitvec_edit.specs.UndoLaws.{rotated-back}
 use Rattle.bitvec_slice.specs.ViewLaws.{length-bits_of_mut}
-use Rattle.bitvec_slice_tests.proofs.laws.rotated_back.Goals as goal
+use Rattle.bitvec_edit_tests.proofs.laws.rotated_back.Goals as goal
 
 pub returns : goal.returns
 returns g c =

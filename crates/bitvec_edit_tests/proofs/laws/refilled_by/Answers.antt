@@ -2,8 +2,8 @@ use Rattle.std.proofs.Common.{sym, subst, ap, ◌∙◌}
 use Rattle.std.specs.Prelude.{length}
 use Rattle.bitvec_elements.specs.Asked.{RefillsWith}
 use Rattle.bitvec_elements.specs.AskedLaws.{callable_on_bits-always}
-use Rattle.bitvec_slice_tests.proofs.Whole.{whole-written}
-use Rattle.bitvec_slice_tests.proofs.laws.refilled_by.Goals as goal
+use Rattle.bitvec_edit_tests.proofs.Whole.{whole-written}
+use Rattle.bitvec_edit_tests.proofs.laws.refilled_by.Goals as goal
 
 pub for_each-requires : goal.for_each-requires
 for_each-requires g c = callable_on_bits-always _ _ _ c.requires.callable

@@ -1,0 +1,10 @@
+//! Callers of the edits of views, and what no clause of them says.
+#![tactic(auto)]
+
+#[cfg(test)]
+mod asked;
+pub mod laws;
+#[cfg(test)]
+mod moves;
+#[cfg(test)]
+mod transfers;
