@@ -10,7 +10,8 @@ use Rattle.std.proofs.lemmas.Nat.{div_below, mod_below, div-mul-add, mod-mul-add
 use Rattle.bitvec_base.specs.Memory.{place_of, memory_bits, element_bits}
 use Rattle.bitvec_base.specs.Order.{Permutes, mask_of}
 use Rattle.bitvec_base.specs.MaskLaws.{mask_of-lacks, mask_of-has, mask_of-below}
-use Rattle.bitvec_base.specs.Window.{write_at}
+use Rattle.bitvec_base.specs.Window.{IsWithin, write_at}
+use Rattle.bitvec_base.specs.declared.window.Window.{Window}
 use Rattle.bitvec_base.specs.WriteLaws.{length-slice_range, get-slice_range, length-write_at, get-write_at_below, get-write_at_inside, get-write_at_above}
 
 pub length-memory_bits : (b : ℕ) (at : ℕ → ℕ → ℕ) (xs : List ℕ) → length (memory_bits b at xs) ≡ b * length xs
@@ -206,3 +207,11 @@ element-xor_mask b at p v from to le fits =
     let none = mask_of-lacks b (at b) p from to le fits i below out in
     let small = bit_at-lt v (at b i) in
     bit_at_xor v m (at b i) ∙ ap (λ (c : ℕ). (bit_at v (at b i) + c) % 2) none ∙ (let still : (bit_at v (at b i) + 0) % 2 ≡ bit_at v (at b i) = omega arith in still))
+
+-- a window of a memory is one of its bits
+pub within-bits : (b : ℕ) (at : ℕ → ℕ → ℕ) (xs : List ℕ) (window : Window) → IsWithin window (b * length xs) → IsWithin window (length (memory_bits b at xs))
+within-bits b at xs window within = subst (IsWithin window) (sym (length-memory_bits b at xs)) within
+
+-- the same of elements that are seen by their numbers
+pub within-elements : {T : Type 0} (b : ℕ) (at : ℕ → ℕ → ℕ) (value : T → ℕ) (xs : List T) (window : Window) → IsWithin window (b * length xs) → IsWithin window (length (memory_bits b at (map value xs)))
+within-elements b at value xs window within = within-bits b at (map value xs) window (subst (λ (n : ℕ). IsWithin window (b * n)) (sym (length-map xs value)) within)

@@ -13,13 +13,15 @@ use bitvec_base::{BitOrder, BitStore};
 use bitvec_slice::{BitSlice, BitSliceMut};
 use std::ops::Range;
 
-/// The crate's edits of a `&mut BitSlice` that move its bits or take those of another view, which
-/// may have any element type and order.
+/// The crate's edits of a `&mut BitSlice` that move its bits, take those of another view, which may
+/// have any element type and order, or ask a closure for them. Indices and amounts are in bits.
 pub trait BitEdits {
+    // The bits of the view, and how many there are.
     ghost bits: { Self → List Bool };
 
     ghost len: { Self → ℕ };
 
+    // Holds of the view before and after a call that gave it these bits and left all others.
     ghost writes: { Self → Self → List Bool → Type 0 };
 
     /// Makes the bit at an index `bit`, and gives the old one. Condition: the index is below `len`.

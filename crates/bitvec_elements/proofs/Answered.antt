@@ -6,14 +6,9 @@ use Rattle.std.proofs.Common.{arith, sym, ◌∙◌, ap, subst}
 use Rattle.std.proofs.lemmas.List.{length-append, length-map}
 use Rattle.bitvec_base.specs.declared.window.Window.{Window}
 use Rattle.bitvec_base.specs.Memory.{memory_bits}
-use Rattle.bitvec_base.specs.MemoryLaws.{length-memory_bits}
 use Rattle.bitvec_base.specs.Window.{IsWithin, window_of, write_at, write_window}
 use Rattle.bitvec_base.specs.WindowLaws.{length-window, part-written}
 use Rattle.bitvec_base.specs.WriteLaws.{length-write_at, write_at-nil, write_at-next, set-is_write, get-slice_range, get-write_at_above}
-
--- a window of some elements is one of their bits
-pub within-memory : {T : Type 0} (b : ℕ) (at : ℕ → ℕ → ℕ) (value : T → ℕ) (xs : List T) (window : Window) → IsWithin window (b * length xs) → IsWithin window (length (memory_bits b at (map value xs)))
-within-memory b at value xs window within = subst (IsWithin window) (sym (length-memory_bits b at (map value xs) ∙ ap (λ (n : ℕ). b * n) (length-map xs value))) within
 
 -- one more bit after those that were written
 next-written : (before : List Bool) (window : Window) (new : List Bool) (i : ℕ) (bit : Bool) → IsWithin window (length before) → length new ≡ i → i < window.len

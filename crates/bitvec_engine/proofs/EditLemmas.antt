@@ -1,15 +1,9 @@
 -- An edit of a window's list after another, and an edit of a part of it.
-use Rattle.std.specs.Prelude.{◌≡◌, ℕ, ◌+◌, ◌-◌, ◌*◌, ◌≤◌, List, length, slice_range}
-use Rattle.std.proofs.Common.{arith, sym, ◌∙◌, ap, subst}
+use Rattle.std.specs.Prelude.{◌≡◌, ℕ, ◌+◌, ◌-◌, ◌≤◌, List, length, slice_range}
+use Rattle.std.proofs.Common.{arith, ◌∙◌, ap}
 use Rattle.bitvec_base.specs.declared.window.Window.{Window}
-use Rattle.bitvec_base.specs.Memory.{memory_bits}
-use Rattle.bitvec_base.specs.MemoryLaws.{length-memory_bits}
 use Rattle.bitvec_base.specs.Window.{IsWithin, window_of, write_at, write_window}
 use Rattle.bitvec_base.specs.WindowLaws.{window-written, window-rewritten, part-of_window, part-written}
-
--- a window of a memory lies in its list of bits
-pub memory-within : (b : ℕ) (at : ℕ → ℕ → ℕ) (xs : List ℕ) (window : Window) → IsWithin window (b * length xs) → IsWithin window (length (memory_bits b at xs))
-memory-within b at xs window within = subst (λ (n : ℕ). IsWithin window n) (sym (length-memory_bits b at xs)) within
 
 -- the window holds a list, and the list is edited
 pub edit-next : {X : Type 0} (before now after : List X) (window : Window) (list : List X) (edit : List X → List X) → IsWithin window (length before) → length list ≡ window.len → length (edit list) ≡ window.len → now ≡ write_window before window list → after ≡ write_window now window (edit (window_of now window)) → after ≡ write_window before window (edit list)

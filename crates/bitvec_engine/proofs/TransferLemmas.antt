@@ -1,18 +1,14 @@
 -- A window that is written front to back, a bit at a time.
 use Rattle.std.specs.Prelude.{◌≡◌, ℕ, ◌+◌, ◌*◌, ◌<◌, Bool, false, List, [], ◌∷◌, ◌++◌, length, take, slice_set, slice_index_or}
-use Rattle.std.proofs.Common.{arith, rules, sym, ◌∙◌, ap, subst}
+use Rattle.std.proofs.Common.{arith, rules, sym, ◌∙◌, ap}
 use Rattle.std.proofs.lemmas.List.{same_lists, places}
 use Rattle.bitvec_base.specs.declared.window.Window.{Window}
 use Rattle.bitvec_base.specs.Memory.{memory_bits}
-use Rattle.bitvec_base.specs.MemoryLaws.{length-memory_bits}
+use Rattle.bitvec_base.specs.MemoryLaws.{within-bits}
 use Rattle.bitvec_base.specs.WindowLaws.{length-window}
 use Rattle.bitvec_base.specs.Window.{IsWithin, window_of, write_at, write_window}
 use Rattle.bitvec_base.specs.WriteLaws.{length-write_at, write_at-nil, write_at-next, get-slice_range, get-write_at_above}
 use Rattle.bitvec_engine.proofs.PartLemmas.{window-set}
-
--- a window of a memory is one of its bits
-pub within-bits : (b : ℕ) (at : ℕ → ℕ → ℕ) (xs : List ℕ) (window : Window) → IsWithin window (b * length xs) → IsWithin window (length (memory_bits b at xs))
-within-bits b at xs window within = subst (IsWithin window) (sym (length-memory_bits b at xs)) within
 
 -- a window's list is as long as the window
 pub window-long : (b : ℕ) (at : ℕ → ℕ → ℕ) (xs : List ℕ) (window : Window) → IsWithin window (b * length xs) → length (window_of (memory_bits b at xs) window) ≡ window.len

@@ -16,8 +16,10 @@ use bitvec_slice::BitSlice;
 use std::cmp::Ordering;
 
 /// The questions that the crate's `BitSlice` answers about its bits, for both view types. A needle,
-/// or what a view is compared with, may have any element type and order.
+/// or what a view is compared with, may have any element type and order. Indices and counts are in
+/// bits.
 pub trait BitQueries<T: BitStore, O: BitOrder> {
+    // The bits of the view.
     ghost bits: { Self → List Bool };
 
     /// A shared view of the same bits.

@@ -19,8 +19,7 @@ fn right_lies<D: CellsRead>(right: &D, window: Window) -> bool
     ensures test { result ≡ lies_in window (D.Elem.BITS * length (D.numbers right.now)) }
     ensures within { IsTrue result ↔ IsWithin window (D.Elem.BITS * length (D.numbers right.now)) }
 {
-    let bits = right.len() * D::Elem::BITS as usize;
-    window.start <= bits && window.len <= bits - window.start
+    window.lies_in(right.len() * D::Elem::BITS as usize)
 }
 
 /// Copies the bits of a right window to a part of the memory. Condition: each memory has at most

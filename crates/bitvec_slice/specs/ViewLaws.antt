@@ -3,7 +3,7 @@ use Rattle.std.specs.Prelude.{◌≡◌, ℕ, ◌+◌, ◌-◌, ◌*◌, ◌≤�
 use Rattle.std.proofs.Common.{arith, rules, sym, ◌∙◌, ap}
 use Rattle.std.proofs.lemmas.List.{length-map, places, same_lists}
 use Rattle.bitvec_base.specs.Memory.{memory_bits}
-use Rattle.bitvec_base.specs.MemoryLaws.{length-memory_bits}
+use Rattle.bitvec_base.specs.MemoryLaws.{length-memory_bits, within-elements}
 use Rattle.bitvec_base.specs.Window.{IsWithin, window_of}
 use Rattle.bitvec_base.specs.WindowLaws.{length-window, part-of_window}
 use Rattle.bitvec_base.specs.declared.window.Window.{Window}
@@ -17,17 +17,10 @@ use Rattle.bitvec_slice.specs.declared.view_mut.BitSliceMut.{BitSliceMut}
 pub range-all : {X : Type 0} (list : List X) (n : ℕ) → n ≡ length list → slice_range list 0 (0 + n) ≡ list
 range-all list n h = same_lists _ _ (search (rules, places)) (λ k d inside. grind (arith, places))
 
--- a window that lies in some elements lies in their bits
-within_elements : {T : Type 0} (b : ℕ) (at : ℕ → ℕ → ℕ) (value : T → ℕ) (xs : List T) (window : Window) → window.start + window.len ≤ b * length xs → IsWithin window (length (memory_bits b at (map value xs)))
-within_elements b at value xs window inside =
-    let bits = length-memory_bits b at (map value xs) in
-    let same = ap (λ (n : ℕ). b * n) (length-map xs value) in
-    record { start = omega arith; len = omega arith }
-
 module _ {T O : Type 0} {t : Store T} {o : Order O} where
   pub within_memory : (v : BitSlice T O t o) → IsWithin (window_in v) (length (memory_of v))
   unfolding memory_of
-  within_memory v = within_elements t.BITS o.at t.value v.elements.now (window_in v) v.inside
+  within_memory v = within-elements t.BITS o.at t.value v.elements.now (window_in v) (let inside = v.inside in record { start = omega arith; len = omega arith })
 
   pub length-bits_of : (v : BitSlice T O t o) → length (bits_of v) ≡ v.len
   unfolding bits_of
@@ -47,7 +40,7 @@ module _ {T O : Type 0} {t : Store T} {o : Order O} where
 
   pub within_memory_mut : (v : BitSliceMut T O t o) → IsWithin (window_in_mut v) (length (memory_of_mut v))
   unfolding memory_of_mut
-  within_memory_mut v = within_elements t.BITS o.at t.value v.elements.now (window_in_mut v) v.inside
+  within_memory_mut v = within-elements t.BITS o.at t.value v.elements.now (window_in_mut v) (let inside = v.inside in record { start = omega arith; len = omega arith })
 
   pub length-bits_of_mut : (v : BitSliceMut T O t o) → length (bits_of_mut v) ≡ v.len
   unfolding bits_of_mut

@@ -1,4 +1,4 @@
-use Rattle.bitvec_engine.proofs.TransferLemmas.{within-bits}
+use Rattle.bitvec_base.specs.MemoryLaws.{within-bits}
 use Rattle.bitvec_engine.proofs.CombineLemmas.{window-past}
 use Rattle.bitvec_engine.proofs.combine.bit_or_zero.Goals as goal
 

@@ -2,7 +2,8 @@ use Rattle.std.proofs.Common.{arith, rules, sym, ◌∙◌, ap, ◌≡◌, lengt
 use Rattle.bitvec_base.specs.Memory.{memory_bits}
 use Rattle.bitvec_base.specs.Window.{window_of}
 use Rattle.bitvec_engine.specs.Operator.{operator}
-use Rattle.bitvec_engine.proofs.TransferLemmas.{within-bits, written-none, written-all}
+use Rattle.bitvec_base.specs.MemoryLaws.{within-bits}
+use Rattle.bitvec_engine.proofs.TransferLemmas.{written-none, written-all}
 use Rattle.bitvec_engine.proofs.CombineLemmas.{combined-long, combined-next, min-next}
 use Rattle.bitvec_engine.proofs.combine.bits_op.Goals as goal
 

@@ -2,14 +2,15 @@ use Rattle.std.proofs.Common.{◌≡◌, ◌+◌, ◌-◌, Bool, false, List, le
 use Rattle.bitvec_base.specs.Memory.{memory_bits}
 use Rattle.bitvec_base.specs.Window.{window_of, write_at, write_window}
 use Rattle.bitvec_base.specs.WindowLaws.{length-window, window-kept}
-use Rattle.bitvec_engine.proofs.EditLemmas.{memory-within, edit-next}
+use Rattle.bitvec_base.specs.MemoryLaws.{within-bits}
+use Rattle.bitvec_engine.proofs.EditLemmas.{edit-next}
 use Rattle.bitvec_engine.proofs.MoveLemmas.{length-copied, copy-none, copy-descending}
 use Rattle.bitvec_engine.proofs.moves.copy_descending.Goals as goal
 
 pub loop-index-init : goal.loop-index-init
 loop-index-init g c =
     let before = memory_bits g.C.Elem.BitStore.BITS g.O.BitOrder.at (g.C.CellsRead.numbers c.args.cells.now) in
-    let within = memory-within g.C.Elem.BitStore.BITS g.O.BitOrder.at (g.C.CellsRead.numbers c.args.cells.now) c.args.window c.requires.within in
+    let within = within-bits g.C.Elem.BitStore.BITS g.O.BitOrder.at (g.C.CellsRead.numbers c.args.cells.now) c.args.window c.requires.within in
     let long = length-window before c.args.window within in
     let many = c.args.to - c.args.from in
     record {
@@ -24,7 +25,7 @@ loop-index-init g c =
 copied : (g : _) (c : goal.After-copy_bit g) → let before = memory_bits g.C.Elem.BitStore.BITS g.O.BitOrder.at (g.C.CellsRead.numbers c.args.cells.now) in let list = window_of before c.args.window in memory_bits g.C.Elem.BitStore.BITS g.O.BitOrder.at (g.C.CellsRead.numbers c.copy_bit.new.cells) ≡ write_window before c.args.window (write_at list (c.args.dest + (c.loop-index.index - 1)) (slice_range list (c.args.from + (c.loop-index.index - 1)) c.args.to))
 copied g c =
     let before = memory_bits g.C.Elem.BitStore.BITS g.O.BitOrder.at (g.C.CellsRead.numbers c.args.cells.now) in
-    let within = memory-within g.C.Elem.BitStore.BITS g.O.BitOrder.at (g.C.CellsRead.numbers c.args.cells.now) c.args.window c.requires.within in
+    let within = within-bits g.C.Elem.BitStore.BITS g.O.BitOrder.at (g.C.CellsRead.numbers c.args.cells.now) c.args.window c.requires.within in
     let from = c.args.from in
     let to = c.args.to in
     let dest = c.args.dest in

@@ -5,7 +5,8 @@ use Rattle.bitvec_base.specs.Window.{window_of}
 use Rattle.bitvec_base.specs.Lists.{same_bits, stands_at}
 use Rattle.bitvec_base.specs.ListsLaws.{stands_in-found}
 use borrow.Author.Count.{below_more}
-use Rattle.bitvec_engine.proofs.TransferLemmas.{within-bits, window-long}
+use Rattle.bitvec_base.specs.MemoryLaws.{within-bits}
+use Rattle.bitvec_engine.proofs.TransferLemmas.{window-long}
 use Rattle.bitvec_engine.proofs.SearchLemmas.{stands-part, stands-nowhere, cost-more}
 use Rattle.bitvec_engine.proofs.search.contains.Goals as goal
 

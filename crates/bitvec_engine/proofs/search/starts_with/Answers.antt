@@ -1,7 +1,8 @@
 use Rattle.std.proofs.Common.{arith, sym}
 use Rattle.bitvec_base.specs.declared.window.Window.{Window}
 use Rattle.bitvec_base.specs.ListsLaws.{is_prefix-long}
-use Rattle.bitvec_engine.proofs.TransferLemmas.{within-bits, window-long}
+use Rattle.bitvec_base.specs.MemoryLaws.{within-bits}
+use Rattle.bitvec_engine.proofs.TransferLemmas.{window-long}
 use Rattle.bitvec_engine.proofs.SearchLemmas.{prefix-part}
 use Rattle.bitvec_engine.proofs.search.starts_with.Goals as goal
 

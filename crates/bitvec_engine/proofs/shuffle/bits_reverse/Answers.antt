@@ -4,14 +4,15 @@ use Rattle.std.proofs.lemmas.List.Edits.{length-swap}
 use Rattle.bitvec_base.specs.Memory.{memory_bits}
 use Rattle.bitvec_base.specs.Window.{window_of, write_at, write_window}
 use Rattle.bitvec_base.specs.WindowLaws.{length-window, window-kept}
-use Rattle.bitvec_engine.proofs.EditLemmas.{memory-within, edit-next}
+use Rattle.bitvec_base.specs.MemoryLaws.{within-bits}
+use Rattle.bitvec_engine.proofs.EditLemmas.{edit-next}
 use Rattle.bitvec_engine.proofs.ReverseLemmas.{length-mirrored, mirror-none, mirror-step, mirror-all}
 use Rattle.bitvec_engine.proofs.shuffle.bits_reverse.Goals as goal
 
 pub loop-low-init : goal.loop-low-init
 loop-low-init g c =
     let before = memory_bits g.C.Elem.BitStore.BITS g.O.BitOrder.at (g.C.CellsRead.numbers c.args.cells.now) in
-    let within = memory-within g.C.Elem.BitStore.BITS g.O.BitOrder.at (g.C.CellsRead.numbers c.args.cells.now) c.args.window c.requires.within in
+    let within = within-bits g.C.Elem.BitStore.BITS g.O.BitOrder.at (g.C.CellsRead.numbers c.args.cells.now) c.args.window c.requires.within in
     let long = length-window before c.args.window within in
     record {
       ends = omega arith;
@@ -28,7 +29,7 @@ exchanged : (g : _) (c : goal.After-swap_bits g) → let before = memory_bits g.
 exchanged g c =
     let inv = c.loop-low.invariant in
     let before = memory_bits g.C.Elem.BitStore.BITS g.O.BitOrder.at (g.C.CellsRead.numbers c.args.cells.now) in
-    let within = memory-within g.C.Elem.BitStore.BITS g.O.BitOrder.at (g.C.CellsRead.numbers c.args.cells.now) c.args.window c.requires.within in
+    let within = within-bits g.C.Elem.BitStore.BITS g.O.BitOrder.at (g.C.CellsRead.numbers c.args.cells.now) c.args.window c.requires.within in
     let list = window_of before c.args.window in
     let long = length-window before c.args.window within in
     let low = c.loop-low.low in
@@ -57,6 +58,6 @@ pub returns-clause-bits : goal.returns-clause-bits
 returns-clause-bits g c =
     let inv = c.loop-low.invariant in
     let before = memory_bits g.C.Elem.BitStore.BITS g.O.BitOrder.at (g.C.CellsRead.numbers c.args.cells.now) in
-    let within = memory-within g.C.Elem.BitStore.BITS g.O.BitOrder.at (g.C.CellsRead.numbers c.args.cells.now) c.args.window c.requires.within in
+    let within = within-bits g.C.Elem.BitStore.BITS g.O.BitOrder.at (g.C.CellsRead.numbers c.args.cells.now) c.args.window c.requires.within in
     let long = length-window before c.args.window within in
     inv.bits ∙ ap (λ (l : List Bool). write_window before c.args.window l) (mirror-all (window_of before c.args.window) c.loop-low.low c.loop-low.high (inv.ends ∙ sym long) inv.order (omega arith))

@@ -2,14 +2,15 @@ use Rattle.std.proofs.Common.{Bool, List, length, reverse, slice_range, arith, a
 use Rattle.bitvec_base.specs.Memory.{memory_bits}
 use Rattle.bitvec_base.specs.Window.{window_of, write_at, write_window}
 use Rattle.bitvec_base.specs.WindowLaws.{length-window}
-use Rattle.bitvec_engine.proofs.EditLemmas.{memory-within, edit-next}
+use Rattle.bitvec_base.specs.MemoryLaws.{within-bits}
+use Rattle.bitvec_engine.proofs.EditLemmas.{edit-next}
 use Rattle.bitvec_engine.proofs.ReverseLemmas.{length-turned, rotated}
 use Rattle.bitvec_engine.proofs.shuffle.rotate_left.Goals as goal
 
 pub returns-clause-bits : goal.returns-clause-bits
 returns-clause-bits g c =
     let before = memory_bits g.C.Elem.BitStore.BITS g.O.BitOrder.at (g.C.CellsRead.numbers c.args.cells.now) in
-    let within = memory-within g.C.Elem.BitStore.BITS g.O.BitOrder.at (g.C.CellsRead.numbers c.args.cells.now) c.args.window c.requires.within in
+    let within = within-bits g.C.Elem.BitStore.BITS g.O.BitOrder.at (g.C.CellsRead.numbers c.args.cells.now) c.args.window c.requires.within in
     let len = c.args.window.len in
     let by = c.args.by in
     let list = window_of before c.args.window in

@@ -1,7 +1,8 @@
 use Rattle.std.proofs.Common.{arith, rules, sym, ◌∙◌, ◌≡◌, false, slice_index_or}
 use Rattle.bitvec_base.specs.Memory.{memory_bits}
 use Rattle.bitvec_base.specs.Window.{window_of}
-use Rattle.bitvec_engine.proofs.TransferLemmas.{within-bits, window-long, written-none, written-next, written-all}
+use Rattle.bitvec_base.specs.MemoryLaws.{within-bits}
+use Rattle.bitvec_engine.proofs.TransferLemmas.{window-long, written-none, written-next, written-all}
 use Rattle.bitvec_engine.proofs.transfer.bits_copy.Goals as goal
 
 pub loop-index-init : goal.loop-index-init

@@ -1,5 +1,6 @@
 use Rattle.std.proofs.Common.{arith, rules, sym, ◌∙◌, ap, length, false}
-use Rattle.bitvec_engine.proofs.TransferLemmas.{within-bits, window-long, written-none, written-next, written-rest, written-all}
+use Rattle.bitvec_base.specs.MemoryLaws.{within-bits}
+use Rattle.bitvec_engine.proofs.TransferLemmas.{window-long, written-none, written-next, written-rest, written-all}
 use Rattle.bitvec_engine.proofs.transfer.bits_swap.Goals as goal
 
 pub loop-index-init : goal.loop-index-init
