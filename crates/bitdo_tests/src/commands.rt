@@ -1,5 +1,6 @@
 //! What each command answers and leaves.
 use crate::support::{expect, line};
+use std::process::Abort;
 use std::test::Fail;
 
 #[test]
@@ -37,55 +38,66 @@ fn commands_work_on_their_own_bits(rt: HostRuntime) -> Result<(), Fail> {
     Ok(())
 }
 
+/// Asserts that the lines of one run are answered so, and that it leaves this memory.
+fn expect_run<R: Abort + AllocGlobal>(
+    rt: &R,
+    args: &str,
+    lines: &[(&str, &str)],
+    memory: &str,
+) -> Result<(), Fail> {
+    let mut input = String::new(rt.alloc());
+    let mut printed = String::new(rt.alloc());
+    for (line, reply) in lines {
+        input.push_str(line)?;
+        input.push('\n')?;
+        printed.push_str(reply)?;
+        printed.push('\n')?;
+    }
+    printed.push_str(memory)?;
+    printed.push('\n')?;
+    expect(rt, args, input.as_str(), 0, printed.as_str())
+}
+
 #[test]
 fn commands_ask_beside_a_right_window(rt: HostRuntime) -> Result<(), Fail> {
-    for (command, printed) in [
-        ("0 5 last_one", "index 3\n= 0B\n"),
-        ("0 2 first_zero", "index none\n= 0B\n"),
-        ("0 5 starts_with 0 2", "bit 1\n= 0B\n"),
-        ("0 5 ends_with 0 8", "bit 0\n= 0B\n"),
-        ("0 5 contains 1 2", "bit 1\n= 0B\n"),
-        ("0 5 contains 7 2", "refused right\n= 0B\n"),
-        ("0 2 eq 0 2", "bit 1\n= 0B\n"),
-        ("0 2 eq 0 3", "bit 0\n= 0B\n"),
-        ("0 2 cmp 0 2", "order equal\n= 0B\n"),
-        ("0 4 cmp 0 4", "order greater\n= 0B\n"),
-        ("0 4 and 0 2", "done\n= 03\n"),
-        ("0 4 or 1 3", "done\n= 0B\n"),
-        ("1 4 or 0 3", "done\n= 0F\n"),
-        ("0 0 all", "bit 1\n= 0B\n"),
-        ("0 0 any", "bit 0\n= 0B\n"),
-    ] {
-        expect(&rt, "8 lsb0 0B 03 0 5", command, 0, printed)?;
-    }
-    Ok(())
+    let lines = [
+        ("0 5 last_one", "index 3"),
+        ("0 2 first_zero", "index none"),
+        ("0 5 starts_with 0 2", "bit 1"),
+        ("0 5 ends_with 0 8", "bit 0"),
+        ("0 5 contains 1 2", "bit 1"),
+        ("0 5 contains 7 2", "refused right"),
+        ("0 0 all", "bit 1"),
+        ("0 0 any", "bit 0"),
+        ("0 2 eq 0 2", "bit 1"),
+        ("0 2 eq 0 3", "bit 0"),
+        ("0 2 cmp 0 2", "order equal"),
+        ("0 4 cmp 0 4", "order greater"),
+    ];
+    expect_run(&rt, "8 lsb0 0B 03 0 5", &lines, "= 0B")
 }
 
 #[test]
 fn commands_change_by_a_right_window(rt: HostRuntime) -> Result<(), Fail> {
-    let copies = "0 8 copy_from 0 3\n0 8 copy_from 6 3\n0 3 copy_from 0 3\n";
-    expect(
-        &rt,
-        "8 msb0 F0 A0 0 8",
-        copies,
-        0,
-        "refused length\nrefused right\ndone\n= B0\n",
-    )?;
-    let more = "0 8 xor 0 3\n0 8 cmp 0 8\n0 8 copy_within 2 9 0\n0 8 copy_within 2 6 5\n";
-    expect(
-        &rt,
-        "8 msb0 B0 A0 0 8",
-        more,
-        0,
-        "done\norder less\nrefused source\nrefused dest\n= 10\n",
-    )?;
-    expect(
-        &rt,
-        "8 msb0 10 A0 0 8",
-        "0 8 rotate_left 3\n",
-        0,
-        "done\n= 80\n",
-    )
+    let lines = [
+        ("0 8 copy_from 0 3", "refused length"),
+        ("0 8 copy_from 6 3", "refused right"),
+        ("0 3 copy_from 0 3", "done"),
+        ("0 8 xor 0 3", "done"),
+        ("0 8 cmp 0 8", "order less"),
+        ("0 8 copy_within 2 9 0", "refused source"),
+        ("0 8 copy_within 2 6 5", "refused dest"),
+        ("0 8 rotate_left 3", "done"),
+    ];
+    expect_run(&rt, "8 msb0 F0 A0 0 8", &lines, "= 80")?;
+    for (command, printed) in [
+        ("0 4 and 0 2", "done\n= 03\n"),
+        ("0 4 or 1 3", "done\n= 0B\n"),
+        ("1 4 or 0 3", "done\n= 0F\n"),
+    ] {
+        expect(&rt, "8 lsb0 0B 03 0 5", command, 0, printed)?;
+    }
+    Ok(())
 }
 
 /// Each command's word, and how many arguments it takes.

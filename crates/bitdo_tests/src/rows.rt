@@ -6,32 +6,43 @@ use std::test::Fail;
 fn a_run_prints_its_replies_and_the_memory(rt: HostRuntime) -> Result<(), Fail> {
     let nibbles = "0 4 set 0 1\n4 8 set 1 1\n8 12 set 2 1\n12 16 set 3 1\n0 16 count_ones\n";
     let refused = "0 4 count_ones\n1 5 get 0\n0 4 get 4\n";
-    for (args, input, printed) in [
+    for (args, input, status, printed) in [
         (
             "8 lsb0 00,00 - 0 16",
             nibbles,
+            0,
             "done\ndone\ndone\ndone\ncount 4\n= 21,84\n",
         ),
         (
             "8 lsb0 FF - 3 4",
             refused,
+            0,
             "count 4\nrefused range\nrefused index\n= FF\n",
         ),
-        ("8 hilo 10 - 0 8", "0 8 get 0\n", "bit 1\n= 10\n"),
-        ("8 hilo 10 - 1 7", "0 7 get 0\n", "bit 0\n= 10\n"),
+        ("8 hilo 10 - 0 8", "0 8 get 0\n", 0, "bit 1\n= 10\n"),
         (
             "8 lsb0 - - 0 0",
             "0 0 count_ones\n0 1 get 0\n",
+            0,
             "count 0\nrefused range\n= -\n",
         ),
+        ("8 lsb0 00,00 - 10 7", "", 3, "run error: window\n"),
+        (
+            "8 lsb0 00 - 0 8",
+            "0 8 set 0 1\n0 8 set 0 2\n",
+            2,
+            "bad line 2\n",
+        ),
+        ("8 hilo 10 - 1 7", "0 7 get 0\n", 0, "bit 0\n= 10\n"),
         (
             "8 lsb0 00,00 - 16 0",
             "0 0 count_ones\n",
+            0,
             "count 0\n= 00,00\n",
         ),
-        ("8 lsb0 00 FF,00 0 8", "", "= 00\n"),
+        ("8 lsb0 00 FF,00 0 8", "", 0, "= 00\n"),
     ] {
-        expect(&rt, args, input, 0, printed)?;
+        expect(&rt, args, input, status, printed)?;
     }
     Ok(())
 }

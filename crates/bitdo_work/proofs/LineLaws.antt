@@ -1,8 +1,9 @@
 -- Reading the lines of a text, from its front on.
-use Rattle.std.proofs.Common.{◌≡◌, ℕ, ◌+◌, ◌<◌, Bool, true, false, ◌&&◌, nat_lt, List, [], ◌∷◌, ◌++◌, length, get_or, take, Option, Some, None, is_none, refl, sym, ap, ◌∙◌, append-nil, ◌⊎◌, ⊎_elim, inl, inr, arith}
+use Rattle.std.proofs.Common.{◌≡◌, ℕ, ◌+◌, ◌<◌, true, false, ◌&&◌, nat_lt, List, [], ◌∷◌, ◌++◌, length, get_or, take, Option, Some, None, is_none, refl, sym, ap, ◌∙◌, append-nil, arith}
 use Rattle.std.specs.List.{filter_map, list_any, position_or_len, cons_option}
 use Rattle.std.specs.Str.Lines.{lines}
-use Rattle.std.proofs.lemmas.Bool.{cases_lt}
+use borrow.Author.Count.{below_more}
+use Rattle.std.proofs.Math.Bool.{and-false}
 use Rattle.std.proofs.lemmas.Bool.Decides.{nat_tests}
 use Rattle.std.proofs.lemmas.List.{take_more, take_all, get_or_read, nil_from_length}
 use Rattle.std.proofs.lemmas.List.Elements.{filter_map-append}
@@ -13,22 +14,12 @@ use Rattle.bitdo_work.specs.Steps.{step_of, step_of_words, is_bad_line, steps_of
 
 -- the first n lines were read as these steps
 pub record HasRead (all : List (List ℕ)) (n : ℕ) (steps : List Step) : Type 0 where
-  pub good : (k : ℕ) (d : List ℕ) → k < n → is_bad_line (get_or all k d) ≡ false
+  pub good : (k : ℕ) → k < n → (d : List ℕ) → is_bad_line (get_or all k d) ≡ false
   pub read : filter_map step_of (take n all) ≡ steps
-
-pub HasRead-none : (all : List (List ℕ)) → HasRead all 0 []
-HasRead-none all = record { good = λ k d h. absurd (omega arith); read = refl }
-
-and_false : (b : Bool) → (b && false) ≡ false
-and_false true = refl
-and_false false = refl
-
-below_or_at : (k n : ℕ) → k < n + 1 → (k < n) ⊎ (k ≡ n)
-below_or_at k n h = ⊎_elim (λ l. inl l) (λ l. inr (omega arith)) (cases_lt k n)
 
 is_bad_line-step : (line : List ℕ) (step : Step) → step_of line ≡ Some step → is_bad_line line ≡ false
 unfolding is_bad_line
-is_bad_line-step line step one = ap (λ o. nat_lt 0 (length line) && is_none o) one ∙ and_false (nat_lt 0 (length line))
+is_bad_line-step line step one = ap (λ o. nat_lt 0 (length line) && is_none o) one ∙ and-false (nat_lt 0 (length line))
 
 is_bad_line-nil : is_bad_line [] ≡ false
 unfolding is_bad_line
@@ -44,11 +35,9 @@ is_bad_line-bad line some bad = ap (λ o. nat_lt 0 (length line) && is_none o) b
 
 -- the next line is good, and gives a step or nothing
 module _ (all : List (List ℕ)) (n : ℕ) (steps : List Step) (line : List ℕ) (before : HasRead all n steps) (within : n < length all) (is : line ≡ get_or all n line) where
-  more_good : is_bad_line line ≡ false → (k : ℕ) (d : List ℕ) → k < n + 1 → is_bad_line (get_or all k d) ≡ false
-  more_good here k d h = ⊎_elim
-      (λ below. before.good k d below)
-      (λ at. let same = get_or_read all n line within is d in ap (λ j. is_bad_line (get_or all j d)) at ∙ ap is_bad_line (sym same) ∙ here)
-      (below_or_at k n h)
+  more_good : is_bad_line line ≡ false → (k : ℕ) → k < n + 1 → (d : List ℕ) → is_bad_line (get_or all k d) ≡ false
+  more_good here = below_more (λ k. (d : List ℕ) → is_bad_line (get_or all k d) ≡ false) n before.good
+      (λ d. ap is_bad_line (sym (get_or_read all n line within is d)) ∙ here)
 
   more_read : (o : Option Step) → step_of line ≡ o → filter_map step_of (take (n + 1) all) ≡ steps ++ cons_option o []
   more_read o one = ap (filter_map step_of) (take_more all n line within) ∙ filter_map-append step_of (take n all) (get_or all n line ∷ [])
@@ -65,7 +54,7 @@ module _ (all : List (List ℕ)) (n : ℕ) (steps : List Step) (line : List ℕ)
 pub steps_of-HasRead : (text : List ℕ) (n : ℕ) (steps : List Step) → HasRead (lines text) n steps → n ≡ length (lines text) → steps_of text ≡ Some steps
 unfolding steps_of
 steps_of-HasRead text n steps whole all =
-    let none : list_any is_bad_line (lines text) ≡ false = list_any_none is_bad_line (lines text) (λ k d h. whole.good k d (omega arith)) in
+    let none : list_any is_bad_line (lines text) ≡ false = list_any_none is_bad_line (lines text) (λ k d h. whole.good k (omega arith) d) in
     let read : filter_map step_of (lines text) ≡ steps = ap (filter_map step_of) (sym (take_all n (lines text) (omega arith))) ∙ whole.read in
     rw (none, read) refl
 
@@ -75,6 +64,6 @@ unfolding bad_line_of
 bad_line_of-HasRead text n steps line before within is some bad =
     let here : is_bad_line (get_or (lines text) n line) ≡ true = ap is_bad_line (sym is) ∙ is_bad_line-bad line some bad in
     let first : position_or_len is_bad_line (lines text) ≡ n =
-    position_or_len_is is_bad_line (lines text) n line (omega arith) (λ k h. before.good k line h) (λ _. here) in
+    position_or_len_is is_bad_line (lines text) n line (omega arith) (λ k h. before.good k h line) (λ _. here) in
     let test : nat_lt n (length (lines text)) ≡ true = grind (arith, nat_tests) in
     rw (first, test) refl

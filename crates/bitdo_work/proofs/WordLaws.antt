@@ -1,5 +1,5 @@
 -- What the calls that cut and read words give, in the definitions' words.
-use Rattle.std.proofs.Common.{◌≡◌, ℕ, ◌^◌, ◌<◌, Bool, true, false, eqb, List, [], ◌∷◌, length, None, Result, Ok, Err, refl, sym, ◌∙◌, arith, rules}
+use Rattle.std.proofs.Common.{◌≡◌, ℕ, ◌^◌, ◌<◌, Bool, true, eqb, List, [], ◌∷◌, length, None, Result, Ok, Err, refl, sym, ◌∙◌, arith, rules}
 use Rattle.std.specs.Char.{is_ascii_digit}
 use Rattle.std.specs.List.{list_all, before_first, after_first, position_or_len}
 use Rattle.std.specs.Result.{result_ok}
@@ -21,9 +21,6 @@ number_of-parse {E} word (Ok n) h digits =
     let p : (0 < length word × (digits_value 10 word < 2 ^ 64)) × (n ≡ digits_value 10 word) = parse_digits own {E = E} 64 word (Ok n) h digits in
     grind (arith, nat_tests)
 number_of-parse word (Err e) h digits = let p = parse_digits own 64 word (Err e) h digits in grind (arith, nat_tests)
-
-pub number_of-other : (word : List ℕ) → list_all is_ascii_digit word ≡ false → number_of word ≡ None
-number_of-other word other = grind (arith, nat_tests)
 
 abbrev is_space : ℕ → Bool
 is_space byte = eqb byte 32

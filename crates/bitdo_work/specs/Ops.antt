@@ -1,23 +1,27 @@
 -- The commands, a row each: its word, and its arguments.
-use Rattle.std.specs.Prelude.{ℕ, if◌then◌else◌, List, Option, None, codes}
+use Rattle.std.specs.Prelude.{ℕ, if◌then◌else◌, List, Option, Some, None, codes}
 use Rattle.std.specs.Option.{option_map}
 use Rattle.std.specs.Str.{bytes_eq}
 use Rattle.bitvec_run.specs.declared.command.Op.{Op}
 use Rattle.bitvec_run.specs.declared.command.Op.TheVariants as op
-use Rattle.bitdo_work.specs.Words.{no_argument, one_number, one_bit, number_and_bit, two_numbers, three_numbers, one_window}
+use Rattle.bitdo_work.specs.Words.{◌>>=◌, no_argument, one_number, one_bit, number_and_bit, two_numbers, three_numbers, one_window}
 
--- one that asks without an argument
-unfoldable pub query_of : List ℕ → List (List ℕ) → Option Op
-query_of word arguments =
-    if bytes_eq word (codes "count_ones") then option_map (λ _. op.CountOnes) (no_argument arguments)
-    else if bytes_eq word (codes "count_zeros") then option_map (λ _. op.CountZeros) (no_argument arguments)
-    else if bytes_eq word (codes "first_one") then option_map (λ _. op.FirstOne) (no_argument arguments)
-    else if bytes_eq word (codes "first_zero") then option_map (λ _. op.FirstZero) (no_argument arguments)
-    else if bytes_eq word (codes "last_one") then option_map (λ _. op.LastOne) (no_argument arguments)
-    else if bytes_eq word (codes "last_zero") then option_map (λ _. op.LastZero) (no_argument arguments)
-    else if bytes_eq word (codes "any") then option_map (λ _. op.Any) (no_argument arguments)
-    else if bytes_eq word (codes "all") then option_map (λ _. op.All) (no_argument arguments)
+-- one that asks, by its word alone
+abbrev pub question_of : List ℕ → Option Op
+question_of word =
+    if bytes_eq word (codes "count_ones") then Some op.CountOnes
+    else if bytes_eq word (codes "count_zeros") then Some op.CountZeros
+    else if bytes_eq word (codes "first_one") then Some op.FirstOne
+    else if bytes_eq word (codes "first_zero") then Some op.FirstZero
+    else if bytes_eq word (codes "last_one") then Some op.LastOne
+    else if bytes_eq word (codes "last_zero") then Some op.LastZero
+    else if bytes_eq word (codes "any") then Some op.Any
+    else if bytes_eq word (codes "all") then Some op.All
     else None
+
+-- the same, without an argument
+unfoldable pub query_of : List ℕ → List (List ℕ) → Option Op
+query_of word arguments = no_argument arguments >>= λ _. question_of word
 
 -- one with a right window
 unfoldable pub right_op_of : List ℕ → List (List ℕ) → Option Op

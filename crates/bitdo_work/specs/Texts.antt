@@ -1,8 +1,8 @@
 -- What the program prints of a run.
-use Rattle.std.specs.Prelude.{ℕ, ◌-◌, ◌/◌, ◌^◌, Bool, true, false, List, [], ◌∷◌, ◌++◌, Option, Some, None, codes}
+use Rattle.std.specs.Prelude.{ℕ, zero, suc, ◌+◌, ◌-◌, ◌/◌, ◌%◌, ◌^◌, nat_lt, if◌then◌else◌, Bool, true, false, List, [], ◌∷◌, ◌++◌, Option, Some, None, codes}
 use Rattle.std.specs.declared.cmp.Ordering.{Ordering}
 use Rattle.std.specs.declared.cmp.Ordering.TheVariants.{Less, Equal, Greater}
-use Rattle.std.specs.Fmt.{decimal, digits, format_spec, padded_integral}
+use Rattle.std.specs.Fmt.{decimal}
 use Rattle.std.specs.List.{flat_map}
 use Rattle.bitvec_run.specs.declared.command.Refusal.{Refusal}
 use Rattle.bitvec_run.specs.declared.command.Refusal.TheVariants.{Range, Index, Amount, Source, Dest, Right, Length, Width}
@@ -46,9 +46,18 @@ reply_text (reply.Order order) = line_of (codes "order " ++ order_text order)
 reply_text (reply.Number number) = line_of (codes "number " ++ decimal number)
 reply_text (reply.Refused refusal) = line_of (codes "refused " ++ refusal_text refusal)
 
--- an element of `bits` bits in upper case digits, with zeros in front up to its width
+-- the upper case digit of a number below 16
+abbrev pub digit_code : ℕ → ℕ
+digit_code value = if nat_lt value 10 then 48 + value else 65 + (value - 10)
+
+-- a number's lowest `count` hexadecimal digits from the top, where digit k is `number / 16 ^ k % 16`
+unfoldable pub hexadecimal_text : ℕ → ℕ → List ℕ
+hexadecimal_text zero number = []
+hexadecimal_text (suc k) number = digit_code (number / 16 ^ k % 16) ∷ hexadecimal_text k number
+
+-- an element of `bits` bits, all of its digits
 abbrev pub element_text : ℕ → ℕ → List ℕ
-element_text bits number = padded_integral (format_spec 32 0 4 (bits / 4) (2 ^ 64 - 1)) false [] (digits 16 true number)
+element_text bits number = hexadecimal_text (bits / 4) number
 
 -- an element after another one
 abbrev pub next_text : ℕ → ℕ → List ℕ

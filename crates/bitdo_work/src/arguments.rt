@@ -1,74 +1,18 @@
 //! The words after the program's name.
-ghost use Rattle.std.specs.Prelude.{◌≡◌, ◌∷◌, [], map, string_bytes};
-ghost use Rattle.std.specs.Option.{option_map};
+ghost use Rattle.std.specs.Prelude.{◌≡◌, ◌∷◌, [], map, string_bytes, option_and_then};
+ghost use Rattle.bitdo_work.specs.Arguments.{own_request, request_of};
 
 use crate::words::parse_number;
 use bitvec_base::Window;
 
-/// How wide an element is.
-#[derive(Clone, Copy)]
-pub(crate) enum Width {
-    /// 8 bits.
-    Bits8,
-    /// 16 bits.
-    Bits16,
-    /// 32 bits.
-    Bits32,
-    /// 64 bits.
-    Bits64,
-}
-
-impl Width {
-    ghost use Rattle.bitdo_work.specs.Arguments.{width_of};
-
-    /// The width of a word.
-    fn parse(word: &str) -> Option<Width>
-        ensures { result ≡ width_of word.now }
-    {
-        match word {
-            "8" => Some(Width::Bits8),
-            "16" => Some(Width::Bits16),
-            "32" => Some(Width::Bits32),
-            "64" => Some(Width::Bits64),
-            _ => None,
-        }
-    }
-}
-
-/// Which order the bits of an element have.
-#[derive(Clone, Copy)]
-pub(crate) enum Order {
-    /// The least significant bit first.
-    Lsb0,
-    /// The most significant bit first.
-    Msb0,
-    /// The high half of each byte first.
-    HiLo,
-}
-
-impl Order {
-    ghost use Rattle.bitdo_work.specs.Arguments.{order_of};
-
-    /// The order of a word.
-    fn parse(word: &str) -> Option<Order>
-        ensures { result ≡ order_of word.now }
-    {
-        match word {
-            "lsb0" => Some(Order::Lsb0),
-            "msb0" => Some(Order::Msb0),
-            "hilo" => Some(Order::HiLo),
-            _ => None,
-        }
-    }
-}
-
-/// The six arguments, of which the memories are still text.
+/// The six arguments. All but the window are still words: the width and the order choose what runs,
+/// and the memories are read by the width.
 #[derive(Clone, Copy)]
 pub(crate) struct Arguments<'a> {
     /// WIDTH, of the elements of both memories.
-    pub(crate) width: Width,
+    pub(crate) width: &'a str,
     /// ORDER, of the bits in an element.
-    pub(crate) order: Order,
+    pub(crate) order: &'a str,
     /// MEMORY, which the run works on.
     pub(crate) memory: &'a str,
     /// RIGHT, the memory of the right windows.
@@ -78,24 +22,22 @@ pub(crate) struct Arguments<'a> {
 }
 
 impl<'a> Arguments<'a> {
-    ghost use Rattle.bitdo_work.specs.Arguments.{arguments_of, shown};
-
     /// The arguments of WIDTH, ORDER, MEMORY, RIGHT, START and LEN.
-    #[tactic(auto, unfolding(crate::specs::Arguments::arguments_of))]
+    #[tactic(auto, unfolding(crate::specs::Arguments::request_of))]
     fn from_words(
-        width: &str,
-        order: &str,
+        width: &'a str,
+        order: &'a str,
         memory: &'a str,
         right: &'a str,
         start: &str,
         len: &str,
     ) -> Option<Arguments<'a>>
-        ensures { option_map shown result
-            ≡ arguments_of (width.now ∷ order.now ∷ memory.now ∷ right.now ∷ start.now ∷ len.now ∷ []) }
+        ensures { option_and_then own_request result
+            ≡ request_of (width.now ∷ order.now ∷ memory.now ∷ right.now ∷ start.now ∷ len.now ∷ []) }
     {
         Some(Arguments {
-            width: Width::parse(width)?,
-            order: Order::parse(order)?,
+            width,
+            order,
             memory,
             right,
             window: Window {
@@ -105,9 +47,9 @@ impl<'a> Arguments<'a> {
         })
     }
 
-    /// Reads the words. None, if they aren't six or one isn't in its grammar, the memories aside.
+    /// Reads the words. None, if they aren't six, or START or LEN isn't a number.
     pub(crate) fn parse(args: &'a [String]) -> Option<Arguments<'a>>
-        ensures { option_map shown result ≡ arguments_of (map string_bytes args.now) }
+        ensures { option_and_then own_request result ≡ request_of (map string_bytes args.now) }
     {
         let [width, order, memory, right, start, len] = args else {
             return None;

@@ -1,10 +1,9 @@
 //! A memory in the arguments' notation: elements of hexadecimal digits, joined by commas.
-ghost use Rattle.std.specs.Prelude.{◌≡◌, ◌^◌, ◌<◌, ◌≤◌, IfSome, map, IfOk, Some, None, Err, IfErr, ◌⊎◌};
+ghost use Rattle.std.specs.Prelude.{◌≡◌, ◌^◌, ◌<◌, ◌≤◌, ◌⊎◌, is_some, IfSome, IfOk, IfErr, map};
 ghost use Rattle.std.specs.Char.{is_ascii_hexdigit};
 ghost use Rattle.std.specs.List.{list_all};
 ghost use Rattle.std.specs.Option.{option_map};
 ghost use Rattle.bitdo_work.specs.Elements.{hexadecimal_of, element_of, elements_of};
-ghost use Rattle.bitdo_work.specs.declared.fault.Fault.TheVariants.{Arguments, Memory};
 
 use crate::fault::Fault;
 use bitvec_base::BitStore;
@@ -40,7 +39,17 @@ fn parse_element<T: BitStore>(word: &str) -> Option<T>
     Some(T::from_u128(number))
 }
 
-/// The elements of a memory: words joined by commas, or `-` for none.
+/// Whether a text is a memory: words of elements joined by commas, or `-` for none.
+pub(crate) fn is_memory<T: BitStore>(text: &str) -> bool
+    ensures { result ≡ is_some (elements_of T.BITS text.now) }
+{
+    text == "-"
+        || text
+            .split(',')
+            .all(|word| parse_element::<T>(word).is_some())
+}
+
+/// The elements of a memory.
 pub(crate) fn parse_elements<T: BitStore, A: Allocator>(
     alloc: A,
     text: &str,

@@ -1,34 +1,28 @@
 //! Why the program made no run.
-ghost use Rattle.std.specs.Prelude.{◌≡◌};
+ghost use Rattle.std.specs.Prelude.{◌≡◌, Some};
 ghost use Rattle.bitdo_work.specs.declared.fault.Fault.TheVariants.{Run, Memory};
+ghost use Rattle.bitdo_work.specs.Faults.{status_of, fault_text};
 
 use bitvec_run::RunError;
 use std::alloc::{AllocError, AllocFailed};
-use thiserror::Error;
+use std::fmt::{self, Display, Formatter};
 
 /// What ends the program without a run. Its text is the line that is printed then.
-#[derive(Debug, Drop, Error)]
+#[derive(Debug, Drop)]
 pub(crate) enum Fault {
     /// The arguments aren't six words in their grammar.
-    #[error("bad arguments")]
     Arguments,
     /// The input can't be read, or isn't UTF-8.
-    #[error("bad input")]
     Input,
     /// The first line that isn't in the grammar, counted from 1.
-    #[error("bad line {0}")]
     Line(usize),
     /// The run wasn't made.
-    #[error("{0}")]
     Run(RunError),
     /// There was no room for the memory, the input or the steps.
-    #[error("run error: memory")]
     Memory,
 }
 
 impl Fault {
-    ghost use Rattle.bitdo_work.specs.Faults.{status_of};
-
     /// The status that the program ends with.
     pub(crate) fn status(&self) -> u8
         ensures { result ≡ status_of self.now }
@@ -36,6 +30,23 @@ impl Fault {
         match self {
             Fault::Arguments | Fault::Input | Fault::Line(_) => 2,
             Fault::Run(_) | Fault::Memory => 3,
+        }
+    }
+}
+
+impl Display for Fault {
+    ghost output = { λ fault. Some (fault_text fault) };
+
+    fn fmt<W: fmt::Write>(&self, formatter: &mut Formatter<W>) -> fmt::Result {
+        match self {
+            Fault::Arguments => formatter.write_str("bad arguments"),
+            Fault::Input => formatter.write_str("bad input"),
+            Fault::Line(number) => write!(formatter, "bad line {number}"),
+            Fault::Run(RunError::Window) => formatter.write_str("run error: window"),
+            Fault::Run(RunError::Right) => formatter.write_str("run error: right"),
+            Fault::Run(RunError::Memory) | Fault::Memory => {
+                formatter.write_str("run error: memory")
+            }
         }
     }
 }

@@ -1,7 +1,7 @@
 //! The whole input: its bytes, and the steps that it says.
-ghost use Rattle.std.specs.Prelude.{◌≡◌, IfOk, OnOk};
+ghost use Rattle.std.specs.Prelude.{◌≡◌, ◌⊎◌, IfOk, IfErr, OnOk};
 ghost use Rattle.std.specs.Io.KnownBytes.{Consumes, IsAtEnd};
-ghost use Rattle.bitdo_work.specs.Program.{GivesSteps};
+ghost use Rattle.bitdo_work.specs.Program.{GivesSteps, InputFault};
 
 use crate::fault::Fault;
 use crate::lines::parse_steps;
@@ -17,6 +17,7 @@ fn read_bytes<R: Read, A: Allocator>(alloc: A, input: &mut R) -> Result<Vec<u8, 
     ensures bytes { IfOk result (λ bytes.
         Consumes (R.remaining input.old) (R.remaining input.new) bytes.items) }
     ensures end { OnOk result (IsAtEnd (R.remaining input.new)) }
+    ensures fault { IfErr result (λ fault. (fault ≡ Fault.Input) ⊎ (fault ≡ Fault.Memory)) }
 {
     let mut bytes = Vec::new(alloc);
     let mut chunk = [0; CHUNK];
@@ -40,8 +41,9 @@ pub(crate) fn read_steps<'a, R: Read, A: Allocator>(
     alloc: &'a A,
     input: &mut R,
 ) -> Result<Vec<Step, &'a A>, Fault>
-    ensures { IfOk result (λ steps.
+    ensures steps { IfOk result (λ steps.
         GivesSteps (R.remaining input.old) (R.remaining input.new) steps.items) }
+    ensures fault { IfErr result (λ fault. InputFault (R.remaining input.old) (R.remaining input.new) fault) }
 {
     let bytes = read_bytes(alloc, input)?;
     let Ok(text) = std::str::from_utf8(bytes.as_slice()) else {

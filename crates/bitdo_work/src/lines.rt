@@ -1,7 +1,6 @@
 //! The lines of the input: one step each.
-ghost use Rattle.std.specs.Prelude.{◌≡◌, ◌⊎◌, Some, IsSomeAnd, IfOk, IfErr};
+ghost use Rattle.std.specs.Prelude.{◌≡◌, ◌⊎◌, IsSomeAnd, IfOk, IfErr};
 ghost use Rattle.bitdo_work.specs.Steps.{step_of, steps_of, bad_line_of};
-ghost use Rattle.bitdo_work.specs.declared.fault.Fault.TheVariants.{Line, Memory};
 
 use crate::fault::Fault;
 use crate::ops::parse_op;

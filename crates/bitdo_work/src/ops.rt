@@ -8,65 +8,79 @@ use bitvec_run::Op;
 
 /// The command of a word and the arguments after it: a row a command, as many arguments as it
 /// shows. A word without a row is no command.
+#[tactic(auto, unfolding(crate::specs::Ops::op_of))]
 pub(crate) fn parse_op(word: &str, arguments: Words<'_>) -> Option<Op>
     ensures { result ≡ op_of word.now (words_left arguments.entry) }
 {
-    match word {
-        "get" => arguments.number().map(Op::Get),
-        "set" => arguments
-            .number_and_bit()
-            .map(|(index, bit)| Op::Set(index, bit)),
-        "replace" => arguments
-            .number_and_bit()
-            .map(|(index, bit)| Op::Replace(index, bit)),
-        "swap" => arguments
-            .two_numbers()
-            .map(|(first, second)| Op::Swap(first, second)),
-        "fill" => arguments.bit().map(Op::Fill),
-        "invert" => arguments.none().map(|()| Op::Invert),
-        "reverse" => arguments.none().map(|()| Op::Reverse),
-        "shift_start" => arguments.number().map(Op::ShiftStart),
-        "shift_end" => arguments.number().map(Op::ShiftEnd),
-        "rotate_left" => arguments.number().map(Op::RotateLeft),
-        "rotate_right" => arguments.number().map(Op::RotateRight),
-        "copy_within" => arguments
-            .three_numbers()
-            .map(|(start, end, dest)| Op::CopyWithin(start, end, dest)),
-        _ => parse_right_op(word, arguments),
-    }
+    Some(match word {
+        "get" => Op::Get(arguments.number()?),
+        "set" => {
+            let (index, bit) = arguments.number_and_bit()?;
+            Op::Set(index, bit)
+        }
+        "replace" => {
+            let (index, bit) = arguments.number_and_bit()?;
+            Op::Replace(index, bit)
+        }
+        "swap" => {
+            let (first, second) = arguments.two_numbers()?;
+            Op::Swap(first, second)
+        }
+        "fill" => Op::Fill(arguments.bit()?),
+        "invert" => {
+            arguments.none()?;
+            Op::Invert
+        }
+        "reverse" => {
+            arguments.none()?;
+            Op::Reverse
+        }
+        "shift_start" => Op::ShiftStart(arguments.number()?),
+        "shift_end" => Op::ShiftEnd(arguments.number()?),
+        "rotate_left" => Op::RotateLeft(arguments.number()?),
+        "rotate_right" => Op::RotateRight(arguments.number()?),
+        "copy_within" => {
+            let (start, end, dest) = arguments.three_numbers()?;
+            Op::CopyWithin(start, end, dest)
+        }
+        _ => parse_right_op(word, arguments)?,
+    })
 }
 
 /// The same of the commands with a right window.
+#[tactic(auto, unfolding(crate::specs::Ops::right_op_of))]
 fn parse_right_op(word: &str, arguments: Words<'_>) -> Option<Op>
     ensures { result ≡ right_op_of word.now (words_left arguments.entry) }
 {
-    match word {
-        "copy_from" => arguments.window().map(Op::CopyFrom),
-        "and" => arguments.window().map(Op::And),
-        "or" => arguments.window().map(Op::Or),
-        "xor" => arguments.window().map(Op::Xor),
-        "eq" => arguments.window().map(Op::Eq),
-        "cmp" => arguments.window().map(Op::Cmp),
-        "starts_with" => arguments.window().map(Op::StartsWith),
-        "ends_with" => arguments.window().map(Op::EndsWith),
-        "contains" => arguments.window().map(Op::Contains),
-        _ => parse_query(word, arguments),
-    }
+    Some(match word {
+        "copy_from" => Op::CopyFrom(arguments.window()?),
+        "and" => Op::And(arguments.window()?),
+        "or" => Op::Or(arguments.window()?),
+        "xor" => Op::Xor(arguments.window()?),
+        "eq" => Op::Eq(arguments.window()?),
+        "cmp" => Op::Cmp(arguments.window()?),
+        "starts_with" => Op::StartsWith(arguments.window()?),
+        "ends_with" => Op::EndsWith(arguments.window()?),
+        "contains" => Op::Contains(arguments.window()?),
+        _ => parse_query(word, arguments)?,
+    })
 }
 
 /// The same of the commands that ask without an argument.
+#[tactic(auto, unfolding(crate::specs::Ops::query_of))]
 fn parse_query(word: &str, arguments: Words<'_>) -> Option<Op>
     ensures { result ≡ query_of word.now (words_left arguments.entry) }
 {
+    arguments.none()?;
     match word {
-        "count_ones" => arguments.none().map(|()| Op::CountOnes),
-        "count_zeros" => arguments.none().map(|()| Op::CountZeros),
-        "first_one" => arguments.none().map(|()| Op::FirstOne),
-        "first_zero" => arguments.none().map(|()| Op::FirstZero),
-        "last_one" => arguments.none().map(|()| Op::LastOne),
-        "last_zero" => arguments.none().map(|()| Op::LastZero),
-        "any" => arguments.none().map(|()| Op::Any),
-        "all" => arguments.none().map(|()| Op::All),
+        "count_ones" => Some(Op::CountOnes),
+        "count_zeros" => Some(Op::CountZeros),
+        "first_one" => Some(Op::FirstOne),
+        "first_zero" => Some(Op::FirstZero),
+        "last_one" => Some(Op::LastOne),
+        "last_zero" => Some(Op::LastZero),
+        "any" => Some(Op::Any),
+        "all" => Some(Op::All),
         _ => None,
     }
 }

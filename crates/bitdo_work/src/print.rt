@@ -1,8 +1,9 @@
 //! What a run prints: a line a reply, and the memory.
-ghost use Rattle.std.specs.Prelude.{◌≡◌, ◌^◌, ◌<◌, All, map, OnOk};
+ghost use Rattle.std.specs.Prelude.{◌≡◌, ◌^◌, ◌<◌, ◌≤◌, All, map, OnOk};
 ghost use Rattle.std.specs.List.{flat_map};
 ghost use Rattle.std.specs.Io.KnownBytes.{Appends};
-ghost use Rattle.bitdo_work.specs.Texts.{refusal_text, bit_text, order_text, reply_text, run_text, element_text, memory_text, next_text};
+ghost use Rattle.bitdo_work.specs.Faults.{fault_text};
+ghost use Rattle.bitdo_work.specs.Texts.{line_of, refusal_text, bit_text, order_text, reply_text, run_text, digit_code, hexadecimal_text, element_text, memory_text, next_text};
 
 use crate::fault::Fault;
 use bitvec_base::BitStore;
@@ -70,14 +71,37 @@ fn print_replies<W: Write>(output: &mut W, replies: &[Reply]) -> io::Result<()>
     Ok(())
 }
 
+/// The upper case digit of a number below 16.
+fn digit_of(value: u8) -> u8
+    requires { value < 16 }
+    ensures { result ≡ digit_code value }
+{
+    if value < 10 {
+        b'0' + value
+    } else {
+        b'A' + (value - 10)
+    }
+}
+
+/// Prints the lowest `count` hexadecimal digits of a number, the highest of them first.
+/// Condition: a number has so many.
+fn print_digits<W: Write>(output: &mut W, number: u128, count: u32) -> io::Result<()>
+    requires { count ≤ 32 }
+    ensures { OnOk result (Appends (W.contents output.old) (W.contents output.new) (hexadecimal_text count number)) }
+{
+    for place in (0..count).rev() {
+        let digit = (number >> (4 * place)) % 16;
+        output.write_all(&[digit_of(digit as u8)])?;
+    }
+    Ok(())
+}
+
 /// Prints an element in upper case digits, as many as its width has.
 fn print_element<T: BitStore, W: Write>(output: &mut W, element: T) -> io::Result<()>
     ensures text { OnOk result (Appends (W.contents output.old) (W.contents output.new) (element_text T.BITS (T.value element))) }
     ensures in_range { T.value element < 2 ^ T.BITS }
 {
-    let digits = T::BITS as usize / 4;
-    let number = element.to_u128() as u64;
-    write!(output, "{number:0digits$X}")
+    print_digits(output, element.to_u128(), T::BITS / 4)
 }
 
 /// Prints an element that follows another one.
@@ -134,7 +158,9 @@ pub(crate) fn print_run<T: BitStore, W: Write>(
 }
 
 /// Prints the line of a fault.
-pub(crate) fn print_fault<W: Write>(output: &mut W, fault: &Fault) -> io::Result<()> {
+pub(crate) fn print_fault<W: Write>(output: &mut W, fault: &Fault) -> io::Result<()>
+    ensures { OnOk result (Appends (W.contents output.old) (W.contents output.new) (line_of (fault_text fault.now))) }
+{
     writeln!(output, "{fault}")?;
     output.flush()
 }

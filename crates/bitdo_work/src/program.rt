@@ -1,15 +1,18 @@
 //! The whole program, but for what a process is.
-ghost use Rattle.std.specs.Prelude.{◌≡◌, ◌⊎◌, map, string_bytes, IfOk};
-ghost use Rattle.bitdo_work.specs.Arguments.{bits_of, place_in};
-ghost use Rattle.bitdo_work.specs.Faults.{status_of};
-ghost use Rattle.bitdo_work.specs.Program.{IsRun, HasRun, PrintsRun, PrintsRunOf};
+ghost use Rattle.std.specs.Prelude.{◌≡◌, ℕ, ◌⊎◌, ◌≤◌, is_some, map, string_bytes, IfOk, IfErr, IsSome};
+ghost use Rattle.std.specs.Io.KnownBytes.{Appends};
+ghost use Rattle.bitdo_work.specs.Arguments.{request, request_of, typed_request, ordered_request, own_request};
+ghost use Rattle.bitdo_work.specs.Faults.{status_of, fault_text};
+ghost use Rattle.bitdo_work.specs.Program.{IsRun, FailsRun, HasRun, HasFault, PrintsRun, PrintsFault, Works};
+ghost use Rattle.bitdo_work.specs.Texts.{line_of};
 
-use crate::arguments::{Arguments, Order, Width};
-use crate::elements::parse_elements;
+use crate::arguments::Arguments;
+use crate::elements::{is_memory, parse_elements};
 use crate::fault::Fault;
 use crate::input::read_steps;
 use crate::print::{print_fault, print_run};
-use bitvec_base::{BitStore, Exclusive, HiLo, Lsb0, Msb0, Shared, Window};
+use bitvec_base::{BitStore, HiLo, Lsb0, Msb0, Window};
+use bitvec_cells::{Exclusive, Shared};
 use bitvec_engine::SliceOrder;
 use bitvec_run::{Reply, RunError, Step, run};
 use std::alloc::Allocator;
@@ -26,8 +29,9 @@ fn run_elements<T: BitStore, O: SliceOrder, A: Allocator>(
     right: &[T],
     steps: &[Step],
 ) -> Result<Vec<Reply, A>, RunError>
-    ensures { IfOk result (λ replies. IsRun T.BITS O.at (map T.value memory.old) (map T.value right.now)
-        window steps.now replies.items (map T.value memory.new)) }
+    ensures run { IfOk result (λ replies. IsRun (request T.BITS O.at (map T.value memory.old) (map T.value right.now) window)
+        steps.now replies.items (map T.value memory.new)) }
+    ensures error { IfErr result (FailsRun (request T.BITS O.at (map T.value memory.old) (map T.value right.now) window) steps.now) }
 {
     let mut cells = Exclusive::new(memory);
     let mut right = Shared::new(right);
@@ -41,15 +45,24 @@ struct Outcome<T, A: Allocator> {
     memory: Vec<T, A>,
 }
 
-/// Makes the run of the arguments and the input. The memories are parsed before the input is read.
+/// Whether the memories of the arguments are in the notation, whatever the order.
+fn has_memories<T: BitStore>(arguments: &Arguments<'_>) -> bool
+    ensures { (at : ℕ → ℕ → ℕ) → result ≡ is_some (typed_request T.BITS at arguments.now) }
+{
+    is_memory::<T>(arguments.memory) && is_memory::<T>(arguments.right)
+}
+
+/// Makes the run of the arguments and the input. Condition: the memories are in the notation.
 fn make_run<'a, T: BitStore, O: SliceOrder, A: Allocator, R: Read>(
     alloc: &'a A,
     arguments: &Arguments<'_>,
     input: &mut R,
 ) -> Result<Outcome<T, &'a A>, Fault>
-    ensures { IfOk result (λ outcome. HasRun T.BITS O.at arguments.now.memory.now arguments.now.right.now
-        arguments.now.window (R.remaining input.old) (R.remaining input.new)
-        outcome.replies.items (map T.value outcome.memory.items)) }
+    requires { IsSome (typed_request T.BITS O.at arguments.now) }
+    ensures run { IfOk result (λ outcome. HasRun (typed_request T.BITS O.at arguments.now)
+        (R.remaining input.old) (R.remaining input.new) outcome.replies.items (map T.value outcome.memory.items)) }
+    ensures fault { IfErr result (HasFault (typed_request T.BITS O.at arguments.now)
+        (R.remaining input.old) (R.remaining input.new)) }
 {
     let mut memory = parse_elements(alloc, arguments.memory)?;
     let right = parse_elements(alloc, arguments.right)?;
@@ -66,7 +79,8 @@ fn make_run<'a, T: BitStore, O: SliceOrder, A: Allocator, R: Read>(
 
 /// Prints why no run was made. The result is the status.
 fn report<W: Write>(output: &mut W, fault: &Fault) -> u8
-    ensures { (result ≡ status_of fault.now) ⊎ (result ≡ OUTPUT_FAILED) }
+    ensures { (result ≡ OUTPUT_FAILED) ⊎ ((result ≡ status_of fault.now)
+        × Appends (W.contents output.old) (W.contents output.new) (line_of (fault_text fault.now))) }
 {
     match print_fault(output, fault) {
         Ok(()) => fault.status(),
@@ -75,16 +89,20 @@ fn report<W: Write>(output: &mut W, fault: &Fault) -> u8
 }
 
 /// Makes the run at an element type and an order, and prints it. The result is the status.
+///
+/// The memories are tested before the input is read, and before room is needed for either.
 fn run_typed<T: BitStore, O: SliceOrder, A: Allocator, R: Read, W: Write>(
     alloc: &A,
     arguments: &Arguments<'_>,
     input: &mut R,
     output: &mut W,
 ) -> u8
-    ensures { result ≡ 0 → PrintsRun T.BITS O.at arguments.now.memory.now arguments.now.right.now
-        arguments.now.window (R.remaining input.old) (R.remaining input.new)
-        (W.contents output.old) (W.contents output.new) }
+    ensures { Works R.remaining (typed_request T.BITS O.at arguments.now) input.old input.new
+        (W.contents output.old) (W.contents output.new) result }
 {
+    if !has_memories::<T>(arguments) {
+        return report(output, &Fault::Arguments);
+    }
     match make_run::<T, O, _, _>(alloc, arguments, input) {
         Ok(outcome) => match print_run(
             output,
@@ -98,40 +116,42 @@ fn run_typed<T: BitStore, O: SliceOrder, A: Allocator, R: Read, W: Write>(
     }
 }
 
-/// Makes and prints the run at an element type, in the order of the arguments.
+/// Makes and prints the run at an element type, in the order of the arguments. Another word than an
+/// order is a fault of theirs.
 fn run_ordered<T: BitStore, A: Allocator, R: Read, W: Write>(
     alloc: &A,
     arguments: &Arguments<'_>,
     input: &mut R,
     output: &mut W,
 ) -> u8
-    ensures { result ≡ 0 → PrintsRun T.BITS (place_in arguments.now.order) arguments.now.memory.now
-        arguments.now.right.now arguments.now.window (R.remaining input.old) (R.remaining input.new)
-        (W.contents output.old) (W.contents output.new) }
+    ensures { Works R.remaining (ordered_request T.BITS arguments.now) input.old input.new
+        (W.contents output.old) (W.contents output.new) result }
 {
     match arguments.order {
-        Order::Lsb0 => run_typed::<T, Lsb0, _, _, _>(alloc, arguments, input, output),
-        Order::Msb0 => run_typed::<T, Msb0, _, _, _>(alloc, arguments, input, output),
-        Order::HiLo => run_typed::<T, HiLo, _, _, _>(alloc, arguments, input, output),
+        "lsb0" => run_typed::<T, Lsb0, _, _, _>(alloc, arguments, input, output),
+        "msb0" => run_typed::<T, Msb0, _, _, _>(alloc, arguments, input, output),
+        "hilo" => run_typed::<T, HiLo, _, _, _>(alloc, arguments, input, output),
+        _ => report(output, &Fault::Arguments),
     }
 }
 
-/// Makes and prints the run that the arguments ask for.
+/// Makes and prints the run that the arguments ask for. Another word than a width is a fault of
+/// theirs.
 fn run_given<A: Allocator, R: Read, W: Write>(
     alloc: &A,
     arguments: &Arguments<'_>,
     input: &mut R,
     output: &mut W,
 ) -> u8
-    ensures { result ≡ 0 → PrintsRun (bits_of arguments.now.width) (place_in arguments.now.order)
-        arguments.now.memory.now arguments.now.right.now arguments.now.window
-        (R.remaining input.old) (R.remaining input.new) (W.contents output.old) (W.contents output.new) }
+    ensures { Works R.remaining (own_request arguments.now) input.old input.new
+        (W.contents output.old) (W.contents output.new) result }
 {
     match arguments.width {
-        Width::Bits8 => run_ordered::<u8, _, _, _>(alloc, arguments, input, output),
-        Width::Bits16 => run_ordered::<u16, _, _, _>(alloc, arguments, input, output),
-        Width::Bits32 => run_ordered::<u32, _, _, _>(alloc, arguments, input, output),
-        Width::Bits64 => run_ordered::<u64, _, _, _>(alloc, arguments, input, output),
+        "8" => run_ordered::<u8, _, _, _>(alloc, arguments, input, output),
+        "16" => run_ordered::<u16, _, _, _>(alloc, arguments, input, output),
+        "32" => run_ordered::<u32, _, _, _>(alloc, arguments, input, output),
+        "64" => run_ordered::<u64, _, _, _>(alloc, arguments, input, output),
+        _ => report(output, &Fault::Arguments),
     }
 }
 
@@ -150,8 +170,13 @@ pub fn work<A: Allocator + Clone + Drop, R: Read, W: Write>(
     input: &mut R,
     output: &mut W,
 ) -> u8
-    ensures { result ≡ 0 → PrintsRunOf (map string_bytes args.now)
+    ensures status { result ≤ 3 }
+    ensures run { result ≡ 0 → PrintsRun (request_of (map string_bytes args.now))
         (R.remaining input.old) (R.remaining input.new) (W.contents output.old) (W.contents output.new) }
+    ensures fault { 2 ≤ result → PrintsFault (request_of (map string_bytes args.now))
+        (R.remaining input.old) (R.remaining input.new) (W.contents output.old) (W.contents output.new) result }
+    ensures bad_arguments { request_of (map string_bytes args.now) ≡ None → (result ≡ 2) ⊎ (result ≡ 1) }
+    ensures unread { request_of (map string_bytes args.now) ≡ None → input.new ≡ input.old }
 {
     match Arguments::parse(args) {
         Some(arguments) => run_given(&alloc, &arguments, input, output),

@@ -1,5 +1,5 @@
 //! The words of a line, and what one word says.
-ghost use Rattle.std.specs.Prelude.{◌≡◌, ◌∷◌, [], None, IfSome, IfNone};
+ghost use Rattle.std.specs.Prelude.{◌≡◌, ◌∷◌, [], IfSome, IfNone};
 ghost use Rattle.std.specs.Char.{is_ascii_digit};
 ghost use Rattle.std.specs.List.{list_all};
 ghost use Rattle.bitdo_work.specs.Words.{number_of, bit_of, words_of, words_left, no_argument, one_word, one_number, one_bit, number_and_bit, two_numbers, three_numbers, one_window};

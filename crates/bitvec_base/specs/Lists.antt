@@ -1,8 +1,9 @@
--- Words on lists of bits.
-use Rattle.std.specs.Prelude.{ℕ, ◌+◌, ◌-◌, Bool, false, not, ◌&&◌, nat_le, Option, None, List, length, map, take, drop, filter, slice_get, slice_index_or, slice_range}
+-- Words on lists of values and on lists of bits.
+use Rattle.std.specs.Prelude.{ℕ, ◌+◌, ◌-◌, ◌≤◌, Bool, false, not, ◌&&◌, nat_le, Option, None, List, ◌++◌, length, map, take, drop, replicate, filter, slice_get, slice_index_or, slice_range}
 use Rattle.std.specs.Bool.{beq}
 use Rattle.std.specs.Cmp.Lexicographic.{pointwise}
 use Rattle.std.specs.List.{list_any, last_or, range_with_len}
+use Rattle.bitvec_base.specs.Window.{write_at}
 
 -- whether two lists have the same bits
 abbrev pub same_bits : List Bool → List Bool → Bool
@@ -39,3 +40,29 @@ first_place wanted list = slice_get (places_of wanted list) 0
 
 abbrev pub last_place : Bool → List Bool → Option ℕ
 last_place wanted list = last_or None (places_of wanted list)
+
+-- the list from place k on, and then what stood before: what stood at k comes first
+unfoldable pub rotated_left : {X : Type 0} → ℕ → List X → List X
+rotated_left k list = drop k list ++ take k list
+
+-- the last k values, and then those before them: what came first stands at k
+unfoldable pub rotated_right : {X : Type 0} → ℕ → List X → List X
+rotated_right k list = drop (length list - k) list ++ take (length list - k) list
+
+-- each bit k places nearer to the start, with zeros at the end
+unfoldable pub shifted_start : ℕ → List Bool → List Bool
+shifted_start k list = drop k list ++ replicate k false
+
+-- each bit k places nearer to the end, with zeros at the start
+unfoldable pub shifted_end : ℕ → List Bool → List Bool
+shifted_end k list = replicate k false ++ take (length list - k) list
+
+-- the list with its values of the places from..to written from the place dest on as well
+unfoldable pub copied_within : {X : Type 0} → ℕ → ℕ → ℕ → List X → List X
+copied_within from to dest list = write_at list dest (slice_range list from to)
+
+-- the values from `from` up to `to` of a list of n lie in it, and so do as many from `dest` on
+pub record FitsWithin (from to dest n : ℕ) : Type 0 where
+  pub order : from ≤ to
+  pub source : to ≤ n
+  pub room : dest + (to - from) ≤ n

@@ -2,15 +2,16 @@
 use Rattle.std.specs.Prelude.{◌≡◌, ◌≢◌, ℕ, ◌+◌, ◌-◌, ◌*◌, ◌/◌, ◌%◌, ◌^◌, ◌<◌, ◌≤◌, ◌⊎◌, zero, suc, max, bit_and, bit_or, count_ones, count_by, map, sum, Bool, refl, ◌==◌, cond}
 use Rattle.std.specs.List.{range_with_len}
 use Rattle.std.specs.Int.{bit_at}
-use Rattle.std.proofs.Common.{arith, sym, ◌∙◌, ap, subst, ⊎_elim, inl, inr, add-one}
-use Rattle.std.proofs.lemmas.Bool.{cases_eq}
-use Rattle.std.proofs.Math.Nat.{sub_self, mod_self}
+use Rattle.std.proofs.Common.{arith, sym, ◌∙◌, ap, subst, ⊎_elim, inl, inr, add-one, lit<, mul_comm}
+use Rattle.std.proofs.lemmas.Bool.{cases_eq, cases_lt}
+use Rattle.std.proofs.Math.Nat.{sub_self, mod_self, mul-sub, pow-le-pow_right}
 use lib.Bits.{and_zero_r, or_zero_r}
 use Rattle.std.specs.Int.Count.{ones}
 use Rattle.std.proofs.lemmas.List.FromFn.{sum_by-map-range_with_len_more}
-use Rattle.std.proofs.lemmas.Nat.{or_disjoint, or_lt, pow_below, ones_cat, shr_split, mod-pow-add, mod_below, pow_pos, and_shr, and_mod, or_shr, or_mod, div_below}
-use Rattle.std.proofs.lemmas.Nat.Bits.{bit_at_and, bit_at_or, bit_at-lt, and_pow, bit_at-pow_same, bit_at-pow_other, bit_at-zero}
-use Rattle.bitvec_base.specs.Order.{Permutes, mask_of}
+use Rattle.std.proofs.lemmas.Nat.{or_disjoint, or_lt, pow_below, ones_cat, shr_split, mod-pow-add, mod_below, pow_pos, and_shr, and_mod, or_shr, or_mod, div_below, pow-add, shl_whole}
+use Rattle.std.proofs.lemmas.Nat.Bits.{bit_at_and, bit_at_or, bit_at-lt, and_pow, bit_at-pow_same, bit_at-pow_other, bit_at-zero, same_from_bits_below, ones_shr, bit_at_mask_inside, bit_at_mask_below, bit_at_mask_above}
+use Rattle.bitvec_base.specs.Order.{IsWidth, Permutes, mask_of}
+use Rattle.bitvec_base.specs.OrderLaws.{Permutes-onto, lsb0_permutes, msb0_permutes}
 
 -- the bits of n indices, from the index `from` on
 unfoldable pub run_mask : (ℕ → ℕ) → ℕ → ℕ → ℕ
@@ -100,6 +101,66 @@ mask_of-below b at p from to le fits = rw (mask_of-run at from to) (run_mask-bel
 pub mask_of-step : (b : ℕ) (at : ℕ → ℕ) (p : Permutes b at) (from i : ℕ) → from ≤ i → i < b → bit_or (mask_of at from i) (2 ^ at i) ≡ mask_of at from (i + 1)
 mask_of-step b at p from i le new =
     or_single _ _ (mask_of-lacks b at p from i le (omega arith) i new (inr (omega arith))) ∙ sym (mask_of-more at from i le)
+
+-- ---- masks as runs of ones, whose numbers are 2 ^ to - 2 ^ from
+
+one_less : (x y : ℕ) → (x - 1) * y ≡ x * y - y
+one_less x y = let turned = mul_comm (x - 1) y in let whole = mul_comm x y in let apart = mul-sub y x 1 in omega arith
+
+-- all ones, moved down until n are left, and up to the bit `from`
+pub ones_moved : (b from to : ℕ) → from ≤ to → to ≤ b → ((2 ^ b - 1) / 2 ^ (b - (to - from)) * 2 ^ from) % 2 ^ b ≡ 2 ^ to - 2 ^ from
+ones_moved b from to le fits =
+    let n : ℕ = to - from in
+    let left : b - (b - n) ≡ n = omega arith in
+    let some = pow_pos n in
+    let small : 2 ^ n - 1 < 2 ^ n = omega arith in
+    let end : n + from ≡ to = omega arith in
+    ap (λ (x : ℕ). (x * 2 ^ from) % 2 ^ b) (ones_shr b (b - n) (omega arith) ∙ ap (λ (k : ℕ). 2 ^ k - 1) left)
+    ∙ shl_whole (2 ^ n - 1) n from b small (omega arith)
+    ∙ one_less (2 ^ n) (2 ^ from)
+    ∙ ap (λ (x : ℕ). x - 2 ^ from) (sym (pow-add 2 n from) ∙ ap (λ (k : ℕ). 2 ^ k) end)
+
+-- a run of ones fits its width
+run_below : (b from to : ℕ) → to ≤ b → 2 ^ to - 2 ^ from < 2 ^ b
+run_below b from to fits =
+    let below = pow-le-pow_right {n = 2} (lit< tt) fits in
+    let some = pow_pos from in
+    let top = pow_pos b in
+    omega arith
+
+-- a number that has the bits of the indices where a run of ones has the bits of their numbers
+pub mask_of-is : (b : ℕ) (at : ℕ → ℕ) (p : Permutes b at) (from to m : ℕ) → from ≤ to → to ≤ b → m < 2 ^ b
+    → ((i : ℕ) → i < b → bit_at m (at i) ≡ bit_at (2 ^ to - 2 ^ from) i) → m ≡ mask_of at from to
+mask_of-is b at p from to m le fits small each =
+    same_from_bits_below b m (mask_of at from to) small (mask_of-below b at p from to le fits) (λ place h.
+    let found = Permutes-onto b at p place h in
+    let i = found.0 in
+    let same : bit_at m (at i) ≡ bit_at (mask_of at from to) (at i) =
+    each i found.1 ∙
+    ⊎_elim
+    (λ before. bit_at_mask_below from to i before ∙ sym (mask_of-lacks b at p from to le fits i found.1 (inl before)))
+    (λ low. ⊎_elim
+    (λ high. bit_at_mask_inside from to i low high ∙ sym (mask_of-has b at p from to fits i low high))
+    (λ after. bit_at_mask_above from to i after ∙ sym (mask_of-lacks b at p from to le fits i found.1 (inr after)))
+    (cases_lt i to))
+    (cases_lt i from) in
+    subst (λ (q : ℕ). bit_at m q ≡ bit_at (mask_of at from to) q) found.2 same)
+
+-- the least significant bit first
+pub mask_of-lsb0 : (b : ℕ) → IsWidth b → (from to : ℕ) → from ≤ to → to ≤ b → 2 ^ to - 2 ^ from ≡ mask_of (λ i. i) from to
+mask_of-lsb0 b w from to le fits = mask_of-is b _ (lsb0_permutes b w) from to _ le fits (run_below b from to fits) (λ i h. refl)
+
+-- the most significant bit first
+pub mask_of-msb0 : (b : ℕ) → IsWidth b → (from to : ℕ) → from ≤ to → to ≤ b → 2 ^ (b - from) - 2 ^ (b - to) ≡ mask_of (λ i. b - 1 - i) from to
+mask_of-msb0 b w from to le fits =
+    mask_of-is b _ (msb0_permutes b w) from to _ le fits (run_below b (b - to) (b - from) (omega arith)) (λ i h.
+    ⊎_elim
+    (λ before. bit_at_mask_above (b - to) (b - from) (b - 1 - i) (omega arith) ∙ sym (bit_at_mask_below from to i before))
+    (λ low. ⊎_elim
+    (λ high. bit_at_mask_inside (b - to) (b - from) (b - 1 - i) (omega arith) (omega arith) ∙ sym (bit_at_mask_inside from to i low high))
+    (λ after. bit_at_mask_below (b - to) (b - from) (b - 1 - i) (omega arith) ∙ sym (bit_at_mask_above from to i after))
+    (cases_lt i to))
+    (cases_lt i from))
 
 -- ---- counting by a mask
 ones_of_bit : (c : ℕ) → c < 2 → count_ones c ≡ c

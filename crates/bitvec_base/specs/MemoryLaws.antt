@@ -7,7 +7,7 @@ use Rattle.std.proofs.lemmas.List.{same_lists, get_or-set_same, get_or-set_other
 use Rattle.std.proofs.lemmas.Nat.Bits.{bit_at_and, bit_at_or, bit_at_xor, bit_at-lt, and_pow}
 use Rattle.std.proofs.lemmas.List.FromFn.{length-map-range_with_len, get_or-map-range_with_len}
 use Rattle.std.proofs.lemmas.Nat.{div_below, mod_below, div-mul-add, mod-mul-add, mul-add-lt, row_fits, div-add-mod', and-not, pow_below, pow_pos}
-use Rattle.bitvec_base.specs.Memory.{place_of, memory_bits, element_bits}
+use Rattle.bitvec_base.specs.Memory.{place_bit, memory_bits, element_bits}
 use Rattle.bitvec_base.specs.Order.{Permutes, mask_of}
 use Rattle.bitvec_base.specs.MaskLaws.{mask_of-lacks, mask_of-has, mask_of-below}
 use Rattle.bitvec_base.specs.Window.{IsWithin, write_at}
@@ -16,11 +16,11 @@ use Rattle.bitvec_base.specs.WriteLaws.{length-slice_range, get-slice_range, len
 
 pub length-memory_bits : (b : ℕ) (at : ℕ → ℕ → ℕ) (xs : List ℕ) → length (memory_bits b at xs) ≡ b * length xs
 unfolding memory_bits
-length-memory_bits b at xs = length-map-range_with_len (place_of b at xs) 0 (b * length xs)
+length-memory_bits b at xs = length-map-range_with_len (place_bit b at xs) 0 (b * length xs)
 
-pub get-memory_bits : (b : ℕ) (at : ℕ → ℕ → ℕ) (xs : List ℕ) (j : ℕ) (d : Bool) → j < b * length xs → slice_index_or (memory_bits b at xs) j d ≡ place_of b at xs j
+pub get-memory_bits : (b : ℕ) (at : ℕ → ℕ → ℕ) (xs : List ℕ) (j : ℕ) (d : Bool) → j < b * length xs → slice_index_or (memory_bits b at xs) j d ≡ place_bit b at xs j
 unfolding memory_bits
-get-memory_bits b at xs j d h = get_or-map-range_with_len (place_of b at xs) 0 (b * length xs) j j d h (omega arith)
+get-memory_bits b at xs j d h = get_or-map-range_with_len (place_bit b at xs) 0 (b * length xs) j j d h (omega arith)
 
 pub length-element_bits : (b : ℕ) (at : ℕ → ℕ → ℕ) (v : ℕ) → length (element_bits b at v) ≡ b
 unfolding element_bits
@@ -34,9 +34,9 @@ get-element_bits b at v i d h = get_or-map-range_with_len (λ i. bit_at v (at b 
 pub place_inside : (b e i n : ℕ) → e < n → i < b → e * b + i < b * n
 place_inside b e i n h k = mul-add-lt e b i n h k
 
-pub place_of-element : (b : ℕ) (at : ℕ → ℕ → ℕ) (xs : List ℕ) (e i : ℕ) → i < b → place_of b at xs (e * b + i) ≡ (bit_at (slice_index xs e) (at b i) == 1)
-unfolding place_of
-place_of-element b at xs e i h = rw (div-mul-add e b i h, mod-mul-add e b i h) refl
+pub place_bit-element : (b : ℕ) (at : ℕ → ℕ → ℕ) (xs : List ℕ) (e i : ℕ) → i < b → place_bit b at xs (e * b + i) ≡ (bit_at (slice_index xs e) (at b i) == 1)
+unfolding place_bit
+place_bit-element b at xs e i h = rw (div-mul-add e b i h, mod-mul-add e b i h) refl
 
 -- each place is one of an element
 place_parts : (b k : ℕ) → 0 < b → k / b * b + k % b ≡ k
@@ -56,17 +56,17 @@ element-range b at xs e h =
     let below : k < b = omega arith in
     get-slice_range (memory_bits b at xs) (e * b) (e * b + b) k d (omega arith)
     ∙ get-memory_bits b at xs (e * b + k) d (omega arith)
-    ∙ place_of-element b at xs e k below
+    ∙ place_bit-element b at xs e k below
     ∙ sym (get-element_bits b at (slice_index xs e) k d below))
 
 -- a place after an element was replaced
-set-element_at : (b : ℕ) (at : ℕ → ℕ → ℕ) (xs : List ℕ) (e v : ℕ) → e < length xs → (q r : ℕ) (d : Bool) → r < b → q < length xs → place_of b at (slice_set xs e v) (q * b + r) ≡ slice_index_or (write_at (memory_bits b at xs) (e * b) (element_bits b at v)) (q * b + r) d
+set-element_at : (b : ℕ) (at : ℕ → ℕ → ℕ) (xs : List ℕ) (e v : ℕ) → e < length xs → (q r : ℕ) (d : Bool) → r < b → q < length xs → place_bit b at (slice_set xs e v) (q * b + r) ≡ slice_index_or (write_at (memory_bits b at xs) (e * b) (element_bits b at v)) (q * b + r) d
 set-element_at b at xs e v h q r d low high =
     let whole = length-memory_bits b at xs in
     let fits = element_fits b e (length xs) h in
     let inner = length-element_bits b at v in
     let inside = element_fits b q (length xs) high in
-    place_of-element b at (slice_set xs e v) q r low
+    place_bit-element b at (slice_set xs e v) q r low
     ∙ ⊎_elim
     (λ same. rw same (rw (get_or-set_same xs e v 0 h)
     (sym (get-write_at_inside (memory_bits b at xs) (e * b) (element_bits b at v) (e * b + r) d (omega arith) (omega arith) (omega arith)
@@ -77,12 +77,12 @@ set-element_at b at xs e v h q r d low high =
     rw (get_or-set_other xs e q v 0 apart)
     (sym (get-write_at_below (memory_bits b at xs) (e * b) (element_bits b at v) (q * b + r) d (omega arith) (omega arith)
     ∙ get-memory_bits b at xs (q * b + r) d (omega arith)
-    ∙ place_of-element b at xs q r low)))
+    ∙ place_bit-element b at xs q r low)))
     (λ after. let apart : q ≢ e = omega arith in let gap = row_fits e b q b after (omega arith) in
     rw (get_or-set_other xs e q v 0 apart)
     (sym (get-write_at_above (memory_bits b at xs) (e * b) (element_bits b at v) (q * b + r) d (omega arith) (omega arith)
     ∙ get-memory_bits b at xs (q * b + r) d (omega arith)
-    ∙ place_of-element b at xs q r low))))
+    ∙ place_bit-element b at xs q r low))))
     (cases_order q e)
 
 -- a write of an element is a write of its bits
@@ -99,7 +99,7 @@ set-element b at xs e v some h =
     let in-memory : k < b * length (slice_set xs e v) = omega arith in
     let in-old : k < length xs * b = omega arith in
     get-memory_bits b at (slice_set xs e v) k d in-memory
-    ∙ subst (λ (j : ℕ). place_of b at (slice_set xs e v) j ≡ slice_index_or (write_at (memory_bits b at xs) (e * b) (element_bits b at v)) j d)
+    ∙ subst (λ (j : ℕ). place_bit b at (slice_set xs e v) j ≡ slice_index_or (write_at (memory_bits b at xs) (e * b) (element_bits b at v)) j d)
     (place_parts b k some)
     (set-element_at b at xs e v h (k / b) (k % b) d (mod_below k b some) (div_below k b (length xs) some in-old)))
 

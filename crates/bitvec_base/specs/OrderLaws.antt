@@ -1,9 +1,17 @@
--- Why the orders of this crate are lawful.
-use Rattle.std.specs.Prelude.{◌≡◌, ℕ, ◌-◌, ◌^◌, ◌<◌, bit_xor}
-use Rattle.std.proofs.Common.{arith, sym, ◌∙◌, ap, subst, ⊎_elim}
-use Rattle.std.proofs.lemmas.Nat.{xor_lt, pow_below}
-use Rattle.std.proofs.lemmas.Nat.Bits.{same_from_bits, bit_at_xor, bit_at-lt}
+-- What holds at each width, that each bit of an element has an index, and why two of the orders are lawful.
+use Rattle.std.specs.Prelude.{◌≡◌, ◌≢◌, ℕ, ◌-◌, ◌<◌, ◌⊎◌, zero, suc, min, max}
+use Rattle.std.proofs.Common.{arith, sym, subst, ⊎_elim, inl, inr, lit<}
+use Rattle.std.proofs.lemmas.Bool.{cases_eq, cases_lt}
 use Rattle.bitvec_base.specs.Order.{IsWidth, Permutes}
+
+-- what is true of each of the widths is true of a width
+pub at_each_width : (P : ℕ → Type 0) → P 8 → P 16 → P 32 → P 64 → (b : ℕ) → IsWidth b → P b
+at_each_width P p8 p16 p32 p64 b w =
+    ⊎_elim (λ e. subst P (sym e) p8) (⊎_elim (λ e. subst P (sym e) p16) (⊎_elim (λ e. subst P (sym e) p32) (λ e. subst P (sym e) p64))) w
+
+-- a width is not 0
+pub width_some : (b : ℕ) → IsWidth b → 0 < b
+width_some b w = at_each_width (λ n. 0 < n) (lit< tt) (lit< tt) (lit< tt) (lit< tt) b w
 
 pub lsb0_permutes : (b : ℕ) → IsWidth b → Permutes b (λ i. i)
 lsb0_permutes b w = record { below = λ i h. h; apart = λ i j h k e. e }
@@ -11,35 +19,36 @@ lsb0_permutes b w = record { below = λ i h. h; apart = λ i j h k e. e }
 pub msb0_permutes : (b : ℕ) → IsWidth b → Permutes b (λ i. b - 1 - i)
 msb0_permutes b w = record { below = λ i h. omega arith; apart = λ i j h k e. omega arith }
 
--- to flip the same bits twice changes nothing
-flip_twice : (n m : ℕ) → bit_xor (bit_xor n m) m ≡ n
-flip_twice n m =
-    same_from_bits _ _ (λ i.
-    let x = bit_at_xor (bit_xor n m) m i in
-    let y = bit_at_xor n m i in
-    let l = bit_at-lt n i in
-    let h = bit_at-lt m i in
-    omega arith)
+-- ---- each bit has an index
 
--- the widths as powers of two, all above 4
-power_of : (b : ℕ) → IsWidth b → (k : ℕ) × (2 < k) × (b ≡ 2 ^ k)
-power_of b w =
-    ⊎_elim (λ e. (3, omega arith, e)) (⊎_elim (λ e. (4, omega arith, e)) (⊎_elim (λ e. (5, omega arith, e)) (λ e. (6, omega arith, e)))) w
+-- the index of a place below b, unless it has none
+index_of : (at : ℕ → ℕ) (place b : ℕ) → ((i : ℕ) × (i < b) × (at i ≡ place)) ⊎ ((i : ℕ) → i < b → at i ≢ place)
+index_of at place zero = inr (λ i h e. absurd (omega arith))
+index_of at place (suc n) =
+    ⊎_elim
+    (λ found. inl (found.0, omega arith, found.2))
+    (λ none. ⊎_elim
+    (λ here. inl (n, omega arith, here))
+    (λ other. inr (λ i h. ⊎_elim (λ below. none i below) (λ above. let last : i ≡ n = omega arith in rw last other) (cases_lt i n)))
+    (cases_eq (at n) place))
+    (index_of at place n)
 
--- the bit of weight 4 of an index is flipped within the width
-pub flip_below : (b : ℕ) → IsWidth b → (i : ℕ) → i < b → bit_xor i 4 < b
-flip_below b w i h =
-    let p = power_of b w in
-    let four : 2 ^ 2 < 2 ^ p.0 = pow_below 2 p.0 p.1 in
-    subst (λ n. bit_xor i 4 < n) (sym p.2) (xor_lt p.0 i 4 (subst (λ n. i < n) p.2 h) four)
+-- x, one less if it stands above a number that is taken out
+abbrev without : ℕ → ℕ → ℕ
+without taken x = max (min x taken) (x - 1)
 
-pub hilo_permutes : (b : ℕ) → IsWidth b → Permutes b (λ i. bit_xor i 4)
-hilo_permutes b w = record {
-  below = flip_below b w;
-  apart = λ i j h k e. sym (flip_twice i 4) ∙ ap (λ n. bit_xor n 4) e ∙ flip_twice j 4;
-}
+-- b numbers below b, no two the same, miss none below b
+none_missed : (b : ℕ) (at : ℕ → ℕ) → Permutes b at → (place : ℕ) → place < b → ((i : ℕ) → i < b → at i ≢ place) → ⊥
+none_missed zero at p place h missed = absurd (omega arith)
+none_missed (suc n) at p place h missed =
+    let smaller : (i : ℕ) → i < suc n → without place (at i) < n = λ i k. let low = p.below i k in let other = missed i k in omega arith in
+    let same : (i j : ℕ) → i < suc n → j < suc n → without place (at i) ≡ without place (at j) → i ≡ j =
+    λ i j hi hj e. let l = missed i hi in let r = missed j hj in p.apart i j hi hj (omega arith) in
+    none_missed n (λ i. without place (at i))
+    (record { below = λ i k. smaller i (omega arith); apart = λ i j hi hj e. same i j (omega arith) (omega arith) e })
+    (without place (at n)) (smaller n (omega arith))
+    (λ i k e. let last = same i n (omega arith) (omega arith) e in omega arith)
 
--- a width is not 0
-pub width_some : (b : ℕ) → IsWidth b → 0 < b
-width_some b w =
-    ⊎_elim (λ e. omega arith) (⊎_elim (λ e. omega arith) (⊎_elim (λ e. omega arith) (λ e. omega arith))) w
+-- each bit number below b is that of an index
+pub Permutes-onto : (b : ℕ) (at : ℕ → ℕ) → Permutes b at → (place : ℕ) → place < b → (i : ℕ) × (i < b) × (at i ≡ place)
+Permutes-onto b at p place h = ⊎_elim (λ found. found) (λ missed. absurd (none_missed b at p place h missed)) (index_of at place b)

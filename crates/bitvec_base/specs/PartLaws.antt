@@ -5,12 +5,13 @@ use Rattle.std.specs.Int.{bit_at}
 use Rattle.std.proofs.Common.{arith, sym, ◌∙◌, ap}
 use Rattle.std.proofs.lemmas.List.{same_lists, length-replicate, get_or-replicate, length-map}
 use Rattle.std.proofs.lemmas.List.FromFn.{length-map-range_with_len, get_or-map-range_with_len}
+use Rattle.std.proofs.lemmas.Nat.{pow_pos}
 use Rattle.std.proofs.lemmas.Nat.Bits.{bit_at_ones, bit_at-zero}
 use Rattle.bitvec_base.specs.Memory.{memory_bits, element_bits}
 use Rattle.bitvec_base.specs.Order.{Permutes, mask_of}
 use Rattle.bitvec_base.specs.Window.{write_at}
 use Rattle.bitvec_base.specs.WriteLaws.{length-slice_range, get-slice_range, write_at-inside, range-range}
-use Rattle.bitvec_base.specs.MaskLaws.{mask_of-count}
+use Rattle.bitvec_base.specs.MaskLaws.{mask_of-count, mask_of-is}
 use Rattle.bitvec_base.specs.MemoryLaws.{length-memory_bits, length-element_bits, get-element_bits, element_fits, element-range, set-element, element-or_mask, element-and_not_mask, element-xor_mask}
 
 -- a slice of one element is a slice of the memory
@@ -82,3 +83,7 @@ pub part-count : (b : ℕ) (at : ℕ → ℕ → ℕ) (p : Permutes b (at b)) (x
 part-count b at p xs e from to h le fits =
     mask_of-count b (at b) p (slice_index xs e) from to le fits
     ∙ ap (λ (l : List Bool). count_by (λ (bit : Bool). bit) l) (part-bits b at (slice_index xs e) from to le fits ∙ part-range b at xs e from to h fits)
+
+-- the mask of a whole element
+pub mask_of-whole : (b : ℕ) (at : ℕ → ℕ) (p : Permutes b at) → 2 ^ b - 1 ≡ mask_of at 0 b
+mask_of-whole b at p = mask_of-is b at p 0 b (2 ^ b - 1) (omega arith) (omega arith) (let some = pow_pos b in omega arith) (λ i h. bit_at_ones b (at i) (p.below i h) ∙ sym (bit_at_ones b i h))

@@ -22,3 +22,13 @@ window_of bits window = slice_range bits window.start (window.start + window.len
 -- the memory's bits with the window holding `new`
 abbrev pub write_window : {X : Type 0} → List X → Window → List X → List X
 write_window bits window new = write_at bits window.start new
+
+-- the window's own bits `from` up to, without, `to`; the window without its first n bits; and without its last n
+abbrev pub window_range : Window → ℕ → ℕ → Window
+window_range window from to = record { start = window.start + from; len = to - from }
+
+abbrev pub window_after : ℕ → Window → Window
+window_after n window = record { start = window.start + n; len = window.len - n }
+
+abbrev pub window_until : ℕ → Window → Window
+window_until n window = record { start = window.start; len = window.len - n }

@@ -1,9 +1,13 @@
 -- Windows of a list of bits: what is read, written and left.
-use Rattle.std.specs.Prelude.{◌≡◌, ℕ, ◌+◌, ◌<◌, ◌≤◌, List, length, slice_index_or, slice_range}
+use Rattle.std.specs.Prelude.{◌≡◌, ℕ, ◌+◌, ◌-◌, ◌<◌, ◌≤◌, List, [], ◌∷◌, ◌++◌, length, slice_index_or, slice_range, slice_set}
+use Rattle.std.specs.List.{swap}
 use Rattle.std.proofs.Common.{arith, sym, ◌∙◌, ap}
+use Rattle.std.proofs.Math.ListN.{get_or-eq_default}
+use Rattle.std.proofs.lemmas.List.{length-set}
+use Rattle.std.proofs.lemmas.List.Edits.{swap_is}
 use Rattle.bitvec_base.specs.declared.window.Window.{Window}
 use Rattle.bitvec_base.specs.Window.{IsWithin, window_of, write_at, write_window}
-use Rattle.bitvec_base.specs.WriteLaws.{length-slice_range, get-slice_range, length-write_at, write_at-same, write_at-inside, write_at-over, range-range, range-write_at}
+use Rattle.bitvec_base.specs.WriteLaws.{length-slice_range, get-slice_range, get-write_at_above, length-write_at, set-is_write, write_at-next, write_at-same, write_at-inside, write_at-over, range-range, range-write_at}
 
 -- a value of a window
 pub get-window : {X : Type 0} (bits : List X) (window : Window) (i : ℕ) (d : X) → i < window.len → slice_index_or (window_of bits window) i d ≡ slice_index_or bits (window.start + i) d
@@ -64,3 +68,80 @@ part-written bits window part from new within place fits =
     let start = within.start in
     let len = within.len in
     rw place (sym (write_at-inside bits window.start (window.start + window.len) from new (omega arith) (omega arith)))
+
+-- a write of one value into a window's list is a write of it into the memory
+pub window-set : {X : Type 0} (bits : List X) (window : Window) (i : ℕ) (x : X) → IsWithin window (length bits) → i < window.len → write_at bits (window.start + i) (x ∷ []) ≡ write_window bits window (slice_set (window_of bits window) i x)
+unfolding window_of
+window-set {X} bits window i x within h =
+    let start = within.start in
+    let len = within.len in
+    let long = length-slice_range bits window.start (window.start + window.len) (omega arith) in
+    sym (ap (λ (l : List X). write_at bits window.start l) (set-is_write (window_of bits window) i x (omega arith))
+    ∙ write_at-inside bits window.start (window.start + window.len) i (x ∷ []) (omega arith) (omega arith))
+
+-- past the end of a window's list stands nothing
+pub window-past : {X : Type 0} (bits : List X) (window : Window) (i : ℕ) (d : X) → IsWithin window (length bits) → window.len ≤ i → slice_index_or (window_of bits window) i d ≡ d
+window-past bits window i d within h =
+    let long = length-window bits window within in
+    get_or-eq_default (window_of bits window) d (omega arith)
+
+-- the window holds a list, and the list is edited
+pub edit-next : {X : Type 0} (before now after : List X) (window : Window) (list : List X) (edit : List X → List X) → IsWithin window (length before) → length list ≡ window.len → length (edit list) ≡ window.len → now ≡ write_window before window list → after ≡ write_window now window (edit (window_of now window)) → after ≡ write_window before window (edit list)
+edit-next before now after window list edit within old-long new-long held edited =
+    let holds : window_of now window ≡ list = ap (λ l. window_of l window) held ∙ window-written before window list within old-long in
+    edited
+    ∙ ap (λ l. write_window now window (edit l)) holds
+    ∙ ap (λ l. write_window l window (edit list)) held
+    ∙ window-rewritten before window list (edit list) within old-long new-long
+
+-- an edit of the values from..to of a window is an edit of the window's list
+pub part-edit : {X : Type 0} (before after : List X) (window part : Window) (from to : ℕ) (edit : List X → List X) → IsWithin window (length before) → part.start ≡ window.start + from → part.len ≡ to - from → from ≤ to → to ≤ window.len → length (edit (slice_range (window_of before window) from to)) ≡ to - from → after ≡ write_window before part (edit (window_of before part)) → after ≡ write_window before window (write_at (window_of before window) from (edit (slice_range (window_of before window) from to)))
+part-edit before after window part from to edit within place long order bound kept edited =
+    let end : from + part.len ≡ to = omega arith in
+    let holds : window_of before part ≡ slice_range (window_of before window) from to =
+    part-of_window before window part from within place (omega arith)
+    ∙ ap (λ (e : ℕ). slice_range (window_of before window) from e) end in
+    edited
+    ∙ ap (λ l. write_window before part (edit l)) holds
+    ∙ part-written before window part from (edit (slice_range (window_of before window) from to)) within place (omega arith)
+
+-- an exchange of two values, as two writes
+pub swap-writes : {X : Type 0} (bits : List X) (window : Window) (i j : ℕ) (d : X) → IsWithin window (length bits) → i < window.len → j < window.len
+    → write_window (write_window bits window (slice_set (window_of bits window) i (slice_index_or (window_of bits window) j d))) window
+    (slice_set (window_of (write_window bits window (slice_set (window_of bits window) i (slice_index_or (window_of bits window) j d))) window) j (slice_index_or (window_of bits window) i d))
+    ≡ write_window bits window (swap (window_of bits window) i j)
+swap-writes {X} bits window i j d within first second =
+    let list = window_of bits window in
+    let once = slice_set list i (slice_index_or list j d) in
+    let long = length-window bits window within in
+    let kept = length-set list i (slice_index_or list j d) in
+    let twice = length-set once j (slice_index_or list i d) in
+    ap (λ (l : List X). write_window (write_window bits window once) window (slice_set l j (slice_index_or list i d)))
+    (window-written bits window once within (omega arith))
+    ∙ window-rewritten bits window once (slice_set once j (slice_index_or list i d)) within (omega arith) (omega arith)
+    ∙ ap (write_window bits window) (swap_is list i j d (omega arith) (omega arith))
+
+-- ---- a window written from its first place on
+
+-- one value more behind those that were written
+pub window-push : {X : Type 0} (before : List X) (window : Window) (new : List X) (i : ℕ) (x : X) → IsWithin window (length before) → length new ≡ i → i < window.len
+    → write_window (write_window before window new) window (slice_set (window_of (write_window before window new) window) i x) ≡ write_window before window (new ++ (x ∷ []))
+window-push before window new i x within long h =
+    let start = within.start in
+    let len = within.len in
+    let now = write_window before window new in
+    let kept = length-write_at before window.start new (omega arith) in
+    let lies : IsWithin window (length now) = record { start = omega arith; len = omega arith } in
+    sym (window-set now window i x lies h)
+    ∙ ap (λ (n : ℕ). write_at now (window.start + n) (x ∷ [])) (sym long)
+    ∙ write_at-next before window.start new (x ∷ []) (omega arith)
+
+-- the values behind those that were written are as they were
+pub window-rest : {X : Type 0} (before : List X) (window : Window) (new : List X) (i : ℕ) (d : X) → IsWithin window (length before) → length new ≤ i → i < window.len
+    → slice_index_or (window_of (write_window before window new) window) i d ≡ slice_index_or (window_of before window) i d
+window-rest before window new i d within long h =
+    let start = within.start in
+    let len = within.len in
+    get-window (write_window before window new) window i d h
+    ∙ get-write_at_above before window.start new (window.start + i) d (omega arith) (omega arith)
+    ∙ sym (get-window before window i d h)

@@ -1,7 +1,8 @@
 -- Laws of slices of a list and of writes into it.
 use Rattle.std.specs.Prelude.{◌≡◌, ℕ, ◌+◌, ◌-◌, ◌<◌, ◌≤◌, List, [], ◌∷◌, ◌++◌, length, take, drop, slice_range, slice_set, slice_index_or}
 use Rattle.std.proofs.Common.{arith, rules, sym, ◌∙◌, ap, length-take, length-drop, get_or-take, get_or-drop, add-one}
-use Rattle.std.proofs.lemmas.List.{same_lists, places, set_split}
+use Rattle.std.proofs.Math.Seq.{drop-append-add, drop-append_seam}
+use Rattle.std.proofs.lemmas.List.{same_lists, places, set_split, take_at}
 use Rattle.bitvec_base.specs.Window.{write_at}
 
 pub length-slice_range : {X : Type 0} (list : List X) (a e : ℕ) → e ≤ length list → length (slice_range list a e) ≡ e - a
@@ -90,3 +91,23 @@ write_at-nil list s h = same_lists _ _ (search (rules, places)) (λ k d inside. 
 pub write_at-all : {X : Type 0} (list new : List X) → length new ≡ length list → write_at list 0 new ≡ new
 unfolding write_at
 write_at-all list new h = same_lists _ _ (search (rules, places)) (λ k d inside. grind (arith, places))
+
+-- a write of one value right before a write
+pub write_at-before : {X : Type 0} (list : List X) (s : ℕ) (x : X) (new : List X) → s + 1 + length new ≤ length list → write_at (write_at list (s + 1) new) s (x ∷ []) ≡ write_at list s (x ∷ new)
+unfolding write_at
+write_at-before list s x new fits = same_lists _ _ (search (rules, places)) (λ k d inside. grind (arith, places))
+
+-- a write leaves what stands before it, and what stands after it
+pub take-write_at : {X : Type 0} (list : List X) (s : ℕ) (new : List X) → s ≤ length list → take s (write_at list s new) ≡ take s list
+unfolding write_at
+take-write_at list s new h =
+    let long : length (take s list) ≡ s = omega (arith, length-take s list) in
+    take_at (take s list) (new ++ drop (s + length new) list) s long
+
+pub drop-write_at : {X : Type 0} (list : List X) (s : ℕ) (new : List X) → s ≤ length list → drop (s + length new) (write_at list s new) ≡ drop (s + length new) list
+unfolding write_at
+drop-write_at list s new h =
+    let rest = drop (s + length new) list in
+    let long : length (take s list) ≡ s = omega (arith, length-take s list) in
+    ap (λ (n : ℕ). drop (n + length new) (take s list ++ (new ++ rest))) (sym long)
+    ∙ drop-append-add (take s list) (new ++ rest) (length new) ∙ drop-append_seam new rest

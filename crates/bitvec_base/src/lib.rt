@@ -1,20 +1,22 @@
-//! Bit addressing and counted access: elements, bit orders, windows and accessors.
+//! Bit addressing: elements, bit orders, windows of a memory, and parts of its elements.
 #![tactic(auto)]
 
-mod cells;
-mod counts;
-mod exclusive;
+mod hi_lo;
+mod lsb0;
+mod msb0;
+mod ones;
 mod order;
-mod shared;
+mod part;
 mod span_error;
 mod store;
 mod widths;
 mod window;
 
-pub use cells::{Cells, CellsRead, fits_max_bits};
-pub use exclusive::Exclusive;
-pub use order::{BitOrder, HiLo, Lsb0, Msb0};
-pub use shared::Shared;
+pub use hi_lo::HiLo;
+pub use lsb0::Lsb0;
+pub use msb0::Msb0;
+pub use order::BitOrder;
+pub use part::{Part, first_part, last_part};
 pub use span_error::BitSpanError;
 pub use store::BitStore;
 pub use window::{MAX_BITS, Window};

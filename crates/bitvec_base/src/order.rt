@@ -1,7 +1,6 @@
 //! Bit orders: which bit of an element comes first.
-ghost use Rattle.std.specs.Prelude.{◌≡◌, ℕ, ◌+◌, ◌-◌, ◌*◌, ◌/◌, ◌%◌, ◌^◌, ◌<◌, ◌≤◌, bit_xor};
+ghost use Rattle.std.specs.Prelude.{◌≡◌, ℕ, ◌^◌, ◌<◌, ◌≤◌};
 ghost use Rattle.bitvec_base.specs.Order.{IsWidth, Permutes, mask_of};
-ghost use Rattle.bitvec_base.specs.OrderLaws.{lsb0_permutes, msb0_permutes, hilo_permutes};
 
 use crate::BitStore;
 
@@ -29,6 +28,7 @@ pub trait BitOrder {
         requires bound { to ≤ R.BITS }
         ensures { R.value result ≡ mask_of (at R.BITS) from to }
     {
+        // any lawful order, bit by bit: one that knows a shorter way overrides this
         let mut mask = R::ZERO;
         for index in from..to {
             mask = mask.or(Self::select::<R>(index));
@@ -37,68 +37,4 @@ pub trait BitOrder {
     }
 
     ghost permutes: { (b : ℕ) → IsWidth b → Permutes b (at b) };
-}
-
-/// The order in which index `i` is bit `i`: the least significant bit first, as in the crate.
-#[derive(Clone, Copy, Debug, PartialEq, Eq)]
-pub struct Lsb0;
-
-/// The order in which index `i` is bit `BITS - 1 - i`: the most significant bit first, as in the
-/// crate.
-#[derive(Clone, Copy, Debug, PartialEq, Eq)]
-pub struct Msb0;
-
-/// The order in which index `i` is the bit whose number is `i` with the bit of weight 4 flipped:
-/// within each byte the high half comes first, and in a half the least significant bit.
-#[derive(Clone, Copy, Debug, PartialEq, Eq)]
-pub struct HiLo;
-
-/// The element whose one bit has this number.
-fn single<R: BitStore>(place: usize) -> R
-    requires { place < R.BITS }
-    ensures { R.value result ≡ 2 ^ place }
-{
-    R::from_u128(1).shl(place as u32)
-}
-
-impl BitOrder for Lsb0 {
-    ghost at = { λ b i. i };
-
-    ghost permutes = { lsb0_permutes };
-
-    fn at<R: BitStore>(index: usize) -> usize {
-        index
-    }
-
-    fn select<R: BitStore>(index: usize) -> R {
-        single(Self::at::<R>(index))
-    }
-}
-
-impl BitOrder for Msb0 {
-    ghost at = { λ b i. b - 1 - i };
-
-    ghost permutes = { msb0_permutes };
-
-    fn at<R: BitStore>(index: usize) -> usize {
-        R::BITS as usize - 1 - index
-    }
-
-    fn select<R: BitStore>(index: usize) -> R {
-        single(Self::at::<R>(index))
-    }
-}
-
-impl BitOrder for HiLo {
-    ghost at = { λ b i. bit_xor i 4 };
-
-    ghost permutes = { hilo_permutes };
-
-    fn at<R: BitStore>(index: usize) -> usize {
-        index ^ 4
-    }
-
-    fn select<R: BitStore>(index: usize) -> R {
-        single(Self::at::<R>(index))
-    }
 }

@@ -1,8 +1,8 @@
 //! The elements that a memory is made of.
 ghost use Rattle.std.specs.Prelude.{◌≡◌, ℕ, ◌+◌, ◌-◌, ◌*◌, ◌/◌, ◌%◌, ◌^◌, ◌<◌, bit_and, bit_or, bit_xor, count_ones};
+ghost use Rattle.std.specs.Int.Count.{count_leading_zeros, count_trailing_zeros};
 ghost use Rattle.std.specs.Mem.{FitsInMemory};
 ghost use Rattle.bitvec_base.specs.Order.{IsWidth};
-ghost use Rattle.bitvec_base.specs.Element.{leading_zeros_of, trailing_zeros_of};
 
 /// An unsigned element of a memory, as `u8` or `usize`: the crate's `BitStore`.
 ///
@@ -78,11 +78,11 @@ pub trait BitStore: Copy + Drop {
 
     /// How many bits above the highest 1 are 0; the width, if no bit is 1.
     fn leading_zeros(self) -> u32
-        ensures { result ≡ leading_zeros_of BITS (value self) };
+        ensures { result ≡ count_leading_zeros BITS (value self) };
 
     /// How many bits below the lowest 1 are 0; the width, if no bit is 1.
     fn trailing_zeros(self) -> u32
-        ensures { result ≡ trailing_zeros_of BITS (value self) };
+        ensures { result ≡ count_trailing_zeros BITS (value self) };
 
     ghost width_law: { IsWidth BITS };
 

@@ -1,14 +1,15 @@
 //! What a caller knows of its slices after a call through accessors.
 ghost use Rattle.std.specs.Prelude.{◌≡◌, ◌+◌, ◌<◌, ◌≤◌, length, map, slice_index, slice_set};
 
-use bitvec_base::{BitStore, Cells, CellsRead, Exclusive, Shared};
+use bitvec_base::BitStore;
+use bitvec_cells::{Cells, CellsRead, Exclusive, Shared};
 use bitvec_test_support::Counted;
 
 fn copy_first<C: Cells>(cells: &mut C, index: usize)
     requires { index < length (C.numbers cells.old) }
     ensures numbers { C.numbers cells.new
         ≡ slice_set (C.numbers cells.old) index (slice_index (C.numbers cells.old) 0) }
-    ensures memory { C.memory cells.new ≡ C.memory cells.old }
+    ensures borrow { C.borrow cells.new ≡ C.borrow cells.old }
     ensures loads { C.loads cells.new ≡ C.loads cells.old + 1 }
     ensures stores { C.stores cells.new ≡ C.stores cells.old + 1 }
 {
@@ -22,8 +23,8 @@ fn copy_between<C: Cells, D: CellsRead<Elem = C::Elem>>(to: &mut C, from: &mut D
     ensures numbers { C.numbers to.new
         ≡ slice_set (C.numbers to.old) index (slice_index (D.numbers from.old) index) }
     ensures from { D.numbers from.new ≡ D.numbers from.old }
-    ensures memory { C.memory to.new ≡ C.memory to.old }
-    ensures from_memory { D.memory from.new ≡ D.memory from.old }
+    ensures borrow { C.borrow to.new ≡ C.borrow to.old }
+    ensures from_memory { D.borrow from.new ≡ D.borrow from.old }
     ensures loads { D.loads from.new ≡ D.loads from.old + 1 }
     ensures stores { C.stores to.new ≡ C.stores to.old + 1 }
 {
@@ -39,7 +40,7 @@ fn set_first(cells: &mut [u8])
     accessor.store(0, 7);
 }
 
-fn set_first_to<T: BitStore>(cells: &mut [T], element: T)
+pub(crate) fn set_first_to<T: BitStore>(cells: &mut [T], element: T)
     requires { 0 < length cells.old }
     ensures { map T.value cells.new ≡ slice_set (map T.value cells.old) 0 (T.value element) }
 {

@@ -4,4 +4,12 @@
 #[cfg(test)]
 mod accessors;
 #[cfg(test)]
+mod elements;
+#[cfg(test)]
+mod kept;
+#[cfg(test)]
+mod orders;
+#[cfg(test)]
 mod sizes;
+#[cfg(test)]
+mod striding;

@@ -1,39 +1,23 @@
--- The parts that bits are cut into, one after the other, are the bits.
-use Rattle.std.specs.Prelude.{◌≡◌, ◌≢◌, ℕ, ◌+◌, ◌-◌, ◌*◌, ◌/◌, ◌%◌, ◌<◌, ◌≤◌, ◌==◌, if◌then◌else◌, Bool, List, [], ◌++◌, length, map, slice_index, slice_range, take, drop, refl}
+-- The parts that a window is cut into, one after the other, are the window.
+use Rattle.std.specs.Prelude.{◌≡◌, ◌≢◌, ℕ, ◌+◌, ◌-◌, ◌*◌, ◌/◌, ◌%◌, ◌<◌, ◌≤◌, ◌==◌, if◌then◌else◌, Bool, List, [], ◌++◌, Option, None, Some, IfSome, length, slice_range, refl}
 use Rattle.std.specs.Int.{bit_at}
-use Rattle.std.proofs.Common.{arith, rules, sym, ◌∙◌, ap, subst, ⊎_elim}
+use Rattle.std.proofs.Common.{arith, sym, ◌∙◌, ap, subst, ⊎_elim}
 use Rattle.std.proofs.Math.Nat.{mul-le-mul_right, add-mul}
 use Rattle.std.proofs.lemmas.Bool.{cases_lt}
 use Rattle.std.proofs.lemmas.Bool.Decides.{eqb_tells}
-use Rattle.std.proofs.lemmas.List.{same_lists, places, take-map, drop-map}
+use Rattle.std.proofs.lemmas.List.{same_lists}
 use Rattle.std.proofs.lemmas.Nat.{div-add-mod', mod_below, div_below}
-use Rattle.bitvec_base.specs.Memory.{memory_bits, element_bits, place_of}
-use Rattle.bitvec_base.specs.MemoryLaws.{length-memory_bits, get-memory_bits, place_of-element}
-use Rattle.bitvec_base.specs.PartLaws.{part-range}
+use Rattle.bitvec_base.specs.declared.part.Part.{Part}
+use Rattle.bitvec_base.specs.declared.window.Window.{Window}
+use Rattle.bitvec_base.specs.Memory.{memory_bits, place_bit, list_in, HasWindow}
+use Rattle.bitvec_base.specs.MemoryLaws.{length-memory_bits, get-memory_bits, place_bit-element}
+use Rattle.bitvec_base.specs.Parts.{first_part_of, last_part_of, part_window}
+use Rattle.bitvec_base.specs.SliceLaws.{range-join, range-none, range-same}
+use Rattle.bitvec_base.specs.Window.{IsWithin, window_of}
 use Rattle.bitvec_base.specs.WriteLaws.{length-slice_range, get-slice_range}
-use Rattle.bitvec_domain.specs.Cuts.{cut_of, IsCutWithin}
+use Rattle.bitvec_domain.specs.Cuts.{cut_of, cut_across, IsCutWithin, IsPartWithin, IsHeadWithin}
 use Rattle.bitvec_domain.specs.declared.cut.Cut.{Cut}
 use Rattle.bitvec_domain.specs.declared.cut.Cut.TheVariants.{Inside, Across}
-
--- slices of a list
-pub range-none : {X : Type 0} (list : List X) (a e : ℕ) → e ≤ a → slice_range list a e ≡ []
-range-none list a e h = let none : e - a ≡ 0 = omega arith in ap (λ (n : ℕ). take n (drop a list)) none
-
-joined : {X : Type 0} (list : List X) (a m e : ℕ) → a ≤ m → m ≤ e → e ≤ length list → slice_range list a m ++ slice_range list m e ≡ slice_range list a e
-joined list a m e low high fits = same_lists _ _ (search (rules, places)) (λ k d inside. grind (arith, places))
-
-range-same : {X : Type 0} (list : List X) (a e c f : ℕ) → a ≡ c → e ≡ f → slice_range list a e ≡ slice_range list c f
-range-same list a e c f start end = ap (λ (n : ℕ). slice_range list n e) start ∙ ap (λ (n : ℕ). slice_range list c n) end
-
-pub range-map : {X Y : Type 0} (f : X → Y) (list : List X) (a e : ℕ) → map f (slice_range list a e) ≡ slice_range (map f list) a e
-range-map f list a e = sym (ap (λ (l : List _). take (e - a) l) (drop-map f a list) ∙ take-map f (e - a) (drop a list))
-
--- how many whole elements lie below a place
-rows_below : (q r b n : ℕ) → q * b + r ≤ b * n → 0 < b → q ≤ n
-rows_below q r b n h some = ⊎_elim (λ (more : n < q). absurd (let rows = mul-le-mul_right {m = n + 1} {n = q} b (omega arith) in omega arith)) (λ (le : q ≤ n). le) (cases_lt n q)
-
-row_below : (q r b n : ℕ) → q * b + r ≤ b * n → 0 < r → q < n
-row_below q r b n h some = ⊎_elim (λ (lt : q < n). lt) (λ (more : n ≤ q). absurd (let rows = mul-le-mul_right {m = n} {n = q} b more in omega arith)) (cases_lt q n)
 
 -- the bits of some elements are a slice of the memory
 pub memory-range : (b : ℕ) (at : ℕ → ℕ → ℕ) (xs : List ℕ) (a e : ℕ) → 0 < b → a ≤ e → e ≤ length xs → memory_bits b at (slice_range xs a e) ≡ slice_range (memory_bits b at xs) (a * b) (e * b)
@@ -57,109 +41,175 @@ memory-range b at xs a e some le fits =
     get-memory_bits b at (slice_range xs a e) k d below
     ∙ sym (get-slice_range (memory_bits b at xs) (a * b) (e * b) k d (omega arith)
     ∙ get-memory_bits b at xs (a * b + k) d (omega arith)
-    ∙ subst (λ (j : ℕ). place_of b at xs (a * b + j) ≡ place_of b at (slice_range xs a e) j) place
+    ∙ subst (λ (j : ℕ). place_bit b at xs (a * b + j) ≡ place_bit b at (slice_range xs a e) j) place
     (let rows = add-mul a (k / b) b in
     let turned : a * b + (k / b * b + k % b) ≡ (a + k / b) * b + k % b = omega arith in
-    ap (place_of b at xs) turned
-    ∙ place_of-element b at xs (a + k / b) (k % b) index
+    ap (place_bit b at xs) turned
+    ∙ place_bit-element b at xs (a + k / b) (k % b) index
     ∙ ap (λ (v : ℕ). bit_at v (at b (k % b)) == 1) (sym (get-slice_range xs a e (k / b) 0 (omega arith)))
-    ∙ sym (place_of-element b at (slice_range xs a e) (k / b) (k % b) index))))
+    ∙ sym (place_bit-element b at (slice_range xs a e) (k / b) (k % b) index))))
 
 -- the bits of the parts of a cut, one part after the other
+abbrev pub part_bits_if : ℕ → (ℕ → ℕ → ℕ) → List ℕ → Option Part → List Bool
+part_bits_if b at xs None = []
+part_bits_if b at xs (Some part) = list_in b at xs (part_window b part)
+
 abbrev pub cut_bits : ℕ → (ℕ → ℕ → ℕ) → List ℕ → Cut → List Bool
-cut_bits b at xs (Inside i from to) = slice_range (element_bits b at (slice_index xs i)) from to
-cut_bits b at xs (Across first from start end to) =
-    slice_range (element_bits b at (slice_index xs first)) from b
-    ++ (memory_bits b at (slice_range xs start end) ++ slice_range (element_bits b at (slice_index xs end)) 0 to)
+cut_bits b at xs (Inside part) = list_in b at xs (part_window b part)
+cut_bits b at xs (Across head start end tail) =
+    part_bits_if b at xs head ++ (memory_bits b at (slice_range xs start end) ++ part_bits_if b at xs tail)
 
--- a fact of each case of a cut is one of the cut
-cut_cases : (b s e : ℕ) (P : Cut → Type 0)
-    → (s ≡ e → P (Across (s / b) b (e / b) (e / b) 0))
-    → (s ≢ e → s % b ≡ 0 → P (Across (s / b) b (s / b) (e / b) (e % b)))
-    → (s ≢ e → s % b ≢ 0 → s / b ≡ e / b → P (Inside (s / b) (s % b) (e % b)))
-    → (s ≢ e → s % b ≢ 0 → s / b ≢ e / b → P (Across (s / b) (s % b) (s / b + 1) (e / b) (e % b)))
-    → P (cut_of b s e)
-cut_cases b s e P none edge inside across =
-    let last = Across (s / b) (s % b) (s / b + 1) (e / b) (e % b) in
-    let one = Inside (s / b) (s % b) (e % b) in
-    let whole = Across (s / b) b (s / b) (e / b) (e % b) in
-    let empty = Across (s / b) b (e / b) (e / b) 0 in
-    ⊎_elim (λ h. subst (λ (v : Bool). P (if v then empty else (if s % b == 0 then whole else (if s / b == e / b then one else last)))) (sym h.0) (none h.1))
-    (λ h. subst (λ (v : Bool). P (if v then empty else (if s % b == 0 then whole else (if s / b == e / b then one else last)))) (sym h.0)
-    (⊎_elim (λ k. subst (λ (v : Bool). P (if v then whole else (if s / b == e / b then one else last))) (sym k.0) (edge h.1 k.1))
-    (λ k. subst (λ (v : Bool). P (if v then whole else (if s / b == e / b then one else last))) (sym k.0)
-    (⊎_elim (λ j. subst (λ (v : Bool). P (if v then one else last)) (sym j.0) (inside h.1 k.1 j.1)) (λ j. subst (λ (v : Bool). P (if v then one else last)) (sym j.0) (across h.1 k.1 j.1)) (eqb_tells (s / b) (e / b))))
-    (eqb_tells (s % b) 0)))
-    (eqb_tells s e)
+-- ---- a fact of each case of a cut is one of the cut
 
-module _ (b : ℕ) (at : ℕ → ℕ → ℕ) (xs : List ℕ) (some : 0 < b) where
-  -- the part at the start of an element, which may be none
-  first_part : (q r : ℕ) → r ≤ b → q * b + r ≤ b * length xs → slice_range (element_bits b at (slice_index xs q)) 0 r ≡ slice_range (memory_bits b at xs) (q * b) (q * b + r)
-  first_part q r below fits =
-      ⊎_elim (λ (few : r < 1). range-none (element_bits b at (slice_index xs q)) 0 r (omega arith) ∙ sym (range-none (memory_bits b at xs) (q * b) (q * b + r) (omega arith)))
-      (λ (more : 1 ≤ r). part-range b at xs q 0 r (row_below q r b (length xs) fits more) below ∙ range-same (memory_bits b at xs) (q * b + 0) (q * b + r) (q * b) (q * b + r) (omega arith) refl)
-      (cases_lt r 1)
+across_cases : (b : ℕ) (head : Option Part) (start : ℕ) (last : Part) (P : Cut → Type 0)
+    → (last.to ≡ b → P (Across head start (last.element + 1) None)) → (last.to ≢ b → P (Across head start last.element (Some last)))
+    → P (cut_across b head start last)
+across_cases b head start last P whole part =
+    let up = Across head start (last.element + 1) None in
+    let tail = Across head start last.element (Some last) in
+    ⊎_elim (λ h. subst (λ (v : Bool). P (if v then up else tail)) (sym h.0) (whole h.1)) (λ h. subst (λ (v : Bool). P (if v then up else tail)) (sym h.0) (part h.1)) (eqb_tells last.to b)
 
-  -- whole elements, then a part of one
-  body_and_tail : (start end to : ℕ) → start ≤ end → to ≤ b → end * b + to ≤ b * length xs
-      → memory_bits b at (slice_range xs start end) ++ slice_range (element_bits b at (slice_index xs end)) 0 to ≡ slice_range (memory_bits b at xs) (start * b) (end * b + to)
-  body_and_tail start end to le below fits =
-      let whole = length-memory_bits b at xs in
-      let rows = mul-le-mul_right {m = start} {n = end} b le in
-      ap (λ (l : List Bool). l ++ slice_range (element_bits b at (slice_index xs end)) 0 to) (memory-range b at xs start end some le (rows_below end to b (length xs) fits some))
-      ∙ ap (λ (l : List Bool). slice_range (memory_bits b at xs) (start * b) (end * b) ++ l) (first_part end to below fits)
-      ∙ joined (memory_bits b at xs) (start * b) (end * b) (end * b + to) rows (omega arith) (omega arith)
+cut_cases : (b : ℕ) (window : Window) (P : Cut → Type 0)
+    → (window.len ≡ 0 → P (Across None (window.start / b) (window.start / b) None))
+    → (let first = first_part_of b window in 0 < window.len → first.from ≡ 0 → P (cut_across b None first.element (last_part_of b window)))
+    → (let first = first_part_of b window in 0 < window.len → first.from ≢ 0 → first.to ≡ b → P (cut_across b (Some first) (first.element + 1) (last_part_of b window)))
+    → (let first = first_part_of b window in 0 < window.len → first.from ≢ 0 → first.to ≢ b → P (Inside first))
+    → P (cut_of b window)
+cut_cases b window P none edge across inside =
+    let first = first_part_of b window in
+    let empty = Across None (window.start / b) (window.start / b) None in
+    let even = cut_across b None first.element (last_part_of b window) in
+    let uneven = cut_across b (Some first) (first.element + 1) (last_part_of b window) in
+    ⊎_elim (λ h. subst (λ (v : Bool). P (if v then empty else (if first.from == 0 then even else (if first.to == b then uneven else Inside first)))) (sym h.0) (none h.1))
+    (λ h. subst (λ (v : Bool). P (if v then empty else (if first.from == 0 then even else (if first.to == b then uneven else Inside first)))) (sym h.0)
+    (let more : 0 < window.len = omega (arith, h.1) in
+    ⊎_elim (λ k. subst (λ (v : Bool). P (if v then even else (if first.to == b then uneven else Inside first))) (sym k.0) (edge more k.1))
+    (λ k. subst (λ (v : Bool). P (if v then even else (if first.to == b then uneven else Inside first))) (sym k.0)
+    (⊎_elim (λ j. subst (λ (v : Bool). P (if v then uneven else Inside first)) (sym j.0) (across more k.1 j.1)) (λ j. subst (λ (v : Bool). P (if v then uneven else Inside first)) (sym j.0) (inside more k.1 j.1)) (eqb_tells first.to b)))
+    (eqb_tells first.from 0)))
+    (eqb_tells window.len 0)
 
-  pub cut_is : (s e : ℕ) → s ≤ e → e ≤ b * length xs → cut_bits b at xs (cut_of b s e) ≡ slice_range (memory_bits b at xs) s e
-  cut_is s e le fits =
-      let memory = memory_bits b at xs in
-      let whole = length-memory_bits b at xs in
-      let from = div-add-mod' s b in
-      let to = div-add-mod' e b in
-      let low = mod_below s b some in
-      let high = mod_below e b some in
-      let rows : e / b * b + e % b ≤ b * length xs = omega arith in
-      let ordered : s / b ≤ e / b = ⊎_elim (λ (more : e / b < s / b). absurd (let gap = mul-le-mul_right {m = e / b + 1} {n = s / b} b (omega arith) in omega arith)) (λ (h : s / b ≤ e / b). h) (cases_lt (e / b) (s / b)) in
-      cut_cases b s e (λ c. cut_bits b at xs c ≡ slice_range memory s e)
-      (λ same.
-      let q = e / b in
-      let rest = memory_bits b at (slice_range xs q q) ++ slice_range (element_bits b at (slice_index xs q)) 0 0 in
-      ap (λ (l : List Bool). l ++ rest) (range-none (element_bits b at (slice_index xs (s / b))) b b (omega arith))
-      ∙ body_and_tail q q 0 (omega arith) (omega arith) (omega arith)
-      ∙ range-none memory (q * b) (q * b + 0) (omega arith) ∙ sym (range-none memory s e (omega arith)))
-      (λ apart edge.
-      let rest = memory_bits b at (slice_range xs (s / b) (e / b)) ++ slice_range (element_bits b at (slice_index xs (e / b))) 0 (e % b) in
-      ap (λ (l : List Bool). l ++ rest) (range-none (element_bits b at (slice_index xs (s / b))) b b (omega arith))
-      ∙ body_and_tail (s / b) (e / b) (e % b) ordered (omega arith) rows
-      ∙ range-same memory (s / b * b) (e / b * b + e % b) s e (omega arith) to)
-      (λ apart inner one.
-      let row = ap (λ (q : ℕ). q * b) one in
-      part-range b at xs (s / b) (s % b) (e % b) (row_below (s / b) (s % b) b (length xs) (omega arith) (omega arith)) (omega arith)
-      ∙ range-same memory (s / b * b + s % b) (s / b * b + e % b) s e from (omega arith))
-      (λ apart inner many.
-      let next = add-mul (s / b) 1 b in
-      let gap = mul-le-mul_right {m = s / b + 1} {n = e / b} b (omega arith) in
-      let rest = memory_bits b at (slice_range xs (s / b + 1) (e / b)) ++ slice_range (element_bits b at (slice_index xs (e / b))) 0 (e % b) in
-      ap (λ (l : List Bool). l ++ rest)
-      (part-range b at xs (s / b) (s % b) b (row_below (s / b) (s % b) b (length xs) (omega arith) (omega arith)) (omega arith)
-      ∙ range-same memory (s / b * b + s % b) (s / b * b + b) s ((s / b + 1) * b) from (omega arith))
-      ∙ ap (λ (l : List Bool). slice_range memory s ((s / b + 1) * b) ++ l)
-      (body_and_tail (s / b + 1) (e / b) (e % b) (omega arith) (omega arith) rows ∙ range-same memory ((s / b + 1) * b) (e / b * b + e % b) ((s / b + 1) * b) e refl to)
-      ∙ joined memory s ((s / b + 1) * b) e (omega arith) (omega arith) (omega arith))
+-- three slices that meet
+parts-join : {X : Type 0} (list : List X) (a m k e : ℕ) (x y z : List X) → a ≤ m → m ≤ k → k ≤ e → e ≤ length list
+    → x ≡ slice_range list a m → y ≡ slice_range list m k → z ≡ slice_range list k e → x ++ (y ++ z) ≡ slice_range list a e
+parts-join list a m k e x y z low mid high fits first second third =
+    rw (first, second, third) (ap (λ (l : List _). slice_range list a m ++ l) (range-join list m k e mid high fits) ∙ range-join list a m e low (omega arith) fits)
 
-pub cut_within : (b n s e : ℕ) → 0 < b → s ≤ e → e ≤ b * n → IsCutWithin b n (cut_of b s e)
-cut_within b n s e some le fits =
-    let from = div-add-mod' s b in
-    let to = div-add-mod' e b in
-    let low = mod_below s b some in
-    let high = mod_below e b some in
-    let rows : e / b * b + e % b ≤ b * n = omega arith in
-    let ordered : s / b ≤ e / b = ⊎_elim (λ (more : e / b < s / b). absurd (let gap = mul-le-mul_right {m = e / b + 1} {n = s / b} b (omega arith) in omega arith)) (λ (h : s / b ≤ e / b). h) (cases_lt (e / b) (s / b)) in
-    let last : e / b ≤ n = rows_below (e / b) (e % b) b n rows some in
-    cut_cases b s e (IsCutWithin b n)
-    (λ same. let rows = ap (λ (k : ℕ). k / b) same in (omega arith, omega arith, last, omega arith, λ h. omega arith, omega arith, λ h. omega arith))
-    (λ apart edge. (omega arith, ordered, last, omega arith, λ h. omega arith, omega arith, λ h. row_below (e / b) (e % b) b n rows h))
-    (λ apart inner one.
-    let row = ap (λ (q : ℕ). q * b) one in
-    (row_below (s / b) (s % b) b n (omega arith) (omega arith), omega arith, omega arith))
-    (λ apart inner many. (omega arith, omega arith, last, omega arith, λ h. omega arith, omega arith, λ h. row_below (e / b) (e % b) b n rows h))
+-- ---- the whole elements, which begin at the place start * b
+
+-- they end at the end of the last element p, or before it
+start-below : (b start p u : ℕ) → start * b ≤ p * b + u → u < b → start ≤ p
+start-below b start p u h below = ⊎_elim (λ (more : p < start). absurd (let rows = mul-le-mul_right {m = p + 1} {n = start} b (omega arith) in let next = add-mul p 1 b in omega arith)) (λ (le : start ≤ p). le) (cases_lt p start)
+
+module _ (b : ℕ) (window : Window) (some : 0 < b) (more : 0 < window.len) where
+  -- the head ends where they begin
+  head-end : (let first = first_part_of b window in first.to ≡ b → window.start ≤ (first.element + 1) * b)
+  head-end whole =
+      let place = div-add-mod' window.start b in
+      let low = mod_below window.start b some in
+      let next = add-mul (window.start / b) 1 b in
+      omega arith
+
+  head-room : (let first = first_part_of b window in first.from ≢ 0 → first.to ≡ b → (first.element + 1) * b ≤ window.start + window.len)
+  head-room inner whole =
+      let place = div-add-mod' window.start b in
+      let low = mod_below window.start b some in
+      let next = add-mul (window.start / b) 1 b in
+      omega arith
+
+  first-within : (n : ℕ) → IsWithin window (b * n) → IsPartWithin b n (first_part_of b window)
+  first-within n within =
+      let start = within.start in
+      let len = within.len in
+      let low = mod_below window.start b some in
+      record { element = div_below window.start b n some (omega arith); order = omega arith; bound = omega arith }
+
+  -- the rest of the window after the head
+  module _ (head : Option Part) (start : ℕ) (low : window.start ≤ start * b) (room : start * b ≤ window.start + window.len) where
+    start-last : (last_part_of b window).to ≡ b → start ≤ (last_part_of b window).element + 1
+    start-last whole =
+        let last = window.start + (window.len - 1) in
+        let place = div-add-mod' last b in
+        let high = mod_below last b some in
+        let next = add-mul (last / b) 1 b in
+        start-below b start (last / b + 1) 0 (omega arith) some
+
+    start-tail : (last_part_of b window).to ≢ b → start ≤ (last_part_of b window).element
+    start-tail part =
+        let last = window.start + (window.len - 1) in
+        let place = div-add-mod' last b in
+        let high = mod_below last b some in
+        start-below b start (last / b) (last % b + 1) (omega arith) (omega arith)
+
+    -- the tail is from the start of its element on
+    tail-from : (last_part_of b window).to ≢ b → (last_part_of b window).from ≡ 0
+    tail-from part =
+        let last = window.start + (window.len - 1) in
+        let place = div-add-mod' last b in
+        let rows = mul-le-mul_right {m = start} {n = last / b} b (start-tail part) in
+        omega arith
+
+    across-within : (n : ℕ) → IsWithin window (b * n) → IfSome head (IsHeadWithin b n start) → IsCutWithin b n (cut_across b head start (last_part_of b window))
+    across-within n within before =
+        let last = window.start + (window.len - 1) in
+        let lies = within.start in
+        let len = within.len in
+        let high = mod_below last b some in
+        let row : last / b < n = div_below last b n some (omega arith) in
+        across_cases b head start (last_part_of b window) (IsCutWithin b n)
+        (λ whole. (before, start-last whole, omega arith, tt))
+        (λ part. (before, start-tail part, omega arith, record { within = record { element = row; order = omega arith; bound = omega arith }; start = tail-from part; next = refl }))
+
+    across-is : (at : ℕ → ℕ → ℕ) (xs : List ℕ) → HasWindow b xs window → part_bits_if b at xs head ≡ slice_range (memory_bits b at xs) window.start (start * b)
+        → cut_bits b at xs (cut_across b head start (last_part_of b window)) ≡ list_in b at xs window
+    unfolding window_of
+    across-is at xs has before =
+        let memory = memory_bits b at xs in
+        let long = length-memory_bits b at xs in
+        let last = window.start + (window.len - 1) in
+        let place = div-add-mod' last b in
+        let lies = has.within.start in
+        let len = has.within.len in
+        let high = mod_below last b some in
+        let row : last / b < length xs = div_below last b (length xs) some (omega arith) in
+        across_cases b head start (last_part_of b window) (λ c. cut_bits b at xs c ≡ list_in b at xs window)
+        (λ whole.
+        let next = add-mul (last / b) 1 b in
+        parts-join memory window.start (start * b) ((last / b + 1) * b) (window.start + window.len) _ _ _ low (mul-le-mul_right {m = start} {n = last / b + 1} b (start-last whole)) (omega arith) (omega arith)
+        before (memory-range b at xs start (last / b + 1) some (start-last whole) (omega arith)) (sym (range-none memory ((last / b + 1) * b) (window.start + window.len) (omega arith))))
+        (λ part.
+        let from = tail-from part in
+        parts-join memory window.start (start * b) (last / b * b) (window.start + window.len) _ _ _ low (mul-le-mul_right {m = start} {n = last / b} b (start-tail part)) (omega arith) (omega arith)
+        before (memory-range b at xs start (last / b) some (start-tail part) (omega arith)) (range-same memory _ _ _ _ (omega arith) (omega arith)))
+
+-- ---- the parts of a window lie in its memory, and are it
+
+pub cut_within : (b n : ℕ) (window : Window) → 0 < b → IsWithin window (b * n) → IsCutWithin b n (cut_of b window)
+cut_within b n window some within =
+    let place = div-add-mod' window.start b in
+    let lies = within.start in
+    cut_cases b window (IsCutWithin b n)
+    (λ none. let row = start-below b (window.start / b) n 0 (omega arith) some in (tt, omega arith, row, tt))
+    (λ more edge. across-within b window some more None (window.start / b) (omega arith) (omega arith) n within tt)
+    (λ more inner whole. across-within b window some more (Some (first_part_of b window)) (window.start / b + 1) (head-end b window some more whole) (head-room b window some more inner whole) n within
+    (record { within = first-within b window some more n within; end = whole; next = refl }))
+    (λ more inner part. first-within b window some more n within)
+
+pub cut_is : (b : ℕ) (at : ℕ → ℕ → ℕ) (xs : List ℕ) (window : Window) → 0 < b → HasWindow b xs window → cut_bits b at xs (cut_of b window) ≡ list_in b at xs window
+unfolding window_of
+cut_is b at xs window some has =
+    let memory = memory_bits b at xs in
+    let place = div-add-mod' window.start b in
+    let low = mod_below window.start b some in
+    let lies = has.within.start in
+    cut_cases b window (λ c. cut_bits b at xs c ≡ list_in b at xs window)
+    (λ none.
+    let row = start-below b (window.start / b) (length xs) 0 (omega arith) some in
+    ap (λ (l : List Bool). l ++ []) (memory-range b at xs (window.start / b) (window.start / b) some (omega arith) row ∙ range-none memory (window.start / b * b) (window.start / b * b) (omega arith))
+    ∙ sym (range-none memory window.start (window.start + window.len) (omega arith)))
+    (λ more edge. across-is b window some more None (window.start / b) (omega arith) (omega arith) at xs has (sym (range-none memory window.start (window.start / b * b) (omega arith))))
+    (λ more inner whole.
+    let next = add-mul (window.start / b) 1 b in
+    across-is b window some more (Some (first_part_of b window)) (window.start / b + 1) (head-end b window some more whole) (head-room b window some more inner whole) at xs has
+    (range-same memory _ _ _ _ (omega arith) (omega arith)))
+    (λ more inner part. range-same memory _ _ _ _ (omega arith) (omega arith))

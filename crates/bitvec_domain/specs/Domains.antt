@@ -1,8 +1,9 @@
 -- What the parts of a view are, by the elements that it touches.
-use Rattle.std.specs.Prelude.{◌≡◌, ℕ, ◌<◌, ◌≤◌, Bool, List, [], ◌++◌, map, slice_index, slice_range}
+use Rattle.std.specs.Prelude.{◌≡◌, ⊤, Bool, List, [], ◌++◌, map, slice_index, slice_range}
 use Rattle.std.specs.declared.option.Option.{Option}
 use Rattle.std.specs.declared.option.Option.TheVariants.{None, Some}
 use Rattle.bitvec_base.specs.Memory.{memory_bits}
+use Rattle.bitvec_base.specs.declared.part.Part.{Part}
 use Rattle.bitvec_base.specs.declared.store.BitStore.{Ghosts as Store}
 use Rattle.bitvec_base.specs.declared.order.BitOrder.{Ghosts as Order}
 use Rattle.bitvec_domain.specs.Parts.{bits_of_part, element_of_part, head_of_part, tail_of_part, bits_of_part_mut, element_of_part_mut, head_of_part_mut, tail_of_part_mut}
@@ -16,22 +17,23 @@ use Rattle.bitvec_domain.specs.declared.part.PartialElement.{PartialElement}
 use Rattle.bitvec_domain.specs.declared.part_mut.PartialElementMut.{PartialElementMut}
 
 module _ {T O : Type 0} {t : Store T} {o : Order O} where
-  -- the part is the bits `from` up to, without, `to` of element i
-  pub record IsPart (elements : List T) (i from to : ℕ) (p : PartialElement T O t o) : Type 0 where
-    pub element : t.value (element_of_part p) ≡ slice_index (map t.value elements) i
-    pub head : head_of_part p ≡ from
-    pub tail : tail_of_part p ≡ to
+  -- it is the part, of these elements
+  pub record IsPart (elements : List T) (part : Part) (p : PartialElement T O t o) : Type 0 where
+    pub element : t.value (element_of_part p) ≡ slice_index (map t.value elements) part.element
+    pub head : head_of_part p ≡ part.from
+    pub tail : tail_of_part p ≡ part.to
 
-  -- the same, if there are such bits
-  abbrev pub IsPartIf : List T → ℕ → ℕ → ℕ → Option (PartialElement T O t o) → Type 0
-  IsPartIf elements i from to None = to ≤ from
-  IsPartIf elements i from to (Some p) = (from < to) × IsPart elements i from to p
+  -- the same, if there is one
+  abbrev pub IsPartIf : List T → Option Part → Option (PartialElement T O t o) → Type 0
+  IsPartIf elements None None = ⊤
+  IsPartIf elements (Some part) (Some p) = IsPart elements part p
+  IsPartIf elements part p = ⊥
 
   -- the domain has the elements, cut so
   abbrev pub IsDomain : List T → Cut → Domain T O t o → Type 0
-  IsDomain elements (Inside i from to) (Enclave p) = IsPart elements i from to p
-  IsDomain elements (Across first from start end to) (Region head body tail) =
-      IsPartIf elements first from t.BITS head × (body.now ≡ slice_range elements start end) × IsPartIf elements end 0 to tail
+  IsDomain elements (Inside part) (Enclave p) = IsPart elements part p
+  IsDomain elements (Across before start end after) (Region head body tail) =
+      IsPartIf elements before head × (body.now ≡ slice_range elements start end) × IsPartIf elements after tail
   IsDomain elements c d = ⊥
 
   -- the bits of the parts, one part after the other
@@ -45,19 +47,20 @@ module _ {T O : Type 0} {t : Store T} {o : Order O} where
       bits_of_part_if head ++ (memory_bits t.BITS o.at (map t.value body.now) ++ bits_of_part_if tail)
 
   -- the same of parts that are written, as they are at first
-  pub record IsPartMut (elements : List T) (i from to : ℕ) (p : PartialElementMut T O t o) : Type 0 where
-    pub element : t.value (element_of_part_mut p) ≡ slice_index (map t.value elements) i
-    pub head : head_of_part_mut p ≡ from
-    pub tail : tail_of_part_mut p ≡ to
+  pub record IsPartMut (elements : List T) (part : Part) (p : PartialElementMut T O t o) : Type 0 where
+    pub element : t.value (element_of_part_mut p) ≡ slice_index (map t.value elements) part.element
+    pub head : head_of_part_mut p ≡ part.from
+    pub tail : tail_of_part_mut p ≡ part.to
 
-  abbrev pub IsPartIfMut : List T → ℕ → ℕ → ℕ → Option (PartialElementMut T O t o) → Type 0
-  IsPartIfMut elements i from to None = to ≤ from
-  IsPartIfMut elements i from to (Some p) = (from < to) × IsPartMut elements i from to p
+  abbrev pub IsPartIfMut : List T → Option Part → Option (PartialElementMut T O t o) → Type 0
+  IsPartIfMut elements None None = ⊤
+  IsPartIfMut elements (Some part) (Some p) = IsPartMut elements part p
+  IsPartIfMut elements part p = ⊥
 
   abbrev pub IsDomainMut : List T → Cut → DomainMut T O t o → Type 0
-  IsDomainMut elements (Inside i from to) (EnclaveMut p) = IsPartMut elements i from to p
-  IsDomainMut elements (Across first from start end to) (RegionMut head body tail) =
-      IsPartIfMut elements first from t.BITS head × (body.now ≡ slice_range elements start end) × IsPartIfMut elements end 0 to tail
+  IsDomainMut elements (Inside part) (EnclaveMut p) = IsPartMut elements part p
+  IsDomainMut elements (Across before start end after) (RegionMut head body tail) =
+      IsPartIfMut elements before head × (body.now ≡ slice_range elements start end) × IsPartIfMut elements after tail
   IsDomainMut elements c d = ⊥
 
   abbrev pub bits_of_part_if_mut : Option (PartialElementMut T O t o) → List Bool

@@ -1,77 +1,76 @@
-//! How bits are cut at the edges of elements.
-ghost use Rattle.std.specs.Prelude.{◌≡◌, ℕ, ◌*◌, ◌<◌, ◌≤◌};
-ghost use Rattle.bitvec_domain.specs.Cuts.{IsCutWithin, cut_of};
+//! How a window is cut at the edges of elements.
+ghost use Rattle.std.specs.Prelude.{◌≡◌, ℕ, ◌+◌, ◌*◌, ◌^◌, ◌<◌};
+ghost use Rattle.bitvec_base.specs.Window.{IsWithin};
+ghost use Rattle.bitvec_domain.specs.Cuts.{IsCutWithin, cut_across, cut_of};
 
-/// Bits of a memory, cut at the edges of its elements.
+use bitvec_base::{Part, Window, first_part, last_part};
+
+/// A window of a memory, cut at the edges of its elements.
 #[derive(Clone, Copy)]
 pub enum Cut {
     /// All inside one element, touching neither of its edges.
-    Inside {
-        /// The element.
-        element: usize,
-        /// The index there of the first bit.
-        head: usize,
-        /// The index there past the last bit.
-        tail: usize,
-    },
+    Inside(Part),
     /// Whole elements, and parts of one at either end.
     Across {
-        /// The element of the first part.
-        first: usize,
-        /// The index there of the first bit; the width, if there is no such part.
-        head: usize,
+        /// The bits of the first element, if the window begins inside it.
+        head: Option<Part>,
         /// The first of the whole elements.
         start: usize,
-        /// The element past the whole ones, which is that of the last part.
+        /// The element past the whole ones.
         end: usize,
-        /// The index there past the last bit; 0, if there is no such part.
-        tail: usize,
+        /// The bits of the last element, if the window ends inside it.
+        tail: Option<Part>,
     },
 }
 
 impl Cut {
-    /// The bits `from` up to, without, `to` of a memory of elements of that many bits.
-    pub fn between(bits: usize, from: usize, to: usize) -> Cut
+    /// The window of a memory of elements of that many bits. Condition: the window's end is a
+    /// `usize`.
+    pub fn of(bits: usize, window: Window) -> Cut
         requires width { 0 < bits }
-        requires order { from ≤ to }
-        ensures value { result ≡ cut_of bits from to }
-        ensures within { (count : ℕ) → to ≤ bits * count → IsCutWithin bits count result }
+        requires end { window.start + window.len < 2 ^ 64 }
+        ensures value { result ≡ cut_of bits window }
+        ensures within { (count : ℕ) → IsWithin window (bits * count) → IsCutWithin bits count result }
     {
-        let first = from / bits;
-        let last = to / bits;
-        let head = from % bits;
-        let tail = to % bits;
-        if from == to {
+        if window.len == 0 {
+            let element = window.start / bits;
             return Cut::Across {
-                first,
-                head: bits,
-                start: last,
-                end: last,
-                tail: 0,
+                head: None,
+                start: element,
+                end: element,
+                tail: None,
             };
         }
-        if head == 0 {
-            return Cut::Across {
-                first,
-                head: bits,
-                start: first,
-                end: last,
-                tail,
-            };
+        let first = first_part(bits, window);
+        let last = last_part(bits, window);
+        if first.from == 0 {
+            return Cut::across(bits, None, first.element, last);
         }
-        if first == last {
-            return Cut::Inside {
-                element: first,
+        if first.to == bits {
+            return Cut::across(bits, Some(first), first.element + 1, last);
+        }
+        Cut::Inside(first)
+    }
+
+    // From the head and the whole element `start` on, up to the end of the last part, which is the
+    // tail if it doesn't end its element.
+    fn across(bits: usize, head: Option<Part>, start: usize, last: Part) -> Cut
+        requires { last.element + 1 < 2 ^ 64 }
+        ensures { result ≡ cut_across bits head start last }
+    {
+        if last.to == bits {
+            return Cut::Across {
                 head,
-                tail,
+                start,
+                end: last.element + 1,
+                tail: None,
             };
         }
         Cut::Across {
-            first,
             head,
-            start: first + 1,
-            end: last,
-            tail,
+            start,
+            end: last.element,
+            tail: Some(last),
         }
     }
 }

@@ -1,11 +1,12 @@
 //! The elements that a view touches.
-ghost use Rattle.std.specs.Prelude.{◌≡◌, ℕ, ◌+◌, ◌*◌, ◌<◌, ◌≤◌, length};
-ghost use Rattle.bitvec_domain.specs.Cuts.{cut_of};
-ghost use Rattle.bitvec_domain.specs.Domains.{IsDomain, IsPartIf};
+ghost use Rattle.std.specs.Prelude.{IfSome, length, map};
+ghost use Rattle.bitvec_base.specs.Memory.{HasWindow};
+ghost use Rattle.bitvec_domain.specs.Cuts.{IsPartWithin, cut_of};
+ghost use Rattle.bitvec_domain.specs.Domains.{IsDomain, IsPart, IsPartIf};
 
 use crate::PartialElement;
 use crate::cut::Cut;
-use bitvec_base::{BitOrder, BitStore};
+use bitvec_base::{BitOrder, BitStore, Part, Window};
 
 /// The elements that a view touches, in their order: the crate's `Domain` over shared elements.
 #[derive(Drop)]
@@ -23,47 +24,45 @@ pub enum Domain<'a, T: BitStore, O: BitOrder> {
     },
 }
 
-/// The elements that the bits `from` up to, without, `to` touch.
-pub fn domain_of<T: BitStore, O: BitOrder>(cells: &[T], from: usize, to: usize) -> Domain<'_, T, O>
-    requires order { from ≤ to }
-    requires bound { to ≤ T.BITS * length cells.now }
-    ensures { IsDomain cells.now (cut_of T.BITS from to) result }
+/// The elements that a window touches. Condition: the memory has at most `MAX_BITS` bits, and the
+/// window lies in it.
+pub fn domain_of<T: BitStore, O: BitOrder>(cells: &[T], window: Window) -> Domain<'_, T, O>
+    requires window { HasWindow T.BITS (map T.value cells.now) window }
+    ensures { IsDomain cells.now (cut_of T.BITS window) result }
 {
-    let bits = T::BITS as usize;
-    match Cut::between(bits, from, to) {
-        Cut::Inside {
-            element,
-            head,
-            tail,
-        } => Domain::Enclave(PartialElement::new(&cells[element], head, tail)),
+    match Cut::of(T::BITS as usize, window) {
+        Cut::Inside(part) => Domain::Enclave(part_of(cells, part)),
         Cut::Across {
-            first,
             head,
             start,
             end,
             tail,
         } => Domain::Region {
-            head: part_if(cells, first, head, bits),
+            head: part_if(cells, head),
             body: &cells[start..end],
-            tail: part_if(cells, end, 0, tail),
+            tail: part_if(cells, tail),
         },
     }
 }
 
-/// The bits `from` up to, without, `to` of an element, if there are any.
+/// The bits of a part.
+fn part_of<T: BitStore, O: BitOrder>(cells: &[T], part: Part) -> PartialElement<'_, T, O>
+    requires { IsPartWithin T.BITS (length cells.now) part }
+    ensures { IsPart cells.now part result }
+{
+    PartialElement::new(&cells[part.element], part.from, part.to)
+}
+
+/// The bits of a part, if there is one.
 fn part_if<T: BitStore, O: BitOrder>(
     cells: &[T],
-    index: usize,
-    from: usize,
-    to: usize,
+    part: Option<Part>,
 ) -> Option<PartialElement<'_, T, O>>
-    requires inside { from < to → index < length cells.now }
-    requires bound { to ≤ T.BITS }
-    ensures { IsPartIf cells.now index from to result }
+    requires { IfSome part (IsPartWithin T.BITS (length cells.now)) }
+    ensures { IsPartIf cells.now part result }
 {
-    if from < to {
-        Some(PartialElement::new(&cells[index], from, to))
-    } else {
-        None
+    match part {
+        None => None,
+        Some(part) => Some(part_of(cells, part)),
     }
 }

@@ -1,12 +1,13 @@
 //! The elements that a writable view touches.
-ghost use Rattle.std.specs.Prelude.{◌≡◌, ℕ, ◌+◌, ◌*◌, ◌<◌, ◌≤◌, length};
-ghost use Rattle.bitvec_domain.specs.Cuts.{cut_of};
-ghost use Rattle.bitvec_domain.specs.Domains.{IsDomainMut, IsPartIfMut};
-ghost use Rattle.bitvec_domain.specs.declared.cut.Cut.TheVariants.{Inside, Across};
+ghost use Rattle.std.specs.Prelude.{◌≡◌, ℕ, ◌+◌, ◌-◌, ◌≤◌, IfSome, length, map};
+ghost use Rattle.bitvec_base.specs.Memory.{HasWindow};
+ghost use Rattle.bitvec_domain.specs.Cuts.{IsHeadWithin, IsPartWithin, IsTailWithin, cut_of, part_from, part_if_from};
+ghost use Rattle.bitvec_domain.specs.Domains.{IsDomainMut, IsPartIfMut, IsPartMut};
+ghost use Rattle.bitvec_domain.specs.declared.cut.Cut.TheVariants.{Across};
 
 use crate::PartialElementMut;
 use crate::cut::Cut;
-use bitvec_base::{BitOrder, BitStore};
+use bitvec_base::{BitOrder, BitStore, Part, Window};
 
 /// The elements that a writable view touches, in their order: the crate's `Domain` over exclusive
 /// elements.
@@ -25,70 +26,72 @@ pub enum DomainMut<'a, T: BitStore, O: BitOrder> {
     },
 }
 
-/// The elements that the bits `from` up to, without, `to` touch.
+/// The elements that a window touches. Condition: the memory has at most `MAX_BITS` bits, and the
+/// window lies in it.
 pub fn domain_mut_of<T: BitStore, O: BitOrder>(
     cells: &mut [T],
-    from: usize,
-    to: usize,
+    window: Window,
 ) -> DomainMut<'_, T, O>
-    requires order { from ≤ to }
-    requires bound { to ≤ T.BITS * length cells.old }
-    ensures { IsDomainMut cells.old (cut_of T.BITS from to) result }
+    requires window { HasWindow T.BITS (map T.value cells.old) window }
+    ensures { IsDomainMut cells.old (cut_of T.BITS window) result }
 {
-    match Cut::between(T::BITS as usize, from, to) {
-        Cut::Inside {
-            element,
-            head,
-            tail,
-        } => DomainMut::Enclave(PartialElementMut::new(&mut cells[element], head, tail)),
+    match Cut::of(T::BITS as usize, window) {
+        Cut::Inside(part) => DomainMut::Enclave(part_of(cells, 0, part)),
         Cut::Across {
-            first,
             head,
             start,
             end,
             tail,
-        } => region(cells, first, head, start, end, tail),
+        } => region(cells, head, start, end, tail),
     }
 }
 
 /// A part of one element, whole elements, and again a part of one.
 fn region<T: BitStore, O: BitOrder>(
     cells: &mut [T],
-    first: usize,
-    head: usize,
+    head: Option<Part>,
     start: usize,
     end: usize,
-    tail: usize,
+    tail: Option<Part>,
 ) -> DomainMut<'_, T, O>
+    requires head { IfSome head (IsHeadWithin T.BITS (length cells.old) start) }
     requires order { start ≤ end }
     requires bound { end ≤ length cells.old }
-    requires head { head ≤ T.BITS }
-    requires first { head < T.BITS → first < start }
-    requires tail { tail ≤ T.BITS }
-    requires last { 0 < tail → end < length cells.old }
-    ensures { IsDomainMut cells.old (Across first head start end tail) result }
+    requires tail { IfSome tail (IsTailWithin T.BITS (length cells.old) end) }
+    ensures { IsDomainMut cells.old (Across head start end tail) result }
 {
     let (front, after) = cells.split_at_mut(end);
     let (before, body) = front.split_at_mut(start);
-    let head = part_if(before, first, head, T::BITS as usize);
-    let tail = part_if(after, 0, 0, tail);
+    let head = part_if(before, 0, head);
+    let tail = part_if(after, end, tail);
     DomainMut::Region { head, body, tail }
 }
 
-/// The bits `from` up to, without, `to` of an element, if there are any.
+/// The bits of a part, where `cells` are the elements from the element `first` on.
+fn part_of<T: BitStore, O: BitOrder>(
+    cells: &mut [T],
+    first: usize,
+    part: Part,
+) -> PartialElementMut<'_, T, O>
+    requires first { first ≤ part.element }
+    requires within { IsPartWithin T.BITS (first + length cells.old) part }
+    ensures { IsPartMut cells.old (part_from first part) result }
+{
+    PartialElementMut::new(&mut cells[part.element - first], part.from, part.to)
+}
+
+/// The bits of a part, if there is one, where `cells` are the elements from the element `first` on.
 fn part_if<T: BitStore, O: BitOrder>(
     cells: &mut [T],
-    index: usize,
-    from: usize,
-    to: usize,
+    first: usize,
+    part: Option<Part>,
 ) -> Option<PartialElementMut<'_, T, O>>
-    requires inside { from < to → index < length cells.old }
-    requires bound { to ≤ T.BITS }
-    ensures { IsPartIfMut cells.old index from to result }
+    requires first { IfSome part (λ p. first ≤ p.element) }
+    requires within { IfSome part (IsPartWithin T.BITS (first + length cells.old)) }
+    ensures { IsPartIfMut cells.old (part_if_from first part) result }
 {
-    if from < to {
-        Some(PartialElementMut::new(&mut cells[index], from, to))
-    } else {
-        None
+    match part {
+        None => None,
+        Some(part) => Some(part_of(cells, first, part)),
     }
 }

@@ -1,5 +1,5 @@
 //! Parts of one element that is written.
-ghost use Rattle.std.specs.Prelude.{◌≡◌, ℕ, ◌-◌, ◌^◌, ◌≤◌, bit_and, bit_or, bit_xor, map, not, replicate, slice_range, false};
+ghost use Rattle.std.specs.Prelude.{◌≡◌, ◌≤◌, bit_and, false, map, not, replicate, slice_range};
 ghost use Rattle.bitvec_base.specs.Memory.{element_bits};
 ghost use Rattle.bitvec_base.specs.Order.{mask_of};
 ghost use Rattle.bitvec_base.specs.Window.{write_at};

@@ -1,11 +1,10 @@
 //! Edits of writable views.
-ghost use Rattle.std.specs.Prelude.{◌≡◌, ℕ, ◌+◌, ◌-◌, ◌<◌, ◌≤◌, ◌++◌, Bool, List, drop, false, length, replicate, reverse, slice_index_or, slice_range, slice_set, take};
+ghost use Rattle.std.specs.Prelude.{◌≡◌, ℕ, ◌<◌, ◌≤◌, Bool, List, false, length, reverse, slice_index_or, slice_set};
 ghost use Rattle.std.specs.List.{swap};
-ghost use Rattle.bitvec_base.specs.Lists.{combined};
-ghost use Rattle.bitvec_base.specs.Window.{write_at};
+ghost use Rattle.bitvec_base.specs.Lists.{FitsWithin, combined, copied_within, rotated_left, rotated_right, shifted_end, shifted_start};
 ghost use Rattle.bitvec_elements.specs.Asked.{CallableBelow, CallableOnBits, FillsWith, RefillsWith};
 ghost use Rattle.bitvec_engine.specs.Operator.{operator};
-ghost use Rattle.bitvec_engine.specs.declared.combine.BitOp.TheVariants.{And, Or, Xor};
+ghost use Rattle.bitvec_engine.specs.declared.combining.BitOp.TheVariants.{And, Or, Xor};
 ghost use Rattle.bitvec_slice.specs.Views.{bits_of, bits_of_mut, window_in, window_in_mut};
 ghost use Rattle.bitvec_slice.specs.Writes.{WritesBits};
 
@@ -43,37 +42,30 @@ pub trait BitEdits {
     /// Rotates the bits so that the one at `by` comes first. Condition: `by` is at most `len`.
     fn rotate_left(&mut self, by: usize)
         requires { by ≤ len self.old }
-        ensures { writes self.old self.new
-            (drop by (bits self.old) ++ take by (bits self.old)) };
+        ensures { writes self.old self.new (rotated_left by (bits self.old)) };
 
     /// Rotates the bits so that the last `by` come first. Condition: `by` is at most `len`.
     fn rotate_right(&mut self, by: usize)
         requires { by ≤ len self.old }
-        ensures { let list = bits self.old in
-            writes self.old self.new
-            (drop (length list - by) list ++ take (length list - by) list) };
+        ensures { writes self.old self.new (rotated_right by (bits self.old)) };
 
     /// Shifts the bits by `by` places towards the start: the first `by` are lost, and as many zeros
     /// follow the others. Condition: `by` is at most `len`.
     fn shift_start(&mut self, by: usize)
         requires { by ≤ len self.old }
-        ensures { writes self.old self.new (drop by (bits self.old) ++ replicate by false) };
+        ensures { writes self.old self.new (shifted_start by (bits self.old)) };
 
     /// Shifts the bits by `by` places towards the end: the last `by` are lost, and as many zeros
     /// stand before the others. Condition: `by` is at most `len`.
     fn shift_end(&mut self, by: usize)
         requires { by ≤ len self.old }
-        ensures { let list = bits self.old in
-            writes self.old self.new (replicate by false ++ take (length list - by) list) };
+        ensures { writes self.old self.new (shifted_end by (bits self.old)) };
 
     /// Copies the bits of a range to `dest` on, also where they overlap. Condition:
     /// `start <= end <= len`, and `dest + (end - start) <= len`.
     fn copy_within(&mut self, src: Range<usize>, dest: usize)
-        requires order { src.start ≤ src.end }
-        requires source { src.end ≤ len self.old }
-        requires dest { dest + (src.end - src.start) ≤ len self.old }
-        ensures { let list = bits self.old in
-            writes self.old self.new (write_at list dest (slice_range list src.start src.end)) };
+        requires { FitsWithin src.start src.end dest (len self.old) }
+        ensures { writes self.old self.new (copied_within src.start src.end dest (bits self.old)) };
 
     /// The same as [`BitEdits::replace`], under the same condition.
     fn replace_unchecked(&mut self, index: usize, bit: bool) -> bool
@@ -89,11 +81,8 @@ pub trait BitEdits {
 
     /// The same as [`BitEdits::copy_within`], under the same condition.
     fn copy_within_unchecked(&mut self, src: Range<usize>, dest: usize)
-        requires order { src.start ≤ src.end }
-        requires source { src.end ≤ len self.old }
-        requires dest { dest + (src.end - src.start) ≤ len self.old }
-        ensures { let list = bits self.old in
-            writes self.old self.new (write_at list dest (slice_range list src.start src.end)) };
+        requires { FitsWithin src.start src.end dest (len self.old) }
+        ensures { writes self.old self.new (copied_within src.start src.end dest (bits self.old)) };
 
     /// Copies the bits of a view of any element type and order. Condition: the views are as long.
     fn clone_from_bitslice<U: BitStore, P: BitOrder>(&mut self, src: BitSlice<'_, U, P>)
@@ -103,20 +92,17 @@ pub trait BitEdits {
     /// Makes each bit 1 if it and the one at its index in `src`, which counts as 0 past its end,
     /// both are: `&=` for any element type and order.
     fn and_bits<U: BitStore, P: BitOrder>(&mut self, src: BitSlice<'_, U, P>)
-        ensures { writes self.old self.new
-            (combined (operator And) (bits self.old) (bits_of src.entry)) };
+        ensures { writes self.old self.new (combined (operator And) (bits self.old) (bits_of src.entry)) };
 
     /// Makes each bit 1 if it or the one at its index in `src`, which counts as 0 past its end, is:
     /// `|=` for any element type and order.
     fn or_bits<U: BitStore, P: BitOrder>(&mut self, src: BitSlice<'_, U, P>)
-        ensures { writes self.old self.new
-            (combined (operator Or) (bits self.old) (bits_of src.entry)) };
+        ensures { writes self.old self.new (combined (operator Or) (bits self.old) (bits_of src.entry)) };
 
     /// Makes each bit 1 if it and the one at its index in `src`, which counts as 0 past its end,
     /// differ: `^=` for any element type and order.
     fn xor_bits<U: BitStore, P: BitOrder>(&mut self, src: BitSlice<'_, U, P>)
-        ensures { writes self.old self.new
-            (combined (operator Xor) (bits self.old) (bits_of src.entry)) };
+        ensures { writes self.old self.new (combined (operator Xor) (bits self.old) (bits_of src.entry)) };
 
     /// Exchanges the bits with those of a view of any element type and order. Condition: the views
     /// are as long.

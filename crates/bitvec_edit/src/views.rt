@@ -7,15 +7,14 @@ ghost use Rattle.bitvec_slice.specs.Writes.{WritesBits};
 use crate::BitEdits;
 use bitvec_base::{BitOrder, BitStore};
 use bitvec_elements::{
-    combine_bits_in, copy_bits_in, copy_within_in, fill_with_in, for_each_in, replace_in,
-    reverse_in, rotate_left_in, rotate_right_in, shift_end_in, shift_start_in, swap_bits_in,
-    swap_in,
+    combine_in, copy_from_in, copy_within_in, fill_with_in, for_each_in, replace_in, reverse_in,
+    rotate_left_in, rotate_right_in, shift_end_in, shift_start_in, swap_in, swap_with_in,
 };
-use bitvec_engine::BitOp;
+use bitvec_engine::{BitOp, SliceOrder};
 use bitvec_slice::{BitSlice, BitSliceMut};
 use std::ops::Range;
 
-impl<'a, T: BitStore, O: BitOrder> BitEdits for BitSliceMut<'a, T, O> {
+impl<'a, T: BitStore, O: SliceOrder> BitEdits for BitSliceMut<'a, T, O> {
     ghost bits = { bits_of_mut };
 
     ghost len = { λ view. (window_in_mut view).len };
@@ -77,7 +76,7 @@ impl<'a, T: BitStore, O: BitOrder> BitEdits for BitSliceMut<'a, T, O> {
     fn clone_from_bitslice<U: BitStore, P: BitOrder>(&mut self, src: BitSlice<'_, U, P>) {
         let window = self.window();
         let from = src.window();
-        copy_bits_in::<T, O, U, P>(self.elements_mut(), window, src.into_slice(), from);
+        copy_from_in::<T, O, U, P>(self.elements_mut(), window, src.into_slice(), from);
     }
 
     fn and_bits<U: BitStore, P: BitOrder>(&mut self, src: BitSlice<'_, U, P>) {
@@ -95,7 +94,7 @@ impl<'a, T: BitStore, O: BitOrder> BitEdits for BitSliceMut<'a, T, O> {
     fn swap_with_bits<U: BitStore, P: BitOrder>(&mut self, other: &mut BitSliceMut<'_, U, P>) {
         let window = self.window();
         let other_window = other.window();
-        swap_bits_in::<T, O, U, P>(
+        swap_with_in::<T, O, U, P>(
             self.elements_mut(),
             window,
             other.elements_mut(),
@@ -124,5 +123,5 @@ fn combine<T: BitStore, O: BitOrder, U: BitStore, P: BitOrder>(
 {
     let window = view.window();
     let from = src.window();
-    combine_bits_in::<T, O, U, P>(view.elements_mut(), window, src.into_slice(), from, op);
+    combine_in::<T, O, U, P>(view.elements_mut(), window, src.into_slice(), from, op);
 }

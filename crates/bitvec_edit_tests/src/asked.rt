@@ -7,13 +7,14 @@ use crate::laws::{
     filled_by, filled_by_count, filled_with_even, inverted_twice, refilled_by, reversed_twice,
     rotated_back,
 };
-use bitvec_base::{BitOrder, BitStore, HiLo, Lsb0, Msb0};
+use bitvec_base::{BitStore, HiLo, Lsb0, Msb0};
 use bitvec_edit::BitEdits;
+use bitvec_engine::SliceOrder;
 use bitvec_slice::BitSliceMut;
 
 /// Gives the first five bits, if there are as many, the bit that differs from whether the index is
 /// 0.
-fn flip_first_of_five<T: BitStore, O: BitOrder>(elements: &mut [T])
+fn flip_first_of_five<T: BitStore, O: SliceOrder>(elements: &mut [T])
     requires { T.BITS * length elements.old ≤ max_bits }
 {
     let mut view = BitSliceMut::<T, O>::from_slice_mut(elements);
@@ -30,7 +31,7 @@ fn for_each_gets_the_index_and_the_bit_there(rt: HostRuntime) {
 }
 
 /// Makes the first five bits, if there are as many, 1 at each even index and 0 at each odd one.
-fn even_indices_of_five<T: BitStore, O: BitOrder>(elements: &mut [T])
+fn even_indices_of_five<T: BitStore, O: SliceOrder>(elements: &mut [T])
     requires { T.BITS * length elements.old ≤ max_bits }
 {
     let mut view = BitSliceMut::<T, O>::from_slice_mut(elements);
@@ -48,7 +49,7 @@ fn fill_with_gets_the_index(rt: HostRuntime) {
 
 /// Makes each third bit of those `from` up to `to` 1 and the others 0, by a count of the calls, and
 /// gives that count.
-fn each_third_call<T: BitStore, O: BitOrder>(elements: &mut [T], from: usize, to: usize) -> usize
+fn each_third_call<T: BitStore, O: SliceOrder>(elements: &mut [T], from: usize, to: usize) -> usize
     requires { T.BITS * length elements.old ≤ max_bits }
 {
     let mut view = BitSliceMut::<T, O>::from_slice_mut(elements);
@@ -75,7 +76,7 @@ fn fill_with_calls_once_for_each_bit(rt: HostRuntime) {
 }
 
 /// Makes each of the bits `from` up to `to` 1 if its index is the number of calls before its own.
-fn calls_before<T: BitStore, O: BitOrder>(elements: &mut [T], from: usize, to: usize)
+fn calls_before<T: BitStore, O: SliceOrder>(elements: &mut [T], from: usize, to: usize)
     requires { T.BITS * length elements.old ≤ max_bits }
 {
     let mut view = BitSliceMut::<T, O>::from_slice_mut(elements);
@@ -98,7 +99,7 @@ fn fill_with_asks_in_ascending_order(rt: HostRuntime) {
 
 /// Makes each of the bits `from` up to `to` whether the ones up to it and with it are odd in number,
 /// and gives the last such answer.
-fn running_parity<T: BitStore, O: BitOrder>(elements: &mut [T], from: usize, to: usize) -> bool
+fn running_parity<T: BitStore, O: SliceOrder>(elements: &mut [T], from: usize, to: usize) -> bool
     requires { T.BITS * length elements.old ≤ max_bits }
 {
     let mut view = BitSliceMut::<T, O>::from_slice_mut(elements);

@@ -7,10 +7,11 @@ ghost use Rattle.bitvec_elements.specs.Asked.{FillsWith, RefillsWith};
 
 use bitvec_base::{BitOrder, BitStore};
 use bitvec_edit::BitEdits;
+use bitvec_engine::SliceOrder;
 use bitvec_slice::BitSliceMut;
 
 /// Reverses all bits of the elements twice: they are as before.
-pub fn reversed_twice<T: BitStore, O: BitOrder>(elements: &mut [T]) -> &mut [T]
+pub fn reversed_twice<T: BitStore, O: SliceOrder>(elements: &mut [T]) -> &mut [T]
     requires { T.BITS * length elements.old ≤ max_bits }
     ensures { memory_bits T.BITS O.at (map T.value result.now)
         ≡ memory_bits T.BITS O.at (map T.value elements.old) }
@@ -22,7 +23,7 @@ pub fn reversed_twice<T: BitStore, O: BitOrder>(elements: &mut [T]) -> &mut [T]
 }
 
 /// Rotates all bits of the elements to the left and back: they are as before.
-pub fn rotated_back<T: BitStore, O: BitOrder>(elements: &mut [T], by: usize) -> &mut [T]
+pub fn rotated_back<T: BitStore, O: SliceOrder>(elements: &mut [T], by: usize) -> &mut [T]
     requires fits { T.BITS * length elements.old ≤ max_bits }
     requires by { by ≤ T.BITS * length elements.old }
     ensures { memory_bits T.BITS O.at (map T.value result.now)
@@ -47,7 +48,7 @@ pub fn inverted_twice<T: BitStore, O: BitOrder>(elements: &mut [T]) -> &mut [T]
 }
 
 /// Makes the bits of the elements 1 at even indices and 0 at odd ones.
-pub fn filled_with_even<T: BitStore, O: BitOrder>(elements: &mut [T]) -> &mut [T]
+pub fn filled_with_even<T: BitStore, O: SliceOrder>(elements: &mut [T]) -> &mut [T]
     requires { T.BITS * length elements.old ≤ max_bits }
     ensures { memory_bits T.BITS O.at (map T.value result.now)
         ≡ map (λ i. i % 2 == 0) (range_with_len 0 (T.BITS * length elements.old)) }
@@ -58,7 +59,7 @@ pub fn filled_with_even<T: BitStore, O: BitOrder>(elements: &mut [T]) -> &mut [T
 }
 
 /// Makes each third bit of the elements 1 and the others 0, by a count of the calls.
-pub fn filled_by_count<T: BitStore, O: BitOrder>(elements: &mut [T]) -> &mut [T]
+pub fn filled_by_count<T: BitStore, O: SliceOrder>(elements: &mut [T]) -> &mut [T]
     requires { T.BITS * length elements.old ≤ max_bits }
     ensures { memory_bits T.BITS O.at (map T.value result.now)
         ≡ map (λ i. (i + 1) % 3 == 0) (range_with_len 0 (T.BITS * length elements.old)) }
@@ -77,7 +78,7 @@ pub fn filled_by_count<T: BitStore, O: BitOrder>(elements: &mut [T]) -> &mut [T]
 }
 
 /// Makes each bit of the elements what `f` answers for its index, in ascending order.
-pub fn filled_by<T: BitStore, O: BitOrder, F: FnMut(usize) -> bool>(
+pub fn filled_by<T: BitStore, O: SliceOrder, F: FnMut(usize) -> bool>(
     elements: &mut [T],
     f: F,
 ) -> &mut [T]
@@ -93,7 +94,7 @@ pub fn filled_by<T: BitStore, O: BitOrder, F: FnMut(usize) -> bool>(
 
 /// Makes each bit of the elements what `f` answers for its index and the bit there, in ascending
 /// order.
-pub fn refilled_by<T: BitStore, O: BitOrder, F: FnMut(usize, bool) -> bool>(
+pub fn refilled_by<T: BitStore, O: SliceOrder, F: FnMut(usize, bool) -> bool>(
     elements: &mut [T],
     f: F,
 ) -> &mut [T]

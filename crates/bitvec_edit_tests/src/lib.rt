@@ -3,6 +3,7 @@
 
 #[cfg(test)]
 mod asked;
+pub mod kept;
 pub mod laws;
 #[cfg(test)]
 mod moves;

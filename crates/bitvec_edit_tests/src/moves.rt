@@ -3,13 +3,14 @@
 ghost use Rattle.std.specs.Prelude.{◌*◌, ◌≤◌, length};
 ghost use Rattle.bitvec_base.specs.Window.{max_bits};
 
-use bitvec_base::{BitOrder, BitStore, Lsb0, Msb0};
+use bitvec_base::{BitStore, Lsb0, Msb0};
 use bitvec_edit::BitEdits;
+use bitvec_engine::SliceOrder;
 use bitvec_slice::BitSliceMut;
 
 /// Rotates the first five bits, if there are as many, by two places to the left, and by as many to
 /// the right if `back`.
-fn rotate_five<T: BitStore, O: BitOrder>(elements: &mut [T], back: bool)
+fn rotate_five<T: BitStore, O: SliceOrder>(elements: &mut [T], back: bool)
     requires { T.BITS * length elements.old ≤ max_bits }
 {
     let mut view = BitSliceMut::<T, O>::from_slice_mut(elements);
@@ -32,7 +33,7 @@ fn a_rotation_to_the_right_undoes_one_to_the_left(rt: HostRuntime) {
 }
 
 /// Exchanges the first and the last of the first five bits, and then reverses the three between.
-fn swap_and_reverse<T: BitStore, O: BitOrder>(elements: &mut [T])
+fn swap_and_reverse<T: BitStore, O: SliceOrder>(elements: &mut [T])
     requires { T.BITS * length elements.old ≤ max_bits }
 {
     let mut view = BitSliceMut::<T, O>::from_slice_mut(elements);
@@ -52,7 +53,7 @@ fn a_swap_and_a_reversal_of_what_is_between(rt: HostRuntime) {
 }
 
 /// Reverses the bits `from` up to `to` twice, and says whether there are such.
-fn reverse_twice<T: BitStore, O: BitOrder>(elements: &mut [T], from: usize, to: usize) -> bool
+fn reverse_twice<T: BitStore, O: SliceOrder>(elements: &mut [T], from: usize, to: usize) -> bool
     requires { T.BITS * length elements.old ≤ max_bits }
 {
     let mut view = BitSliceMut::<T, O>::from_slice_mut(elements);
@@ -74,7 +75,7 @@ fn two_reversals_change_nothing(rt: HostRuntime) {
 }
 
 /// Shifts all of the first five bits out, towards the start or the end.
-fn shift_five<T: BitStore, O: BitOrder>(elements: &mut [T], towards_start: bool)
+fn shift_five<T: BitStore, O: SliceOrder>(elements: &mut [T], towards_start: bool)
     requires { T.BITS * length elements.old ≤ max_bits }
 {
     let mut view = BitSliceMut::<T, O>::from_slice_mut(elements);
@@ -98,7 +99,7 @@ fn a_shift_by_the_length_clears_the_view(rt: HostRuntime) {
 }
 
 /// Copies the last four of the first five bits one place back, or none to the end.
-fn copy_in_five<T: BitStore, O: BitOrder>(elements: &mut [T], none: bool)
+fn copy_in_five<T: BitStore, O: SliceOrder>(elements: &mut [T], none: bool)
     requires { T.BITS * length elements.old ≤ max_bits }
 {
     let mut view = BitSliceMut::<T, O>::from_slice_mut(elements);
@@ -122,7 +123,7 @@ fn a_copy_may_overlap_and_may_be_empty(rt: HostRuntime) {
 }
 
 /// Replaces the second bit, if there are two, and gives the old one.
-fn replace_second<T: BitStore, O: BitOrder>(elements: &mut [T], bit: bool) -> Option<bool>
+fn replace_second<T: BitStore, O: SliceOrder>(elements: &mut [T], bit: bool) -> Option<bool>
     requires { T.BITS * length elements.old ≤ max_bits }
 {
     let mut view = BitSliceMut::<T, O>::from_slice_mut(elements);
@@ -144,7 +145,7 @@ fn replace_gives_the_old_bit(rt: HostRuntime) {
 }
 
 /// Edits the first five bits by the unchecked names. The result is the bit that was replaced.
-fn edit_unchecked<T: BitStore, O: BitOrder>(elements: &mut [T]) -> Option<bool>
+fn edit_unchecked<T: BitStore, O: SliceOrder>(elements: &mut [T]) -> Option<bool>
     requires { T.BITS * length elements.old ≤ max_bits }
 {
     let mut view = BitSliceMut::<T, O>::from_slice_mut(elements);

@@ -4,6 +4,7 @@ ghost use Rattle.bitvec_base.specs.Window.{max_bits};
 
 use bitvec_base::{BitOrder, BitStore, Lsb0, Msb0};
 use bitvec_edit::BitEdits;
+use bitvec_engine::SliceOrder;
 use bitvec_slice::{BitSlice, BitSliceMut};
 
 /// Exchanges the bits 3 to 9 of the one with the bits 0 to 6 of the other.
@@ -30,7 +31,7 @@ fn an_exchange_leaves_the_neighbours(rt: HostRuntime) {
 }
 
 /// Copies the first five bits, if both have as many.
-fn copy_five<T: BitStore, O: BitOrder, U: BitStore, P: BitOrder>(elements: &mut [T], source: &[U])
+fn copy_five<T: BitStore, O: SliceOrder, U: BitStore, P: BitOrder>(elements: &mut [T], source: &[U])
     requires fits { T.BITS * length elements.old ≤ max_bits }
     requires source_fits { U.BITS * length source.now ≤ max_bits }
 {
@@ -100,7 +101,7 @@ fn a_copy_of_one_type(rt: HostRuntime) {
 }
 
 /// Exchanges the first four bits of the one with those of the other.
-fn swap_four<T: BitStore, O: BitOrder, U: BitStore, P: BitOrder>(
+fn swap_four<T: BitStore, O: SliceOrder, U: BitStore, P: BitOrder>(
     elements: &mut [T],
     others: &mut [U],
 )

@@ -1,41 +1,15 @@
--- Bits that a closure answers, written into a window from its first place on.
-use Rattle.std.specs.Prelude.{◌≡◌, ℕ, ◌+◌, ◌*◌, ◌<◌, Bool, false, List, [], ◌∷◌, ◌++◌, length, map, slice_index_or, slice_set, refl}
+-- A window that closures fill: their answers so far stand in it, from its first place on.
+use Rattle.std.specs.Prelude.{◌≡◌, ℕ, ◌+◌, ◌<◌, Bool, false, List, [], ◌∷◌, ◌++◌, length, slice_index_or, slice_set, refl}
 use Rattle.std.specs.Array.{FillsFrom, index_steps}
 use Rattle.std.specs.Iterator.{CallableAtEachTurn}
 use Rattle.std.proofs.Common.{arith, sym, ◌∙◌, ap, subst}
-use Rattle.std.proofs.lemmas.List.{length-append, length-map}
+use Rattle.std.proofs.lemmas.List.{length-append}
 use Rattle.bitvec_base.specs.declared.window.Window.{Window}
-use Rattle.bitvec_base.specs.Memory.{memory_bits}
-use Rattle.bitvec_base.specs.Window.{IsWithin, window_of, write_at, write_window}
-use Rattle.bitvec_base.specs.WindowLaws.{length-window, part-written}
-use Rattle.bitvec_base.specs.WriteLaws.{length-write_at, write_at-nil, write_at-next, set-is_write, get-slice_range, get-write_at_above}
-
--- one more bit after those that were written
-next-written : (before : List Bool) (window : Window) (new : List Bool) (i : ℕ) (bit : Bool) → IsWithin window (length before) → length new ≡ i → i < window.len
-    → write_window (write_window before window new) window (slice_set (window_of (write_window before window new) window) i bit) ≡ write_window before window (new ++ (bit ∷ []))
-next-written before window new i bit within long h =
-    let start = within.start in
-    let len = within.len in
-    let now = write_window before window new in
-    let kept = length-write_at before window.start new (omega arith) in
-    let lies : IsWithin window (length now) = record { start = omega arith; len = omega arith } in
-    let wide = length-window now window lies in
-    let part : Window = record { start = window.start + i; len = 1 } in
-    ap (write_window now window) (set-is_write (window_of now window) i bit (omega arith))
-    ∙ sym (part-written now window part i (bit ∷ []) lies refl (omega arith))
-    ∙ ap (λ (n : ℕ). write_at now (window.start + n) (bit ∷ [])) (sym long)
-    ∙ write_at-next before window.start new (bit ∷ []) (omega arith)
-
--- the bits from the next one on are as they were
-next-kept : (before : List Bool) (window : Window) (new : List Bool) (i : ℕ) → IsWithin window (length before) → length new ≡ i → i < window.len
-    → slice_index_or (window_of (write_window before window new) window) i false ≡ slice_index_or (window_of before window) i false
-unfolding window_of
-next-kept before window new i within long h =
-    let start = within.start in
-    let len = within.len in
-    get-slice_range (write_at before window.start new) window.start (window.start + window.len) i false (omega arith)
-    ∙ get-write_at_above before window.start new (window.start + i) false (omega arith) (omega arith)
-    ∙ sym (get-slice_range before window.start (window.start + window.len) i false (omega arith))
+use Rattle.bitvec_base.specs.Memory.{memory_bits, list_in, HasWindow, Writes}
+use Rattle.bitvec_base.specs.Window.{window_of, write_window}
+use Rattle.bitvec_base.specs.WindowLaws.{window-push, window-rest}
+use Rattle.bitvec_base.specs.WriteLaws.{write_at-nil}
+use Rattle.bitvec_base.specs.WritesLaws.{within-list, HasWindow-kept}
 
 module _ {F : Type 0} (R : F → ℕ → Bool → F → Type 0) where
   -- one more call after some
@@ -45,27 +19,41 @@ module _ {F : Type 0} (R : F → ℕ → Bool → F → Type 0) where
       (next, subst (λ (n : ℕ). R f n bit next) (sym same) (subst (λ (g : F). R g i bit next) (sym calls) call), refl)
   fills-more f k (x ∷ new) last i bit next at calls call = (calls.0, calls.1, fills-more calls.0 (k + 1) new last i bit next (omega arith) calls.2 call)
 
-  -- after i calls the answers stand in the window, from its first place on
-  pub record Answered (f last : F) (before now : List Bool) (window : Window) (i : ℕ) : Type 0 where
+  -- after i calls the answers stand in the window of b-bit elements
+  pub record Answered (f last : F) (b : ℕ) (at : ℕ → ℕ → ℕ) (old now : List ℕ) (window : Window) (i : ℕ) : Type 0 where
     pub new : List Bool
     pub calls : FillsFrom R f 0 new last
     pub long : length new ≡ i
-    pub bits : now ≡ write_window before window new
+    pub bits : memory_bits b at now ≡ write_window (memory_bits b at old) window new
+    pub elements : length now ≡ length old
 
-  pub answered-none : (f : F) (before now : List Bool) (window : Window) → IsWithin window (length before) → now ≡ before → Answered f f before now window 0
-  answered-none f before now window within same = record { new = []; calls = refl; long = refl; bits = same ∙ sym (write_at-nil before window.start within.start) }
+  pub answered-none : (f : F) (b : ℕ) (at : ℕ → ℕ → ℕ) (old now : List ℕ) (window : Window) → HasWindow b old window → now ≡ old → Answered f f b at old now window 0
+  answered-none f b at old now window has same =
+      let within = within-list b at old window has in
+      record { new = []; calls = refl; long = refl; bits = ap (memory_bits b at) same ∙ sym (write_at-nil (memory_bits b at old) window.start within.start); elements = ap length same }
 
-  module _ (f last : F) (before now : List Bool) (window : Window) (i : ℕ) (within : IsWithin window (length before)) (h : i < window.len) (done : Answered f last before now window i) where
-    pub answered-next : (bit : Bool) (next : F) (after : List Bool) → R last i bit next → after ≡ write_window now window (slice_set (window_of now window) i bit) → Answered f next before after window (i + 1)
-    answered-next bit next after call wrote = record {
-      new = done.new ++ (bit ∷ []);
-      calls = fills-more f 0 done.new last i bit next (omega (arith, done.long)) done.calls call;
-      long = omega (arith, done.long, length-append done.new (bit ∷ []));
-      bits = wrote ∙ ap (λ (m : List Bool). write_window m window (slice_set (window_of m window) i bit)) done.bits ∙ next-written before window done.new i bit within done.long h;
-    }
+  module _ (f last : F) (b : ℕ) (at : ℕ → ℕ → ℕ) (old now : List ℕ) (window : Window) (i : ℕ) (has : HasWindow b old window) (done : Answered f last b at old now window i) where
+    pub answered-window : HasWindow b now window
+    answered-window = HasWindow-kept b old now window has done.elements
 
-    pub answered-kept : slice_index_or (window_of now window) i false ≡ slice_index_or (window_of before window) i false
-    answered-kept = ap (λ (m : List Bool). slice_index_or (window_of m window) i false) done.bits ∙ next-kept before window done.new i within done.long h
+    module _ (h : i < window.len) where
+      pub answered-next : (bit : Bool) (next : F) (after : List ℕ) → R last i bit next → Writes b at now after window (slice_set (list_in b at now window) i bit) → Answered f next b at old after window (i + 1)
+      answered-next bit next after call wrote = record {
+        new = done.new ++ (bit ∷ []);
+        calls = fills-more f 0 done.new last i bit next (omega (arith, done.long)) done.calls call;
+        long = omega (arith, done.long, length-append done.new (bit ∷ []));
+        bits = wrote.bits
+            ∙ ap (λ (m : List Bool). write_window m window (slice_set (window_of m window) i bit)) done.bits
+            ∙ window-push (memory_bits b at old) window done.new i bit (within-list b at old window has) done.long h;
+        elements = wrote.elements ∙ done.elements;
+      }
+
+      -- the next bit is as it was
+      pub answered-shown : (bit : Bool) → bit ≡ slice_index_or (list_in b at now window) i false → bit ≡ slice_index_or (list_in b at old window) i false
+      answered-shown bit read =
+          read
+          ∙ ap (λ (m : List Bool). slice_index_or (window_of m window) i false) done.bits
+          ∙ window-rest (memory_bits b at old) window done.new i false (within-list b at old window has) (omega (arith, done.long)) h
 
   -- what is left of the calls that are allowed
   abbrev pub MayGoOn : (F → ℕ → Type 0) → ℕ → ℕ → F → Type 0

@@ -1,14 +1,1 @@
-pub mod BitLemmas
-pub mod CombineLemmas
-pub mod ComparisonLemmas
-pub mod EditLemmas
-pub mod FindLemmas
-pub mod MoveLemmas
-pub mod PartLemmas
-pub mod PlacesLemmas
-pub mod ReverseLemmas
-pub mod ScanLemmas
-pub mod SearchLemmas
-pub mod SwapLemmas
-pub mod TransferLemmas
-pub mod WalkLemmas
+pub mod NeedleLemmas

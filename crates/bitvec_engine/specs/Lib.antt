@@ -1,4 +1,1 @@
-pub mod Cost
-pub mod CostLaws
-pub mod Element
 pub mod Operator

@@ -1,8 +1,8 @@
 -- What an operator makes of two bits.
 use Rattle.std.specs.Prelude.{Bool, ◌&&◌, ◌||◌}
 use Rattle.bitvec_base.specs.Lists.{differs}
-use Rattle.bitvec_engine.specs.declared.combine.BitOp.{BitOp}
-use Rattle.bitvec_engine.specs.declared.combine.BitOp.TheVariants.{And, Or, Xor}
+use Rattle.bitvec_engine.specs.declared.combining.BitOp.{BitOp}
+use Rattle.bitvec_engine.specs.declared.combining.BitOp.TheVariants.{And, Or, Xor}
 
 abbrev pub operator : BitOp → Bool → Bool → Bool
 operator And bit other = bit && other

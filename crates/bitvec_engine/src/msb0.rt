@@ -1,15 +1,17 @@
 //! Bit operations on whole windows under `Msb0`: bit by bit.
-#![tactic(auto, using(crate::specs::CostLaws::enough))]
+#![tactic(auto, using(bitvec_walk::specs::CostLaws::enough))]
 
 ghost use Rattle.std.specs.Prelude.{true};
 
-use crate::combine::{BitOp, bits_op};
-use crate::comparison::bits_eq;
-use crate::moves::bits_copy_within;
-use crate::shuffle::bits_reverse;
+use crate::combining::{BitOp, bits_op};
+use crate::comparing::bits_eq;
+use crate::copying::bits_copy;
+use crate::copying_within::bits_copy_within;
+use crate::reversing::bits_reverse;
 use crate::slice_order::SliceOrder;
-use crate::transfer::{bits_copy, bits_swap};
-use bitvec_base::{Cells, CellsRead, Msb0, Window};
+use crate::swapping::bits_swap;
+use bitvec_base::{Msb0, Window};
+use bitvec_cells::{Cells, CellsRead};
 
 impl SliceOrder for Msb0 {
     ghost WORDS = { true };

@@ -1,6 +1,7 @@
 //! A run of commands, a step at a time.
 ghost use Rattle.std.specs.Prelude.{◌≡◌, IfOk};
-ghost use Rattle.bitvec_run.specs.Runs.{step_reply, step_list, replies_of, list_after};
+ghost use Rattle.bitvec_run.specs.Fold.{list_after, replies_of};
+ghost use Rattle.bitvec_run.specs.Runs.{step_list, step_reply};
 
 use crate::command::apply;
 use bitvec_run::{Refusal, Reply, Step};
@@ -24,9 +25,9 @@ pub fn plain_run<A: Allocator + Clone + Drop>(
     steps: &[Step],
 ) -> Result<PlainRun<A>, AllocError>
     ensures replies { IfOk result
-        (λ run. run.replies.items ≡ replies_of right.now list.now steps.now) }
+        (λ run. run.replies.items ≡ replies_of (step_reply right.now) (step_list right.now) list.now steps.now) }
     ensures list { IfOk result
-        (λ run. run.list.items ≡ list_after right.now list.now steps.now) }
+        (λ run. run.list.items ≡ list_after (step_list right.now) list.now steps.now) }
 {
     let mut bits = Vec::from_slice(alloc.clone()?, list)?;
     let mut replies = Vec::new(alloc);

@@ -9,16 +9,17 @@ ghost use Rattle.bitvec_slice.specs.Views.{bits_of};
 use crate::runs::{before_first, behind_last};
 use bitvec_base::{BitOrder, BitStore};
 use bitvec_elements::{
-    all_in, any_in, compare_in, contains_in, count_in, ends_in, equal_in, first_in, last_in,
-    starts_in,
+    all_in, any_in, compare_in, contains_in, count_in, ends_with_in, eq_in, first_in, last_in,
+    starts_with_in,
 };
+use bitvec_engine::SliceOrder;
 use bitvec_slice::BitSlice;
 use std::cmp::Ordering;
 
 /// The questions that the crate's `BitSlice` answers about its bits, for both view types. A needle,
 /// or what a view is compared with, may have any element type and order. Indices and counts are in
 /// bits.
-pub trait BitQueries<T: BitStore, O: BitOrder> {
+pub trait BitQueries<T: BitStore, O: SliceOrder> {
     // The bits of the view.
     ghost bits: { Self → List Bool };
 
@@ -78,28 +79,28 @@ pub trait BitQueries<T: BitStore, O: BitOrder> {
         last_in::<T, O>(view.into_slice(), view.window(), false)
     }
 
-    /// How many bits from the first on are 1.
+    /// How many bits at the start are 1.
     fn leading_ones(&self) -> usize
         ensures { result ≡ prefix_len (λ bit. bit) (bits self.now) }
     {
         before_first(self.as_bitslice(), false)
     }
 
-    /// How many bits from the first on are 0.
+    /// How many bits at the start are 0.
     fn leading_zeros(&self) -> usize
         ensures { result ≡ prefix_len not (bits self.now) }
     {
         before_first(self.as_bitslice(), true)
     }
 
-    /// How many bits up to the last are 1.
+    /// How many bits at the end are 1.
     fn trailing_ones(&self) -> usize
         ensures { result ≡ suffix_len (λ bit. bit) (bits self.now) }
     {
         behind_last(self.as_bitslice(), false)
     }
 
-    /// How many bits up to the last are 0.
+    /// How many bits at the end are 0.
     fn trailing_zeros(&self) -> usize
         ensures { result ≡ suffix_len not (bits self.now) }
     {
@@ -151,7 +152,7 @@ pub trait BitQueries<T: BitStore, O: BitOrder> {
         ensures { result ≡ same_bits (bits self.now) (bits_of other.entry) }
     {
         let view = self.as_bitslice();
-        equal_in::<T, O, U, P>(
+        eq_in::<T, O, U, P>(
             view.into_slice(),
             view.window(),
             other.into_slice(),
@@ -174,13 +175,13 @@ pub trait BitQueries<T: BitStore, O: BitOrder> {
         )
     }
 
-    /// Whether the needle's bits begin these; none do always.
+    /// Whether the needle's bits begin these; those of an empty needle always do.
     #[tactic(auto, unfolding(bitvec_slice::specs::Views::memory_of, bitvec_slice::specs::Views::bits_of))]
     fn starts_with<'b, U: BitStore, P: BitOrder>(&self, needle: BitSlice<'b, U, P>) -> bool
         ensures { result ≡ is_prefix (bits_of needle.entry) (bits self.now) }
     {
         let view = self.as_bitslice();
-        starts_in::<T, O, U, P>(
+        starts_with_in::<T, O, U, P>(
             view.into_slice(),
             view.window(),
             needle.into_slice(),
@@ -188,13 +189,13 @@ pub trait BitQueries<T: BitStore, O: BitOrder> {
         )
     }
 
-    /// Whether the needle's bits end these; none do always.
+    /// Whether the needle's bits end these; those of an empty needle always do.
     #[tactic(auto, unfolding(bitvec_slice::specs::Views::memory_of, bitvec_slice::specs::Views::bits_of))]
     fn ends_with<'b, U: BitStore, P: BitOrder>(&self, needle: BitSlice<'b, U, P>) -> bool
         ensures { result ≡ is_suffix (bits_of needle.entry) (bits self.now) }
     {
         let view = self.as_bitslice();
-        ends_in::<T, O, U, P>(
+        ends_with_in::<T, O, U, P>(
             view.into_slice(),
             view.window(),
             needle.into_slice(),
@@ -202,7 +203,8 @@ pub trait BitQueries<T: BitStore, O: BitOrder> {
         )
     }
 
-    /// Whether the needle's bits stand in these, from some index on; none do always.
+    /// Whether the needle's bits stand in these, from some index on; those of an empty needle
+    /// always do.
     #[tactic(auto, unfolding(bitvec_slice::specs::Views::memory_of, bitvec_slice::specs::Views::bits_of))]
     fn contains<'b, U: BitStore, P: BitOrder>(&self, needle: BitSlice<'b, U, P>) -> bool
         ensures { result ≡ stands_in (bits_of needle.entry) (bits self.now) }

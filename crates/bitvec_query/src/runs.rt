@@ -4,19 +4,20 @@ ghost use Rattle.std.specs.Bool.{beq};
 ghost use Rattle.std.specs.List.{prefix_len, suffix_len};
 ghost use Rattle.bitvec_slice.specs.Views.{bits_of};
 
-use bitvec_base::{BitOrder, BitStore};
+use bitvec_base::BitStore;
 use bitvec_elements::{first_in, last_in};
+use bitvec_engine::SliceOrder;
 use bitvec_slice::BitSlice;
 
 /// How many bits stand before the first that is `end`, or in all if none is.
-pub(crate) fn before_first<T: BitStore, O: BitOrder>(view: BitSlice<'_, T, O>, end: bool) -> usize
+pub(crate) fn before_first<T: BitStore, O: SliceOrder>(view: BitSlice<'_, T, O>, end: bool) -> usize
     ensures { result ≡ prefix_len (λ bit. not (beq bit end)) (bits_of view.entry) }
 {
     first_in::<T, O>(view.into_slice(), view.window(), end).unwrap_or(view.len())
 }
 
 /// How many bits stand behind the last that is `end`, or in all if none is.
-pub(crate) fn behind_last<T: BitStore, O: BitOrder>(view: BitSlice<'_, T, O>, end: bool) -> usize
+pub(crate) fn behind_last<T: BitStore, O: SliceOrder>(view: BitSlice<'_, T, O>, end: bool) -> usize
     ensures { result ≡ suffix_len (λ bit. not (beq bit end)) (bits_of view.entry) }
 {
     match last_in::<T, O>(view.into_slice(), view.window(), end) {

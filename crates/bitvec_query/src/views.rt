@@ -2,10 +2,11 @@
 ghost use Rattle.bitvec_slice.specs.Views.{bits_of, bits_of_mut};
 
 use crate::BitQueries;
-use bitvec_base::{BitOrder, BitStore};
+use bitvec_base::BitStore;
+use bitvec_engine::SliceOrder;
 use bitvec_slice::{BitSlice, BitSliceMut};
 
-impl<'a, T: BitStore, O: BitOrder> BitQueries<T, O> for BitSlice<'a, T, O> {
+impl<'a, T: BitStore, O: SliceOrder> BitQueries<T, O> for BitSlice<'a, T, O> {
     ghost bits = { bits_of };
 
     fn as_bitslice(&self) -> BitSlice<'_, T, O> {
@@ -13,7 +14,7 @@ impl<'a, T: BitStore, O: BitOrder> BitQueries<T, O> for BitSlice<'a, T, O> {
     }
 }
 
-impl<'a, T: BitStore, O: BitOrder> BitQueries<T, O> for BitSliceMut<'a, T, O> {
+impl<'a, T: BitStore, O: SliceOrder> BitQueries<T, O> for BitSliceMut<'a, T, O> {
     ghost bits = { bits_of_mut };
 
     fn as_bitslice(&self) -> BitSlice<'_, T, O> {

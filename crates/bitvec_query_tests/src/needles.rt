@@ -1,6 +1,7 @@
 //! A table of needles in all pairs of three orders and two widths, against lists of truth values.
 
 use bitvec_base::{BitOrder, BitStore, HiLo, Lsb0, Msb0};
+use bitvec_engine::SliceOrder;
 use bitvec_query::BitQueries;
 use bitvec_slice::BitSlice;
 use std::alloc::{AllocError, Allocator};
@@ -44,7 +45,7 @@ fn packed<T: BitStore, O: BitOrder, A: Allocator>(
 }
 
 /// Whether the needle stands in the text, by its own search.
-fn finds_as_text<T: BitStore, O: BitOrder, U: BitStore, P: BitOrder, R: Abort + AllocGlobal>(
+fn finds_as_text<T: BitStore, O: SliceOrder, U: BitStore, P: BitOrder, R: Abort + AllocGlobal>(
     rt: &R,
     text: &str,
     needle: &str,
@@ -90,7 +91,7 @@ fn finds_as_text<T: BitStore, O: BitOrder, U: BitStore, P: BitOrder, R: Abort + 
 }
 
 /// The whole table, for a pair of element types and orders.
-fn table<T: BitStore, O: BitOrder, U: BitStore, P: BitOrder, R: Abort + AllocGlobal>(
+fn table<T: BitStore, O: SliceOrder, U: BitStore, P: BitOrder, R: Abort + AllocGlobal>(
     rt: &R,
 ) -> Result<(), Fail> {
     for text in HAYSTACKS {
@@ -102,7 +103,7 @@ fn table<T: BitStore, O: BitOrder, U: BitStore, P: BitOrder, R: Abort + AllocGlo
 }
 
 /// The whole table, with needles of two widths and three orders.
-fn every_needle<T: BitStore, O: BitOrder, R: Abort + AllocGlobal>(rt: &R) -> Result<(), Fail> {
+fn every_needle<T: BitStore, O: SliceOrder, R: Abort + AllocGlobal>(rt: &R) -> Result<(), Fail> {
     table::<T, O, u8, Lsb0, R>(rt)?;
     table::<T, O, u8, Msb0, R>(rt)?;
     table::<T, O, u8, HiLo, R>(rt)?;

@@ -1,10 +1,11 @@
 -- What contracts see of one bit of a view, and what a call that writes it leaves.
-use Rattle.std.specs.Prelude.{◌≡◌, ℕ, Bool, List, false, length, map, slice_index_or, slice_set}
+use Rattle.std.specs.Prelude.{◌≡◌, ℕ, Bool, List, [], ◌∷◌, false, map, slice_index_or}
 use Rattle.std.specs.Borrow.{GName, MutBor}
-use Rattle.bitvec_base.specs.Memory.{memory_bits}
+use Rattle.bitvec_base.specs.Memory.{memory_bits, Writes}
 use Rattle.bitvec_base.specs.declared.window.Window.{Window}
 use Rattle.bitvec_base.specs.declared.store.BitStore.{Ghosts as Store}
 use Rattle.bitvec_base.specs.declared.order.BitOrder.{Ghosts as Order}
+use Rattle.bitvec_reference.specs.Places.{bit_window}
 use Rattle.bitvec_reference.specs.declared.reference.BitRef.{BitRef}
 use Rattle.bitvec_reference.specs.declared.reference_mut.BitRefMut.{BitRefMut}
 
@@ -25,7 +26,7 @@ module _ {T O : Type 0} {t : Store T} {o : Order O} where
   place_of_ref_mut r = r.place
 
   abbrev pub window_of_ref_mut : BitRefMut T O t o → Window
-  window_of_ref_mut r = record { start = r.place; len = 1 }
+  window_of_ref_mut r = bit_window r.place
 
   -- the bit
   unfoldable pub bit_of_ref_mut : BitRefMut T O t o → Bool
@@ -39,9 +40,8 @@ module _ {T O : Type 0} {t : Store T} {o : Order O} where
   -- memory, the place and the memory that is borrowed stay
   pub record WritesBit (before after : BitRefMut T O t o) (new : Bool) : Type 0 where
     pub bit : bit_of_ref_mut after ≡ new
-    pub memory : memory_of_ref_mut after ≡ slice_set (memory_of_ref_mut before) (place_of_ref_mut before) new
+    pub writes : Writes t.BITS o.at (map t.value (elements_of_ref_mut before)) (map t.value (elements_of_ref_mut after)) (window_of_ref_mut before) (new ∷ [])
     pub place : place_of_ref_mut after ≡ place_of_ref_mut before
-    pub length : length (elements_of_ref_mut after) ≡ length (elements_of_ref_mut before)
     pub name : name_of_ref_mut after ≡ name_of_ref_mut before
 
 -- the elements of the memory that it leaves, where it ends at a call

@@ -1,7 +1,7 @@
 //! One bit of a memory that is borrowed for writing.
-ghost use Rattle.std.specs.Prelude.{◌≡◌, ◌*◌, ◌<◌, ◌≤◌, false, length, map, slice_index_or, slice_set};
-ghost use Rattle.bitvec_base.specs.Memory.{memory_bits};
-ghost use Rattle.bitvec_base.specs.Window.{max_bits};
+ghost use Rattle.std.specs.Prelude.{◌≡◌, [], ◌∷◌, false, map, slice_index_or};
+ghost use Rattle.bitvec_base.specs.Memory.{HasWindow, Writes, memory_bits};
+ghost use Rattle.bitvec_reference.specs.Places.{bit_window};
 
 use bitvec_base::{BitOrder, BitStore, Window};
 use bitvec_elements::{bit_in, replace_in, set_in};
@@ -17,19 +17,17 @@ pub struct BitRefMut<'a, T: BitStore, O: BitOrder> {
     elements: &'a mut [T],
     place: usize,
     mark: PhantomData<O>,
-    ghost inside: { place < T.BITS * length elements.now },
-    ghost bounded: { T.BITS * length elements.now ≤ max_bits },
+    ghost window: { HasWindow T.BITS (map T.value elements.now) (bit_window place) },
 }
 
 impl<'a, T: BitStore, O: BitOrder> BitRefMut<'a, T, O> {
-    ghost use Rattle.bitvec_reference.specs.References.{WritesBit, bit_of_ref_mut, elements_left, elements_of_ref_mut, memory_of_ref_mut, name_of_ref_mut, place_of_ref_mut, window_of_ref_mut};
+    ghost use Rattle.bitvec_reference.specs.References.{WritesBit, bit_of_ref_mut, elements_left, elements_of_ref_mut, name_of_ref_mut, place_of_ref_mut, window_of_ref_mut};
 
-    /// The bit at a place of the elements' bits. Conditions: the place is one of them, and they are at
+    /// The bit at a place of the elements' bits. Condition: the place is one of them, and they are at
     /// most `MAX_BITS`. The crate has no such call: views make their references by it.
     #[tactic(auto, unfolding(crate::specs::References::memory_of_ref_mut, crate::specs::References::bit_of_ref_mut))]
     pub fn new(elements: &'a mut [T], place: usize) -> Self
-        requires inside { place < T.BITS * length elements.old }
-        requires bounded { T.BITS * length elements.old ≤ max_bits }
+        requires window { HasWindow T.BITS (map T.value elements.old) (bit_window place) }
         ensures bit { bit_of_ref_mut result
             ≡ slice_index_or (memory_bits T.BITS O.at (map T.value elements.old)) place false }
         ensures place { place_of_ref_mut result ≡ place }
@@ -45,7 +43,7 @@ impl<'a, T: BitStore, O: BitOrder> BitRefMut<'a, T, O> {
 
     /// Makes the bit `bit`.
     pub fn set(&mut self, bit: bool)
-        ensures { WritesBit self.old self.new bit }
+        ensures writes { WritesBit self.old self.new bit }
     {
         let window = self.window();
         set_in::<T, O>(&mut *self.elements, window, 0, bit);
@@ -54,7 +52,7 @@ impl<'a, T: BitStore, O: BitOrder> BitRefMut<'a, T, O> {
     /// Makes the bit `bit`, and gives the old one.
     pub fn replace(&mut self, bit: bool) -> bool
         ensures value { result ≡ bit_of_ref_mut self.old }
-        ensures bits { WritesBit self.old self.new bit }
+        ensures writes { WritesBit self.old self.new bit }
     {
         let window = self.window();
         replace_in::<T, O>(&mut *self.elements, window, 0, bit)
@@ -62,9 +60,8 @@ impl<'a, T: BitStore, O: BitOrder> BitRefMut<'a, T, O> {
 
     /// Makes the bit `bit`, and ends the reference.
     pub fn commit(self, bit: bool)
-        ensures memory { memory_bits T.BITS O.at (map T.value (elements_left self.exit))
-            ≡ slice_set (memory_of_ref_mut self.entry) (place_of_ref_mut self.entry) bit }
-        ensures length { length (elements_left self.exit) ≡ length (elements_of_ref_mut self.entry) }
+        ensures writes { Writes T.BITS O.at (map T.value (elements_of_ref_mut self.entry)) (map T.value (elements_left self.exit))
+            (window_of_ref_mut self.entry) (bit ∷ []) }
     {
         let BitRefMut {
             elements,

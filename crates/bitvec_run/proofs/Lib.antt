@@ -1,4 +1,1 @@
-pub mod NeedleLemmas
-pub mod RightLemmas
 pub mod RunLemmas
-pub mod StepLemmas

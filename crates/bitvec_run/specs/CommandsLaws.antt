@@ -1,78 +1,77 @@
--- A command that isn't refused meets its conditions, and leaves a list of the same length.
-use Rattle.std.specs.Prelude.{◌≡◌, ℕ, ◌+◌, ◌-◌, ◌≤◌, Bool, true, false, not, ◌&&◌, ◌||◌, if◌then◌else◌, nat_le, Option, Some, None, List, ◌++◌, length, take, drop, replicate, slice_range, refl}
-use Rattle.std.proofs.Common.{arith, ◌∙◌, length-append, length-drop, length-take}
-use Rattle.std.proofs.lemmas.Bool.{leb-true, eqb-true, and_parts}
-use Rattle.std.proofs.lemmas.List.{length-set, length-map, length-replicate, length-reverse}
-use Rattle.std.proofs.lemmas.List.Edits.{length-swap}
+-- A command that isn't refused meets its conditions.
+use Rattle.std.specs.Prelude.{◌≡◌, ℕ, ◌+◌, ◌-◌, ◌<◌, ◌≤◌, Bool, true, false, nat_lt, nat_le, Option, Some, None, List, length, refl}
+use Rattle.std.proofs.lemmas.Bool.{leb-true, ltb-true, le-leb, eqb-true, and_parts, and_from}
 use Rattle.bitvec_base.specs.declared.window.Window.{Window}
-use Rattle.bitvec_base.specs.Lists.{differs}
-use Rattle.bitvec_base.specs.ListsLaws.{length-combined}
-use Rattle.bitvec_base.specs.Window.{window_of}
-use Rattle.bitvec_base.specs.WriteLaws.{length-slice_range, length-write_at}
+use Rattle.bitvec_base.specs.Window.{IsWithin}
 use Rattle.bitvec_run.specs.declared.command.Op.{Op}
-use Rattle.bitvec_run.specs.declared.command.Op.TheVariants.{Get, Set, Replace, Swap, Fill, Invert, Reverse, ShiftStart, ShiftEnd, RotateLeft, RotateRight, CopyWithin, CopyFrom, And, Or, Xor, Eq, Cmp, StartsWith, EndsWith, Contains, CountOnes, CountZeros, FirstOne, FirstZero, LastOne, LastZero, Any, All}
+use Rattle.bitvec_run.specs.declared.command.Op.TheVariants.{Get, Set, Replace, Swap, ShiftStart, ShiftEnd, RotateLeft, RotateRight, CopyWithin, CopyFrom, And, Or, Xor, Eq, Cmp, StartsWith, EndsWith, Contains}
 use Rattle.bitvec_run.specs.declared.command.Refusal.{Refusal}
-use Rattle.bitvec_run.specs.Commands.{lies_in, op_refusal, op_list}
+use Rattle.bitvec_run.specs.Commands.{op_refusal, amount_refusal, index_refusal, right_refusal}
+use Rattle.bitvec_run.specs.Groups.{FitsList, FitsRight}
+use Rattle.bitvec_run.specs.Rows.{unless, or_else, range_lies, lies_in}
 
--- nothing was refused, so the test passed and so did those after it
-pub passed : (test : Bool) (next : Option Refusal) (refusal : Refusal) → (if test then next else Some refusal) ≡ None → (test ≡ true) × (next ≡ None)
-passed true next refusal h = (refl, h)
-passed false next refusal h = cc
+-- ---- tests
 
--- the bits of a window that lies in its memory are as many as it says
-pub length-window_of : (bits : List Bool) (window : Window) → lies_in window (length bits) ≡ true → length (window_of bits window) ≡ window.len
-unfolding window_of
-length-window_of bits window inside =
-    let both = and_parts (nat_le window.start (length bits)) (nat_le window.len (length bits - window.start)) inside in
-    let start = leb-true window.start (length bits) both.0 in
-    let len = leb-true window.len (length bits - window.start) both.1 in
-    length-slice_range bits window.start (window.start + window.len) (omega arith) ∙ omega arith
+-- a window that passes the test lies there, and the other way round
+pub lies_in-within : (window : Window) (n : ℕ) → lies_in window n ≡ true → IsWithin window n
+lies_in-within window n test =
+    let parts = and_parts (nat_le window.start n) (nat_le window.len (n - window.start)) test in
+    record { start = leb-true window.start n parts.0; len = leb-true window.len (n - window.start) parts.1 }
 
--- the bits before and from a place on, in the other order, are as many as before
-turned : (list : List Bool) (k : ℕ) → k ≤ length list → length (drop k list ++ take k list) ≡ length list
-turned list k h = omega (arith, length-append (drop k list) (take k list), length-drop k list, length-take k list)
+pub within-lies_in : (window : Window) (n : ℕ) → IsWithin window n → lies_in window n ≡ true
+within-lies_in window n within = and_from _ _ (le-leb _ _ within.start) (le-leb _ _ within.len)
 
-pub length-op_list : (right list : List Bool) (op : Op) → op_refusal right (length list) op ≡ None → length (op_list right list op) ≡ length list
-length-op_list right list (Get i) h = refl
-length-op_list right list (Set i bit) h = length-set list i bit
-length-op_list right list (Replace i bit) h = length-set list i bit
-length-op_list right list (Swap i j) h = length-swap list i j
-length-op_list right list (Fill bit) h = length-replicate (length list) bit
-length-op_list right list Invert h = length-map list not
-length-op_list right list Reverse h = length-reverse list
-length-op_list right list (ShiftStart k) h =
-    let fits = leb-true k (length list) (passed _ _ _ h).0 in
-    omega (arith, length-append (drop k list) (replicate k false), length-drop k list, length-replicate k false)
-length-op_list right list (ShiftEnd k) h =
-    let fits = leb-true k (length list) (passed _ _ _ h).0 in
-    let kept = length list - k in
-    omega (arith, length-append (replicate k false) (take kept list), length-take kept list, length-replicate k false)
-length-op_list right list (RotateLeft k) h = turned list k (leb-true k (length list) (passed _ _ _ h).0)
-length-op_list right list (RotateRight k) h = turned list (length list - k) (omega arith)
-length-op_list right list (CopyWithin s e d) h =
-    let source = passed _ _ _ h in
-    let ends = and_parts (nat_le s e) (nat_le e (length list)) source.0 in
-    let ordered = leb-true s e ends.0 in
-    let within = leb-true e (length list) ends.1 in
-    let room = leb-true (d + (e - s)) (length list) (passed _ _ _ source.1).0 in
-    let long = length-slice_range list s e within in
-    length-write_at list d (slice_range list s e) (omega arith)
-length-op_list right list (CopyFrom window) h =
-    let inside = passed _ _ _ h in
-    length-window_of right window inside.0 ∙ eqb-true window.len (length list) (passed _ _ _ inside.1).0
-length-op_list right list (And window) h = length-combined ◌&&◌ list (window_of right window)
-length-op_list right list (Or window) h = length-combined ◌||◌ list (window_of right window)
-length-op_list right list (Xor window) h = length-combined differs list (window_of right window)
-length-op_list right list (Eq window) h = refl
-length-op_list right list (Cmp window) h = refl
-length-op_list right list (StartsWith window) h = refl
-length-op_list right list (EndsWith window) h = refl
-length-op_list right list (Contains window) h = refl
-length-op_list right list CountOnes h = refl
-length-op_list right list CountZeros h = refl
-length-op_list right list FirstOne h = refl
-length-op_list right list FirstZero h = refl
-length-op_list right list LastOne h = refl
-length-op_list right list LastZero h = refl
-length-op_list right list Any h = refl
-length-op_list right list All h = refl
+-- likewise a range
+pub range_lies-order : (n from to : ℕ) → range_lies n from to ≡ true → (from ≤ to) × (to ≤ n)
+range_lies-order n from to test =
+    let parts = and_parts (nat_le from to) (nat_le to n) test in
+    (leb-true from to parts.0, leb-true to n parts.1)
+
+-- ---- refusals
+
+pub passed : (test : Bool) (refusal : Refusal) → unless test refusal ≡ None → test ≡ true
+passed true refusal none = refl
+passed false refusal none = cc
+
+pub both_passed : (first second : Option Refusal) → or_else first second ≡ None → (first ≡ None) × (second ≡ None)
+both_passed None second none = (refl, none)
+both_passed (Some refusal) second none = cc
+
+index-fits : (m i : ℕ) → index_refusal m i ≡ None → i < m
+index-fits m i none = ltb-true i m (passed _ _ none)
+
+amount-fits : (m k : ℕ) → amount_refusal m k ≡ None → k ≤ m
+amount-fits m k none = leb-true k m (passed _ _ none)
+
+right-fits : (right : List Bool) (window : Window) → right_refusal right window ≡ None → IsWithin window (length right)
+right-fits right window none = lies_in-within window (length right) (passed _ _ none)
+
+pub fits_list : (right : List Bool) (m : ℕ) (op : Op) → op_refusal right m op ≡ None → FitsList m op
+fits_list right m (Get i) none = index-fits m i none
+fits_list right m (Set i bit) none = index-fits m i none
+fits_list right m (Replace i bit) none = index-fits m i none
+fits_list right m (Swap i j) none =
+    let parts = and_parts (nat_lt i m) (nat_lt j m) (passed _ _ none) in
+    (ltb-true i m parts.0, ltb-true j m parts.1)
+fits_list right m (ShiftStart k) none = amount-fits m k none
+fits_list right m (ShiftEnd k) none = amount-fits m k none
+fits_list right m (RotateLeft k) none = amount-fits m k none
+fits_list right m (RotateRight k) none = amount-fits m k none
+fits_list right m (CopyWithin from to dest) none =
+    let conditions = both_passed _ _ none in
+    let order = range_lies-order m from to (passed _ _ conditions.0) in
+    record { order = order.0; source = order.1; room = leb-true (dest + (to - from)) m (passed _ _ conditions.1) }
+fits_list right m (CopyFrom window) none = eqb-true window.len m (passed _ _ (both_passed _ _ none).1)
+fits_list right m _ none = tt
+
+pub fits_right : (right : List Bool) (m : ℕ) (op : Op) → op_refusal right m op ≡ None → FitsRight (length right) op
+fits_right right m (CopyFrom window) none = right-fits right window (both_passed _ _ none).0
+fits_right right m (And window) none = right-fits right window none
+fits_right right m (Or window) none = right-fits right window none
+fits_right right m (Xor window) none = right-fits right window none
+fits_right right m (Eq window) none = right-fits right window none
+fits_right right m (Cmp window) none = right-fits right window none
+fits_right right m (StartsWith window) none = right-fits right window none
+fits_right right m (EndsWith window) none = right-fits right window none
+fits_right right m (Contains window) none = right-fits right window none
+fits_right right m _ none = tt

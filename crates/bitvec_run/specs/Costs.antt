@@ -1,13 +1,7 @@
--- The loads and stores that a run may take: the sum over its steps.
-use Rattle.std.specs.Prelude.{ℕ, ◌+◌, ◌-◌, ◌*◌, ◌==◌, nat_le, min, Bool, if◌then◌else◌, Option, Some, None, List}
-use Rattle.std.specs.List.{sum_by}
+-- The loads and stores that a command may take.
+use Rattle.std.specs.Prelude.{ℕ, Bool, ◌+◌, min}
 use Rattle.bitvec_base.specs.declared.window.Window.{Window}
-use Rattle.bitvec_engine.specs.Cost.{touched, read_loads, write_loads, write_stores, reverse_loads, reverse_stores}
-use Rattle.bitvec_run.specs.declared.command.Op.{Op}
-use Rattle.bitvec_run.specs.declared.command.Op.TheVariants.{Get, Set, Replace, Swap, Fill, Invert, Reverse, ShiftStart, ShiftEnd, RotateLeft, RotateRight, CopyWithin, CopyFrom, And, Or, Xor, Eq, Cmp, StartsWith, EndsWith, Contains, CountOnes, CountZeros, FirstOne, FirstZero, LastOne, LastZero, Any, All}
-use Rattle.bitvec_run.specs.declared.command.Step.{Step}
-use Rattle.bitvec_run.specs.declared.command.Refusal.{Refusal}
-use Rattle.bitvec_run.specs.Runs.{step_refusal}
+use Rattle.bitvec_walk.specs.Cost.{touched, fill_loads, read_loads, write_loads, write_stores, edit_loads, reverse_loads, reverse_stores, rotate_loads, rotate_stores, equal_loads, needle_loads}
 
 -- loads and stores of the memory, and loads of the right memory
 pub record Cost : Type 0 where
@@ -15,89 +9,84 @@ pub record Cost : Type 0 where
   pub stores : ℕ
   pub right_loads : ℕ
 
-abbrev pub cost : ℕ → ℕ → ℕ → Cost
-cost l s r = record { loads = l; stores = s; right_loads = r }
+-- where a list stands in its memory: on elements of so many bits, under an order that works by words or not, from this place on
+pub record Place : Type 0 where
+  pub bits : ℕ
+  pub words : Bool
+  pub start : ℕ
 
--- ---- pieces of work, on b-bit elements; `words` is whether the order works by words
+abbrev pub place_of : ℕ → Bool → Window → Place
+place_of b words window = record { bits = b; words = words; start = window.start }
 
--- one load of each element that holds one of m places from s on
-abbrev pub scan_cost : ℕ → ℕ → ℕ → Cost
-scan_cost b s m = cost (touched b s m) 0 0
+-- the list without its first n bits
+abbrev pub place_after : ℕ → Place → Place
+place_after n place = record { bits = place.bits; words = place.words; start = place.start + n }
 
--- an overlapping copy of n bits reads and writes one side
-abbrev pub within_loads : ℕ → Bool → ℕ → ℕ
-within_loads b words n = read_loads b words n + write_loads b words n
+-- so many loads and stores of the memory
+abbrev pub accesses : ℕ → ℕ → Place → Cost
+accesses loads stores place = record { loads = loads; stores = stores; right_loads = 0 }
 
--- a rotation of m bits by k is three reversals
-abbrev pub rotate_cost : ℕ → Bool → ℕ → ℕ → Cost
-rotate_cost b words k m =
-    cost (reverse_loads b words k + reverse_loads b words (m - k) + reverse_loads b words m)
-    (reverse_stores b words k + reverse_stores b words (m - k) + reverse_stores b words m) 0
+-- so many loads of either memory
+abbrev pub both_read : (Place → ℕ) → Place → Cost
+both_read loads place = record { loads = loads place; stores = 0; right_loads = loads place }
 
--- a copy reads the right side and writes the left
-abbrev pub copy_cost : ℕ → Bool → ℕ → Cost
-copy_cost b words m = cost (write_loads b words m) (write_stores b words m) (read_loads b words m)
+-- ---- work on the m bits of the list
 
--- an operator reads both sides and writes the left
-abbrev pub operator_cost : ℕ → Bool → ℕ → Cost
-operator_cost b words m = cost (read_loads b words m + write_loads b words m) (write_stores b words m) (read_loads b words m)
+abbrev pub scan_cost : ℕ → Place → Cost
+scan_cost m place = accesses (touched place.bits place.start m) 0 place
 
--- an equality reads both sides, where they are as long
-abbrev pub equality_cost : ℕ → Bool → ℕ → ℕ → Cost
-equality_cost b words m r = if m == r then cost (read_loads b words m) 0 (read_loads b words m) else cost 0 0 0
+abbrev pub fill_cost : ℕ → Place → Cost
+fill_cost m place = accesses (fill_loads m) (touched place.bits place.start m) place
 
--- k equalities of r bits, where the needle is no longer than the list
-abbrev pub needle_cost : ℕ → Bool → ℕ → ℕ → ℕ → Cost
-needle_cost b words m r k = if nat_le r m then cost (k * read_loads b words r) 0 (k * read_loads b words r) else cost 0 0 0
+abbrev pub invert_cost : ℕ → Place → Cost
+invert_cost m place = accesses (touched place.bits place.start m) (touched place.bits place.start m) place
 
--- ---- one command, on the m bits from the place s on
-abbrev pub op_cost : ℕ → Bool → ℕ → ℕ → Op → Cost
-op_cost b words s m (Get i) = cost 1 0 0
-op_cost b words s m (Set i bit) = cost 1 1 0
-op_cost b words s m (Replace i bit) = cost 2 1 0
-op_cost b words s m (Swap i j) = cost 4 2 0
-op_cost b words s m (Fill bit) = cost 2 (touched b s m) 0
-op_cost b words s m Invert = cost (touched b s m) (touched b s m) 0
-op_cost b words s m Reverse = cost (reverse_loads b words m) (reverse_stores b words m) 0
-op_cost b words s m (ShiftStart k) = cost (within_loads b words (m - k) + 2) (write_stores b words (m - k) + touched b (s + (m - k)) k) 0
-op_cost b words s m (ShiftEnd k) = cost (within_loads b words (m - k) + 2) (write_stores b words (m - k) + touched b s k) 0
-op_cost b words s m (RotateLeft k) = rotate_cost b words k m
-op_cost b words s m (RotateRight k) = rotate_cost b words (m - k) m
-op_cost b words s m (CopyWithin from to dest) = cost (within_loads b words (to - from)) (write_stores b words (to - from)) 0
-op_cost b words s m (CopyFrom window) = copy_cost b words m
-op_cost b words s m (And window) = operator_cost b words m
-op_cost b words s m (Or window) = operator_cost b words m
-op_cost b words s m (Xor window) = operator_cost b words m
-op_cost b words s m (Eq window) = equality_cost b words m window.len
-op_cost b words s m (Cmp window) = cost (min m window.len) 0 (min m window.len)
-op_cost b words s m (StartsWith window) = needle_cost b words m window.len 1
-op_cost b words s m (EndsWith window) = needle_cost b words m window.len 1
-op_cost b words s m (Contains window) = needle_cost b words m window.len (m - window.len + 1)
-op_cost b words s m CountOnes = scan_cost b s m
-op_cost b words s m CountZeros = scan_cost b s m
-op_cost b words s m FirstOne = scan_cost b s m
-op_cost b words s m FirstZero = scan_cost b s m
-op_cost b words s m LastOne = scan_cost b s m
-op_cost b words s m LastZero = scan_cost b s m
-op_cost b words s m Any = scan_cost b s m
-op_cost b words s m All = scan_cost b s m
+abbrev pub reverse_cost : ℕ → Place → Cost
+reverse_cost m place = accesses (reverse_loads place.bits place.words m) (reverse_stores place.bits place.words m) place
 
--- a refused step costs nothing
-abbrev pub cost_unless : Option Refusal → Cost → Cost
-cost_unless None asked = asked
-cost_unless (Some refusal) asked = cost 0 0 0
+-- the first k of them behind the others
+abbrev pub rotate_cost : ℕ → ℕ → Place → Cost
+rotate_cost k m place = accesses (rotate_loads place.bits place.words k m) (rotate_stores place.bits place.words k m) place
 
--- ---- one step, in a window
-unfoldable pub step_cost : ℕ → Bool → List Bool → Window → Step → Cost
-step_cost b words right window step =
-    cost_unless (step_refusal right window.len step) (op_cost b words (window.start + step.from) (step.to - step.from) step.op)
+-- m bits copied to another place of the list
+abbrev pub move_cost : ℕ → Place → Cost
+move_cost m place = accesses (edit_loads place.bits place.words m) (write_stores place.bits place.words m) place
 
--- ---- a run
-unfoldable pub run_loads : ℕ → Bool → List Bool → Window → List Step → ℕ
-run_loads b words right window steps = sum_by (λ step. (step_cost b words right window step).loads) steps
+-- two pieces of work
+abbrev pub and_then : (Place → Cost) → (Place → Cost) → Place → Cost
+and_then first second place = record {
+  loads = (first place).loads + (second place).loads;
+  stores = (first place).stores + (second place).stores;
+  right_loads = (first place).right_loads + (second place).right_loads;
+}
 
-unfoldable pub run_stores : ℕ → Bool → List Bool → Window → List Step → ℕ
-run_stores b words right window steps = sum_by (λ step. (step_cost b words right window step).stores) steps
+-- the work done from the list's place n on
+abbrev pub behind : ℕ → (Place → Cost) → Place → Cost
+behind n cost place = cost (place_after n place)
 
-unfoldable pub run_right_loads : ℕ → Bool → List Bool → Window → List Step → ℕ
-run_right_loads b words right window steps = sum_by (λ step. (step_cost b words right window step).right_loads) steps
+-- ---- with a right list
+
+abbrev pub copy_cost : ℕ → Place → Cost
+copy_cost m place = record {
+  loads = write_loads place.bits place.words m;
+  stores = write_stores place.bits place.words m;
+  right_loads = read_loads place.bits place.words m;
+}
+
+abbrev pub operator_cost : ℕ → Place → Cost
+operator_cost m place = record {
+  loads = edit_loads place.bits place.words m;
+  stores = write_stores place.bits place.words m;
+  right_loads = read_loads place.bits place.words m;
+}
+
+-- of r bits
+abbrev pub equal_cost : ℕ → ℕ → Place → Cost
+equal_cost m r = both_read (λ place. equal_loads place.bits place.words m r)
+
+abbrev pub order_cost : ℕ → ℕ → Place → Cost
+order_cost m r = both_read (λ place. min m r)
+
+-- that may stand at k places
+abbrev pub needle_cost : ℕ → ℕ → ℕ → Place → Cost
+needle_cost m r k = both_read (λ place. needle_loads place.bits place.words m r k)

@@ -1,6 +1,11 @@
 pub mod Commands
 pub mod CommandsLaws
-pub mod Comparisons
 pub mod Costs
+pub mod Fold
+pub mod FoldLaws
+pub mod Follows
+pub mod FollowsLaws
 pub mod Groups
+pub mod Rows
 pub mod Runs
+pub mod RunsLaws

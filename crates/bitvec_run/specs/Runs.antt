@@ -1,58 +1,50 @@
--- When a run is made, and what it means on plain lists of truth values.
+-- When a run is made, and what its steps mean on plain lists of truth values.
 --
--- `right` is the list of the right memory's bits, `list` that of the window's, of n bits.
-use Rattle.std.specs.Prelude.{ℕ, ◌-◌, ◌*◌, ◌≤◌, Bool, ◌&&◌, if◌then◌else◌, nat_le, Option, Some, None, List, [], ◌∷◌, length, slice_range}
+-- `right` is the right list, and `list` the window's, of n bits.
+use Rattle.std.specs.Prelude.{ℕ, ◌+◌, ◌-◌, ◌*◌, ◌≤◌, Bool, if◌then◌else◌, List, length}
 use Rattle.bitvec_base.specs.declared.window.Window.{Window}
-use Rattle.bitvec_base.specs.Window.{IsWithin, max_bits, write_at}
+use Rattle.bitvec_base.specs.Memory.{FitsMaxBits, HasWindow}
 use Rattle.bitvec_run.specs.declared.command.Refusal.{Refusal}
 use Rattle.bitvec_run.specs.declared.command.Reply.{Reply}
 use Rattle.bitvec_run.specs.declared.command.Step.{Step}
-use Rattle.bitvec_run.specs.Commands.{op_refusal, op_reply, op_list}
+use Rattle.bitvec_run.specs.Commands.{op_row}
+use Rattle.bitvec_run.specs.Costs.{Cost, Place}
+use Rattle.bitvec_run.specs.Groups.{FitsList, FitsRight}
+use Rattle.bitvec_run.specs.Rows.{Row, on_range, outcome, range_lies, refused}
 
--- ---- when it is made
+-- the memory has the window, and the right memory has at most `max_bits` bits
+pub record CanRun (b : ℕ) (xs : List ℕ) (window : Window) (ys : List ℕ) : Type 0 where
+  pub has_window : HasWindow b xs window
+  pub right_fits : FitsMaxBits b ys
 
--- a memory of b-bit elements has at most `max_bits` bits
-abbrev pub FitsMaxBits : ℕ → List ℕ → Type 0
-FitsMaxBits b numbers = b * length numbers ≤ max_bits
+-- all bits of a memory
+abbrev pub whole_window : ℕ → List ℕ → Window
+whole_window b xs = record { start = 0; len = b * length xs }
 
--- it does, and the window lies in it
-abbrev pub HasWindow : ℕ → List ℕ → Window → Type 0
-HasWindow b numbers window = FitsMaxBits b numbers × IsWithin window (b * length numbers)
+-- a window of the list that `source` holds, as one of the memory
+abbrev pub window_inside : Window → Window → Window
+window_inside source window = record { start = source.start + window.start; len = window.len }
 
--- ---- one step
+-- a step is its command on its range; the range is tested before the command's own conditions
+unfoldable pub step_row : List Bool → ℕ → Step → Row
+step_row right n step =
+    if range_lies n step.from step.to then on_range step.from step.to (op_row right (step.to - step.from) step.op) else refused Refusal.Range
 
-abbrev pub is_in_range : ℕ → Step → Bool
-is_in_range n step = nat_le step.from step.to && nat_le step.to n
+-- what a step that isn't refused names is there, in its range of a list of n bits and in a right list of r
+pub record StepFits (n r : ℕ) (step : Step) : Type 0 where
+  pub order : step.from ≤ step.to
+  pub bound : step.to ≤ n
+  pub list : FitsList (step.to - step.from) step.op
+  pub right : FitsRight r step.op
 
--- the range is tested before the command's own conditions
-abbrev pub step_refusal : List Bool → ℕ → Step → Option Refusal
-step_refusal right n step = if is_in_range n step then op_refusal right (step.to - step.from) step.op else Some Refusal.Range
+abbrev pub step_outcome : List Bool → ℕ → Step → Row
+step_outcome right n step = outcome (step_row right n step)
 
--- a refused step replies so, and any other what the command answers
-abbrev pub reply_unless : Option Refusal → Reply → Reply
-reply_unless None reply = reply
-reply_unless (Some refusal) reply = Reply.Refused refusal
+abbrev pub step_reply : List Bool → List Bool → Step → Reply
+step_reply right list step = (step_outcome right (length list) step).reply list
 
--- a refused step leaves the list
-abbrev pub list_unless : Option Refusal → List Bool → List Bool → List Bool
-list_unless None old new = new
-list_unless (Some refusal) old new = old
+abbrev pub step_list : List Bool → List Bool → Step → List Bool
+step_list right list step = (step_outcome right (length list) step).list list
 
-unfoldable pub step_reply : List Bool → List Bool → Step → Reply
-step_reply right list step =
-    reply_unless (step_refusal right (length list) step) (op_reply right (slice_range list step.from step.to) step.op)
-
-unfoldable pub step_list : List Bool → List Bool → Step → List Bool
-step_list right list step =
-    list_unless (step_refusal right (length list) step) list
-    (write_at list step.from (op_list right (slice_range list step.from step.to) step.op))
-
--- ---- the steps in order, one reply a step
-
-abbrev pub replies_of : List Bool → List Bool → List Step → List Reply
-replies_of right list [] = []
-replies_of right list (step ∷ steps) = step_reply right list step ∷ replies_of right (step_list right list step) steps
-
-abbrev pub list_after : List Bool → List Bool → List Step → List Bool
-list_after right list [] = list
-list_after right list (step ∷ steps) = list_after right (step_list right list step) steps
+abbrev pub step_cost : List Bool → ℕ → Place → Step → Cost
+step_cost right n place step = (step_outcome right n step).cost place

@@ -4,6 +4,7 @@
 mod command;
 mod edit;
 mod query;
+mod refusal;
 mod right;
 mod runner;
 mod step;

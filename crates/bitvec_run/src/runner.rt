@@ -1,13 +1,15 @@
 //! Runs of whole lists of commands.
-ghost use Rattle.std.specs.Prelude.{◌≡◌, ℕ, ◌+◌, ◌*◌, ◌≤◌, ◌<◌, ◌↔◌, length, [], IfOk, OnOk, OnErr, IsOk, IsTrue, Err};
-ghost use Rattle.bitvec_base.specs.Memory.{memory_bits};
-ghost use Rattle.bitvec_base.specs.Window.{window_of, write_window};
-ghost use Rattle.bitvec_run.specs.Costs.{run_loads, run_stores, run_right_loads};
-ghost use Rattle.bitvec_run.specs.Runs.{FitsMaxBits, HasWindow, replies_of, list_after};
+ghost use Rattle.std.specs.Prelude.{◌≡◌, ℕ, ◌*◌, ◌<◌, ◌≤◌, ◌↔◌, length, IfOk, OnOk, OnErr, IsOk, Err};
+ghost use Rattle.bitvec_base.specs.Memory.{FitsMaxBits, HasWindow, Writes, list_in, memory_bits};
+ghost use Rattle.bitvec_cells.specs.Access.{CostsAtMost, OnlyReads, OnlyReadsAtMost};
+ghost use Rattle.bitvec_run.specs.Costs.{place_of};
+ghost use Rattle.bitvec_run.specs.Fold.{cost_of, list_after, replies_of};
+ghost use Rattle.bitvec_run.specs.Runs.{CanRun, step_cost, step_list, step_reply, whole_window};
 
-use crate::step::run_step;
+use crate::step::step;
 use crate::{Reply, RunError, Step};
-use bitvec_base::{BitStore, Cells, CellsRead, Window, fits_max_bits};
+use bitvec_base::{BitStore, Window};
+use bitvec_cells::{Cells, CellsRead, fits_max_bits, has_window};
 use bitvec_engine::SliceOrder;
 use std::alloc::Allocator;
 
@@ -19,10 +21,11 @@ use std::alloc::Allocator;
 /// answered by [`Reply::Refused`], changes nothing and costs nothing; the run goes on. The loads
 /// and stores of both accessors grow by at most the sum of the steps' costs.
 ///
-/// Errors, tested in this order, after each of which both memories are as before:
-/// [`RunError::Window`] exactly where the memory has more than `MAX_BITS` bits or the window does
-/// not lie in it; [`RunError::Right`] exactly where the right memory has more than `MAX_BITS` bits;
-/// [`RunError::Memory`] where there is no room for the replies, which is never so for no steps.
+/// Errors, tested in this order, after each of which both accessors are as before, with no load or
+/// store made: [`RunError::Window`] exactly where the memory has more than `MAX_BITS` bits or the
+/// window does not lie in it; [`RunError::Right`] exactly where the right memory has more than
+/// `MAX_BITS` bits; [`RunError::Memory`] where there is no room for the replies, which is never so
+/// for no steps.
 pub fn run<O, A, C, D>(
     alloc: A,
     cells: &mut C,
@@ -35,41 +38,26 @@ where
     A: Allocator,
     C: Cells,
     D: CellsRead<Elem = C::Elem>,
-    ensures replies { let list = window_of (memory_bits C.Elem.BITS O.at (C.numbers cells.old)) window in
-        let other = memory_bits C.Elem.BITS O.at (D.numbers right.old) in
-        IfOk result (λ replies. replies.items ≡ replies_of other list steps.now) }
-    ensures bits { let before = memory_bits C.Elem.BITS O.at (C.numbers cells.old) in
-        let other = memory_bits C.Elem.BITS O.at (D.numbers right.old) in
-        OnOk result (memory_bits C.Elem.BITS O.at (C.numbers cells.new)
-        ≡ write_window before window (list_after other (window_of before window) steps.now)) }
-    ensures unchanged { OnErr result (C.numbers cells.new ≡ C.numbers cells.old) }
-    ensures length { length (C.numbers cells.new) ≡ length (C.numbers cells.old) }
-    ensures memory { C.memory cells.new ≡ C.memory cells.old }
-    ensures right_numbers { D.numbers right.new ≡ D.numbers right.old }
-    ensures right_memory { D.memory right.new ≡ D.memory right.old }
+    ensures replies { let other = memory_bits C.Elem.BITS O.at (D.numbers right.old) in
+        let list = list_in C.Elem.BITS O.at (C.numbers cells.old) window in
+        IfOk result (λ replies. replies.items ≡ replies_of (step_reply other) (step_list other) list steps.now) }
+    ensures writes { let other = memory_bits C.Elem.BITS O.at (D.numbers right.old) in
+        let list = list_in C.Elem.BITS O.at (C.numbers cells.old) window in
+        OnOk result (Writes C.Elem.BITS O.at (C.numbers cells.old) (C.numbers cells.new) window (list_after (step_list other) list steps.now)) }
+    ensures cost { let spent = cost_of (step_cost (memory_bits C.Elem.BITS O.at (D.numbers right.old)) window.len (place_of C.Elem.BITS O.WORDS window)) steps.now in
+        CostsAtMost C.CellsRead cells.old cells.new spent.loads spent.stores }
+    ensures right { let spent = cost_of (step_cost (memory_bits C.Elem.BITS O.at (D.numbers right.old)) window.len (place_of C.Elem.BITS O.WORDS window)) steps.now in
+        OnlyReadsAtMost D.CellsRead right.old right.new spent.right_loads }
+    ensures unchanged { OnErr result (OnlyReads C.CellsRead cells.old cells.new 0 × OnlyReads D.CellsRead right.old right.new 0) }
 
     // When it is made, and when each error comes.
-    ensures made { OnOk result (HasWindow C.Elem.BITS (C.numbers cells.old) window
-        × FitsMaxBits C.Elem.BITS (D.numbers right.old)) }
-    ensures window_error { (result ≡ Err RunError.Window)
-        ↔ (¬ HasWindow C.Elem.BITS (C.numbers cells.old) window) }
+    ensures made { OnOk result (CanRun C.Elem.BITS (C.numbers cells.old) window (D.numbers right.old)) }
+    ensures window_error { (result ≡ Err RunError.Window) ↔ (¬ HasWindow C.Elem.BITS (C.numbers cells.old) window) }
     ensures right_error { (result ≡ Err RunError.Right)
-        ↔ (HasWindow C.Elem.BITS (C.numbers cells.old) window
-        × (¬ FitsMaxBits C.Elem.BITS (D.numbers right.old))) }
+        ↔ (HasWindow C.Elem.BITS (C.numbers cells.old) window × (¬ FitsMaxBits C.Elem.BITS (D.numbers right.old))) }
     ensures memory_error { result ≡ Err RunError.Memory
-        → HasWindow C.Elem.BITS (C.numbers cells.old) window
-        × FitsMaxBits C.Elem.BITS (D.numbers right.old) × (0 < length steps.now) }
-    ensures no_steps { HasWindow C.Elem.BITS (C.numbers cells.old) window
-        → FitsMaxBits C.Elem.BITS (D.numbers right.old) → length steps.now ≡ 0 → IsOk result }
-
-    // What it costs.
-    ensures loads { C.loads cells.new ≤ C.loads cells.old
-        + run_loads C.Elem.BITS O.WORDS (memory_bits C.Elem.BITS O.at (D.numbers right.old)) window steps.now }
-    ensures stores { C.stores cells.new ≤ C.stores cells.old
-        + run_stores C.Elem.BITS O.WORDS (memory_bits C.Elem.BITS O.at (D.numbers right.old)) window steps.now }
-    ensures right_loads { D.loads right.new ≤ D.loads right.old
-        + run_right_loads C.Elem.BITS O.WORDS (memory_bits C.Elem.BITS O.at (D.numbers right.old)) window steps.now }
-    ensures right_stores { D.stores right.new ≡ D.stores right.old }
+        → CanRun C.Elem.BITS (C.numbers cells.old) window (D.numbers right.old) × (0 < length steps.now) }
+    ensures no_steps { CanRun C.Elem.BITS (C.numbers cells.old) window (D.numbers right.old) → length steps.now ≡ 0 → IsOk result }
 {
     if !has_window(cells, window) {
         return Err(RunError::Window);
@@ -80,15 +68,20 @@ where
     let Ok(mut replies) = Vec::with_capacity(alloc, steps.len()) else {
         return Err(RunError::Memory);
     };
-    for step in steps {
-        replies.push_reserved(run_step::<O, C, D>(cells, window, right, *step));
+    let source = whole(right);
+    for next in steps {
+        replies.push_reserved(step::<O, C, D>(cells, window, right, source, *next));
     }
     Ok(replies)
 }
 
-/// Whether a memory has at most `MAX_BITS` bits and the window lies in it.
-fn has_window<C: CellsRead>(cells: &C, window: Window) -> bool
-    ensures { IsTrue result ↔ HasWindow C.Elem.BITS (C.numbers cells.now) window }
+/// All bits of a memory. Condition: it has at most `MAX_BITS`.
+fn whole<D: CellsRead>(memory: &D) -> Window
+    requires { FitsMaxBits D.Elem.BITS (D.numbers memory.now) }
+    ensures { result ≡ whole_window D.Elem.BITS (D.numbers memory.now) }
 {
-    fits_max_bits(cells) && window.lies_in(cells.len() * C::Elem::BITS as usize)
+    Window {
+        start: 0,
+        len: memory.len() * D::Elem::BITS as usize,
+    }
 }

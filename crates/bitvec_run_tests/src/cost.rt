@@ -1,41 +1,142 @@
 //! How many loads and stores a run makes.
 use crate::slices::step;
-use bitvec_base::{Exclusive, Lsb0, Msb0, Shared};
+use bitvec_base::{Lsb0, Msb0};
+use bitvec_cells::{Exclusive, Shared};
 use bitvec_engine::SliceOrder;
-use bitvec_run::{Op, Reply, Step, Window, run};
+use bitvec_run::{Op, Reply, RunError, Step, Window, run};
 use bitvec_test_support::Counted;
 use std::process::Abort;
 use std::test::Fail;
+use test_streams::Refusing;
 
-// The steps, with the most loads and the most stores that they may take.
+const BYTES: [u8; 512] = [0xFF; 512];
+
+const RIGHT_BYTES: [u8; 4] = [0x0F; 4];
+
+const WINDOW: Window = Window {
+    start: 0,
+    len: 4096,
+};
+
+/// A right window from a bit inside an element on.
+fn right_bits(len: usize) -> Window {
+    Window { start: 3, len }
+}
+
+/// A run of one step, which takes at most so many loads, stores, and loads of the right memory.
+fn check<R: Abort + AllocGlobal>(rt: &R, step: Step, most: (u64, u64, u64)) -> Result<(), Fail> {
+    let mut bytes = BYTES;
+    let mut cells = Counted::new(Exclusive::new(&mut bytes));
+    let mut right = Counted::new(Shared::new(&RIGHT_BYTES));
+    let replies = run::<Lsb0, _, _, _>(rt.alloc(), &mut cells, WINDOW, &mut right, &[step])?;
+    let (loads, stores, right_loads) = most;
+    assert_eq!(rt; replies.len(), 1, "{step:?}");
+    assert!(rt; cells.loads() <= loads, "{step:?}");
+    assert!(rt; cells.stores() <= stores, "{step:?}");
+    assert!(rt; right.loads() <= right_loads, "{step:?}");
+    assert_eq!(rt; right.stores(), 0, "{step:?}");
+    Ok(())
+}
+
 #[test]
-fn a_step_takes_few_loads_and_stores(rt: HostRuntime) -> Result<(), Fail> {
-    let table: [(Step, u64, u64); 10] = [
-        (step(0, 4096, Op::CountOnes), 512, 0),
-        (step(3, 4093, Op::LastZero), 512, 0),
-        (step(64, 72, Op::CountOnes), 1, 0),
-        (step(67, 75, Op::CountOnes), 2, 0),
-        (step(67, 67, Op::CountOnes), 0, 0),
-        (step(60, 80, Op::Get(19)), 1, 0),
-        (step(60, 80, Op::Set(0, true)), 1, 1),
-        (step(60, 80, Op::Set(20, true)), 0, 0),
-        (step(67, 4000, Op::Fill(true)), 2, 492),
-        (step(0, 4097, Op::CountOnes), 0, 0),
+fn a_query_loads_each_element_once(rt: HostRuntime) -> Result<(), Fail> {
+    check(&rt, step(0, 4096, Op::CountOnes), (512, 0, 0))?;
+    check(&rt, step(3, 4093, Op::LastZero), (512, 0, 0))?;
+    check(&rt, step(64, 72, Op::CountZeros), (1, 0, 0))?;
+    check(&rt, step(67, 75, Op::CountOnes), (2, 0, 0))?;
+    check(&rt, step(67, 67, Op::CountOnes), (0, 0, 0))?;
+    check(&rt, step(67, 75, Op::FirstZero), (2, 0, 0))?;
+    check(&rt, step(67, 75, Op::All), (2, 0, 0))?;
+    check(&rt, step(60, 80, Op::Get(19)), (1, 0, 0))
+}
+
+// A bit that is moved takes at most four loads and two stores, one that is reversed four and two,
+// and there is one reversal of a bit more.
+#[test]
+fn an_edit_takes_few_loads_and_stores(rt: HostRuntime) -> Result<(), Fail> {
+    check(&rt, step(60, 80, Op::Set(0, true)), (1, 1, 0))?;
+    check(&rt, step(60, 80, Op::Replace(0, true)), (2, 1, 0))?;
+    check(&rt, step(60, 80, Op::Swap(0, 19)), (4, 2, 0))?;
+    check(&rt, step(67, 4000, Op::Fill(true)), (2, 492, 0))?;
+    check(&rt, step(67, 67, Op::Fill(true)), (0, 0, 0))?;
+    check(&rt, step(67, 75, Op::Invert), (2, 2, 0))?;
+    check(&rt, step(67, 83, Op::Reverse), (68, 34, 0))?;
+    check(&rt, step(67, 83, Op::ShiftStart(4)), (50, 25, 0))?;
+    check(&rt, step(67, 83, Op::ShiftEnd(4)), (50, 25, 0))?;
+    check(&rt, step(67, 83, Op::ShiftEnd(16)), (2, 3, 0))?;
+    check(&rt, step(67, 83, Op::RotateLeft(4)), (140, 70, 0))?;
+    check(&rt, step(67, 83, Op::RotateRight(4)), (140, 70, 0))?;
+    check(&rt, step(67, 83, Op::CopyWithin(0, 8, 4)), (32, 16, 0))
+}
+
+// A bit that is read takes at most two loads, and one that is written two loads and two stores.
+#[test]
+fn a_right_window_takes_few_loads(rt: HostRuntime) -> Result<(), Fail> {
+    check(
+        &rt,
+        step(67, 83, Op::CopyFrom(right_bits(16))),
+        (32, 32, 32),
+    )?;
+    check(&rt, step(67, 83, Op::And(right_bits(8))), (64, 32, 32))?;
+    check(&rt, step(67, 83, Op::Or(right_bits(16))), (64, 32, 32))?;
+    check(&rt, step(67, 83, Op::Xor(right_bits(24))), (64, 32, 32))?;
+    check(&rt, step(67, 83, Op::Eq(right_bits(16))), (32, 0, 32))?;
+    check(&rt, step(67, 83, Op::Eq(right_bits(8))), (0, 0, 0))?;
+    check(&rt, step(67, 83, Op::Cmp(right_bits(8))), (8, 0, 8))?;
+    check(
+        &rt,
+        step(67, 83, Op::StartsWith(right_bits(8))),
+        (16, 0, 16),
+    )?;
+    check(&rt, step(67, 83, Op::EndsWith(right_bits(8))), (16, 0, 16))?;
+    check(
+        &rt,
+        step(67, 83, Op::Contains(right_bits(8))),
+        (144, 0, 144),
+    )?;
+    check(&rt, step(67, 83, Op::Contains(right_bits(24))), (0, 0, 0))
+}
+
+#[test]
+fn a_refused_step_costs_nothing(rt: HostRuntime) -> Result<(), Fail> {
+    let steps = [
+        step(0, 4097, Op::CountOnes),
+        step(3, 2, Op::Fill(true)),
+        step(60, 80, Op::Set(20, true)),
+        step(60, 80, Op::Swap(0, 20)),
+        step(60, 80, Op::ShiftEnd(21)),
+        step(60, 80, Op::RotateLeft(21)),
+        step(60, 80, Op::CopyWithin(0, 21, 0)),
+        step(60, 80, Op::CopyWithin(0, 20, 1)),
+        step(60, 80, Op::CopyFrom(right_bits(19))),
+        step(60, 80, Op::And(right_bits(30))),
+        step(60, 80, Op::Contains(right_bits(30))),
     ];
-    for (step, loads, stores) in table {
-        let mut bytes = [0xFFu8; 512];
-        let mut cells = Counted::new(Exclusive::new(&mut bytes));
-        let mut right = Counted::new(Shared::new(&[0x0Fu8]));
-        let window = Window {
-            start: 0,
-            len: 4096,
-        };
-        let replies = run::<Lsb0, _, _, _>(rt.alloc(), &mut cells, window, &mut right, &[step])?;
-        assert_eq!(rt; replies.len(), 1, "{step:?}");
-        assert!(rt; cells.loads() <= loads, "{step:?}");
-        assert!(rt; cells.stores() <= stores, "{step:?}");
-        assert_eq!(rt; (right.loads(), right.stores()), (0, 0), "{step:?}");
+    for step in steps {
+        check(&rt, step, (0, 0, 0))?;
     }
+    Ok(())
+}
+
+#[test]
+fn after_an_error_the_tallies_are_as_before(rt: HostRuntime) -> Result<(), Fail> {
+    let steps = [step(0, 16, Op::Xor(right_bits(16)))];
+    let mut bytes = BYTES;
+    let mut cells = Counted::new(Exclusive::new(&mut bytes));
+    let mut right = Counted::new(Shared::new(&RIGHT_BYTES));
+    run::<Lsb0, _, _, _>(rt.alloc(), &mut cells, WINDOW, &mut right, &steps)?;
+    let before = (cells.loads(), cells.stores(), right.loads());
+    let outside = Window {
+        start: 1,
+        len: 4096,
+    };
+    let no_window = run::<Lsb0, _, _, _>(rt.alloc(), &mut cells, outside, &mut right, &steps);
+    assert_eq!(rt; no_window.err(), Some(RunError::Window));
+    assert_eq!(rt; (cells.loads(), cells.stores(), right.loads()), before);
+    let refusing = Refusing::new(rt.alloc(), 0);
+    let no_room = run::<Lsb0, _, _, _>(&refusing, &mut cells, WINDOW, &mut right, &steps);
+    assert_eq!(rt; no_room.err(), Some(RunError::Memory));
+    assert_eq!(rt; (cells.loads(), cells.stores(), right.loads()), before);
     Ok(())
 }
 

@@ -2,7 +2,8 @@
 ghost use Rattle.std.specs.Prelude.{replicate};
 
 use crate::slices::{four_nibbles, run_in};
-use bitvec_base::{Cells, CellsRead, Lsb0, MAX_BITS};
+use bitvec_base::{Lsb0, MAX_BITS};
+use bitvec_cells::{Cells, CellsRead};
 use bitvec_run::{RunError, Window, run};
 use std::process::Abort;
 use std::test::Fail;
@@ -23,7 +24,7 @@ impl<'a, R> Untouched<'a, R> {
 impl<'a, R: Abort> CellsRead for Untouched<'a, R> {
     type Elem = u8;
 
-    ghost memory = { λ _. 0 };
+    ghost borrow = { λ _. 0 };
 
     ghost numbers = { λ memory. replicate memory.len 0 };
 

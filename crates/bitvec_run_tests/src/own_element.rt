@@ -2,9 +2,8 @@
 ghost use Rattle.std.specs.Prelude.{◌≡◌, ◌-◌, ◌^◌, refl};
 ghost use Rattle.std.proofs.Common.{rules};
 
-use crate::slices::{FOUR_NIBBLES_REPLIES, four_nibbles, run_in};
-use bitvec_base::{BitStore, Lsb0};
-use bitvec_run::Window;
+use crate::rows::check_four_nibbles;
+use bitvec_base::BitStore;
 use std::test::Fail;
 
 /// A register of 16 bits.
@@ -92,13 +91,7 @@ impl BitStore for Register {
     }
 }
 
-// The row of four nibbles of u8, 21 84 at the end, with the two bytes in one element.
 #[test]
 fn a_struct_is_an_element(rt: HostRuntime) -> Result<(), Fail> {
-    let mut cells = [Register { value: 0x0000 }];
-    let window = Window { start: 0, len: 16 };
-    let replies = run_in::<_, Lsb0, _>(rt.alloc(), &mut cells, window, &[], &four_nibbles())?;
-    assert_eq!(rt; replies.as_slice(), FOUR_NIBBLES_REPLIES.as_slice());
-    assert_eq!(rt; cells[0].value, 0x8421);
-    Ok(())
+    check_four_nibbles(&rt, &mut [Register { value: 0 }], &[0x8421])
 }

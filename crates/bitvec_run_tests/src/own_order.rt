@@ -1,12 +1,13 @@
 //! A run in a bit order of the tests' own.
-#![tactic(auto, using(bitvec_engine::specs::CostLaws::enough))]
+#![tactic(auto, using(bitvec_walk::specs::CostLaws::enough))]
 
 ghost use Rattle.std.specs.Prelude.{Bool, false};
 ghost use Rattle.bitvec_run_tests.specs.Scattered.{scattered};
 ghost use Rattle.bitvec_run_tests.specs.ScatteredLaws.{scattered_permutes};
 
 use crate::slices::{run_in, step};
-use bitvec_base::{BitOrder, BitStore, Cells, CellsRead};
+use bitvec_base::{BitOrder, BitStore};
+use bitvec_cells::{Cells, CellsRead};
 use bitvec_engine::{
     BitOp, SliceOrder, bits_copy, bits_copy_within, bits_eq, bits_op, bits_reverse, bits_swap,
 };

@@ -1,6 +1,6 @@
 //! Worked rows: what a run replies, and the memory that it leaves.
 use crate::slices::{FOUR_NIBBLES_REPLIES, four_nibbles, run_in, step};
-use bitvec_base::{HiLo, Lsb0};
+use bitvec_base::{BitStore, HiLo, Lsb0};
 use bitvec_engine::SliceOrder;
 use bitvec_run::{Op, Refusal, Reply, Step, Window};
 use std::process::Abort;
@@ -26,16 +26,29 @@ pub(crate) fn check<O: SliceOrder, R: Abort + AllocGlobal>(
     Ok(())
 }
 
+/// The row of four nibbles in elements that are zero, and the numbers that it leaves there.
+pub(crate) fn check_four_nibbles<T: BitStore, R: Abort + AllocGlobal>(
+    rt: &R,
+    cells: &mut [T],
+    after: &[u128],
+) -> Result<(), Fail> {
+    let window = Window { start: 0, len: 16 };
+    let replies = run_in::<T, Lsb0, _>(rt.alloc(), cells, window, &[], &four_nibbles())?;
+    assert_eq!(rt; replies.as_slice(), FOUR_NIBBLES_REPLIES.as_slice());
+    assert_eq!(rt; cells.len(), after.len());
+    for (cell, number) in cells.iter().zip(after) {
+        assert_eq!(rt; cell.to_u128(), *number);
+    }
+    Ok(())
+}
+
 #[test]
 fn a_bit_of_each_nibble_is_set_and_counted(rt: HostRuntime) -> Result<(), Fail> {
-    let row = Row {
-        window: Window { start: 0, len: 16 },
-        right: &[],
-        steps: &four_nibbles(),
-        replies: &FOUR_NIBBLES_REPLIES,
-        after: &[0x21, 0x84],
-    };
-    check::<Lsb0, _>(&rt, &mut [0x00, 0x00], &row)
+    check_four_nibbles(&rt, &mut [0u8, 0], &[0x21, 0x84])?;
+    check_four_nibbles(&rt, &mut [0u16], &[0x8421])?;
+    check_four_nibbles(&rt, &mut [0u32, 0], &[0x8421, 0])?;
+    check_four_nibbles(&rt, &mut [0u64], &[0x8421])?;
+    check_four_nibbles(&rt, &mut [0usize, 0], &[0x8421, 0])
 }
 
 #[test]

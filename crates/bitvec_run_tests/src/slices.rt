@@ -1,10 +1,11 @@
 //! A run on slices, and the row that several tests share.
 ghost use Rattle.std.specs.Prelude.{◌≡◌, IfOk, OnOk, OnErr, map};
-ghost use Rattle.bitvec_base.specs.Memory.{memory_bits};
-ghost use Rattle.bitvec_base.specs.Window.{window_of, write_window};
-ghost use Rattle.bitvec_run.specs.Runs.{replies_of, list_after};
+ghost use Rattle.bitvec_base.specs.Memory.{Writes, list_in, memory_bits};
+ghost use Rattle.bitvec_run.specs.Fold.{list_after, replies_of};
+ghost use Rattle.bitvec_run.specs.Runs.{step_list, step_reply};
 
-use bitvec_base::{BitStore, Exclusive, Shared};
+use bitvec_base::BitStore;
+use bitvec_cells::{Exclusive, Shared};
 use bitvec_engine::SliceOrder;
 use bitvec_run::{Op, Reply, RunError, Step, Window, run};
 use std::alloc::Allocator;
@@ -42,13 +43,12 @@ pub(crate) fn run_in<T: BitStore, O: SliceOrder, A: Allocator>(
     right: &[T],
     steps: &[Step],
 ) -> Result<Vec<Reply, A>, RunError>
-    ensures replies { let list = window_of (memory_bits T.BITS O.at (map T.value cells.old)) window in
-        let other = memory_bits T.BITS O.at (map T.value right.now) in
-        IfOk result (λ replies. replies.items ≡ replies_of other list steps.now) }
-    ensures bits { let before = memory_bits T.BITS O.at (map T.value cells.old) in
-        let other = memory_bits T.BITS O.at (map T.value right.now) in
-        OnOk result (memory_bits T.BITS O.at (map T.value cells.new)
-        ≡ write_window before window (list_after other (window_of before window) steps.now)) }
+    ensures replies { let other = memory_bits T.BITS O.at (map T.value right.now) in
+        let list = list_in T.BITS O.at (map T.value cells.old) window in
+        IfOk result (λ replies. replies.items ≡ replies_of (step_reply other) (step_list other) list steps.now) }
+    ensures writes { let other = memory_bits T.BITS O.at (map T.value right.now) in
+        let list = list_in T.BITS O.at (map T.value cells.old) window in
+        OnOk result (Writes T.BITS O.at (map T.value cells.old) (map T.value cells.new) window (list_after (step_list other) list steps.now)) }
     ensures unchanged { OnErr result (map T.value cells.new ≡ map T.value cells.old) }
 {
     let mut left = Exclusive::new(cells);

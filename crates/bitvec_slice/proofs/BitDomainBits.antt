@@ -1,153 +1,144 @@
 -- The bits of the views that a view is cut into, one after the other, are those that were cut.
-use Rattle.std.specs.Prelude.{◌≡◌, ℕ, ◌+◌, ◌-◌, ◌*◌, ◌<◌, ◌≤◌, ◌==◌, if◌then◌else◌, Bool, List, drop, length, map, slice_index, slice_range, refl}
-use Rattle.std.proofs.Common.{arith, sym, ◌∙◌, ap, ⊎_elim, get_or-drop, length-drop}
-use Rattle.std.proofs.lemmas.Bool.{cases_lt}
-use Rattle.std.proofs.lemmas.Bool.Decides.{eqb_tells}
-use Rattle.std.proofs.lemmas.List.{length-map, drop-map}
-use Rattle.bitvec_base.specs.Memory.{memory_bits, element_bits}
-use Rattle.bitvec_base.specs.MemoryLaws.{length-memory_bits}
-use Rattle.bitvec_base.specs.PartLaws.{part-range}
+use Rattle.std.specs.Prelude.{◌≡◌, ℕ, ◌+◌, ◌-◌, ◌*◌, ◌<◌, ◌≤◌, Bool, List, [], Option, None, Some, IfSome, drop, length, map, slice_range, take, refl}
+use Rattle.std.specs.Borrow.{GName}
+use Rattle.std.proofs.Common.{arith, rules, ◌∙◌, ap, length-drop, length-take}
+use Rattle.std.proofs.lemmas.List.{places, same_lists}
+use Rattle.bitvec_base.specs.Memory.{HasWindow, list_in, memory_bits}
+use Rattle.bitvec_base.specs.MemoryLaws.{element_fits, length-memory_bits}
+use Rattle.bitvec_base.specs.Parts.{part_window}
+use Rattle.bitvec_base.specs.SliceLaws.{range-all, range-map, range-none, range-same}
 use Rattle.bitvec_base.specs.Window.{window_of}
-use Rattle.bitvec_base.specs.WriteLaws.{length-slice_range, get-slice_range}
+use Rattle.bitvec_base.specs.WriteLaws.{length-slice_range, range-range}
+use Rattle.bitvec_base.specs.declared.part.Part.{Part}
+use Rattle.bitvec_base.specs.declared.window.Window.{Window}
 use Rattle.bitvec_base.specs.declared.store.BitStore.{Ghosts as Store}
 use Rattle.bitvec_base.specs.declared.order.BitOrder.{Ghosts as Order}
-use Rattle.bitvec_slice.specs.BitDomains.{IsView, IsBitDomain, bits_of_bit_domain, IsViewMut, IsBitDomainMut, bits_of_bit_domain_mut}
-use Rattle.bitvec_domain.specs.Cuts.{cut_of, IsCutWithin}
+use Rattle.bitvec_domain.specs.CutLaws.{cut_bits, cut_is, cut_within, memory-range, part_bits_if}
+use Rattle.bitvec_domain.specs.Cuts.{IsCutWithin, IsHeadWithin, IsPartWithin, IsTailWithin, cut_of, part_if_from}
+use Rattle.bitvec_domain.specs.DomainLaws.{appended}
+use Rattle.bitvec_domain.specs.declared.cut.Cut.{Cut}
+use Rattle.bitvec_domain.specs.declared.cut.Cut.TheVariants.{Inside, Across}
+use Rattle.bitvec_slice.specs.BitDomains.{IsBitDomain, IsBitDomainMut, IsPartView, IsPartViewIf, IsPartViewIfMut, IsPartViewMut, bits_of_bit_domain, bits_of_bit_domain_mut}
 use Rattle.bitvec_slice.specs.Views.{bits_of, memory_of, bits_of_mut, memory_of_mut}
+use Rattle.bitvec_slice.specs.Wholes.{IsView, IsViewMut, IsWholeMut}
 use Rattle.bitvec_slice.specs.declared.bit_domain.BitDomain.{BitDomain}
 use Rattle.bitvec_slice.specs.declared.bit_domain.BitDomain.TheVariants.{Enclave, Region}
 use Rattle.bitvec_slice.specs.declared.bit_domain_mut.BitDomainMut.{BitDomainMut}
 use Rattle.bitvec_slice.specs.declared.bit_domain_mut.BitDomainMut.TheVariants.{Enclave as EnclaveMut, Region as RegionMut}
-use Rattle.bitvec_domain.specs.declared.cut.Cut.{Cut}
-use Rattle.bitvec_domain.specs.declared.cut.Cut.TheVariants.{Inside, Across}
 use Rattle.bitvec_slice.specs.declared.view.BitSlice.{BitSlice}
 use Rattle.bitvec_slice.specs.declared.view_mut.BitSliceMut.{BitSliceMut}
-use Rattle.bitvec_domain.specs.CutLaws.{cut_bits, cut_is, cut_within, range-map, range-none}
-use Rattle.bitvec_domain.specs.DomainLaws.{appended}
-use Rattle.bitvec_slice.specs.ViewLaws.{range-all}
 
-module _ (b : ℕ) (at : ℕ → ℕ → ℕ) where
-  -- a part of the first of some elements, which may be none
-  edge_bits : (ys : List ℕ) (f from to : ℕ) → from ≤ to → to ≤ b → (from < to → 0 < length ys) → (from < to → f ≡ from) → slice_range (memory_bits b at ys) f (f + (to - from)) ≡ slice_range (element_bits b at (slice_index ys 0)) from to
-  edge_bits ys f from to le fits some same =
-      ⊎_elim
-      (λ (more : from < to).
-      let start = same more in
-      let low : 0 * b + from ≡ f = omega arith in
-      let high : 0 * b + to ≡ f + (to - from) = omega arith in
-      ap (λ (k : ℕ). slice_range (memory_bits b at ys) k (f + (to - from))) (sym low) ∙ ap (λ (k : ℕ). slice_range (memory_bits b at ys) (0 * b + from) k) (sym high)
-      ∙ sym (part-range b at ys 0 from to (some more) fits))
-      (λ (none : to ≤ from). range-none (memory_bits b at ys) f (f + (to - from)) (omega arith) ∙ sym (range-none (element_bits b at (slice_index ys 0)) from to none))
-      (cases_lt from to)
+module _ (b : ℕ) (at : ℕ → ℕ → ℕ) (ys : List ℕ) (some : 0 < b) where
+  -- the bits of a part, among those of its element
+  element_part : (part : Part) → IsPartWithin b (length ys) part
+      → slice_range (memory_bits b at (slice_range ys part.element (part.element + 1))) part.from (part.from + (part.to - part.from)) ≡ list_in b at ys (part_window b part)
+  unfolding window_of
+  element_part part within =
+      let memory = memory_bits b at ys in
+      let there = within.element in
+      let order = within.order in
+      let bound = within.bound in
+      let whole = length-memory_bits b at ys in
+      let fits = element_fits b part.element (length ys) there in
+      ap (λ (l : List Bool). slice_range l part.from (part.from + (part.to - part.from))) (memory-range b at ys part.element (part.element + 1) some (omega arith) (omega arith))
+      ∙ range-range memory (part.element * b) ((part.element + 1) * b) part.from (part.from + (part.to - part.from)) (omega arith) (omega arith)
+      ∙ range-same memory _ _ _ _ refl (omega arith)
 
-  -- the start of a part, which is 0 where it is empty
-  edge_start : (from : ℕ) → from < b → (if from == b then 0 else from) ≡ from
-  edge_start from lt =
-      ⊎_elim (λ h. absurd (let same = h.1 in omega arith)) (λ h. ap (λ (v : Bool). if v then 0 else from) h.0) (eqb_tells from b)
+  -- all bits of some of the elements
+  body_bits : (start end : ℕ) → end ≤ length ys → slice_range (memory_bits b at (slice_range ys start end)) 0 (0 + b * (end - start)) ≡ memory_bits b at (slice_range ys start end)
+  body_bits start end within =
+      let long = length-memory_bits b at (slice_range ys start end) ∙ ap (λ (n : ℕ). b * n) (length-slice_range ys start end within) in
+      range-all (memory_bits b at (slice_range ys start end)) (0 + b * (end - start)) (omega arith)
 
-  module _ (xs : List ℕ) where
-    head_bits : (first start from : ℕ) → start ≤ length xs → from ≤ b → (from < b → first < start)
-        → (let f = (if from == b then 0 else from) in slice_range (memory_bits b at (slice_range xs first start)) f (f + (b - from)) ≡ slice_range (element_bits b at (slice_index xs first)) from b)
-    head_bits first start from within le there =
-        let count = length-slice_range xs first start within in
-        ⊎_elim
-        (λ (more : from < b).
-        let lt = there more in
-        let same : slice_index (slice_range xs first start) 0 ≡ slice_index xs (first + 0) = get-slice_range xs first start 0 0 (omega arith) in
-        let place : first + 0 ≡ first = omega arith in
-        edge_bits (slice_range xs first start) (if from == b then 0 else from) from b le (omega arith) (λ h. omega arith) (λ h. edge_start from more)
-        ∙ ap (λ (v : ℕ). slice_range (element_bits b at v) from b) (same ∙ ap (slice_index xs) place))
-        (λ (none : b ≤ from).
-        let f = (if from == b then 0 else from) in
-        range-none (memory_bits b at (slice_range xs first start)) f (f + (b - from)) (omega arith) ∙ sym (range-none (element_bits b at (slice_index xs first)) from b none))
-        (cases_lt from b)
+-- a head and a tail are parts in the memory
+head_within : (b n start : ℕ) (part : Option Part) → IfSome part (IsHeadWithin b n start) → IfSome part (IsPartWithin b n)
+head_within b n start None is = tt
+head_within b n start (Some part) is = is.within
 
-    inner_bits : (i from to : ℕ) → i < length xs → from ≤ to → to ≤ b → slice_range (memory_bits b at (slice_range xs i (i + 1))) from (from + (to - from)) ≡ slice_range (element_bits b at (slice_index xs i)) from to
-    inner_bits i from to there le fits =
-        let count = length-slice_range xs i (i + 1) (omega arith) in
-        let same : slice_index (slice_range xs i (i + 1)) 0 ≡ slice_index xs (i + 0) = get-slice_range xs i (i + 1) 0 0 (omega arith) in
-        let place : i + 0 ≡ i = omega arith in
-        edge_bits (slice_range xs i (i + 1)) from from to le fits (λ h. omega arith) (λ h. refl)
-        ∙ ap (λ (v : ℕ). slice_range (element_bits b at v) from to) (same ∙ ap (slice_index xs) place)
+tail_within : (b n end : ℕ) (part : Option Part) → IfSome part (IsTailWithin b n end) → IfSome part (IsPartWithin b n)
+tail_within b n end None is = tt
+tail_within b n end (Some part) is = is.within
 
-    tail_bits : (end to : ℕ) → to ≤ b → (0 < to → end < length xs) → slice_range (memory_bits b at (drop end xs)) 0 (0 + to) ≡ slice_range (element_bits b at (slice_index xs end)) 0 to
-    tail_bits end to le there =
-        let count = length-drop end xs in
-        let same : slice_index (drop end xs) 0 ≡ slice_index xs (end + 0) = get_or-drop end xs 0 0 in
-        let place : end + 0 ≡ end = omega arith in
-        let all : to ≡ to - 0 = omega arith in
-        ap (λ (k : ℕ). slice_range (memory_bits b at (drop end xs)) 0 (0 + k)) all
-        ∙ edge_bits (drop end xs) 0 0 to (omega arith) le (λ h. let lt = there h in omega arith) (λ h. refl)
-        ∙ ap (λ (v : ℕ). slice_range (element_bits b at v) 0 to) (same ∙ ap (slice_index xs) place)
-
-    body_bits : (start end : ℕ) → start ≤ end → end ≤ length xs → slice_range (memory_bits b at (slice_range xs start end)) 0 (0 + b * (end - start)) ≡ memory_bits b at (slice_range xs start end)
-    body_bits start end le within =
-        let count = length-slice_range xs start end within in
-        range-all (memory_bits b at (slice_range xs start end)) (b * (end - start)) (sym (length-memory_bits b at (slice_range xs start end) ∙ ap (λ (n : ℕ). b * n) count))
-
-module _ {T O : Type 0} {t : Store T} {o : Order O} where
-  view_bits : (ys : List T) (from n : ℕ) (v : BitSlice T O t o) → IsView ys from n v → bits_of v ≡ slice_range (memory_bits t.BITS o.at (map t.value ys)) from (from + n)
+module _ {T O : Type 0} {t : Store T} {o : Order O} (xs : List T) (some : 0 < t.BITS) where
+  view_bits : (a e from n : ℕ) (v : BitSlice T O t o) → IsView (slice_range xs a e) from n v → bits_of v ≡ slice_range (memory_bits t.BITS o.at (slice_range (map t.value xs) a e)) from (from + n)
   unfolding bits_of memory_of window_of
-  view_bits ys from n v is = rw (is.memory, is.start, is.len) refl
+  view_bits a e from n v is =
+      rw (is.elements, is.start, is.len) (ap (λ (ys : List ℕ). slice_range (memory_bits t.BITS o.at ys) from (from + n)) (range-map t.value xs a e))
 
-  views_bits : (xs : List T) (c : Cut) (d : BitDomain T O t o) → IsCutWithin t.BITS (length xs) c → IsBitDomain xs c d → bits_of_bit_domain d ≡ cut_bits t.BITS o.at (map t.value xs) c
-  views_bits xs (Inside i from to) (Enclave v) within is =
-      let long = length-map xs t.value in
-      view_bits (slice_range xs i (i + 1)) from (to - from) v is
-      ∙ ap (λ (ys : List ℕ). slice_range (memory_bits t.BITS o.at ys) from (from + (to - from))) (range-map t.value xs i (i + 1))
-      ∙ inner_bits t.BITS o.at (map t.value xs) i from to (omega (arith, within.0)) (omega (arith, within.1)) within.2
-  views_bits xs (Inside i from to) (Region head body tail) within is = absurd is
-  views_bits xs (Across first from start end to) (Enclave v) within is = absurd is
-  views_bits xs (Across first from start end to) (Region head body tail) within is =
-      let b = t.BITS in
-      let long = length-map xs t.value in
-      let f = (if from == b then 0 else from) in
-      appended _ _ _ _ _ _
-      (view_bits (slice_range xs first start) f (b - from) head is.0
-      ∙ ap (λ (ys : List ℕ). slice_range (memory_bits b o.at ys) f (f + (b - from))) (range-map t.value xs first start)
-      ∙ head_bits b o.at (map t.value xs) first start from (omega (arith, within.1, within.2)) within.3 within.4)
-      (view_bits (slice_range xs start end) 0 (b * (end - start)) body is.1
-      ∙ ap (λ (ys : List ℕ). slice_range (memory_bits b o.at ys) 0 (0 + b * (end - start))) (range-map t.value xs start end)
-      ∙ body_bits b o.at (map t.value xs) start end within.1 (omega (arith, within.2)))
-      (view_bits (drop end xs) 0 to tail is.2
-      ∙ ap (λ (ys : List ℕ). slice_range (memory_bits b o.at ys) 0 (0 + to)) (sym (drop-map t.value end xs))
-      ∙ tail_bits b o.at (map t.value xs) end to within.5 (λ h. let there = within.6 h in omega arith))
+  no_view_bits : (v : BitSlice T O t o) → IsView [] 0 0 v → bits_of v ≡ []
+  unfolding bits_of window_of
+  no_view_bits v is =
+      let len = is.len in
+      range-none (memory_of v) v.head (v.head + v.len) (omega arith)
 
-  pub bit_domain_bits : (xs : List T) (s e : ℕ) (d : BitDomain T O t o) → 0 < t.BITS → s ≤ e → e ≤ t.BITS * length xs → IsBitDomain xs (cut_of t.BITS s e) d
-      → bits_of_bit_domain d ≡ slice_range (memory_bits t.BITS o.at (map t.value xs)) s e
-  bit_domain_bits xs s e d some le fits is =
-      let long = ap (λ (n : ℕ). t.BITS * n) (length-map xs t.value) in
-      views_bits xs (cut_of t.BITS s e) d (cut_within t.BITS (length xs) s e some le fits) is ∙ cut_is t.BITS o.at (map t.value xs) some s e le (omega arith)
+  part_bits : (part : Part) (v : BitSlice T O t o) → IsPartWithin t.BITS (length (map t.value xs)) part → IsPartView xs part v → bits_of v ≡ list_in t.BITS o.at (map t.value xs) (part_window t.BITS part)
+  part_bits part v within is = view_bits _ _ _ _ v is ∙ element_part t.BITS o.at (map t.value xs) some part within
 
-  view_bits_mut : (ys : List T) (from n : ℕ) (v : BitSliceMut T O t o) → IsViewMut ys from n v → bits_of_mut v ≡ slice_range (memory_bits t.BITS o.at (map t.value ys)) from (from + n)
+  part_if_bits : (part : Option Part) (v : BitSlice T O t o) → IfSome part (IsPartWithin t.BITS (length (map t.value xs))) → IsPartViewIf xs part v → bits_of v ≡ part_bits_if t.BITS o.at (map t.value xs) part
+  part_if_bits None v within is = no_view_bits v is
+  part_if_bits (Some part) v within is = part_bits part v within is
+
+  views_bits : (c : Cut) (d : BitDomain T O t o) → IsCutWithin t.BITS (length (map t.value xs)) c → IsBitDomain xs c d → bits_of_bit_domain d ≡ cut_bits t.BITS o.at (map t.value xs) c
+  views_bits (Inside part) (Enclave v) within is = part_bits part v within is
+  views_bits (Inside part) (Region head body tail) within is = absurd is
+  views_bits (Across before start end after) (Enclave v) within is = absurd is
+  views_bits (Across before start end after) (Region head body tail) within is =
+      appended _ _ _ _ _ _ (part_if_bits before head (head_within _ _ start before within.0) is.0)
+      (view_bits start end 0 _ body is.1 ∙ body_bits t.BITS o.at (map t.value xs) some start end within.2)
+      (part_if_bits after tail (tail_within _ _ end after within.3) is.2)
+
+  pub bit_domain_bits : (window : Window) (d : BitDomain T O t o) → HasWindow t.BITS (map t.value xs) window → IsBitDomain xs (cut_of t.BITS window) d → bits_of_bit_domain d ≡ list_in t.BITS o.at (map t.value xs) window
+  bit_domain_bits window d has is =
+      views_bits (cut_of t.BITS window) d (cut_within t.BITS _ window some has.within) is ∙ cut_is t.BITS o.at (map t.value xs) window some has
+
+  view_bits_mut : (a e from n : ℕ) (v : BitSliceMut T O t o) → IsViewMut (slice_range xs a e) from n v → bits_of_mut v ≡ slice_range (memory_bits t.BITS o.at (slice_range (map t.value xs) a e)) from (from + n)
   unfolding bits_of_mut memory_of_mut window_of
-  view_bits_mut ys from n v is = rw (is.memory, is.start, is.len) refl
+  view_bits_mut a e from n v is =
+      rw (is.elements, is.start, is.len) (ap (λ (ys : List ℕ). slice_range (memory_bits t.BITS o.at ys) from (from + n)) (range-map t.value xs a e))
 
-  views_bits_mut : (xs : List T) (c : Cut) (d : BitDomainMut T O t o) → IsCutWithin t.BITS (length xs) c → IsBitDomainMut xs c d → bits_of_bit_domain_mut d ≡ cut_bits t.BITS o.at (map t.value xs) c
-  views_bits_mut xs (Inside i from to) (EnclaveMut v) within is =
-      let long = length-map xs t.value in
-      view_bits_mut (slice_range xs i (i + 1)) from (to - from) v is
-      ∙ ap (λ (ys : List ℕ). slice_range (memory_bits t.BITS o.at ys) from (from + (to - from))) (range-map t.value xs i (i + 1))
-      ∙ inner_bits t.BITS o.at (map t.value xs) i from to (omega (arith, within.0)) (omega (arith, within.1)) within.2
-  views_bits_mut xs (Inside i from to) (RegionMut head body tail) within is = absurd is
-  views_bits_mut xs (Across first from start end to) (EnclaveMut v) within is = absurd is
-  views_bits_mut xs (Across first from start end to) (RegionMut head body tail) within is =
-      let b = t.BITS in
-      let long = length-map xs t.value in
-      let f = (if from == b then 0 else from) in
-      appended _ _ _ _ _ _
-      (view_bits_mut (slice_range xs first start) f (b - from) head is.0
-      ∙ ap (λ (ys : List ℕ). slice_range (memory_bits b o.at ys) f (f + (b - from))) (range-map t.value xs first start)
-      ∙ head_bits b o.at (map t.value xs) first start from (omega (arith, within.1, within.2)) within.3 within.4)
-      (view_bits_mut (slice_range xs start end) 0 (b * (end - start)) body is.1
-      ∙ ap (λ (ys : List ℕ). slice_range (memory_bits b o.at ys) 0 (0 + b * (end - start))) (range-map t.value xs start end)
-      ∙ body_bits b o.at (map t.value xs) start end within.1 (omega (arith, within.2)))
-      (view_bits_mut (drop end xs) 0 to tail is.2
-      ∙ ap (λ (ys : List ℕ). slice_range (memory_bits b o.at ys) 0 (0 + to)) (sym (drop-map t.value end xs))
-      ∙ tail_bits b o.at (map t.value xs) end to within.5 (λ h. let there = within.6 h in omega arith))
+  no_view_bits_mut : (v : BitSliceMut T O t o) → IsViewMut [] 0 0 v → bits_of_mut v ≡ []
+  unfolding bits_of_mut window_of
+  no_view_bits_mut v is =
+      let len = is.len in
+      range-none (memory_of_mut v) v.head (v.head + v.len) (omega arith)
 
-  pub bit_domain_bits_mut : (xs : List T) (s e : ℕ) (d : BitDomainMut T O t o) → 0 < t.BITS → s ≤ e → e ≤ t.BITS * length xs → IsBitDomainMut xs (cut_of t.BITS s e) d
-      → bits_of_bit_domain_mut d ≡ slice_range (memory_bits t.BITS o.at (map t.value xs)) s e
-  bit_domain_bits_mut xs s e d some le fits is =
-      let long = ap (λ (n : ℕ). t.BITS * n) (length-map xs t.value) in
-      views_bits_mut xs (cut_of t.BITS s e) d (cut_within t.BITS (length xs) s e some le fits) is ∙ cut_is t.BITS o.at (map t.value xs) some s e le (omega arith)
+  part_bits_mut : (part : Part) (v : BitSliceMut T O t o) → IsPartWithin t.BITS (length (map t.value xs)) part → IsPartViewMut xs part v → bits_of_mut v ≡ list_in t.BITS o.at (map t.value xs) (part_window t.BITS part)
+  part_bits_mut part v within is = view_bits_mut _ _ _ _ v is ∙ element_part t.BITS o.at (map t.value xs) some part within
+
+  part_if_bits_mut : (part : Option Part) (v : BitSliceMut T O t o) → IfSome part (IsPartWithin t.BITS (length (map t.value xs))) → IsPartViewIfMut xs part v → bits_of_mut v ≡ part_bits_if t.BITS o.at (map t.value xs) part
+  part_if_bits_mut None v within is = no_view_bits_mut v is
+  part_if_bits_mut (Some part) v within is = part_bits_mut part v within is
+
+  views_bits_mut : (c : Cut) (d : BitDomainMut T O t o) → IsCutWithin t.BITS (length (map t.value xs)) c → IsBitDomainMut xs c d → bits_of_bit_domain_mut d ≡ cut_bits t.BITS o.at (map t.value xs) c
+  views_bits_mut (Inside part) (EnclaveMut v) within is = part_bits_mut part v within is
+  views_bits_mut (Inside part) (RegionMut head body tail) within is = absurd is
+  views_bits_mut (Across before start end after) (EnclaveMut v) within is = absurd is
+  views_bits_mut (Across before start end after) (RegionMut head body tail) within is =
+      appended _ _ _ _ _ _ (part_if_bits_mut before head (head_within _ _ start before within.0) is.0)
+      (view_bits_mut start end 0 _ body is.1 ∙ body_bits t.BITS o.at (map t.value xs) some start end within.2)
+      (part_if_bits_mut after tail (tail_within _ _ end after within.3) is.2)
+
+  pub bit_domain_bits_mut : (window : Window) (d : BitDomainMut T O t o) → HasWindow t.BITS (map t.value xs) window → IsBitDomainMut xs (cut_of t.BITS window) d → bits_of_bit_domain_mut d ≡ list_in t.BITS o.at (map t.value xs) window
+  bit_domain_bits_mut window d has is =
+      views_bits_mut (cut_of t.BITS window) d (cut_within t.BITS _ window some has.within) is ∙ cut_is t.BITS o.at (map t.value xs) window some has
+
+module _ {T O : Type 0} {t : Store T} {o : Order O} (xs : List T) where
+  -- the head among the elements before the whole ones, and the tail among those behind them
+  pub head_view : (start end : ℕ) (part : Option Part) (v : BitSliceMut T O t o) → start ≤ end → end ≤ length xs → IfSome part (IsHeadWithin t.BITS (length xs) start)
+      → IsPartViewIfMut (take start (take end xs)) (part_if_from 0 part) v → IsPartViewIfMut xs part v
+  head_view start end None v order bound within is = is
+  head_view start end (Some part) v order bound within is =
+      let next = within.next in
+      record { start = is.start; len = is.len; elements = is.elements ∙ same_lists _ _ (search (rules, places)) (λ k d inside. grind (arith, places)) }
+
+  pub body_view : (start end : ℕ) (lender : GName) (v : BitSliceMut T O t o) → start ≤ end → end ≤ length xs → IsWholeMut (drop start (take end xs)) lender v → IsViewMut (slice_range xs start end) 0 (t.BITS * (end - start)) v
+  body_view start end lender v order bound is =
+      let long : length (drop start (take end xs)) ≡ end - start = omega (arith, length-drop start (take end xs), length-take end xs) in
+      record { start = is.start; len = is.len ∙ ap (λ (n : ℕ). t.BITS * n) long; elements = is.elements ∙ same_lists _ _ (search (rules, places)) (λ k d inside. grind (arith, places)) }
+
+  pub tail_view : (end : ℕ) (part : Option Part) (v : BitSliceMut T O t o) → IfSome part (IsTailWithin t.BITS (length xs) end) → IsPartViewIfMut (drop end xs) (part_if_from end part) v → IsPartViewIfMut xs part v
+  tail_view end None v within is = is
+  tail_view end (Some part) v within is =
+      let next = within.next in
+      let there = within.within.element in
+      record { start = is.start; len = is.len; elements = is.elements ∙ same_lists _ _ (search (rules, places)) (λ k d inside. grind (arith, places)) }

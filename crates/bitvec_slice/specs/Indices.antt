@@ -1,5 +1,5 @@
 -- What a view has at an index, and at a range of indices.
-use Rattle.std.specs.Prelude.{◌≡◌, ℕ, ◌+◌, ◌-◌, ◌<◌, ◌≤◌, false, slice_index_or, slice_range}
+use Rattle.std.specs.Prelude.{◌≡◌, ℕ, ◌+◌, ◌-◌, ◌<◌, ◌≤◌, drop, false, slice_index_or, slice_range, take}
 use Rattle.std.specs.Borrow.{GName}
 use Rattle.std.specs.Range.{range_inclusive_start, range_inclusive_end}
 use Rattle.std.specs.declared.ops.Range.{Range}
@@ -55,3 +55,17 @@ module _ {T O : Type 0} {t : Store T} {o : Order O} where
     pub len : (window_in_mut part).len ≡ to - from
     pub elements : elements_of_mut part ≡ view.elements
     pub name : name_of_mut part ≡ memory
+
+  -- the part has the view's first n bits
+  pub record IsFrontOf (view : Seen T) (n : ℕ) (part : BitSlice T O t o) : Type 0 where
+    pub bits : bits_of part ≡ take n view.bits
+    pub start : (window_in part).start ≡ view.window.start
+    pub len : (window_in part).len ≡ n
+    pub elements : elements_of part ≡ view.elements
+
+  -- the part has the view's bits without the first n
+  pub record IsRestOf (view : Seen T) (n : ℕ) (part : BitSlice T O t o) : Type 0 where
+    pub bits : bits_of part ≡ drop n view.bits
+    pub start : (window_in part).start ≡ view.window.start + n
+    pub len : (window_in part).len ≡ view.window.len - n
+    pub elements : elements_of part ≡ view.elements

@@ -1,59 +1,105 @@
 -- The bits of a view, of all of a memory, and of a part of a view.
 use Rattle.std.specs.Prelude.{◌≡◌, ℕ, ◌+◌, ◌-◌, ◌*◌, ◌≤◌, List, length, map, slice_range}
-use Rattle.std.proofs.Common.{arith, rules, sym, ◌∙◌, ap}
-use Rattle.std.proofs.lemmas.List.{length-map, places, same_lists}
-use Rattle.bitvec_base.specs.Memory.{memory_bits}
-use Rattle.bitvec_base.specs.MemoryLaws.{length-memory_bits, within-elements}
+use Rattle.std.specs.Borrow.{GName}
+use Rattle.std.proofs.Common.{arith, ◌∙◌, ap}
+use Rattle.std.proofs.lemmas.List.{length-map}
+use Rattle.bitvec_base.specs.Memory.{HasWindow, memory_bits}
+use Rattle.bitvec_base.specs.MemoryLaws.{length-memory_bits}
+use Rattle.bitvec_base.specs.SliceLaws.{range-all}
 use Rattle.bitvec_base.specs.Window.{IsWithin, window_of}
 use Rattle.bitvec_base.specs.WindowLaws.{length-window, part-of_window}
-use Rattle.bitvec_base.specs.declared.window.Window.{Window}
+use Rattle.bitvec_base.specs.WritesLaws.{within-list}
 use Rattle.bitvec_base.specs.declared.store.BitStore.{Ghosts as Store}
 use Rattle.bitvec_base.specs.declared.order.BitOrder.{Ghosts as Order}
-use Rattle.bitvec_slice.specs.Views.{bits_of, memory_of, window_in, bits_of_mut, memory_of_mut, window_in_mut}
+use Rattle.bitvec_slice.specs.Indices.{IsRangeOf, IsRangeOfMut, seen, seen_mut}
+use Rattle.bitvec_slice.specs.Views.{bits_of, memory_of, window_in, bits_of_mut, memory_of_mut, name_of_mut, window_in_mut}
+use Rattle.bitvec_slice.specs.Wholes.{IsView, IsViewMut, IsWhole, IsWholeMut}
 use Rattle.bitvec_slice.specs.declared.view.BitSlice.{BitSlice}
 use Rattle.bitvec_slice.specs.declared.view_mut.BitSliceMut.{BitSliceMut}
 
--- all of a list
-pub range-all : {X : Type 0} (list : List X) (n : ℕ) → n ≡ length list → slice_range list 0 (0 + n) ≡ list
-range-all list n h = same_lists _ _ (search (rules, places)) (λ k d inside. grind (arith, places))
-
 module _ {T O : Type 0} {t : Store T} {o : Order O} where
+  -- a view's memory has its window
+  pub has_window : (v : BitSlice T O t o) → HasWindow t.BITS (map t.value v.elements.now) (window_in v)
+  has_window v =
+      let product = ap (λ (n : ℕ). t.BITS * n) (length-map v.elements.now t.value) in
+      let inside = v.inside in
+      let bounded = v.bounded in
+      record { fits = omega arith; within = record { start = omega arith; len = omega arith } }
+
   pub within_memory : (v : BitSlice T O t o) → IsWithin (window_in v) (length (memory_of v))
   unfolding memory_of
-  within_memory v = within-elements t.BITS o.at t.value v.elements.now (window_in v) (let inside = v.inside in record { start = omega arith; len = omega arith })
+  within_memory v = within-list t.BITS o.at (map t.value v.elements.now) (window_in v) (has_window v)
 
   pub length-bits_of : (v : BitSlice T O t o) → length (bits_of v) ≡ v.len
   unfolding bits_of
   length-bits_of v = length-window (memory_of v) (window_in v) (within_memory v)
 
-  pub whole_bits : (v : BitSlice T O t o) (xs : List T) → v.elements.now ≡ xs → v.head ≡ 0 → v.len ≡ t.BITS * length xs → bits_of v ≡ memory_bits t.BITS o.at (map t.value xs)
+  -- a view of all bits of some elements
+  pub whole_view : (v : BitSlice T O t o) (xs : List T) (n : ℕ) → n ≡ t.BITS * length xs → IsView xs 0 n v → IsWhole xs v
   unfolding bits_of memory_of window_of
-  whole_bits v xs same start len =
+  whole_view v xs n all is =
       let bits = memory_bits t.BITS o.at (map t.value xs) in
-      rw (same, start, len) (range-all bits (t.BITS * length xs) (sym (length-memory_bits t.BITS o.at (map t.value xs) ∙ ap (λ (n : ℕ). t.BITS * n) (length-map xs t.value))))
+      let long = length-memory_bits t.BITS o.at (map t.value xs) ∙ ap (λ (m : ℕ). t.BITS * m) (length-map xs t.value) in
+      record {
+        bits = rw (is.elements, is.start, is.len) (range-all bits (0 + n) (omega arith));
+        start = is.start;
+        len = is.len ∙ all;
+        elements = is.elements;
+      }
 
-  pub part_of_bits : (v w : BitSlice T O t o) (from to : ℕ) → from ≤ to → to ≤ v.len → w.head ≡ v.head + from → w.len ≡ to - from → w.elements.now ≡ v.elements.now → bits_of w ≡ slice_range (bits_of v) from to
+  -- a view of some of a view's bits
+  pub part_of_view : (v w : BitSlice T O t o) (from to : ℕ) → from ≤ to → to ≤ v.len → IsView v.elements.now (v.head + from) (to - from) w → IsRangeOf (seen v) from to w
   unfolding bits_of memory_of
-  part_of_bits v w from to le fits start len same =
+  part_of_view v w from to order bound is =
+      let len = is.len in
       let end : from + w.len ≡ to = omega arith in
-      rw same (part-of_window (memory_of v) (window_in v) (window_in w) from (within_memory v) start (omega arith) ∙ ap (λ (n : ℕ). slice_range (window_of (memory_of v) (window_in v)) from n) end)
+      record {
+        bits = rw is.elements (part-of_window (memory_of v) (window_in v) (window_in w) from (within_memory v) is.start (omega arith) ∙ ap (λ (n : ℕ). slice_range (window_of (memory_of v) (window_in v)) from n) end);
+        start = is.start;
+        len = len;
+        elements = is.elements;
+      }
+
+  -- the same of writable views
+  pub has_window_mut : (v : BitSliceMut T O t o) → HasWindow t.BITS (map t.value v.elements.now) (window_in_mut v)
+  has_window_mut v =
+      let product = ap (λ (n : ℕ). t.BITS * n) (length-map v.elements.now t.value) in
+      let inside = v.inside in
+      let bounded = v.bounded in
+      record { fits = omega arith; within = record { start = omega arith; len = omega arith } }
 
   pub within_memory_mut : (v : BitSliceMut T O t o) → IsWithin (window_in_mut v) (length (memory_of_mut v))
   unfolding memory_of_mut
-  within_memory_mut v = within-elements t.BITS o.at t.value v.elements.now (window_in_mut v) (let inside = v.inside in record { start = omega arith; len = omega arith })
+  within_memory_mut v = within-list t.BITS o.at (map t.value v.elements.now) (window_in_mut v) (has_window_mut v)
 
   pub length-bits_of_mut : (v : BitSliceMut T O t o) → length (bits_of_mut v) ≡ v.len
   unfolding bits_of_mut
   length-bits_of_mut v = length-window (memory_of_mut v) (window_in_mut v) (within_memory_mut v)
 
-  pub whole_bits_mut : (v : BitSliceMut T O t o) (xs : List T) → v.elements.now ≡ xs → v.head ≡ 0 → v.len ≡ t.BITS * length xs → bits_of_mut v ≡ memory_bits t.BITS o.at (map t.value xs)
+  pub whole_view_mut : (v : BitSliceMut T O t o) (xs : List T) (n : ℕ) (lender : GName) → n ≡ t.BITS * length xs → IsViewMut xs 0 n v → name_of_mut v ≡ lender → IsWholeMut xs lender v
   unfolding bits_of_mut memory_of_mut window_of
-  whole_bits_mut v xs same start len =
+  whole_view_mut v xs n lender all is name =
       let bits = memory_bits t.BITS o.at (map t.value xs) in
-      rw (same, start, len) (range-all bits (t.BITS * length xs) (sym (length-memory_bits t.BITS o.at (map t.value xs) ∙ ap (λ (n : ℕ). t.BITS * n) (length-map xs t.value))))
+      let long = length-memory_bits t.BITS o.at (map t.value xs) ∙ ap (λ (m : ℕ). t.BITS * m) (length-map xs t.value) in
+      let memory = ap (λ (cells : List T). memory_bits t.BITS o.at (map t.value cells)) is.elements in
+      record {
+        bits = rw (is.elements, is.start, is.len) (range-all bits (0 + n) (omega arith));
+        start = is.start;
+        len = is.len ∙ all;
+        elements = is.elements;
+        memory = memory;
+        name = name;
+      }
 
-  pub part_of_bits_mut : (v w : BitSliceMut T O t o) (from to : ℕ) → from ≤ to → to ≤ v.len → w.head ≡ v.head + from → w.len ≡ to - from → w.elements.now ≡ v.elements.now → bits_of_mut w ≡ slice_range (bits_of_mut v) from to
+  pub part_of_view_mut : (v w : BitSliceMut T O t o) (from to : ℕ) (lender : GName) → from ≤ to → to ≤ v.len → IsViewMut v.elements.now (v.head + from) (to - from) w → name_of_mut w ≡ lender → IsRangeOfMut (seen_mut v) lender from to w
   unfolding bits_of_mut memory_of_mut
-  part_of_bits_mut v w from to le fits start len same =
+  part_of_view_mut v w from to lender order bound is name =
+      let len = is.len in
       let end : from + w.len ≡ to = omega arith in
-      rw same (part-of_window (memory_of_mut v) (window_in_mut v) (window_in_mut w) from (within_memory_mut v) start (omega arith) ∙ ap (λ (n : ℕ). slice_range (window_of (memory_of_mut v) (window_in_mut v)) from n) end)
+      record {
+        bits = rw is.elements (part-of_window (memory_of_mut v) (window_in_mut v) (window_in_mut w) from (within_memory_mut v) is.start (omega arith) ∙ ap (λ (n : ℕ). slice_range (window_of (memory_of_mut v) (window_in_mut v)) from n) end);
+        start = is.start;
+        len = len;
+        elements = is.elements;
+        name = name;
+      }

@@ -1,11 +1,11 @@
 //! A view, cut at the edges of elements.
-ghost use Rattle.std.specs.Prelude.{◌≡◌, ℕ, ◌+◌, ◌-◌, ◌*◌, ◌<◌, ◌≤◌, ◌==◌, if◌then◌else◌, length};
-ghost use Rattle.bitvec_base.specs.Window.{max_bits};
-ghost use Rattle.bitvec_slice.specs.BitDomains.{IsBitDomain, IsView};
-ghost use Rattle.bitvec_domain.specs.Cuts.{cut_of};
+ghost use Rattle.std.specs.Prelude.{IfSome, length, map};
+ghost use Rattle.bitvec_base.specs.Memory.{HasWindow};
+ghost use Rattle.bitvec_domain.specs.Cuts.{IsPartWithin, cut_of};
+ghost use Rattle.bitvec_slice.specs.BitDomains.{IsBitDomain, IsPartView, IsPartViewIf};
 
 use crate::BitSlice;
-use bitvec_base::{BitOrder, BitStore};
+use bitvec_base::{BitOrder, BitStore, Part, Window};
 use bitvec_domain::Cut;
 
 /// A view, cut at the edges of elements: the crate's `BitDomain` over shared elements.
@@ -14,7 +14,7 @@ pub enum BitDomain<'a, T: BitStore, O: BitOrder> {
     /// Bits of one element that touch neither of its edges.
     Enclave(BitSlice<'a, T, O>),
     /// The bits of whole elements, and parts of one at either end. A part that isn't there is an
-    /// empty view.
+    /// empty view of no element.
     Region {
         /// The bits of the first element, if the view begins inside it.
         head: BitSlice<'a, T, O>,
@@ -25,46 +25,47 @@ pub enum BitDomain<'a, T: BitStore, O: BitOrder> {
     },
 }
 
-/// The bits `from` up to, without, `to`, cut at the edges of elements.
+/// A window, cut at the edges of elements. Condition: the memory has at most `MAX_BITS` bits, and
+/// the window lies in it.
 pub(crate) fn bit_domain_of<T: BitStore, O: BitOrder>(
     cells: &[T],
-    from: usize,
-    to: usize,
+    window: Window,
 ) -> BitDomain<'_, T, O>
-    requires order { from ≤ to }
-    requires bound { to ≤ T.BITS * length cells.now }
-    requires bounded { T.BITS * length cells.now ≤ max_bits }
-    ensures { IsBitDomain cells.now (cut_of T.BITS from to) result }
+    requires window { HasWindow T.BITS (map T.value cells.now) window }
+    ensures { IsBitDomain cells.now (cut_of T.BITS window) result }
 {
-    let bits = T::BITS as usize;
-    match Cut::between(bits, from, to) {
-        Cut::Inside {
-            element,
-            head,
-            tail,
-        } => BitDomain::Enclave(edge(&cells[element..element + 1], head, tail)),
+    match Cut::of(T::BITS as usize, window) {
+        Cut::Inside(part) => BitDomain::Enclave(part_view(cells, part)),
         Cut::Across {
-            first,
             head,
             start,
             end,
             tail,
         } => BitDomain::Region {
-            head: edge(&cells[first..start], head, bits),
+            head: part_view_if(cells, head),
             body: BitSlice::from_slice(&cells[start..end]),
-            tail: edge(&cells[end..], 0, tail),
+            tail: part_view_if(cells, tail),
         },
     }
 }
 
-/// The bits `from` up to, without, `to` of the first element, if there are any.
-fn edge<T: BitStore, O: BitOrder>(cells: &[T], from: usize, to: usize) -> BitSlice<'_, T, O>
-    requires order { from ≤ to }
-    requires end { to ≤ T.BITS }
-    requires some { from < to → 0 < length cells.now }
-    requires bounded { T.BITS * length cells.now ≤ max_bits }
-    ensures { IsView cells.now (if from == to then 0 else from) (to - from) result }
+/// The bits of a part, as a view of its element.
+fn part_view<T: BitStore, O: BitOrder>(cells: &[T], part: Part) -> BitSlice<'_, T, O>
+    requires { IsPartWithin T.BITS (length cells.now) part }
+    ensures { IsPartView cells.now part result }
 {
-    let head = if from == to { 0 } else { from };
-    BitSlice::from_parts(cells, head, to - from)
+    T::fits_in_memory();
+    let cell = &cells[part.element..part.element + 1];
+    BitSlice::from_parts(cell, part.from, part.to - part.from)
+}
+
+/// The bits of a part, if there is one.
+fn part_view_if<T: BitStore, O: BitOrder>(cells: &[T], part: Option<Part>) -> BitSlice<'_, T, O>
+    requires { IfSome part (IsPartWithin T.BITS (length cells.now)) }
+    ensures { IsPartViewIf cells.now part result }
+{
+    if let Some(part) = part {
+        return part_view(cells, part);
+    }
+    BitSlice::empty()
 }

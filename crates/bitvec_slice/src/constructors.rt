@@ -1,5 +1,5 @@
 //! Shared views of no element, of one, and of a slice that may be too long.
-ghost use Rattle.std.specs.Prelude.{◌≡◌, ◌-◌, ◌*◌, ◌^◌, ◌≤◌, ◌↔◌, [], ◌∷◌, IfErr, IfOk, IsOk, length, map, min};
+ghost use Rattle.std.specs.Prelude.{◌≡◌, ◌-◌, ◌*◌, ◌^◌, ◌≤◌, ◌↔◌, [], ◌∷◌, IfErr, IfOk, IsOk, length, min};
 ghost use Rattle.bitvec_base.specs.Window.{max_bits};
 ghost use Rattle.bitvec_base.specs.declared.span_error.BitSpanError.TheVariants.{TooLong};
 
@@ -14,25 +14,18 @@ pub(crate) fn bits_in<T: BitStore>(elements: &[T]) -> usize
 }
 
 impl<'a, T: BitStore, O: BitOrder> BitSlice<'a, T, O> {
-    ghost use Rattle.bitvec_base.specs.Memory.{memory_bits};
-    ghost use Rattle.bitvec_slice.specs.Views.{bits_of, elements_of, window_in};
+    ghost use Rattle.bitvec_slice.specs.Wholes.{IsEmpty, IsWhole};
 
     /// A view of no bit.
     pub fn empty() -> Self
-        ensures bits { bits_of result ≡ [] }
-        ensures start { (window_in result).start ≡ 0 }
-        ensures len { (window_in result).len ≡ 0 }
-        ensures elements { elements_of result ≡ [] }
+        ensures { IsEmpty result }
     {
         BitSlice::from_slice(&[])
     }
 
     /// A view of all bits of one element.
     pub fn from_element(element: &'a T) -> Self
-        ensures bits { bits_of result ≡ memory_bits T.BITS O.at (T.value element.now ∷ []) }
-        ensures start { (window_in result).start ≡ 0 }
-        ensures len { (window_in result).len ≡ T.BITS }
-        ensures elements { elements_of result ≡ element.now ∷ [] }
+        ensures { IsWhole (element.now ∷ []) result }
     {
         T::fits_in_memory();
         BitSlice::from_slice(std::slice::from_ref(element))
@@ -42,10 +35,7 @@ impl<'a, T: BitStore, O: BitOrder> BitSlice<'a, T, O> {
     /// [`BitSlice::from_slice`].
     pub fn from_slice_unchecked(elements: &'a [T]) -> Self
         requires { T.BITS * length elements.now ≤ max_bits }
-        ensures bits { bits_of result ≡ memory_bits T.BITS O.at (map T.value elements.now) }
-        ensures start { (window_in result).start ≡ 0 }
-        ensures len { (window_in result).len ≡ T.BITS * length elements.now }
-        ensures elements { elements_of result ≡ elements.now }
+        ensures { IsWhole elements.now result }
     {
         BitSlice::from_slice(elements)
     }
@@ -56,11 +46,7 @@ impl<'a, T: BitStore, O: BitOrder> BitSlice<'a, T, O> {
         ensures made { IsOk result ↔ (T.BITS * length elements.now ≤ max_bits) }
         ensures error { IfErr result
             (λ error. error ≡ TooLong (min (T.BITS * length elements.now) (2 ^ 64 - 1))) }
-        ensures bits { IfOk result
-            (λ view. bits_of view ≡ memory_bits T.BITS O.at (map T.value elements.now)) }
-        ensures start { IfOk result (λ view. (window_in view).start ≡ 0) }
-        ensures len { IfOk result (λ view. (window_in view).len ≡ T.BITS * length elements.now) }
-        ensures elements { IfOk result (λ view. elements_of view ≡ elements.now) }
+        ensures whole { IfOk result (IsWhole elements.now) }
     {
         let bits = bits_in(elements);
         if bits <= MAX_BITS {

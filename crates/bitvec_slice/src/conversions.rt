@@ -1,8 +1,7 @@
 //! Shared views by the traits of the standard library, and by a function that stands alone.
 ghost use Rattle.std.specs.Prelude.{◌≡◌, ◌*◌, ◌≤◌, ◌↔◌, [], ◌∷◌, IfErr, IfOk, IsOk, length};
-ghost use Rattle.bitvec_base.specs.Memory.{memory_bits};
 ghost use Rattle.bitvec_base.specs.Window.{max_bits};
-ghost use Rattle.bitvec_slice.specs.Views.{bits_of, elements_of, window_in};
+ghost use Rattle.bitvec_slice.specs.Wholes.{IsEmpty, IsWhole};
 
 use crate::BitSlice;
 use crate::constructors::bits_in;
@@ -10,8 +9,6 @@ use bitvec_base::{BitOrder, BitStore, MAX_BITS};
 
 /// The empty view.
 impl<'a, T: BitStore, O: BitOrder> Default for BitSlice<'a, T, O> {
-    ghost use Rattle.bitvec_slice.specs.Wholes.{IsEmpty};
-
     ghost is_default = { IsEmpty };
 
     fn default() -> Self {
@@ -22,8 +19,6 @@ impl<'a, T: BitStore, O: BitOrder> Default for BitSlice<'a, T, O> {
 /// A view of all bits of the elements; the slice itself, as the error, exactly where they are
 /// more than `MAX_BITS` bits.
 impl<'a, T: BitStore, O: BitOrder> TryFrom<&'a [T]> for BitSlice<'a, T, O> {
-    ghost use Rattle.bitvec_slice.specs.Wholes.{IsWhole};
-
     type Error = &'a [T];
 
     ghost try_from_gives = { λ elements result.
@@ -42,10 +37,7 @@ impl<'a, T: BitStore, O: BitOrder> TryFrom<&'a [T]> for BitSlice<'a, T, O> {
 
 /// A view of all bits of one element: the deprecated name of [`BitSlice::from_element`].
 pub fn from_ref<T: BitStore, O: BitOrder>(element: &T) -> BitSlice<'_, T, O>
-    ensures bits { bits_of result ≡ memory_bits T.BITS O.at (T.value element.now ∷ []) }
-    ensures start { (window_in result).start ≡ 0 }
-    ensures len { (window_in result).len ≡ T.BITS }
-    ensures elements { elements_of result ≡ element.now ∷ [] }
+    ensures { IsWhole (element.now ∷ []) result }
 {
     BitSlice::from_element(element)
 }

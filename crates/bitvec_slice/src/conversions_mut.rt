@@ -1,9 +1,9 @@
 //! Writable views by the traits of the standard library, and by a function that stands alone.
 ghost use Rattle.std.specs.Prelude.{◌≡◌, ◌*◌, ◌≤◌, ◌↔◌, [], ◌∷◌, IfErr, IfOk, IsOk, length, slice_index_or};
 ghost use Rattle.std.specs.Borrow.{Array, follows, sem};
-ghost use Rattle.bitvec_base.specs.Memory.{memory_bits};
 ghost use Rattle.bitvec_base.specs.Window.{max_bits};
-ghost use Rattle.bitvec_slice.specs.Views.{bits_of_mut, elements_of_mut, memory_of_mut, name_of_mut, window_in_mut};
+ghost use Rattle.bitvec_slice.specs.Views.{name_of_mut};
+ghost use Rattle.bitvec_slice.specs.Wholes.{IsEmptyMut, IsWholeMut};
 
 use crate::BitSliceMut;
 use crate::constructors::bits_in;
@@ -11,8 +11,6 @@ use bitvec_base::{BitOrder, BitStore, MAX_BITS};
 
 /// The empty view.
 impl<'a, T: BitStore, O: BitOrder> Default for BitSliceMut<'a, T, O> {
-    ghost use Rattle.bitvec_slice.specs.Wholes.{IsEmptyMut};
-
     ghost is_default = { IsEmptyMut };
 
     fn default() -> Self {
@@ -23,8 +21,6 @@ impl<'a, T: BitStore, O: BitOrder> Default for BitSliceMut<'a, T, O> {
 /// A view of all bits of the elements; the slice itself, as the error, exactly where they are
 /// more than `MAX_BITS` bits.
 impl<'a, T: BitStore, O: BitOrder> TryFrom<&'a mut [T]> for BitSliceMut<'a, T, O> {
-    ghost use Rattle.bitvec_slice.specs.Wholes.{IsWholeMut};
-
     type Error = &'a mut [T];
 
     ghost try_from_gives = { λ elements result.
@@ -46,11 +42,7 @@ impl<'a, T: BitStore, O: BitOrder> TryFrom<&'a mut [T]> for BitSliceMut<'a, T, O
 pub fn from_mut<T: BitStore, O: BitOrder>(element: &mut T) -> BitSliceMut<'_, T, O>
     ensures* writes_back { sem 𝓛 (follows T.row (Array T.row 0) element.entry.ghost_name (name_of_mut result)
         (λ left. slice_index_or left 0 element.old)) }
-    ensures bits { bits_of_mut result ≡ memory_bits T.BITS O.at (T.value element.old ∷ []) }
-    ensures start { (window_in_mut result).start ≡ 0 }
-    ensures len { (window_in_mut result).len ≡ T.BITS }
-    ensures elements { elements_of_mut result ≡ element.old ∷ [] }
-    ensures memory { memory_of_mut result ≡ memory_bits T.BITS O.at (T.value element.old ∷ []) }
+    ensures whole { IsWholeMut (element.old ∷ []) (name_of_mut result) result }
 {
     BitSliceMut::from_element_mut(element)
 }

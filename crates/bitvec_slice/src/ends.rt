@@ -1,12 +1,12 @@
 //! The first and the last bit of a shared view.
-ghost use Rattle.std.specs.Prelude.{◌≡◌, ◌+◌, ◌-◌, ◌<◌, ◌↔◌, IfSome, IsSome, drop, take};
+ghost use Rattle.std.specs.Prelude.{◌-◌, ◌<◌, ◌↔◌, IfSome, IsSome};
 
 use crate::{BitRef, BitSlice};
 use bitvec_base::{BitOrder, BitStore};
 
 impl<'a, T: BitStore, O: BitOrder> BitSlice<'a, T, O> {
-    ghost use Rattle.bitvec_slice.specs.Indices.{IsBitOf, seen};
-    ghost use Rattle.bitvec_slice.specs.Views.{bits_of, elements_of, window_in};
+    ghost use Rattle.bitvec_slice.specs.Indices.{IsBitOf, IsFrontOf, IsRestOf, seen};
+    ghost use Rattle.bitvec_slice.specs.Views.{window_in};
 
     /// The first bit: `None` exactly where there is no bit.
     pub fn first(self) -> Option<BitRef<'a, T, O>>
@@ -36,11 +36,7 @@ impl<'a, T: BitStore, O: BitOrder> BitSlice<'a, T, O> {
     pub fn split_first(self) -> Option<(BitRef<'a, T, O>, BitSlice<'a, T, O>)>
         ensures some { IsSome result ↔ (0 < (window_in self.entry).len) }
         ensures bit { IfSome result (λ parts. IsBitOf (seen self.entry) 0 parts.0) }
-        ensures bits { IfSome result (λ parts. bits_of parts.1 ≡ drop 1 (bits_of self.entry)) }
-        ensures start { IfSome result
-            (λ parts. (window_in parts.1).start ≡ (window_in self.entry).start + 1) }
-        ensures len { IfSome result (λ parts. (window_in parts.1).len ≡ (window_in self.entry).len - 1) }
-        ensures elements { IfSome result (λ parts. elements_of parts.1 ≡ elements_of self.entry) }
+        ensures rest { IfSome result (λ parts. IsRestOf (seen self.entry) 1 parts.1) }
     {
         if self.is_empty() {
             None
@@ -53,11 +49,8 @@ impl<'a, T: BitStore, O: BitOrder> BitSlice<'a, T, O> {
     pub fn split_last(self) -> Option<(BitRef<'a, T, O>, BitSlice<'a, T, O>)>
         ensures some { IsSome result ↔ (0 < (window_in self.entry).len) }
         ensures bit { IfSome result (λ parts. IsBitOf (seen self.entry) ((window_in self.entry).len - 1) parts.0) }
-        ensures bits { IfSome result
-            (λ parts. bits_of parts.1 ≡ take ((window_in self.entry).len - 1) (bits_of self.entry)) }
-        ensures start { IfSome result (λ parts. (window_in parts.1).start ≡ (window_in self.entry).start) }
-        ensures len { IfSome result (λ parts. (window_in parts.1).len ≡ (window_in self.entry).len - 1) }
-        ensures elements { IfSome result (λ parts. elements_of parts.1 ≡ elements_of self.entry) }
+        ensures front { IfSome result
+            (λ parts. IsFrontOf (seen self.entry) ((window_in self.entry).len - 1) parts.1) }
     {
         if self.is_empty() {
             None

@@ -1,6 +1,6 @@
 //! A shared view of bits.
-ghost use Rattle.std.specs.Prelude.{◌≡◌, ℕ, ◌+◌, ◌-◌, ◌*◌, ◌≤◌, ◌==◌, ◌↔◌, ⊤, IfSome, IsSome, length, map, slice_range};
-ghost use Rattle.bitvec_base.specs.Window.{IsWithin, max_bits};
+ghost use Rattle.std.specs.Prelude.{◌≡◌, ◌+◌, ◌*◌, ◌≤◌, ◌==◌, ⊤, length, map};
+ghost use Rattle.bitvec_base.specs.Window.{max_bits};
 
 use crate::bit_domain::bit_domain_of;
 use crate::{BitDomain, Domain};
@@ -36,11 +36,13 @@ impl<'a, T: BitStore, O: BitOrder> Clone for BitSlice<'a, T, O> {
 }
 
 impl<'a, T: BitStore, O: BitOrder> BitSlice<'a, T, O> {
-    ghost use Rattle.bitvec_base.specs.Memory.{memory_bits};
+    ghost use Rattle.bitvec_base.specs.Memory.{HasWindow};
     ghost use Rattle.bitvec_slice.specs.BitDomains.{IsBitDomain, bits_of_bit_domain};
     ghost use Rattle.bitvec_domain.specs.Cuts.{cut_of};
     ghost use Rattle.bitvec_domain.specs.Domains.{IsDomain, bits_of_domain};
+    ghost use Rattle.bitvec_slice.specs.Indices.{IsRangeOf, seen};
     ghost use Rattle.bitvec_slice.specs.Views.{bits_of, elements_of, window_in};
+    ghost use Rattle.bitvec_slice.specs.Wholes.{IsView, IsWhole};
 
     /// The most bits that a view's memory may have.
     pub const MAX_BITS: usize = MAX_BITS;
@@ -51,10 +53,7 @@ impl<'a, T: BitStore, O: BitOrder> BitSlice<'a, T, O> {
     /// A view of all bits of the elements. Condition: they are at most `MAX_BITS` bits.
     pub fn from_slice(elements: &'a [T]) -> Self
         requires { T.BITS * length elements.now ≤ max_bits }
-        ensures bits { bits_of result ≡ memory_bits T.BITS O.at (map T.value elements.now) }
-        ensures start { (window_in result).start ≡ 0 }
-        ensures len { (window_in result).len ≡ T.BITS * length elements.now }
-        ensures elements { elements_of result ≡ elements.now }
+        ensures { IsWhole elements.now result }
     {
         let len = elements.len() * (T::BITS as usize);
         BitSlice::from_parts(elements, 0, len)
@@ -63,9 +62,7 @@ impl<'a, T: BitStore, O: BitOrder> BitSlice<'a, T, O> {
     pub(crate) fn from_parts(elements: &'a [T], head: usize, len: usize) -> Self
         requires inside { head + len ≤ T.BITS * length elements.now }
         requires bounded { T.BITS * length elements.now ≤ max_bits }
-        ensures start { (window_in result).start ≡ head }
-        ensures len { (window_in result).len ≡ len }
-        ensures elements { elements_of result ≡ elements.now }
+        ensures { IsView elements.now head len result }
     {
         BitSlice {
             elements,
@@ -100,29 +97,24 @@ impl<'a, T: BitStore, O: BitOrder> BitSlice<'a, T, O> {
 
     /// The elements that the view touches, in their order.
     pub fn domain(self) -> Domain<'a, T, O>
-        ensures parts { let window = window_in self.entry in
-            IsDomain (elements_of self.entry) (cut_of T.BITS window.start (window.start + window.len)) result }
+        ensures parts { IsDomain (elements_of self.entry) (cut_of T.BITS (window_in self.entry)) result }
         ensures bits { bits_of_domain result ≡ bits_of self.entry }
     {
-        domain_of(self.elements, self.head, self.head + self.len)
+        domain_of(self.elements, self.window())
     }
 
     /// The view, cut at the edges of elements.
     pub fn bit_domain(self) -> BitDomain<'a, T, O>
-        ensures parts { let window = window_in self.entry in
-            IsBitDomain (elements_of self.entry) (cut_of T.BITS window.start (window.start + window.len)) result }
+        ensures parts { IsBitDomain (elements_of self.entry) (cut_of T.BITS (window_in self.entry)) result }
         ensures bits { bits_of_bit_domain result ≡ bits_of self.entry }
     {
-        bit_domain_of(self.elements, self.head, self.head + self.len)
+        bit_domain_of(self.elements, self.window())
     }
 
     pub(crate) fn into_part(self, from: usize, to: usize) -> Self
         requires order { from ≤ to }
         requires bound { to ≤ (window_in self).len }
-        ensures bits { bits_of result ≡ slice_range (bits_of self.entry) from to }
-        ensures start { (window_in result).start ≡ (window_in self.entry).start + from }
-        ensures len { (window_in result).len ≡ to - from }
-        ensures elements { elements_of result ≡ elements_of self.entry }
+        ensures { IsRangeOf (seen self.entry) from to result }
     {
         BitSlice::from_parts(self.elements, self.head + from, to - from)
     }
@@ -131,8 +123,7 @@ impl<'a, T: BitStore, O: BitOrder> BitSlice<'a, T, O> {
     /// such call.
     pub fn window(&self) -> Window
         ensures value { result ≡ window_in self.now }
-        ensures within { IsWithin result (T.BITS * length (elements_of self.now)) }
-        ensures bounded { T.BITS * length (elements_of self.now) ≤ max_bits }
+        ensures inside { HasWindow T.BITS (map T.value (elements_of self.now)) result }
     {
         Window {
             start: self.head,

@@ -5,7 +5,7 @@ ghost use Rattle.bitvec_engine.specs.Operator.{operator};
 
 use crate::{BitSlice, BitSliceMut};
 use bitvec_base::BitStore;
-use bitvec_elements::{combine_block_in, copy_block_in, swap_block_in};
+use bitvec_elements::{combine_block_in, copy_from_block_in, swap_with_block_in};
 use bitvec_engine::{BitOp, SliceOrder};
 
 impl<'a, T: BitStore, O: SliceOrder> BitSliceMut<'a, T, O> {
@@ -19,7 +19,7 @@ impl<'a, T: BitStore, O: SliceOrder> BitSliceMut<'a, T, O> {
     {
         let window = self.window();
         let from = src.window();
-        copy_block_in::<T, O>(self.elements_mut(), window, src.into_slice(), from);
+        copy_from_block_in::<T, O>(self.elements_mut(), window, src.into_slice(), from);
     }
 
     /// Exchanges the bits with those of a view of the same type. Condition: the views are as long.
@@ -30,7 +30,7 @@ impl<'a, T: BitStore, O: SliceOrder> BitSliceMut<'a, T, O> {
     {
         let window = self.window();
         let other_window = other.window();
-        swap_block_in::<T, O>(
+        swap_with_block_in::<T, O>(
             self.elements_mut(),
             window,
             other.elements_mut(),

@@ -1,6 +1,6 @@
 //! A writable view of bits.
-ghost use Rattle.std.specs.Prelude.{◌≡◌, ℕ, ◌+◌, ◌-◌, ◌*◌, ◌<◌, ◌≤◌, ◌==◌, ◌↔◌, IfSome, IsSome, length, map, not, replicate, slice_range, slice_set};
-ghost use Rattle.bitvec_base.specs.Window.{IsWithin, max_bits};
+ghost use Rattle.std.specs.Prelude.{◌≡◌, ◌+◌, ◌*◌, ◌<◌, ◌≤◌, ◌==◌, length, map, not, replicate, slice_set};
+ghost use Rattle.bitvec_base.specs.Window.{max_bits};
 
 use crate::bit_domain_mut::bit_domain_mut_of;
 use crate::{BitDomain, BitDomainMut, BitSlice, Domain, DomainMut};
@@ -27,24 +27,21 @@ pub struct BitSliceMut<'a, T: BitStore, O: BitOrder> {
 
 impl<'a, T: BitStore, O: BitOrder> BitSliceMut<'a, T, O> {
     ghost use Rattle.std.specs.Borrow.{sem};
-    ghost use Rattle.bitvec_base.specs.Memory.{memory_bits};
+    ghost use Rattle.bitvec_base.specs.Memory.{HasWindow, memory_bits};
     ghost use Rattle.bitvec_slice.specs.BitDomains.{IsBitDomain, IsBitDomainMut, bits_of_bit_domain, bits_of_bit_domain_mut};
     ghost use Rattle.bitvec_domain.specs.Cuts.{cut_of};
     ghost use Rattle.bitvec_domain.specs.Domains.{IsDomain, IsDomainMut, bits_of_domain, bits_of_domain_mut};
     ghost use Rattle.bitvec_slice.specs.Writes.{WritesBits};
     ghost use Rattle.bitvec_slice.specs.Lending.{lends};
+    ghost use Rattle.bitvec_slice.specs.Indices.{IsRangeOfMut, seen_mut};
     ghost use Rattle.bitvec_slice.specs.Views.{bits_of, elements_of, window_in, bits_of_mut, elements_of_mut, memory_of_mut, name_of_mut, window_in_mut};
+    ghost use Rattle.bitvec_slice.specs.Wholes.{IsViewMut, IsWholeMut};
 
     /// A view of all bits of the elements. Condition: they are at most `MAX_BITS` bits.
     #[tactic(auto, unfolding(crate::specs::Views::memory_of_mut))]
     pub fn from_slice_mut(elements: &'a mut [T]) -> Self
         requires { T.BITS * length elements.old ≤ max_bits }
-        ensures bits { bits_of_mut result ≡ memory_bits T.BITS O.at (map T.value elements.old) }
-        ensures start { (window_in_mut result).start ≡ 0 }
-        ensures len { (window_in_mut result).len ≡ T.BITS * length elements.old }
-        ensures elements { elements_of_mut result ≡ elements.old }
-        ensures memory { memory_of_mut result ≡ memory_bits T.BITS O.at (map T.value elements.old) }
-        ensures name { name_of_mut result ≡ elements.entry.ghost_name }
+        ensures { IsWholeMut elements.old elements.entry.ghost_name result }
     {
         let len = elements.len() * (T::BITS as usize);
         BitSliceMut::from_parts(elements, 0, len)
@@ -53,9 +50,7 @@ impl<'a, T: BitStore, O: BitOrder> BitSliceMut<'a, T, O> {
     pub(crate) fn from_parts(elements: &'a mut [T], head: usize, len: usize) -> Self
         requires inside { head + len ≤ T.BITS * length elements.old }
         requires bounded { T.BITS * length elements.old ≤ max_bits }
-        ensures start { (window_in_mut result).start ≡ head }
-        ensures len { (window_in_mut result).len ≡ len }
-        ensures elements { elements_of_mut result ≡ elements.old }
+        ensures view { IsViewMut elements.old head len result }
         ensures name { name_of_mut result ≡ elements.entry.ghost_name }
     {
         BitSliceMut {
@@ -156,8 +151,7 @@ impl<'a, T: BitStore, O: BitOrder> BitSliceMut<'a, T, O> {
 
     /// The elements that the view touches, in their order.
     pub fn domain(&self) -> Domain<'_, T, O>
-        ensures parts { let window = window_in_mut self.now in
-            IsDomain (elements_of_mut self.now) (cut_of T.BITS window.start (window.start + window.len)) result }
+        ensures parts { IsDomain (elements_of_mut self.now) (cut_of T.BITS (window_in_mut self.now)) result }
         ensures bits { bits_of_domain result ≡ bits_of_mut self.now }
     {
         self.as_ref().domain()
@@ -165,18 +159,16 @@ impl<'a, T: BitStore, O: BitOrder> BitSliceMut<'a, T, O> {
 
     /// The elements that the view touches for writing, in their order.
     pub fn domain_mut(&mut self) -> DomainMut<'_, T, O>
-        ensures parts { let window = window_in_mut self.old in
-            IsDomainMut (elements_of_mut self.old) (cut_of T.BITS window.start (window.start + window.len)) result }
+        ensures parts { IsDomainMut (elements_of_mut self.old) (cut_of T.BITS (window_in_mut self.old)) result }
         ensures bits { bits_of_domain_mut result ≡ bits_of_mut self.old }
     {
         let window = self.window();
-        domain_mut_of(self.elements_mut(), window.start, window.start + window.len)
+        domain_mut_of(self.elements_mut(), window)
     }
 
     /// The view, cut at the edges of elements.
     pub fn bit_domain(&self) -> BitDomain<'_, T, O>
-        ensures parts { let window = window_in_mut self.now in
-            IsBitDomain (elements_of_mut self.now) (cut_of T.BITS window.start (window.start + window.len)) result }
+        ensures parts { IsBitDomain (elements_of_mut self.now) (cut_of T.BITS (window_in_mut self.now)) result }
         ensures bits { bits_of_bit_domain result ≡ bits_of_mut self.now }
     {
         self.as_ref().bit_domain()
@@ -184,22 +176,17 @@ impl<'a, T: BitStore, O: BitOrder> BitSliceMut<'a, T, O> {
 
     /// The view for writing, cut at the edges of elements.
     pub fn bit_domain_mut(&mut self) -> BitDomainMut<'_, T, O>
-        ensures parts { let window = window_in_mut self.old in
-            IsBitDomainMut (elements_of_mut self.old) (cut_of T.BITS window.start (window.start + window.len)) result }
+        ensures parts { IsBitDomainMut (elements_of_mut self.old) (cut_of T.BITS (window_in_mut self.old)) result }
         ensures bits { bits_of_bit_domain_mut result ≡ bits_of_mut self.old }
     {
         let window = self.window();
-        bit_domain_mut_of(self.elements_mut(), window.start, window.start + window.len)
+        bit_domain_mut_of(self.elements_mut(), window)
     }
 
     pub(crate) fn into_part(self, from: usize, to: usize) -> Self
         requires order { from ≤ to }
         requires bound { to ≤ (window_in_mut self).len }
-        ensures bits { bits_of_mut result ≡ slice_range (bits_of_mut self.entry) from to }
-        ensures start { (window_in_mut result).start ≡ (window_in_mut self.entry).start + from }
-        ensures len { (window_in_mut result).len ≡ to - from }
-        ensures elements { elements_of_mut result ≡ elements_of_mut self.entry }
-        ensures name { name_of_mut result ≡ name_of_mut self.entry }
+        ensures { IsRangeOfMut (seen_mut self.entry) (name_of_mut self.entry) from to result }
     {
         let BitSliceMut {
             elements,
@@ -214,8 +201,7 @@ impl<'a, T: BitStore, O: BitOrder> BitSliceMut<'a, T, O> {
     /// no such call.
     pub fn window(&self) -> Window
         ensures value { result ≡ window_in_mut self.now }
-        ensures within { IsWithin result (T.BITS * length (elements_of_mut self.now)) }
-        ensures bounded { T.BITS * length (elements_of_mut self.now) ≤ max_bits }
+        ensures inside { HasWindow T.BITS (map T.value (elements_of_mut self.now)) result }
     {
         Window {
             start: self.head,

@@ -1,5 +1,5 @@
 //! Indices of a writable view.
-ghost use Rattle.std.specs.Prelude.{◌≡◌, ◌+◌, ◌-◌, ◌<◌, ◌↔◌, IfSome, IsSome, false, slice_index_or, slice_range};
+ghost use Rattle.std.specs.Prelude.{◌≡◌, ◌<◌, ◌↔◌, IfSome, IsSome, false, slice_index_or};
 
 use crate::{BitRefMut, BitSlice, BitSliceIndex, BitSliceMut};
 use bitvec_base::{BitOrder, BitStore};
@@ -7,10 +7,10 @@ use std::ops::{Index, Range};
 
 impl<'a, T: BitStore, O: BitOrder> BitSliceMut<'a, T, O> {
     ghost use Rattle.std.specs.Borrow.{GName, sem};
-    ghost use Rattle.bitvec_slice.specs.Indices.{HasRange, seen_mut};
+    ghost use Rattle.bitvec_slice.specs.Indices.{HasRange, IsBitOfMut, IsRangeOfMut, seen_mut};
     ghost use Rattle.bitvec_slice.specs.Lending.{lends};
-    ghost use Rattle.bitvec_reference.specs.References.{bit_of_ref_mut, elements_of_ref_mut, name_of_ref_mut, place_of_ref_mut};
-    ghost use Rattle.bitvec_slice.specs.Views.{bits_of_mut, elements_of_mut, name_of_mut, window_in_mut};
+    ghost use Rattle.bitvec_reference.specs.References.{name_of_ref_mut};
+    ghost use Rattle.bitvec_slice.specs.Views.{name_of_mut, window_in_mut};
 
     /// What stands at an index or at a range of indices, if the view has it.
     pub fn get<'s, I: BitSliceIndex<BitSlice<'s, T, O>>>(&'s self, index: I) -> Option<I::Immut>
@@ -55,10 +55,7 @@ impl<'a, T: BitStore, O: BitOrder> BitSliceMut<'a, T, O> {
     pub fn part_mut(&mut self, range: Range<usize>) -> BitSliceMut<'_, T, O>
         requires { HasRange range (window_in_mut self.old).len }
         ensures* writes_back { sem 𝓛 (lends T.row O.row self.entry (name_of_mut result)) }
-        ensures bits { bits_of_mut result ≡ slice_range (bits_of_mut self.old) range.start range.end }
-        ensures start { (window_in_mut result).start ≡ (window_in_mut self.old).start + range.start }
-        ensures len { (window_in_mut result).len ≡ range.end - range.start }
-        ensures elements { elements_of_mut result ≡ elements_of_mut self.old }
+        ensures part { IsRangeOfMut (seen_mut self.old) (name_of_mut result) range.start range.end result }
     {
         self.as_mut().into_part(range.start, range.end)
     }
@@ -68,19 +65,14 @@ impl<'a, T: BitStore, O: BitOrder> BitSliceMut<'a, T, O> {
     pub fn bit_mut(&mut self, index: usize) -> BitRefMut<'_, T, O>
         requires { index < (window_in_mut self.old).len }
         ensures* writes_back { sem 𝓛 (lends T.row O.row self.entry (name_of_ref_mut result)) }
-        ensures bit { bit_of_ref_mut result ≡ slice_index_or (bits_of_mut self.old) index false }
-        ensures place { place_of_ref_mut result ≡ (window_in_mut self.old).start + index }
-        ensures elements { elements_of_ref_mut result ≡ elements_of_mut self.old }
+        ensures bit { IsBitOfMut (seen_mut self.old) (name_of_ref_mut result) index result }
     {
         self.as_mut().into_bit(index)
     }
 
     pub(crate) fn into_bit(self, index: usize) -> BitRefMut<'a, T, O>
         requires { index < (window_in_mut self).len }
-        ensures bit { bit_of_ref_mut result ≡ slice_index_or (bits_of_mut self.entry) index false }
-        ensures place { place_of_ref_mut result ≡ (window_in_mut self.entry).start + index }
-        ensures elements { elements_of_ref_mut result ≡ elements_of_mut self.entry }
-        ensures name { name_of_ref_mut result ≡ name_of_mut self.entry }
+        ensures { IsBitOfMut (seen_mut self.entry) (name_of_mut self.entry) index result }
     {
         let place = self.window().start + index;
         BitRefMut::new(self.into_slice(), place)

@@ -1,12 +1,13 @@
 //! A writable view's bits without the bits that begin or end it.
-ghost use Rattle.std.specs.Prelude.{◌≡◌, ◌+◌, ◌-◌, ◌↔◌, IfSome, IsSome, drop, length, take, true};
+ghost use Rattle.std.specs.Prelude.{◌≡◌, ◌-◌, ◌↔◌, IfSome, IsSome, length, true};
 ghost use Rattle.bitvec_base.specs.Lists.{is_prefix, is_suffix};
 
 use crate::{BitSlice, BitSliceMut};
 use bitvec_base::{BitOrder, BitStore};
 
 impl<'a, T: BitStore, O: BitOrder> BitSliceMut<'a, T, O> {
-    ghost use Rattle.bitvec_slice.specs.Views.{bits_of, bits_of_mut, elements_of, elements_of_mut, window_in, window_in_mut};
+    ghost use Rattle.bitvec_slice.specs.Indices.{IsFrontOf, IsRestOf, seen_mut};
+    ghost use Rattle.bitvec_slice.specs.Views.{bits_of, bits_of_mut};
 
     /// The bits behind the needle's, if those begin the view: `None` exactly where they don't.
     #[tactic(auto, unfolding(crate::specs::Views::memory_of, crate::specs::Views::bits_of, crate::specs::Views::memory_of_mut, crate::specs::Views::bits_of_mut))]
@@ -15,13 +16,7 @@ impl<'a, T: BitStore, O: BitOrder> BitSliceMut<'a, T, O> {
         needle: BitSlice<'b, U, P>,
     ) -> Option<BitSlice<'_, T, O>>
         ensures some { IsSome result ↔ (is_prefix (bits_of needle.entry) (bits_of_mut self.now) ≡ true) }
-        ensures bits { IfSome result
-            (λ rest. bits_of rest ≡ drop (length (bits_of needle.entry)) (bits_of_mut self.now)) }
-        ensures start { IfSome result
-            (λ rest. (window_in rest).start ≡ (window_in_mut self.now).start + (window_in needle.entry).len) }
-        ensures len { IfSome result
-            (λ rest. (window_in rest).len ≡ (window_in_mut self.now).len - (window_in needle.entry).len) }
-        ensures elements { IfSome result (λ rest. elements_of rest ≡ elements_of_mut self.now) }
+        ensures rest { IfSome result (IsRestOf (seen_mut self.now) (length (bits_of needle.entry))) }
     {
         self.as_ref().strip_prefix(needle)
     }
@@ -33,13 +28,8 @@ impl<'a, T: BitStore, O: BitOrder> BitSliceMut<'a, T, O> {
         needle: BitSlice<'b, U, P>,
     ) -> Option<BitSlice<'_, T, O>>
         ensures some { IsSome result ↔ (is_suffix (bits_of needle.entry) (bits_of_mut self.now) ≡ true) }
-        ensures bits { IfSome result
-            (λ rest. bits_of rest
-            ≡ take (length (bits_of_mut self.now) - length (bits_of needle.entry)) (bits_of_mut self.now)) }
-        ensures start { IfSome result (λ rest. (window_in rest).start ≡ (window_in_mut self.now).start) }
-        ensures len { IfSome result
-            (λ rest. (window_in rest).len ≡ (window_in_mut self.now).len - (window_in needle.entry).len) }
-        ensures elements { IfSome result (λ rest. elements_of rest ≡ elements_of_mut self.now) }
+        ensures front { IfSome result (IsFrontOf (seen_mut self.now)
+            (length (bits_of_mut self.now) - length (bits_of needle.entry))) }
     {
         self.as_ref().strip_suffix(needle)
     }

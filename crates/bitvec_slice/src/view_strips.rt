@@ -1,13 +1,14 @@
 //! A shared view without the bits that begin or end it.
-ghost use Rattle.std.specs.Prelude.{◌≡◌, ◌+◌, ◌-◌, ◌↔◌, IfSome, IsSome, drop, length, take, true};
+ghost use Rattle.std.specs.Prelude.{◌≡◌, ◌-◌, ◌↔◌, IfSome, IsSome, length, true};
 ghost use Rattle.bitvec_base.specs.Lists.{is_prefix, is_suffix};
 
 use crate::BitSlice;
 use bitvec_base::{BitOrder, BitStore};
-use bitvec_elements::{ends_in, starts_in};
+use bitvec_elements::{ends_with_in, starts_with_in};
 
 impl<'a, T: BitStore, O: BitOrder> BitSlice<'a, T, O> {
-    ghost use Rattle.bitvec_slice.specs.Views.{bits_of, elements_of, window_in};
+    ghost use Rattle.bitvec_slice.specs.Indices.{IsFrontOf, IsRestOf, seen};
+    ghost use Rattle.bitvec_slice.specs.Views.{bits_of};
 
     /// The bits behind the needle's, if those begin the view: `None` exactly where they don't.
     pub fn strip_prefix<'b, U: BitStore, P: BitOrder>(
@@ -15,13 +16,7 @@ impl<'a, T: BitStore, O: BitOrder> BitSlice<'a, T, O> {
         needle: BitSlice<'b, U, P>,
     ) -> Option<Self>
         ensures some { IsSome result ↔ (is_prefix (bits_of needle.entry) (bits_of self.entry) ≡ true) }
-        ensures bits { IfSome result
-            (λ rest. bits_of rest ≡ drop (length (bits_of needle.entry)) (bits_of self.entry)) }
-        ensures start { IfSome result
-            (λ rest. (window_in rest).start ≡ (window_in self.entry).start + (window_in needle.entry).len) }
-        ensures len { IfSome result
-            (λ rest. (window_in rest).len ≡ (window_in self.entry).len - (window_in needle.entry).len) }
-        ensures elements { IfSome result (λ rest. elements_of rest ≡ elements_of self.entry) }
+        ensures rest { IfSome result (IsRestOf (seen self.entry) (length (bits_of needle.entry))) }
     {
         if self.begins_with(needle) {
             Some(self.into_part(needle.len(), self.len()))
@@ -36,13 +31,8 @@ impl<'a, T: BitStore, O: BitOrder> BitSlice<'a, T, O> {
         needle: BitSlice<'b, U, P>,
     ) -> Option<Self>
         ensures some { IsSome result ↔ (is_suffix (bits_of needle.entry) (bits_of self.entry) ≡ true) }
-        ensures bits { IfSome result
-            (λ rest. bits_of rest
-            ≡ take (length (bits_of self.entry) - length (bits_of needle.entry)) (bits_of self.entry)) }
-        ensures start { IfSome result (λ rest. (window_in rest).start ≡ (window_in self.entry).start) }
-        ensures len { IfSome result
-            (λ rest. (window_in rest).len ≡ (window_in self.entry).len - (window_in needle.entry).len) }
-        ensures elements { IfSome result (λ rest. elements_of rest ≡ elements_of self.entry) }
+        ensures front { IfSome result (IsFrontOf (seen self.entry)
+            (length (bits_of self.entry) - length (bits_of needle.entry))) }
     {
         if self.finishes_with(needle) {
             Some(self.into_part(0, self.len() - needle.len()))
@@ -55,7 +45,7 @@ impl<'a, T: BitStore, O: BitOrder> BitSlice<'a, T, O> {
     fn begins_with<'b, U: BitStore, P: BitOrder>(&self, needle: BitSlice<'b, U, P>) -> bool
         ensures { result ≡ is_prefix (bits_of needle.entry) (bits_of self.now) }
     {
-        starts_in::<T, O, U, P>(
+        starts_with_in::<T, O, U, P>(
             self.into_slice(),
             self.window(),
             needle.into_slice(),
@@ -67,7 +57,7 @@ impl<'a, T: BitStore, O: BitOrder> BitSlice<'a, T, O> {
     fn finishes_with<'b, U: BitStore, P: BitOrder>(&self, needle: BitSlice<'b, U, P>) -> bool
         ensures { result ≡ is_suffix (bits_of needle.entry) (bits_of self.now) }
     {
-        ends_in::<T, O, U, P>(
+        ends_with_in::<T, O, U, P>(
             self.into_slice(),
             self.window(),
             needle.into_slice(),

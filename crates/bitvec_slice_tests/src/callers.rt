@@ -3,11 +3,12 @@ ghost use Rattle.std.specs.Prelude.{◌≡◌, ◌<◌, ◌≤◌, ◌↔◌, If
 ghost use Rattle.bitvec_slice.specs.Views.{bits_of, bits_of_mut, window_in, window_in_mut};
 
 use bitvec_base::{BitOrder, BitStore};
+use bitvec_engine::SliceOrder;
 use bitvec_query::BitQueries;
 use bitvec_slice::{BitSlice, BitSliceMut};
 
 /// How many of the bits before an index are 1, if the view has such.
-pub fn ones_before<T: BitStore, O: BitOrder>(
+pub fn ones_before<T: BitStore, O: SliceOrder>(
     view: BitSlice<'_, T, O>,
     index: usize,
 ) -> Option<usize>

@@ -1,5 +1,6 @@
 //! The first and the last bit of a view.
 use bitvec_base::{BitOrder, BitStore, Lsb0, Msb0};
+use bitvec_engine::SliceOrder;
 use bitvec_query::BitQueries;
 use bitvec_slice::{BitRef, BitSlice, BitSliceMut};
 
@@ -12,7 +13,7 @@ fn read<T: BitStore, O: BitOrder>(bit: Option<BitRef<'_, T, O>>) -> Option<bool>
 }
 
 /// The bit of a pair, and how many bits its rest has and how many of them are 1.
-fn read_pair<T: BitStore, O: BitOrder>(
+fn read_pair<T: BitStore, O: SliceOrder>(
     parts: Option<(BitRef<'_, T, O>, BitSlice<'_, T, O>)>,
 ) -> Option<(bool, usize, usize)> {
     match parts {

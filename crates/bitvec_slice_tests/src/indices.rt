@@ -5,12 +5,13 @@ ghost use Rattle.bitvec_slice.specs.Views.{window_in_mut};
 
 use crate::callers::fill_before;
 use bitvec_base::{BitOrder, BitStore, Lsb0, Window};
+use bitvec_engine::SliceOrder;
 use bitvec_query::BitQueries;
 use bitvec_slice::{BitSlice, BitSliceIndex, BitSliceMut, Viewed, ViewedMut};
 use std::test::Fail;
 
 /// How many bits a range has, and how many of them are 1.
-fn counts<T: BitStore, O: BitOrder>(part: Option<BitSlice<'_, T, O>>) -> Option<(usize, usize)> {
+fn counts<T: BitStore, O: SliceOrder>(part: Option<BitSlice<'_, T, O>>) -> Option<(usize, usize)> {
     match part {
         Some(part) => Some((part.len(), part.count_ones())),
         None => None,

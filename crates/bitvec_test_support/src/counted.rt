@@ -2,7 +2,7 @@
 ghost use Rattle.std.specs.Prelude.{◌≡◌};
 ghost use Rattle.bitvec_test_support.specs.Counted.{inner_of, load_tally, store_tally};
 
-use bitvec_base::{Cells, CellsRead};
+use bitvec_cells::{Cells, CellsRead};
 
 /// An accessor around another one, which counts calls at run time, so that a test can compare
 /// what a call really did with the bound that its contract promises.
@@ -47,7 +47,7 @@ impl<C> Counted<C> {
 impl<C: CellsRead> CellsRead for Counted<C> {
     type Elem = C::Elem;
 
-    ghost memory = { λ counted. C.memory (inner_of counted) };
+    ghost borrow = { λ counted. C.borrow (inner_of counted) };
 
     ghost numbers = { λ counted. C.numbers (inner_of counted) };
 

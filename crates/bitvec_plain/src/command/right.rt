@@ -1,10 +1,8 @@
 //! Commands on the bits of a right window.
 ghost use Rattle.std.specs.Prelude.{◌≡◌, true, false, length, MatchOption};
-ghost use Rattle.bitvec_base.specs.Lists.{combined};
 ghost use Rattle.bitvec_base.specs.Window.{window_of};
-ghost use Rattle.bitvec_run.specs.Commands.{lies_in, right_refusal};
-ghost use Rattle.bitvec_run.specs.Runs.{reply_unless, list_unless};
-ghost use Rattle.bitvec_plain.specs.Command.{command_reply, command_list, bit_of};
+ghost use Rattle.bitvec_run.specs.Rows.{lies_in};
+ghost use Rattle.bitvec_plain.specs.Command.{command_reply, command_list, operator_outcome};
 
 use super::part::{self, Operator};
 use bitvec_base::Window;
@@ -42,10 +40,8 @@ pub(super) fn combine(
     window: Window,
     operator: Operator,
 ) -> Reply
-    ensures reply { result ≡ reply_unless (right_refusal right.now window) Reply.Done }
-    ensures list { let part = window_of right.now window
-        in list.new ≡ list_unless (right_refusal right.now window) list.old
-        (combined (bit_of operator) list.old part) }
+    ensures reply { result ≡ (operator_outcome operator right.now list.old window).reply list.old }
+    ensures list { list.new ≡ (operator_outcome operator right.now list.old window).list list.old }
 {
     let Some(part) = part_of(right, window) else {
         return Reply::Refused(Refusal::Right);

@@ -2,7 +2,7 @@ use Rattle.std.specs.Prelude.{Bool, not, refl}
 use Rattle.std.specs.Bool.{beq}
 use Rattle.std.proofs.Common.{◌∙◌}
 use Rattle.bitvec_slice.specs.Views.{bits_of, memory_of}
-use Rattle.bitvec_query.proofs.Places.{first_place-run}
+use Rattle.bitvec_base.specs.LeadingLaws.{first_place-run}
 use Rattle.bitvec_query.proofs.runs.before_first.Goals as goal
 
 pub returns : goal.returns

@@ -2,7 +2,7 @@ use Rattle.std.specs.Prelude.{Bool, not, refl}
 use Rattle.std.specs.Bool.{beq}
 use Rattle.std.proofs.Common.{◌∙◌, arith, sym}
 use Rattle.bitvec_slice.specs.Views.{bits_of, memory_of}
-use Rattle.bitvec_query.proofs.Places.{last_place-some, last_place-whole}
+use Rattle.bitvec_base.specs.LeadingLaws.{last_place-some, last_place-whole}
 use Rattle.bitvec_query.proofs.runs.behind_last.Goals as goal
 
 pub overflow_sub-result : goal.overflow_sub-result

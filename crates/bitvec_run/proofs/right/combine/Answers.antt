@@ -1,24 +1,27 @@
-use Rattle.std.proofs.Common.{sym, ◌∙◌, refl}
-use Rattle.bitvec_run.proofs.RightLemmas.{right-outside, right-inside}
+use Rattle.std.proofs.Common.{rules}
+use Rattle.bitvec_run.specs.FollowsLaws.{list-inside}
 use Rattle.bitvec_run.proofs.right.combine.Goals as goal
 
-pub returns-then-not-right_lies-clause-reply : goal.returns-then-not-right_lies-clause-reply
-returns-then-not-right_lies-clause-reply g c = rw (right-outside g.C.Elem.BitStore.BITS g.O.BitOrder.at (g.D.CellsRead.numbers c.args.right.now) c.args.window (sym c.right_lies.ensures.test ∙ c.if-not-right_lies.true)) refl
+pub returns-in-CopyFrom : goal.returns-in-CopyFrom
+returns-in-CopyFrom g c =
+    let fits = rw c.in-CopyFrom.is at c.requires.fits_right in
+    let same = list-inside g.C.Elem.BitStore.BITS g.O.BitOrder.at (g.D.CellsRead.numbers c.args.right.now) c.args.source c.in-CopyFrom.window c.requires.source fits in
+    rw c.in-CopyFrom.is (search rules)
 
-pub returns-then-not-right_lies-clause-bits : goal.returns-then-not-right_lies-clause-bits
-returns-then-not-right_lies-clause-bits g c = rw (right-outside g.C.Elem.BitStore.BITS g.O.BitOrder.at (g.D.CellsRead.numbers c.args.right.now) c.args.window (sym c.right_lies.ensures.test ∙ c.if-not-right_lies.true)) refl
+pub returns-in-And : goal.returns-in-And
+returns-in-And g c =
+    let fits = rw c.in-And.is at c.requires.fits_right in
+    let same = list-inside g.C.Elem.BitStore.BITS g.O.BitOrder.at (g.D.CellsRead.numbers c.args.right.now) c.args.source c.in-And.window c.requires.source fits in
+    rw c.in-And.is (search rules)
 
-pub returns-clause-reply : goal.returns-clause-reply
-returns-clause-reply g c = rw (right-inside g.C.Elem.BitStore.BITS g.O.BitOrder.at (g.D.CellsRead.numbers c.args.right.now) c.args.window (sym c.right_lies.ensures.test ∙ c.if-not-right_lies.false)) refl
+pub returns-in-Or : goal.returns-in-Or
+returns-in-Or g c =
+    let fits = rw c.in-Or.is at c.requires.fits_right in
+    let same = list-inside g.C.Elem.BitStore.BITS g.O.BitOrder.at (g.D.CellsRead.numbers c.args.right.now) c.args.source c.in-Or.window c.requires.source fits in
+    rw c.in-Or.is (search rules)
 
-pub returns-clause-bits : goal.returns-clause-bits
-returns-clause-bits g c = rw (right-inside g.C.Elem.BitStore.BITS g.O.BitOrder.at (g.D.CellsRead.numbers c.args.right.now) c.args.window (sym c.right_lies.ensures.test ∙ c.if-not-right_lies.false)) c.block_op.ensures.bits
-
-pub returns-clause-loads : goal.returns-clause-loads
-returns-clause-loads g c = rw (right-inside g.C.Elem.BitStore.BITS g.O.BitOrder.at (g.D.CellsRead.numbers c.args.right.now) c.args.window (sym c.right_lies.ensures.test ∙ c.if-not-right_lies.false)) c.block_op.ensures.loads
-
-pub returns-clause-stores : goal.returns-clause-stores
-returns-clause-stores g c = rw (right-inside g.C.Elem.BitStore.BITS g.O.BitOrder.at (g.D.CellsRead.numbers c.args.right.now) c.args.window (sym c.right_lies.ensures.test ∙ c.if-not-right_lies.false)) c.block_op.ensures.stores
-
-pub returns-clause-right_loads : goal.returns-clause-right_loads
-returns-clause-right_loads g c = rw (right-inside g.C.Elem.BitStore.BITS g.O.BitOrder.at (g.D.CellsRead.numbers c.args.right.now) c.args.window (sym c.right_lies.ensures.test ∙ c.if-not-right_lies.false)) c.block_op.ensures.right_loads
+pub returns-in-Xor : goal.returns-in-Xor
+returns-in-Xor g c =
+    let fits = rw c.in-Xor.is at c.requires.fits_right in
+    let same = list-inside g.C.Elem.BitStore.BITS g.O.BitOrder.at (g.D.CellsRead.numbers c.args.right.now) c.args.source c.in-Xor.window c.requires.source fits in
+    rw c.in-Xor.is (search rules)

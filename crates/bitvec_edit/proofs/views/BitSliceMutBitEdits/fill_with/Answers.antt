@@ -14,11 +14,10 @@ unfolding memory_of_mut
 returns g c =
     let v = c.args.self.now in
     let cells = c.fill_with_in.new.cells in
-    let elements = c.elements_mut.ensures.elements in
-    let wrote = rw (elements, c.window-window.ensures.value) at c.fill_with_in.ensures.bits in
-    let written = writes_bits v cells wrote.0 (c.fill_with_in.ensures.length ∙ ap length elements) wrote.2 wrote.3 in
+    let wrote = rw (c.elements_mut.ensures.elements, c.window-window.ensures.value) at c.fill_with_in.ensures.writes in
+    let written = writes_bits v cells wrote.0 wrote.2 in
     record {
       answers = subst (FillsWith g.F.FnMut c.args.f) (sym written.bits) wrote.1;
       bits = subst (WritesBits v (with_elements v cells)) (sym written.bits) written;
-      len = ap length written.bits ∙ wrote.2;
+      len = ap length written.bits ∙ wrote.2.long;
     }

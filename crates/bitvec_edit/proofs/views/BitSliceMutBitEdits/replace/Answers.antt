@@ -1,16 +1,9 @@
-use Rattle.std.specs.Prelude.{length}
-use Rattle.std.proofs.Common.{ap, ◌∙◌}
-use Rattle.std.proofs.lemmas.List.{length-set}
 use Rattle.bitvec_slice.specs.Views.{bits_of_mut, memory_of_mut}
-use Rattle.bitvec_slice.specs.ViewLaws.{length-bits_of_mut}
 use Rattle.bitvec_slice.specs.WriteLaws.{writes_bits}
 use Rattle.bitvec_edit.proofs.views.BitSliceMutBitEdits.replace.Goals as goal
 
 pub returns : goal.returns
 unfolding bits_of_mut memory_of_mut
 returns g c =
-    let v = c.args.self.now in
-    let elements = c.elements_mut.ensures.elements in
-    let wrote = rw (elements, c.window-window.ensures.value) at c.replace_in.ensures.bits in
-    let long = length-bits_of_mut v in
-    record { value = rw (elements, c.window-window.ensures.value) at c.replace_in.ensures.value; bits = writes_bits v c.replace_in.new.cells _ (c.replace_in.ensures.length ∙ ap length elements) (length-set (bits_of_mut v) c.args.index c.args.bit ∙ long) wrote }
+    let replaced = rw (c.elements_mut.ensures.elements, c.window-window.ensures.value) at c.replace_in.ensures in
+    record { value = replaced.value; bits = writes_bits c.args.self.now c.replace_in.new.cells _ replaced.writes }

@@ -1,6 +1,6 @@
 use Rattle.std.specs.Prelude.{length}
 use Rattle.std.proofs.Common.{◌∙◌, ap}
-use Rattle.bitvec_query.proofs.Counts.{ones_within, zeros_left}
+use Rattle.bitvec_base.specs.CountLaws.{ones_within, zeros_left}
 use Rattle.bitvec_query.proofs.queries.BitQueries.count_zeros.Goals as goal
 
 pub overflow_sub-result : goal.overflow_sub-result

@@ -1,7 +1,7 @@
 use Rattle.std.specs.Prelude.{Bool}
 use Rattle.std.specs.List.{prefix_len}
 use Rattle.std.proofs.Common.{◌∙◌, ap}
-use Rattle.bitvec_query.proofs.Places.{leading-ones}
+use Rattle.bitvec_base.specs.LeadingLaws.{leading-ones}
 use Rattle.bitvec_query.proofs.queries.BitQueries.leading_ones.Goals as goal
 
 pub returns : goal.returns

@@ -1,7 +1,7 @@
 use Rattle.std.specs.Prelude.{not}
 use Rattle.std.specs.List.{prefix_len}
 use Rattle.std.proofs.Common.{◌∙◌, ap}
-use Rattle.bitvec_query.proofs.Places.{leading-zeros}
+use Rattle.bitvec_base.specs.LeadingLaws.{leading-zeros}
 use Rattle.bitvec_query.proofs.queries.BitQueries.leading_zeros.Goals as goal
 
 pub returns : goal.returns

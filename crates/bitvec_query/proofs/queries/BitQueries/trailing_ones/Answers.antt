@@ -2,7 +2,7 @@ use Rattle.std.specs.Prelude.{Bool}
 use Rattle.std.specs.List.{suffix_len}
 use Rattle.std.proofs.Common.{◌∙◌, ap}
 use Rattle.bitvec_slice.specs.Views.{bits_of}
-use Rattle.bitvec_query.proofs.Places.{trailing-ones}
+use Rattle.bitvec_base.specs.LeadingLaws.{trailing-ones}
 use Rattle.bitvec_query.proofs.queries.BitQueries.trailing_ones.Goals as goal
 
 pub returns : goal.returns

@@ -2,7 +2,7 @@ use Rattle.std.specs.Prelude.{not}
 use Rattle.std.specs.List.{suffix_len}
 use Rattle.std.proofs.Common.{◌∙◌, ap}
 use Rattle.bitvec_slice.specs.Views.{bits_of}
-use Rattle.bitvec_query.proofs.Places.{trailing-zeros}
+use Rattle.bitvec_base.specs.LeadingLaws.{trailing-zeros}
 use Rattle.bitvec_query.proofs.queries.BitQueries.trailing_zeros.Goals as goal
 
 pub returns : goal.returns

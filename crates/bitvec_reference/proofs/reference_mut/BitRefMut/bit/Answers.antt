@@ -1,4 +1,3 @@
-use Rattle.std.specs.Prelude.{refl}
 use Rattle.std.proofs.Common.{◌∙◌}
 use Rattle.bitvec_reference.specs.References.{bit_of_ref_mut, memory_of_ref_mut}
 use Rattle.bitvec_reference.proofs.References.{get-one}
@@ -6,4 +5,4 @@ use Rattle.bitvec_reference.proofs.reference_mut.BitRefMut.bit.Goals as goal
 
 pub returns : goal.returns
 unfolding bit_of_ref_mut memory_of_ref_mut
-returns g c = rw (c.window.ensures) at c.bit_in.ensures ∙ get-one _ _ _ refl
+returns g c = rw (c.window.ensures) at c.bit_in.ensures ∙ get-one _ _ _

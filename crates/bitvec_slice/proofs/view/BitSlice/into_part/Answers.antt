@@ -1,7 +1,5 @@
-use Rattle.bitvec_slice.specs.ViewLaws.{part_of_bits}
+use Rattle.bitvec_slice.specs.ViewLaws.{part_of_view}
 use Rattle.bitvec_slice.proofs.view.BitSlice.into_part.Goals as goal
 
-pub returns-clause-bits : goal.returns-clause-bits
-returns-clause-bits g c =
-    let part = c.from_parts.ensures in
-    part_of_bits c.args.self c.from_parts.result c.args.from c.args.to c.requires.order c.requires.bound part.start part.len part.elements
+pub returns : goal.returns
+returns g c = part_of_view c.args.self c.from_parts.result c.args.from c.args.to c.requires.order c.requires.bound c.from_parts.ensures

@@ -1,11 +1,9 @@
-use Rattle.std.proofs.Common.{arith}
-use Rattle.bitvec_slice.proofs.Rests.{bits-behind, bits-before}
+use Rattle.std.proofs.Common.{refl}
+use Rattle.bitvec_slice.proofs.Rests.{front_of, rest_of}
 use Rattle.bitvec_slice.proofs.view.BitSlice.split_at.Goals as goal
 
-pub returns-clause-bits : goal.returns-clause-bits
-returns-clause-bits g c =
-    let left = c.into_part-left in
-    let right = c.into_part-right in
-    let before = bits-before c.args.self left.result c.args.mid left.ensures.elements (omega (arith, left.ensures.start)) (omega (arith, left.ensures.len)) c.requires in
-    let behind = bits-behind c.args.self right.result c.args.mid right.ensures.elements right.ensures.start (omega (arith, right.ensures.len, c.len.ensures.window, c.requires)) in
-    (before, behind)
+pub returns : goal.returns
+returns g c = record {
+  front = front_of c.args.self c.into_part-left.result c.args.mid _ refl c.into_part-left.ensures;
+  rest = rest_of c.args.self c.into_part-right.result c.args.mid _ _ refl c.len.ensures.window c.into_part-right.ensures;
+}

@@ -1,16 +1,9 @@
-use Rattle.std.specs.Prelude.{length}
-use Rattle.std.proofs.Common.{ap, ◌∙◌}
-use Rattle.bitvec_base.specs.ListsLaws.{length-combined}
-use Rattle.bitvec_engine.specs.Operator.{operator}
 use Rattle.bitvec_slice.specs.Views.{bits_of, bits_of_mut, memory_of, memory_of_mut}
-use Rattle.bitvec_slice.specs.ViewLaws.{length-bits_of_mut}
 use Rattle.bitvec_slice.specs.WriteLaws.{writes_bits}
 use Rattle.bitvec_slice.proofs.view_mut.BitSliceMut.combine_block.Goals as goal
 
 pub returns : goal.returns
 unfolding bits_of bits_of_mut memory_of memory_of_mut
 returns g c =
-    let v = c.args.self.now in
-    let elements = c.elements_mut.ensures.elements in
-    let wrote = rw (elements, c.window-window.ensures.value, c.window-from.ensures.value, c.into_slice.ensures) at c.combine_block_in.ensures.bits in
-    writes_bits v c.combine_block_in.new.cells _ (c.combine_block_in.ensures.length ∙ ap length elements) (length-combined (operator c.args.op) (bits_of_mut v) (bits_of c.args.src) ∙ length-bits_of_mut v) wrote
+    writes_bits c.args.self.now c.combine_block_in.new.left _
+    (rw (c.elements_mut.ensures.elements, c.window-window.ensures.value, c.window-from.ensures.value, c.into_slice.ensures) at c.combine_block_in.ensures.writes)

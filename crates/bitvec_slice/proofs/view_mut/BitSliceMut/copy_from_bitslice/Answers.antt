@@ -1,14 +1,9 @@
-use Rattle.std.specs.Prelude.{length}
-use Rattle.std.proofs.Common.{ap, ◌∙◌, sym}
 use Rattle.bitvec_slice.specs.Views.{bits_of, bits_of_mut, memory_of, memory_of_mut}
-use Rattle.bitvec_slice.specs.ViewLaws.{length-bits_of}
 use Rattle.bitvec_slice.specs.WriteLaws.{writes_bits}
 use Rattle.bitvec_slice.proofs.view_mut.BitSliceMut.copy_from_bitslice.Goals as goal
 
 pub returns : goal.returns
 unfolding bits_of bits_of_mut memory_of memory_of_mut
 returns g c =
-    let v = c.args.self.now in
-    let elements = c.elements_mut.ensures.elements in
-    let wrote = rw (elements, c.window-window.ensures.value, c.window-from.ensures.value, c.into_slice.ensures) at c.copy_block_in.ensures.bits in
-    writes_bits v c.copy_block_in.new.cells _ (c.copy_block_in.ensures.length ∙ ap length elements) (length-bits_of c.args.src ∙ sym c.requires) wrote
+    writes_bits c.args.self.now c.copy_from_block_in.new.left _
+    (rw (c.elements_mut.ensures.elements, c.window-window.ensures.value, c.window-from.ensures.value, c.into_slice.ensures) at c.copy_from_block_in.ensures.writes)

@@ -1,13 +1,11 @@
-use Rattle.std.proofs.Common.{◌+◌, arith}
 use Rattle.bitvec_base.specs.OrderLaws.{width_some}
-use Rattle.bitvec_base.specs.Window.{window_of}
-use Rattle.bitvec_slice.specs.Views.{bits_of_mut, memory_of_mut}
+use Rattle.bitvec_slice.specs.ViewLaws.{has_window_mut}
+use Rattle.bitvec_slice.specs.Views.{bits_of_mut, memory_of_mut, window_in_mut}
 use Rattle.bitvec_domain.specs.DomainLaws.{domain_bits_mut}
 use Rattle.bitvec_slice.proofs.view_mut.BitSliceMut.domain_mut.Goals as goal
 
 pub returns-clause-bits : goal.returns-clause-bits
-unfolding bits_of_mut memory_of_mut window_of
+unfolding bits_of_mut memory_of_mut
 returns-clause-bits g c =
     let v = c.args.self.now in
-    let is = rw (c.elements_mut.ensures.elements, c.window-window.ensures.value) at c.domain_mut_of.ensures in
-    domain_bits_mut v.elements.now v.head (v.head + v.len) c.domain_mut_of.result (width_some _ g.met.T.BitStore.width_law) (omega arith) v.inside is
+    domain_bits_mut v.elements.now (window_in_mut v) c.domain_mut_of.result (width_some _ g.met.T.BitStore.width_law) (has_window_mut v) (rw (c.elements_mut.ensures.elements, c.window-window.ensures.value) at c.domain_mut_of.ensures)

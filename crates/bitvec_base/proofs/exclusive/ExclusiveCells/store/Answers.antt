@@ -1,5 +1,0 @@
-use Rattle.std.proofs.lemmas.List.{map-set}
-use Rattle.bitvec_base.proofs.exclusive.ExclusiveCells.store.Goals as goal
-
-pub returns-clause-numbers : goal.returns-clause-numbers
-returns-clause-numbers g c = map-set _ _ _ _

@@ -1,0 +1,27 @@
+//! The order that counts from the least significant bit.
+ghost use Rattle.bitvec_base.specs.OrderLaws.{lsb0_permutes};
+
+use crate::ones::{ones, single};
+use crate::{BitOrder, BitStore};
+
+/// The order in which index `i` is bit `i`: the least significant bit first, as in the crate.
+#[derive(Clone, Copy)]
+pub struct Lsb0;
+
+impl BitOrder for Lsb0 {
+    ghost at = { λ b i. i };
+
+    ghost permutes = { lsb0_permutes };
+
+    fn at<R: BitStore>(index: usize) -> usize {
+        index
+    }
+
+    fn select<R: BitStore>(index: usize) -> R {
+        single(index)
+    }
+
+    fn mask<R: BitStore>(from: usize, to: usize) -> R {
+        ones(from, to)
+    }
+}

@@ -1,0 +1,59 @@
+//! Where a window is cut at the edges of elements: the one place that decides it.
+ghost use Rattle.std.specs.Prelude.{◌≡◌, ℕ, ◌+◌, ◌-◌, ◌^◌, ◌<◌, ◌≤◌};
+ghost use Rattle.bitvec_base.specs.Parts.{first_part_of, last_part_of};
+
+use crate::Window;
+
+/// A part of one element of a memory: the bits at its indices `from` up to, without, `to`.
+#[derive(Clone, Copy, PartialEq, Eq, Debug)]
+pub struct Part {
+    /// Which element, from 0.
+    pub element: usize,
+    /// The index of the part's first bit in the element.
+    pub from: usize,
+    /// The index past its last bit.
+    pub to: usize,
+}
+
+impl Part {
+    /// How many bits. Condition: `from <= to`.
+    pub fn len(self) -> usize
+        requires { self.from ≤ self.to }
+        ensures { result ≡ self.to - self.from }
+    {
+        self.to - self.from
+    }
+}
+
+/// The part of a window's first element that lies in the window, where elements have `bits` bits.
+/// Condition: the window isn't empty.
+pub fn first_part(bits: usize, window: Window) -> Part
+    requires bits { 0 < bits }
+    requires some { 0 < window.len }
+    ensures { result ≡ first_part_of bits window }
+{
+    let from = window.start % bits;
+    let len = window.len.min(bits - from);
+    Part {
+        element: window.start / bits,
+        from,
+        to: from + len,
+    }
+}
+
+/// The part of a window's last element that lies in the window, where elements have `bits` bits.
+/// Condition: the window isn't empty, and its end is a `usize`.
+pub fn last_part(bits: usize, window: Window) -> Part
+    requires bits { 0 < bits }
+    requires some { 0 < window.len }
+    requires end { window.start + window.len < 2 ^ 64 }
+    ensures { result ≡ last_part_of bits window }
+{
+    let last = window.start + (window.len - 1);
+    let to = last % bits + 1;
+    Part {
+        element: last / bits,
+        from: to - window.len.min(to),
+        to,
+    }
+}

@@ -1,0 +1,193 @@
+//! The operations of `BitStore` by value, at each width.
+use bitvec_base::BitStore;
+use std::process::Abort;
+
+/// What the operations are to give of two elements and a number of bits to move by.
+#[derive(Clone, Copy)]
+struct Row {
+    left: u128,
+    right: u128,
+    by: u32,
+    and: u128,
+    or: u128,
+    xor: u128,
+    not: u128,
+    shl: u128,
+    shr: u128,
+    ones: u32,
+    leading: u32,
+    trailing: u32,
+}
+
+/// The operations give what the rows say.
+fn give<T: BitStore, A: Abort>(rt: &A, rows: &[Row]) {
+    for row in rows.iter().copied() {
+        assert!(rt; row.by < T::BITS);
+        assert!(rt; row.left <= T::ALL.to_u128() && row.right <= T::ALL.to_u128());
+        let left = T::from_u128(row.left);
+        let right = T::from_u128(row.right);
+        assert_eq!(rt; left.to_u128(), row.left);
+        assert_eq!(rt; left.and(right).to_u128(), row.and);
+        assert_eq!(rt; left.or(right).to_u128(), row.or);
+        assert_eq!(rt; left.xor(right).to_u128(), row.xor);
+        assert_eq!(rt; left.not().to_u128(), row.not);
+        assert_eq!(rt; left.shl(row.by).to_u128(), row.shl);
+        assert_eq!(rt; left.shr(row.by).to_u128(), row.shr);
+        assert_eq!(rt; left.count_ones(), row.ones);
+        assert_eq!(rt; left.leading_zeros(), row.leading);
+        assert_eq!(rt; left.trailing_zeros(), row.trailing);
+    }
+}
+
+/// Whether the constants are a width, no bit and all bits.
+fn has_constants<T: BitStore, A: Abort>(rt: &A, bits: u32, all: u128) {
+    assert_eq!(rt; T::BITS, bits);
+    assert_eq!(rt; T::ZERO.to_u128(), 0);
+    assert_eq!(rt; T::ALL.to_u128(), all);
+}
+
+#[test]
+fn the_constants_are_those_of_the_width(rt: HostRuntime) {
+    has_constants::<u8, _>(&rt, 8, 0xFF);
+    has_constants::<u16, _>(&rt, 16, 0xFFFF);
+    has_constants::<u32, _>(&rt, 32, 0xFFFF_FFFF);
+    has_constants::<u64, _>(&rt, 64, 0xFFFF_FFFF_FFFF_FFFF);
+    has_constants::<usize, _>(&rt, 64, 0xFFFF_FFFF_FFFF_FFFF);
+}
+
+#[test]
+fn bytes_are_operated_on(rt: HostRuntime) {
+    give::<u8, _>(
+        &rt,
+        &[
+            Row {
+                left: 0xB2,
+                right: 0x5C,
+                by: 3,
+                and: 0x10,
+                or: 0xFE,
+                xor: 0xEE,
+                not: 0x4D,
+                shl: 0x90,
+                shr: 0x16,
+                ones: 4,
+                leading: 0,
+                trailing: 1,
+            },
+            Row {
+                left: 0x18,
+                right: 0xF0,
+                by: 4,
+                and: 0x10,
+                or: 0xF8,
+                xor: 0xE8,
+                not: 0xE7,
+                shl: 0x80,
+                shr: 0x01,
+                ones: 2,
+                leading: 3,
+                trailing: 3,
+            },
+            Row {
+                left: 0x00,
+                right: 0xFF,
+                by: 7,
+                and: 0x00,
+                or: 0xFF,
+                xor: 0xFF,
+                not: 0xFF,
+                shl: 0x00,
+                shr: 0x00,
+                ones: 0,
+                leading: 8,
+                trailing: 8,
+            },
+            Row {
+                left: 0xFF,
+                right: 0x00,
+                by: 0,
+                and: 0x00,
+                or: 0xFF,
+                xor: 0xFF,
+                not: 0x00,
+                shl: 0xFF,
+                shr: 0xFF,
+                ones: 8,
+                leading: 0,
+                trailing: 0,
+            },
+        ],
+    );
+}
+
+#[test]
+fn wider_elements_are_operated_on(rt: HostRuntime) {
+    give::<u16, _>(
+        &rt,
+        &[Row {
+            left: 0x1E60,
+            right: 0xF0F0,
+            by: 4,
+            and: 0x1060,
+            or: 0xFEF0,
+            xor: 0xEE90,
+            not: 0xE19F,
+            shl: 0xE600,
+            shr: 0x01E6,
+            ones: 6,
+            leading: 3,
+            trailing: 5,
+        }],
+    );
+    give::<u32, _>(
+        &rt,
+        &[Row {
+            left: 0x00C0_3500,
+            right: 0xFFFF_0F00,
+            by: 8,
+            and: 0x00C0_0500,
+            or: 0xFFFF_3F00,
+            xor: 0xFF3F_3A00,
+            not: 0xFF3F_CAFF,
+            shl: 0xC035_0000,
+            shr: 0x0000_C035,
+            ones: 6,
+            leading: 8,
+            trailing: 8,
+        }],
+    );
+    give::<u64, _>(
+        &rt,
+        &[Row {
+            left: 0x0000_0001_8000_0000,
+            right: 0x0000_0003_0000_0000,
+            by: 32,
+            and: 0x0000_0001_0000_0000,
+            or: 0x0000_0003_8000_0000,
+            xor: 0x0000_0002_8000_0000,
+            not: 0xFFFF_FFFE_7FFF_FFFF,
+            shl: 0x8000_0000_0000_0000,
+            shr: 0x0000_0000_0000_0001,
+            ones: 2,
+            leading: 31,
+            trailing: 31,
+        }],
+    );
+    give::<usize, _>(
+        &rt,
+        &[Row {
+            left: 0xF000_0000_0000_0001,
+            right: 0x0FFF_FFFF_FFFF_FFFF,
+            by: 63,
+            and: 1,
+            or: 0xFFFF_FFFF_FFFF_FFFF,
+            xor: 0xFFFF_FFFF_FFFF_FFFE,
+            not: 0x0FFF_FFFF_FFFF_FFFE,
+            shl: 0x8000_0000_0000_0000,
+            shr: 1,
+            ones: 5,
+            leading: 0,
+            trailing: 0,
+        }],
+    );
+}

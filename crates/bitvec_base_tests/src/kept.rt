@@ -1,0 +1,39 @@
+//! What a caller knows of the elements that a write of bits left out.
+ghost use Rattle.std.specs.Prelude.{◌≡◌, ℕ, ◌<◌, length, map, slice_index};
+ghost use Rattle.bitvec_base.specs.Memory.{memory_bits, element_bits};
+ghost use Rattle.bitvec_base.specs.Order.{FitWidth};
+ghost use Rattle.bitvec_base.specs.Window.{write_at};
+
+use crate::accessors::set_first_to;
+use bitvec_base::{BitOrder, BitStore, HiLo};
+
+/// Stores an element, and says so by bits alone.
+fn store_first<T: BitStore, O: BitOrder>(cells: &mut [T], element: T)
+    requires { 0 < length cells.old }
+    ensures { memory_bits T.BITS O.at (map T.value cells.new)
+        ≡ write_at (memory_bits T.BITS O.at (map T.value cells.old)) 0
+        (element_bits T.BITS O.at (T.value element)) }
+{
+    set_first_to(cells, element);
+}
+
+/// Tells a proof that the words are words; it does nothing when it runs.
+fn fit(cells: &[u32])
+    ensures { FitWidth 32 cells.now }
+{}
+
+/// Stores a word: the others keep their numbers.
+fn store_first_word(cells: &mut [u32], word: u32)
+    requires { 0 < length cells.old }
+    ensures { (e : ℕ) → 0 < e → slice_index cells.new e ≡ slice_index cells.old e }
+{
+    fit(cells);
+    store_first::<u32, HiLo>(cells, word);
+}
+
+#[test]
+fn other_elements_are_kept(rt: HostRuntime) {
+    let mut words = [1, 2, 3];
+    store_first_word(&mut words, 9);
+    assert_eq!(rt; words, [9, 2, 3]);
+}

@@ -1,0 +1,46 @@
+//! The bits of two windows of slices of elements, compared.
+ghost use Rattle.std.specs.Prelude.{◌≡◌, map};
+ghost use Rattle.std.specs.Cmp.Lexicographic.{slice_cmp};
+ghost use Rattle.std.specs.Ordering.{bool_cmp};
+ghost use Rattle.bitvec_base.specs.Lists.{same_bits};
+ghost use Rattle.bitvec_base.specs.Memory.{HasWindow, list_in};
+
+use bitvec_base::{BitOrder, BitStore, Window};
+use bitvec_cells::Shared;
+use bitvec_engine::{bits_eq, compare};
+use std::cmp::Ordering;
+
+/// Whether two windows have the same bits. Condition: each memory has at most `MAX_BITS` bits, and
+/// each window lies in its memory.
+pub fn eq_in<T: BitStore, O: BitOrder, U: BitStore, P: BitOrder>(
+    left: &[T],
+    left_window: Window,
+    right: &[U],
+    right_window: Window,
+) -> bool
+    requires window { HasWindow T.BITS (map T.value left.now) left_window }
+    requires right_window { HasWindow U.BITS (map U.value right.now) right_window }
+    ensures { result ≡ same_bits (list_in T.BITS O.at (map T.value left.now) left_window)
+        (list_in U.BITS P.at (map U.value right.now) right_window) }
+{
+    let mut left = Shared::new(left);
+    let mut right = Shared::new(right);
+    bits_eq::<O, P, Shared<T>, Shared<U>>(&mut left, left_window, &mut right, right_window)
+}
+
+/// How the bits of two windows compare, as lists of truth values do. Condition: as of [`eq_in`].
+pub fn compare_in<T: BitStore, O: BitOrder, U: BitStore, P: BitOrder>(
+    left: &[T],
+    left_window: Window,
+    right: &[U],
+    right_window: Window,
+) -> Ordering
+    requires window { HasWindow T.BITS (map T.value left.now) left_window }
+    requires right_window { HasWindow U.BITS (map U.value right.now) right_window }
+    ensures { result ≡ slice_cmp bool_cmp (list_in T.BITS O.at (map T.value left.now) left_window)
+        (list_in U.BITS P.at (map U.value right.now) right_window) }
+{
+    let mut left = Shared::new(left);
+    let mut right = Shared::new(right);
+    compare::<O, P, Shared<T>, Shared<U>>(&mut left, left_window, &mut right, right_window)
+}

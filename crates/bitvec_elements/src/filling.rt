@@ -1,0 +1,26 @@
+//! Each bit of a window of a slice of elements set, cleared or flipped.
+ghost use Rattle.std.specs.Prelude.{map, not, replicate};
+ghost use Rattle.bitvec_base.specs.Memory.{Edits, HasWindow, Writes};
+
+use bitvec_base::{BitOrder, BitStore, Window};
+use bitvec_cells::Exclusive;
+use bitvec_engine::{fill, invert};
+
+/// Makes each bit of a window `bit`. Condition: the memory has at most `MAX_BITS` bits, and the
+/// window lies in it.
+pub fn fill_in<T: BitStore, O: BitOrder>(cells: &mut [T], window: Window, bit: bool)
+    requires window { HasWindow T.BITS (map T.value cells.old) window }
+    ensures writes { Writes T.BITS O.at (map T.value cells.old) (map T.value cells.new) window (replicate window.len bit) }
+{
+    let mut accessor = Exclusive::new(cells);
+    fill::<O, Exclusive<T>>(&mut accessor, window, bit);
+}
+
+/// Flips each bit of a window. Condition: as of [`fill_in`].
+pub fn invert_in<T: BitStore, O: BitOrder>(cells: &mut [T], window: Window)
+    requires window { HasWindow T.BITS (map T.value cells.old) window }
+    ensures writes { Edits T.BITS O.at (map T.value cells.old) (map T.value cells.new) window (map not) }
+{
+    let mut accessor = Exclusive::new(cells);
+    invert::<O, Exclusive<T>>(&mut accessor, window);
+}

@@ -1,0 +1,62 @@
+//! Whether the bits of one window of a slice of elements stand in those of another.
+ghost use Rattle.std.specs.Prelude.{◌≡◌, map};
+ghost use Rattle.bitvec_base.specs.Lists.{is_prefix, is_suffix, stands_in};
+ghost use Rattle.bitvec_base.specs.Memory.{HasWindow, list_in};
+
+use bitvec_base::{BitOrder, BitStore, Window};
+use bitvec_cells::Shared;
+use bitvec_engine::{bits_contains, bits_ends_with, bits_starts_with};
+
+/// Whether the bits of the right window begin those of the left one. Condition: each memory has at
+/// most `MAX_BITS` bits, and each window lies in its memory.
+pub fn starts_with_in<T: BitStore, O: BitOrder, U: BitStore, P: BitOrder>(
+    left: &[T],
+    left_window: Window,
+    right: &[U],
+    right_window: Window,
+) -> bool
+    requires window { HasWindow T.BITS (map T.value left.now) left_window }
+    requires right_window { HasWindow U.BITS (map U.value right.now) right_window }
+    ensures { result ≡ is_prefix (list_in U.BITS P.at (map U.value right.now) right_window)
+        (list_in T.BITS O.at (map T.value left.now) left_window) }
+{
+    let mut left = Shared::new(left);
+    let mut right = Shared::new(right);
+    bits_starts_with::<O, P, Shared<T>, Shared<U>>(&mut left, left_window, &mut right, right_window)
+}
+
+/// Whether the bits of the right window end those of the left one. Condition: as of
+/// [`starts_with_in`].
+pub fn ends_with_in<T: BitStore, O: BitOrder, U: BitStore, P: BitOrder>(
+    left: &[T],
+    left_window: Window,
+    right: &[U],
+    right_window: Window,
+) -> bool
+    requires window { HasWindow T.BITS (map T.value left.now) left_window }
+    requires right_window { HasWindow U.BITS (map U.value right.now) right_window }
+    ensures { result ≡ is_suffix (list_in U.BITS P.at (map U.value right.now) right_window)
+        (list_in T.BITS O.at (map T.value left.now) left_window) }
+{
+    let mut left = Shared::new(left);
+    let mut right = Shared::new(right);
+    bits_ends_with::<O, P, Shared<T>, Shared<U>>(&mut left, left_window, &mut right, right_window)
+}
+
+/// Whether the bits of the right window stand in those of the left one, from some index on.
+/// Condition: as of [`starts_with_in`].
+pub fn contains_in<T: BitStore, O: BitOrder, U: BitStore, P: BitOrder>(
+    left: &[T],
+    left_window: Window,
+    right: &[U],
+    right_window: Window,
+) -> bool
+    requires window { HasWindow T.BITS (map T.value left.now) left_window }
+    requires right_window { HasWindow U.BITS (map U.value right.now) right_window }
+    ensures { result ≡ stands_in (list_in U.BITS P.at (map U.value right.now) right_window)
+        (list_in T.BITS O.at (map T.value left.now) left_window) }
+{
+    let mut left = Shared::new(left);
+    let mut right = Shared::new(right);
+    bits_contains::<O, P, Shared<T>, Shared<U>>(&mut left, left_window, &mut right, right_window)
+}

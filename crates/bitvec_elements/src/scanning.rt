@@ -1,0 +1,50 @@
+//! The first and the last bit of a window of a slice of elements that is 1, or 0.
+ghost use Rattle.std.specs.Prelude.{◌≡◌, map};
+ghost use Rattle.std.specs.List.{list_all, list_any};
+ghost use Rattle.bitvec_base.specs.Lists.{first_place, last_place};
+ghost use Rattle.bitvec_base.specs.Memory.{HasWindow, list_in};
+
+use bitvec_base::{BitStore, Window};
+use bitvec_cells::Shared;
+use bitvec_engine::{SliceOrder, all, any};
+
+/// The index of a window's first bit that is `want`, if there is one. Condition: the memory has at
+/// most `MAX_BITS` bits, and the window lies in it.
+pub fn first_in<T: BitStore, O: SliceOrder>(
+    cells: &[T],
+    window: Window,
+    want: bool,
+) -> Option<usize>
+    requires window { HasWindow T.BITS (map T.value cells.now) window }
+    ensures { result ≡ first_place want (list_in T.BITS O.at (map T.value cells.now) window) }
+{
+    let mut accessor = Shared::new(cells);
+    O::scan_first::<Shared<T>>(&mut accessor, window, want)
+}
+
+/// The index of a window's last bit that is `want`, if there is one. Condition: as of [`first_in`].
+pub fn last_in<T: BitStore, O: SliceOrder>(cells: &[T], window: Window, want: bool) -> Option<usize>
+    requires window { HasWindow T.BITS (map T.value cells.now) window }
+    ensures { result ≡ last_place want (list_in T.BITS O.at (map T.value cells.now) window) }
+{
+    let mut accessor = Shared::new(cells);
+    O::scan_last::<Shared<T>>(&mut accessor, window, want)
+}
+
+/// Whether a bit of a window is 1. Condition: as of [`first_in`].
+pub fn any_in<T: BitStore, O: SliceOrder>(cells: &[T], window: Window) -> bool
+    requires window { HasWindow T.BITS (map T.value cells.now) window }
+    ensures { result ≡ list_any (λ bit. bit) (list_in T.BITS O.at (map T.value cells.now) window) }
+{
+    let mut accessor = Shared::new(cells);
+    any::<O, Shared<T>>(&mut accessor, window)
+}
+
+/// Whether every bit of a window is 1. Condition: as of [`first_in`].
+pub fn all_in<T: BitStore, O: SliceOrder>(cells: &[T], window: Window) -> bool
+    requires window { HasWindow T.BITS (map T.value cells.now) window }
+    ensures { result ≡ list_all (λ bit. bit) (list_in T.BITS O.at (map T.value cells.now) window) }
+{
+    let mut accessor = Shared::new(cells);
+    all::<O, Shared<T>>(&mut accessor, window)
+}

@@ -1,0 +1,14 @@
+use Rattle.std.proofs.Common.{◌≡◌, ℕ, ◌<◌, false}
+use Rattle.bitvec_base.specs.Lists.{stands_at}
+use Rattle.bitvec_base.specs.Memory.{list_in}
+use Rattle.bitvec_engine.proofs.bit_needles.bits_contains.Given as goal
+
+abbrev pub invariant-loop-from : goal.invariant-loop-from
+invariant-loop-from g l =
+    let list = list_in g.C.Elem.BitStore.BITS g.O.BitOrder.at (g.C.CellsRead.numbers l.fn.cells) l.window in
+    let part = list_in g.D.Elem.BitStore.BITS g.P.BitOrder.at (g.D.CellsRead.numbers l.fn.right) l.needle in
+    record {
+      absent : (k : ℕ) → k < l.from → stands_at part list k ≡ false;
+      numbers : g.C.CellsRead.numbers l.cells ≡ g.C.CellsRead.numbers l.fn.cells;
+      right_numbers : g.D.CellsRead.numbers l.right ≡ g.D.CellsRead.numbers l.fn.right;
+    }

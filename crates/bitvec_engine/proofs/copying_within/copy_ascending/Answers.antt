@@ -1,0 +1,27 @@
+use Rattle.std.proofs.Common.{◌+◌, false, slice_set, slice_index_or, arith, rules}
+use Rattle.bitvec_base.specs.CopyLaws.{copied_within-none, copy-ascending}
+use Rattle.bitvec_base.specs.WritesLaws.{length-list}
+use Rattle.bitvec_base.specs.WritesLaws.{Writes-start, Writes-next}
+use Rattle.bitvec_engine.proofs.copying_within.copy_ascending.Goals as goal
+
+pub loop-index-init : goal.loop-index-init
+loop-index-init g c =
+    let has = c.requires.window in
+    let long = length-list _ g.O.BitOrder.at _ _ has in
+    record {
+      writes = Writes-start has (copied_within-none c.args.from (c.args.from + 0) c.args.dest _ (omega arith) (omega arith));
+      cost = search rules;
+    }
+
+pub loop-index-preserved : goal.loop-index-preserved
+loop-index-preserved g c =
+    let has = c.requires.window in
+    let long = length-list _ g.O.BitOrder.at _ _ has in
+    let from = c.args.from in
+    let dest = c.args.dest in
+    let index = c.loop-index.index in
+    record {
+      writes = Writes-next (λ l. slice_set l (dest + index) (slice_index_or l (from + index) false)) has c.loop-index.invariant.writes c.copy_bit.ensures.writes
+          (copy-ascending _ from dest index false c.requires.towards_start (omega arith));
+      cost = search rules;
+    }

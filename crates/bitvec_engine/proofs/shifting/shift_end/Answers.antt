@@ -1,0 +1,17 @@
+use Rattle.std.proofs.Common.{◌≡◌, ◌-◌, false, replicate, arith, sym}
+use Rattle.bitvec_base.specs.CopyLaws.{copy-shifts_end}
+use Rattle.bitvec_base.specs.Window.{write_at}
+use Rattle.bitvec_base.specs.WritesLaws.{length-list, HasWindow-kept, Writes-range}
+use Rattle.bitvec_base.specs.WritesLaws.{Writes-next}
+use Rattle.bitvec_engine.proofs.shifting.shift_end.Goals as goal
+
+pub returns-clause-writes : goal.returns-clause-writes
+returns-clause-writes g c =
+    let has = c.requires.window in
+    let by = c.args.by in
+    let copied = c.block_copy_within.ensures.writes in
+    let cleared = rw c.range.ensures at c.fill.ensures.writes in
+    let zeros : by - 0 ≡ by = omega arith in
+    Writes-next (λ l. write_at l 0 (replicate (by - 0) false)) has copied
+    (Writes-range _ _ _ _ _ 0 by _ (HasWindow-kept _ _ _ _ has copied.elements) (omega arith) c.requires.by cleared)
+    (rw zeros (copy-shifts_end by c.args.window.len _ (sym (length-list _ g.O.BitOrder.at _ _ has)) c.requires.by))

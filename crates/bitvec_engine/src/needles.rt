@@ -1,0 +1,84 @@
+//! Whether the bits of one window, the needle, stand in those of another.
+ghost use Rattle.std.specs.Prelude.{◌≡◌, ◌+◌, ◌-◌};
+ghost use Rattle.bitvec_base.specs.Lists.{is_prefix, is_suffix, stands_in};
+ghost use Rattle.bitvec_base.specs.Memory.{HasWindow, list_in};
+ghost use Rattle.bitvec_cells.specs.Access.{OnlyReadsAtMost};
+ghost use Rattle.bitvec_walk.specs.Cost.{needle_loads};
+
+use crate::slice_order::SliceOrder;
+use bitvec_base::{BitStore, Window};
+use bitvec_cells::CellsRead;
+
+/// Whether the needle's bits begin those of the window: `starts_with` of the crate. Condition: each
+/// memory has at most `MAX_BITS` bits, and each window lies in its memory. It takes one equality of
+/// the needle's bits, and no load where these are more.
+pub fn starts_with<O: SliceOrder, C: CellsRead, D: CellsRead<Elem = C::Elem>>(
+    cells: &mut C,
+    window: Window,
+    right: &mut D,
+    needle: Window,
+) -> bool
+    requires window { HasWindow C.Elem.BITS (C.numbers cells.old) window }
+    requires right_window { HasWindow C.Elem.BITS (D.numbers right.old) needle }
+    ensures value { result ≡ is_prefix (list_in C.Elem.BITS O.at (D.numbers right.old) needle)
+        (list_in C.Elem.BITS O.at (C.numbers cells.old) window) }
+    ensures reads { OnlyReadsAtMost C.CellsRead cells.old cells.new (needle_loads C.Elem.BITS O.WORDS window.len needle.len 1) }
+    ensures right { OnlyReadsAtMost D.CellsRead right.old right.new (needle_loads C.Elem.BITS O.WORDS window.len needle.len 1) }
+{
+    if needle.len > window.len {
+        return false;
+    }
+    O::block_eq::<C, D>(cells, window.range(0, needle.len), right, needle)
+}
+
+/// Whether the needle's bits end those of the window: `ends_with` of the crate. Condition and
+/// loads: as of [`starts_with`].
+pub fn ends_with<O: SliceOrder, C: CellsRead, D: CellsRead<Elem = C::Elem>>(
+    cells: &mut C,
+    window: Window,
+    right: &mut D,
+    needle: Window,
+) -> bool
+    requires window { HasWindow C.Elem.BITS (C.numbers cells.old) window }
+    requires right_window { HasWindow C.Elem.BITS (D.numbers right.old) needle }
+    ensures value { result ≡ is_suffix (list_in C.Elem.BITS O.at (D.numbers right.old) needle)
+        (list_in C.Elem.BITS O.at (C.numbers cells.old) window) }
+    ensures reads { OnlyReadsAtMost C.CellsRead cells.old cells.new (needle_loads C.Elem.BITS O.WORDS window.len needle.len 1) }
+    ensures right { OnlyReadsAtMost D.CellsRead right.old right.new (needle_loads C.Elem.BITS O.WORDS window.len needle.len 1) }
+{
+    if needle.len > window.len {
+        return false;
+    }
+    let tail = window.range(window.len - needle.len, window.len);
+    O::block_eq::<C, D>(cells, tail, right, needle)
+}
+
+/// Whether the needle's bits stand in those of the window, from some index on: `contains` of the
+/// crate. Condition: as of [`starts_with`]. It takes at most one equality of the needle's bits at
+/// each index where they may stand, and no load where there is no such index.
+pub fn contains<O: SliceOrder, C: CellsRead, D: CellsRead<Elem = C::Elem>>(
+    cells: &mut C,
+    window: Window,
+    right: &mut D,
+    needle: Window,
+) -> bool
+    requires window { HasWindow C.Elem.BITS (C.numbers cells.old) window }
+    requires right_window { HasWindow C.Elem.BITS (D.numbers right.old) needle }
+    ensures value { result ≡ stands_in (list_in C.Elem.BITS O.at (D.numbers right.old) needle)
+        (list_in C.Elem.BITS O.at (C.numbers cells.old) window) }
+    ensures reads { OnlyReadsAtMost C.CellsRead cells.old cells.new
+        (needle_loads C.Elem.BITS O.WORDS window.len needle.len (window.len - needle.len + 1)) }
+    ensures right { OnlyReadsAtMost D.CellsRead right.old right.new
+        (needle_loads C.Elem.BITS O.WORDS window.len needle.len (window.len - needle.len + 1)) }
+{
+    if needle.len > window.len {
+        return false;
+    }
+    for from in 0..window.len - needle.len + 1 {
+        let part = window.range(from, from + needle.len);
+        if O::block_eq::<C, D>(cells, part, right, needle) {
+            return true;
+        }
+    }
+    false
+}

@@ -1,0 +1,11 @@
+use Rattle.std.proofs.Common.{rules}
+use Rattle.bitvec_run.proofs.step.command.Goals as goal
+
+pub returns-in-Get : goal.returns-in-Get
+returns-in-Get g c = record { left = c.query.ensures _; right = search rules }
+
+pub returns-in-Set : goal.returns-in-Set
+returns-in-Set g c = record { left = c.edit.ensures _; right = search rules }
+
+pub returns-in-Reverse : goal.returns-in-Reverse
+returns-in-Reverse g c = record { left = c.rearrange.ensures _; right = search rules }

@@ -1,0 +1,43 @@
+-- A step that isn't refused is its command on its range.
+use Rattle.std.specs.Prelude.{◌≡◌, ℕ, ◌-◌, ◌≤◌, Bool, true, false, Option, Some, None, List, length, refl, IfNone}
+use Rattle.std.proofs.Common.{sym, ◌∙◌, ap, ⊎_elim}
+use Rattle.std.proofs.lemmas.Bool.{cases_Bool}
+use Rattle.bitvec_run.specs.declared.command.Refusal.{Refusal}
+use Rattle.bitvec_run.specs.declared.command.Step.{Step}
+use Rattle.bitvec_run.specs.Commands.{op_row, op_refusal}
+use Rattle.bitvec_run.specs.CommandsLaws.{fits_list, fits_right}
+use Rattle.bitvec_run.specs.Rows.{Row, on_range, outcome, range_lies, refused, unless_refused}
+use Rattle.bitvec_run.specs.Runs.{StepFits, step_outcome, step_row}
+
+-- what comes of a row, by its refusal
+pub outcome-is : (row : Row) (refusal : Option Refusal) → row.refusal ≡ refusal → outcome row ≡ unless_refused refusal row
+outcome-is row refusal is = ap (λ (r : Option Refusal). unless_refused r row) is
+
+pub step_row-inside : (right : List Bool) (n : ℕ) (step : Step) → range_lies n step.from step.to ≡ true → step_row right n step ≡ on_range step.from step.to (op_row right (step.to - step.from) step.op)
+unfolding step_row
+step_row-inside right n step inside = rw inside refl
+
+pub step_row-outside : (right : List Bool) (n : ℕ) (step : Step) → range_lies n step.from step.to ≡ false → step_row right n step ≡ refused Refusal.Range
+unfolding step_row
+step_row-outside right n step outside = rw outside refl
+
+step-inside : (right : List Bool) (n : ℕ) (step : Step) → (step_row right n step).refusal ≡ None → range_lies n step.from step.to ≡ true
+step-inside right n step none =
+    ⊎_elim
+    (λ inside. inside)
+    (λ outside. let is = ap (λ (row : Row). row.refusal) (step_row-outside right n step outside) in let no : Some Refusal.Range ≡ None = sym is ∙ none in cc)
+    (cases_Bool (range_lies n step.from step.to))
+
+-- a step that isn't refused does what its command does
+pub step-does : (right : List Bool) (n : ℕ) (step : Step) → (step_row right n step).refusal ≡ None → step_outcome right n step ≡ on_range step.from step.to (op_row right (step.to - step.from) step.op)
+step-does right n step none = outcome-is (step_row right n step) None none ∙ step_row-inside right n step (step-inside right n step none)
+
+-- and fits, where the refusal is what was computed
+pub refusal-fits : (right : List Bool) (n : ℕ) (step : Step) (refusal : Option Refusal) → step.from ≤ step.to → step.to ≤ n → refusal ≡ op_refusal right (step.to - step.from) step.op → IfNone refusal (StepFits n (length right) step)
+refusal-fits right n step None order bound is = record {
+  order = order;
+  bound = bound;
+  list = fits_list right (step.to - step.from) step.op (sym is);
+  right = fits_right right (step.to - step.from) step.op (sym is);
+}
+refusal-fits right n step (Some refusal) order bound is = tt

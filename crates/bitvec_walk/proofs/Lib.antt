@@ -1,0 +1,3 @@
+pub mod BitLemmas
+pub mod FindLemmas
+pub mod PartLemmas

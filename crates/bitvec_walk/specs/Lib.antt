@@ -1,0 +1,5 @@
+pub mod Cost
+pub mod CostLaws
+pub mod Element
+pub mod Walk
+pub mod WalkLaws
