@@ -9,7 +9,8 @@ use Rattle.std.proofs.lemmas.List.{get_or_past}
 use Rattle.std.proofs.lemmas.Nat.Bits.{bit_at-lt, same_from_bits_below}
 use Rattle.bitvec_base.specs.Memory.{memory_bits, element_bits}
 use Rattle.bitvec_base.specs.MemoryLaws.{length-memory_bits, get-element_bits, element_fits, element-range}
-use Rattle.bitvec_base.specs.Order.{FitWidth, Permutes}
+use Rattle.bitvec_base.specs.Order.{Permutes}
+use Rattle.bitvec_store.specs.Width.{FitWidth}
 use Rattle.bitvec_base.specs.OrderLaws.{Permutes-onto}
 use Rattle.bitvec_base.specs.Window.{write_at}
 use Rattle.bitvec_base.specs.WriteLaws.{length-write_at, range-write_at_before, range-write_at_after}

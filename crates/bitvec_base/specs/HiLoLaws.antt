@@ -6,8 +6,9 @@ use Rattle.std.proofs.Common.{arith, sym, ◌∙◌, ap, ⊎_elim, lit<}
 use Rattle.std.proofs.lemmas.Bool.Decides.{Decides-eqb, Decides-ltb, Decides-and, Decides-or, Decides-below_and}
 use Rattle.std.proofs.lemmas.Nat.{shr-shr, shr_split, pow_pos, div_below}
 use Rattle.std.proofs.lemmas.Nat.Bits.{same_from_bits, bit_at_and, bit_at_or, bit_at_xor, bit_at-lt, bit_at_cat_low, bit_at_cat_high}
-use Rattle.bitvec_base.specs.Order.{IsWidth, Permutes}
-use Rattle.bitvec_base.specs.OrderLaws.{at_each_width}
+use Rattle.bitvec_base.specs.Order.{Permutes}
+use Rattle.bitvec_store.specs.Width.{IsWidth}
+use Rattle.bitvec_store.specs.WidthLaws.{at_each_width}
 use Rattle.bitvec_base.specs.MemoryLaws.{bit_of_complement}
 
 -- the low half of each byte of b bits, as ones

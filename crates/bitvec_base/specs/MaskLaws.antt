@@ -10,7 +10,8 @@ use Rattle.std.specs.Int.Count.{ones}
 use Rattle.std.proofs.lemmas.List.FromFn.{sum_by-map-range_with_len_more}
 use Rattle.std.proofs.lemmas.Nat.{or_disjoint, or_lt, pow_below, ones_cat, shr_split, mod-pow-add, mod_below, pow_pos, and_shr, and_mod, or_shr, or_mod, div_below, pow-add, shl_whole}
 use Rattle.std.proofs.lemmas.Nat.Bits.{bit_at_and, bit_at_or, bit_at-lt, and_pow, bit_at-pow_same, bit_at-pow_other, bit_at-zero, same_from_bits_below, ones_shr, bit_at_mask_inside, bit_at_mask_below, bit_at_mask_above}
-use Rattle.bitvec_base.specs.Order.{IsWidth, Permutes, mask_of}
+use Rattle.bitvec_base.specs.Order.{Permutes, mask_of}
+use Rattle.bitvec_store.specs.Width.{IsWidth}
 use Rattle.bitvec_base.specs.OrderLaws.{Permutes-onto, lsb0_permutes, msb0_permutes}
 
 -- the bits of n indices, from the index `from` on

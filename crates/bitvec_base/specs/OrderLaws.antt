@@ -1,17 +1,9 @@
--- What holds at each width, that each bit of an element has an index, and why two of the orders are lawful.
+-- Each bit of an element has an index, and why two of the orders are lawful.
 use Rattle.std.specs.Prelude.{◌≡◌, ◌≢◌, ℕ, ◌-◌, ◌<◌, ◌⊎◌, zero, suc, min, max}
-use Rattle.std.proofs.Common.{arith, sym, subst, ⊎_elim, inl, inr, lit<}
+use Rattle.std.proofs.Common.{arith, ⊎_elim, inl, inr}
 use Rattle.std.proofs.lemmas.Bool.{cases_eq, cases_lt}
-use Rattle.bitvec_base.specs.Order.{IsWidth, Permutes}
-
--- what is true of each of the widths is true of a width
-pub at_each_width : (P : ℕ → Type 0) → P 8 → P 16 → P 32 → P 64 → (b : ℕ) → IsWidth b → P b
-at_each_width P p8 p16 p32 p64 b w =
-    ⊎_elim (λ e. subst P (sym e) p8) (⊎_elim (λ e. subst P (sym e) p16) (⊎_elim (λ e. subst P (sym e) p32) (λ e. subst P (sym e) p64))) w
-
--- a width is not 0
-pub width_some : (b : ℕ) → IsWidth b → 0 < b
-width_some b w = at_each_width (λ n. 0 < n) (lit< tt) (lit< tt) (lit< tt) (lit< tt) b w
+use Rattle.bitvec_base.specs.Order.{Permutes}
+use Rattle.bitvec_store.specs.Width.{IsWidth}
 
 pub lsb0_permutes : (b : ℕ) → IsWidth b → Permutes b (λ i. i)
 lsb0_permutes b w = record { below = λ i h. h; apart = λ i j h k e. e }

@@ -3,8 +3,9 @@ ghost use Rattle.std.specs.Prelude.{◌≡◌, ℕ, ◌-◌, ◌/◌, ◌^◌, �
 ghost use Rattle.std.specs.Int.{bit_at};
 ghost use Rattle.bitvec_base.specs.HiLoLaws.{hilo_permutes};
 
+use crate::BitOrder;
 use crate::ones::{ones, single};
-use crate::{BitOrder, BitStore};
+use bitvec_store::BitStore;
 
 /// The order in which index `i` is the bit whose number is `i` with the bit of weight 4 flipped:
 /// within each byte the high half comes first, and in a half the least significant bit.

@@ -8,8 +8,6 @@ mod ones;
 mod order;
 mod part;
 mod span_error;
-mod store;
-mod widths;
 mod window;
 
 pub use hi_lo::HiLo;
@@ -18,5 +16,4 @@ pub use msb0::Msb0;
 pub use order::BitOrder;
 pub use part::{Part, first_part, last_part};
 pub use span_error::BitSpanError;
-pub use store::BitStore;
 pub use window::{MAX_BITS, Window};

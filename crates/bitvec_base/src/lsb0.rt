@@ -1,8 +1,9 @@
 //! The order that counts from the least significant bit.
 ghost use Rattle.bitvec_base.specs.OrderLaws.{lsb0_permutes};
 
+use crate::BitOrder;
 use crate::ones::{ones, single};
-use crate::{BitOrder, BitStore};
+use bitvec_store::BitStore;
 
 /// The order in which index `i` is bit `i`: the least significant bit first, as in the crate.
 #[derive(Clone, Copy)]

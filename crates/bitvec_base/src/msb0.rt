@@ -2,8 +2,9 @@
 ghost use Rattle.std.specs.Prelude.{◌-◌};
 ghost use Rattle.bitvec_base.specs.OrderLaws.{msb0_permutes};
 
+use crate::BitOrder;
 use crate::ones::{ones, single};
-use crate::{BitOrder, BitStore};
+use bitvec_store::BitStore;
 
 /// The order in which index `i` is bit `BITS - 1 - i`: the most significant bit first, as in the
 /// crate.

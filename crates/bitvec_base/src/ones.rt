@@ -1,7 +1,7 @@
 //! Elements by the numbers of the bits that are 1 in them.
 ghost use Rattle.std.specs.Prelude.{◌≡◌, ◌-◌, ◌^◌, ◌<◌, ◌≤◌};
 
-use crate::BitStore;
+use bitvec_store::BitStore;
 
 /// The element whose one bit has this number.
 pub(crate) fn single<R: BitStore>(place: usize) -> R

@@ -1,8 +1,9 @@
 //! Bit orders: which bit of an element comes first.
 ghost use Rattle.std.specs.Prelude.{◌≡◌, ℕ, ◌^◌, ◌<◌, ◌≤◌};
-ghost use Rattle.bitvec_base.specs.Order.{IsWidth, Permutes, mask_of};
+ghost use Rattle.bitvec_base.specs.Order.{Permutes, mask_of};
+ghost use Rattle.bitvec_store.specs.Width.{IsWidth};
 
-use crate::BitStore;
+use bitvec_store::BitStore;
 
 /// An order of the bits of an element: the crate's `BitOrder`.
 ///

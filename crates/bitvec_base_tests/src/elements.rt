@@ -1,5 +1,5 @@
 //! The operations of `BitStore` by value, at each width.
-use bitvec_base::BitStore;
+use bitvec_store::BitStore;
 use std::process::Abort;
 
 /// What the operations are to give of two elements and a number of bits to move by.

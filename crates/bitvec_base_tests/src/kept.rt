@@ -1,11 +1,12 @@
 //! What a caller knows of the elements that a write of bits left out.
 ghost use Rattle.std.specs.Prelude.{◌≡◌, ℕ, ◌<◌, length, map, slice_index};
 ghost use Rattle.bitvec_base.specs.Memory.{memory_bits, element_bits};
-ghost use Rattle.bitvec_base.specs.Order.{FitWidth};
+ghost use Rattle.bitvec_store.specs.Width.{FitWidth};
 ghost use Rattle.bitvec_base.specs.Window.{write_at};
 
 use crate::accessors::set_first_to;
-use bitvec_base::{BitOrder, BitStore, HiLo};
+use bitvec_base::{BitOrder, HiLo};
+use bitvec_store::BitStore;
 
 /// Stores an element, and says so by bits alone.
 fn store_first<T: BitStore, O: BitOrder>(cells: &mut [T], element: T)

@@ -1,6 +1,7 @@
 //! The bit orders by value: `at`, `select` and `mask` at several widths.
 use crate::striding::Striding;
-use bitvec_base::{BitOrder, BitStore, HiLo, Lsb0, Msb0};
+use bitvec_base::{BitOrder, HiLo, Lsb0, Msb0};
+use bitvec_store::BitStore;
 use std::process::Abort;
 
 /// Each row is an index and the number of the bit that stands there.

@@ -2,7 +2,8 @@
 ghost use Rattle.bitvec_base_tests.specs.Striding.{striding};
 ghost use Rattle.bitvec_base_tests.specs.StridingLaws.{striding_permutes};
 
-use bitvec_base::{BitOrder, BitStore};
+use bitvec_base::BitOrder;
+use bitvec_store::BitStore;
 
 /// The order in which index `i` is bit `(3 * i + 1) % BITS`.
 pub struct Striding;

@@ -5,7 +5,7 @@ use Rattle.bitvec_base.specs.Memory.{element_bits}
 use Rattle.bitvec_base.specs.MemoryLaws.{length-element_bits}
 use Rattle.bitvec_base.specs.Window.{write_at}
 use Rattle.bitvec_base.specs.WriteLaws.{length-slice_range, range-write_at}
-use Rattle.bitvec_base.specs.declared.store.BitStore.{Ghosts as Store}
+use Rattle.bitvec_store.specs.declared.store.BitStore.{Ghosts as Store}
 use Rattle.bitvec_base.specs.declared.order.BitOrder.{Ghosts as Order}
 use Rattle.bitvec_domain.specs.Parts.{WritesPart, bits_of_part_mut}
 use Rattle.bitvec_domain.specs.declared.part_mut.PartialElementMut.{PartialElementMut}

@@ -8,7 +8,7 @@ use Rattle.bitvec_base.specs.Parts.{part_window}
 use Rattle.bitvec_base.specs.PartLaws.{part-range}
 use Rattle.bitvec_base.specs.SliceLaws.{range-map, range-same}
 use Rattle.bitvec_base.specs.Window.{window_of}
-use Rattle.bitvec_base.specs.declared.store.BitStore.{Ghosts as Store}
+use Rattle.bitvec_store.specs.declared.store.BitStore.{Ghosts as Store}
 use Rattle.bitvec_base.specs.declared.order.BitOrder.{Ghosts as Order}
 use Rattle.bitvec_domain.specs.Cuts.{cut_of, IsCutWithin, IsPartWithin, IsHeadWithin, IsTailWithin}
 use Rattle.bitvec_domain.specs.Domains.{IsPartIf, IsDomain, bits_of_part_if, bits_of_domain, IsPartIfMut, IsDomainMut, bits_of_part_if_mut, bits_of_domain_mut}

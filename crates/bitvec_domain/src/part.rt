@@ -4,7 +4,8 @@ ghost use Rattle.bitvec_base.specs.Memory.{element_bits};
 ghost use Rattle.bitvec_base.specs.Order.{mask_of};
 ghost use Rattle.bitvec_base.specs.Window.{write_at};
 
-use bitvec_base::{BitOrder, BitStore};
+use bitvec_base::BitOrder;
+use bitvec_store::BitStore;
 use std::marker::PhantomData;
 
 /// Bits of one element that is borrowed for reading: the crate's `PartialElement` over a shared

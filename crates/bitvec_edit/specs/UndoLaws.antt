@@ -7,7 +7,7 @@ use Rattle.bitvec_base.specs.Lists.{rotated_left, rotated_right}
 use Rattle.bitvec_base.specs.RotationLaws.{rotated_right-undoes}
 use Rattle.bitvec_base.specs.Window.{write_window}
 use Rattle.bitvec_base.specs.WindowLaws.{window-rewritten, window-kept}
-use Rattle.bitvec_base.specs.declared.store.BitStore.{Ghosts as Store}
+use Rattle.bitvec_store.specs.declared.store.BitStore.{Ghosts as Store}
 use Rattle.bitvec_base.specs.declared.order.BitOrder.{Ghosts as Order}
 use Rattle.bitvec_slice.specs.Views.{bits_of_mut, memory_of_mut, window_in_mut}
 use Rattle.bitvec_slice.specs.ViewLaws.{length-bits_of_mut, within_memory_mut}

@@ -8,8 +8,9 @@ ghost use Rattle.bitvec_engine.specs.declared.combining.BitOp.TheVariants.{And, 
 ghost use Rattle.bitvec_slice.specs.Views.{bits_of, bits_of_mut, window_in, window_in_mut};
 ghost use Rattle.bitvec_slice.specs.Writes.{WritesBits};
 
-use bitvec_base::{BitOrder, BitStore};
+use bitvec_base::BitOrder;
 use bitvec_slice::{BitSlice, BitSliceMut};
+use bitvec_store::BitStore;
 use std::ops::Range;
 
 /// The crate's edits of a `&mut BitSlice` that move its bits, take those of another view, which may

@@ -5,7 +5,8 @@ ghost use Rattle.bitvec_slice.specs.Views.{bits_of, bits_of_mut, window_in_mut};
 ghost use Rattle.bitvec_slice.specs.Writes.{WritesBits};
 
 use crate::BitEdits;
-use bitvec_base::{BitOrder, BitStore};
+use bitvec_base::BitOrder;
+use bitvec_store::BitStore;
 use bitvec_elements::{
     combine_in, copy_from_in, copy_within_in, fill_with_in, for_each_in, replace_in, reverse_in,
     rotate_left_in, rotate_right_in, shift_end_in, shift_start_in, swap_in, swap_with_in,

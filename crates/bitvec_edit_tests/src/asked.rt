@@ -7,10 +7,11 @@ use crate::laws::{
     filled_by, filled_by_count, filled_with_even, inverted_twice, refilled_by, reversed_twice,
     rotated_back,
 };
-use bitvec_base::{BitStore, HiLo, Lsb0, Msb0};
+use bitvec_base::{HiLo, Lsb0, Msb0};
 use bitvec_edit::BitEdits;
 use bitvec_engine::SliceOrder;
 use bitvec_slice::BitSliceMut;
+use bitvec_store::BitStore;
 
 /// Gives the first five bits, if there are as many, the bit that differs from whether the index is
 /// 0.

@@ -1,12 +1,13 @@
 //! What a caller knows of the elements that an edit of a view left out.
 ghost use Rattle.std.specs.Prelude.{◌≡◌, ℕ, ◌+◌, ◌-◌, ◌*◌, ◌≤◌, ◌⊎◌, length, map, replicate, slice_index, true};
 ghost use Rattle.bitvec_base.specs.Memory.{memory_bits};
-ghost use Rattle.bitvec_base.specs.Order.{FitWidth};
+ghost use Rattle.bitvec_store.specs.Width.{FitWidth};
 ghost use Rattle.bitvec_base.specs.Window.{max_bits, write_at};
 ghost use Rattle.bitvec_slice.specs.Indices.{HasRange};
 
-use bitvec_base::{BitOrder, BitStore, Lsb0};
+use bitvec_base::{BitOrder, Lsb0};
 use bitvec_slice::{BitSliceIndex, BitSliceMut};
+use bitvec_store::BitStore;
 use std::ops::Range;
 
 /// Fills the bits of a range, through a view of it, and gives the elements back.

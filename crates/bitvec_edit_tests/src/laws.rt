@@ -5,10 +5,11 @@ ghost use Rattle.bitvec_base.specs.Memory.{memory_bits};
 ghost use Rattle.bitvec_base.specs.Window.{max_bits};
 ghost use Rattle.bitvec_elements.specs.Asked.{FillsWith, RefillsWith};
 
-use bitvec_base::{BitOrder, BitStore};
+use bitvec_base::BitOrder;
 use bitvec_edit::BitEdits;
 use bitvec_engine::SliceOrder;
 use bitvec_slice::BitSliceMut;
+use bitvec_store::BitStore;
 
 /// Reverses all bits of the elements twice: they are as before.
 pub fn reversed_twice<T: BitStore, O: SliceOrder>(elements: &mut [T]) -> &mut [T]

@@ -3,10 +3,11 @@
 ghost use Rattle.std.specs.Prelude.{◌*◌, ◌≤◌, length};
 ghost use Rattle.bitvec_base.specs.Window.{max_bits};
 
-use bitvec_base::{BitStore, Lsb0, Msb0};
+use bitvec_base::{Lsb0, Msb0};
 use bitvec_edit::BitEdits;
 use bitvec_engine::SliceOrder;
 use bitvec_slice::BitSliceMut;
+use bitvec_store::BitStore;
 
 /// Rotates the first five bits, if there are as many, by two places to the left, and by as many to
 /// the right if `back`.

@@ -2,10 +2,11 @@
 ghost use Rattle.std.specs.Prelude.{◌*◌, ◌≤◌, length};
 ghost use Rattle.bitvec_base.specs.Window.{max_bits};
 
-use bitvec_base::{BitOrder, BitStore, Lsb0, Msb0};
+use bitvec_base::{BitOrder, Lsb0, Msb0};
 use bitvec_edit::BitEdits;
 use bitvec_engine::SliceOrder;
 use bitvec_slice::{BitSlice, BitSliceMut};
+use bitvec_store::BitStore;
 
 /// Exchanges the bits 3 to 9 of the one with the bits 0 to 6 of the other.
 fn swap_seven(elements: &mut [u8], others: &mut [u8])

@@ -3,9 +3,10 @@ ghost use Rattle.std.specs.Prelude.{◌≡◌, ◌<◌, false, map, slice_index_
 ghost use Rattle.std.specs.List.{swap};
 ghost use Rattle.bitvec_base.specs.Memory.{Edits, HasWindow, list_in};
 
-use bitvec_base::{BitOrder, BitStore, Window};
+use bitvec_base::{BitOrder, Window};
 use bitvec_cells::{Exclusive, Shared};
 use bitvec_engine::{get_bit, replace_bit, swap_bits};
+use bitvec_store::BitStore;
 
 /// The bit at an index of a window. Condition: the memory has at most `MAX_BITS` bits, the window
 /// lies in it, and the index is below the window's length.

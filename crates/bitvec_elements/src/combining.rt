@@ -4,9 +4,10 @@ ghost use Rattle.bitvec_base.specs.Lists.{combined};
 ghost use Rattle.bitvec_base.specs.Memory.{HasWindow, Writes, list_in};
 ghost use Rattle.bitvec_engine.specs.Operator.{operator};
 
-use bitvec_base::{BitOrder, BitStore, Window};
+use bitvec_base::{BitOrder, Window};
 use bitvec_cells::{Exclusive, Shared};
 use bitvec_engine::{BitOp, SliceOrder, bits_op};
+use bitvec_store::BitStore;
 
 /// Replaces each bit of the left window by what the operator makes of it and the one at its index in
 /// the right window, of elements of any type and order, which counts as 0 past that window's end.

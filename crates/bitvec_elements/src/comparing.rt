@@ -5,9 +5,10 @@ ghost use Rattle.std.specs.Ordering.{bool_cmp};
 ghost use Rattle.bitvec_base.specs.Lists.{same_bits};
 ghost use Rattle.bitvec_base.specs.Memory.{HasWindow, list_in};
 
-use bitvec_base::{BitOrder, BitStore, Window};
+use bitvec_base::{BitOrder, Window};
 use bitvec_cells::Shared;
 use bitvec_engine::{bits_eq, compare};
+use bitvec_store::BitStore;
 use std::cmp::Ordering;
 
 /// Whether two windows have the same bits. Condition: each memory has at most `MAX_BITS` bits, and

@@ -2,9 +2,10 @@
 ghost use Rattle.std.specs.Prelude.{◌≡◌, map};
 ghost use Rattle.bitvec_base.specs.Memory.{HasWindow, Writes, list_in};
 
-use bitvec_base::{BitOrder, BitStore, Window};
+use bitvec_base::{BitOrder, Window};
 use bitvec_cells::{Exclusive, Shared};
 use bitvec_engine::{SliceOrder, bits_copy};
+use bitvec_store::BitStore;
 
 /// Copies the bits of the right window, of elements of any type and order. Condition: each memory
 /// has at most `MAX_BITS` bits, each window lies in its memory, and the windows are as long.

@@ -3,9 +3,10 @@ ghost use Rattle.std.specs.Prelude.{map};
 ghost use Rattle.bitvec_base.specs.Lists.{FitsWithin, copied_within};
 ghost use Rattle.bitvec_base.specs.Memory.{Edits, HasWindow};
 
-use bitvec_base::{BitStore, Window};
+use bitvec_base::Window;
 use bitvec_cells::Exclusive;
 use bitvec_engine::SliceOrder;
+use bitvec_store::BitStore;
 use std::ops::Range;
 
 /// Copies the bits of a range of a window to `dest` on, also where they overlap. Condition: the

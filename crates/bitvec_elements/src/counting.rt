@@ -2,9 +2,10 @@
 ghost use Rattle.std.specs.Prelude.{◌≡◌, count_by, map};
 ghost use Rattle.bitvec_base.specs.Memory.{HasWindow, list_in};
 
-use bitvec_base::{BitOrder, BitStore, Window};
+use bitvec_base::{BitOrder, Window};
 use bitvec_cells::Shared;
 use bitvec_engine::count;
+use bitvec_store::BitStore;
 
 /// How many bits of a window are 1. Condition: the memory has at most `MAX_BITS` bits, and the
 /// window lies in it.

@@ -2,9 +2,10 @@
 ghost use Rattle.std.specs.Prelude.{map, not, replicate};
 ghost use Rattle.bitvec_base.specs.Memory.{Edits, HasWindow, Writes};
 
-use bitvec_base::{BitOrder, BitStore, Window};
+use bitvec_base::{BitOrder, Window};
 use bitvec_cells::Exclusive;
 use bitvec_engine::{fill, invert};
+use bitvec_store::BitStore;
 
 /// Makes each bit of a window `bit`. Condition: the memory has at most `MAX_BITS` bits, and the
 /// window lies in it.

@@ -2,9 +2,10 @@
 ghost use Rattle.std.specs.Prelude.{map, reverse as reversed};
 ghost use Rattle.bitvec_base.specs.Memory.{Edits, HasWindow};
 
-use bitvec_base::{BitStore, Window};
+use bitvec_base::Window;
 use bitvec_cells::Exclusive;
 use bitvec_engine::{SliceOrder, reverse};
+use bitvec_store::BitStore;
 
 /// Reverses the bits of a window, as the order does it. Condition: the memory has at most
 /// `MAX_BITS` bits, and the window lies in it.

@@ -4,9 +4,10 @@ ghost use Rattle.std.specs.List.{list_all, list_any};
 ghost use Rattle.bitvec_base.specs.Lists.{first_place, last_place};
 ghost use Rattle.bitvec_base.specs.Memory.{HasWindow, list_in};
 
-use bitvec_base::{BitStore, Window};
+use bitvec_base::Window;
 use bitvec_cells::Shared;
 use bitvec_engine::{SliceOrder, all, any};
+use bitvec_store::BitStore;
 
 /// The index of a window's first bit that is `want`, if there is one. Condition: the memory has at
 /// most `MAX_BITS` bits, and the window lies in it.

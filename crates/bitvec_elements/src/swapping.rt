@@ -2,9 +2,10 @@
 ghost use Rattle.std.specs.Prelude.{◌≡◌, map};
 ghost use Rattle.bitvec_base.specs.Memory.{HasWindow, Writes, list_in};
 
-use bitvec_base::{BitOrder, BitStore, Window};
+use bitvec_base::{BitOrder, Window};
 use bitvec_cells::Exclusive;
 use bitvec_engine::{SliceOrder, bits_swap};
+use bitvec_store::BitStore;
 
 /// Exchanges the bits of two windows, of elements of any types and orders. Condition: each memory
 /// has at most `MAX_BITS` bits, each window lies in its memory, and the windows are as long.

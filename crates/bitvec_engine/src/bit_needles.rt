@@ -5,8 +5,9 @@ ghost use Rattle.bitvec_base.specs.Lists.{is_prefix, is_suffix, stands_in};
 ghost use Rattle.bitvec_base.specs.Memory.{HasWindow, list_in};
 
 use crate::comparing::bits_eq;
-use bitvec_base::{BitOrder, BitStore, Window};
+use bitvec_base::{BitOrder, Window};
 use bitvec_cells::CellsRead;
+use bitvec_store::BitStore;
 
 /// Whether the needle's bits begin those of the window. Condition: as of [`starts_with`].
 ///

@@ -5,8 +5,9 @@ ghost use Rattle.bitvec_base.specs.Memory.{HasWindow, Writes, list_in};
 ghost use Rattle.bitvec_cells.specs.Access.{Costs, OnlyReads};
 ghost use Rattle.bitvec_engine.specs.Operator.{operator};
 
-use bitvec_base::{BitOrder, BitStore, Window};
+use bitvec_base::{BitOrder, Window};
 use bitvec_cells::{Cells, CellsRead};
+use bitvec_store::BitStore;
 use bitvec_walk::{get_bit, replace_bit};
 
 /// What is made of two bits.

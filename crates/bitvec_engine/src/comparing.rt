@@ -6,8 +6,9 @@ ghost use Rattle.bitvec_base.specs.Lists.{same_bits};
 ghost use Rattle.bitvec_base.specs.Memory.{HasWindow, list_in};
 ghost use Rattle.bitvec_cells.specs.Access.{OnlyReadsAtMost};
 
-use bitvec_base::{BitOrder, BitStore, Window};
+use bitvec_base::{BitOrder, Window};
 use bitvec_cells::CellsRead;
+use bitvec_store::BitStore;
 use bitvec_walk::get_bit;
 use std::cmp::Ordering;
 

@@ -4,8 +4,9 @@ ghost use Rattle.bitvec_base.specs.Lists.{FitsWithin, copied_within};
 ghost use Rattle.bitvec_base.specs.Memory.{Edits, HasWindow, Writes, list_in};
 ghost use Rattle.bitvec_cells.specs.Access.{Costs};
 
-use bitvec_base::{BitOrder, BitStore, Window};
+use bitvec_base::{BitOrder, Window};
 use bitvec_cells::{Cells, CellsRead};
+use bitvec_store::BitStore;
 use bitvec_walk::{get_bit, replace_bit};
 
 /// Copies one bit of a window to another place of it.

@@ -4,8 +4,9 @@ ghost use Rattle.bitvec_base.specs.Memory.{HasWindow, list_in};
 ghost use Rattle.bitvec_cells.specs.Access.{OnlyReads};
 ghost use Rattle.bitvec_walk.specs.Cost.{touched};
 
-use bitvec_base::{BitOrder, BitStore, Window, first_part};
+use bitvec_base::{BitOrder, Window, first_part};
 use bitvec_cells::CellsRead;
+use bitvec_store::BitStore;
 use bitvec_walk::count_part;
 
 /// How many bits of a window are 1. Condition: the memory has at most `MAX_BITS` bits, and the

@@ -4,8 +4,9 @@ ghost use Rattle.bitvec_base.specs.Memory.{Edits, HasWindow, Writes};
 ghost use Rattle.bitvec_cells.specs.Access.{Costs, CostsAtMost};
 ghost use Rattle.bitvec_walk.specs.Cost.{fill_loads, touched};
 
-use bitvec_base::{BitOrder, BitStore, Window, first_part};
+use bitvec_base::{BitOrder, Window, first_part};
 use bitvec_cells::{Cells, CellsRead};
+use bitvec_store::BitStore;
 use bitvec_walk::{fill_part, invert_part};
 
 /// Makes each bit of a window `bit`; all other bits of the memory stay. Condition: the memory has

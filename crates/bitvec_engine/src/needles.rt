@@ -6,8 +6,9 @@ ghost use Rattle.bitvec_cells.specs.Access.{OnlyReadsAtMost};
 ghost use Rattle.bitvec_walk.specs.Cost.{needle_loads};
 
 use crate::slice_order::SliceOrder;
-use bitvec_base::{BitStore, Window};
+use bitvec_base::Window;
 use bitvec_cells::CellsRead;
+use bitvec_store::BitStore;
 
 /// Whether the needle's bits begin those of the window: `starts_with` of the crate. Condition: each
 /// memory has at most `MAX_BITS` bits, and each window lies in its memory. It takes one equality of

@@ -5,8 +5,9 @@ ghost use Rattle.bitvec_cells.specs.Access.{CostsAtMost};
 ghost use Rattle.bitvec_walk.specs.Cost.{reverse_loads, reverse_stores};
 
 use crate::slice_order::SliceOrder;
-use bitvec_base::{BitOrder, BitStore, Window};
+use bitvec_base::{BitOrder, Window};
 use bitvec_cells::{Cells, CellsRead};
+use bitvec_store::BitStore;
 use bitvec_walk::swap_bits;
 
 /// Reverses the bits of a window, going bit by bit; all other bits of the memory stay: `reverse`

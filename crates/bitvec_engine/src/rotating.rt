@@ -7,8 +7,9 @@ ghost use Rattle.bitvec_cells.specs.Access.{CostsAtMost};
 ghost use Rattle.bitvec_walk.specs.Cost.{reverse_loads, reverse_stores, rotate_loads, rotate_stores};
 
 use crate::slice_order::SliceOrder;
-use bitvec_base::{BitStore, Window};
+use bitvec_base::Window;
 use bitvec_cells::{Cells, CellsRead};
+use bitvec_store::BitStore;
 
 /// Reverses the bits `from..to` of a window.
 fn reverse_range<O: SliceOrder, C: Cells>(cells: &mut C, window: Window, from: usize, to: usize)

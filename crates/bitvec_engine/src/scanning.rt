@@ -7,8 +7,9 @@ ghost use Rattle.bitvec_cells.specs.Access.{OnlyReadsAtMost};
 ghost use Rattle.bitvec_walk.specs.Cost.{first_loads, last_loads, touched};
 
 use crate::slice_order::SliceOrder;
-use bitvec_base::{BitOrder, BitStore, Window, first_part, last_part};
+use bitvec_base::{BitOrder, Window, first_part, last_part};
 use bitvec_cells::CellsRead;
+use bitvec_store::BitStore;
 use bitvec_walk::{first_in_part, last_in_part};
 
 /// The index of a window's first bit that is `want`, if there is one. Condition: the memory has at

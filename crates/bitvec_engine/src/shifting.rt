@@ -7,8 +7,9 @@ ghost use Rattle.bitvec_walk.specs.Cost.{edit_loads, fill_loads, touched, write_
 
 use crate::filling::fill;
 use crate::slice_order::SliceOrder;
-use bitvec_base::{BitStore, Window};
+use bitvec_base::Window;
 use bitvec_cells::{Cells, CellsRead};
+use bitvec_store::BitStore;
 
 /// Shifts the bits of a window by `by` places towards its start: the first `by` are lost, and as
 /// many zeros follow the others; all other bits of the memory stay. It is `shift_start` of the

@@ -8,8 +8,9 @@ ghost use Rattle.bitvec_walk.specs.Cost.{edit_loads, equal_loads, first_loads, l
 
 use crate::combining::BitOp;
 use crate::scanning::{bits_scan_first, bits_scan_last};
-use bitvec_base::{BitOrder, BitStore, Window};
+use bitvec_base::{BitOrder, Window};
 use bitvec_cells::{Cells, CellsRead};
+use bitvec_store::BitStore;
 
 /// A bit order with its way of working on whole windows.
 ///

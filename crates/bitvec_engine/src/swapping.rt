@@ -3,8 +3,9 @@ ghost use Rattle.std.specs.Prelude.{◌≡◌, ◌*◌};
 ghost use Rattle.bitvec_base.specs.Memory.{HasWindow, Writes, list_in};
 ghost use Rattle.bitvec_cells.specs.Access.{Costs};
 
-use bitvec_base::{BitOrder, BitStore, Window};
+use bitvec_base::{BitOrder, Window};
 use bitvec_cells::{Cells, CellsRead};
+use bitvec_store::BitStore;
 use bitvec_walk::{get_bit, replace_bit};
 
 /// Exchanges the bits of two windows of two memories, of any element widths and orders. Condition:

@@ -2,7 +2,8 @@
 ghost use Rattle.std.specs.Prelude.{◌≡◌, ◌↔◌, IfOk, IsTrue, map};
 ghost use Rattle.bitvec_base.specs.Memory.{memory_bits};
 
-use bitvec_base::{BitOrder, BitStore};
+use bitvec_base::BitOrder;
+use bitvec_store::BitStore;
 use std::alloc::{AllocError, Allocator};
 
 /// The bits of a memory, place by place. Err: out of memory.

@@ -7,7 +7,8 @@ ghost use Rattle.bitvec_base.specs.Lists.{first_place, is_prefix, is_suffix, las
 ghost use Rattle.bitvec_slice.specs.Views.{bits_of};
 
 use crate::runs::{before_first, behind_last};
-use bitvec_base::{BitOrder, BitStore};
+use bitvec_base::BitOrder;
+use bitvec_store::BitStore;
 use bitvec_elements::{
     all_in, any_in, compare_in, contains_in, count_in, ends_with_in, eq_in, first_in, last_in,
     starts_with_in,

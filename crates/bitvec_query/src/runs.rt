@@ -4,10 +4,10 @@ ghost use Rattle.std.specs.Bool.{beq};
 ghost use Rattle.std.specs.List.{prefix_len, suffix_len};
 ghost use Rattle.bitvec_slice.specs.Views.{bits_of};
 
-use bitvec_base::BitStore;
 use bitvec_elements::{first_in, last_in};
 use bitvec_engine::SliceOrder;
 use bitvec_slice::BitSlice;
+use bitvec_store::BitStore;
 
 /// How many bits stand before the first that is `end`, or in all if none is.
 pub(crate) fn before_first<T: BitStore, O: SliceOrder>(view: BitSlice<'_, T, O>, end: bool) -> usize

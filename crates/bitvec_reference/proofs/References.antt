@@ -5,7 +5,7 @@ use Rattle.bitvec_base.specs.Memory.{HasWindow, Writes, list_in, memory_bits}
 use Rattle.bitvec_base.specs.Window.{window_of}
 use Rattle.bitvec_base.specs.WindowLaws.{get-window}
 use Rattle.bitvec_base.specs.WritesLaws.{Writes-holds, Writes-is, length-list}
-use Rattle.bitvec_base.specs.declared.store.BitStore.{Ghosts as Store}
+use Rattle.bitvec_store.specs.declared.store.BitStore.{Ghosts as Store}
 use Rattle.bitvec_base.specs.declared.order.BitOrder.{Ghosts as Order}
 use Rattle.bitvec_reference.specs.Places.{bit_window}
 use Rattle.bitvec_reference.specs.References.{WritesBit, bit_of_ref_mut, memory_of_ref_mut}

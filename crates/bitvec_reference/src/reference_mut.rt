@@ -3,8 +3,9 @@ ghost use Rattle.std.specs.Prelude.{◌≡◌, [], ◌∷◌, false, map, slice_
 ghost use Rattle.bitvec_base.specs.Memory.{HasWindow, Writes, memory_bits};
 ghost use Rattle.bitvec_reference.specs.Places.{bit_window};
 
-use bitvec_base::{BitOrder, BitStore, Window};
+use bitvec_base::{BitOrder, Window};
 use bitvec_elements::{bit_in, replace_in, set_in};
+use bitvec_store::BitStore;
 use std::marker::PhantomData;
 use std::ops::Deref;
 

@@ -6,8 +6,9 @@ ghost use Rattle.bitvec_run.specs.Follows.{Follows};
 ghost use Rattle.bitvec_run.specs.Groups.{Edit, FitsList, Move, group};
 
 use crate::{Op, Reply};
-use bitvec_base::{BitStore, Window};
+use bitvec_base::Window;
 use bitvec_cells::Cells;
+use bitvec_store::BitStore;
 use bitvec_engine::{
     SliceOrder, fill, invert, replace_bit, rotate_left, rotate_right, shift_end, shift_start,
     swap_bits,

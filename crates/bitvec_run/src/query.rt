@@ -6,9 +6,10 @@ ghost use Rattle.bitvec_run.specs.Follows.{Follows};
 ghost use Rattle.bitvec_run.specs.Groups.{FitsList, Query, group};
 
 use crate::{Op, Reply};
-use bitvec_base::{BitStore, Window};
+use bitvec_base::Window;
 use bitvec_cells::CellsRead;
 use bitvec_engine::{SliceOrder, all, any, count, count_zeros, get_bit};
+use bitvec_store::BitStore;
 
 /// A query about the list that a window holds, whatever the right list. Condition: the memory has
 /// at most `MAX_BITS` bits, the window lies in it, and the index that is named in its list.

@@ -8,9 +8,10 @@ ghost use Rattle.bitvec_run.specs.Groups.{Combine, Compare, FitsList, FitsRight,
 ghost use Rattle.bitvec_run.specs.Runs.{window_inside};
 
 use crate::{Op, Reply};
-use bitvec_base::{BitStore, Window};
+use bitvec_base::Window;
 use bitvec_cells::{Cells, CellsRead};
 use bitvec_engine::{BitOp, SliceOrder, contains, ends_with, starts_with};
+use bitvec_store::BitStore;
 
 /// An edit of the list that a window holds, by bits of the right list, which `source` holds.
 /// Condition: each memory has at most `MAX_BITS` bits, each window lies in its memory, the right

@@ -8,9 +8,10 @@ ghost use Rattle.bitvec_run.specs.Runs.{CanRun, step_cost, step_list, step_reply
 
 use crate::step::step;
 use crate::{Reply, RunError, Step};
-use bitvec_base::{BitStore, Window};
+use bitvec_base::Window;
 use bitvec_cells::{Cells, CellsRead, fits_max_bits, has_window};
 use bitvec_engine::SliceOrder;
+use bitvec_store::BitStore;
 use std::alloc::Allocator;
 
 /// Runs commands through a window of a memory.

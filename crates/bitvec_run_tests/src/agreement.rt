@@ -4,10 +4,11 @@ ghost use Rattle.std.specs.Prelude.{◌^◌, ◌<◌};
 use crate::own_order::Scattered;
 use crate::slices::run_in;
 use crate::steps::{edits, moves, queries, right_commands};
-use bitvec_base::{BitStore, HiLo, Lsb0, Msb0};
+use bitvec_base::{HiLo, Lsb0, Msb0};
 use bitvec_engine::SliceOrder;
 use bitvec_plain::{bits_of_elements, plain_run, same_bits};
 use bitvec_run::{Step, Window};
+use bitvec_store::BitStore;
 use std::process::Abort;
 use std::test::Fail;
 

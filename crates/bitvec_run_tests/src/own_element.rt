@@ -3,7 +3,7 @@ ghost use Rattle.std.specs.Prelude.{◌≡◌, ◌-◌, ◌^◌, refl};
 ghost use Rattle.std.proofs.Common.{rules};
 
 use crate::rows::check_four_nibbles;
-use bitvec_base::BitStore;
+use bitvec_store::BitStore;
 use std::test::Fail;
 
 /// A register of 16 bits.

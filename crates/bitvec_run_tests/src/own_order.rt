@@ -6,8 +6,9 @@ ghost use Rattle.bitvec_run_tests.specs.Scattered.{scattered};
 ghost use Rattle.bitvec_run_tests.specs.ScatteredLaws.{scattered_permutes};
 
 use crate::slices::{run_in, step};
-use bitvec_base::{BitOrder, BitStore};
+use bitvec_base::BitOrder;
 use bitvec_cells::{Cells, CellsRead};
+use bitvec_store::BitStore;
 use bitvec_engine::{
     BitOp, SliceOrder, bits_copy, bits_copy_within, bits_eq, bits_op, bits_reverse, bits_swap,
 };

@@ -1,8 +1,9 @@
 //! Worked rows: what a run replies, and the memory that it leaves.
 use crate::slices::{FOUR_NIBBLES_REPLIES, four_nibbles, run_in, step};
-use bitvec_base::{BitStore, HiLo, Lsb0};
+use bitvec_base::{HiLo, Lsb0};
 use bitvec_engine::SliceOrder;
 use bitvec_run::{Op, Refusal, Reply, Step, Window};
+use bitvec_store::BitStore;
 use std::process::Abort;
 use std::test::Fail;
 

@@ -4,10 +4,10 @@ ghost use Rattle.bitvec_base.specs.Memory.{Writes, list_in, memory_bits};
 ghost use Rattle.bitvec_run.specs.Fold.{list_after, replies_of};
 ghost use Rattle.bitvec_run.specs.Runs.{step_list, step_reply};
 
-use bitvec_base::BitStore;
 use bitvec_cells::{Exclusive, Shared};
 use bitvec_engine::SliceOrder;
 use bitvec_run::{Op, Reply, RunError, Step, Window, run};
+use bitvec_store::BitStore;
 use std::alloc::Allocator;
 
 /// A bit set in each of four nibbles, and their count.

@@ -11,7 +11,7 @@ use Rattle.bitvec_base.specs.Window.{window_of}
 use Rattle.bitvec_base.specs.WriteLaws.{length-slice_range, range-range}
 use Rattle.bitvec_base.specs.declared.part.Part.{Part}
 use Rattle.bitvec_base.specs.declared.window.Window.{Window}
-use Rattle.bitvec_base.specs.declared.store.BitStore.{Ghosts as Store}
+use Rattle.bitvec_store.specs.declared.store.BitStore.{Ghosts as Store}
 use Rattle.bitvec_base.specs.declared.order.BitOrder.{Ghosts as Order}
 use Rattle.bitvec_domain.specs.CutLaws.{cut_bits, cut_is, cut_within, memory-range, part_bits_if}
 use Rattle.bitvec_domain.specs.Cuts.{IsCutWithin, IsHeadWithin, IsPartWithin, IsTailWithin, cut_of, part_if_from}

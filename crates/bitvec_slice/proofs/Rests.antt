@@ -2,7 +2,7 @@
 use Rattle.std.specs.Prelude.{◌≡◌, ℕ}
 use Rattle.std.proofs.Common.{arith, sym, ◌∙◌}
 use Rattle.bitvec_base.specs.SliceLaws.{range-from_start, range-to_end}
-use Rattle.bitvec_base.specs.declared.store.BitStore.{Ghosts as Store}
+use Rattle.bitvec_store.specs.declared.store.BitStore.{Ghosts as Store}
 use Rattle.bitvec_base.specs.declared.order.BitOrder.{Ghosts as Order}
 use Rattle.bitvec_slice.specs.Indices.{IsFrontOf, IsRangeOf, IsRestOf, seen}
 use Rattle.bitvec_slice.specs.ViewLaws.{length-bits_of}

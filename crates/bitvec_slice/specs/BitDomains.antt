@@ -1,7 +1,7 @@
 -- What the parts of a view that is cut at the edges of elements are.
 use Rattle.std.specs.Prelude.{◌+◌, ◌-◌, ◌*◌, Bool, List, [], ◌++◌, Option, None, Some, slice_range}
 use Rattle.bitvec_base.specs.declared.part.Part.{Part}
-use Rattle.bitvec_base.specs.declared.store.BitStore.{Ghosts as Store}
+use Rattle.bitvec_store.specs.declared.store.BitStore.{Ghosts as Store}
 use Rattle.bitvec_base.specs.declared.order.BitOrder.{Ghosts as Order}
 use Rattle.bitvec_slice.specs.Views.{bits_of, bits_of_mut}
 use Rattle.bitvec_slice.specs.Wholes.{IsView, IsViewMut}

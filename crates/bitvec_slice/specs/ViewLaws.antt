@@ -9,7 +9,7 @@ use Rattle.bitvec_base.specs.SliceLaws.{range-all}
 use Rattle.bitvec_base.specs.Window.{IsWithin, window_of}
 use Rattle.bitvec_base.specs.WindowLaws.{length-window, part-of_window}
 use Rattle.bitvec_base.specs.WritesLaws.{within-list}
-use Rattle.bitvec_base.specs.declared.store.BitStore.{Ghosts as Store}
+use Rattle.bitvec_store.specs.declared.store.BitStore.{Ghosts as Store}
 use Rattle.bitvec_base.specs.declared.order.BitOrder.{Ghosts as Order}
 use Rattle.bitvec_slice.specs.Indices.{IsRangeOf, IsRangeOfMut, seen, seen_mut}
 use Rattle.bitvec_slice.specs.Views.{bits_of, memory_of, window_in, bits_of_mut, memory_of_mut, name_of_mut, window_in_mut}

@@ -2,7 +2,7 @@
 use Rattle.std.specs.Prelude.{◌≡◌, ℕ, ◌*◌, List, [], length, map}
 use Rattle.std.specs.Borrow.{GName}
 use Rattle.bitvec_base.specs.Memory.{memory_bits}
-use Rattle.bitvec_base.specs.declared.store.BitStore.{Ghosts as Store}
+use Rattle.bitvec_store.specs.declared.store.BitStore.{Ghosts as Store}
 use Rattle.bitvec_base.specs.declared.order.BitOrder.{Ghosts as Order}
 use Rattle.bitvec_slice.specs.Views.{bits_of, bits_of_mut, elements_of, elements_of_mut, memory_of_mut, name_of_mut, window_in, window_in_mut}
 use Rattle.bitvec_slice.specs.declared.view.BitSlice.{BitSlice}

@@ -6,7 +6,7 @@ use Rattle.bitvec_base.specs.Memory.{Writes, memory_bits}
 use Rattle.bitvec_base.specs.Window.{window_of, write_window}
 use Rattle.bitvec_base.specs.WindowLaws.{window-written}
 use Rattle.bitvec_base.specs.WriteLaws.{drop-write_at, take-write_at}
-use Rattle.bitvec_base.specs.declared.store.BitStore.{Ghosts as Store}
+use Rattle.bitvec_store.specs.declared.store.BitStore.{Ghosts as Store}
 use Rattle.bitvec_base.specs.declared.order.BitOrder.{Ghosts as Order}
 use Rattle.bitvec_slice.specs.Lending.{with_elements}
 use Rattle.bitvec_slice.specs.Views.{bits_of_mut, memory_of_mut, outside_of_mut, phase_of_mut, window_in_mut}

@@ -1,7 +1,7 @@
 -- What a call that writes a view leaves.
 use Rattle.std.specs.Prelude.{◌≡◌, Bool, List, length}
 use Rattle.bitvec_base.specs.Window.{write_window}
-use Rattle.bitvec_base.specs.declared.store.BitStore.{Ghosts as Store}
+use Rattle.bitvec_store.specs.declared.store.BitStore.{Ghosts as Store}
 use Rattle.bitvec_base.specs.declared.order.BitOrder.{Ghosts as Order}
 use Rattle.bitvec_slice.specs.Views.{bits_of_mut, elements_of_mut, memory_of_mut, name_of_mut, outside_of_mut, phase_of_mut, window_in_mut}
 use Rattle.bitvec_slice.specs.declared.view_mut.BitSliceMut.{BitSliceMut}

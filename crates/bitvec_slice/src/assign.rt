@@ -6,8 +6,8 @@ ghost use Rattle.bitvec_slice.specs.Views.{bits_of, bits_of_mut};
 ghost use Rattle.bitvec_slice.specs.Writes.{WritesBits};
 
 use crate::{BitSlice, BitSliceMut};
-use bitvec_base::BitStore;
 use bitvec_engine::{BitOp, SliceOrder};
+use bitvec_store::BitStore;
 use std::ops::{BitAndAssign, BitOrAssign, BitXorAssign};
 
 impl<'a, 'b, T: BitStore, O: SliceOrder> BitAndAssign<BitSlice<'b, T, O>>

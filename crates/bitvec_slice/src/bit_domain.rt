@@ -5,8 +5,9 @@ ghost use Rattle.bitvec_domain.specs.Cuts.{IsPartWithin, cut_of};
 ghost use Rattle.bitvec_slice.specs.BitDomains.{IsBitDomain, IsPartView, IsPartViewIf};
 
 use crate::BitSlice;
-use bitvec_base::{BitOrder, BitStore, Part, Window};
+use bitvec_base::{BitOrder, Part, Window};
 use bitvec_domain::Cut;
+use bitvec_store::BitStore;
 
 /// A view, cut at the edges of elements: the crate's `BitDomain` over shared elements.
 #[derive(Drop)]

@@ -7,8 +7,9 @@ ghost use Rattle.bitvec_domain.specs.declared.cut.Cut.TheVariants.{Across};
 ghost use Rattle.bitvec_slice.specs.BitDomains.{IsBitDomainMut, IsPartViewIfMut, IsPartViewMut};
 
 use crate::BitSliceMut;
-use bitvec_base::{BitOrder, BitStore, Part, Window};
+use bitvec_base::{BitOrder, Part, Window};
 use bitvec_domain::Cut;
+use bitvec_store::BitStore;
 
 /// A writable view, cut at the edges of elements: the crate's `BitDomain` over exclusive elements.
 #[derive(Drop)]

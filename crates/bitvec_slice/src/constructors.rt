@@ -4,7 +4,8 @@ ghost use Rattle.bitvec_base.specs.Window.{max_bits};
 ghost use Rattle.bitvec_base.specs.declared.span_error.BitSpanError.TheVariants.{TooLong};
 
 use crate::BitSlice;
-use bitvec_base::{BitOrder, BitSpanError, BitStore, MAX_BITS};
+use bitvec_base::{BitOrder, BitSpanError, MAX_BITS};
+use bitvec_store::BitStore;
 
 /// How many bits the elements have, or `usize::MAX` where a `usize` can't hold the number.
 pub(crate) fn bits_in<T: BitStore>(elements: &[T]) -> usize

@@ -5,7 +5,8 @@ ghost use Rattle.bitvec_base.specs.declared.span_error.BitSpanError.TheVariants.
 
 use crate::BitSliceMut;
 use crate::constructors::bits_in;
-use bitvec_base::{BitOrder, BitSpanError, BitStore, MAX_BITS};
+use bitvec_base::{BitOrder, BitSpanError, MAX_BITS};
+use bitvec_store::BitStore;
 
 impl<'a, T: BitStore, O: BitOrder> BitSliceMut<'a, T, O> {
     ghost use Rattle.std.specs.Borrow.{Array, follows, sem};

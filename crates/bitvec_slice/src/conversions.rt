@@ -5,7 +5,8 @@ ghost use Rattle.bitvec_slice.specs.Wholes.{IsEmpty, IsWhole};
 
 use crate::BitSlice;
 use crate::constructors::bits_in;
-use bitvec_base::{BitOrder, BitStore, MAX_BITS};
+use bitvec_base::{BitOrder, MAX_BITS};
+use bitvec_store::BitStore;
 
 /// The empty view.
 impl<'a, T: BitStore, O: BitOrder> Default for BitSlice<'a, T, O> {

@@ -3,7 +3,8 @@ ghost use Rattle.std.specs.Prelude.{◌≡◌, ℕ, ◌<◌, ◌↔◌, IfSome, 
 ghost use Rattle.std.specs.Borrow.{GName};
 
 use crate::{BitRef, BitRefMut, BitSlice, BitSliceMut};
-use bitvec_base::{BitOrder, BitStore};
+use bitvec_base::BitOrder;
+use bitvec_store::BitStore;
 
 /// A shared view, as an index meets it.
 pub trait Viewed: Drop {

@@ -4,7 +4,8 @@ ghost use Rattle.bitvec_slice.specs.Writes.{WritesBits};
 ghost use Rattle.bitvec_slice.specs.Views.{bits_of_mut};
 
 use crate::BitSliceMut;
-use bitvec_base::{BitOrder, BitStore};
+use bitvec_base::BitOrder;
+use bitvec_store::BitStore;
 use std::ops::Not;
 
 impl<'a, T: BitStore, O: BitOrder> Not for BitSliceMut<'a, T, O> {

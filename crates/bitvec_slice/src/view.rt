@@ -4,8 +4,9 @@ ghost use Rattle.bitvec_base.specs.Window.{max_bits};
 
 use crate::bit_domain::bit_domain_of;
 use crate::{BitDomain, Domain};
-use bitvec_base::{BitOrder, BitStore, MAX_BITS, Window};
+use bitvec_base::{BitOrder, MAX_BITS, Window};
 use bitvec_domain::domain_of;
+use bitvec_store::BitStore;
 use std::alloc::AllocError;
 use std::marker::PhantomData;
 

@@ -4,9 +4,9 @@ ghost use Rattle.bitvec_base.specs.Lists.{combined};
 ghost use Rattle.bitvec_engine.specs.Operator.{operator};
 
 use crate::{BitSlice, BitSliceMut};
-use bitvec_base::BitStore;
 use bitvec_elements::{combine_block_in, copy_from_block_in, swap_with_block_in};
 use bitvec_engine::{BitOp, SliceOrder};
+use bitvec_store::BitStore;
 
 impl<'a, T: BitStore, O: SliceOrder> BitSliceMut<'a, T, O> {
     ghost use Rattle.bitvec_slice.specs.Writes.{WritesBits};

@@ -2,8 +2,9 @@
 ghost use Rattle.std.specs.Prelude.{◌≡◌, ◌<◌, ◌↔◌, IfSome, IsSome, false, slice_index_or};
 
 use crate::{BitRef, BitSlice, BitSliceIndex};
-use bitvec_base::{BitOrder, BitStore};
+use bitvec_base::BitOrder;
 use bitvec_elements::bit_in;
+use bitvec_store::BitStore;
 use std::ops::Index;
 
 impl<'a, T: BitStore, O: BitOrder> BitSlice<'a, T, O> {

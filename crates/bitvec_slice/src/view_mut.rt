@@ -4,9 +4,10 @@ ghost use Rattle.bitvec_base.specs.Window.{max_bits};
 
 use crate::bit_domain_mut::bit_domain_mut_of;
 use crate::{BitDomain, BitDomainMut, BitSlice, Domain, DomainMut};
-use bitvec_base::{BitOrder, BitStore, Window};
+use bitvec_base::{BitOrder, Window};
 use bitvec_domain::domain_mut_of;
 use bitvec_elements::{fill_in, invert_in, set_in};
+use bitvec_store::BitStore;
 use std::marker::PhantomData;
 
 /// Bits of a slice of elements that is borrowed for writing, in an order: it stands for the

@@ -2,7 +2,8 @@
 ghost use Rattle.std.specs.Prelude.{◌≡◌, ◌<◌, ◌↔◌, IfSome, IsSome, false, slice_index_or};
 
 use crate::{BitRefMut, BitSlice, BitSliceIndex, BitSliceMut};
-use bitvec_base::{BitOrder, BitStore};
+use bitvec_base::BitOrder;
+use bitvec_store::BitStore;
 use std::ops::{Index, Range};
 
 impl<'a, T: BitStore, O: BitOrder> BitSliceMut<'a, T, O> {

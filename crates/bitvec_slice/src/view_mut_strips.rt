@@ -3,7 +3,8 @@ ghost use Rattle.std.specs.Prelude.{◌≡◌, ◌-◌, ◌↔◌, IfSome, IsSom
 ghost use Rattle.bitvec_base.specs.Lists.{is_prefix, is_suffix};
 
 use crate::{BitSlice, BitSliceMut};
-use bitvec_base::{BitOrder, BitStore};
+use bitvec_base::BitOrder;
+use bitvec_store::BitStore;
 
 impl<'a, T: BitStore, O: BitOrder> BitSliceMut<'a, T, O> {
     ghost use Rattle.bitvec_slice.specs.Indices.{IsFrontOf, IsRestOf, seen_mut};

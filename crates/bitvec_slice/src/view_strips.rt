@@ -3,8 +3,9 @@ ghost use Rattle.std.specs.Prelude.{◌≡◌, ◌-◌, ◌↔◌, IfSome, IsSom
 ghost use Rattle.bitvec_base.specs.Lists.{is_prefix, is_suffix};
 
 use crate::BitSlice;
-use bitvec_base::{BitOrder, BitStore};
+use bitvec_base::BitOrder;
 use bitvec_elements::{ends_with_in, starts_with_in};
+use bitvec_store::BitStore;
 
 impl<'a, T: BitStore, O: BitOrder> BitSlice<'a, T, O> {
     ghost use Rattle.bitvec_slice.specs.Indices.{IsFrontOf, IsRestOf, seen};

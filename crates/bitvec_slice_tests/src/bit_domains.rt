@@ -2,8 +2,9 @@
 ghost use Rattle.std.specs.Prelude.{◌*◌, ◌≤◌, length};
 ghost use Rattle.bitvec_base.specs.Window.{max_bits};
 
-use bitvec_base::{BitOrder, BitStore, Lsb0, Msb0};
+use bitvec_base::{BitOrder, Lsb0, Msb0};
 use bitvec_slice::{BitDomain, BitDomainMut, BitSlice, BitSliceMut};
+use bitvec_store::BitStore;
 
 /// How many bits each part has.
 #[derive(Clone, Copy, PartialEq, Eq, Debug)]

@@ -2,10 +2,11 @@
 ghost use Rattle.std.specs.Prelude.{◌≡◌, ◌<◌, ◌≤◌, ◌↔◌, IfSome, IsSome, count_by, false, slice_index_or, slice_range};
 ghost use Rattle.bitvec_slice.specs.Views.{bits_of, bits_of_mut, window_in, window_in_mut};
 
-use bitvec_base::{BitOrder, BitStore};
+use bitvec_base::BitOrder;
 use bitvec_engine::SliceOrder;
 use bitvec_query::BitQueries;
 use bitvec_slice::{BitSlice, BitSliceMut};
+use bitvec_store::BitStore;
 
 /// How many of the bits before an index are 1, if the view has such.
 pub fn ones_before<T: BitStore, O: SliceOrder>(

@@ -1,7 +1,8 @@
 //! Views that are made of no element, of one, and of slices of any length.
-use bitvec_base::{BitOrder, BitStore, HiLo, Lsb0, Msb0};
+use bitvec_base::{BitOrder, HiLo, Lsb0, Msb0};
 use bitvec_query::BitQueries;
 use bitvec_slice::{BitSlice, BitSliceMut, from_mut, from_ref};
+use bitvec_store::BitStore;
 
 #[test]
 fn an_empty_view_has_no_bit(rt: HostRuntime) {

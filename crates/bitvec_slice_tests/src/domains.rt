@@ -2,8 +2,9 @@
 ghost use Rattle.std.specs.Prelude.{◌*◌, ◌≤◌, length};
 ghost use Rattle.bitvec_base.specs.Window.{max_bits};
 
-use bitvec_base::{BitOrder, BitStore, Lsb0, Msb0};
+use bitvec_base::{BitOrder, Lsb0, Msb0};
 use bitvec_slice::{BitSlice, BitSliceMut, Domain, DomainMut};
+use bitvec_store::BitStore;
 use std::test::Fail;
 
 /// Which of a domain's parts there are.

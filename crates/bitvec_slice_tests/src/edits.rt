@@ -2,9 +2,10 @@
 ghost use Rattle.std.specs.Prelude.{◌*◌, ◌≤◌, length};
 ghost use Rattle.bitvec_base.specs.Window.{max_bits};
 
-use bitvec_base::{BitOrder, BitStore, HiLo, Lsb0, Msb0};
+use bitvec_base::{BitOrder, HiLo, Lsb0, Msb0};
 use bitvec_query::BitQueries;
 use bitvec_slice::{BitSlice, BitSliceMut};
+use bitvec_store::BitStore;
 
 /// Makes the bits `from` up to `to` all `bit`, if the elements have them.
 pub fn fill_range<T: BitStore, O: BitOrder>(

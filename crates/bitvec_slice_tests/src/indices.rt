@@ -4,10 +4,11 @@ ghost use Rattle.bitvec_base.specs.Window.{max_bits};
 ghost use Rattle.bitvec_slice.specs.Views.{window_in_mut};
 
 use crate::callers::fill_before;
-use bitvec_base::{BitOrder, BitStore, Lsb0, Window};
+use bitvec_base::{BitOrder, Lsb0, Window};
 use bitvec_engine::SliceOrder;
 use bitvec_query::BitQueries;
 use bitvec_slice::{BitSlice, BitSliceIndex, BitSliceMut, Viewed, ViewedMut};
+use bitvec_store::BitStore;
 use std::test::Fail;
 
 /// How many bits a range has, and how many of them are 1.

@@ -4,7 +4,8 @@ ghost use Rattle.bitvec_slice_tests.specs.RotatedLaws.{rotated_permutes};
 
 use crate::edits::fill_range;
 use crate::widths::edit_twice;
-use bitvec_base::{BitOrder, BitStore};
+use bitvec_base::BitOrder;
+use bitvec_store::BitStore;
 
 /// The order in which index `i` is bit `(i + 3) % BITS`.
 pub struct Rotated;

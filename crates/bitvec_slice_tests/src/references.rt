@@ -2,8 +2,9 @@
 ghost use Rattle.std.specs.Prelude.{◌*◌, ◌≤◌, length};
 ghost use Rattle.bitvec_base.specs.Window.{max_bits};
 
-use bitvec_base::{BitOrder, BitStore, Lsb0, Msb0};
+use bitvec_base::{BitOrder, Lsb0, Msb0};
 use bitvec_slice::{BitRef, BitSlice, BitSliceMut};
+use bitvec_store::BitStore;
 use std::test::Fail;
 
 /// Writes the bit at an index to 1, to 0 and to 1 again, if the elements have it: gives the bit

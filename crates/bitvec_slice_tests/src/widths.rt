@@ -3,8 +3,9 @@ ghost use Rattle.std.specs.Prelude.{◌≡◌, ◌*◌, ◌≤◌, length, map, 
 ghost use Rattle.bitvec_base.specs.Memory.{memory_bits};
 ghost use Rattle.bitvec_base.specs.Window.{max_bits, write_at};
 
-use bitvec_base::{BitOrder, BitStore, HiLo, Lsb0, Msb0};
+use bitvec_base::{BitOrder, HiLo, Lsb0, Msb0};
 use bitvec_slice::BitSliceMut;
+use bitvec_store::BitStore;
 
 /// Fills three elements' bits from 5 on but the last 3; in what it lends of that, sets the first
 /// bit and inverts the second element; and clears bit 6 of all. Of other lengths it touches none.

@@ -8,10 +8,11 @@ use Rattle.std.proofs.lemmas.Nat.{and_mask, div_below, div-add-mod', mod_below, 
 use Rattle.std.proofs.lemmas.Nat.Bits.{bit_at-lt, bit_at_ones, bit_at_xor, same_from_bits_below}
 use Rattle.bitvec_base.specs.declared.part.Part.{Part}
 use Rattle.bitvec_base.specs.Memory.{memory_bits, element_bits, list_in, Writes}
-use Rattle.bitvec_base.specs.Order.{IsWidth, Permutes, mask_of}
+use Rattle.bitvec_base.specs.Order.{Permutes, mask_of}
+use Rattle.bitvec_store.specs.Width.{IsWidth}
 use Rattle.bitvec_base.specs.Parts.{HasPart, part_window}
 use Rattle.bitvec_base.specs.Window.{window_of, write_at}
-use Rattle.bitvec_base.specs.OrderLaws.{width_some}
+use Rattle.bitvec_store.specs.WidthLaws.{width_some}
 use Rattle.bitvec_base.specs.MaskLaws.{mask_of-none, mask_of-more}
 use Rattle.bitvec_base.specs.WriteLaws.{length-slice_range, write_at-all}
 use Rattle.bitvec_base.specs.MemoryLaws.{bit_of_complement, element_fits, length-element_bits, length-memory_bits}

@@ -4,8 +4,9 @@ ghost use Rattle.bitvec_base.specs.Memory.{Edits, HasWindow, list_in};
 ghost use Rattle.bitvec_cells.specs.Access.{Costs, OnlyReads};
 
 use crate::part::put;
-use bitvec_base::{BitOrder, BitStore, Window};
+use bitvec_base::{BitOrder, Window};
 use bitvec_cells::{Cells, CellsRead};
+use bitvec_store::BitStore;
 
 /// The bit at an index of a window. Condition: the memory has at most `MAX_BITS` bits, the window
 /// lies in it, and the index is below the window's length. It takes one load.

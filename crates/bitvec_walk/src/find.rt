@@ -5,8 +5,9 @@ ghost use Rattle.bitvec_base.specs.Memory.{element_bits, list_in};
 ghost use Rattle.bitvec_base.specs.Parts.{HasPart, part_window};
 ghost use Rattle.bitvec_cells.specs.Access.{OnlyReads};
 
-use bitvec_base::{BitOrder, BitStore, Part};
+use bitvec_base::{BitOrder, Part};
 use bitvec_cells::CellsRead;
+use bitvec_store::BitStore;
 
 /// The bit at an index of an element.
 fn bit_of<O: BitOrder, T: BitStore>(element: T, index: usize) -> bool

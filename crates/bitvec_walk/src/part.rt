@@ -7,8 +7,9 @@ ghost use Rattle.bitvec_cells.specs.Access.{Costs, OnlyReads};
 ghost use Rattle.bitvec_walk.specs.Cost.{part_loads};
 ghost use Rattle.bitvec_walk.specs.Element.{put_mask};
 
-use bitvec_base::{BitOrder, BitStore, Part};
+use bitvec_base::{BitOrder, Part};
 use bitvec_cells::{Cells, CellsRead};
+use bitvec_store::BitStore;
 
 /// The element with the mask's bits set, or cleared.
 pub(crate) fn put<T: BitStore>(element: T, mask: T, bit: bool) -> T

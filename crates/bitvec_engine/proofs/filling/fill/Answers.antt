@@ -1,7 +1,7 @@
 use Rattle.std.proofs.Common.{◌≡◌, ℕ, ◌-◌, arith, rules, ap, sym, ◌∙◌, replicate}
 use Rattle.std.proofs.lemmas.List.{replicate-append-replicate}
 use Rattle.bitvec_base.specs.declared.part.Part.{Part}
-use Rattle.bitvec_base.specs.OrderLaws.{width_some}
+use Rattle.bitvec_store.specs.WidthLaws.{width_some}
 use Rattle.bitvec_base.specs.Parts.{first_part_of}
 use Rattle.bitvec_base.specs.WritesLaws.{Writes-is}
 use Rattle.bitvec_walk.specs.WalkLaws.{Walked-start, Walked-next, Writes-next_part, Writes-none_passed, edge_loads-next, first-len, touched-next, touched-none}

@@ -1,7 +1,7 @@
 use Rattle.std.proofs.Common.{◌≡◌, ℕ, ◌-◌, arith, rules, ap, refl, sym, ◌∙◌, Bool, List, ◌++◌, not, map}
 use Rattle.std.proofs.lemmas.List.{map-append}
 use Rattle.bitvec_base.specs.declared.part.Part.{Part}
-use Rattle.bitvec_base.specs.OrderLaws.{width_some}
+use Rattle.bitvec_store.specs.WidthLaws.{width_some}
 use Rattle.bitvec_base.specs.Parts.{first_part_of}
 use Rattle.bitvec_base.specs.WritesLaws.{Writes-is}
 use Rattle.bitvec_walk.specs.WalkLaws.{Walked-start, Walked-next, Writes-none_passed, Writes-next_part, first-kept, first-len, list-next, passed-none, touched-next, touched-none}

@@ -1,6 +1,6 @@
 use Rattle.std.proofs.Common.{arith, rules, ap, sym, ◌∙◌, false, not}
 use Rattle.std.proofs.Math.Bool.{not-not}
-use Rattle.bitvec_base.specs.OrderLaws.{width_some}
+use Rattle.bitvec_store.specs.WidthLaws.{width_some}
 use Rattle.bitvec_base.specs.PlacesLaws.{list_all-first_place}
 use Rattle.bitvec_walk.specs.WalkLaws.{first_loads-most}
 use Rattle.bitvec_engine.proofs.scanning.all.Goals as goal

@@ -1,5 +1,5 @@
 use Rattle.std.proofs.Common.{arith, rules, true}
-use Rattle.bitvec_base.specs.OrderLaws.{width_some}
+use Rattle.bitvec_store.specs.WidthLaws.{width_some}
 use Rattle.bitvec_base.specs.PlacesLaws.{list_any-first_place}
 use Rattle.bitvec_walk.specs.WalkLaws.{first_loads-most}
 use Rattle.bitvec_engine.proofs.scanning.any.Goals as goal

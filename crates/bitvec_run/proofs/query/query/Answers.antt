@@ -1,5 +1,5 @@
 use Rattle.std.proofs.Common.{rules, Bool, List, true, false}
-use Rattle.bitvec_base.specs.OrderLaws.{width_some}
+use Rattle.bitvec_store.specs.WidthLaws.{width_some}
 use Rattle.bitvec_base.specs.WritesLaws.{Writes-nothing}
 use Rattle.bitvec_walk.specs.WalkLaws.{first_loads-most, last_loads-most}
 use Rattle.bitvec_run.proofs.query.query.Goals as goal

@@ -1,4 +1,4 @@
-use Rattle.bitvec_base.specs.OrderLaws.{width_some}
+use Rattle.bitvec_store.specs.WidthLaws.{width_some}
 use Rattle.bitvec_slice.specs.ViewLaws.{has_window_mut}
 use Rattle.bitvec_slice.specs.Views.{bits_of_mut, memory_of_mut, window_in_mut}
 use Rattle.bitvec_slice.proofs.BitDomainBits.{bit_domain_bits_mut}

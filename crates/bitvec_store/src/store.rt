@@ -2,7 +2,7 @@
 ghost use Rattle.std.specs.Prelude.{◌≡◌, ℕ, ◌+◌, ◌-◌, ◌*◌, ◌/◌, ◌%◌, ◌^◌, ◌<◌, bit_and, bit_or, bit_xor, count_ones};
 ghost use Rattle.std.specs.Int.Count.{count_leading_zeros, count_trailing_zeros};
 ghost use Rattle.std.specs.Mem.{FitsInMemory};
-ghost use Rattle.bitvec_base.specs.Order.{IsWidth};
+ghost use Rattle.bitvec_store.specs.Width.{IsWidth};
 
 /// An unsigned element of a memory, as `u8` or `usize`: the crate's `BitStore`.
 ///
