@@ -7,7 +7,9 @@ use std::marker::Model;
 // The counts of one accessor. A value takes no bytes, and only these three functions make one.
 #[derive(Drop)]
 pub(crate) struct Counts {
+    /// The loads so far.
     pub ghost loads: { ℕ },
+    /// The stores so far.
     pub ghost stores: { ℕ },
 }
 
