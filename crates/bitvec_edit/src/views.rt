@@ -6,13 +6,13 @@ ghost use Rattle.bitvec_slice.specs.Writes.{WritesBits};
 
 use crate::BitEdits;
 use bitvec_base::BitOrder;
-use bitvec_store::BitStore;
 use bitvec_elements::{
     combine_in, copy_from_in, copy_within_in, fill_with_in, for_each_in, replace_in, reverse_in,
     rotate_left_in, rotate_right_in, shift_end_in, shift_start_in, swap_in, swap_with_in,
 };
 use bitvec_engine::{BitOp, SliceOrder};
 use bitvec_slice::{BitSlice, BitSliceMut};
+use bitvec_store::BitStore;
 use std::ops::Range;
 
 impl<'a, T: BitStore, O: SliceOrder> BitEdits for BitSliceMut<'a, T, O> {

@@ -8,13 +8,13 @@ ghost use Rattle.bitvec_slice.specs.Views.{bits_of};
 
 use crate::runs::{before_first, behind_last};
 use bitvec_base::BitOrder;
-use bitvec_store::BitStore;
 use bitvec_elements::{
     all_in, any_in, compare_in, contains_in, count_in, ends_with_in, eq_in, first_in, last_in,
     starts_with_in,
 };
 use bitvec_engine::SliceOrder;
 use bitvec_slice::BitSlice;
+use bitvec_store::BitStore;
 use std::cmp::Ordering;
 
 /// The questions that the crate's `BitSlice` answers about its bits, for both view types. A needle,

@@ -8,11 +8,11 @@ ghost use Rattle.bitvec_run_tests.specs.ScatteredLaws.{scattered_permutes};
 use crate::slices::{run_in, step};
 use bitvec_base::BitOrder;
 use bitvec_cells::{Cells, CellsRead};
-use bitvec_store::BitStore;
 use bitvec_engine::{
     BitOp, SliceOrder, bits_copy, bits_copy_within, bits_eq, bits_op, bits_reverse, bits_swap,
 };
 use bitvec_run::{Op, Reply, Window};
+use bitvec_store::BitStore;
 use std::test::Fail;
 
 /// The order in which index `i` is bit `(5 * i + 3) % BITS`.
