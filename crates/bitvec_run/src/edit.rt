@@ -8,11 +8,11 @@ ghost use Rattle.bitvec_run.specs.Groups.{Edit, FitsList, Move, group};
 use crate::{Op, Reply};
 use bitvec_base::Window;
 use bitvec_cells::Cells;
-use bitvec_store::BitStore;
 use bitvec_engine::{
     SliceOrder, fill, invert, replace_bit, rotate_left, rotate_right, shift_end, shift_start,
     swap_bits,
 };
+use bitvec_store::BitStore;
 
 /// An edit of bits where they stand, in the list that a window holds, whatever the right list.
 /// Condition: as of [`query`], with the indices that are named.
