@@ -15,6 +15,12 @@ module _ {E C : Type 0} (access : Access C E) where
     pub writes : Writes b at (access.numbers old) (access.numbers new) window (row.list (list_in b at (access.numbers old) window))
     pub cost : CostsAtMost access old new (row.cost (place_of b words window)).loads (row.cost (place_of b words window)).stores
 
+  -- a question, whose row leaves the list: it answered what the row says, and only read, at no more than its cost
+  pub record Answers (b : ℕ) (at : ℕ → ℕ → ℕ) (words : Bool) (row : Row) (window : Window) (old new : C) (result : Reply) : Type 0 where
+    pub reply : result ≡ row.reply (list_in b at (access.numbers old) window)
+    pub list : row.list (list_in b at (access.numbers old) window) ≡ list_in b at (access.numbers old) window
+    pub reads : OnlyReadsAtMost access old new (row.cost (place_of b words window)).loads
+
 -- and it only read the right memory
 module _ {E C F D : Type 0} (access : Access C E) (beside : Access D F) where
   pub record FollowsBoth (b : ℕ) (at : ℕ → ℕ → ℕ) (words : Bool) (row : Row) (window : Window) (old new : C) (right_old right_new : D) (result : Reply) : Type 0 where

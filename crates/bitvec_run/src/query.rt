@@ -2,7 +2,7 @@
 ghost use Rattle.std.specs.Prelude.{◌≡◌, Bool, List};
 ghost use Rattle.bitvec_base.specs.Memory.{HasWindow};
 ghost use Rattle.bitvec_run.specs.Commands.{op_row};
-ghost use Rattle.bitvec_run.specs.Follows.{Follows};
+ghost use Rattle.bitvec_run.specs.Follows.{Answers};
 ghost use Rattle.bitvec_run.specs.Groups.{FitsList, Query, group};
 
 use crate::{Op, Reply};
@@ -17,7 +17,7 @@ pub(crate) fn query<O: SliceOrder, C: CellsRead>(cells: &mut C, target: Window, 
     requires target { HasWindow C.Elem.BITS (C.numbers cells.old) target }
     requires group { group op ≡ Query }
     requires fits { FitsList target.len op }
-    ensures { (right : List Bool) → Follows C.CellsRead C.Elem.BITS O.at O.WORDS (op_row right target.len op) target cells.old cells.new result }
+    ensures { (right : List Bool) → Answers C.CellsRead C.Elem.BITS O.at O.WORDS (op_row right target.len op) target cells.old cells.new result }
 {
     match op {
         Op::Get(index) => Reply::Bit(get_bit::<O, C>(cells, target, index)),

@@ -1,44 +1,28 @@
 use Rattle.std.proofs.Common.{rules, Bool, List, true, false}
 use Rattle.bitvec_store.specs.WidthLaws.{width_some}
-use Rattle.bitvec_base.specs.WritesLaws.{Writes-nothing}
 use Rattle.bitvec_walk.specs.WalkLaws.{first_loads-most, last_loads-most}
 use Rattle.bitvec_run.proofs.query.query.Goals as goal
-
-pub returns-in-Get : goal.returns-in-Get
-returns-in-Get g c = λ (right : List Bool). rw c.in-Get.is (search (rules, Writes-nothing))
-
-pub returns-in-CountOnes : goal.returns-in-CountOnes
-returns-in-CountOnes g c = λ (right : List Bool). rw c.in-CountOnes.is (search (rules, Writes-nothing))
-
-pub returns-in-CountZeros : goal.returns-in-CountZeros
-returns-in-CountZeros g c = λ (right : List Bool). rw c.in-CountZeros.is (search (rules, Writes-nothing))
 
 pub returns-in-FirstOne : goal.returns-in-FirstOne
 returns-in-FirstOne g c = λ (right : List Bool).
     let reads = rw c.scan_first.ensures.value at c.scan_first.ensures.reads in
     let most = first_loads-most g.C.Elem.BitStore.BITS g.O.BitOrder.at (g.C.CellsRead.numbers c.args.cells.now) c.args.target true (width_some _ g.met.C.Elem.BitStore.width_law) c.requires.target in
-    rw c.in-FirstOne.is (search (rules, Writes-nothing))
+    rw c.in-FirstOne.is (search rules)
 
 pub returns-in-FirstZero : goal.returns-in-FirstZero
 returns-in-FirstZero g c = λ (right : List Bool).
     let reads = rw c.scan_first-in-FirstZero.ensures.value at c.scan_first-in-FirstZero.ensures.reads in
     let most = first_loads-most g.C.Elem.BitStore.BITS g.O.BitOrder.at (g.C.CellsRead.numbers c.args.cells.now) c.args.target false (width_some _ g.met.C.Elem.BitStore.width_law) c.requires.target in
-    rw c.in-FirstZero.is (search (rules, Writes-nothing))
+    rw c.in-FirstZero.is (search rules)
 
 pub returns-in-LastOne : goal.returns-in-LastOne
 returns-in-LastOne g c = λ (right : List Bool).
     let reads = rw c.scan_last.ensures.value at c.scan_last.ensures.reads in
     let most = last_loads-most g.C.Elem.BitStore.BITS g.O.BitOrder.at (g.C.CellsRead.numbers c.args.cells.now) c.args.target true (width_some _ g.met.C.Elem.BitStore.width_law) c.requires.target in
-    rw c.in-LastOne.is (search (rules, Writes-nothing))
+    rw c.in-LastOne.is (search rules)
 
 pub returns-in-LastZero : goal.returns-in-LastZero
 returns-in-LastZero g c = λ (right : List Bool).
     let reads = rw c.scan_last-in-LastZero.ensures.value at c.scan_last-in-LastZero.ensures.reads in
     let most = last_loads-most g.C.Elem.BitStore.BITS g.O.BitOrder.at (g.C.CellsRead.numbers c.args.cells.now) c.args.target false (width_some _ g.met.C.Elem.BitStore.width_law) c.requires.target in
-    rw c.in-LastZero.is (search (rules, Writes-nothing))
-
-pub returns-in-Any : goal.returns-in-Any
-returns-in-Any g c = λ (right : List Bool). rw c.in-Any.is (search (rules, Writes-nothing))
-
-pub returns-in-All : goal.returns-in-All
-returns-in-All g c = λ (right : List Bool). rw c.in-All.is (search (rules, Writes-nothing))
+    rw c.in-LastZero.is (search rules)

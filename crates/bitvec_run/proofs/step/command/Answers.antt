@@ -1,8 +1,12 @@
 use Rattle.std.proofs.Common.{rules}
+use Rattle.bitvec_run.specs.FollowsLaws.{Answers-follow}
 use Rattle.bitvec_run.proofs.step.command.Goals as goal
 
 pub returns-in-Get : goal.returns-in-Get
-returns-in-Get g c = record { left = c.query.ensures _; right = search rules }
+returns-in-Get g c = record {
+  left = Answers-follow g.C.CellsRead _ _ _ _ c.args.target _ _ _ c.requires.target (c.query.ensures _);
+  right = search rules;
+}
 
 pub returns-in-Set : goal.returns-in-Set
 returns-in-Set g c = record { left = c.edit.ensures _; right = search rules }
