@@ -4,12 +4,13 @@ use Rattle.std.specs.Bool.{Decides}
 use Rattle.std.specs.Int.{bit_at}
 use Rattle.std.proofs.Common.{arith, sym, ◌∙◌, ap, ⊎_elim, lit<}
 use Rattle.std.proofs.lemmas.Bool.Decides.{Decides-eqb, Decides-ltb, Decides-and, Decides-or, Decides-below_and}
-use Rattle.std.proofs.lemmas.Nat.{shr-shr, shr_split, pow_pos, div_below}
-use Rattle.std.proofs.lemmas.Nat.Bits.{same_from_bits, bit_at_and, bit_at_or, bit_at_xor, bit_at-lt, bit_at_cat_low, bit_at_cat_high}
+use Rattle.std.proofs.lemmas.Nat.{pow_pos, div_below}
+use Rattle.std.proofs.lemmas.Nat.Bits.{same_from_bits, bit_at_and, bit_at_or, bit_at_xor, bit_at-lt}
 use Rattle.bitvec_base.specs.Order.{Permutes}
 use Rattle.bitvec_store.specs.Width.{IsWidth}
 use Rattle.bitvec_store.specs.WidthLaws.{at_each_width}
 use Rattle.bitvec_base.specs.MemoryLaws.{bit_of_complement}
+use Rattle.bitvec_base.specs.ShiftLaws.{bit_at_shl, bit_at_shr}
 
 -- the low half of each byte of b bits, as ones
 abbrev pub low_halves : ℕ → ℕ
@@ -60,19 +61,6 @@ hilo_permutes b w = record {
 }
 
 -- ---- the halves of each byte exchanged
-
--- bits moved up within b bits, and moved down
-bit_at_shl : (b v k i : ℕ) → i + k < b → bit_at ((v * 2 ^ k) % 2 ^ b) (i + k) ≡ bit_at v i
-bit_at_shl b v k i h =
-    let cut = bit_at_cat_low ((v * 2 ^ k) / 2 ^ b) b ((v * 2 ^ k) % 2 ^ b) (i + k) h in
-    let whole = ap (λ (n : ℕ). bit_at n (i + k)) (shr_split (v * 2 ^ k) b) in
-    let moved = bit_at_cat_high v k 0 (i + k) (pow_pos k) (omega arith) in
-    let back : i + k - k ≡ i = omega arith in
-    let none : v * 2 ^ k + 0 ≡ v * 2 ^ k = omega arith in
-    sym cut ∙ whole ∙ sym (ap (λ (n : ℕ). bit_at n (i + k)) none) ∙ moved ∙ ap (bit_at v) back
-
-bit_at_shr : (v k i : ℕ) → bit_at (v / 2 ^ k) i ≡ bit_at v (i + k)
-bit_at_shr v k i = ap (λ (n : ℕ). n % 2) (shr-shr v k i) ∙ ap (bit_at v) (let turned : k + i ≡ i + k = omega arith in turned)
 
 -- what the exchange gives, by the numbers that the operations of an element give
 pub halves-exchanged : (b : ℕ) → IsWidth b → (v i : ℕ) → i < b → bit_at (bit_or (bit_and ((v * 2 ^ 4) % 2 ^ b) (2 ^ b - 1 - low_halves b)) (bit_and (v / 2 ^ 4) (low_halves b))) (bit_xor i 4) ≡ bit_at v i

@@ -20,6 +20,7 @@ pub mod PlacesLaws
 pub mod ReversalLaws
 pub mod RotationLaws
 pub mod ScanLaws
+pub mod ShiftLaws
 pub mod SliceLaws
 pub mod TransferLaws
 pub mod Window

@@ -3,8 +3,8 @@ ghost use Rattle.std.specs.Prelude.{◌≡◌, ℕ, ◌<◌, ◌≤◌, Bool, Li
 ghost use Rattle.std.specs.List.{swap};
 ghost use Rattle.bitvec_base.specs.Lists.{FitsWithin, combined, copied_within, rotated_left, rotated_right, shifted_end, shifted_start};
 ghost use Rattle.bitvec_elements.specs.Asked.{CallableBelow, CallableOnBits, FillsWith, RefillsWith};
-ghost use Rattle.bitvec_engine.specs.Operator.{operator};
-ghost use Rattle.bitvec_engine.specs.declared.combining.BitOp.TheVariants.{And, Or, Xor};
+ghost use Rattle.bitvec_words.specs.Operator.{operator};
+ghost use Rattle.bitvec_words.specs.declared.operator.BitOp.TheVariants.{And, Or, Xor};
 ghost use Rattle.bitvec_slice.specs.Views.{bits_of, bits_of_mut, window_in, window_in_mut};
 ghost use Rattle.bitvec_slice.specs.Writes.{WritesBits};
 

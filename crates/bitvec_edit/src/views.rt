@@ -1,6 +1,6 @@
 //! Writable views are edited.
 ghost use Rattle.bitvec_base.specs.Lists.{combined};
-ghost use Rattle.bitvec_engine.specs.Operator.{operator};
+ghost use Rattle.bitvec_words.specs.Operator.{operator};
 ghost use Rattle.bitvec_slice.specs.Views.{bits_of, bits_of_mut, window_in_mut};
 ghost use Rattle.bitvec_slice.specs.Writes.{WritesBits};
 
@@ -77,7 +77,7 @@ impl<'a, T: BitStore, O: SliceOrder> BitEdits for BitSliceMut<'a, T, O> {
     fn clone_from_bitslice<U: BitStore, P: BitOrder>(&mut self, src: BitSlice<'_, U, P>) {
         let window = self.window();
         let from = src.window();
-        copy_from_in::<T, O, U, P>(self.elements_mut(), window, src.into_slice(), from);
+        copy_from_in::<T, O, U, P>(self.elements_mut(), window, src.elements(), from);
     }
 
     fn and_bits<U: BitStore, P: BitOrder>(&mut self, src: BitSlice<'_, U, P>) {
@@ -124,5 +124,5 @@ fn combine<T: BitStore, O: BitOrder, U: BitStore, P: BitOrder>(
 {
     let window = view.window();
     let from = src.window();
-    combine_in::<T, O, U, P>(view.elements_mut(), window, src.into_slice(), from, op);
+    combine_in::<T, O, U, P>(view.elements_mut(), window, src.elements(), from, op);
 }

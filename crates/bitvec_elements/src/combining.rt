@@ -2,7 +2,7 @@
 ghost use Rattle.std.specs.Prelude.{map};
 ghost use Rattle.bitvec_base.specs.Lists.{combined};
 ghost use Rattle.bitvec_base.specs.Memory.{HasWindow, Writes, list_in};
-ghost use Rattle.bitvec_engine.specs.Operator.{operator};
+ghost use Rattle.bitvec_words.specs.Operator.{operator};
 
 use bitvec_base::{BitOrder, Window};
 use bitvec_cells::{Exclusive, Shared};

@@ -3,35 +3,13 @@ ghost use Rattle.std.specs.Prelude.{◌≡◌, ◌*◌, false, min, slice_index_
 ghost use Rattle.bitvec_base.specs.Lists.{combined};
 ghost use Rattle.bitvec_base.specs.Memory.{HasWindow, Writes, list_in};
 ghost use Rattle.bitvec_cells.specs.Access.{Costs, OnlyReads};
-ghost use Rattle.bitvec_engine.specs.Operator.{operator};
+ghost use Rattle.bitvec_words.specs.Operator.{operator};
 
 use bitvec_base::{BitOrder, Window};
 use bitvec_cells::{Cells, CellsRead};
 use bitvec_store::BitStore;
 use bitvec_walk::{get_bit, replace_bit};
-
-/// What is made of two bits.
-#[derive(Clone, Copy, PartialEq, Eq, Debug)]
-pub enum BitOp {
-    /// 1 if both are: `&=` of the crate.
-    And,
-    /// 1 if one or both are: `|=` of the crate.
-    Or,
-    /// 1 if they differ: `^=` of the crate.
-    Xor,
-}
-
-impl BitOp {
-    fn of(self, bit: bool, other: bool) -> bool
-        ensures { result ≡ operator self bit other }
-    {
-        match self {
-            BitOp::And => bit && other,
-            BitOp::Or => bit || other,
-            BitOp::Xor => bit != other,
-        }
-    }
-}
+use bitvec_words::BitOp;
 
 /// Replaces each bit of a window by what the operator makes of it and the one at its index in a
 /// window of another memory, of any element width and order, which counts as 0 past that window's

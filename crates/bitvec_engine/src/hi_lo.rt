@@ -3,7 +3,7 @@
 
 ghost use Rattle.std.specs.Prelude.{false};
 
-use crate::combining::{BitOp, bits_op};
+use crate::combining::bits_op;
 use crate::comparing::bits_eq;
 use crate::copying::bits_copy;
 use crate::copying_within::bits_copy_within;
@@ -12,6 +12,7 @@ use crate::slice_order::SliceOrder;
 use crate::swapping::bits_swap;
 use bitvec_base::{HiLo, Window};
 use bitvec_cells::{Cells, CellsRead};
+use bitvec_words::BitOp;
 
 impl SliceOrder for HiLo {
     ghost WORDS = { false };

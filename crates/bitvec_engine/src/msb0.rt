@@ -1,17 +1,12 @@
-//! Bit operations on whole windows under `Msb0`: bit by bit.
-#![tactic(auto, using(bitvec_walk::specs::CostLaws::enough))]
+//! Bit operations on whole windows under `Msb0`: by words.
+#![tactic(auto)]
 
 ghost use Rattle.std.specs.Prelude.{true};
 
-use crate::combining::{BitOp, bits_op};
-use crate::comparing::bits_eq;
-use crate::copying::bits_copy;
-use crate::copying_within::bits_copy_within;
-use crate::reversing::bits_reverse;
 use crate::slice_order::SliceOrder;
-use crate::swapping::bits_swap;
 use bitvec_base::{Msb0, Window};
 use bitvec_cells::{Cells, CellsRead};
+use bitvec_words::{BitOp, combine, copy, copy_within_fields, equal, reverse_fields, swap_fields};
 
 impl SliceOrder for Msb0 {
     ghost WORDS = { true };
@@ -24,7 +19,7 @@ impl SliceOrder for Msb0 {
         right: &mut D,
         right_window: Window,
     ) -> bool {
-        bits_eq::<Self, Self, C, D>(left, left_window, right, right_window)
+        equal::<Self, C, D>(left, left_window, right, right_window)
     }
 
     fn block_copy<C: Cells, D: CellsRead<Elem = C::Elem>>(
@@ -33,7 +28,7 @@ impl SliceOrder for Msb0 {
         right: &mut D,
         from: Window,
     ) {
-        bits_copy::<Self, Self, C, D>(left, to, right, from);
+        copy::<Self, C, D>(left, to, right, from);
     }
 
     fn block_swap<C: Cells, D: Cells + CellsRead<Elem = C::Elem>>(
@@ -42,7 +37,7 @@ impl SliceOrder for Msb0 {
         right: &mut D,
         right_window: Window,
     ) {
-        bits_swap::<Self, Self, C, D>(left, left_window, right, right_window);
+        swap_fields::<Self, C, D>(left, left_window, right, right_window);
     }
 
     fn block_copy_within<C: Cells>(
@@ -52,7 +47,7 @@ impl SliceOrder for Msb0 {
         to: usize,
         dest: usize,
     ) {
-        bits_copy_within::<Self, C>(cells, window, from, to, dest);
+        copy_within_fields::<Self, C>(cells, window, from, to, dest);
     }
 
     fn block_op<C: Cells, D: CellsRead<Elem = C::Elem>>(
@@ -62,10 +57,10 @@ impl SliceOrder for Msb0 {
         from: Window,
         op: BitOp,
     ) {
-        bits_op::<Self, Self, C, D>(left, to, right, from, op);
+        combine::<Self, C, D>(left, to, right, from, op);
     }
 
     fn block_reverse<C: Cells>(cells: &mut C, window: Window) {
-        bits_reverse::<Self, C>(cells, window);
+        reverse_fields::<Self, C>(cells, window);
     }
 }

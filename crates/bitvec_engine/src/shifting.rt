@@ -5,11 +5,11 @@ ghost use Rattle.bitvec_base.specs.Memory.{Edits, HasWindow};
 ghost use Rattle.bitvec_cells.specs.Access.{CostsAtMost};
 ghost use Rattle.bitvec_walk.specs.Cost.{edit_loads, fill_loads, touched, write_stores};
 
-use crate::filling::fill;
 use crate::slice_order::SliceOrder;
 use bitvec_base::Window;
 use bitvec_cells::{Cells, CellsRead};
 use bitvec_store::BitStore;
+use bitvec_words::fill;
 
 /// Shifts the bits of a window by `by` places towards its start: the first `by` are lost, and as
 /// many zeros follow the others; all other bits of the memory stay. It is `shift_start` of the

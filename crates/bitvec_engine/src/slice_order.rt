@@ -3,14 +3,14 @@ ghost use Rattle.std.specs.Prelude.{◌≡◌, ◌-◌, Bool, reverse};
 ghost use Rattle.bitvec_base.specs.Lists.{FitsWithin, combined, copied_within, first_place, last_place, same_bits};
 ghost use Rattle.bitvec_base.specs.Memory.{Edits, HasWindow, Writes, list_in};
 ghost use Rattle.bitvec_cells.specs.Access.{CostsAtMost, OnlyReadsAtMost};
-ghost use Rattle.bitvec_engine.specs.Operator.{operator};
+ghost use Rattle.bitvec_words.specs.Operator.{operator};
 ghost use Rattle.bitvec_walk.specs.Cost.{edit_loads, equal_loads, first_loads, last_loads, read_loads, reverse_loads, reverse_stores, write_loads, write_stores};
 
-use crate::combining::BitOp;
 use crate::scanning::{bits_scan_first, bits_scan_last};
 use bitvec_base::{BitOrder, Window};
 use bitvec_cells::{Cells, CellsRead};
 use bitvec_store::BitStore;
+use bitvec_words::BitOp;
 
 /// A bit order with its way of working on whole windows.
 ///

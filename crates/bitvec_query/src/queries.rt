@@ -34,7 +34,7 @@ pub trait BitQueries<T: BitStore, O: SliceOrder> {
         ensures { result ≡ count_by (λ bit. bit) (bits self.now) }
     {
         let view = self.as_bitslice();
-        count_in::<T, O>(view.into_slice(), view.window())
+        count_in::<T, O>(view.elements(), view.window())
     }
 
     /// How many bits are 0.
@@ -50,7 +50,7 @@ pub trait BitQueries<T: BitStore, O: SliceOrder> {
         ensures { result ≡ first_place true (bits self.now) }
     {
         let view = self.as_bitslice();
-        first_in::<T, O>(view.into_slice(), view.window(), true)
+        first_in::<T, O>(view.elements(), view.window(), true)
     }
 
     /// The index of the first bit that is 0, if there is one.
@@ -59,7 +59,7 @@ pub trait BitQueries<T: BitStore, O: SliceOrder> {
         ensures { result ≡ first_place false (bits self.now) }
     {
         let view = self.as_bitslice();
-        first_in::<T, O>(view.into_slice(), view.window(), false)
+        first_in::<T, O>(view.elements(), view.window(), false)
     }
 
     /// The index of the last bit that is 1, if there is one.
@@ -68,7 +68,7 @@ pub trait BitQueries<T: BitStore, O: SliceOrder> {
         ensures { result ≡ last_place true (bits self.now) }
     {
         let view = self.as_bitslice();
-        last_in::<T, O>(view.into_slice(), view.window(), true)
+        last_in::<T, O>(view.elements(), view.window(), true)
     }
 
     /// The index of the last bit that is 0, if there is one.
@@ -77,7 +77,7 @@ pub trait BitQueries<T: BitStore, O: SliceOrder> {
         ensures { result ≡ last_place false (bits self.now) }
     {
         let view = self.as_bitslice();
-        last_in::<T, O>(view.into_slice(), view.window(), false)
+        last_in::<T, O>(view.elements(), view.window(), false)
     }
 
     /// How many bits at the start are 1.
@@ -114,7 +114,7 @@ pub trait BitQueries<T: BitStore, O: SliceOrder> {
         ensures { result ≡ list_any (λ bit. bit) (bits self.now) }
     {
         let view = self.as_bitslice();
-        any_in::<T, O>(view.into_slice(), view.window())
+        any_in::<T, O>(view.elements(), view.window())
     }
 
     /// Whether every bit is 1; an empty view's are.
@@ -123,7 +123,7 @@ pub trait BitQueries<T: BitStore, O: SliceOrder> {
         ensures { result ≡ list_all (λ bit. bit) (bits self.now) }
     {
         let view = self.as_bitslice();
-        all_in::<T, O>(view.into_slice(), view.window())
+        all_in::<T, O>(view.elements(), view.window())
     }
 
     /// Whether no bit is 1; none of an empty view's is.
@@ -154,9 +154,9 @@ pub trait BitQueries<T: BitStore, O: SliceOrder> {
     {
         let view = self.as_bitslice();
         eq_in::<T, O, U, P>(
-            view.into_slice(),
+            view.elements(),
             view.window(),
-            other.into_slice(),
+            other.elements(),
             other.window(),
         )
     }
@@ -169,9 +169,9 @@ pub trait BitQueries<T: BitStore, O: SliceOrder> {
     {
         let view = self.as_bitslice();
         compare_in::<T, O, U, P>(
-            view.into_slice(),
+            view.elements(),
             view.window(),
-            other.into_slice(),
+            other.elements(),
             other.window(),
         )
     }
@@ -183,9 +183,9 @@ pub trait BitQueries<T: BitStore, O: SliceOrder> {
     {
         let view = self.as_bitslice();
         starts_with_in::<T, O, U, P>(
-            view.into_slice(),
+            view.elements(),
             view.window(),
-            needle.into_slice(),
+            needle.elements(),
             needle.window(),
         )
     }
@@ -197,9 +197,9 @@ pub trait BitQueries<T: BitStore, O: SliceOrder> {
     {
         let view = self.as_bitslice();
         ends_with_in::<T, O, U, P>(
-            view.into_slice(),
+            view.elements(),
             view.window(),
-            needle.into_slice(),
+            needle.elements(),
             needle.window(),
         )
     }
@@ -212,9 +212,9 @@ pub trait BitQueries<T: BitStore, O: SliceOrder> {
     {
         let view = self.as_bitslice();
         contains_in::<T, O, U, P>(
-            view.into_slice(),
+            view.elements(),
             view.window(),
-            needle.into_slice(),
+            needle.elements(),
             needle.window(),
         )
     }

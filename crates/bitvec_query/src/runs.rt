@@ -13,14 +13,14 @@ use bitvec_store::BitStore;
 pub(crate) fn before_first<T: BitStore, O: SliceOrder>(view: BitSlice<'_, T, O>, end: bool) -> usize
     ensures { result ≡ prefix_len (λ bit. not (beq bit end)) (bits_of view.entry) }
 {
-    first_in::<T, O>(view.into_slice(), view.window(), end).unwrap_or(view.len())
+    first_in::<T, O>(view.elements(), view.window(), end).unwrap_or(view.len())
 }
 
 /// How many bits stand behind the last that is `end`, or in all if none is.
 pub(crate) fn behind_last<T: BitStore, O: SliceOrder>(view: BitSlice<'_, T, O>, end: bool) -> usize
     ensures { result ≡ suffix_len (λ bit. not (beq bit end)) (bits_of view.entry) }
 {
-    match last_in::<T, O>(view.into_slice(), view.window(), end) {
+    match last_in::<T, O>(view.elements(), view.window(), end) {
         Some(index) => view.len() - index - 1,
         None => view.len(),
     }

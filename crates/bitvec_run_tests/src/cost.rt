@@ -50,8 +50,8 @@ fn a_query_loads_each_element_once(rt: HostRuntime) -> Result<(), Fail> {
     check(&rt, step(60, 80, Op::Get(19)), (1, 0, 0))
 }
 
-// A bit that is moved takes at most four loads and two stores, one that is reversed four and two,
-// and there is one reversal of a bit more.
+// A step of up to 64 bits touches at most nine bytes; what is written loads two more. A reversal
+// takes a step more.
 #[test]
 fn an_edit_takes_few_loads_and_stores(rt: HostRuntime) -> Result<(), Fail> {
     check(&rt, step(60, 80, Op::Set(0, true)), (1, 1, 0))?;
@@ -60,40 +60,28 @@ fn an_edit_takes_few_loads_and_stores(rt: HostRuntime) -> Result<(), Fail> {
     check(&rt, step(67, 4000, Op::Fill(true)), (2, 492, 0))?;
     check(&rt, step(67, 67, Op::Fill(true)), (0, 0, 0))?;
     check(&rt, step(67, 75, Op::Invert), (2, 2, 0))?;
-    check(&rt, step(67, 83, Op::Reverse), (68, 34, 0))?;
-    check(&rt, step(67, 83, Op::ShiftStart(4)), (50, 25, 0))?;
-    check(&rt, step(67, 83, Op::ShiftEnd(4)), (50, 25, 0))?;
+    check(&rt, step(67, 83, Op::Reverse), (22, 18, 0))?;
+    check(&rt, step(67, 83, Op::ShiftStart(4)), (13, 11, 0))?;
+    check(&rt, step(67, 83, Op::ShiftEnd(4)), (13, 10, 0))?;
     check(&rt, step(67, 83, Op::ShiftEnd(16)), (2, 3, 0))?;
-    check(&rt, step(67, 83, Op::RotateLeft(4)), (140, 70, 0))?;
-    check(&rt, step(67, 83, Op::RotateRight(4)), (140, 70, 0))?;
-    check(&rt, step(67, 83, Op::CopyWithin(0, 8, 4)), (32, 16, 0))
+    check(&rt, step(67, 83, Op::RotateLeft(4)), (66, 54, 0))?;
+    check(&rt, step(67, 83, Op::RotateRight(4)), (66, 54, 0))?;
+    check(&rt, step(67, 83, Op::CopyWithin(0, 8, 4)), (11, 9, 0))
 }
 
-// A bit that is read takes at most two loads, and one that is written two loads and two stores.
+// A step of up to 64 bits loads at most nine bytes a side, and what is written two more.
 #[test]
 fn a_right_window_takes_few_loads(rt: HostRuntime) -> Result<(), Fail> {
-    check(
-        &rt,
-        step(67, 83, Op::CopyFrom(right_bits(16))),
-        (32, 32, 32),
-    )?;
-    check(&rt, step(67, 83, Op::And(right_bits(8))), (64, 32, 32))?;
-    check(&rt, step(67, 83, Op::Or(right_bits(16))), (64, 32, 32))?;
-    check(&rt, step(67, 83, Op::Xor(right_bits(24))), (64, 32, 32))?;
-    check(&rt, step(67, 83, Op::Eq(right_bits(16))), (32, 0, 32))?;
+    check(&rt, step(67, 83, Op::CopyFrom(right_bits(16))), (2, 9, 9))?;
+    check(&rt, step(67, 83, Op::And(right_bits(8))), (11, 9, 9))?;
+    check(&rt, step(67, 83, Op::Or(right_bits(16))), (11, 9, 9))?;
+    check(&rt, step(67, 83, Op::Xor(right_bits(24))), (11, 9, 9))?;
+    check(&rt, step(67, 83, Op::Eq(right_bits(16))), (9, 0, 9))?;
     check(&rt, step(67, 83, Op::Eq(right_bits(8))), (0, 0, 0))?;
     check(&rt, step(67, 83, Op::Cmp(right_bits(8))), (8, 0, 8))?;
-    check(
-        &rt,
-        step(67, 83, Op::StartsWith(right_bits(8))),
-        (16, 0, 16),
-    )?;
-    check(&rt, step(67, 83, Op::EndsWith(right_bits(8))), (16, 0, 16))?;
-    check(
-        &rt,
-        step(67, 83, Op::Contains(right_bits(8))),
-        (144, 0, 144),
-    )?;
+    check(&rt, step(67, 83, Op::StartsWith(right_bits(8))), (9, 0, 9))?;
+    check(&rt, step(67, 83, Op::EndsWith(right_bits(8))), (9, 0, 9))?;
+    check(&rt, step(67, 83, Op::Contains(right_bits(8))), (81, 0, 81))?;
     check(&rt, step(67, 83, Op::Contains(right_bits(24))), (0, 0, 0))
 }
 

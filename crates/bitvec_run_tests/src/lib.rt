@@ -22,3 +22,5 @@ mod slices;
 mod steps;
 #[cfg(test)]
 mod want_of_memory;
+#[cfg(test)]
+mod word_rows;

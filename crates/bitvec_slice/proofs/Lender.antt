@@ -58,7 +58,7 @@ behind (vstruct (vcons v vs)) = vs
 behind v = vnil
 
 module _ (T O : RattleType) (ν : Sym) (τs : Tys) where
-  abbrev elements_ty : Lifetime → Ty
+  abbrev pub elements_ty : Lifetime → Ty
   elements_ty ℓ = slice_ty (ty_ref ℓ mut (ty_param 0))
 
   -- the struct, as the code reads it

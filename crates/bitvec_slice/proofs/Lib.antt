@@ -1,6 +1,8 @@
 pub mod BitDomainBits
 pub mod Lender
-pub mod Rests
+pub mod Middle
+pub mod OneBit
+pub mod PartLender
 pub mod Steps
 pub mod Through
 pub mod Wholes

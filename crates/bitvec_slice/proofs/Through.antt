@@ -2,13 +2,14 @@
 --     counts, slice_out, slice_in      `denote.Through`'s steps for a slice reference in memory, which it keeps to itself
 --     Flat X a ν args types Fs      the struct with its ghost fields let go: a `&'a mut [X]` and the fields Fs
 --     lends_slice      from the struct's borrow:  ⊢ ⇛ ∃ γ'. own_val (the slice under γ') ∗ [κ]_q ∗ follows R (Array X 0) γ γ' (F s)
+--     lends_part_of    the same of the slice's middle, where it is `front ++ (mid ++ rest)`:  .. ∗ follows R (Array X 0) γ δ (λ ws. F s (whole front mid rest ws))
 -- R is the struct's type, `view s` its fields' values, and F s ws the struct s with the list ws in the slice's place, which it may cut or fill up to the old length. So its ghost fields may ask for that length: the way back is asked only at lists that are as long (`types.Through`). Assumes `Logic`.
 use mathlib.Core.Path.{◌≡◌, refl, sym, ap, ◌∙◌}
 use Prim.Native.Nat.{ℕ, ◌+◌}
 use lib.ListN.{length, drop}
 use lib.Seq.{take_at}
 use base.Stored.{coded_list}
-use mathlib.Core.List.{List, [], ◌∷◌}
+use mathlib.Core.List.{List, [], ◌∷◌, ◌++◌}
 use seplogic.Ra.Ura.{Ura}
 use base.Fraction.{full_share}
 use mir.Syntax.{Lifetime, Sym}
@@ -22,7 +23,7 @@ use types.Through.{hands_through}
 use denote.RattleType.{RattleType}
 use denote.Memory.{mem, cell_at, part_at, part_of}
 use denote.Ref.{NamedLft, MutBor, at_last}
-use denote.Follow.{follows}
+use denote.Follow.{follows, follows_then}
 use denote.Array.{Array}
 use denote.Slice.{MutSlice, room, Room, mut_slice_vals, slice_val}
 use denote.FollowSlice.{heres_id, slice_of}
@@ -31,9 +32,11 @@ use denote.Struct.Field.{Field, row_field}
 use denote.Struct.Values.{Values, intos, intos_one}
 use denote.Struct.Declared.{Declared, row}
 use denote.Struct.Loose.{Looses}
+use borrow.Table.Elements.{at}
 use borrow.Struct.Apart.{apart}
 use borrow.Struct.Open.{Way, field_open}
 use Rattle.std.specs.List.{refill}
+use Rattle.bitvec_slice.proofs.Middle.{whole, lends_mid}
 
 module _ {M : Type 1} {𝓤 : Ura M} (𝓛 : Logic 𝓤) (T : RattleType) (ℓ' : Lifetime) (κ' : Lft) (h : MutBor (List T.Denot)) (b o : ℕ) where
   open 𝓛 use {A}
@@ -140,12 +143,37 @@ module _ {M : Type 1} {𝓤 : Ura M} (𝓛 : Logic 𝓤) (X : RattleType) (a : N
         use2 𝓛 (‵ (part_at (apart N) full_share w b o)) (apply∗ 𝓤 (sem 𝓛 (part_at Slice full_share (at_last h ws) b (o + 0))) (sem 𝓛 (part_at (apart N) full_share w b o))) $
         rewrite ! 0 (λ (P : Fml). ‵ P) (sym (same (F s ws) b o ∙ ap (λ (v : Values N.parts). part_at (row N) full_share v b o) is)) refl $ done !
 
+    abbrev Gone : Share → GName → SProp 𝓤
+    Gone q γ' = sep 𝓤 (A.obs γ' ((coded_list X.coded).code h.now)) (sep 𝓤 (A.bor κ (Held' γ')) (sep 𝓤 (A.lft κ q) (sem 𝓛 (follows R (Array X 0) γ γ' (F s)))))
+
+    lends_held : (q : Share) → ent 𝓤 (sep 𝓤 (A.obs γ (R.coded.code s)) (sep 𝓤 (A.bor κ (Body (mem R) b o γ)) (A.lft κ q))) (H.⇛ (ex 𝓤 (Gone q)))
+    lends_held q = hands_through 𝓛 (mem R) (Arr (mem X) (length h.now)) (F s) κ a.lft inc b o h.ref_ptr.0 h.ref_ptr.1 γ h.ghost_name Around (λ ws. length ws ≡ length h.now) (counts 𝓛 X a.mir a.lft h b (o + 0)) back q s h.now cut
+
     abbrev pub Lent : Share → GName → SProp 𝓤
     Lent q γ' = sep 𝓤 (sem 𝓛 ((MutSlice ℓ κ X).own_val (renamed h γ') (mut_slice_vals h))) (sep 𝓤 (A.lft κ q) (sem 𝓛 (follows R (Array X 0) γ γ' (F s))))
 
     pub lends_slice : Room X (length h.now) → (q : Share) → ent 𝓤 (sep 𝓤 (A.obs γ (R.coded.code s)) (sep 𝓤 (A.bor κ (Body (mem R) b o γ)) (A.lft κ q))) (H.⇛ (ex 𝓤 (Lent q)))
     lends_slice rm q =
         qed 𝓛 (‵ (fobs γ (R.coded.code s)) ∷ ‵ (fbor κ (Body (mem R) b o γ)) ∷ ‵ (flft κ q) ∷ []) ∵ updating ! $
-        use3 𝓛 (later (some (λ (γ' : GName). ‵ (fobs γ' ((coded_list X.coded).code h.now)) ⊛ ‵ (fbor κ (Held' γ')) ⊛ ‵ (flft κ q) ⊛ ‵ (follows R (Array X 0) γ γ' (F s)))))
-        (hands_through 𝓛 (mem R) (Arr (mem X) (length h.now)) (F s) κ a.lft inc b o h.ref_ptr.0 h.ref_ptr.1 γ h.ghost_name Around (λ ws. length ws ≡ length h.now) (counts 𝓛 X a.mir a.lft h b (o + 0)) back q s h.now cut) $
+        use3 𝓛 (later (some (λ (γ' : GName). ‵ (fobs γ' ((coded_list X.coded).code h.now)) ⊛ ‵ (fbor κ (Held' γ')) ⊛ ‵ (flft κ q) ⊛ ‵ (follows R (Array X 0) γ γ' (F s))))) (lends_held q) $
         await ! tt $ pick ! (λ γ'. split3 ! $ use2 𝓛 (‵ ((MutSlice ℓ κ X).own_val (renamed h γ') (mut_slice_vals h))) (slice_of 𝓛 X ℓ κ h.ref_ptr.0 h.ref_ptr.1 γ' h.now rm) $ at_once ! $ show ! (Lent q) γ' $ done !)
+
+    module _ (front mid rest : List X.Denot) (all : h.now ≡ front ++ (mid ++ rest)) where
+      abbrev from : ℕ
+      from = at h.ref_ptr.1 (mem X).size (length front)
+
+      abbrev pub LentPart : Share → GName → SProp 𝓤
+      LentPart q δ = sep 𝓤 (sem 𝓛 ((MutSlice ℓ κ X).own_val (record { ref_ptr = (h.ref_ptr.0, from); ghost_name = δ; now = mid }) (slice_val (h.ref_ptr.0, from) (length mid) ∷ []))) (sep 𝓤 (A.lft κ q) (sem 𝓛 (follows R (Array X 0) γ δ (λ ws. F s (whole front mid rest ws)))))
+
+      pub lends_part_of : Room X (length mid) → (q : Share) → ent 𝓤 (sep 𝓤 (A.obs γ (R.coded.code s)) (sep 𝓤 (A.bor κ (Body (mem R) b o γ)) (A.lft κ q))) (H.⇛ (ex 𝓤 (LentPart q)))
+      lends_part_of rm q =
+          qed 𝓛 (‵ (fobs γ (R.coded.code s)) ∷ ‵ (fbor κ (Body (mem R) b o γ)) ∷ ‵ (flft κ q) ∷ []) ∵ updating ! $
+          use3 𝓛 (later (some (λ (γ' : GName). ‵ (fobs γ' ((coded_list X.coded).code h.now)) ⊛ ‵ (fbor κ (Held' γ')) ⊛ ‵ (flft κ q) ⊛ ‵ (follows R (Array X 0) γ γ' (F s))))) (lends_held q) $
+          await ! tt $ pick ! (λ γ'. split3 ! $ move ! (2 ∷ []) $ split ! $ move ! (2 ∷ 3 ∷ 0 ∷ 1 ∷ []) $
+          -- [the name; the borrow; the token; the struct follows the name]
+          rewrite ! 0 (λ (l : List X.Denot). ‵ (fobs γ' ((coded_list X.coded).code l))) all refl $
+          rewrite ! 1 (λ (l : List X.Denot). ‵ (fbor κ (Body (Arr (mem X) (length l)) h.ref_ptr.0 h.ref_ptr.1 γ'))) all refl $
+          use3 𝓛 (later (some (λ (δ : GName). ‵ ((MutSlice ℓ κ X).own_val (record { ref_ptr = (h.ref_ptr.0, from); ghost_name = δ; now = mid }) (slice_val (h.ref_ptr.0, from) (length mid) ∷ [])) ⊛ ‵ (flft κ q) ⊛ ‵ (follows (Array X 0) (Array X 0) γ' δ (whole front mid rest)))))
+          (lends_mid 𝓛 X ℓ κ h.ref_ptr.0 h.ref_ptr.1 γ' front mid rest rm q) $ await ! tt $ pick ! (λ δ. split3 ! $ move ! (3 ∷ 2 ∷ []) $
+          use2 𝓛 (‵ (follows R (Array X 0) γ δ (λ ws. F s (whole front mid rest ws)))) (follows_then 𝓛 R (Array X 0) (Array X 0) (F s) (whole front mid rest) γ γ' δ) $
+          move ! (1 ∷ 2 ∷ 0 ∷ []) $ at_once ! $ show ! (LentPart q) δ $ done !))

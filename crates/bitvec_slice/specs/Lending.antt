@@ -2,7 +2,8 @@
 use Rattle.std.specs.Prelude.{ℕ, ◌+◌, ◌*◌, ◌≤◌, List}
 use Rattle.std.specs.Borrow.{Fml, GName, MutBor, RattleType, Array, follows}
 use Rattle.std.proofs.Common.{subst}
-use Rattle.bitvec_slice.specs.Refill.{refilled, length_refilled, of_lender}
+use Rattle.bitvec_slice.specs.Touched.{end_touched, first_touched}
+use Rattle.bitvec_slice.specs.Refill.{refilled, length_refilled, of_lender, with_range}
 use Rattle.bitvec_store.specs.declared.store.BitStore.{Ghosts as Store}
 use Rattle.bitvec_base.specs.declared.order.BitOrder.{Ghosts as Order}
 use Rattle.bitvec_base.specs.Window.{max_bits}
@@ -25,3 +26,12 @@ view_row T O t o = the_row of_lender T O t o
 -- v's elements were lent under this name among borrows, and v ends with what is left there
 abbrev pub lends : (T O : RattleType) {t : Store T.Denot} {o : Order O.Denot} → MutBor (BitSliceMut T.Denot O.Denot t o) → GName → Fml
 lends T O {t} {o} v name = follows (view_row T O t o) (Array T 0) v.ghost_name name (with_elements v.now)
+
+-- v's elements from `start` up to `end` were lent so, and v ends with what is left there and its other elements
+abbrev pub lends_part : (T O : RattleType) {t : Store T.Denot} {o : Order O.Denot} → MutBor (BitSliceMut T.Denot O.Denot t o) → ℕ → ℕ → GName → Fml
+lends_part T O {t} {o} v start end name =
+    follows (view_row T O t o) (Array T 0) v.ghost_name name (λ ws. with_elements v.now (with_range v.now.elements.now start end ws))
+
+-- the elements that v's bits from the index `from` up to `to` touch were lent so
+abbrev pub lends_bits : (T O : RattleType) {t : Store T.Denot} {o : Order O.Denot} → MutBor (BitSliceMut T.Denot O.Denot t o) → ℕ → ℕ → GName → Fml
+lends_bits T O {t} {o} v from to name = lends_part T O v (first_touched t.BITS (v.now.head + from)) (end_touched t.BITS (v.now.head + to)) name

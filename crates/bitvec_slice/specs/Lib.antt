@@ -1,8 +1,13 @@
 pub mod BitDomains
 pub mod Indices
+pub mod Kept
+pub mod KeptLaws
 pub mod Lending
 pub mod Refill
 pub mod Seen
+pub mod SeenLaws
+pub mod Touched
+pub mod TouchedLaws
 pub mod ViewLaws
 pub mod Views
 pub mod Wholes

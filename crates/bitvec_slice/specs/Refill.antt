@@ -1,5 +1,5 @@
 -- What a borrowed slice ends as, where it was lent on: as many elements as before.
-use Rattle.std.specs.Prelude.{◌≡◌, List, [], length, refl}
+use Rattle.std.specs.Prelude.{◌≡◌, ℕ, List, [], ◌++◌, drop, length, refl, slice_range, take}
 use Rattle.std.specs.List.{refill, length_refill}
 use Rattle.std.specs.Borrow.{MutBor}
 use denote.Ref.{NamedLft}
@@ -11,6 +11,12 @@ refilled r xs = record r { now = refill (length r.now) r.now xs }
 
 pub length_refilled : {T : Type 0} (r : MutBor (List T)) (xs : List T) → length r.now ≡ length (refilled r xs).now
 length_refilled r xs = length_refill (length r.now) r.now xs refl
+
+-- the list with ws in the place of its elements from `start` up to `end`, cut or filled up to as many as those were
+abbrev pub with_range : {X : Type 0} → List X → ℕ → ℕ → List X → List X
+with_range xs start end ws =
+    let mid = slice_range xs start end in
+    take start xs ++ (refill (length mid) mid ws ++ drop end xs)
 
 -- the lifetime of a lender's own borrow, the second of its method's
 abbrev pub of_lender : NamedLft

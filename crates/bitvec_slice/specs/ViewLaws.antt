@@ -1,17 +1,21 @@
 -- The bits of a view, of all of a memory, and of a part of a view.
-use Rattle.std.specs.Prelude.{◌≡◌, ℕ, ◌+◌, ◌-◌, ◌*◌, ◌≤◌, List, length, map, slice_range}
+use Rattle.std.specs.Prelude.{◌≡◌, ℕ, ◌+◌, ◌-◌, ◌*◌, ◌%◌, ◌<◌, ◌≤◌, List, length, map, slice_range}
 use Rattle.std.specs.Borrow.{GName}
-use Rattle.std.proofs.Common.{arith, ◌∙◌, ap}
+use Rattle.std.proofs.Common.{arith, sym, ◌∙◌, ap}
 use Rattle.std.proofs.lemmas.List.{length-map}
 use Rattle.bitvec_base.specs.Memory.{HasWindow, memory_bits}
 use Rattle.bitvec_base.specs.MemoryLaws.{length-memory_bits}
-use Rattle.bitvec_base.specs.SliceLaws.{range-all}
+use Rattle.bitvec_base.specs.SliceLaws.{range-all, range-map}
 use Rattle.bitvec_base.specs.Window.{IsWithin, window_of}
-use Rattle.bitvec_base.specs.WindowLaws.{length-window, part-of_window}
+use Rattle.bitvec_base.specs.WindowLaws.{length-window}
+use Rattle.bitvec_base.specs.WriteLaws.{range-range}
 use Rattle.bitvec_base.specs.WritesLaws.{within-list}
 use Rattle.bitvec_store.specs.declared.store.BitStore.{Ghosts as Store}
 use Rattle.bitvec_base.specs.declared.order.BitOrder.{Ghosts as Order}
-use Rattle.bitvec_slice.specs.Indices.{IsRangeOf, IsRangeOfMut, seen, seen_mut}
+use Rattle.bitvec_slice.specs.Indices.{seen, seen_mut}
+use Rattle.bitvec_slice.specs.Seen.{IsRangeOf}
+use Rattle.bitvec_slice.specs.Touched.{touched}
+use Rattle.bitvec_slice.specs.TouchedLaws.{touched-bits}
 use Rattle.bitvec_slice.specs.Views.{bits_of, memory_of, window_in, bits_of_mut, memory_of_mut, name_of_mut, window_in_mut}
 use Rattle.bitvec_slice.specs.Wholes.{IsView, IsViewMut, IsWhole, IsWholeMut}
 use Rattle.bitvec_slice.specs.declared.view.BitSlice.{BitSlice}
@@ -48,15 +52,22 @@ module _ {T O : Type 0} {t : Store T} {o : Order O} where
       }
 
   -- a view of some of a view's bits
-  pub part_of_view : (v w : BitSlice T O t o) (from to : ℕ) → from ≤ to → to ≤ v.len → IsView v.elements.now (v.head + from) (to - from) w → IsRangeOf (seen v) from to w
-  unfolding bits_of memory_of
-  part_of_view v w from to order bound is =
-      let len = is.len in
-      let end : from + w.len ≡ to = omega arith in
+  pub part_of_view : (v w : BitSlice T O t o) (from to : ℕ) → 0 < t.BITS → from ≤ to → to ≤ v.len
+      → IsView (touched t.BITS v.elements.now (v.head + from) (v.head + to)) ((v.head + from) % t.BITS) (to - from) w → IsRangeOf t.BITS (seen v) from to (seen w)
+  unfolding bits_of memory_of window_of
+  part_of_view v w from to some order bound is =
+      let start = v.head + from in
+      let xs = map t.value v.elements.now in
+      let inside = v.inside in
+      let product = ap (λ (n : ℕ). t.BITS * n) (length-map v.elements.now t.value) in
+      let long = length-memory_bits t.BITS o.at xs in
       record {
-        bits = rw is.elements (part-of_window (memory_of v) (window_in v) (window_in w) from (within_memory v) is.start (omega arith) ∙ ap (λ (n : ℕ). slice_range (window_of (memory_of v) (window_in v)) from n) end);
+        bits = rw (is.elements, is.start, is.len) (
+            ap (λ (ys : List ℕ). slice_range (memory_bits t.BITS o.at ys) (start % t.BITS) (start % t.BITS + (to - from))) (range-map t.value v.elements.now _ _)
+            ∙ touched-bits t.BITS o.at xs start (v.head + to) (to - from) some (omega arith) (omega arith)
+            ∙ sym (range-range (memory_bits t.BITS o.at xs) v.head (v.head + v.len) from to (omega arith) (omega arith)));
         start = is.start;
-        len = len;
+        len = is.len;
         elements = is.elements;
       }
 
@@ -91,15 +102,21 @@ module _ {T O : Type 0} {t : Store T} {o : Order O} where
         name = name;
       }
 
-  pub part_of_view_mut : (v w : BitSliceMut T O t o) (from to : ℕ) (lender : GName) → from ≤ to → to ≤ v.len → IsViewMut v.elements.now (v.head + from) (to - from) w → name_of_mut w ≡ lender → IsRangeOfMut (seen_mut v) lender from to w
-  unfolding bits_of_mut memory_of_mut
-  part_of_view_mut v w from to lender order bound is name =
-      let len = is.len in
-      let end : from + w.len ≡ to = omega arith in
+  pub part_of_view_mut : (v w : BitSliceMut T O t o) (from to : ℕ) → 0 < t.BITS → from ≤ to → to ≤ v.len
+      → IsViewMut (touched t.BITS v.elements.now (v.head + from) (v.head + to)) ((v.head + from) % t.BITS) (to - from) w → IsRangeOf t.BITS (seen_mut v) from to (seen_mut w)
+  unfolding bits_of_mut memory_of_mut window_of
+  part_of_view_mut v w from to some order bound is =
+      let start = v.head + from in
+      let xs = map t.value v.elements.now in
+      let inside = v.inside in
+      let product = ap (λ (n : ℕ). t.BITS * n) (length-map v.elements.now t.value) in
+      let long = length-memory_bits t.BITS o.at xs in
       record {
-        bits = rw is.elements (part-of_window (memory_of_mut v) (window_in_mut v) (window_in_mut w) from (within_memory_mut v) is.start (omega arith) ∙ ap (λ (n : ℕ). slice_range (window_of (memory_of_mut v) (window_in_mut v)) from n) end);
+        bits = rw (is.elements, is.start, is.len) (
+            ap (λ (ys : List ℕ). slice_range (memory_bits t.BITS o.at ys) (start % t.BITS) (start % t.BITS + (to - from))) (range-map t.value v.elements.now _ _)
+            ∙ touched-bits t.BITS o.at xs start (v.head + to) (to - from) some (omega arith) (omega arith)
+            ∙ sym (range-range (memory_bits t.BITS o.at xs) v.head (v.head + v.len) from to (omega arith) (omega arith)));
         start = is.start;
-        len = len;
+        len = is.len;
         elements = is.elements;
-        name = name;
       }

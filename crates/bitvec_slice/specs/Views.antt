@@ -10,11 +10,11 @@ use Rattle.bitvec_slice.specs.declared.view.BitSlice.{BitSlice}
 use Rattle.bitvec_slice.specs.declared.view_mut.BitSliceMut.{BitSliceMut}
 
 module _ {T O : Type 0} {t : Store T} {o : Order O} where
-  -- the elements of the view's memory
+  -- the elements that the view keeps: those that its bits touch
   abbrev pub elements_of : BitSlice T O t o → List T
   elements_of v = v.elements.now
 
-  -- the bits of the view's memory, all of them
+  -- the bits of these elements, which are the view's memory, all of them
   unfoldable pub memory_of : BitSlice T O t o → List Bool
   memory_of v = memory_bits t.BITS o.at (map t.value v.elements.now)
 

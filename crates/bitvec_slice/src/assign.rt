@@ -1,7 +1,7 @@
 //! The operators `&=`, `|=` and `^=` of writable views, with a view of the same type.
 ghost use Rattle.bitvec_base.specs.Lists.{combined};
-ghost use Rattle.bitvec_engine.specs.Operator.{operator};
-ghost use Rattle.bitvec_engine.specs.declared.combining.BitOp.TheVariants.{And, Or, Xor};
+ghost use Rattle.bitvec_words.specs.Operator.{operator};
+ghost use Rattle.bitvec_words.specs.declared.operator.BitOp.TheVariants.{And, Or, Xor};
 ghost use Rattle.bitvec_slice.specs.Views.{bits_of, bits_of_mut};
 ghost use Rattle.bitvec_slice.specs.Writes.{WritesBits};
 

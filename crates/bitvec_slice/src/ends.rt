@@ -6,7 +6,8 @@ use bitvec_base::BitOrder;
 use bitvec_store::BitStore;
 
 impl<'a, T: BitStore, O: BitOrder> BitSlice<'a, T, O> {
-    ghost use Rattle.bitvec_slice.specs.Indices.{IsBitOf, IsFrontOf, IsRestOf, seen};
+    ghost use Rattle.bitvec_slice.specs.Indices.{IsBitOf, seen};
+    ghost use Rattle.bitvec_slice.specs.Seen.{IsRangeOf};
     ghost use Rattle.bitvec_slice.specs.Views.{window_in};
 
     /// The first bit: `None` exactly where there is no bit.
@@ -37,7 +38,7 @@ impl<'a, T: BitStore, O: BitOrder> BitSlice<'a, T, O> {
     pub fn split_first(self) -> Option<(BitRef<'a, T, O>, BitSlice<'a, T, O>)>
         ensures some { IsSome result ↔ (0 < (window_in self.entry).len) }
         ensures bit { IfSome result (λ parts. IsBitOf (seen self.entry) 0 parts.0) }
-        ensures rest { IfSome result (λ parts. IsRestOf (seen self.entry) 1 parts.1) }
+        ensures rest { IfSome result (λ parts. IsRangeOf T.BITS (seen self.entry) 1 (window_in self.entry).len (seen parts.1)) }
     {
         if self.is_empty() {
             None
@@ -51,7 +52,7 @@ impl<'a, T: BitStore, O: BitOrder> BitSlice<'a, T, O> {
         ensures some { IsSome result ↔ (0 < (window_in self.entry).len) }
         ensures bit { IfSome result (λ parts. IsBitOf (seen self.entry) ((window_in self.entry).len - 1) parts.0) }
         ensures front { IfSome result
-            (λ parts. IsFrontOf (seen self.entry) ((window_in self.entry).len - 1) parts.1) }
+            (λ parts. IsRangeOf T.BITS (seen self.entry) 0 ((window_in self.entry).len - 1) (seen parts.1)) }
     {
         if self.is_empty() {
             None

@@ -1,14 +1,14 @@
 //! The first and the last bit of a writable view.
-ghost use Rattle.std.specs.Prelude.{◌≡◌, ◌-◌, ◌<◌, ◌↔◌, IfSome, IsSome};
+ghost use Rattle.std.specs.Prelude.{◌-◌, ◌<◌, ◌↔◌, IfSome, IsSome};
 
 use crate::{BitRef, BitRefMut, BitSlice, BitSliceMut};
 use bitvec_base::BitOrder;
 use bitvec_store::BitStore;
 
 impl<'a, T: BitStore, O: BitOrder> BitSliceMut<'a, T, O> {
-    ghost use Rattle.bitvec_reference.specs.References.{memory_of_ref_mut, name_of_ref_mut};
-    ghost use Rattle.bitvec_slice.specs.Indices.{IsBitOf, IsBitOfMut, IsFrontOf, IsRestOf, seen_mut};
-    ghost use Rattle.bitvec_slice.specs.Views.{memory_of_mut, window_in_mut};
+    ghost use Rattle.bitvec_slice.specs.Indices.{IsBitOf, IsBitOfMut, seen, seen_mut};
+    ghost use Rattle.bitvec_slice.specs.Seen.{IsRangeOf};
+    ghost use Rattle.bitvec_slice.specs.Views.{window_in_mut};
 
     /// The first bit: `None` exactly where there is no bit.
     pub fn first(&self) -> Option<BitRef<'_, T, O>>
@@ -30,7 +30,7 @@ impl<'a, T: BitStore, O: BitOrder> BitSliceMut<'a, T, O> {
     pub fn split_first(&self) -> Option<(BitRef<'_, T, O>, BitSlice<'_, T, O>)>
         ensures some { IsSome result ↔ (0 < (window_in_mut self.now).len) }
         ensures bit { IfSome result (λ parts. IsBitOf (seen_mut self.now) 0 parts.0) }
-        ensures rest { IfSome result (λ parts. IsRestOf (seen_mut self.now) 1 parts.1) }
+        ensures rest { IfSome result (λ parts. IsRangeOf T.BITS (seen_mut self.now) 1 (window_in_mut self.now).len (seen parts.1)) }
     {
         self.as_ref().split_first()
     }
@@ -41,18 +41,16 @@ impl<'a, T: BitStore, O: BitOrder> BitSliceMut<'a, T, O> {
         ensures bit { IfSome result
             (λ parts. IsBitOf (seen_mut self.now) ((window_in_mut self.now).len - 1) parts.0) }
         ensures front { IfSome result
-            (λ parts. IsFrontOf (seen_mut self.now) ((window_in_mut self.now).len - 1) parts.1) }
+            (λ parts. IsRangeOf T.BITS (seen_mut self.now) 0 ((window_in_mut self.now).len - 1) (seen parts.1)) }
     {
         self.as_ref().split_last()
     }
 
     /// The first bit for writing: `None` exactly where there is no bit.
-    #[tactic(auto, unfolding(bitvec_reference::specs::References::memory_of_ref_mut, crate::specs::Views::memory_of_mut))]
     pub fn first_mut(&mut self) -> Option<BitRefMut<'_, T, O>>
         ensures some { IsSome result ↔ (0 < (window_in_mut self.old).len) }
         ensures bit { IfSome result
-            (λ bit. IsBitOfMut (seen_mut self.old) (name_of_ref_mut bit) 0 bit) }
-        ensures memory { IfSome result (λ bit. memory_of_ref_mut bit ≡ memory_of_mut self.old) }
+            (IsBitOfMut (seen_mut self.old) 0) }
     {
         if self.is_empty() {
             None
@@ -62,12 +60,9 @@ impl<'a, T: BitStore, O: BitOrder> BitSliceMut<'a, T, O> {
     }
 
     /// The last bit for writing: `None` exactly where there is no bit.
-    #[tactic(auto, unfolding(bitvec_reference::specs::References::memory_of_ref_mut, crate::specs::Views::memory_of_mut))]
     pub fn last_mut(&mut self) -> Option<BitRefMut<'_, T, O>>
         ensures some { IsSome result ↔ (0 < (window_in_mut self.old).len) }
-        ensures bit { IfSome result (λ bit. IsBitOfMut (seen_mut self.old) (name_of_ref_mut bit)
-            ((window_in_mut self.old).len - 1) bit) }
-        ensures memory { IfSome result (λ bit. memory_of_ref_mut bit ≡ memory_of_mut self.old) }
+        ensures bit { IfSome result (IsBitOfMut (seen_mut self.old) ((window_in_mut self.old).len - 1)) }
     {
         if self.is_empty() {
             None

@@ -1,6 +1,5 @@
 //! What a view is indexed by.
 ghost use Rattle.std.specs.Prelude.{◌≡◌, ℕ, ◌<◌, ◌↔◌, IfSome, IsSome, IsTrue};
-ghost use Rattle.std.specs.Borrow.{GName};
 
 use crate::{BitRef, BitRefMut, BitSlice, BitSliceMut};
 use bitvec_base::BitOrder;
@@ -10,7 +9,7 @@ use bitvec_store::BitStore;
 pub trait Viewed: Drop {
     ghost use Rattle.bitvec_slice.specs.Seen.{Seen};
 
-    /// The elements of its memory.
+    /// Its elements.
     type Element;
 
     /// The writable view of the same bits.
@@ -28,13 +27,11 @@ pub trait Viewed: Drop {
 pub trait ViewedMut: Drop {
     ghost use Rattle.bitvec_slice.specs.Seen.{Seen};
 
-    /// The elements of its memory.
+    /// Its elements.
     type Element;
 
-    // What contracts see of it, and the name among borrows of its memory.
+    // What contracts see of it.
     ghost sees: { Self → Seen Self.Element };
-
-    ghost borrows: { Self → GName };
 
     /// How many bits there are.
     fn bit_len(&self) -> usize
@@ -60,8 +57,8 @@ pub trait BitSliceIndex<V: Viewed>: Sized + Drop {
     // Holds of the index, a view and what stands there.
     ghost gives: { Self → Seen V.Element → Self.Immut → Type 0 };
 
-    // The same for writing, with the name among borrows of the view's memory.
-    ghost gives_mut: { Self → Seen V.Writable.Element → GName → Self.Mut → Type 0 };
+    // The same for writing.
+    ghost gives_mut: { Self → Seen V.Writable.Element → Self.Mut → Type 0 };
 
     /// Whether a view of so many bits has the index. The crate has no such call.
     fn fits(&self, len: usize) -> bool
@@ -75,7 +72,7 @@ pub trait BitSliceIndex<V: Viewed>: Sized + Drop {
     /// What stands at the index, for writing. Condition: the view has it.
     fn index_mut(self, bits: V::Writable) -> Self::Mut
         requires { fits self (V.Writable.sees bits).window.len }
-        ensures { gives_mut self (V.Writable.sees bits) (V.Writable.borrows bits) result };
+        ensures { gives_mut self (V.Writable.sees bits) result };
 
     /// What stands at the index: `None` exactly where the view does not have it.
     fn get(self, bits: V) -> Option<Self::Immut>
@@ -92,7 +89,7 @@ pub trait BitSliceIndex<V: Viewed>: Sized + Drop {
     /// What stands at the index, for writing: `None` exactly where the view does not have it.
     fn get_mut(self, bits: V::Writable) -> Option<Self::Mut>
         ensures some { IsSome result ↔ fits self (V.Writable.sees bits).window.len }
-        ensures gives { IfSome result (gives_mut self (V.Writable.sees bits) (V.Writable.borrows bits)) }
+        ensures gives { IfSome result (gives_mut self (V.Writable.sees bits)) }
     {
         if self.fits(bits.bit_len()) {
             Some(self.index_mut(bits))
@@ -112,7 +109,7 @@ pub trait BitSliceIndex<V: Viewed>: Sized + Drop {
     /// What stands at the index, for writing. Condition: the view has it.
     fn get_unchecked_mut(self, bits: V::Writable) -> Self::Mut
         requires { fits self (V.Writable.sees bits).window.len }
-        ensures { gives_mut self (V.Writable.sees bits) (V.Writable.borrows bits) result }
+        ensures { gives_mut self (V.Writable.sees bits) result }
     {
         self.index_mut(bits)
     }
@@ -134,13 +131,10 @@ impl<'a, T: BitStore, O: BitOrder> Viewed for BitSlice<'a, T, O> {
 
 impl<'a, T: BitStore, O: BitOrder> ViewedMut for BitSliceMut<'a, T, O> {
     ghost use Rattle.bitvec_slice.specs.Indices.{seen_mut};
-    ghost use Rattle.bitvec_slice.specs.Views.{name_of_mut};
 
     type Element = T;
 
     ghost sees = { seen_mut };
-
-    ghost borrows = { name_of_mut };
 
     fn bit_len(&self) -> usize {
         self.len()
@@ -158,7 +152,7 @@ impl<'a, T: BitStore + 'a, O: BitOrder> BitSliceIndex<BitSlice<'a, T, O>> for us
 
     ghost gives = { λ index view bit. IsBitOf view index bit };
 
-    ghost gives_mut = { λ index view memory bit. IsBitOfMut view memory index bit };
+    ghost gives_mut = { λ index view bit. IsBitOfMut view index bit };
 
     fn fits(&self, len: usize) -> bool {
         *self < len

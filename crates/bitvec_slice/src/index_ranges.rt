@@ -8,7 +8,8 @@ use bitvec_store::BitStore;
 use std::ops::{Range, RangeFrom, RangeFull, RangeInclusive, RangeTo, RangeToInclusive};
 
 impl<'a, T: BitStore + 'a, O: BitOrder> BitSliceIndex<BitSlice<'a, T, O>> for Range<usize> {
-    ghost use Rattle.bitvec_slice.specs.Indices.{HasRange, IsRangeOf, IsRangeOfMut};
+    ghost use Rattle.bitvec_slice.specs.Indices.{HasRange, seen, seen_mut};
+    ghost use Rattle.bitvec_slice.specs.Seen.{IsRangeOf};
 
     type Immut = BitSlice<'a, T, O>;
 
@@ -16,9 +17,9 @@ impl<'a, T: BitStore + 'a, O: BitOrder> BitSliceIndex<BitSlice<'a, T, O>> for Ra
 
     ghost fits = { HasRange };
 
-    ghost gives = { λ range view part. IsRangeOf view range.start range.end part };
+    ghost gives = { λ range view part. IsRangeOf T.BITS view range.start range.end (seen part) };
 
-    ghost gives_mut = { λ range view memory part. IsRangeOfMut view memory range.start range.end part };
+    ghost gives_mut = { λ range view part. IsRangeOf T.BITS view range.start range.end (seen_mut part) };
 
     fn fits(&self, len: usize) -> bool {
         self.start <= self.end && self.end <= len
@@ -34,7 +35,8 @@ impl<'a, T: BitStore + 'a, O: BitOrder> BitSliceIndex<BitSlice<'a, T, O>> for Ra
 }
 
 impl<'a, T: BitStore + 'a, O: BitOrder> BitSliceIndex<BitSlice<'a, T, O>> for RangeFrom<usize> {
-    ghost use Rattle.bitvec_slice.specs.Indices.{IsRangeOf, IsRangeOfMut};
+    ghost use Rattle.bitvec_slice.specs.Indices.{seen, seen_mut};
+    ghost use Rattle.bitvec_slice.specs.Seen.{IsRangeOf};
 
     type Immut = BitSlice<'a, T, O>;
 
@@ -42,9 +44,9 @@ impl<'a, T: BitStore + 'a, O: BitOrder> BitSliceIndex<BitSlice<'a, T, O>> for Ra
 
     ghost fits = { λ range len. range.start ≤ len };
 
-    ghost gives = { λ range view part. IsRangeOf view range.start view.window.len part };
+    ghost gives = { λ range view part. IsRangeOf T.BITS view range.start view.window.len (seen part) };
 
-    ghost gives_mut = { λ range view memory part. IsRangeOfMut view memory range.start view.window.len part };
+    ghost gives_mut = { λ range view part. IsRangeOf T.BITS view range.start view.window.len (seen_mut part) };
 
     fn fits(&self, len: usize) -> bool {
         self.start <= len
@@ -62,7 +64,8 @@ impl<'a, T: BitStore + 'a, O: BitOrder> BitSliceIndex<BitSlice<'a, T, O>> for Ra
 }
 
 impl<'a, T: BitStore + 'a, O: BitOrder> BitSliceIndex<BitSlice<'a, T, O>> for RangeTo<usize> {
-    ghost use Rattle.bitvec_slice.specs.Indices.{IsRangeOf, IsRangeOfMut};
+    ghost use Rattle.bitvec_slice.specs.Indices.{seen, seen_mut};
+    ghost use Rattle.bitvec_slice.specs.Seen.{IsRangeOf};
 
     type Immut = BitSlice<'a, T, O>;
 
@@ -70,9 +73,9 @@ impl<'a, T: BitStore + 'a, O: BitOrder> BitSliceIndex<BitSlice<'a, T, O>> for Ra
 
     ghost fits = { λ range len. range.end ≤ len };
 
-    ghost gives = { λ range view part. IsRangeOf view 0 range.end part };
+    ghost gives = { λ range view part. IsRangeOf T.BITS view 0 range.end (seen part) };
 
-    ghost gives_mut = { λ range view memory part. IsRangeOfMut view memory 0 range.end part };
+    ghost gives_mut = { λ range view part. IsRangeOf T.BITS view 0 range.end (seen_mut part) };
 
     fn fits(&self, len: usize) -> bool {
         self.end <= len
@@ -88,7 +91,8 @@ impl<'a, T: BitStore + 'a, O: BitOrder> BitSliceIndex<BitSlice<'a, T, O>> for Ra
 }
 
 impl<'a, T: BitStore + 'a, O: BitOrder> BitSliceIndex<BitSlice<'a, T, O>> for RangeFull {
-    ghost use Rattle.bitvec_slice.specs.Indices.{IsRangeOf, IsRangeOfMut};
+    ghost use Rattle.bitvec_slice.specs.Indices.{seen, seen_mut};
+    ghost use Rattle.bitvec_slice.specs.Seen.{IsRangeOf};
 
     type Immut = BitSlice<'a, T, O>;
 
@@ -96,9 +100,9 @@ impl<'a, T: BitStore + 'a, O: BitOrder> BitSliceIndex<BitSlice<'a, T, O>> for Ra
 
     ghost fits = { λ _ _. ⊤ };
 
-    ghost gives = { λ _ view part. IsRangeOf view 0 view.window.len part };
+    ghost gives = { λ _ view part. IsRangeOf T.BITS view 0 view.window.len (seen part) };
 
-    ghost gives_mut = { λ _ view memory part. IsRangeOfMut view memory 0 view.window.len part };
+    ghost gives_mut = { λ _ view part. IsRangeOf T.BITS view 0 view.window.len (seen_mut part) };
 
     fn fits(&self, _len: usize) -> bool {
         true
@@ -117,7 +121,8 @@ impl<'a, T: BitStore + 'a, O: BitOrder> BitSliceIndex<BitSlice<'a, T, O>> for Ra
 
 impl<'a, T: BitStore + 'a, O: BitOrder> BitSliceIndex<BitSlice<'a, T, O>>
     for RangeInclusive<usize> {
-    ghost use Rattle.bitvec_slice.specs.Indices.{HasInclusive, IsRangeOf, IsRangeOfMut};
+    ghost use Rattle.bitvec_slice.specs.Indices.{HasInclusive, seen, seen_mut};
+    ghost use Rattle.bitvec_slice.specs.Seen.{IsRangeOf};
 
     type Immut = BitSlice<'a, T, O>;
 
@@ -125,9 +130,9 @@ impl<'a, T: BitStore + 'a, O: BitOrder> BitSliceIndex<BitSlice<'a, T, O>>
 
     ghost fits = { HasInclusive };
 
-    ghost gives = { λ range view part. IsRangeOf view (range_inclusive_start range) (range_inclusive_end range + 1) part };
+    ghost gives = { λ range view part. IsRangeOf T.BITS view (range_inclusive_start range) (range_inclusive_end range + 1) (seen part) };
 
-    ghost gives_mut = { λ range view memory part. IsRangeOfMut view memory (range_inclusive_start range) (range_inclusive_end range + 1) part };
+    ghost gives_mut = { λ range view part. IsRangeOf T.BITS view (range_inclusive_start range) (range_inclusive_end range + 1) (seen_mut part) };
 
     fn fits(&self, len: usize) -> bool {
         *self.start() <= *self.end() && *self.end() < len
@@ -146,7 +151,8 @@ impl<'a, T: BitStore + 'a, O: BitOrder> BitSliceIndex<BitSlice<'a, T, O>>
 
 impl<'a, T: BitStore + 'a, O: BitOrder> BitSliceIndex<BitSlice<'a, T, O>>
     for RangeToInclusive<usize> {
-    ghost use Rattle.bitvec_slice.specs.Indices.{IsRangeOf, IsRangeOfMut};
+    ghost use Rattle.bitvec_slice.specs.Indices.{seen, seen_mut};
+    ghost use Rattle.bitvec_slice.specs.Seen.{IsRangeOf};
 
     type Immut = BitSlice<'a, T, O>;
 
@@ -154,9 +160,9 @@ impl<'a, T: BitStore + 'a, O: BitOrder> BitSliceIndex<BitSlice<'a, T, O>>
 
     ghost fits = { λ range len. range.end < len };
 
-    ghost gives = { λ range view part. IsRangeOf view 0 (range.end + 1) part };
+    ghost gives = { λ range view part. IsRangeOf T.BITS view 0 (range.end + 1) (seen part) };
 
-    ghost gives_mut = { λ range view memory part. IsRangeOfMut view memory 0 (range.end + 1) part };
+    ghost gives_mut = { λ range view part. IsRangeOf T.BITS view 0 (range.end + 1) (seen_mut part) };
 
     fn fits(&self, len: usize) -> bool {
         self.end < len

@@ -15,6 +15,7 @@ mod index_ranges;
 mod not;
 mod splits;
 mod splits_mut;
+mod touched;
 mod view;
 mod view_blocks;
 mod view_indices;

@@ -3,6 +3,7 @@ ghost use Rattle.std.specs.Prelude.{◌≡◌, ◌+◌, ◌*◌, ◌≤◌, ◌=
 ghost use Rattle.bitvec_base.specs.Window.{max_bits};
 
 use crate::bit_domain::bit_domain_of;
+use crate::touched::touched;
 use crate::{BitDomain, Domain};
 use bitvec_base::{BitOrder, MAX_BITS, Window};
 use bitvec_domain::domain_of;
@@ -12,9 +13,11 @@ use std::marker::PhantomData;
 
 /// Bits of a borrowed slice of elements, in an order: it stands for the crate's `&BitSlice<T, O>`.
 ///
-/// Contracts see a view as its memory, which is the bits of the whole slice, and as its window
-/// there. Its own bits are the memory's in the window. Lengths, indices and ranges are in bits. A
-/// call has the name and the meaning of the crate's, unless its text says what it stands for.
+/// A view keeps the elements that its bits touch, and the index in the first of them at which it
+/// begins; so does each of its parts. Contracts see it as its memory, which is the bits of those
+/// elements, and as its window there. Its own bits are the memory's in the window. Lengths, indices
+/// and ranges are in bits. A call has the name and the meaning of the crate's, unless its text says
+/// what it stands for.
 pub struct BitSlice<'a, T: BitStore, O: BitOrder> {
     elements: &'a [T],
     head: usize,
@@ -41,7 +44,8 @@ impl<'a, T: BitStore, O: BitOrder> BitSlice<'a, T, O> {
     ghost use Rattle.bitvec_slice.specs.BitDomains.{IsBitDomain, bits_of_bit_domain};
     ghost use Rattle.bitvec_domain.specs.Cuts.{cut_of};
     ghost use Rattle.bitvec_domain.specs.Domains.{IsDomain, bits_of_domain};
-    ghost use Rattle.bitvec_slice.specs.Indices.{IsRangeOf, seen};
+    ghost use Rattle.bitvec_slice.specs.Indices.{seen};
+    ghost use Rattle.bitvec_slice.specs.Seen.{CoversElements, IsRangeOf};
     ghost use Rattle.bitvec_slice.specs.Views.{bits_of, elements_of, window_in};
     ghost use Rattle.bitvec_slice.specs.Wholes.{IsView, IsWhole};
 
@@ -73,8 +77,19 @@ impl<'a, T: BitStore, O: BitOrder> BitSlice<'a, T, O> {
         }
     }
 
-    /// The elements of the view's memory. The crate has no such call.
+    /// The elements of a view of all their bits. Condition: it has all bits of its elements, as
+    /// those that are made of a slice have. The crate has no such call.
     pub fn into_slice(self) -> &'a [T]
+        requires { CoversElements T.BITS (seen self) }
+        ensures { result.now ≡ elements_of self.entry }
+    {
+        self.elements
+    }
+
+    /// The elements that the view touches, for a question of a crate above, whose answer is of the
+    /// view's own bits.
+    #[doc(hidden)]
+    pub fn elements(self) -> &'a [T]
         ensures { result.now ≡ elements_of self.entry }
     {
         self.elements
@@ -115,13 +130,15 @@ impl<'a, T: BitStore, O: BitOrder> BitSlice<'a, T, O> {
     pub(crate) fn into_part(self, from: usize, to: usize) -> Self
         requires order { from ≤ to }
         requires bound { to ≤ (window_in self).len }
-        ensures { IsRangeOf (seen self.entry) from to result }
+        ensures { IsRangeOf T.BITS (seen self.entry) from to (seen result) }
     {
-        BitSlice::from_parts(self.elements, self.head + from, to - from)
+        let start = self.head + from;
+        let cells = touched::<T>(start, self.head + to);
+        let elements = &self.elements[cells.start..cells.end];
+        BitSlice::from_parts(elements, start % (T::BITS as usize), to - from)
     }
 
-    /// Where the view stands among the elements that [`BitSlice::into_slice`] gives. The crate has no
-    /// such call.
+    /// Where the view stands among the elements that it touches. The crate has no such call.
     pub fn window(&self) -> Window
         ensures value { result ≡ window_in self.now }
         ensures inside { HasWindow T.BITS (map T.value (elements_of self.now)) result }

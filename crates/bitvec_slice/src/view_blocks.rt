@@ -1,7 +1,7 @@
 //! Edits of a writable view by the bits of another of the same type.
 ghost use Rattle.std.specs.Prelude.{◌≡◌};
 ghost use Rattle.bitvec_base.specs.Lists.{combined};
-ghost use Rattle.bitvec_engine.specs.Operator.{operator};
+ghost use Rattle.bitvec_words.specs.Operator.{operator};
 
 use crate::{BitSlice, BitSliceMut};
 use bitvec_elements::{combine_block_in, copy_from_block_in, swap_with_block_in};
@@ -19,7 +19,7 @@ impl<'a, T: BitStore, O: SliceOrder> BitSliceMut<'a, T, O> {
     {
         let window = self.window();
         let from = src.window();
-        copy_from_block_in::<T, O>(self.elements_mut(), window, src.into_slice(), from);
+        copy_from_block_in::<T, O>(self.elements_mut(), window, src.elements(), from);
     }
 
     /// Exchanges the bits with those of a view of the same type. Condition: the views are as long.
@@ -44,6 +44,6 @@ impl<'a, T: BitStore, O: SliceOrder> BitSliceMut<'a, T, O> {
     {
         let window = self.window();
         let from = src.window();
-        combine_block_in::<T, O>(self.elements_mut(), window, src.into_slice(), from, op);
+        combine_block_in::<T, O>(self.elements_mut(), window, src.elements(), from, op);
     }
 }

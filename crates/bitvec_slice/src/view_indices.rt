@@ -40,7 +40,7 @@ impl<'a, T: BitStore, O: BitOrder> BitSlice<'a, T, O> {
         requires { index < (window_in self).len }
         ensures { result ≡ slice_index_or (bits_of self.entry) index false }
     {
-        bit_in::<T, O>(self.into_slice(), self.window(), index)
+        bit_in::<T, O>(self.elements(), self.window(), index)
     }
 }
 

@@ -1,8 +1,9 @@
 //! A writable view of bits.
-ghost use Rattle.std.specs.Prelude.{◌≡◌, ◌+◌, ◌*◌, ◌<◌, ◌≤◌, ◌==◌, length, map, not, replicate, slice_set};
+ghost use Rattle.std.specs.Prelude.{◌≡◌, ◌+◌, ◌*◌, ◌<◌, ◌≤◌, ◌==◌, length, map, not, replicate, slice_range, slice_set};
 ghost use Rattle.bitvec_base.specs.Window.{max_bits};
 
 use crate::bit_domain_mut::bit_domain_mut_of;
+use crate::touched::touched;
 use crate::{BitDomain, BitDomainMut, BitSlice, Domain, DomainMut};
 use bitvec_base::{BitOrder, Window};
 use bitvec_domain::domain_mut_of;
@@ -16,6 +17,15 @@ use std::marker::PhantomData;
 /// Contracts see it as they see a [`BitSlice`], and besides know its memory by its name among
 /// borrows. Lengths, indices and ranges are in bits. A call has the name and the meaning of the
 /// crate's, unless its text says what it stands for.
+///
+/// What is written through comes from these calls alone. Views: `as_mut`, `part_mut`, `!`, and by a
+/// range `get_mut`, `get_unchecked_mut` and the calls of [`crate::BitSliceIndex`]. References to one
+/// bit: `bit_mut`, `first_mut`, `last_mut`, and by an index `get_mut` and its kin. Elements and parts
+/// of them: `domain_mut`, and as views `bit_domain_mut`. A part holds the elements that its bits touch
+/// and no other, and no public call writes a bit of these outside the part. Whole elements are given
+/// out by `domain_mut`, which covers them, and by `into_slice`, which asks for a view of all their
+/// bits. Two calls that this page hides, `elements_mut` and `elements_part_mut`, lend them to crates
+/// above, whose edits owe that bits outside the view stay.
 #[derive(Drop)]
 pub struct BitSliceMut<'a, T: BitStore, O: BitOrder> {
     elements: &'a mut [T],
@@ -33,8 +43,9 @@ impl<'a, T: BitStore, O: BitOrder> BitSliceMut<'a, T, O> {
     ghost use Rattle.bitvec_domain.specs.Cuts.{cut_of};
     ghost use Rattle.bitvec_domain.specs.Domains.{IsDomain, IsDomainMut, bits_of_domain, bits_of_domain_mut};
     ghost use Rattle.bitvec_slice.specs.Writes.{WritesBits};
-    ghost use Rattle.bitvec_slice.specs.Lending.{lends};
-    ghost use Rattle.bitvec_slice.specs.Indices.{IsRangeOfMut, seen_mut};
+    ghost use Rattle.bitvec_slice.specs.Lending.{lends, lends_part};
+    ghost use Rattle.bitvec_slice.specs.Indices.{seen_mut};
+    ghost use Rattle.bitvec_slice.specs.Seen.{CoversElements, IsRangeOf};
     ghost use Rattle.bitvec_slice.specs.Views.{bits_of, elements_of, window_in, bits_of_mut, elements_of_mut, memory_of_mut, name_of_mut, window_in_mut};
     ghost use Rattle.bitvec_slice.specs.Wholes.{IsViewMut, IsWholeMut};
 
@@ -62,11 +73,20 @@ impl<'a, T: BitStore, O: BitOrder> BitSliceMut<'a, T, O> {
         }
     }
 
-    /// Ends the view, and gives back the slice that it borrowed. The crate has no such call.
+    /// Ends a view of all bits of its elements, and gives these back. Condition: it has all of them,
+    /// as a view that was made of a slice has, also after edits. The crate has no such call.
     #[tactic(auto, unfolding(crate::specs::Views::memory_of_mut))]
     pub fn into_slice(self) -> &'a mut [T]
+        requires { CoversElements T.BITS (seen_mut self) }
         ensures elements { result.now ≡ elements_of_mut self.entry }
         ensures memory { memory_bits T.BITS O.at (map T.value result.now) ≡ memory_of_mut self.entry }
+        ensures name { result.ghost_name ≡ name_of_mut self.entry }
+    {
+        self.into_elements()
+    }
+
+    pub(crate) fn into_elements(self) -> &'a mut [T]
+        ensures elements { result.now ≡ elements_of_mut self.entry }
         ensures name { result.ghost_name ≡ name_of_mut self.entry }
     {
         let BitSliceMut {
@@ -187,7 +207,7 @@ impl<'a, T: BitStore, O: BitOrder> BitSliceMut<'a, T, O> {
     pub(crate) fn into_part(self, from: usize, to: usize) -> Self
         requires order { from ≤ to }
         requires bound { to ≤ (window_in_mut self).len }
-        ensures { IsRangeOfMut (seen_mut self.entry) (name_of_mut self.entry) from to result }
+        ensures { IsRangeOf T.BITS (seen_mut self.entry) from to (seen_mut result) }
     {
         let BitSliceMut {
             elements,
@@ -195,11 +215,13 @@ impl<'a, T: BitStore, O: BitOrder> BitSliceMut<'a, T, O> {
             len: _,
             mark: _,
         } = self;
-        BitSliceMut::from_parts(elements, head + from, to - from)
+        let start = head + from;
+        let cells = touched::<T>(start, head + to);
+        let elements = &mut elements[cells.start..cells.end];
+        BitSliceMut::from_parts(elements, start % (T::BITS as usize), to - from)
     }
 
-    /// Where the view stands among the elements that [`BitSliceMut::into_slice`] gives. The crate has
-    /// no such call.
+    /// Where the view stands among the elements that it touches. The crate has no such call.
     pub fn window(&self) -> Window
         ensures value { result ≡ window_in_mut self.now }
         ensures inside { HasWindow T.BITS (map T.value (elements_of_mut self.now)) result }
@@ -218,5 +240,17 @@ impl<'a, T: BitStore, O: BitOrder> BitSliceMut<'a, T, O> {
         ensures elements { result.now ≡ elements_of_mut self.old }
     {
         &mut *self.elements
+    }
+
+    /// Some of the elements, lent as [`BitSliceMut::elements_mut`] lends all: those outside stay.
+    /// Condition: `start <= end`, and there are at least `end` elements.
+    #[doc(hidden)]
+    pub fn elements_part_mut(&mut self, start: usize, end: usize) -> &mut [T]
+        requires order { start ≤ end }
+        requires bound { end ≤ length (elements_of_mut self.old) }
+        ensures* writes_back { sem 𝓛 (lends_part T.row O.row self.entry start end result.ghost_name) }
+        ensures elements { result.now ≡ slice_range (elements_of_mut self.old) start end }
+    {
+        &mut self.elements[start..end]
     }
 }

@@ -7,7 +7,8 @@ use bitvec_base::BitOrder;
 use bitvec_store::BitStore;
 
 impl<'a, T: BitStore, O: BitOrder> BitSliceMut<'a, T, O> {
-    ghost use Rattle.bitvec_slice.specs.Indices.{IsFrontOf, IsRestOf, seen_mut};
+    ghost use Rattle.bitvec_slice.specs.Indices.{seen, seen_mut};
+    ghost use Rattle.bitvec_slice.specs.Seen.{IsRangeOf};
     ghost use Rattle.bitvec_slice.specs.Views.{bits_of, bits_of_mut};
 
     /// The bits behind the needle's, if those begin the view: `None` exactly where they don't.
@@ -17,7 +18,8 @@ impl<'a, T: BitStore, O: BitOrder> BitSliceMut<'a, T, O> {
         needle: BitSlice<'b, U, P>,
     ) -> Option<BitSlice<'_, T, O>>
         ensures some { IsSome result ↔ (is_prefix (bits_of needle.entry) (bits_of_mut self.now) ≡ true) }
-        ensures rest { IfSome result (IsRestOf (seen_mut self.now) (length (bits_of needle.entry))) }
+        ensures rest { IfSome result
+            (λ part. IsRangeOf T.BITS (seen_mut self.now) (length (bits_of needle.entry)) (length (bits_of_mut self.now)) (seen part)) }
     {
         self.as_ref().strip_prefix(needle)
     }
@@ -29,8 +31,8 @@ impl<'a, T: BitStore, O: BitOrder> BitSliceMut<'a, T, O> {
         needle: BitSlice<'b, U, P>,
     ) -> Option<BitSlice<'_, T, O>>
         ensures some { IsSome result ↔ (is_suffix (bits_of needle.entry) (bits_of_mut self.now) ≡ true) }
-        ensures front { IfSome result (IsFrontOf (seen_mut self.now)
-            (length (bits_of_mut self.now) - length (bits_of needle.entry))) }
+        ensures front { IfSome result
+            (λ part. IsRangeOf T.BITS (seen_mut self.now) 0 (length (bits_of_mut self.now) - length (bits_of needle.entry)) (seen part)) }
     {
         self.as_ref().strip_suffix(needle)
     }

@@ -8,7 +8,8 @@ use bitvec_elements::{ends_with_in, starts_with_in};
 use bitvec_store::BitStore;
 
 impl<'a, T: BitStore, O: BitOrder> BitSlice<'a, T, O> {
-    ghost use Rattle.bitvec_slice.specs.Indices.{IsFrontOf, IsRestOf, seen};
+    ghost use Rattle.bitvec_slice.specs.Indices.{seen};
+    ghost use Rattle.bitvec_slice.specs.Seen.{IsRangeOf};
     ghost use Rattle.bitvec_slice.specs.Views.{bits_of};
 
     /// The bits behind the needle's, if those begin the view: `None` exactly where they don't.
@@ -17,7 +18,8 @@ impl<'a, T: BitStore, O: BitOrder> BitSlice<'a, T, O> {
         needle: BitSlice<'b, U, P>,
     ) -> Option<Self>
         ensures some { IsSome result ↔ (is_prefix (bits_of needle.entry) (bits_of self.entry) ≡ true) }
-        ensures rest { IfSome result (IsRestOf (seen self.entry) (length (bits_of needle.entry))) }
+        ensures rest { IfSome result
+            (λ part. IsRangeOf T.BITS (seen self.entry) (length (bits_of needle.entry)) (length (bits_of self.entry)) (seen part)) }
     {
         if self.begins_with(needle) {
             Some(self.into_part(needle.len(), self.len()))
@@ -32,8 +34,8 @@ impl<'a, T: BitStore, O: BitOrder> BitSlice<'a, T, O> {
         needle: BitSlice<'b, U, P>,
     ) -> Option<Self>
         ensures some { IsSome result ↔ (is_suffix (bits_of needle.entry) (bits_of self.entry) ≡ true) }
-        ensures front { IfSome result (IsFrontOf (seen self.entry)
-            (length (bits_of self.entry) - length (bits_of needle.entry))) }
+        ensures front { IfSome result
+            (λ part. IsRangeOf T.BITS (seen self.entry) 0 (length (bits_of self.entry) - length (bits_of needle.entry)) (seen part)) }
     {
         if self.finishes_with(needle) {
             Some(self.into_part(0, self.len() - needle.len()))
@@ -47,9 +49,9 @@ impl<'a, T: BitStore, O: BitOrder> BitSlice<'a, T, O> {
         ensures { result ≡ is_prefix (bits_of needle.entry) (bits_of self.now) }
     {
         starts_with_in::<T, O, U, P>(
-            self.into_slice(),
+            self.elements(),
             self.window(),
-            needle.into_slice(),
+            needle.elements(),
             needle.window(),
         )
     }
@@ -59,9 +61,9 @@ impl<'a, T: BitStore, O: BitOrder> BitSlice<'a, T, O> {
         ensures { result ≡ is_suffix (bits_of needle.entry) (bits_of self.now) }
     {
         ends_with_in::<T, O, U, P>(
-            self.into_slice(),
+            self.elements(),
             self.window(),
-            needle.into_slice(),
+            needle.elements(),
             needle.window(),
         )
     }

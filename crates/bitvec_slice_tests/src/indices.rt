@@ -208,6 +208,10 @@ fn a_view_says_where_it_stands(rt: HostRuntime) -> Result<(), Fail> {
     let part = all.get(5..17).ok_or("no such bits")?;
     assert_eq!(rt; part.window(), Window { start: 5, len: 12 });
     assert_eq!(rt; part.bit_len(), 12);
+    let later = all.get(13..17).ok_or("no such bits")?;
+    assert_eq!(rt; later.window(), Window { start: 5, len: 4 });
+    let nothing = part.get(6..6).ok_or("no such bits")?;
+    assert_eq!(rt; nothing.window(), Window { start: 3, len: 0 });
     let view = BitSliceMut::<u8, Lsb0>::from_slice_mut(&mut cells);
     assert_eq!(rt; view.window(), Window { start: 0, len: 24 });
     assert_eq!(rt; view.as_ref().window(), Window { start: 0, len: 24 });

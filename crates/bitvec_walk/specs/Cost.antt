@@ -25,13 +25,13 @@ last_loads b window (Some i) = touched b (window.start + i) (window.len - i)
 
 -- ---- work on whole windows, in steps
 
--- the bits that a step is about: one, for every order, until orders work by words
-unfoldable pub step_bits : Bool → ℕ
-step_bits words = 1
+-- the bits that a step is about: a word of `usize` where the order works by words, one bit where it doesn't
+abbrev pub step_bits : Bool → ℕ
+step_bits words = if words then 64 else 1
 
 -- the steps that n bits take
 unfoldable pub work_steps : Bool → ℕ → ℕ
-work_steps words n = (n + step_bits words - 1) / step_bits words
+work_steps words n = (n + (step_bits words - 1)) / step_bits words
 
 -- the elements of b bits that a step can touch
 unfoldable pub step_span : ℕ → Bool → ℕ

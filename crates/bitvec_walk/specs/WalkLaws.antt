@@ -25,17 +25,17 @@ touched-some b s n =
     ∙ ap (λ (m : ℕ). m / b - s / b + 1) (let e : s + suc n - 1 ≡ s + n = omega arith in e)
 
 -- the elements up to an end
-touched-until : (b s e : ℕ) → s < e → touched b s (e - s) ≡ (e - 1) / b - s / b + 1
+pub touched-until : (b s e : ℕ) → s < e → touched b s (e - s) ≡ (e - 1) / b - s / b + 1
 touched-until b s e h =
     let more : e - s ≡ suc (e - s - 1) = omega arith in
     let last : s + (e - s - 1) ≡ e - 1 = omega arith in
     rw more (touched-some b s (e - s - 1) ∙ ap (λ (m : ℕ). m / b - s / b + 1) last)
 
-div-order : (b m n : ℕ) → 0 < b → m ≤ n → m / b ≤ n / b
+pub div-order : (b m n : ℕ) → 0 < b → m ≤ n → m / b ≤ n / b
 div-order b m n some order = let below = div-add-mod' m b in le-div (m / b) n b some (omega arith)
 
 -- fewer places touch no more elements
-touched-less : (b s m n : ℕ) → 0 < b → m ≤ n → touched b s m ≤ touched b s n
+pub touched-less : (b s m n : ℕ) → 0 < b → m ≤ n → touched b s m ≤ touched b s n
 touched-less b s zero n some order = let none = touched-none b s in omega arith
 touched-less b s (suc m) zero some order = absurd (omega arith)
 touched-less b s (suc m) (suc n) some order =

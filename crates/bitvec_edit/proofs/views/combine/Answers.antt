@@ -6,4 +6,4 @@ pub returns : goal.returns
 unfolding bits_of bits_of_mut memory_of memory_of_mut
 returns g c =
     writes_bits c.args.view.now c.combine_in.new.left _
-    (rw (c.elements_mut.ensures.elements, c.window-window.ensures.value, c.window-from.ensures.value, c.into_slice.ensures) at c.combine_in.ensures.writes)
+    (rw (c.elements_mut.ensures.elements, c.window-window.ensures.value, c.window-from.ensures.value, c.elements.ensures) at c.combine_in.ensures.writes)

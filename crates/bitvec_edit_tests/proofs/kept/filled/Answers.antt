@@ -1,13 +1,17 @@
-use Rattle.std.specs.Prelude.{◌≡◌, refl}
-use Rattle.std.proofs.Common.{arith, ◌∙◌}
-use Rattle.bitvec_slice.specs.Views.{memory_of_mut}
+use Rattle.std.proofs.Common.{arith, rules, sym}
+use Rattle.bitvec_store.specs.WidthLaws.{width_some}
+use Rattle.bitvec_slice.specs.KeptLaws.{lent_bits-keep}
 use Rattle.bitvec_edit_tests.proofs.kept.filled.Goals as goal
 
-pub returns-clause-bits : goal.returns-clause-bits
-unfolding memory_of_mut
-returns-clause-bits g c =
+pub returns : goal.returns
+returns g c =
     let view = c.from_slice_mut-view.ensures in
-    let part = c.index_mut-part.ensures in
-    let elements : c.index_mut-part.result.elements.now ≡ c.args.elements.now = part.elements ∙ view.elements in
-    let start : c.index_mut-part.result.head ≡ c.args.range.start = omega (arith, part.start, view.start) in
-    c.into_slice.ensures.memory ∙ c.fill.ensures.memory ∙ rw (elements, start, part.len) refl
+    let start = view.start in
+    let len = view.len in
+    let order = c.requires.range.0 in
+    let bound = c.requires.range.1 in
+    record {
+      kept = rw (c.into_slice.ensures.elements, sym view.elements) (
+          lent_bits-keep c.from_slice_mut-view.result c.args.range.start c.args.range.end _ _ _ (width_some _ g.met.T.BitStore.width_law) order (omega arith) (omega arith) (omega arith));
+      name = search rules;
+    }

@@ -3,7 +3,7 @@ use Rattle.bitvec_base.specs.Lists.{combined}
 use Rattle.bitvec_base.specs.Memory.{Writes, list_in}
 use Rattle.bitvec_base.specs.TransferLaws.{overwritten}
 use Rattle.bitvec_cells.specs.Access.{Costs, OnlyReads}
-use Rattle.bitvec_engine.specs.Operator.{operator}
+use Rattle.bitvec_words.specs.Operator.{operator}
 use Rattle.bitvec_engine.proofs.combining.bits_op.Given as goal
 
 abbrev pub invariant-loop-index : goal.invariant-loop-index

@@ -8,27 +8,27 @@ use Rattle.bitvec_query.proofs.runs.behind_last.Goals as goal
 pub overflow_sub-result : goal.overflow_sub-result
 unfolding bits_of memory_of
 overflow_sub-result g c =
-    let found = rw (c.into_slice.ensures, c.window.ensures.value) at c.last_in.ensures in
+    let found = rw (c.elements.ensures, c.window.ensures.value) at c.last_in.ensures in
     let inside = (last_place-some (λ (bit : Bool). not (beq bit c.args.end)) c.args.end (λ bit. refl) (bits_of c.args.view) _ (sym found ∙ c.in-Some.is)).0 in
     omega (arith, c.len.ensures.value)
 
 pub overflow_sub-result-in-Some : goal.overflow_sub-result-in-Some
 unfolding bits_of memory_of
 overflow_sub-result-in-Some g c =
-    let found = rw (c.into_slice.ensures, c.window.ensures.value) at c.last_in.ensures in
+    let found = rw (c.elements.ensures, c.window.ensures.value) at c.last_in.ensures in
     let inside = (last_place-some (λ (bit : Bool). not (beq bit c.args.end)) c.args.end (λ bit. refl) (bits_of c.args.view) _ (sym found ∙ c.in-Some.is)).0 in
     omega (arith, c.len.ensures.value)
 
 pub returns-in-Some : goal.returns-in-Some
 unfolding bits_of memory_of
 returns-in-Some g c =
-    let found = rw (c.into_slice.ensures, c.window.ensures.value) at c.last_in.ensures in
+    let found = rw (c.elements.ensures, c.window.ensures.value) at c.last_in.ensures in
     let behind = (last_place-some (λ (bit : Bool). not (beq bit c.args.end)) c.args.end (λ bit. refl) (bits_of c.args.view) _ (sym found ∙ c.in-Some.is)).1 in
     omega (arith, c.len.ensures.value)
 
 pub returns-in-None : goal.returns-in-None
 unfolding bits_of memory_of
 returns-in-None g c =
-    let found = rw (c.into_slice.ensures, c.window.ensures.value) at c.last_in.ensures in
+    let found = rw (c.elements.ensures, c.window.ensures.value) at c.last_in.ensures in
     c.len-in-None.ensures.value
     ∙ sym (last_place-whole (λ (bit : Bool). not (beq bit c.args.end)) c.args.end (λ bit. refl) (bits_of c.args.view) (sym found ∙ c.in-None.is))

@@ -1,0 +1,300 @@
+// Tests the library against loops over single bits, then times it beside its peers, and prints tables.
+#include "checks.hpp"
+#include "library.hpp"
+#include "loops.hpp"
+#include "peers.hpp"
+#include "timing.hpp"
+#include <cstdio>
+#include <cstring>
+#include <map>
+#include <string>
+#include <vector>
+
+namespace {
+
+constexpr size_t sizes[] = {size_t(1) << 20, size_t(1) << 10};
+
+// The bit of an element at which a shifted side starts, and by how far shifts go beside whole elements.
+template <class Element>
+constexpr size_t middle = sizeof(Element) == 1 ? 3 : 29;
+
+template <class Element, class Order>
+void check() {
+    Checks<Element, Order> checks(1);
+    constexpr size_t width = 8 * sizeof(Element);
+    for (size_t len : sizes)
+        for (size_t start : {size_t(0), middle<Element>})
+            for (size_t by : {size_t(0), width, width + middle<Element>, len / 2 + middle<Element>, len})
+                if (len == sizes[1] || by == width + middle<Element>)
+                    checks.all({0, start, len, by});
+    std::mt19937_64 random(2);
+    for (int i = 0; i < 4000; ++i) {
+        size_t len = random() % (i < 2000 ? 40 : 400);
+        checks.all({random() % 130, random() % 130, len, random() % (len + 1)});
+    }
+    for (size_t len = width; len <= 6 * width; len += width)
+        for (size_t start = 0; start < width; ++start)
+            checks.all({0, start, len, random() % (len + 1)});
+}
+
+// The times of one operation at one place, of one call each; 0 where there is none.
+struct Times {
+    double library = 0, loop = 0, libc = 0;
+};
+
+struct Row {
+    std::string operation, element, phase;
+    size_t len;
+    Times times;
+    Best best;
+};
+
+// A number with three digits that count, or nothing for 0.
+std::string number(double x) {
+    char text[32] = "";
+    if (x != 0)
+        std::snprintf(text, sizeof text, "%.*f", x >= 100 ? 0 : x >= 10 ? 1 : x >= 1 ? 2 : x >= 0.1 ? 3 : 4, x);
+    return text;
+}
+
+std::string ratio(double other, double library) { return number(other / library); }
+
+std::string rate(size_t len, double nanoseconds) { return nanoseconds == 0 ? "" : number(double(len) / nanoseconds); }
+
+void print_head(size_t len) {
+    std::printf("\n### %zu bits\n\n", len);
+    std::printf("| operation | elements | phase | library | peer | which | loop | libc | library / peer | library / "
+                "loop | library / libc |\n");
+    std::printf("|---|---|---|---|---|---|---|---|---|---|---|\n");
+}
+
+void print(const Row &row) {
+    const Times &t = row.times;
+    std::printf("| %s | %s | %s | %s | %s | %s | %s | %s | %s | %s | %s |\n", row.operation.c_str(),
+                row.element.c_str(), row.phase.c_str(), rate(row.len, t.library).c_str(),
+                rate(row.len, row.best.nanoseconds).c_str(), row.best.name.c_str(), rate(row.len, t.loop).c_str(),
+                rate(row.len, t.libc).c_str(), ratio(row.best.nanoseconds, t.library).c_str(),
+                ratio(t.loop, t.library).c_str(), ratio(t.libc, t.library).c_str());
+    std::fflush(stdout);
+}
+
+// The library, the plain loop and libc on `len` bits. Where an operation has two sides the second
+// begins at `start`, where it has one this does.
+template <class Element, class Order>
+class Timed {
+    using Call = Library<Element, Order>;
+    using Loop = Loops<Element, Order>;
+    static constexpr size_t width = 8 * sizeof(Element);
+
+  public:
+    Timed(size_t len, size_t start)
+        : len(len), start(start), count(len / width), size(count + 1), left(size), right(size), room(2 * count) {
+        std::mt19937_64 random(3);
+        for (Element &element : left)
+            element = Element(random());
+        for (Element &element : right)
+            element = Element(random());
+    }
+
+    Times copy() {
+        Times t;
+        t.library = time_call([&] { Call::copy(l(), size, 0, r(), size, start, len); });
+        t.loop = time_call([&] { Loop::copy(l(), r(), unsigned(start), count); });
+        if (start == 0)
+            t.libc = time_call([&] { std::memmove(l(), r(), len / 8); });
+        return t;
+    }
+
+    Times combine() {
+        Times t;
+        t.library = time_call([&] { Call::combine(l(), size, 0, r(), size, start, len); });
+        t.loop = time_call([&] { Loop::combine(l(), r(), unsigned(start), count); });
+        return t;
+    }
+
+    Times swap() {
+        Times t;
+        t.library = time_call([&] { Call::swap(l(), size, 0, r(), size, start, len); });
+        t.loop = time_call([&] { Loop::swap(l(), r(), unsigned(start), count); });
+        return t;
+    }
+
+    // Of equal bits.
+    Times equal() {
+        Loop::copy(l(), r(), unsigned(start), count);
+        Times t;
+        t.library = time_call([&] { keep(Call::equal(l(), size, 0, r(), size, start, len)); });
+        t.loop = time_call([&] { keep(Loop::equal(l(), r(), unsigned(start), count)); });
+        if (start == 0)
+            t.libc = time_call([&] { keep(std::memcmp(l(), r(), len / 8)); });
+        return t;
+    }
+
+    Times copy_within(size_t by) {
+        Times t;
+        t.library = time_call([&] { Call::copy_within(l(), size, 0, len, by); });
+        t.loop = time_call([&] { Loop::copy_within(l(), count, by); });
+        if (by % 8 == 0)
+            t.libc = time_call([&] { std::memmove(l() + by / width, l(), (len - by) / 8); });
+        return t;
+    }
+
+    Times shift_start(size_t by) {
+        Times t;
+        t.library = time_call([&] { Call::shift_start(l(), size, 0, len, by); });
+        t.loop = time_call([&] { Loop::shift_start(l(), count, by); });
+        if (by % 8 == 0)
+            t.libc = time_call([&] {
+                std::memmove(l(), l() + by / width, (len - by) / 8);
+                std::memset(l() + count - by / width, 0, by / 8);
+            });
+        return t;
+    }
+
+    Times reverse() {
+        Times t;
+        t.library = time_call([&] { Call::reverse(r(), size, start, len); });
+        t.loop = time_call([&] { Loop::reverse(r(), unsigned(start), count, room.data()); });
+        return t;
+    }
+
+    Times rotate_left(size_t by) {
+        Times t;
+        t.library = time_call([&] { Call::rotate_left(l(), size, 0, len, by); });
+        t.loop = time_call([&] { Loop::rotate_left(l(), count, by, room.data()); });
+        return t;
+    }
+
+    Times fill() {
+        Times t;
+        t.library = time_call([&] { Call::fill(r(), size, start, len, true); });
+        t.loop = time_call([&] { Loop::fill(r(), unsigned(start), count, true); });
+        if (start == 0)
+            t.libc = time_call([&] { std::memset(r(), 0xFF, len / 8); });
+        return t;
+    }
+
+    Times invert() {
+        Times t;
+        t.library = time_call([&] { Call::invert(r(), size, start, len); });
+        t.loop = time_call([&] { Loop::invert(r(), unsigned(start), count); });
+        return t;
+    }
+
+    Times count_ones() {
+        Times t;
+        t.library = time_call([&] { keep(Call::count_ones(r(), size, start, len)); });
+        t.loop = time_call([&] { keep(Loop::count_ones(r(), unsigned(start), count)); });
+        return t;
+    }
+
+    // Of bits of which the last alone is 1.
+    Times first_one() {
+        Loop::fill(r(), unsigned(start), count, false);
+        Call::fill(r(), size, start + len - 1, 1, true);
+        Times t;
+        t.library = time_call([&] { keep(Call::first_one(r(), size, start, len)); });
+        t.loop = time_call([&] { keep(Loop::first_one(r(), unsigned(start), count)); });
+        return t;
+    }
+
+  private:
+    size_t len, start, count, size;
+    std::vector<Element> left, right, room;
+
+    Element *l() { return left.data(); }
+    Element *r() { return right.data(); }
+};
+
+// The best peers, each measured once: they choose their own elements.
+class PeerTimes {
+  public:
+    template <class Measure>
+    const Best &of(const std::string &key, Measure measure) {
+        auto found = known.find(key);
+        if (found == known.end())
+            found = known.emplace(key, measure()).first;
+        return found->second;
+    }
+
+  private:
+    std::map<std::string, Best> known;
+};
+
+template <class Element, class Order>
+void measure(size_t len, bool is_shifted, PeerTimes &peers) {
+    const size_t width = 8 * sizeof(Element);
+    const size_t start = is_shifted ? middle<Element> : 0, peer_start = is_shifted ? 29 : 0;
+    const size_t by = is_shifted ? middle<Element> : width, peer_by = is_shifted ? 29 : 64;
+    const size_t turn = len / 2 + start, peer_turn = len / 2 + peer_start;
+    const std::string elements = std::string("u") + std::to_string(width) + " " + Order::name;
+    const std::string two = "0, " + std::to_string(start), one = std::to_string(start);
+    Timed<Element, Order> timed(len, start);
+    auto row = [&](const char *operation, const std::string &phase, Times times, auto best) {
+        std::string key = std::string(operation) + (is_shifted ? " shifted" : "");
+        print({operation, elements, phase, len, times, peers.of(key, [&] {
+                   Peers sets(len, peer_start);
+                   return best(sets);
+               })});
+    };
+    row("copy", two, timed.copy(), [](Peers &p) { return p.copy(); });
+    row("or", two, timed.combine(), [](Peers &p) { return p.combine(); });
+    row("swap", two, timed.swap(), [](Peers &p) { return p.swap(); });
+    row("equality", two, timed.equal(), [](Peers &p) { return p.equal(); });
+    row("copy_within", "by " + std::to_string(by), timed.copy_within(by),
+        [&](Peers &p) { return p.copy_within(peer_by); });
+    row("shift_start", "by " + std::to_string(by), timed.shift_start(by),
+        [&](Peers &p) { return p.shift_start(peer_by); });
+    row("rotate_left", "by " + std::to_string(turn), timed.rotate_left(turn),
+        [&](Peers &p) { return p.rotate_left(peer_turn); });
+    row("reverse", one, timed.reverse(), [](Peers &p) { return p.reverse(); });
+    row("fill", one, timed.fill(), [](Peers &p) { return p.fill(); });
+    row("invert", one, timed.invert(), [](Peers &p) { return p.invert(); });
+    row("count_ones", one, timed.count_ones(), [](Peers &p) { return p.count_ones(); });
+    row("first_one", one, timed.first_one(), [](Peers &p) { return p.first_one(); });
+}
+
+// Copies of few bits, in nanoseconds, with starts that the compiler doesn't know.
+template <class Element, class Order>
+void measure_few() {
+    using Call = Library<Element, Order>;
+    using Loop = Loops<Element, Order>;
+    const unsigned width = 8 * sizeof(Element);
+    std::vector<Element> to(160 / width), from(160 / width, Element(0x5A));
+    for (unsigned len : {8u, 64u}) {
+        if (len > width)
+            continue;
+        for (size_t start : {size_t(0), middle<Element>}) {
+            double library = time_call([&] { Call::copy(to.data(), to.size(), 0, from.data(), from.size(), start, len); });
+            double by_hand = time_call([&] { Loop::copy_few(to.data(), 0, from.data(), start, len); });
+            std::printf("| %u | u%u %s | 0, %zu | %s | %s | %s |\n", len, width, Order::name, start,
+                        number(library).c_str(), number(by_hand).c_str(), ratio(by_hand, library).c_str());
+        }
+    }
+}
+
+} // namespace
+
+int main() {
+    check<uint8_t, Lsb0>();
+    check<uint8_t, Msb0>();
+    check<uint64_t, Lsb0>();
+    check<uint64_t, Msb0>();
+    std::printf("The library's results are those of the loops over single bits.\n");
+    for (size_t len : sizes) {
+        PeerTimes peers;
+        print_head(len);
+        for (bool is_shifted : {false, true}) {
+            measure<uint64_t, Lsb0>(len, is_shifted, peers);
+            measure<uint64_t, Msb0>(len, is_shifted, peers);
+            measure<uint8_t, Lsb0>(len, is_shifted, peers);
+            measure<uint8_t, Msb0>(len, is_shifted, peers);
+        }
+    }
+    std::printf("\n### Copies of few bits, in ns\n\n| bits | elements | phase | library | by hand | library / by hand |\n");
+    std::printf("|---|---|---|---|---|---|\n");
+    measure_few<uint64_t, Lsb0>();
+    measure_few<uint64_t, Msb0>();
+    measure_few<uint8_t, Lsb0>();
+    measure_few<uint8_t, Msb0>();
+}

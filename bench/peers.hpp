@@ -1,0 +1,243 @@
+// The bit sets that the library is compared with, timed as they are called by those who use them.
+//
+// Each chooses its own elements. A set that has no call for an operation isn't in that operation's
+// list: boost::dynamic_bitset, fixedbitset and bit-vec have no part of a set, so a shifted copy is
+// `>>` of the whole in the first, and none in the others.
+#pragma once
+#include "timing.hpp"
+#include <algorithm>
+#include <boost/dynamic_bitset.hpp>
+#include <cstddef>
+#include <cstdint>
+#include <string>
+#include <vector>
+
+struct FixedBitSet;
+struct BitVec;
+
+extern "C" {
+FixedBitSet *fixedbitset_new(const uint32_t *, size_t);
+void fixedbitset_free(FixedBitSet *);
+void fixedbitset_copy(FixedBitSet *, const FixedBitSet *);
+void fixedbitset_or(FixedBitSet *, const FixedBitSet *);
+bool fixedbitset_equal(const FixedBitSet *, const FixedBitSet *);
+void fixedbitset_fill(FixedBitSet *, size_t, size_t, bool);
+void fixedbitset_invert(FixedBitSet *, size_t, size_t);
+size_t fixedbitset_count_ones(const FixedBitSet *, size_t, size_t);
+size_t fixedbitset_first_one(const FixedBitSet *);
+BitVec *bit_vec_new(const uint32_t *, size_t);
+void bit_vec_free(BitVec *);
+void bit_vec_copy(BitVec *, const BitVec *);
+void bit_vec_or(BitVec *, const BitVec *);
+bool bit_vec_equal(const BitVec *, const BitVec *);
+void bit_vec_fill(BitVec *, bool);
+void bit_vec_invert(BitVec *);
+size_t bit_vec_count_ones(const BitVec *);
+size_t bit_vec_first_one(const BitVec *);
+}
+
+// The fastest peer of an operation, and how long one call of it takes.
+struct Best {
+    std::string name = "none";
+    double nanoseconds = 0;
+
+    template <class Call>
+    void try_peer(const char *peer, Call call) {
+        double taken = time_call(call);
+        if (nanoseconds == 0 || taken < nanoseconds) {
+            name = peer;
+            nanoseconds = taken;
+        }
+    }
+};
+
+// The same bits in each kind of set.
+struct Sets {
+    std::vector<bool> vector;
+    boost::dynamic_bitset<> bitset;
+    FixedBitSet *fixed;
+    BitVec *bit_vec;
+
+    explicit Sets(const std::vector<uint32_t> &words)
+        : fixed(fixedbitset_new(words.data(), words.size())), bit_vec(bit_vec_new(words.data(), words.size())) {
+        for (uint32_t word : words)
+            for (unsigned i = 0; i < 32; ++i) {
+                vector.push_back(word >> i & 1);
+                bitset.push_back(word >> i & 1);
+            }
+    }
+    Sets(const Sets &) = delete;
+    Sets &operator=(const Sets &) = delete;
+    ~Sets() {
+        fixedbitset_free(fixed);
+        bit_vec_free(bit_vec);
+    }
+};
+
+// The best peer at each operation on `len` bits, from bit `start` of the second set, or of the only one.
+class Peers {
+  public:
+    Peers(size_t len, size_t start)
+        : len(len), start(start), left(words(len, 7)), right(words(len + (start == 0 ? 0 : 64), 11)) {}
+
+    Best copy() {
+        Best best;
+        best.try_peer("vector<bool>", [&] { std::copy(second(), second() + len, left.vector.begin()); });
+        if (start == 0) {
+            best.try_peer("dynamic_bitset", [&] { left.bitset = right.bitset; });
+            best.try_peer("fixedbitset", [&] { fixedbitset_copy(left.fixed, right.fixed); });
+            best.try_peer("bit-vec", [&] { bit_vec_copy(left.bit_vec, right.bit_vec); });
+        } else {
+            best.try_peer("dynamic_bitset", [&] { left.bitset = shifted(); });
+        }
+        return best;
+    }
+
+    Best combine() {
+        Best best;
+        best.try_peer("vector<bool>", [&] {
+            std::transform(second(), second() + len, left.vector.begin(), left.vector.begin(), std::logical_or<>());
+        });
+        if (start == 0) {
+            best.try_peer("dynamic_bitset", [&] { left.bitset |= right.bitset; });
+            best.try_peer("fixedbitset", [&] { fixedbitset_or(left.fixed, right.fixed); });
+            best.try_peer("bit-vec", [&] { bit_vec_or(left.bit_vec, right.bit_vec); });
+        } else {
+            best.try_peer("dynamic_bitset", [&] { left.bitset |= shifted(); });
+        }
+        return best;
+    }
+
+    Best swap() {
+        Best best;
+        best.try_peer("vector<bool>", [&] { std::swap_ranges(second(), second() + len, left.vector.begin()); });
+        if (start == 0)
+            best.try_peer("dynamic_bitset", [&] {
+                left.bitset ^= right.bitset;
+                right.bitset ^= left.bitset;
+                left.bitset ^= right.bitset;
+            });
+        return best;
+    }
+
+    // Of equal bits.
+    Best equal() {
+        std::copy(second(), second() + len, left.vector.begin());
+        left.bitset = shifted();
+        Best best;
+        best.try_peer("vector<bool>",
+                      [&] { keep(std::equal(left.vector.begin(), left.vector.begin() + ptrdiff_t(len), second())); });
+        if (start == 0) {
+            fixedbitset_copy(left.fixed, right.fixed);
+            bit_vec_copy(left.bit_vec, right.bit_vec);
+            best.try_peer("dynamic_bitset", [&] { keep(left.bitset == right.bitset); });
+            best.try_peer("fixedbitset", [&] { keep(fixedbitset_equal(left.fixed, right.fixed)); });
+            best.try_peer("bit-vec", [&] { keep(bit_vec_equal(left.bit_vec, right.bit_vec)); });
+        } else {
+            best.try_peer("dynamic_bitset", [&] { keep(left.bitset == shifted()); });
+        }
+        return best;
+    }
+
+    Best copy_within(size_t by) {
+        Best best;
+        auto bits = left.vector.begin();
+        best.try_peer("vector<bool>",
+                      [&] { std::copy_backward(bits, bits + ptrdiff_t(len - by), bits + ptrdiff_t(len)); });
+        best.try_peer("dynamic_bitset", [&] { left.bitset <<= by; });
+        return best;
+    }
+
+    Best shift_start(size_t by) {
+        Best best;
+        auto bits = left.vector.begin();
+        best.try_peer("vector<bool>", [&] {
+            auto end = std::copy(bits + ptrdiff_t(by), bits + ptrdiff_t(len), bits);
+            std::fill(end, bits + ptrdiff_t(len), false);
+        });
+        best.try_peer("dynamic_bitset", [&] { left.bitset >>= by; });
+        return best;
+    }
+
+    Best reverse() {
+        Best best;
+        best.try_peer("vector<bool>", [&] { std::reverse(second(), second() + len); });
+        return best;
+    }
+
+    Best rotate_left(size_t by) {
+        Best best;
+        auto bits = left.vector.begin();
+        best.try_peer("vector<bool>", [&] { std::rotate(bits, bits + ptrdiff_t(by), bits + ptrdiff_t(len)); });
+        best.try_peer("dynamic_bitset", [&] { left.bitset = (left.bitset >> by) | (left.bitset << (len - by)); });
+        return best;
+    }
+
+    Best fill() {
+        Best best;
+        best.try_peer("vector<bool>", [&] { std::fill(second(), second() + len, true); });
+        best.try_peer("dynamic_bitset", [&] { right.bitset.set(start, len, true); });
+        best.try_peer("fixedbitset", [&] { fixedbitset_fill(right.fixed, start, len, true); });
+        if (start == 0)
+            best.try_peer("bit-vec", [&] { bit_vec_fill(right.bit_vec, true); });
+        return best;
+    }
+
+    Best invert() {
+        Best best;
+        best.try_peer("dynamic_bitset", [&] { right.bitset.flip(start, len); });
+        best.try_peer("fixedbitset", [&] { fixedbitset_invert(right.fixed, start, len); });
+        if (start == 0) {
+            best.try_peer("vector<bool>", [&] { right.vector.flip(); });
+            best.try_peer("bit-vec", [&] { bit_vec_invert(right.bit_vec); });
+        }
+        return best;
+    }
+
+    Best count_ones() {
+        Best best;
+        best.try_peer("vector<bool>", [&] { keep(std::count(second(), second() + len, true)); });
+        best.try_peer("fixedbitset", [&] { keep(fixedbitset_count_ones(right.fixed, start, len)); });
+        if (start == 0) {
+            best.try_peer("dynamic_bitset", [&] { keep(right.bitset.count()); });
+            best.try_peer("bit-vec", [&] { keep(bit_vec_count_ones(right.bit_vec)); });
+        }
+        return best;
+    }
+
+    // Of bits of which the last alone is 1.
+    Best first_one() {
+        std::vector<uint32_t> zeros(words(start + len + 63, 0).size() / 2 * 2, 0);
+        zeros[(start + len - 1) / 32] |= uint32_t(1) << (start + len - 1) % 32;
+        Sets sparse(zeros);
+        Best best;
+        auto bits = sparse.vector.begin() + ptrdiff_t(start);
+        best.try_peer("vector<bool>", [&] { keep(std::find(bits, bits + ptrdiff_t(len), true) - bits); });
+        best.try_peer("dynamic_bitset",
+                      [&] { keep(start == 0 ? sparse.bitset.find_first() : sparse.bitset.find_next(start - 1)); });
+        best.try_peer("fixedbitset", [&] { keep(fixedbitset_first_one(sparse.fixed)); });
+        best.try_peer("bit-vec", [&] { keep(bit_vec_first_one(sparse.bit_vec)); });
+        return best;
+    }
+
+  private:
+    size_t len, start;
+    Sets left, right;
+
+    static std::vector<uint32_t> words(size_t len, uint32_t seed) {
+        std::vector<uint32_t> result((len + 31) / 32);
+        for (uint32_t &word : result)
+            word = seed = seed * 1664525 + 1013904223;
+        return result;
+    }
+
+    std::vector<bool>::iterator second() { return right.vector.begin() + ptrdiff_t(start); }
+
+    boost::dynamic_bitset<> shifted() {
+        if (start == 0)
+            return right.bitset;
+        boost::dynamic_bitset<> bits = right.bitset >> start;
+        bits.resize(len);
+        return bits;
+    }
+};

@@ -1,0 +1,46 @@
+#!/bin/sh
+# Builds the library, its peers and the driver, and prints the tables that README.md explains.
+# What it builds goes to bench/out and crates/bitvec_bench/out.
+set -eu
+cd "$(dirname "$0")"
+
+processor=x86-64-v2
+registry=/usr/share/cargo/registry
+
+missing=
+for package in g++ libboost-dev librust-fixedbitset-dev librust-bit-vec-dev; do
+    dpkg-query -W -f '${Status}' "$package" 2>/dev/null | grep -q ' installed' || missing="$missing $package"
+done
+command -v rustc >/dev/null || missing="$missing rustc"
+if [ -n "$missing" ]; then
+    echo "run.sh: installing$missing" >&2
+    apt-get update >&2
+    # shellcheck disable=SC2086
+    DEBIAN_FRONTEND=noninteractive apt-get install -y $missing >&2
+fi
+
+mkdir -p out
+(cd ../crates/bitvec_bench && rt lib) >&2
+
+# rust NAME KIND SOURCE FLAGS..: compiles one crate of the peers
+rust() {
+    name=$1 kind=$2 source=$3
+    shift 3
+    rustc --crate-name "$name" --crate-type "$kind" --out-dir out \
+        -C opt-level=3 -C "target-cpu=$processor" -C panic=abort --cap-lints allow "$@" "$source"
+}
+rust fixedbitset rlib "$registry"/fixedbitset-*/src/lib.rs --edition 2018 --cfg 'feature="std"'
+rust bit_vec rlib "$registry"/bit-vec-*/src/lib.rs --edition 2018 --cfg 'feature="std"'
+rust peers staticlib peers.rs --edition 2021 \
+    --extern fixedbitset=out/libfixedbitset.rlib --extern bit_vec=out/libbit_vec.rlib
+
+# gcc takes the lists of checks.hpp for ones that could be as long as the memory
+g++ -std=c++17 -O3 "-march=$processor" -Wall -Wextra -Wno-stringop-overflow driver.cpp \
+    ../crates/bitvec_bench/out/libbitvec_bench.a out/libpeers.a -lpthread -ldl -o out/driver
+
+echo "- machine: $(lscpu | sed -n 's/^Model name: *//p'), $(nproc) processors"
+echo "- kit: $(rt version)"
+echo "- compilers: $(g++ --version | head -n 1), -O3 -march=$processor; $(rustc --version), -C opt-level=3 -C target-cpu=$processor"
+echo "- load at the start: $(cut -d ' ' -f 1 /proc/loadavg)"
+echo
+exec out/driver

@@ -1,0 +1,17 @@
+//! Operations on bits of slices as C functions, which the benchmark (`bench/` at the top) calls and
+//! times.
+//!
+//! Each export takes a slice as a pointer and a number of elements, and of it `len` bits from bit
+//! `start` on, and carries out one operation on these. It makes no view: it calls the function on
+//! slices that the view's method calls (`bitvec_elements`), since a part of a view doesn't give its
+//! lender's slice back. Equality alone is `SliceOrder::block_eq`, where `eq_bits` of views goes bit
+//! by bit over any two types. An export's name ends in the element type and the order.
+#![tactic(auto)]
+
+mod edits;
+mod lsb0_u64;
+mod lsb0_u8;
+mod msb0_u64;
+mod msb0_u8;
+mod questions;
+mod transfers;

@@ -1,0 +1,174 @@
+//! The exports over `u8` elements in `Msb0` order.
+ghost use Rattle.std.specs.Prelude.{◌≡◌, ◌-◌, ◌≤◌, count_by, map, not, replicate, reverse, true};
+ghost use Rattle.std.specs.Option.{unwrap_or};
+ghost use Rattle.bitvec_base.specs.Lists.{combined, copied_within, first_place, rotated_left, same_bits, shifted_start};
+ghost use Rattle.bitvec_words.specs.Operator.{operator};
+ghost use Rattle.bitvec_words.specs.declared.operator.BitOp.TheVariants.{Or};
+ghost use Rattle.bitvec_bench.specs.Bits.{HasBits, Wrote, bits_in, from_most};
+
+use crate::{edits, questions, transfers};
+use bitvec_base::Msb0;
+
+/// Copies `len` bits.
+#[unsafe(no_mangle)]
+pub extern "C" fn bitvec_bench_copy_u8_msb0(
+    to: &mut [u8],
+    to_start: usize,
+    from: &[u8],
+    from_start: usize,
+    len: usize,
+)
+    requires to { HasBits 8 to.old to_start len }
+    requires from { HasBits 8 from.now from_start len }
+    ensures { Wrote 8 from_most to.old to.new to_start len (bits_in 8 from_most from.now from_start len) }
+{
+    transfers::copy::<u8, Msb0>(to, to_start, from, from_start, len);
+}
+
+/// Sets each of `len` bits where the one at its index in `from` is 1.
+#[unsafe(no_mangle)]
+pub extern "C" fn bitvec_bench_or_u8_msb0(
+    to: &mut [u8],
+    to_start: usize,
+    from: &[u8],
+    from_start: usize,
+    len: usize,
+)
+    requires to { HasBits 8 to.old to_start len }
+    requires from { HasBits 8 from.now from_start len }
+    ensures { Wrote 8 from_most to.old to.new to_start len (combined (operator Or) (bits_in 8 from_most to.old to_start len) (bits_in 8 from_most from.now from_start len)) }
+{
+    transfers::or::<u8, Msb0>(to, to_start, from, from_start, len);
+}
+
+/// Exchanges `len` bits.
+#[unsafe(no_mangle)]
+pub extern "C" fn bitvec_bench_swap_u8_msb0(
+    left: &mut [u8],
+    left_start: usize,
+    right: &mut [u8],
+    right_start: usize,
+    len: usize,
+)
+    requires left { HasBits 8 left.old left_start len }
+    requires right { HasBits 8 right.old right_start len }
+    ensures left { Wrote 8 from_most left.old left.new left_start len (bits_in 8 from_most right.old right_start len) }
+    ensures right { Wrote 8 from_most right.old right.new right_start len (bits_in 8 from_most left.old left_start len) }
+{
+    transfers::swap::<u8, Msb0>(left, left_start, right, right_start, len);
+}
+
+/// Whether `len` bits are the same.
+#[unsafe(no_mangle)]
+pub extern "C" fn bitvec_bench_equal_u8_msb0(
+    left: &[u8],
+    left_start: usize,
+    right: &[u8],
+    right_start: usize,
+    len: usize,
+) -> bool
+    requires left { HasBits 8 left.now left_start len }
+    requires right { HasBits 8 right.now right_start len }
+    ensures { result ≡ same_bits (bits_in 8 from_most left.now left_start len) (bits_in 8 from_most right.now right_start len) }
+{
+    questions::equal::<u8, Msb0>(left, left_start, right, right_start, len)
+}
+
+/// Copies all but the last `by` of `len` bits to `by` places further on.
+#[unsafe(no_mangle)]
+pub extern "C" fn bitvec_bench_copy_within_u8_msb0(
+    elements: &mut [u8],
+    start: usize,
+    len: usize,
+    by: usize,
+)
+    requires elements { HasBits 8 elements.old start len }
+    requires by { by ≤ len }
+    ensures { Wrote 8 from_most elements.old elements.new start len (copied_within 0 (len - by) by (bits_in 8 from_most elements.old start len)) }
+{
+    edits::copy_within::<u8, Msb0>(elements, start, len, by);
+}
+
+/// Shifts `len` bits by `by` places towards the start.
+#[unsafe(no_mangle)]
+pub extern "C" fn bitvec_bench_shift_start_u8_msb0(
+    elements: &mut [u8],
+    start: usize,
+    len: usize,
+    by: usize,
+)
+    requires elements { HasBits 8 elements.old start len }
+    requires by { by ≤ len }
+    ensures { Wrote 8 from_most elements.old elements.new start len (shifted_start by (bits_in 8 from_most elements.old start len)) }
+{
+    edits::shift_start::<u8, Msb0>(elements, start, len, by);
+}
+
+/// Reverses `len` bits.
+#[unsafe(no_mangle)]
+pub extern "C" fn bitvec_bench_reverse_u8_msb0(elements: &mut [u8], start: usize, len: usize)
+    requires { HasBits 8 elements.old start len }
+    ensures { Wrote 8 from_most elements.old elements.new start len (reverse (bits_in 8 from_most elements.old start len)) }
+{
+    edits::turn_round::<u8, Msb0>(elements, start, len);
+}
+
+/// Rotates `len` bits so that the one at `by` comes first.
+#[unsafe(no_mangle)]
+pub extern "C" fn bitvec_bench_rotate_left_u8_msb0(
+    elements: &mut [u8],
+    start: usize,
+    len: usize,
+    by: usize,
+)
+    requires elements { HasBits 8 elements.old start len }
+    requires by { by ≤ len }
+    ensures { Wrote 8 from_most elements.old elements.new start len (rotated_left by (bits_in 8 from_most elements.old start len)) }
+{
+    edits::rotate_left::<u8, Msb0>(elements, start, len, by);
+}
+
+/// Makes each of `len` bits `bit`.
+#[unsafe(no_mangle)]
+pub extern "C" fn bitvec_bench_fill_u8_msb0(
+    elements: &mut [u8],
+    start: usize,
+    len: usize,
+    bit: bool,
+)
+    requires { HasBits 8 elements.old start len }
+    ensures { Wrote 8 from_most elements.old elements.new start len (replicate len bit) }
+{
+    edits::fill::<u8, Msb0>(elements, start, len, bit);
+}
+
+/// Flips each of `len` bits.
+#[unsafe(no_mangle)]
+pub extern "C" fn bitvec_bench_invert_u8_msb0(elements: &mut [u8], start: usize, len: usize)
+    requires { HasBits 8 elements.old start len }
+    ensures { Wrote 8 from_most elements.old elements.new start len (map not (bits_in 8 from_most elements.old start len)) }
+{
+    edits::invert::<u8, Msb0>(elements, start, len);
+}
+
+/// How many of `len` bits are 1.
+#[unsafe(no_mangle)]
+pub extern "C" fn bitvec_bench_count_ones_u8_msb0(
+    elements: &[u8],
+    start: usize,
+    len: usize,
+) -> usize
+    requires { HasBits 8 elements.now start len }
+    ensures { result ≡ count_by (λ bit. bit) (bits_in 8 from_most elements.now start len) }
+{
+    questions::count_ones::<u8, Msb0>(elements, start, len)
+}
+
+/// The index of the first of `len` bits that is 1; `len` if there is none.
+#[unsafe(no_mangle)]
+pub extern "C" fn bitvec_bench_first_one_u8_msb0(elements: &[u8], start: usize, len: usize) -> usize
+    requires { HasBits 8 elements.now start len }
+    ensures { result ≡ unwrap_or (first_place true (bits_in 8 from_most elements.now start len)) len }
+{
+    questions::first_one::<u8, Msb0>(elements, start, len).unwrap_or(len)
+}

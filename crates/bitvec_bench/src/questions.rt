@@ -1,0 +1,59 @@
+//! Questions to some bits.
+#![tactic(auto, using(crate::proofs::Places::has_window))]
+
+ghost use Rattle.std.specs.Prelude.{◌≡◌, count_by, map, true};
+ghost use Rattle.bitvec_base.specs.Lists.{first_place, same_bits};
+ghost use Rattle.bitvec_base.specs.Memory.{list_in};
+ghost use Rattle.bitvec_bench.specs.Bits.{HasBits, place};
+
+use bitvec_base::Window;
+use bitvec_cells::Shared;
+use bitvec_elements::{count_in, first_in};
+use bitvec_engine::SliceOrder;
+use bitvec_store::BitStore;
+
+/// Whether `len` bits of two slices are the same, as the order compares them.
+pub fn equal<T: BitStore, O: SliceOrder>(
+    left: &[T],
+    left_start: usize,
+    right: &[T],
+    right_start: usize,
+    len: usize,
+) -> bool
+    requires left { HasBits T.BITS left.now left_start len }
+    requires right { HasBits T.BITS right.now right_start len }
+    ensures { result ≡ same_bits (list_in T.BITS O.at (map T.value left.now) (place left_start len))
+        (list_in T.BITS O.at (map T.value right.now) (place right_start len)) }
+{
+    let left_window = Window {
+        start: left_start,
+        len,
+    };
+    let right_window = Window {
+        start: right_start,
+        len,
+    };
+    let mut left = Shared::new(left);
+    let mut right = Shared::new(right);
+    O::block_eq::<Shared<T>, Shared<T>>(&mut left, left_window, &mut right, right_window)
+}
+
+/// How many of `len` bits are 1.
+pub fn count_ones<T: BitStore, O: SliceOrder>(elements: &[T], start: usize, len: usize) -> usize
+    requires { HasBits T.BITS elements.now start len }
+    ensures { result ≡ count_by (λ bit. bit) (list_in T.BITS O.at (map T.value elements.now) (place start len)) }
+{
+    count_in::<T, O>(elements, Window { start, len })
+}
+
+/// The index of the first of `len` bits that is 1, if there is one.
+pub fn first_one<T: BitStore, O: SliceOrder>(
+    elements: &[T],
+    start: usize,
+    len: usize,
+) -> Option<usize>
+    requires { HasBits T.BITS elements.now start len }
+    ensures { result ≡ first_place true (list_in T.BITS O.at (map T.value elements.now) (place start len)) }
+{
+    first_in::<T, O>(elements, Window { start, len }, true)
+}

@@ -1,0 +1,156 @@
+//! Worked rows of what goes by words: the memory afterwards, within so many loads and stores.
+use crate::slices::step;
+use bitvec_base::{Lsb0, Msb0};
+use bitvec_cells::{Exclusive, Shared};
+use bitvec_engine::SliceOrder;
+use bitvec_run::{Op, Reply, Step, Window, run};
+use bitvec_store::BitStore;
+use bitvec_test_support::Counted;
+use std::process::Abort;
+use std::test::Fail;
+
+/// At most so many loads and stores of the memory, and loads of the right memory.
+#[derive(Clone, Copy)]
+struct Most {
+    loads: u64,
+    stores: u64,
+    right_loads: u64,
+}
+
+const fn at_most(loads: u64, stores: u64, right_loads: u64) -> Most {
+    Most {
+        loads,
+        stores,
+        right_loads,
+    }
+}
+
+/// A run of one step on all bits of some elements, what it replies, and the numbers that it leaves.
+fn check<T: BitStore, O: SliceOrder, R: Abort + AllocGlobal>(
+    rt: &R,
+    elements: &mut [T],
+    right: &[T],
+    step: Step,
+    most: Most,
+    reply: Reply,
+) -> Result<(), Fail> {
+    let window = Window {
+        start: 0,
+        len: step.to,
+    };
+    let mut cells = Counted::new(Exclusive::new(elements));
+    let mut source = Counted::new(Shared::new(right));
+    let replies = run::<O, _, _, _>(rt.alloc(), &mut cells, window, &mut source, &[step])?;
+    assert_eq!(rt; replies.as_slice(), [reply].as_slice());
+    assert!(rt; cells.loads() <= most.loads, "{step:?}");
+    assert!(rt; cells.stores() <= most.stores, "{step:?}");
+    assert!(rt; source.loads() <= most.right_loads, "{step:?}");
+    Ok(())
+}
+
+#[test]
+fn a_copy_within_goes_either_way(rt: HostRuntime) -> Result<(), Fail> {
+    let mut bytes = [0x01u8, 0, 0, 0, 0, 0, 0, 0x20, 0, 0];
+    let later = step(0, 80, Op::CopyWithin(0, 70, 3));
+    check::<u8, Lsb0, _>(&rt, &mut bytes, &[], later, at_most(22, 18, 0), Reply::Done)?;
+    assert_eq!(rt; bytes, [0x09u8, 0, 0, 0, 0, 0, 0, 0, 0x01, 0]);
+    let mut bytes = [0x80u8, 0, 0, 0, 0, 0, 0, 0x04, 0, 0];
+    check::<u8, Msb0, _>(&rt, &mut bytes, &[], later, at_most(22, 18, 0), Reply::Done)?;
+    assert_eq!(rt; bytes, [0x90u8, 0, 0, 0, 0, 0, 0, 0, 0x80, 0]);
+    let mut bytes = [0x01u8, 0, 0, 0, 0, 0, 0, 0x20, 0, 0];
+    let earlier = step(0, 80, Op::CopyWithin(3, 73, 0));
+    check::<u8, Lsb0, _>(
+        &rt,
+        &mut bytes,
+        &[],
+        earlier,
+        at_most(22, 18, 0),
+        Reply::Done,
+    )?;
+    assert_eq!(rt; bytes, [0u8, 0, 0, 0, 0, 0, 0, 0x04, 0, 0]);
+    Ok(())
+}
+
+#[test]
+fn an_operator_and_an_equality_go_by_words(rt: HostRuntime) -> Result<(), Fail> {
+    let mut elements = [0xFFFF_FFFFu32; 5];
+    let right = [0x5555_5555u32; 5];
+    let other = Window { start: 1, len: 130 };
+    let and = step(0, 130, Op::And(other));
+    check::<u32, Lsb0, _>(
+        &rt,
+        &mut elements,
+        &right,
+        and,
+        at_most(15, 9, 9),
+        Reply::Done,
+    )?;
+    let half = 0xAAAA_AAAA;
+    assert_eq!(rt; elements, [half, half, half, half, 0xFFFF_FFFE]);
+    let mut bytes = [0xFFu8; 9];
+    let other = Window { start: 5, len: 64 };
+    let eq = step(3, 67, Op::Eq(other));
+    check::<u8, Lsb0, _>(
+        &rt,
+        &mut bytes,
+        &[0xFF; 9],
+        eq,
+        at_most(9, 0, 9),
+        Reply::Bit(true),
+    )?;
+    let mut near = [0xFF; 9];
+    near[8] = 0x0F;
+    check::<u8, Msb0, _>(
+        &rt,
+        &mut bytes,
+        &near,
+        eq,
+        at_most(9, 0, 9),
+        Reply::Bit(false),
+    )
+}
+
+#[test]
+fn reversals_and_rotations_go_by_words(rt: HostRuntime) -> Result<(), Fail> {
+    let mut pair = [1u64, 2];
+    let reverse = step(0, 128, Op::Reverse);
+    check::<u64, Lsb0, _>(&rt, &mut pair, &[], reverse, at_most(12, 6, 0), Reply::Done)?;
+    assert_eq!(rt; pair, [0x4000_0000_0000_0000, 0x8000_0000_0000_0000]);
+    let mut pair = [1u64, 2];
+    let rotate = step(0, 128, Op::RotateLeft(64));
+    check::<u64, Lsb0, _>(&rt, &mut pair, &[], rotate, at_most(28, 14, 0), Reply::Done)?;
+    assert_eq!(rt; pair, [2, 1]);
+    let mut halves = [7u64; 64];
+    halves[0] = 1;
+    halves[33] = 2;
+    let rotate = step(0, 4096, Op::RotateLeft(2048));
+    check::<u64, Lsb0, _>(
+        &rt,
+        &mut halves,
+        &[],
+        rotate,
+        at_most(524, 262, 0),
+        Reply::Done,
+    )?;
+    let mut after = [7u64; 64];
+    after[32] = 1;
+    after[1] = 2;
+    assert_eq!(rt; halves, after);
+    Ok(())
+}
+
+#[test]
+fn an_exchange_goes_by_words(rt: HostRuntime) -> Result<(), Fail> {
+    let mut left = [u64::MAX, 0];
+    let mut right = [0, u64::MAX];
+    let mut cells = Counted::new(Exclusive::new(&mut left));
+    let mut others = Counted::new(Exclusive::new(&mut right));
+    let window = Window { start: 3, len: 64 };
+    let other = Window { start: 5, len: 64 };
+    Lsb0::block_swap(&mut cells, window, &mut others, other);
+    assert!(rt; cells.loads() <= 4 && cells.stores() <= 2);
+    assert!(rt; others.loads() <= 4 && others.stores() <= 2);
+    assert_eq!(rt; left, [0xC000_0000_0000_0007, 0x7]);
+    assert_eq!(rt; right, [0xFFFF_FFFF_FFFF_FFE0, 0xFFFF_FFFF_FFFF_FFE3]);
+    Ok(())
+}

@@ -1,0 +1,50 @@
+-- The elements that a range of places touches hold the range's bits.
+use Rattle.std.specs.Prelude.{◌≡◌, ℕ, ◌+◌, ◌-◌, ◌*◌, ◌%◌, ◌<◌, ◌≤◌, Bool, List, length, slice_range}
+use Rattle.std.proofs.Common.{arith, ◌∙◌, ap}
+use Rattle.std.proofs.Math.Nat.{add-mul, lt_of_mul-lt-mul_right, mul-le-mul_right}
+use Rattle.std.proofs.lemmas.Grind.{div_ceil_times}
+use Rattle.std.proofs.lemmas.Nat.{div-add-mod', mod_below}
+use Rattle.bitvec_base.specs.Memory.{memory_bits}
+use Rattle.bitvec_base.specs.MemoryLaws.{length-memory_bits}
+use Rattle.bitvec_base.specs.SliceLaws.{range-same}
+use Rattle.bitvec_base.specs.WriteLaws.{range-range}
+use Rattle.bitvec_domain.specs.CutLaws.{memory-range}
+use Rattle.bitvec_slice.specs.Touched.{Touches, end_touched, first_touched, touched}
+
+module _ (b n start end : ℕ) (some : 0 < b) (order : start ≤ end) (bound : end ≤ b * n) where
+  pub touches : Touches b n start end
+  touches =
+      let first = first_touched b start in
+      let last = end_touched b end in
+      let place = div-add-mod' start b in
+      let index = mod_below start b some in
+      let ends = div_ceil_times end b some in
+      let next = add-mul n 1 b in
+      let after = add-mul last 1 b in
+      let within : last < n + 1 = lt_of_mul-lt-mul_right b (omega arith) in
+      let ordered : first < last + 1 = lt_of_mul-lt-mul_right b (omega arith) in
+      let spread = add-mul first (last - first) b in
+      let sum : first + (last - first) ≡ last = omega arith in
+      let rows = ap (λ (k : ℕ). k * b) sum in
+      record {
+        order = omega arith;
+        bound = omega arith;
+        begins = place;
+        index = index;
+        holds = omega arith;
+      }
+
+pub touched-bits : (b : ℕ) (at : ℕ → ℕ → ℕ) (xs : List ℕ) (start end n : ℕ) → 0 < b → start + n ≡ end → end ≤ b * length xs
+    → slice_range (memory_bits b at (touched b xs start end)) (start % b) (start % b + n) ≡ slice_range (memory_bits b at xs) start end
+touched-bits b at xs start end n some sum bound =
+    let is = touches b (length xs) start end some (omega arith) bound in
+    let first = first_touched b start in
+    let last = end_touched b end in
+    let memory = memory_bits b at xs in
+    let long = length-memory_bits b at xs in
+    let begins = is.begins in
+    let ends = div_ceil_times end b some in
+    let within = mul-le-mul_right {m = last} {n = length xs} b is.bound in
+    ap (λ (l : List Bool). slice_range l (start % b) (start % b + n)) (memory-range b at xs first last some is.order is.bound)
+    ∙ range-range memory (first * b) (last * b) (start % b) (start % b + n) (omega arith) (omega arith)
+    ∙ range-same memory _ _ _ _ begins (omega arith)

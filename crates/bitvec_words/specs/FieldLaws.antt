@@ -1,0 +1,251 @@
+-- The bits of a window within one element or two, and of whole elements, as lists of bits of elements.
+use Rattle.std.specs.Prelude.{◌≡◌, ℕ, ◌+◌, ◌-◌, ◌*◌, ◌/◌, ◌%◌, ◌<◌, ◌≤◌, Bool, false, List, [], ◌++◌, length, take, drop, replicate, slice_range, slice_set, slice_index, min, refl}
+use Rattle.std.proofs.Common.{arith, rules, sym, ◌∙◌, ap, ⊎_elim}
+use Rattle.std.proofs.lemmas.Bool.{cases_lt}
+use Rattle.std.proofs.Math.Nat.{mul-le-mul_left}
+use Rattle.std.proofs.lemmas.List.{same_lists, places, length-set}
+use Rattle.std.proofs.lemmas.Nat.{div-add-mod', mod_below}
+use Rattle.bitvec_base.specs.declared.part.Part.{Part}
+use Rattle.bitvec_base.specs.declared.window.Window.{Window}
+use Rattle.bitvec_base.specs.Lists.{shifted_end, shifted_start}
+use Rattle.bitvec_base.specs.Memory.{HasWindow, Writes, element_bits, list_in, memory_bits}
+use Rattle.bitvec_base.specs.MemoryLaws.{element-range, element_fits, length-element_bits, length-memory_bits, set-element}
+use Rattle.bitvec_base.specs.PartLaws.{part-range, part-write}
+use Rattle.bitvec_base.specs.Parts.{HasPart, first_part_of, part_window}
+use Rattle.bitvec_base.specs.SliceLaws.{range-all, range-none}
+use Rattle.bitvec_base.specs.Window.{window_after, window_of, window_until, write_at}
+use Rattle.bitvec_base.specs.WriteLaws.{length-slice_range, write_at-all}
+use Rattle.bitvec_base.specs.WritesLaws.{Writes-empty, Writes-is, Writes-join, list-join}
+use Rattle.bitvec_walk.specs.WalkLaws.{first-len, first-place}
+use Rattle.bitvec_words.specs.Elements.{elements_window, elements_window_from, tail_of, whole_of}
+
+-- ---- lists
+
+-- the beginning of a slice without its first k values, and of two slices
+front : (list : List Bool) (a b k n : ℕ) → k + n ≤ b → a + b ≤ length list → take n (drop k (slice_range list a (a + b)) ++ replicate k false) ≡ slice_range list (a + k) (a + k + n)
+front list a b k n fits inside = same_lists _ _ (search (rules, places)) (λ i d below. grind (arith, places))
+
+across : (list : List Bool) (a b k n : ℕ) → k ≤ b → n ≤ b → b < k + n → a + k + n ≤ length list → a + b + b ≤ length list → take n (drop k (slice_range list a (a + b)) ++ take k (slice_range list (a + b) (a + b + b))) ≡ slice_range list (a + k) (a + k + n)
+across list a b k n low high over inside second = same_lists _ _ (search (rules, places)) (λ i d below. grind (arith, places))
+
+meeting : (list : List Bool) (a b k : ℕ) → k ≤ b → a + b + b ≤ length list → drop k (slice_range list a (a + b)) ++ take k (slice_range list (a + b) (a + b + b)) ≡ slice_range list (a + k) (a + k + b)
+meeting list a b k low inside = same_lists _ _ (search (rules, places)) (λ i d below. grind (arith, places))
+
+-- the beginning of a list, moved towards the end
+pub range-shifted : (list : List Bool) (k n e : ℕ) → e ≡ k + n → e ≤ length list → slice_range (shifted_end k list) k e ≡ take n list
+unfolding shifted_end
+range-shifted list k n e end inside = same_lists _ _ (search (rules, places)) (λ i d below. grind (arith, places))
+
+-- an element that has a place of the memory
+pub element_of : (b e k n : ℕ) → e * b + k < b * n → e < n
+element_of b e k n below = ⊎_elim (λ (less : e < n). less) (λ (most : n ≤ e). let order = mul-le-mul_left b most in absurd (omega arith)) (cases_lt e n)
+
+-- ---- fields
+
+-- the bits of a window of one element, moved to its start
+pub list-front : (b : ℕ) (at : ℕ → ℕ → ℕ) (xs : List ℕ) (window : Window) → 0 < b → HasWindow b xs window → 0 < window.len → window.start % b + window.len ≤ b
+    → take window.len (shifted_start (window.start % b) (element_bits b at (slice_index xs (window.start / b)))) ≡ list_in b at xs window
+unfolding shifted_start window_of
+list-front b at xs window some has more fits =
+    let e : ℕ = window.start / b in
+    let k : ℕ = window.start % b in
+    let whole = length-memory_bits b at xs in
+    let start = has.within.start in
+    let len = has.within.len in
+    let place = div-add-mod' window.start b in
+    let inside : e < length xs = element_of b e k (length xs) (omega arith) in
+    let fit = element_fits b e (length xs) inside in
+    rw (← element-range b at xs e inside)
+    (front (memory_bits b at xs) (e * b) b k window.len fits (omega arith)
+    ∙ ap (λ (s : ℕ). slice_range (memory_bits b at xs) s (s + window.len)) place)
+
+-- the bits of a window of two elements, joined
+pub list-across : (b : ℕ) (at : ℕ → ℕ → ℕ) (xs : List ℕ) (window : Window) → 0 < b → HasWindow b xs window → window.len ≤ b → b < window.start % b + window.len
+    → take window.len (drop (window.start % b) (element_bits b at (slice_index xs (window.start / b))) ++ take (window.start % b) (element_bits b at (slice_index xs (window.start / b + 1)))) ≡ list_in b at xs window
+unfolding window_of
+list-across b at xs window some has fits over =
+    let e : ℕ = window.start / b in
+    let k : ℕ = window.start % b in
+    let whole = length-memory_bits b at xs in
+    let start = has.within.start in
+    let len = has.within.len in
+    let place = div-add-mod' window.start b in
+    let head = mod_below window.start b some in
+    let inside : e < length xs = element_of b e k (length xs) (omega arith) in
+    let next : e + 1 < length xs = element_of b (e + 1) (k + window.len - b - 1) (length xs) (omega arith) in
+    let fit = element_fits b e (length xs) inside in
+    let second = element_fits b (e + 1) (length xs) next in
+    let third : (e + 1) * b ≡ e * b + b = omega arith in
+    let after = rw third at (element-range b at xs (e + 1) next) in
+    rw (← element-range b at xs e inside, ← after)
+    (across (memory_bits b at xs) (e * b) b k window.len (omega arith) fits over (omega arith) (omega arith)
+    ∙ ap (λ (s : ℕ). slice_range (memory_bits b at xs) s (s + window.len)) place)
+
+-- a part of an element, as a window
+pub list-part : (b : ℕ) (at : ℕ → ℕ → ℕ) (xs : List ℕ) (part : Part) → HasPart b xs part → list_in b at xs (part_window b part) ≡ slice_range (element_bits b at (slice_index xs part.element)) part.from part.to
+unfolding window_of
+list-part b at xs part has =
+    let order = has.order in
+    let end : part.element * b + part.from + (part.to - part.from) ≡ part.element * b + part.to = omega arith in
+    ap (λ (e : ℕ). slice_range (memory_bits b at xs) (part.element * b + part.from) e) end
+    ∙ sym (part-range b at xs part.element part.from part.to has.element has.bound)
+
+-- an element that takes a part's bits from another
+pub part-stored : (b : ℕ) (at : ℕ → ℕ → ℕ) (xs : List ℕ) (part : Part) (v w : ℕ) → 0 < b → HasPart b xs part
+    → element_bits b at w ≡ write_at (element_bits b at (slice_index xs part.element)) part.from (slice_range (element_bits b at v) part.from part.to)
+    → Writes b at xs (slice_set xs part.element w) (part_window b part) (slice_range (element_bits b at v) part.from part.to)
+part-stored b at xs part v w some has wrote =
+    let bound = has.bound in
+    let inner = length-element_bits b at v in
+    let long = length-slice_range (element_bits b at v) part.from part.to (omega arith) in
+    record {
+      bits = part-write b at xs part.element part.from part.to w _ some has.element has.order has.bound long wrote;
+      long = long;
+      elements = length-set xs part.element w;
+    }
+
+-- a part that is a whole element takes them all
+pub part-all : (b : ℕ) (at : ℕ → ℕ → ℕ) (xs : List ℕ) (part : Part) (v : ℕ) → 0 < b → HasPart b xs part → part.to - part.from ≡ b
+    → Writes b at xs (slice_set xs part.element v) (part_window b part) (slice_range (element_bits b at v) part.from part.to)
+part-all b at xs part v some has all =
+    let bound = has.bound in
+    let old = length-element_bits b at (slice_index xs part.element) in
+    let new = length-element_bits b at v in
+    let first : part.from ≡ 0 = omega arith in
+    let last : part.to ≡ b = omega arith in
+    let same : slice_range (element_bits b at v) part.from part.to ≡ element_bits b at v = rw (first, last) (range-all (element_bits b at v) b (omega arith)) in
+    part-stored b at xs part v v some has
+    (sym (ap (λ (l : List Bool). write_at (element_bits b at (slice_index xs part.element)) part.from l) same
+    ∙ ap (λ (s : ℕ). write_at (element_bits b at (slice_index xs part.element)) s (element_bits b at v)) first
+    ∙ write_at-all (element_bits b at (slice_index xs part.element)) (element_bits b at v) (omega arith)))
+
+-- ---- whole elements
+
+-- nothing
+pub Writes-none : (b : ℕ) (at : ℕ → ℕ → ℕ) (xs ys : List ℕ) (window other : Window) → HasWindow b xs window → window.len ≡ 0 → other.len ≡ 0 → Writes b at xs xs window (list_in b at ys other)
+unfolding window_of
+Writes-none b at xs ys window other has empty none =
+    Writes-is b at xs xs window [] _
+    (Writes-empty b at xs xs window has empty refl)
+    (sym (range-none (memory_bits b at ys) other.start (other.start + other.len) (omega arith)))
+
+-- no element
+pub Writes-no_element : (b : ℕ) (at : ℕ → ℕ → ℕ) (xs ys : List ℕ) (first count : ℕ) (none : Window) → HasWindow b xs (elements_window b first count) → none.len ≡ 0 → Writes b at xs xs (elements_window b first 0) (list_in b at ys none)
+Writes-no_element b at xs ys first count none has empty =
+    let start = has.within.start in
+    let nothing : 0 * b ≡ 0 = omega arith in
+    Writes-none b at xs ys (elements_window b first 0) none (record { fits = has.fits; within = record { start = start; len = omega arith } }) nothing empty
+
+-- one element more, stored behind those that were
+pub Writes-element : (b : ℕ) (at : ℕ → ℕ → ℕ) (old mid : List ℕ) (first count step v : ℕ) (list : List Bool) → 0 < b → HasWindow b old (elements_window b first count) → step < count
+    → Writes b at old mid (elements_window b first step) list
+    → Writes b at old (slice_set mid (first + step) v) (elements_window b first (step + 1)) (list ++ element_bits b at v)
+Writes-element b at old mid first count step v list some has more before =
+    let start = has.within.start in
+    let len = has.within.len in
+    let kept = before.elements in
+    let order = mul-le-mul_left b more in
+    let inside : first + step < length mid = element_of b (first + step) 0 (length mid) (rw kept (omega arith)) in
+    let one : Window = record { start = (first + step) * b; len = b } in
+    Writes-join b at old mid (slice_set mid (first + step) v) (elements_window b first step) one (elements_window b first (step + 1)) list (element_bits b at v)
+    (record { fits = has.fits; within = record { start = start; len = omega arith } })
+    refl (omega arith) (omega arith) before
+    (record {
+      bits = set-element b at mid (first + step) v some inside;
+      long = length-element_bits b at v;
+      elements = length-set mid (first + step) v;
+    })
+
+-- the bits of one element, and of two from an index on
+pub list-whole : (b : ℕ) (at : ℕ → ℕ → ℕ) (xs : List ℕ) (e : ℕ) → e < length xs → list_in b at xs (record { start = e * b; len = b }) ≡ element_bits b at (slice_index xs e)
+unfolding window_of
+list-whole b at xs e inside = element-range b at xs e inside
+
+pub list-both : (b : ℕ) (at : ℕ → ℕ → ℕ) (xs : List ℕ) (e skip : ℕ) → skip < b → e + 1 < length xs → list_in b at xs (record { start = e * b + skip; len = b }) ≡ drop skip (element_bits b at (slice_index xs e)) ++ take skip (element_bits b at (slice_index xs (e + 1)))
+unfolding window_of
+list-both b at xs e skip below next =
+    let whole = length-memory_bits b at xs in
+    let fit = element_fits b e (length xs) (omega arith) in
+    let second = element_fits b (e + 1) (length xs) next in
+    let third : (e + 1) * b ≡ e * b + b = omega arith in
+    let after = rw third at (element-range b at xs (e + 1) next) in
+    rw (← element-range b at xs e (omega arith), ← after)
+    (sym (meeting (memory_bits b at xs) (e * b) b skip (omega arith) (omega arith)))
+
+-- the bits of one element more
+pub list-element : (b : ℕ) (at : ℕ → ℕ → ℕ) (xs : List ℕ) (first count step : ℕ) → 0 < b → HasWindow b xs (elements_window b first count) → step < count
+    → list_in b at xs (elements_window b first step) ++ element_bits b at (slice_index xs (first + step)) ≡ list_in b at xs (elements_window b first (step + 1))
+list-element b at xs first count step some has more =
+    let start = has.within.start in
+    let len = has.within.len in
+    let order = mul-le-mul_left b more in
+    let inside : first + step < length xs = element_of b (first + step) 0 (length xs) (omega arith) in
+    let one : Window = record { start = (first + step) * b; len = b } in
+    ap (λ (l : List Bool). list_in b at xs (elements_window b first step) ++ l) (sym (list-whole b at xs (first + step) inside))
+    ∙ list-join b at xs (elements_window b first step) one (elements_window b first (step + 1))
+    (record { fits = has.fits; within = record { start = start; len = omega arith } })
+    refl (omega arith) (omega arith)
+
+-- and of one joined of two, from an index on
+pub list-joined : (b : ℕ) (at : ℕ → ℕ → ℕ) (xs : List ℕ) (first skip count step : ℕ) → 0 < skip → skip < b → HasWindow b xs (elements_window_from b first skip count) → step < count
+    → list_in b at xs (elements_window_from b first skip step) ++ (drop skip (element_bits b at (slice_index xs (first + step))) ++ take skip (element_bits b at (slice_index xs (first + step + 1)))) ≡ list_in b at xs (elements_window_from b first skip (step + 1))
+list-joined b at xs first skip count step some below has more =
+    let start = has.within.start in
+    let len = has.within.len in
+    let order = mul-le-mul_left b more in
+    let next : first + step + 1 < length xs = element_of b (first + step + 1) (skip - 1) (length xs) (omega arith) in
+    let one : Window = record { start = (first + step) * b + skip; len = b } in
+    ap (λ (l : List Bool). list_in b at xs (elements_window_from b first skip step) ++ l) (sym (list-both b at xs (first + step) skip below next))
+    ∙ list-join b at xs (elements_window_from b first skip step) one (elements_window_from b first skip (step + 1))
+    (record { fits = has.fits; within = record { start = omega arith; len = omega arith } })
+    refl (omega arith) (omega arith)
+
+-- ---- a window that begins where an element does: its whole elements, and what is left
+
+pub Writes-tail : (b : ℕ) (at : ℕ → ℕ → ℕ) (old mid new : List ℕ) (window : Window) (list other : List Bool) → HasWindow b old window → window.start % b ≡ 0
+    → Writes b at old mid (whole_of b window) list → Writes b at mid new (part_window b (tail_of b window)) other → Writes b at old new window (list ++ other)
+Writes-tail b at old mid new window list other has edge before after =
+    let place = div-add-mod' window.start b in
+    let all = div-add-mod' window.len b in
+    Writes-join b at old mid new (whole_of b window) (part_window b (tail_of b window)) window list other has (omega arith) (omega arith) (omega arith) before after
+
+pub list-tail : (b : ℕ) (at : ℕ → ℕ → ℕ) (xs : List ℕ) (window : Window) (n : ℕ) → HasWindow b xs window → window.start % b ≡ 0 → n ≡ window.len
+    → list_in b at xs (elements_window b (window.start / b) (n / b)) ++ list_in b at xs (part_window b (record { element = window.start / b + n / b; from = 0; to = n % b })) ≡ list_in b at xs window
+list-tail b at xs window n has edge all =
+    let place = div-add-mod' window.start b in
+    let parts = div-add-mod' n b in
+    list-join b at xs (elements_window b (window.start / b) (n / b)) (part_window b (record { element = window.start / b + n / b; from = 0; to = n % b })) window has (omega arith) (omega arith) (omega arith)
+
+-- the bits of as many elements from an index on, and what is left
+pub list-rest : (b : ℕ) (at : ℕ → ℕ → ℕ) (xs : List ℕ) (window : Window) (count rest : ℕ) → HasWindow b xs window → window.len ≡ count * b + rest
+    → list_in b at xs (elements_window_from b (window.start / b) (window.start % b) count) ++ list_in b at xs (record { start = window.start + count * b; len = rest }) ≡ list_in b at xs window
+list-rest b at xs window count rest has all =
+    let place = div-add-mod' window.start b in
+    list-join b at xs (elements_window_from b (window.start / b) (window.start % b) count) (record { start = window.start + count * b; len = rest }) window has (omega arith) (omega arith) all
+
+-- ---- a window by the part of its first element, of t places, and what is left
+
+pub Writes-head : (b : ℕ) (at : ℕ → ℕ → ℕ) (old mid new : List ℕ) (window : Window) (t : ℕ) (list other : List Bool) → 0 < b → 0 < window.len → t ≡ (first_part_of b window).to - (first_part_of b window).from → HasWindow b old window
+    → Writes b at old mid (part_window b (first_part_of b window)) list → Writes b at mid new (window_after t window) other → Writes b at old new window (list ++ other)
+Writes-head b at old mid new window t list other some more part has before after =
+    let place = first-place b window in
+    let len = first-len b window some more in
+    Writes-join b at old mid new (part_window b (first_part_of b window)) (window_after t window) window list other has place (omega arith) (omega arith) before after
+
+-- the same indices of another element
+pub list-head : (b : ℕ) (at : ℕ → ℕ → ℕ) (xs : List ℕ) (to window : Window) (t : ℕ) → 0 < b → 0 < to.len → t ≡ (first_part_of b to).to - (first_part_of b to).from → to.len ≡ window.len → to.start % b ≡ window.start % b → HasWindow b xs window
+    → list_in b at xs (part_window b (record (first_part_of b to) { element = window.start / b })) ++ list_in b at xs (window_after t window) ≡ list_in b at xs window
+list-head b at xs to window t some more part same phases has =
+    let place = div-add-mod' window.start b in
+    let len = first-len b to some more in
+    list-join b at xs (part_window b (record (first_part_of b to) { element = window.start / b })) (window_after t window) window has (omega arith) (omega arith) (omega arith)
+
+-- the first t bits of a window, and the others
+pub list-parted : (b : ℕ) (at : ℕ → ℕ → ℕ) (xs : List ℕ) (window : Window) (t : ℕ) → HasWindow b xs window → t ≤ window.len
+    → list_in b at xs (window_until (window.len - t) window) ++ list_in b at xs (window_after t window) ≡ list_in b at xs window
+list-parted b at xs window t has fits = list-join b at xs (window_until (window.len - t) window) (window_after t window) window has refl (omega arith) (omega arith)
+
+-- how many bits the first part has, where the width is told in another way
+pub first_part-long : (t b w : ℕ) (window : Window) (part : Part) → t ≡ part.to - part.from → part ≡ first_part_of w window → w ≡ b → t ≡ min window.len (b - window.start % b)
+first_part-long t b w window part step is width =
+    step ∙ ap (λ (p : Part). p.to - p.from) is ∙ ap (λ (n : ℕ). (first_part_of n window).to - (first_part_of n window).from) width ∙ omega arith

@@ -1,0 +1,74 @@
+//! Bits of one element or two, loaded to the front of an element or stored behind a mask.
+ghost use Rattle.std.specs.Prelude.{◌≡◌, ℕ, ◌+◌, ◌-◌, ◌*◌, ◌/◌, ◌^◌, ◌<◌, ◌≤◌, length, slice_index, slice_range, take};
+ghost use Rattle.bitvec_base.specs.Memory.{HasWindow, Writes, element_bits, list_in};
+ghost use Rattle.bitvec_base.specs.Parts.{HasPart, part_window};
+ghost use Rattle.bitvec_cells.specs.Access.{Costs, OnlyReads};
+ghost use Rattle.bitvec_walk.specs.Cost.{part_loads, touched};
+
+use crate::WordOrder;
+use crate::element::{joined, merged, toward_start};
+use bitvec_base::{BitOrder, Part, Window};
+use bitvec_cells::{Cells, CellsRead};
+use bitvec_store::BitStore;
+
+/// Gives a part the bits that an element has at the same indices. Condition: the part is one of an
+/// element of the memory. It takes one store, and one load unless the part is a whole element.
+pub(crate) fn store_part<O: BitOrder, C: Cells>(cells: &mut C, part: Part, element: C::Elem)
+    requires { HasPart C.Elem.BITS (C.numbers cells.old) part }
+    ensures writes { Writes C.Elem.BITS O.at (C.numbers cells.old) (C.numbers cells.new) (part_window C.Elem.BITS part)
+        (slice_range (element_bits C.Elem.BITS O.at (C.Elem.value element)) part.from part.to) }
+    ensures cost { Costs C.CellsRead cells.old cells.new (part_loads C.Elem.BITS part) 1 }
+{
+    if part.len() == C::Elem::BITS as usize {
+        cells.store(part.element, element);
+        return;
+    }
+    let old = cells.load(part.element);
+    cells.store(
+        part.element,
+        merged::<O, C::Elem>(old, element, part.from, part.to),
+    );
+}
+
+/// An element that begins with the bits of a window of at most an element's width, and the last
+/// element that the window touches. Condition: the memory has at most `MAX_BITS` bits, the window
+/// lies in it and isn't empty. It loads each element that the window touches once.
+pub(crate) fn field<O: WordOrder, C: CellsRead>(cells: &mut C, window: Window) -> (C::Elem, C::Elem)
+    requires window { HasWindow C.Elem.BITS (C.numbers cells.old) window }
+    requires some { 0 < window.len }
+    requires bound { window.len ≤ C.Elem.BITS }
+    ensures value { take window.len (element_bits C.Elem.BITS O.at (C.Elem.value result.0))
+        ≡ list_in C.Elem.BITS O.at (C.numbers cells.old) window }
+    ensures last { C.Elem.value result.1
+        ≡ slice_index (C.numbers cells.old) ((window.start + window.len - 1) / C.Elem.BITS) }
+    ensures reads { OnlyReads C.CellsRead cells.old cells.new (touched C.Elem.BITS window.start window.len) }
+{
+    let first = cells.load(window.start / C::Elem::BITS as usize);
+    field_after::<O, C>(cells, window, first)
+}
+
+/// The same, where the first element that the window touches was loaded before, and isn't loaded
+/// again.
+pub(crate) fn field_after<O: WordOrder, C: CellsRead>(
+    cells: &mut C,
+    window: Window,
+    first: C::Elem,
+) -> (C::Elem, C::Elem)
+    requires window { HasWindow C.Elem.BITS (C.numbers cells.old) window }
+    requires some { 0 < window.len }
+    requires bound { window.len ≤ C.Elem.BITS }
+    requires first { C.Elem.value first ≡ slice_index (C.numbers cells.old) (window.start / C.Elem.BITS) }
+    ensures value { take window.len (element_bits C.Elem.BITS O.at (C.Elem.value result.0))
+        ≡ list_in C.Elem.BITS O.at (C.numbers cells.old) window }
+    ensures last { C.Elem.value result.1
+        ≡ slice_index (C.numbers cells.old) ((window.start + window.len - 1) / C.Elem.BITS) }
+    ensures reads { OnlyReads C.CellsRead cells.old cells.new (touched C.Elem.BITS window.start window.len - 1) }
+{
+    let bits = C::Elem::BITS as usize;
+    let skip = window.start % bits;
+    if window.len <= bits - skip {
+        return (toward_start::<O, C::Elem>(first, skip), first);
+    }
+    let second = cells.load(window.start / bits + 1);
+    (joined::<O, C::Elem>(first, second, skip), second)
+}
