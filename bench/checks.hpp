@@ -81,6 +81,11 @@ class Checks {
         return at.len != 0 && at.len % width == 0 && at.left == 0 && at.right < width;
     }
 
+    // Whether it is one for those whose two sides begin inside an element.
+    static bool has_inner_loop(Place at) {
+        return at.len != 0 && at.len % width == 0 && at.left == at.right && at.left > 0 && at.left < width;
+    }
+
     void transfers(Place at, const Memory &left, const Memory &right) {
         const List old = Bits::read(left, at.left, at.len), other = Bits::read(right, at.right, at.len);
         List either = old;
@@ -107,17 +112,18 @@ class Checks {
             Loop::copy_few(to.data(), at.left, right.data(), at.right, unsigned(at.len));
             expect(to == copied, "copy of few by a plain loop", at);
         }
-        if (!has_loop(at))
+        if (!has_loop(at) && !has_inner_loop(at))
             return;
+        const bool inner = has_inner_loop(at);
         to = left;
-        Loop::copy(to.data(), right.data(), unsigned(at.right), at.len / width);
+        (inner ? Loop::inner_copy : Loop::copy)(to.data(), right.data(), unsigned(at.right), at.len / width);
         expect(to == copied, "copy by a plain loop", at);
         to = left;
-        Loop::combine(to.data(), right.data(), unsigned(at.right), at.len / width);
+        (inner ? Loop::inner_combine : Loop::combine)(to.data(), right.data(), unsigned(at.right), at.len / width);
         expect(to == combined, "or by a plain loop", at);
         to = left;
         from = right;
-        Loop::swap(to.data(), from.data(), unsigned(at.right), at.len / width);
+        (inner ? Loop::inner_swap : Loop::swap)(to.data(), from.data(), unsigned(at.right), at.len / width);
         expect(to == swapped && from == swapped_right, "swap by a plain loop", at);
     }
 
@@ -233,8 +239,9 @@ class Checks {
         bool answer =
             Call::equal(left.data(), left.size(), at.left, right.data(), right.size(), at.right, at.len);
         expect(answer == wanted, "equal", at);
-        if (has_loop(at))
-            expect(Loop::equal(left.data(), right.data(), unsigned(at.right), at.len / width) == wanted,
+        auto equal = has_inner_loop(at) ? Loop::inner_equal : Loop::equal;
+        if (has_loop(at) || has_inner_loop(at))
+            expect(equal(left.data(), right.data(), unsigned(at.right), at.len / width) == wanted,
                    "equal by a plain loop", at);
     }
 };

@@ -33,8 +33,10 @@ void check() {
         checks.all({random() % 130, random() % 130, len, random() % (len + 1)});
     }
     for (size_t len = width; len <= 6 * width; len += width)
-        for (size_t start = 0; start < width; ++start)
+        for (size_t start = 0; start < width; ++start) {
             checks.all({0, start, len, random() % (len + 1)});
+            checks.all({start, start, len, random() % (len + 1)});
+        }
 }
 
 // The times of one operation at one place, of one call each; 0 where there is none.
@@ -79,7 +81,8 @@ void print(const Row &row) {
 }
 
 // The library, the plain loop and libc on `len` bits. Where an operation has two sides the second
-// begins at `start`, where it has one this does.
+// begins at `start`, and the first at the edge of an element or at `start` too (`inner`); where it has
+// one side this begins at `start`.
 template <class Element, class Order>
 class Timed {
     using Call = Library<Element, Order>;
@@ -87,8 +90,9 @@ class Timed {
     static constexpr size_t width = 8 * sizeof(Element);
 
   public:
-    Timed(size_t len, size_t start)
-        : len(len), start(start), count(len / width), size(count + 1), left(size), right(size), room(2 * count) {
+    Timed(size_t len, size_t start, bool inner)
+        : len(len), start(start), first(inner ? start : 0), inner(inner), count(len / width), size(count + 1), left(size),
+          right(size), room(2 * count) {
         std::mt19937_64 random(3);
         for (Element &element : left)
             element = Element(random());
@@ -98,8 +102,9 @@ class Timed {
 
     Times copy() {
         Times t;
-        t.library = time_call([&] { Call::copy(l(), size, 0, r(), size, start, len); });
-        t.loop = time_call([&] { Loop::copy(l(), r(), unsigned(start), count); });
+        auto loop = inner ? Loop::inner_copy : Loop::copy;
+        t.library = time_call([&] { Call::copy(l(), size, first, r(), size, start, len); });
+        t.loop = time_call([&] { loop(l(), r(), unsigned(start), count); });
         if (start == 0)
             t.libc = time_call([&] { std::memmove(l(), r(), len / 8); });
         return t;
@@ -107,24 +112,27 @@ class Timed {
 
     Times combine() {
         Times t;
-        t.library = time_call([&] { Call::combine(l(), size, 0, r(), size, start, len); });
-        t.loop = time_call([&] { Loop::combine(l(), r(), unsigned(start), count); });
+        auto loop = inner ? Loop::inner_combine : Loop::combine;
+        t.library = time_call([&] { Call::combine(l(), size, first, r(), size, start, len); });
+        t.loop = time_call([&] { loop(l(), r(), unsigned(start), count); });
         return t;
     }
 
     Times swap() {
         Times t;
-        t.library = time_call([&] { Call::swap(l(), size, 0, r(), size, start, len); });
-        t.loop = time_call([&] { Loop::swap(l(), r(), unsigned(start), count); });
+        auto loop = inner ? Loop::inner_swap : Loop::swap;
+        t.library = time_call([&] { Call::swap(l(), size, first, r(), size, start, len); });
+        t.loop = time_call([&] { loop(l(), r(), unsigned(start), count); });
         return t;
     }
 
     // Of equal bits.
     Times equal() {
-        Loop::copy(l(), r(), unsigned(start), count);
+        (inner ? Loop::inner_copy : Loop::copy)(l(), r(), unsigned(start), count);
         Times t;
-        t.library = time_call([&] { keep(Call::equal(l(), size, 0, r(), size, start, len)); });
-        t.loop = time_call([&] { keep(Loop::equal(l(), r(), unsigned(start), count)); });
+        auto loop = inner ? Loop::inner_equal : Loop::equal;
+        t.library = time_call([&] { keep(Call::equal(l(), size, first, r(), size, start, len)); });
+        t.loop = time_call([&] { keep(loop(l(), r(), unsigned(start), count)); });
         if (start == 0)
             t.libc = time_call([&] { keep(std::memcmp(l(), r(), len / 8)); });
         return t;
@@ -199,7 +207,9 @@ class Timed {
     }
 
   private:
-    size_t len, start, count, size;
+    size_t len, start, first;
+    bool inner;
+    size_t count, size;
     std::vector<Element> left, right, room;
 
     Element *l() { return left.data(); }
@@ -221,19 +231,24 @@ class PeerTimes {
     std::map<std::string, Best> known;
 };
 
+// Where the sides of an operation begin: at the edge of an element, one at an edge and one inside, or
+// both inside at the same bit.
+enum class Phase { edges, shifted, inner };
+
 template <class Element, class Order>
-void measure(size_t len, bool is_shifted, PeerTimes &peers) {
+void measure(size_t len, Phase phase, PeerTimes &peers) {
     const size_t width = 8 * sizeof(Element);
-    const size_t start = is_shifted ? middle<Element> : 0, peer_start = is_shifted ? 29 : 0;
-    const size_t by = is_shifted ? middle<Element> : width, peer_by = is_shifted ? 29 : 64;
+    const bool at_edge = phase == Phase::edges, inner = phase == Phase::inner;
+    const size_t start = at_edge ? 0 : middle<Element>, peer_start = at_edge ? 0 : 29;
+    const size_t by = at_edge ? width : middle<Element>, peer_by = at_edge ? 64 : 29;
     const size_t turn = len / 2 + start, peer_turn = len / 2 + peer_start;
     const std::string elements = std::string("u") + std::to_string(width) + " " + Order::name;
-    const std::string two = "0, " + std::to_string(start), one = std::to_string(start);
-    Timed<Element, Order> timed(len, start);
-    auto row = [&](const char *operation, const std::string &phase, Times times, auto best) {
-        std::string key = std::string(operation) + (is_shifted ? " shifted" : "");
-        print({operation, elements, phase, len, times, peers.of(key, [&] {
-                   Peers sets(len, peer_start);
+    const std::string one = std::to_string(start), two = (inner ? one : "0") + ", " + one;
+    const std::string kind = at_edge ? "" : inner ? " inner" : " shifted";
+    Timed<Element, Order> timed(len, start, inner);
+    auto row = [&](const char *operation, const std::string &place, Times times, auto best) {
+        print({operation, elements, place, len, times, peers.of(operation + kind, [&] {
+                   Peers sets(len, peer_start, inner);
                    return best(sets);
                })});
     };
@@ -241,6 +256,8 @@ void measure(size_t len, bool is_shifted, PeerTimes &peers) {
     row("or", two, timed.combine(), [](Peers &p) { return p.combine(); });
     row("swap", two, timed.swap(), [](Peers &p) { return p.swap(); });
     row("equality", two, timed.equal(), [](Peers &p) { return p.equal(); });
+    if (inner)
+        return;
     row("copy_within", "by " + std::to_string(by), timed.copy_within(by),
         [&](Peers &p) { return p.copy_within(peer_by); });
     row("shift_start", "by " + std::to_string(by), timed.shift_start(by),
@@ -284,11 +301,11 @@ int main() {
     for (size_t len : sizes) {
         PeerTimes peers;
         print_head(len);
-        for (bool is_shifted : {false, true}) {
-            measure<uint64_t, Lsb0>(len, is_shifted, peers);
-            measure<uint64_t, Msb0>(len, is_shifted, peers);
-            measure<uint8_t, Lsb0>(len, is_shifted, peers);
-            measure<uint8_t, Msb0>(len, is_shifted, peers);
+        for (Phase phase : {Phase::edges, Phase::shifted, Phase::inner}) {
+            measure<uint64_t, Lsb0>(len, phase, peers);
+            measure<uint64_t, Msb0>(len, phase, peers);
+            measure<uint8_t, Lsb0>(len, phase, peers);
+            measure<uint8_t, Msb0>(len, phase, peers);
         }
     }
     std::printf("\n### Copies of few bits, in ns\n\n| bits | elements | phase | library | by hand | library / by hand |\n");

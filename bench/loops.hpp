@@ -1,7 +1,7 @@
 // The operations as plain loops over elements, as one writes them by hand where the phases are known
 // to be these: what is written by a copy begins at the edge of an element, and `start`, below the
-// width, is where the other side begins. `count` is in elements, `by` in bits. Each is a call of its
-// own, as the library's are.
+// width, is where the other side begins; or both sides begin at `start` inside an element (`inner_`).
+// `count` is in elements, `by` in bits. Each is a call of its own, as the library's are.
 #pragma once
 #include "library.hpp"
 #include <cstring>
@@ -97,6 +97,39 @@ struct Loops {
             for (size_t i = 0; i < count; ++i)
                 differing |= Element(left[i] ^ gather(right + i, start));
         return differing == 0;
+    }
+
+    [[gnu::noinline]] static void inner_copy(Element *to, const Element *from, unsigned start, size_t count) {
+        to[0] = blend(from[0], to[0], first(start));
+        for (size_t i = 1; i < count; ++i)
+            to[i] = from[i];
+        to[count] = blend(to[count], from[count], first(start));
+    }
+
+    [[gnu::noinline]] static void inner_combine(Element *to, const Element *from, unsigned start, size_t count) {
+        to[0] |= Element(from[0] & Element(~first(start)));
+        for (size_t i = 1; i < count; ++i)
+            to[i] |= from[i];
+        to[count] |= Element(from[count] & first(start));
+    }
+
+    [[gnu::noinline]] static void inner_swap(Element *left, Element *right, unsigned start, size_t count) {
+        auto exchange = [&](size_t i, Element mask) {
+            Element old = left[i];
+            left[i] = blend(old, right[i], mask);
+            right[i] = blend(right[i], old, mask);
+        };
+        exchange(0, Element(~first(start)));
+        for (size_t i = 1; i < count; ++i)
+            std::swap(left[i], right[i]);
+        exchange(count, first(start));
+    }
+
+    [[gnu::noinline]] static bool inner_equal(const Element *left, const Element *right, unsigned start, size_t count) {
+        Element differing = Element((left[0] ^ right[0]) & Element(~first(start)));
+        for (size_t i = 1; i < count; ++i)
+            differing |= Element(left[i] ^ right[i]);
+        return Element(differing | ((left[count] ^ right[count]) & first(start))) == 0;
     }
 
     [[gnu::noinline]] static void copy_within(Element *p, size_t count, size_t by) {

@@ -75,14 +75,19 @@ struct Sets {
 };
 
 // The best peer at each operation on `len` bits, from bit `start` of the second set, or of the only one.
+// Those of the first set begin at its first bit, or at `start` too (`inner`): then vector<bool> alone
+// has a call on so many bits of two sets.
 class Peers {
   public:
-    Peers(size_t len, size_t start)
-        : len(len), start(start), left(words(len, 7)), right(words(len + (start == 0 ? 0 : 64), 11)) {}
+    Peers(size_t len, size_t start, bool inner)
+        : len(len), start(start), inner(inner), left(words(len + (inner ? 64 : 0), 7)),
+          right(words(len + (start == 0 ? 0 : 64), 11)) {}
 
     Best copy() {
         Best best;
-        best.try_peer("vector<bool>", [&] { std::copy(second(), second() + len, left.vector.begin()); });
+        best.try_peer("vector<bool>", [&] { std::copy(second(), second() + len, first()); });
+        if (inner)
+            return best;
         if (start == 0) {
             best.try_peer("dynamic_bitset", [&] { left.bitset = right.bitset; });
             best.try_peer("fixedbitset", [&] { fixedbitset_copy(left.fixed, right.fixed); });
@@ -96,8 +101,10 @@ class Peers {
     Best combine() {
         Best best;
         best.try_peer("vector<bool>", [&] {
-            std::transform(second(), second() + len, left.vector.begin(), left.vector.begin(), std::logical_or<>());
+            std::transform(second(), second() + len, first(), first(), std::logical_or<>());
         });
+        if (inner)
+            return best;
         if (start == 0) {
             best.try_peer("dynamic_bitset", [&] { left.bitset |= right.bitset; });
             best.try_peer("fixedbitset", [&] { fixedbitset_or(left.fixed, right.fixed); });
@@ -110,7 +117,7 @@ class Peers {
 
     Best swap() {
         Best best;
-        best.try_peer("vector<bool>", [&] { std::swap_ranges(second(), second() + len, left.vector.begin()); });
+        best.try_peer("vector<bool>", [&] { std::swap_ranges(second(), second() + len, first()); });
         if (start == 0)
             best.try_peer("dynamic_bitset", [&] {
                 left.bitset ^= right.bitset;
@@ -122,11 +129,12 @@ class Peers {
 
     // Of equal bits.
     Best equal() {
-        std::copy(second(), second() + len, left.vector.begin());
+        std::copy(second(), second() + len, first());
         left.bitset = shifted();
         Best best;
-        best.try_peer("vector<bool>",
-                      [&] { keep(std::equal(left.vector.begin(), left.vector.begin() + ptrdiff_t(len), second())); });
+        best.try_peer("vector<bool>", [&] { keep(std::equal(first(), first() + ptrdiff_t(len), second())); });
+        if (inner)
+            return best;
         if (start == 0) {
             fixedbitset_copy(left.fixed, right.fixed);
             bit_vec_copy(left.bit_vec, right.bit_vec);
@@ -222,6 +230,7 @@ class Peers {
 
   private:
     size_t len, start;
+    bool inner;
     Sets left, right;
 
     static std::vector<uint32_t> words(size_t len, uint32_t seed) {
@@ -230,6 +239,8 @@ class Peers {
             word = seed = seed * 1664525 + 1013904223;
         return result;
     }
+
+    std::vector<bool>::iterator first() { return left.vector.begin() + ptrdiff_t(inner ? start : 0); }
 
     std::vector<bool>::iterator second() { return right.vector.begin() + ptrdiff_t(start); }
 

@@ -4,8 +4,8 @@
 //! Each export takes a slice as a pointer and a number of elements, and of it `len` bits from bit
 //! `start` on, and carries out one operation on these. It makes no view: it calls the function on
 //! slices that the view's method calls (`bitvec_elements`), since a part of a view doesn't give its
-//! lender's slice back. Equality alone is `SliceOrder::block_eq`, where `eq_bits` of views goes bit
-//! by bit over any two types. An export's name ends in the element type and the order.
+//! lender's slice back. Equality is `==` of views of one type. An export's name ends in the element
+//! type and the order.
 #![tactic(auto)]
 
 mod edits;

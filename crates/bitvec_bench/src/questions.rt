@@ -7,8 +7,7 @@ ghost use Rattle.bitvec_base.specs.Memory.{list_in};
 ghost use Rattle.bitvec_bench.specs.Bits.{HasBits, place};
 
 use bitvec_base::Window;
-use bitvec_cells::Shared;
-use bitvec_elements::{count_in, first_in};
+use bitvec_elements::{count_in, eq_block_in, first_in};
 use bitvec_engine::SliceOrder;
 use bitvec_store::BitStore;
 
@@ -33,9 +32,7 @@ pub fn equal<T: BitStore, O: SliceOrder>(
         start: right_start,
         len,
     };
-    let mut left = Shared::new(left);
-    let mut right = Shared::new(right);
-    O::block_eq::<Shared<T>, Shared<T>>(&mut left, left_window, &mut right, right_window)
+    eq_block_in::<T, O>(left, left_window, right, right_window)
 }
 
 /// How many of `len` bits are 1.

@@ -1,2 +1,3 @@
 pub mod Masks
 pub mod Parts
+pub mod Regions

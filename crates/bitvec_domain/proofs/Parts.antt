@@ -7,20 +7,18 @@ use Rattle.bitvec_base.specs.Window.{write_at}
 use Rattle.bitvec_base.specs.WriteLaws.{length-slice_range, range-write_at}
 use Rattle.bitvec_store.specs.declared.store.BitStore.{Ghosts as Store}
 use Rattle.bitvec_base.specs.declared.order.BitOrder.{Ghosts as Order}
-use Rattle.bitvec_domain.specs.Parts.{WritesPart, bits_of_part_mut}
+use Rattle.bitvec_domain.specs.Parts.{WritesPart, seen_part_mut}
 use Rattle.bitvec_domain.specs.declared.part_mut.PartialElementMut.{PartialElementMut}
 
 module _ {T O : Type 0} {t : Store T} {o : Order O} where
-  pub length-bits_of_part_mut : (p : PartialElementMut T O t o) → length (bits_of_part_mut p) ≡ p.tail - p.head
-  unfolding bits_of_part_mut
-  length-bits_of_part_mut p =
+  pub length-part_bits : (p : PartialElementMut T O t o) → length (seen_part_mut p).bits ≡ p.tail - p.head
+  length-part_bits p =
       let inside = p.inside in
       let whole = length-element_bits t.BITS o.at (t.value p.element.now) in
       length-slice_range (element_bits t.BITS o.at (t.value p.element.now)) p.head p.tail (omega arith)
 
   pub writes_part : (p q : PartialElementMut T O t o) (new : List Bool) → q.head ≡ p.head → q.tail ≡ p.tail → q.element.ghost_name ≡ p.element.ghost_name → length new ≡ p.tail - p.head
       → element_bits t.BITS o.at (t.value q.element.now) ≡ write_at (element_bits t.BITS o.at (t.value p.element.now)) p.head new → WritesPart p q new
-  unfolding bits_of_part_mut
   writes_part p q new head tail name long wrote =
       let ordered = p.ordered in
       let inside = p.inside in

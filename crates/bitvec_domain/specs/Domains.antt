@@ -1,12 +1,10 @@
--- What the parts of a view are, by the elements that it touches.
-use Rattle.std.specs.Prelude.{◌≡◌, ⊤, Bool, List, [], ◌++◌, map, slice_index, slice_range}
-use Rattle.std.specs.declared.option.Option.{Option}
-use Rattle.std.specs.declared.option.Option.TheVariants.{None, Some}
+-- What the parts of a range of bits are, by the elements that it touches.
+use Rattle.std.specs.Prelude.{ℕ, Bool, List, [], ◌++◌, Option, None, Some, map, slice_index, slice_range}
 use Rattle.bitvec_base.specs.Memory.{memory_bits}
 use Rattle.bitvec_base.specs.declared.part.Part.{Part}
 use Rattle.bitvec_store.specs.declared.store.BitStore.{Ghosts as Store}
 use Rattle.bitvec_base.specs.declared.order.BitOrder.{Ghosts as Order}
-use Rattle.bitvec_domain.specs.Parts.{bits_of_part, element_of_part, head_of_part, tail_of_part, bits_of_part_mut, element_of_part_mut, head_of_part_mut, tail_of_part_mut}
+use Rattle.bitvec_domain.specs.Parts.{SeenPart, part_at, seen_part, seen_part_mut}
 use Rattle.bitvec_domain.specs.declared.cut.Cut.{Cut}
 use Rattle.bitvec_domain.specs.declared.cut.Cut.TheVariants.{Inside, Across}
 use Rattle.bitvec_domain.specs.declared.domain.Domain.{Domain}
@@ -16,58 +14,47 @@ use Rattle.bitvec_domain.specs.declared.domain_mut.DomainMut.TheVariants.{Enclav
 use Rattle.bitvec_domain.specs.declared.part.PartialElement.{PartialElement}
 use Rattle.bitvec_domain.specs.declared.part_mut.PartialElementMut.{PartialElementMut}
 
+-- what both types of domains show: one part of an element, or whole elements between a part before and one behind them, if there is one
+pub data Pieces (T : Type 0) : Type 0 where
+  enclave : SeenPart → Pieces T
+  region : Option SeenPart → List T → Option SeenPart → Pieces T
+
 module _ {T O : Type 0} {t : Store T} {o : Order O} where
-  -- it is the part, of these elements
-  pub record IsPart (elements : List T) (part : Part) (p : PartialElement T O t o) : Type 0 where
-    pub element : t.value (element_of_part p) ≡ slice_index (map t.value elements) part.element
-    pub head : head_of_part p ≡ part.from
-    pub tail : tail_of_part p ≡ part.to
+  abbrev pub seen_part_if : Option (PartialElement T O t o) → Option SeenPart
+  seen_part_if None = None
+  seen_part_if (Some p) = Some (seen_part p)
 
-  -- the same, if there is one
-  abbrev pub IsPartIf : List T → Option Part → Option (PartialElement T O t o) → Type 0
-  IsPartIf elements None None = ⊤
-  IsPartIf elements (Some part) (Some p) = IsPart elements part p
-  IsPartIf elements part p = ⊥
+  abbrev pub pieces_of : Domain T O t o → Pieces T
+  pieces_of (Enclave p) = enclave (seen_part p)
+  pieces_of (Region head body tail) = region (seen_part_if head) body.now (seen_part_if tail)
 
-  -- the domain has the elements, cut so
-  abbrev pub IsDomain : List T → Cut → Domain T O t o → Type 0
-  IsDomain elements (Inside part) (Enclave p) = IsPart elements part p
-  IsDomain elements (Across before start end after) (Region head body tail) =
-      IsPartIf elements before head × (body.now ≡ slice_range elements start end) × IsPartIf elements after tail
-  IsDomain elements c d = ⊥
+  abbrev pub seen_part_if_mut : Option (PartialElementMut T O t o) → Option SeenPart
+  seen_part_if_mut None = None
+  seen_part_if_mut (Some p) = Some (seen_part_mut p)
 
-  -- the bits of the parts, one part after the other
-  abbrev pub bits_of_part_if : Option (PartialElement T O t o) → List Bool
-  bits_of_part_if None = []
-  bits_of_part_if (Some p) = bits_of_part p
+  abbrev pub pieces_of_mut : DomainMut T O t o → Pieces T
+  pieces_of_mut (EnclaveMut p) = enclave (seen_part_mut p)
+  pieces_of_mut (RegionMut head body tail) = region (seen_part_if_mut head) body.now (seen_part_if_mut tail)
 
-  abbrev pub bits_of_domain : Domain T O t o → List Bool
-  bits_of_domain (Enclave p) = bits_of_part p
-  bits_of_domain (Region head body tail) =
-      bits_of_part_if head ++ (memory_bits t.BITS o.at (map t.value body.now) ++ bits_of_part_if tail)
+module _ {T : Type 0} (b : ℕ) (at : ℕ → ℕ → ℕ) (value : T → ℕ) where
+  -- a part of these elements
+  abbrev pub part_in : List T → Part → SeenPart
+  part_in elements part = part_at b at (slice_index (map value elements) part.element) part.from part.to
 
-  -- the same of parts that are written, as they are at first
-  pub record IsPartMut (elements : List T) (part : Part) (p : PartialElementMut T O t o) : Type 0 where
-    pub element : t.value (element_of_part_mut p) ≡ slice_index (map t.value elements) part.element
-    pub head : head_of_part_mut p ≡ part.from
-    pub tail : tail_of_part_mut p ≡ part.to
+  abbrev pub part_in_if : List T → Option Part → Option SeenPart
+  part_in_if elements None = None
+  part_in_if elements (Some part) = Some (part_in elements part)
 
-  abbrev pub IsPartIfMut : List T → Option Part → Option (PartialElementMut T O t o) → Type 0
-  IsPartIfMut elements None None = ⊤
-  IsPartIfMut elements (Some part) (Some p) = IsPartMut elements part p
-  IsPartIfMut elements part p = ⊥
+  -- the elements, cut so
+  abbrev pub pieces_in : List T → Cut → Pieces T
+  pieces_in elements (Inside part) = enclave (part_in elements part)
+  pieces_in elements (Across before start end after) = region (part_in_if elements before) (slice_range elements start end) (part_in_if elements after)
 
-  abbrev pub IsDomainMut : List T → Cut → DomainMut T O t o → Type 0
-  IsDomainMut elements (Inside part) (EnclaveMut p) = IsPartMut elements part p
-  IsDomainMut elements (Across before start end after) (RegionMut head body tail) =
-      IsPartIfMut elements before head × (body.now ≡ slice_range elements start end) × IsPartIfMut elements after tail
-  IsDomainMut elements c d = ⊥
+  -- the bits of the pieces, one piece after the other
+  abbrev pub bits_if : Option SeenPart → List Bool
+  bits_if None = []
+  bits_if (Some part) = part.bits
 
-  abbrev pub bits_of_part_if_mut : Option (PartialElementMut T O t o) → List Bool
-  bits_of_part_if_mut None = []
-  bits_of_part_if_mut (Some p) = bits_of_part_mut p
-
-  abbrev pub bits_of_domain_mut : DomainMut T O t o → List Bool
-  bits_of_domain_mut (EnclaveMut p) = bits_of_part_mut p
-  bits_of_domain_mut (RegionMut head body tail) =
-      bits_of_part_if_mut head ++ (memory_bits t.BITS o.at (map t.value body.now) ++ bits_of_part_if_mut tail)
+  abbrev pub bits_of_pieces : Pieces T → List Bool
+  bits_of_pieces (enclave part) = part.bits
+  bits_of_pieces (region head body tail) = bits_if head ++ (memory_bits b at (map value body) ++ bits_if tail)

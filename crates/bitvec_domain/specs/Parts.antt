@@ -1,4 +1,4 @@
--- What contracts see of a part of one element: the element, and the indices there.
+-- What contracts see of a part of one element, which both types of parts show.
 use Rattle.std.specs.Prelude.{◌≡◌, ℕ, Bool, List, slice_range}
 use Rattle.std.specs.Borrow.{GName}
 use Rattle.bitvec_base.specs.Memory.{element_bits}
@@ -8,43 +8,33 @@ use Rattle.bitvec_base.specs.declared.order.BitOrder.{Ghosts as Order}
 use Rattle.bitvec_domain.specs.declared.part.PartialElement.{PartialElement}
 use Rattle.bitvec_domain.specs.declared.part_mut.PartialElementMut.{PartialElementMut}
 
+-- the number of the element, the index of the part's first bit there, that past its last one, and the bits between them
+pub record SeenPart : Type 0 where
+  pub number : ℕ
+  pub head : ℕ
+  pub tail : ℕ
+  pub bits : List Bool
+
+-- the bits of an element of this number from index `head` up to, without, `tail`
+abbrev pub part_at : ℕ → (ℕ → ℕ → ℕ) → ℕ → ℕ → ℕ → SeenPart
+part_at b at number head tail = record { number = number; head = head; tail = tail; bits = slice_range (element_bits b at number) head tail }
+
 module _ {T O : Type 0} {t : Store T} {o : Order O} where
-  abbrev pub element_of_part : PartialElement T O t o → T
-  element_of_part p = p.element.now
+  abbrev pub seen_part : PartialElement T O t o → SeenPart
+  seen_part p = part_at t.BITS o.at (t.value p.element.now) p.head p.tail
 
-  -- the index of the part's first bit, and that past its last one
-  abbrev pub head_of_part : PartialElement T O t o → ℕ
-  head_of_part p = p.head
+  abbrev pub seen_part_mut : PartialElementMut T O t o → SeenPart
+  seen_part_mut p = part_at t.BITS o.at (t.value p.element.now) p.head p.tail
 
-  abbrev pub tail_of_part : PartialElement T O t o → ℕ
-  tail_of_part p = p.tail
-
-  -- the part's own bits
-  unfoldable pub bits_of_part : PartialElement T O t o → List Bool
-  bits_of_part p = slice_range (element_bits t.BITS o.at (t.value p.element.now)) p.head p.tail
-
-  -- the same of a part that is written
-  abbrev pub element_of_part_mut : PartialElementMut T O t o → T
-  element_of_part_mut p = p.element.now
-
-  abbrev pub head_of_part_mut : PartialElementMut T O t o → ℕ
-  head_of_part_mut p = p.head
-
-  abbrev pub tail_of_part_mut : PartialElementMut T O t o → ℕ
-  tail_of_part_mut p = p.tail
-
-  unfoldable pub bits_of_part_mut : PartialElementMut T O t o → List Bool
-  bits_of_part_mut p = slice_range (element_bits t.BITS o.at (t.value p.element.now)) p.head p.tail
-
-  -- which element the part borrows, by its name among borrows
-  abbrev pub name_of_part_mut : PartialElementMut T O t o → GName
-  name_of_part_mut p = p.element.ghost_name
+  -- which element a part that is written borrows, by its name among borrows
+  abbrev pub name_of_part : PartialElementMut T O t o → GName
+  name_of_part p = p.element.ghost_name
 
   -- the part `after` is the part `before` with the bits `new`: the element has them there, and its
   -- other bits, the indices and the element that is borrowed stay
   pub record WritesPart (before after : PartialElementMut T O t o) (new : List Bool) : Type 0 where
-    pub bits : bits_of_part_mut after ≡ new
-    pub element : element_bits t.BITS o.at (t.value (element_of_part_mut after)) ≡ write_at (element_bits t.BITS o.at (t.value (element_of_part_mut before))) (head_of_part_mut before) new
-    pub head : head_of_part_mut after ≡ head_of_part_mut before
-    pub tail : tail_of_part_mut after ≡ tail_of_part_mut before
-    pub name : name_of_part_mut after ≡ name_of_part_mut before
+    pub bits : (seen_part_mut after).bits ≡ new
+    pub element : element_bits t.BITS o.at (seen_part_mut after).number ≡ write_at (element_bits t.BITS o.at (seen_part_mut before).number) (seen_part_mut before).head new
+    pub head : (seen_part_mut after).head ≡ (seen_part_mut before).head
+    pub tail : (seen_part_mut after).tail ≡ (seen_part_mut before).tail
+    pub name : name_of_part after ≡ name_of_part before

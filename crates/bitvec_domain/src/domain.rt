@@ -1,8 +1,9 @@
 //! The elements that a view touches.
-ghost use Rattle.std.specs.Prelude.{IfSome, length, map};
+ghost use Rattle.std.specs.Prelude.{◌≡◌, IfSome, length, map};
 ghost use Rattle.bitvec_base.specs.Memory.{HasWindow};
 ghost use Rattle.bitvec_domain.specs.Cuts.{IsPartWithin, cut_of};
-ghost use Rattle.bitvec_domain.specs.Domains.{IsDomain, IsPart, IsPartIf};
+ghost use Rattle.bitvec_domain.specs.Domains.{part_in, part_in_if, pieces_in, pieces_of, seen_part_if};
+ghost use Rattle.bitvec_domain.specs.Parts.{seen_part};
 
 use crate::PartialElement;
 use crate::cut::Cut;
@@ -29,7 +30,7 @@ pub enum Domain<'a, T: BitStore, O: BitOrder> {
 /// window lies in it.
 pub fn domain_of<T: BitStore, O: BitOrder>(cells: &[T], window: Window) -> Domain<'_, T, O>
     requires window { HasWindow T.BITS (map T.value cells.now) window }
-    ensures { IsDomain cells.now (cut_of T.BITS window) result }
+    ensures { pieces_of result ≡ pieces_in T.BITS O.at T.value cells.now (cut_of T.BITS window) }
 {
     match Cut::of(T::BITS as usize, window) {
         Cut::Inside(part) => Domain::Enclave(part_of(cells, part)),
@@ -49,7 +50,7 @@ pub fn domain_of<T: BitStore, O: BitOrder>(cells: &[T], window: Window) -> Domai
 /// The bits of a part.
 fn part_of<T: BitStore, O: BitOrder>(cells: &[T], part: Part) -> PartialElement<'_, T, O>
     requires { IsPartWithin T.BITS (length cells.now) part }
-    ensures { IsPart cells.now part result }
+    ensures { seen_part result ≡ part_in T.BITS O.at T.value cells.now part }
 {
     PartialElement::new(&cells[part.element], part.from, part.to)
 }
@@ -60,7 +61,7 @@ fn part_if<T: BitStore, O: BitOrder>(
     part: Option<Part>,
 ) -> Option<PartialElement<'_, T, O>>
     requires { IfSome part (IsPartWithin T.BITS (length cells.now)) }
-    ensures { IsPartIf cells.now part result }
+    ensures { seen_part_if result ≡ part_in_if T.BITS O.at T.value cells.now part }
 {
     match part {
         None => None,

@@ -2,7 +2,8 @@
 ghost use Rattle.std.specs.Prelude.{◌≡◌, ℕ, ◌+◌, ◌-◌, ◌≤◌, IfSome, length, map};
 ghost use Rattle.bitvec_base.specs.Memory.{HasWindow};
 ghost use Rattle.bitvec_domain.specs.Cuts.{IsHeadWithin, IsPartWithin, IsTailWithin, cut_of, part_from, part_if_from};
-ghost use Rattle.bitvec_domain.specs.Domains.{IsDomainMut, IsPartIfMut, IsPartMut};
+ghost use Rattle.bitvec_domain.specs.Domains.{part_in, part_in_if, pieces_in, pieces_of_mut, seen_part_if_mut};
+ghost use Rattle.bitvec_domain.specs.Parts.{seen_part_mut};
 ghost use Rattle.bitvec_domain.specs.declared.cut.Cut.TheVariants.{Across};
 
 use crate::PartialElementMut;
@@ -34,7 +35,7 @@ pub fn domain_mut_of<T: BitStore, O: BitOrder>(
     window: Window,
 ) -> DomainMut<'_, T, O>
     requires window { HasWindow T.BITS (map T.value cells.old) window }
-    ensures { IsDomainMut cells.old (cut_of T.BITS window) result }
+    ensures { pieces_of_mut result ≡ pieces_in T.BITS O.at T.value cells.old (cut_of T.BITS window) }
 {
     match Cut::of(T::BITS as usize, window) {
         Cut::Inside(part) => DomainMut::Enclave(part_of(cells, 0, part)),
@@ -59,7 +60,7 @@ fn region<T: BitStore, O: BitOrder>(
     requires order { start ≤ end }
     requires bound { end ≤ length cells.old }
     requires tail { IfSome tail (IsTailWithin T.BITS (length cells.old) end) }
-    ensures { IsDomainMut cells.old (Across head start end tail) result }
+    ensures { pieces_of_mut result ≡ pieces_in T.BITS O.at T.value cells.old (Across head start end tail) }
 {
     let (front, after) = cells.split_at_mut(end);
     let (before, body) = front.split_at_mut(start);
@@ -76,7 +77,7 @@ fn part_of<T: BitStore, O: BitOrder>(
 ) -> PartialElementMut<'_, T, O>
     requires first { first ≤ part.element }
     requires within { IsPartWithin T.BITS (first + length cells.old) part }
-    ensures { IsPartMut cells.old (part_from first part) result }
+    ensures { seen_part_mut result ≡ part_in T.BITS O.at T.value cells.old (part_from first part) }
 {
     PartialElementMut::new(&mut cells[part.element - first], part.from, part.to)
 }
@@ -89,7 +90,7 @@ fn part_if<T: BitStore, O: BitOrder>(
 ) -> Option<PartialElementMut<'_, T, O>>
     requires first { IfSome part (λ p. first ≤ p.element) }
     requires within { IfSome part (IsPartWithin T.BITS (first + length cells.old)) }
-    ensures { IsPartIfMut cells.old (part_if_from first part) result }
+    ensures { seen_part_if_mut result ≡ part_in_if T.BITS O.at T.value cells.old (part_if_from first part) }
 {
     match part {
         None => None,

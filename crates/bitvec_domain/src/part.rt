@@ -23,15 +23,13 @@ pub struct PartialElement<'a, T: BitStore, O: BitOrder> {
 }
 
 impl<'a, T: BitStore, O: BitOrder> PartialElement<'a, T, O> {
-    ghost use Rattle.bitvec_domain.specs.Parts.{bits_of_part, element_of_part, head_of_part, tail_of_part};
+    ghost use Rattle.bitvec_domain.specs.Parts.{part_at, seen_part};
 
     /// The bits of an element from index `head` up to, without, `tail`.
     pub(crate) fn new(element: &'a T, head: usize, tail: usize) -> Self
         requires order { head ≤ tail }
         requires bound { tail ≤ T.BITS }
-        ensures element { element_of_part result ≡ element.now }
-        ensures head { head_of_part result ≡ head }
-        ensures tail { tail_of_part result ≡ tail }
+        ensures { seen_part result ≡ part_at T.BITS O.at (T.value element.now) head tail }
     {
         PartialElement {
             element,
@@ -45,23 +43,23 @@ impl<'a, T: BitStore, O: BitOrder> PartialElement<'a, T, O> {
     /// The element with the bits outside the part 0.
     pub fn load_value(&self) -> T
         ensures value { T.value result
-            ≡ bit_and (T.value (element_of_part self.now)) (mask_of (O.at T.BITS) (head_of_part self.now) (tail_of_part self.now)) }
+            ≡ bit_and (seen_part self.now).number (mask_of (O.at T.BITS) (seen_part self.now).head (seen_part self.now).tail) }
         ensures bits { element_bits T.BITS O.at (T.value result)
-            ≡ write_at (replicate T.BITS false) (head_of_part self.now) (bits_of_part self.now) }
+            ≡ write_at (replicate T.BITS false) (seen_part self.now).head (seen_part self.now).bits }
     {
         self.element.and(self.mask)
     }
 
     /// The index in the element of the part's first bit.
     pub fn head(&self) -> usize
-        ensures { result ≡ head_of_part self.now }
+        ensures { result ≡ (seen_part self.now).head }
     {
         self.head
     }
 
     /// The index in the element past the part's last bit.
     pub fn tail(&self) -> usize
-        ensures { result ≡ tail_of_part self.now }
+        ensures { result ≡ (seen_part self.now).tail }
     {
         self.tail
     }
@@ -69,7 +67,7 @@ impl<'a, T: BitStore, O: BitOrder> PartialElement<'a, T, O> {
     /// The element whose bits are 1 exactly in the part.
     pub fn mask(&self) -> T
         ensures { T.value result
-            ≡ mask_of (O.at T.BITS) (head_of_part self.now) (tail_of_part self.now) }
+            ≡ mask_of (O.at T.BITS) (seen_part self.now).head (seen_part self.now).tail }
     {
         self.mask
     }

@@ -23,16 +23,14 @@ pub struct PartialElementMut<'a, T: BitStore, O: BitOrder> {
 }
 
 impl<'a, T: BitStore, O: BitOrder> PartialElementMut<'a, T, O> {
-    ghost use Rattle.bitvec_domain.specs.Parts.{WritesPart, bits_of_part_mut, element_of_part_mut, head_of_part_mut, tail_of_part_mut, name_of_part_mut};
+    ghost use Rattle.bitvec_domain.specs.Parts.{WritesPart, name_of_part, part_at, seen_part_mut};
 
     /// The bits of an element from index `head` up to, without, `tail`.
     pub(crate) fn new(element: &'a mut T, head: usize, tail: usize) -> Self
         requires order { head ≤ tail }
         requires bound { tail ≤ T.BITS }
-        ensures element { element_of_part_mut result ≡ element.old }
-        ensures head { head_of_part_mut result ≡ head }
-        ensures tail { tail_of_part_mut result ≡ tail }
-        ensures name { name_of_part_mut result ≡ element.entry.ghost_name }
+        ensures part { seen_part_mut result ≡ part_at T.BITS O.at (T.value element.old) head tail }
+        ensures name { name_of_part result ≡ element.entry.ghost_name }
     {
         PartialElementMut {
             element,
@@ -46,9 +44,9 @@ impl<'a, T: BitStore, O: BitOrder> PartialElementMut<'a, T, O> {
     /// The element with the bits outside the part 0.
     pub fn load_value(&self) -> T
         ensures value { T.value result
-            ≡ bit_and (T.value (element_of_part_mut self.now)) (mask_of (O.at T.BITS) (head_of_part_mut self.now) (tail_of_part_mut self.now)) }
+            ≡ bit_and (seen_part_mut self.now).number (mask_of (O.at T.BITS) (seen_part_mut self.now).head (seen_part_mut self.now).tail) }
         ensures bits { element_bits T.BITS O.at (T.value result)
-            ≡ write_at (replicate T.BITS false) (head_of_part_mut self.now) (bits_of_part_mut self.now) }
+            ≡ write_at (replicate T.BITS false) (seen_part_mut self.now).head (seen_part_mut self.now).bits }
     {
         self.element.and(self.mask)
     }
@@ -57,7 +55,7 @@ impl<'a, T: BitStore, O: BitOrder> PartialElementMut<'a, T, O> {
     /// stay, and all others of `value` are passed over.
     pub fn store_value(&mut self, value: T)
         ensures { WritesPart self.old self.new
-            (slice_range (element_bits T.BITS O.at (T.value value)) (head_of_part_mut self.old) (tail_of_part_mut self.old)) }
+            (slice_range (element_bits T.BITS O.at (T.value value)) (seen_part_mut self.old).head (seen_part_mut self.old).tail) }
     {
         let outside = self.element.and(self.mask.not());
         *self.element = outside.or(value.and(self.mask));
@@ -65,21 +63,21 @@ impl<'a, T: BitStore, O: BitOrder> PartialElementMut<'a, T, O> {
 
     /// Flips each bit of the part; all other bits of the element stay.
     pub fn invert(&mut self)
-        ensures { WritesPart self.old self.new (map not (bits_of_part_mut self.old)) }
+        ensures { WritesPart self.old self.new (map not (seen_part_mut self.old).bits) }
     {
         *self.element = self.element.xor(self.mask);
     }
 
     /// The index in the element of the part's first bit.
     pub fn head(&self) -> usize
-        ensures { result ≡ head_of_part_mut self.now }
+        ensures { result ≡ (seen_part_mut self.now).head }
     {
         self.head
     }
 
     /// The index in the element past the part's last bit.
     pub fn tail(&self) -> usize
-        ensures { result ≡ tail_of_part_mut self.now }
+        ensures { result ≡ (seen_part_mut self.now).tail }
     {
         self.tail
     }
@@ -87,7 +85,7 @@ impl<'a, T: BitStore, O: BitOrder> PartialElementMut<'a, T, O> {
     /// The element whose bits are 1 exactly in the part.
     pub fn mask(&self) -> T
         ensures { T.value result
-            ≡ mask_of (O.at T.BITS) (head_of_part_mut self.now) (tail_of_part_mut self.now) }
+            ≡ mask_of (O.at T.BITS) (seen_part_mut self.now).head (seen_part_mut self.now).tail }
     {
         self.mask
     }

@@ -1,26 +1,30 @@
 //! Writable views are edited.
 ghost use Rattle.bitvec_base.specs.Lists.{combined};
 ghost use Rattle.bitvec_words.specs.Operator.{operator};
-ghost use Rattle.bitvec_slice.specs.Views.{bits_of, bits_of_mut, window_in_mut};
+ghost use Rattle.bitvec_slice.specs.Views.{seen, seen_mut};
 ghost use Rattle.bitvec_slice.specs.Writes.{WritesBits};
 
 use crate::BitEdits;
 use bitvec_base::BitOrder;
 use bitvec_elements::{
-    combine_in, copy_from_in, copy_within_in, fill_with_in, for_each_in, replace_in, reverse_in,
-    rotate_left_in, rotate_right_in, shift_end_in, shift_start_in, swap_in, swap_with_in,
+    combine_in, copy_from_in, copy_within_in, fill_in, fill_with_in, for_each_in, invert_in,
+    replace_in, reverse_in, rotate_left_in, rotate_right_in, set_in, shift_end_in, shift_start_in,
+    swap_in, swap_with_in,
 };
 use bitvec_engine::{BitOp, SliceOrder};
 use bitvec_slice::{BitSlice, BitSliceMut};
 use bitvec_store::BitStore;
 use std::ops::Range;
 
-impl<'a, T: BitStore, O: SliceOrder> BitEdits for BitSliceMut<'a, T, O> {
-    ghost bits = { bits_of_mut };
-
-    ghost len = { λ view. (window_in_mut view).len };
+impl<'a, T: BitStore, O: SliceOrder> BitEdits<T> for BitSliceMut<'a, T, O> {
+    ghost shows = { seen_mut };
 
     ghost writes = { WritesBits };
+
+    fn set(&mut self, index: usize, bit: bool) {
+        let window = self.window();
+        set_in::<T, O>(self.elements_mut(), window, index, bit);
+    }
 
     fn replace(&mut self, index: usize, bit: bool) -> bool {
         let window = self.window();
@@ -30,6 +34,16 @@ impl<'a, T: BitStore, O: SliceOrder> BitEdits for BitSliceMut<'a, T, O> {
     fn swap(&mut self, first: usize, second: usize) {
         let window = self.window();
         swap_in::<T, O>(self.elements_mut(), window, first, second);
+    }
+
+    fn fill(&mut self, bit: bool) {
+        let window = self.window();
+        fill_in::<T, O>(self.elements_mut(), window, bit);
+    }
+
+    fn invert(&mut self) {
+        let window = self.window();
+        invert_in::<T, O>(self.elements_mut(), window);
     }
 
     fn reverse(&mut self) {
@@ -60,18 +74,6 @@ impl<'a, T: BitStore, O: SliceOrder> BitEdits for BitSliceMut<'a, T, O> {
     fn copy_within(&mut self, src: Range<usize>, dest: usize) {
         let window = self.window();
         copy_within_in::<T, O>(self.elements_mut(), window, src, dest);
-    }
-
-    fn replace_unchecked(&mut self, index: usize, bit: bool) -> bool {
-        self.replace(index, bit)
-    }
-
-    fn swap_unchecked(&mut self, first: usize, second: usize) {
-        self.swap(first, second);
-    }
-
-    fn copy_within_unchecked(&mut self, src: Range<usize>, dest: usize) {
-        self.copy_within(src, dest);
     }
 
     fn clone_from_bitslice<U: BitStore, P: BitOrder>(&mut self, src: BitSlice<'_, U, P>) {
@@ -120,7 +122,7 @@ fn combine<T: BitStore, O: BitOrder, U: BitStore, P: BitOrder>(
     op: BitOp,
 )
     ensures { WritesBits view.old view.new
-        (combined (operator op) (bits_of_mut view.old) (bits_of src.entry)) }
+        (combined (operator op) (seen_mut view.old).bits (seen src.entry).bits) }
 {
     let window = view.window();
     let from = src.window();

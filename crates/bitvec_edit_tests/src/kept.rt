@@ -5,14 +5,16 @@ ghost use Rattle.bitvec_slice.specs.Indices.{HasRange};
 ghost use Rattle.bitvec_slice.specs.Kept.{KeepsOutside};
 ghost use Rattle.bitvec_slice.specs.Touched.{end_touched, first_touched};
 
-use bitvec_base::{BitOrder, Lsb0};
+use bitvec_base::Lsb0;
+use bitvec_edit::BitEdits;
+use bitvec_engine::SliceOrder;
 use bitvec_slice::BitSliceMut;
 use bitvec_store::BitStore;
 use std::ops::Range;
 
 /// Fills the bits of a range, through a view of them, and gives the elements back: those that have
 /// none of the bits stay.
-fn filled<T: BitStore, O: BitOrder>(elements: &mut [T], range: Range<usize>) -> &mut [T]
+fn filled<T: BitStore, O: SliceOrder>(elements: &mut [T], range: Range<usize>) -> &mut [T]
     requires fits { T.BITS * length elements.old ≤ max_bits }
     requires range { HasRange range (T.BITS * length elements.old) }
     ensures kept { KeepsOutside (first_touched T.BITS range.start) (end_touched T.BITS range.end) elements.old result.now }
@@ -27,7 +29,7 @@ fn filled<T: BitStore, O: BitOrder>(elements: &mut [T], range: Range<usize>) -> 
 }
 
 /// Fills the bits of a range, through a view of them: elements that have none of the bits stay.
-fn fill_bits<T: BitStore, O: BitOrder>(elements: &mut [T], range: Range<usize>)
+fn fill_bits<T: BitStore, O: SliceOrder>(elements: &mut [T], range: Range<usize>)
     requires fits { T.BITS * length elements.old ≤ max_bits }
     requires range { HasRange range (T.BITS * length elements.old) }
     ensures { KeepsOutside (first_touched T.BITS range.start) (end_touched T.BITS range.end) elements.old elements.new }

@@ -5,7 +5,6 @@ ghost use Rattle.bitvec_base.specs.Memory.{memory_bits};
 ghost use Rattle.bitvec_base.specs.Window.{max_bits};
 ghost use Rattle.bitvec_elements.specs.Asked.{FillsWith, RefillsWith};
 
-use bitvec_base::BitOrder;
 use bitvec_edit::BitEdits;
 use bitvec_engine::SliceOrder;
 use bitvec_slice::BitSliceMut;
@@ -37,7 +36,7 @@ pub fn rotated_back<T: BitStore, O: SliceOrder>(elements: &mut [T], by: usize) -
 }
 
 /// Flips all bits of the elements twice, by the method and by the operator: they are as before.
-pub fn inverted_twice<T: BitStore, O: BitOrder>(elements: &mut [T]) -> &mut [T]
+pub fn inverted_twice<T: BitStore, O: SliceOrder>(elements: &mut [T]) -> &mut [T]
     requires { T.BITS * length elements.old ≤ max_bits }
     ensures { memory_bits T.BITS O.at (map T.value result.now)
         ≡ memory_bits T.BITS O.at (map T.value elements.old) }

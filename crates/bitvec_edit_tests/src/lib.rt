@@ -7,5 +7,6 @@ pub mod kept;
 pub mod laws;
 #[cfg(test)]
 mod moves;
+pub mod pieces;
 #[cfg(test)]
 mod transfers;

@@ -2,7 +2,7 @@
 ghost use Rattle.std.specs.Prelude.{◌*◌, ◌≤◌, length};
 ghost use Rattle.bitvec_base.specs.Window.{max_bits};
 
-use bitvec_base::{BitOrder, Lsb0, Msb0};
+use bitvec_base::{BitOrder, HiLo, Lsb0, Msb0};
 use bitvec_edit::BitEdits;
 use bitvec_engine::SliceOrder;
 use bitvec_slice::{BitSlice, BitSliceMut};
@@ -51,18 +51,18 @@ fn a_copy_from_another_width_and_order(rt: HostRuntime) {
     assert_eq!(rt; cells, [0xF9]);
 }
 
-/// What becomes of the first five bits under an operator with the first two of another.
-fn combine_five(elements: &mut [u8], source: &[u8], operator: u8)
+/// What becomes of the first five bits under an operator with the first `right` of another.
+fn combine_five<O: SliceOrder>(elements: &mut [u8], source: &[u8], right: usize, operator: u8)
     requires fits { 8 * length elements.old ≤ max_bits }
     requires source_fits { 8 * length source.now ≤ max_bits }
 {
-    let mut view = BitSliceMut::<u8, Lsb0>::from_slice_mut(elements);
+    let mut view = BitSliceMut::<u8, O>::from_slice_mut(elements);
     if let Some(mut part) = view.get_mut(0..5) {
-        if let Some(two) = BitSlice::<u8, Lsb0>::from_slice(source).get(0..2) {
+        if let Some(others) = BitSlice::<u8, O>::from_slice(source).get(0..right) {
             match operator {
-                b'&' => part &= two,
-                b'|' => part |= two,
-                _ => part ^= two,
+                b'&' => part &= others,
+                b'|' => part |= others,
+                _ => part ^= others,
             }
         }
     }
@@ -71,14 +71,43 @@ fn combine_five(elements: &mut [u8], source: &[u8], operator: u8)
 #[test]
 fn a_shorter_right_side_is_extended_by_zeros(rt: HostRuntime) {
     let mut cells = [0xFFu8];
-    combine_five(&mut cells, &[0xFD], b'&');
+    combine_five::<Lsb0>(&mut cells, &[0xFD], 2, b'&');
     assert_eq!(rt; cells, [0xE1]);
     let mut cells = [0xE2u8];
-    combine_five(&mut cells, &[0xFD], b'|');
+    combine_five::<Lsb0>(&mut cells, &[0xFD], 2, b'|');
     assert_eq!(rt; cells, [0xE3]);
     let mut cells = [0x12u8];
-    combine_five(&mut cells, &[0xFF], b'^');
+    combine_five::<Lsb0>(&mut cells, &[0xFF], 2, b'^');
     assert_eq!(rt; cells, [0x11]);
+    let mut cells = [0xFFu8];
+    combine_five::<Msb0>(&mut cells, &[0x7F], 2, b'&');
+    assert_eq!(rt; cells, [0x47]);
+    let mut cells = [0x00u8];
+    combine_five::<HiLo>(&mut cells, &[0xFF], 2, b'^');
+    assert_eq!(rt; cells, [0x30]);
+}
+
+// Under HiLo the first five bits of a byte are 4, 5, 6, 7 and 0.
+#[test]
+fn a_longer_right_side_is_cut(rt: HostRuntime) {
+    let mut cells = [0xFFu8];
+    combine_five::<Lsb0>(&mut cells, &[0x0A], 8, b'&');
+    assert_eq!(rt; cells, [0xEA]);
+    let mut cells = [0xE0u8];
+    combine_five::<Lsb0>(&mut cells, &[0xEA], 8, b'|');
+    assert_eq!(rt; cells, [0xEA]);
+    let mut cells = [0xFFu8];
+    combine_five::<Msb0>(&mut cells, &[0xA5], 8, b'&');
+    assert_eq!(rt; cells, [0xA7]);
+    let mut cells = [0x07u8];
+    combine_five::<Msb0>(&mut cells, &[0xA5], 8, b'^');
+    assert_eq!(rt; cells, [0xA7]);
+    let mut cells = [0xFFu8];
+    combine_five::<HiLo>(&mut cells, &[0x5A], 8, b'&');
+    assert_eq!(rt; cells, [0x5E]);
+    let mut cells = [0x0Eu8];
+    combine_five::<HiLo>(&mut cells, &[0x51], 8, b'|');
+    assert_eq!(rt; cells, [0x5F]);
 }
 
 /// Copies the first five bits of the one to the bits 2 to 6 of the other.

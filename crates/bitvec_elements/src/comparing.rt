@@ -7,7 +7,7 @@ ghost use Rattle.bitvec_base.specs.Memory.{HasWindow, list_in};
 
 use bitvec_base::{BitOrder, Window};
 use bitvec_cells::Shared;
-use bitvec_engine::{bits_eq, compare};
+use bitvec_engine::{SliceOrder, bits_eq, compare};
 use bitvec_store::BitStore;
 use std::cmp::Ordering;
 
@@ -27,6 +27,24 @@ pub fn eq_in<T: BitStore, O: BitOrder, U: BitStore, P: BitOrder>(
     let mut left = Shared::new(left);
     let mut right = Shared::new(right);
     bits_eq::<O, P, Shared<T>, Shared<U>>(&mut left, left_window, &mut right, right_window)
+}
+
+/// Whether two windows have the same bits, of elements of the same type and order, as the order
+/// compares them. Condition: as of [`eq_in`].
+pub fn eq_block_in<T: BitStore, O: SliceOrder>(
+    left: &[T],
+    left_window: Window,
+    right: &[T],
+    right_window: Window,
+) -> bool
+    requires window { HasWindow T.BITS (map T.value left.now) left_window }
+    requires right_window { HasWindow T.BITS (map T.value right.now) right_window }
+    ensures { result ≡ same_bits (list_in T.BITS O.at (map T.value left.now) left_window)
+        (list_in T.BITS O.at (map T.value right.now) right_window) }
+{
+    let mut left = Shared::new(left);
+    let mut right = Shared::new(right);
+    O::block_eq::<Shared<T>, Shared<T>>(&mut left, left_window, &mut right, right_window)
 }
 
 /// How the bits of two windows compare, as lists of truth values do. Condition: as of [`eq_in`].

@@ -1,10 +1,11 @@
 //! How many bits of a window are 1, or 0.
-ghost use Rattle.std.specs.Prelude.{◌≡◌, not, count_by};
+ghost use Rattle.std.specs.Prelude.{◌≡◌, ℕ, ◌+◌, ◌*◌, ◌/◌, ◌%◌, ◌<◌, ◌≤◌, not, count_by};
 ghost use Rattle.bitvec_base.specs.Memory.{HasWindow, list_in};
 ghost use Rattle.bitvec_cells.specs.Access.{OnlyReads};
 ghost use Rattle.bitvec_walk.specs.Cost.{touched};
+ghost use Rattle.bitvec_words.specs.Elements.{elements_window};
 
-use bitvec_base::{BitOrder, Window, first_part};
+use bitvec_base::{BitOrder, Part, Window, first_part};
 use bitvec_cells::CellsRead;
 use bitvec_store::BitStore;
 use bitvec_walk::count_part;
@@ -16,13 +17,52 @@ pub fn count<O: BitOrder, C: CellsRead>(cells: &mut C, window: Window) -> usize
     ensures value { result ≡ count_by (λ bit. bit) (list_in C.Elem.BITS O.at (C.numbers cells.old) window) }
     ensures reads { OnlyReads C.CellsRead cells.old cells.new (touched C.Elem.BITS window.start window.len) }
 {
+    if window.len == 0 {
+        return 0;
+    }
     let bits = C::Elem::BITS as usize;
+    let head = first_part(bits, window);
+    let ones = count_part::<O, C>(cells, head);
+    let passed = head.len();
+    if passed == window.len {
+        return ones;
+    }
+    ones + count_aligned::<O, C>(cells, window.after(passed))
+}
+
+/// How many bits are 1 of a window that begins where an element does.
+fn count_aligned<O: BitOrder, C: CellsRead>(cells: &mut C, window: Window) -> usize
+    requires window { HasWindow C.Elem.BITS (C.numbers cells.old) window }
+    requires edge { window.start % C.Elem.BITS ≡ 0 }
+    ensures value { result ≡ count_by (λ bit. bit) (list_in C.Elem.BITS O.at (C.numbers cells.old) window) }
+    ensures reads { OnlyReads C.CellsRead cells.old cells.new (touched C.Elem.BITS window.start window.len) }
+{
+    let bits = C::Elem::BITS as usize;
+    let count = window.len / bits;
+    let first = window.start / bits;
+    let ones = count_whole::<O, C>(cells, first, count);
+    let rest = window.len % bits;
+    if rest == 0 {
+        return ones;
+    }
+    let tail = Part {
+        element: first + count,
+        from: 0,
+        to: rest,
+    };
+    ones + count_part::<O, C>(cells, tail)
+}
+
+/// How many bits of `count` whole elements are 1. It loads each element once.
+fn count_whole<O: BitOrder, C: CellsRead>(cells: &mut C, first: usize, count: usize) -> usize
+    requires { HasWindow C.Elem.BITS (C.numbers cells.old) (elements_window C.Elem.BITS first count) }
+    ensures value { result
+        ≡ count_by (λ bit. bit) (list_in C.Elem.BITS O.at (C.numbers cells.old) (elements_window C.Elem.BITS first count)) }
+    ensures reads { OnlyReads C.CellsRead cells.old cells.new count }
+{
     let mut ones = 0;
-    let mut rest = window;
-    while rest.len > 0 {
-        let part = first_part(bits, rest);
-        ones += count_part::<O, C>(cells, part);
-        rest = rest.after(part.len());
+    for step in 0..count {
+        ones += cells.load(first + step).count_ones() as usize;
     }
     ones
 }

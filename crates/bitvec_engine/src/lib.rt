@@ -31,5 +31,5 @@ pub use reversing::{bits_reverse, reverse};
 pub use rotating::{rotate_left, rotate_right};
 pub use scanning::{all, any, bits_scan_first, bits_scan_last};
 pub use shifting::{shift_end, shift_start};
-pub use slice_order::SliceOrder;
+pub use slice_order::{ByWords, SliceOrder};
 pub use swapping::bits_swap;

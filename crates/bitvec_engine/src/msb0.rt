@@ -1,12 +1,16 @@
 //! Bit operations on whole windows under `Msb0`: by words.
 #![tactic(auto)]
 
-ghost use Rattle.std.specs.Prelude.{true};
+ghost use Rattle.std.specs.Prelude.{refl, true};
 
-use crate::slice_order::SliceOrder;
+use crate::slice_order::{ByWords, SliceOrder};
 use bitvec_base::{Msb0, Window};
 use bitvec_cells::{Cells, CellsRead};
-use bitvec_words::{BitOp, combine, copy, copy_within_fields, equal, reverse_fields, swap_fields};
+use bitvec_combine::combine;
+use bitvec_compare::equal;
+use bitvec_copy::{copy, copy_within};
+use bitvec_exchange::{reverse, swap};
+use bitvec_words::BitOp;
 
 impl SliceOrder for Msb0 {
     ghost WORDS = { true };
@@ -37,9 +41,11 @@ impl SliceOrder for Msb0 {
         right: &mut D,
         right_window: Window,
     ) {
-        swap_fields::<Self, C, D>(left, left_window, right, right_window);
+        swap::<Self, C, D>(left, left_window, right, right_window);
     }
 
+    // into the function that makes the accessor, as all of `copy_within` is
+    #[inline(always)]
     fn block_copy_within<C: Cells>(
         cells: &mut C,
         window: Window,
@@ -47,7 +53,7 @@ impl SliceOrder for Msb0 {
         to: usize,
         dest: usize,
     ) {
-        copy_within_fields::<Self, C>(cells, window, from, to, dest);
+        copy_within::<Self, C>(cells, window, from, to, dest);
     }
 
     fn block_op<C: Cells, D: CellsRead<Elem = C::Elem>>(
@@ -61,6 +67,10 @@ impl SliceOrder for Msb0 {
     }
 
     fn block_reverse<C: Cells>(cells: &mut C, window: Window) {
-        reverse_fields::<Self, C>(cells, window);
+        reverse::<Self, C>(cells, window);
     }
+}
+
+impl ByWords for Msb0 {
+    ghost words_law = { refl };
 }

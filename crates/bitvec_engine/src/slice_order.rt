@@ -1,5 +1,5 @@
 //! How an order works on whole windows.
-ghost use Rattle.std.specs.Prelude.{◌≡◌, ◌-◌, Bool, reverse};
+ghost use Rattle.std.specs.Prelude.{◌≡◌, ◌-◌, Bool, reverse, true};
 ghost use Rattle.bitvec_base.specs.Lists.{FitsWithin, combined, copied_within, first_place, last_place, same_bits};
 ghost use Rattle.bitvec_base.specs.Memory.{Edits, HasWindow, Writes, list_in};
 ghost use Rattle.bitvec_cells.specs.Access.{CostsAtMost, OnlyReadsAtMost};
@@ -125,4 +125,9 @@ pub trait SliceOrder: BitOrder {
     {
         bits_scan_last::<Self, C>(cells, window, want)
     }
+}
+
+/// An order that works by words: what its block functions cost at most is told in steps of 64 bits.
+pub trait ByWords: SliceOrder {
+    ghost words_law: { Self.WORDS ≡ true };
 }

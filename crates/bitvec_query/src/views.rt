@@ -1,5 +1,5 @@
 //! The two view types answer questions.
-ghost use Rattle.bitvec_slice.specs.Views.{bits_of, bits_of_mut};
+ghost use Rattle.bitvec_slice.specs.Views.{seen, seen_mut};
 
 use crate::BitQueries;
 use bitvec_engine::SliceOrder;
@@ -7,7 +7,7 @@ use bitvec_slice::{BitSlice, BitSliceMut};
 use bitvec_store::BitStore;
 
 impl<'a, T: BitStore, O: SliceOrder> BitQueries<T, O> for BitSlice<'a, T, O> {
-    ghost bits = { bits_of };
+    ghost shows = { seen };
 
     fn as_bitslice(&self) -> BitSlice<'_, T, O> {
         *self
@@ -15,7 +15,7 @@ impl<'a, T: BitStore, O: SliceOrder> BitQueries<T, O> for BitSlice<'a, T, O> {
 }
 
 impl<'a, T: BitStore, O: SliceOrder> BitQueries<T, O> for BitSliceMut<'a, T, O> {
-    ghost bits = { bits_of_mut };
+    ghost shows = { seen_mut };
 
     fn as_bitslice(&self) -> BitSlice<'_, T, O> {
         self.as_ref()

@@ -30,6 +30,7 @@ impl<'a, T: BitStore, O: BitOrder> BitRef<'a, T, O> {
 
     /// A reference to a bit that is this. The crate has no such call: views make their references by
     /// it.
+    #[doc(hidden)]
     pub fn new(bit: bool) -> Self
         ensures { bit_of_ref result ≡ bit }
     {

@@ -27,6 +27,7 @@ impl<'a, T: BitStore, O: BitOrder> BitRefMut<'a, T, O> {
     /// The bit at a place of the elements' bits. Condition: the place is one of them, and they are at
     /// most `MAX_BITS`. The crate has no such call: views make their references by it.
     #[tactic(auto, unfolding(crate::specs::References::memory_of_ref_mut, crate::specs::References::bit_of_ref_mut))]
+    #[doc(hidden)]
     pub fn new(elements: &'a mut [T], place: usize) -> Self
         requires window { HasWindow T.BITS (map T.value elements.old) (bit_window place) }
         ensures bit { bit_of_ref_mut result

@@ -9,6 +9,7 @@ use bitvec_engine::SliceOrder;
 use bitvec_plain::{bits_of_elements, plain_run, same_bits};
 use bitvec_run::{Step, Window};
 use bitvec_store::BitStore;
+use bitvec_test_support::mixed_elements;
 use std::process::Abort;
 use std::test::Fail;
 
@@ -16,17 +17,8 @@ const LEFT: u64 = 0x9E37_79B9_7F4A_7C15;
 
 const RIGHT: u64 = 0xBF58_476D_1CE4_E5B9;
 
-/// Elements with no pattern, other ones for another seed. They hold a window of 131 bits from the
-/// last bit of the first element on.
-fn mixed_elements<T: BitStore>(seed: u64) -> [T; 18] {
-    let mut number = seed;
-    let mut elements = [T::ZERO; 18];
-    for element in elements.iter_mut() {
-        number = number.wrapping_mul(0x5851_F42D_4C95_7F2D).wrapping_add(1);
-        *element = T::from_u128((number ^ number >> 29) as u128 & T::ALL.to_u128());
-    }
-    elements
-}
+/// So many elements hold a window of 131 bits from the last bit of the first element on.
+const COUNT: usize = 18;
 
 /// A run of those steps in that window, and the same by the plain program.
 fn agrees<T: BitStore, O: SliceOrder, R: Abort + AllocGlobal>(
@@ -65,19 +57,19 @@ fn agrees<T: BitStore, O: SliceOrder, R: Abort + AllocGlobal>(
 /// start of an element, behind its first bit and at its last bit, on both sides.
 fn agrees_everywhere<T: BitStore, O: SliceOrder, R: Abort + AllocGlobal>(
     rt: &R,
-    left: &[T],
-    right: &[T],
 ) -> Result<(), Fail> {
+    let left = mixed_elements::<T, _>(rt.alloc(), LEFT, COUNT)?;
+    let right = mixed_elements::<T, _>(rt.alloc(), RIGHT, COUNT)?;
     let width = T::BITS as usize;
     for len in [0, 1, width - 1, width, width + 1, 130] {
         for start in [0, 1, width - 1] {
             let window = Window { start, len };
-            agrees::<T, O, R>(rt, left, right, window, &queries(len))?;
-            agrees::<T, O, R>(rt, left, right, window, &edits(len))?;
-            agrees::<T, O, R>(rt, left, right, window, &moves(len))?;
+            agrees::<T, O, R>(rt, &left, &right, window, &queries(len))?;
+            agrees::<T, O, R>(rt, &left, &right, window, &edits(len))?;
+            agrees::<T, O, R>(rt, &left, &right, window, &moves(len))?;
             for right_start in [0, 1, width - 1] {
                 let steps = right_commands(len, right_start);
-                agrees::<T, O, R>(rt, left, right, window, &steps)?;
+                agrees::<T, O, R>(rt, &left, &right, window, &steps)?;
             }
         }
     }
@@ -86,11 +78,11 @@ fn agrees_everywhere<T: BitStore, O: SliceOrder, R: Abort + AllocGlobal>(
 
 /// The same at each width.
 fn agrees_at_each_width<O: SliceOrder, R: Abort + AllocGlobal>(rt: &R) -> Result<(), Fail> {
-    agrees_everywhere::<u8, O, R>(rt, &mixed_elements(LEFT), &mixed_elements(RIGHT))?;
-    agrees_everywhere::<u16, O, R>(rt, &mixed_elements(LEFT), &mixed_elements(RIGHT))?;
-    agrees_everywhere::<u32, O, R>(rt, &mixed_elements(LEFT), &mixed_elements(RIGHT))?;
-    agrees_everywhere::<u64, O, R>(rt, &mixed_elements(LEFT), &mixed_elements(RIGHT))?;
-    agrees_everywhere::<usize, O, R>(rt, &mixed_elements(LEFT), &mixed_elements(RIGHT))
+    agrees_everywhere::<u8, O, R>(rt)?;
+    agrees_everywhere::<u16, O, R>(rt)?;
+    agrees_everywhere::<u32, O, R>(rt)?;
+    agrees_everywhere::<u64, O, R>(rt)?;
+    agrees_everywhere::<usize, O, R>(rt)
 }
 
 #[test]

@@ -1,8 +1,7 @@
-pub mod BitDomainBits
+pub mod DomainBits
 pub mod Lender
 pub mod Middle
 pub mod OneBit
 pub mod PartLender
 pub mod Steps
 pub mod Through
-pub mod Wholes

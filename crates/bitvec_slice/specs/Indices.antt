@@ -8,11 +8,8 @@ use Rattle.bitvec_base.specs.declared.order.BitOrder.{Ghosts as Order}
 use Rattle.bitvec_slice.specs.Seen.{Seen}
 use Rattle.bitvec_slice.specs.Touched.{touched}
 use Rattle.bitvec_reference.specs.References.{bit_of_ref, bit_of_ref_mut, elements_of_ref_mut, place_of_ref_mut}
-use Rattle.bitvec_slice.specs.Views.{bits_of, elements_of, window_in, bits_of_mut, elements_of_mut, window_in_mut}
 use Rattle.bitvec_reference.specs.declared.reference.BitRef.{BitRef}
 use Rattle.bitvec_reference.specs.declared.reference_mut.BitRefMut.{BitRefMut}
-use Rattle.bitvec_slice.specs.declared.view.BitSlice.{BitSlice}
-use Rattle.bitvec_slice.specs.declared.view_mut.BitSliceMut.{BitSliceMut}
 
 -- a view of so many bits has the range
 abbrev pub HasRange : Range ℕ → ℕ → Type 0
@@ -23,19 +20,12 @@ abbrev pub HasInclusive : RangeInclusive ℕ → ℕ → Type 0
 HasInclusive range len =
     (range_inclusive_start range < len) × (range_inclusive_end range < len) × (range_inclusive_start range ≤ range_inclusive_end range)
 
--- the reference is to the bit at an index of the view
+-- the reference reads the bit at an index of the view
 abbrev pub IsBitOf : {T O : Type 0} → Seen T → ℕ → BitRef T O → Type 0
 IsBitOf view index r = bit_of_ref r ≡ slice_index_or view.bits index false
 
-module _ {T O : Type 0} {t : Store T} {o : Order O} where
-  abbrev pub seen : BitSlice T O t o → Seen T
-  seen v = record { bits = bits_of v; window = window_in v; elements = elements_of v }
-
-  abbrev pub seen_mut : BitSliceMut T O t o → Seen T
-  seen_mut v = record { bits = bits_of_mut v; window = window_in_mut v; elements = elements_of_mut v }
-
-  -- the same of a reference that writes: it holds the element of the bit
-  pub record IsBitOfMut (view : Seen T) (index : ℕ) (r : BitRefMut T O t o) : Type 0 where
-    pub bit : bit_of_ref_mut r ≡ slice_index_or view.bits index false
-    pub place : place_of_ref_mut r ≡ (view.window.start + index) % t.BITS
-    pub elements : elements_of_ref_mut r ≡ touched t.BITS view.elements (view.window.start + index) (view.window.start + (index + 1))
+-- the reference writes that bit, in the element that has it
+pub record WritesBitOf {T O : Type 0} {t : Store T} {o : Order O} (view : Seen T) (index : ℕ) (r : BitRefMut T O t o) : Type 0 where
+  pub bit : bit_of_ref_mut r ≡ slice_index_or view.bits index false
+  pub place : place_of_ref_mut r ≡ (view.window.start + index) % t.BITS
+  pub elements : elements_of_ref_mut r ≡ touched t.BITS view.elements (view.window.start + index) (view.window.start + (index + 1))

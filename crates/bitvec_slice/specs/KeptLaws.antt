@@ -14,7 +14,7 @@ use Rattle.bitvec_slice.specs.Lending.{with_elements}
 use Rattle.bitvec_slice.specs.Refill.{with_range}
 use Rattle.bitvec_slice.specs.Touched.{end_touched, first_touched}
 use Rattle.bitvec_slice.specs.TouchedLaws.{touches}
-use Rattle.bitvec_slice.specs.Views.{elements_of_mut, window_in_mut}
+use Rattle.bitvec_slice.specs.Views.{seen_mut}
 use Rattle.bitvec_slice.specs.declared.view_mut.BitSliceMut.{BitSliceMut}
 
 put-keeps : {X : Type 0} (xs mid : List X) (start end : ℕ) → start ≤ end → end ≤ length xs → length mid ≡ end - start → KeepsOutside start end xs (take start xs ++ (mid ++ drop end xs))
@@ -50,18 +50,18 @@ untouched b start end e some outside =
 
 module _ {T O : Type 0} {t : Store T} {o : Order O} (v : BitSliceMut T O t o) where
   -- what a view ends as after a lend of its elements from `start` up to `end`, whatever was left in those
-  pub lent-keeps : (start end : ℕ) (ws : List T) → start ≤ end → end ≤ length (elements_of_mut v)
-      → KeepsOutside start end (elements_of_mut v) (elements_of_mut (with_elements v (with_range (elements_of_mut v) start end ws)))
+  pub lent-keeps : (start end : ℕ) (ws : List T) → start ≤ end → end ≤ length (seen_mut v).elements
+      → KeepsOutside start end (seen_mut v).elements (seen_mut (with_elements v (with_range (seen_mut v).elements start end ws))).elements
   lent-keeps start end ws order bound =
-      let xs = elements_of_mut v in
+      let xs = (seen_mut v).elements in
       let kept = with_range-keeps xs ws start end order bound in
       subst (λ (ys : List T). KeepsOutside start end xs ys) (sym (take_at (with_range xs start end ws) (drop (length (with_range xs start end ws)) xs) (length xs) kept.length)) kept
 
   -- the same of a lend of its bits from `from` up to `to`, which stand at the places from `start` up to `end`
-  pub lent_bits-keep : (from to start end : ℕ) (ws : List T) → 0 < t.BITS → from ≤ to → to ≤ (window_in_mut v).len → (window_in_mut v).start + from ≡ start → (window_in_mut v).start + to ≡ end
-      → KeepsOutside (first_touched t.BITS start) (end_touched t.BITS end) (elements_of_mut v)
-      (elements_of_mut (with_elements v (with_range (elements_of_mut v) (first_touched t.BITS ((window_in_mut v).start + from)) (end_touched t.BITS ((window_in_mut v).start + to)) ws)))
+  pub lent_bits-keep : (from to start end : ℕ) (ws : List T) → 0 < t.BITS → from ≤ to → to ≤ (seen_mut v).window.len → (seen_mut v).window.start + from ≡ start → (seen_mut v).window.start + to ≡ end
+      → KeepsOutside (first_touched t.BITS start) (end_touched t.BITS end) (seen_mut v).elements
+      (seen_mut (with_elements v (with_range (seen_mut v).elements (first_touched t.BITS ((seen_mut v).window.start + from)) (end_touched t.BITS ((seen_mut v).window.start + to)) ws))).elements
   lent_bits-keep from to start end ws some order bound begins ends =
       let inside = v.inside in
-      let is = touches t.BITS (length (elements_of_mut v)) (v.head + from) (v.head + to) some (omega arith) (omega arith) in
+      let is = touches t.BITS (length (seen_mut v).elements) (v.head + from) (v.head + to) some (omega arith) (omega arith) in
       rw (sym begins, sym ends) (lent-keeps _ _ ws is.order is.bound)

@@ -1,4 +1,6 @@
-pub mod BitDomains
+pub mod Apart
+pub mod ApartLaws
+pub mod Domains
 pub mod Indices
 pub mod Kept
 pub mod KeptLaws
@@ -8,8 +10,6 @@ pub mod Seen
 pub mod SeenLaws
 pub mod Touched
 pub mod TouchedLaws
-pub mod ViewLaws
 pub mod Views
-pub mod Wholes
 pub mod WriteLaws
 pub mod Writes

@@ -1,12 +1,84 @@
--- A range of a view's bits that begins with the first, and one that ends with the last.
-use Rattle.std.specs.Prelude.{◌≡◌, ℕ, ◌≤◌, drop, length, take, refl}
-use Rattle.std.proofs.Common.{◌∙◌}
-use Rattle.bitvec_base.specs.SliceLaws.{range-from_start, range-to_end}
-use Rattle.bitvec_slice.specs.Seen.{IsRangeOf, Seen}
+-- The bits that a view shows, of all of a memory, and of a part of a view.
+use Rattle.std.specs.Prelude.{◌≡◌, ℕ, ◌+◌, ◌-◌, ◌*◌, ◌%◌, ◌<◌, ◌≤◌, Bool, cond, List, [], ◌++◌, count_by, drop, length, map, slice_range, take, refl}
+use Rattle.std.proofs.Common.{arith, sym, ◌∙◌, ap}
+use Rattle.std.proofs.lemmas.List.{length-map, nil_from_length, take-append-drop}
+use Rattle.std.proofs.lemmas.List.Sums.{sum_by-take-drop}
+use Rattle.bitvec_base.specs.Memory.{HasWindow, memory_bits}
+use Rattle.bitvec_base.specs.MemoryLaws.{length-memory_bits}
+use Rattle.bitvec_base.specs.SliceLaws.{range-all, range-from_start, range-map, range-to_end}
+use Rattle.bitvec_base.specs.Window.{IsWithin, max_bits, window_of}
+use Rattle.bitvec_base.specs.WindowLaws.{length-window}
+use Rattle.bitvec_base.specs.WriteLaws.{range-range}
+use Rattle.bitvec_slice.specs.Seen.{AreHalves, CoversElements, IsEmpty, IsRangeOf, IsWhole, Seen, shown}
+use Rattle.bitvec_slice.specs.Touched.{touched}
+use Rattle.bitvec_slice.specs.TouchedLaws.{touched-bits}
 
+-- a range of a view's bits that begins with the first, and one that ends with the last
 module _ {T : Type 0} {b : ℕ} (view part : Seen T) (n : ℕ) where
   pub front-bits : IsRangeOf b view 0 n part → part.bits ≡ take n view.bits
   front-bits is = is.bits ∙ range-from_start view.bits n n refl
 
   pub rest-bits : (to : ℕ) → length view.bits ≤ to → IsRangeOf b view n to part → part.bits ≡ drop n view.bits
   rest-bits to whole is = is.bits ∙ range-to_end view.bits n to whole
+
+-- two halves of a view: their bits, one after the other, are the view's, and so what of them meets p adds up
+module _ {T : Type 0} {b : ℕ} (view left right : Seen T) (mid : ℕ) (all : length view.bits ≤ view.window.len) (are : AreHalves b view mid left right) where
+  pub halves-bits : left.bits ++ right.bits ≡ view.bits
+  halves-bits = rw (front-bits view left mid are.front, rest-bits view right mid view.window.len all are.rest) (take-append-drop mid view.bits)
+
+  pub halves-count : (p : Bool → Bool) → count_by p left.bits + count_by p right.bits ≡ count_by p view.bits
+  halves-count p = rw (front-bits view left mid are.front, rest-bits view right mid view.window.len all are.rest) (sum_by-take-drop (λ (bit : Bool). cond (p bit) 1 0) view.bits mid)
+
+module _ {T : Type 0} (b : ℕ) (at : ℕ → ℕ → ℕ) (value : T → ℕ) where
+  pub length-memory : (cells : List T) → length (memory_bits b at (map value cells)) ≡ b * length cells
+  length-memory cells = length-memory_bits b at (map value cells) ∙ ap (λ (n : ℕ). b * n) (length-map cells value)
+
+  -- a view of all bits of some elements, and of no element
+  pub whole_view : (view : Seen T) (cells : List T) (n : ℕ) → view ≡ shown b at value cells 0 n → n ≡ b * length cells → IsWhole b at value cells view
+  unfolding window_of
+  whole_view view cells n is all =
+      let long = length-memory cells in
+      rw is (record { bits = range-all (memory_bits b at (map value cells)) (0 + n) (omega arith); elements = refl; memory = refl; start = refl; len = all })
+
+  pub no_view : (view : Seen T) → IsWhole b at value [] view → IsEmpty view
+  no_view view is =
+      let none : memory_bits b at [] ≡ [] = nil_from_length _ (length-memory_bits b at [] ∙ omega arith) in
+      record { bits = is.bits ∙ none; elements = is.elements; memory = is.memory ∙ none; start = is.start; len = is.len ∙ omega arith }
+
+  -- the bits of a view of all bits of its elements are the memory's
+  pub covered_bits : (cells : List T) (start len : ℕ) → CoversElements b (shown b at value cells start len)
+      → memory_bits b at (map value cells) ≡ (shown b at value cells start len).bits
+  unfolding window_of
+  covered_bits cells start len covers =
+      let long = length-memory cells in
+      let all = covers.len in
+      sym (rw (covers.start) (range-all (memory_bits b at (map value cells)) (0 + len) (omega arith)))
+
+  module _ (cells : List T) (start len : ℕ) (inside : start + len ≤ b * length cells) where
+    pub within_memory : IsWithin (shown b at value cells start len).window (length (memory_bits b at (map value cells)))
+    within_memory = let long = length-memory cells in record { start = omega arith; len = omega arith }
+
+    pub has_window : b * length cells ≤ max_bits → HasWindow b (map value cells) (shown b at value cells start len).window
+    has_window bounded =
+        let product = ap (λ (n : ℕ). b * n) (length-map cells value) in
+        record { fits = omega arith; within = record { start = omega arith; len = omega arith } }
+
+    pub length_bits : length (shown b at value cells start len).bits ≡ len
+    length_bits = length-window (memory_bits b at (map value cells)) (shown b at value cells start len).window within_memory
+
+    -- a view of the elements that a range of the bits touches
+    pub part_view : (part : Seen T) (from to : ℕ) → 0 < b → from ≤ to → to ≤ len
+        → part ≡ shown b at value (touched b cells (start + from) (start + to)) ((start + from) % b) (to - from) → IsRangeOf b (shown b at value cells start len) from to part
+    unfolding window_of
+    part_view part from to some order bound is =
+        let xs = map value cells in
+        let product = ap (λ (n : ℕ). b * n) (length-map cells value) in
+        let long = length-memory cells in
+        rw is (record {
+          bits = ap (λ (ys : List ℕ). slice_range (memory_bits b at ys) ((start + from) % b) ((start + from) % b + (to - from))) (range-map value cells _ _)
+              ∙ touched-bits b at xs (start + from) (start + to) (to - from) some (omega arith) (omega arith)
+              ∙ sym (range-range (memory_bits b at xs) start (start + len) from to (omega arith) (omega arith));
+          elements = refl;
+          start = refl;
+          len = refl;
+        })

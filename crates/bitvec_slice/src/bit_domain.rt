@@ -1,10 +1,13 @@
 //! A view, cut at the edges of elements.
-ghost use Rattle.std.specs.Prelude.{IfSome, length, map};
+ghost use Rattle.std.specs.Prelude.{◌≡◌, ◌+◌, ◌*◌, ◌≤◌, IfSome, length, map};
 ghost use Rattle.bitvec_base.specs.Memory.{HasWindow};
-ghost use Rattle.bitvec_domain.specs.Cuts.{IsPartWithin, cut_of};
-ghost use Rattle.bitvec_slice.specs.BitDomains.{IsBitDomain, IsPartView, IsPartViewIf};
+ghost use Rattle.bitvec_base.specs.Window.{max_bits};
+ghost use Rattle.bitvec_domain.specs.Cuts.{IsCutWithin, IsPartWithin, cut_of, part_from, part_if_from};
+ghost use Rattle.bitvec_domain.specs.declared.cut.Cut.TheVariants.{Across};
+ghost use Rattle.bitvec_slice.specs.Domains.{view_in, view_in_if, views_in, views_of, views_of_mut};
+ghost use Rattle.bitvec_slice.specs.Views.{seen, seen_mut};
 
-use crate::BitSlice;
+use crate::{BitSlice, BitSliceMut};
 use bitvec_base::{BitOrder, Part, Window};
 use bitvec_domain::Cut;
 use bitvec_store::BitStore;
@@ -26,6 +29,23 @@ pub enum BitDomain<'a, T: BitStore, O: BitOrder> {
     },
 }
 
+/// A writable view, cut at the edges of elements: the crate's `BitDomain` over exclusive elements.
+#[derive(Drop)]
+pub enum BitDomainMut<'a, T: BitStore, O: BitOrder> {
+    /// Bits of one element that touch neither of its edges.
+    Enclave(BitSliceMut<'a, T, O>),
+    /// The bits of whole elements, and parts of one at either end. A part that isn't there is an
+    /// empty view of no element.
+    Region {
+        /// The bits of the first element, if the view begins inside it.
+        head: BitSliceMut<'a, T, O>,
+        /// The bits of the elements that the view covers.
+        body: BitSliceMut<'a, T, O>,
+        /// The bits of the last element, if the view ends inside it.
+        tail: BitSliceMut<'a, T, O>,
+    },
+}
+
 /// A window, cut at the edges of elements. Condition: the memory has at most `MAX_BITS` bits, and
 /// the window lies in it.
 pub(crate) fn bit_domain_of<T: BitStore, O: BitOrder>(
@@ -33,7 +53,7 @@ pub(crate) fn bit_domain_of<T: BitStore, O: BitOrder>(
     window: Window,
 ) -> BitDomain<'_, T, O>
     requires window { HasWindow T.BITS (map T.value cells.now) window }
-    ensures { IsBitDomain cells.now (cut_of T.BITS window) result }
+    ensures { views_of result ≡ views_in T.BITS O.at T.value cells.now (cut_of T.BITS window) }
 {
     match Cut::of(T::BITS as usize, window) {
         Cut::Inside(part) => BitDomain::Enclave(part_view(cells, part)),
@@ -53,7 +73,7 @@ pub(crate) fn bit_domain_of<T: BitStore, O: BitOrder>(
 /// The bits of a part, as a view of its element.
 fn part_view<T: BitStore, O: BitOrder>(cells: &[T], part: Part) -> BitSlice<'_, T, O>
     requires { IsPartWithin T.BITS (length cells.now) part }
-    ensures { IsPartView cells.now part result }
+    ensures { seen result ≡ view_in T.BITS O.at T.value cells.now part }
 {
     T::fits_in_memory();
     let cell = &cells[part.element..part.element + 1];
@@ -63,10 +83,84 @@ fn part_view<T: BitStore, O: BitOrder>(cells: &[T], part: Part) -> BitSlice<'_, 
 /// The bits of a part, if there is one.
 fn part_view_if<T: BitStore, O: BitOrder>(cells: &[T], part: Option<Part>) -> BitSlice<'_, T, O>
     requires { IfSome part (IsPartWithin T.BITS (length cells.now)) }
-    ensures { IsPartViewIf cells.now part result }
+    ensures { seen result ≡ view_in_if T.BITS O.at T.value cells.now part }
 {
     if let Some(part) = part {
         return part_view(cells, part);
     }
     BitSlice::empty()
+}
+
+/// A window, cut at the edges of elements. Condition: the memory has at most `MAX_BITS` bits, and
+/// the window lies in it.
+pub(crate) fn bit_domain_mut_of<T: BitStore, O: BitOrder>(
+    cells: &mut [T],
+    window: Window,
+) -> BitDomainMut<'_, T, O>
+    requires window { HasWindow T.BITS (map T.value cells.old) window }
+    ensures { views_of_mut result ≡ views_in T.BITS O.at T.value cells.old (cut_of T.BITS window) }
+{
+    match Cut::of(T::BITS as usize, window) {
+        Cut::Inside(part) => BitDomainMut::Enclave(part_view_mut(cells, 0, part)),
+        Cut::Across {
+            head,
+            start,
+            end,
+            tail,
+        } => region(cells, head, start, end, tail),
+    }
+}
+
+/// A part of one element, whole elements, and again a part of one.
+fn region<T: BitStore, O: BitOrder>(
+    cells: &mut [T],
+    head: Option<Part>,
+    start: usize,
+    end: usize,
+    tail: Option<Part>,
+) -> BitDomainMut<'_, T, O>
+    requires cut { IsCutWithin T.BITS (length cells.old) (Across head start end tail) }
+    requires bounded { T.BITS * length cells.old ≤ max_bits }
+    ensures { views_of_mut result ≡ views_in T.BITS O.at T.value cells.old (Across head start end tail) }
+{
+    let (front, after) = cells.split_at_mut(end);
+    let (before, body) = front.split_at_mut(start);
+    let head = part_view_if_mut(before, 0, head);
+    let body = BitSliceMut::from_slice_mut(body);
+    let tail = part_view_if_mut(after, end, tail);
+    BitDomainMut::Region { head, body, tail }
+}
+
+/// The bits of a part, as a view of its element, where `cells` are the elements from the element
+/// `first` on.
+fn part_view_mut<T: BitStore, O: BitOrder>(
+    cells: &mut [T],
+    first: usize,
+    part: Part,
+) -> BitSliceMut<'_, T, O>
+    requires first { first ≤ part.element }
+    requires within { IsPartWithin T.BITS (first + length cells.old) part }
+    ensures { seen_mut result ≡ view_in T.BITS O.at T.value cells.old (part_from first part) }
+{
+    T::fits_in_memory();
+    let index = part.element - first;
+    let (front, _) = cells.split_at_mut(index + 1);
+    let (_, cell) = front.split_at_mut(index);
+    BitSliceMut::from_parts(cell, part.from, part.to - part.from)
+}
+
+/// The bits of a part, if there is one, where `cells` are the elements from the element `first` on.
+fn part_view_if_mut<T: BitStore, O: BitOrder>(
+    cells: &mut [T],
+    first: usize,
+    part: Option<Part>,
+) -> BitSliceMut<'_, T, O>
+    requires first { IfSome part (λ p. first ≤ p.element) }
+    requires within { IfSome part (IsPartWithin T.BITS (first + length cells.old)) }
+    ensures { seen_mut result ≡ view_in_if T.BITS O.at T.value cells.old (part_if_from first part) }
+{
+    match part {
+        None => BitSliceMut::empty_mut(),
+        Some(part) => part_view_mut(cells, first, part),
+    }
 }

@@ -1,9 +1,9 @@
-//! Shared views of no element, of one, and of a slice that may be too long.
-ghost use Rattle.std.specs.Prelude.{◌≡◌, ◌-◌, ◌*◌, ◌^◌, ◌≤◌, ◌↔◌, [], ◌∷◌, IfErr, IfOk, IsOk, length, min};
+//! Views of no element, of one, and of a slice that may be too long.
+ghost use Rattle.std.specs.Prelude.{◌≡◌, ◌-◌, ◌*◌, ◌^◌, ◌≤◌, ◌↔◌, [], ◌∷◌, IfErr, IfOk, IsOk, length, min, slice_index_or};
 ghost use Rattle.bitvec_base.specs.Window.{max_bits};
 ghost use Rattle.bitvec_base.specs.declared.span_error.BitSpanError.TheVariants.{TooLong};
 
-use crate::BitSlice;
+use crate::{BitSlice, BitSliceMut};
 use bitvec_base::{BitOrder, BitSpanError, MAX_BITS};
 use bitvec_store::BitStore;
 
@@ -15,28 +15,28 @@ pub(crate) fn bits_in<T: BitStore>(elements: &[T]) -> usize
 }
 
 impl<'a, T: BitStore, O: BitOrder> BitSlice<'a, T, O> {
-    ghost use Rattle.bitvec_slice.specs.Wholes.{IsEmpty, IsWhole};
+    ghost use Rattle.bitvec_slice.specs.Seen.{IsEmpty, IsWhole};
+    ghost use Rattle.bitvec_slice.specs.Views.{seen};
 
     /// A view of no bit.
     pub fn empty() -> Self
-        ensures { IsEmpty result }
+        ensures { IsEmpty (seen result) }
     {
         BitSlice::from_slice(&[])
     }
 
     /// A view of all bits of one element.
     pub fn from_element(element: &'a T) -> Self
-        ensures { IsWhole (element.now ∷ []) result }
+        ensures { IsWhole T.BITS O.at T.value (element.now ∷ []) (seen result) }
     {
         T::fits_in_memory();
         BitSlice::from_slice(std::slice::from_ref(element))
     }
 
-    /// A view of all bits of the elements. Condition: they are at most `MAX_BITS` bits, as for
-    /// [`BitSlice::from_slice`].
+    /// The same as [`BitSlice::from_slice`], under the same condition.
     pub fn from_slice_unchecked(elements: &'a [T]) -> Self
         requires { T.BITS * length elements.now ≤ max_bits }
-        ensures { IsWhole elements.now result }
+        ensures { IsWhole T.BITS O.at T.value elements.now (seen result) }
     {
         BitSlice::from_slice(elements)
     }
@@ -47,11 +47,58 @@ impl<'a, T: BitStore, O: BitOrder> BitSlice<'a, T, O> {
         ensures made { IsOk result ↔ (T.BITS * length elements.now ≤ max_bits) }
         ensures error { IfErr result
             (λ error. error ≡ TooLong (min (T.BITS * length elements.now) (2 ^ 64 - 1))) }
-        ensures whole { IfOk result (IsWhole elements.now) }
+        ensures whole { IfOk result (λ view. IsWhole T.BITS O.at T.value elements.now (seen view)) }
     {
         let bits = bits_in(elements);
         if bits <= MAX_BITS {
             Ok(BitSlice::from_slice(elements))
+        } else {
+            Err(BitSpanError::TooLong(bits))
+        }
+    }
+}
+
+impl<'a, T: BitStore, O: BitOrder> BitSliceMut<'a, T, O> {
+    ghost use Rattle.std.specs.Borrow.{Array, follows, sem};
+    ghost use Rattle.bitvec_slice.specs.Seen.{IsEmpty, IsWhole};
+    ghost use Rattle.bitvec_slice.specs.Views.{IsWholeOf, name_of, seen_mut};
+
+    /// A view of no bit.
+    pub fn empty_mut() -> Self
+        ensures { IsEmpty (seen_mut result) }
+    {
+        BitSliceMut::from_slice_mut(&mut [])
+    }
+
+    /// A view of all bits of one element.
+    pub fn from_element_mut(element: &'a mut T) -> Self
+        ensures* writes_back { sem 𝓛 (follows T.row (Array T.row 0) element.entry.ghost_name (name_of result)
+            (λ left. slice_index_or left 0 element.old)) }
+        ensures whole { IsWhole T.BITS O.at T.value (element.old ∷ []) (seen_mut result) }
+    {
+        T::fits_in_memory();
+        BitSliceMut::from_slice_mut(std::slice::from_mut(element))
+    }
+
+    /// The same as [`BitSliceMut::from_slice_mut`], under the same condition.
+    pub fn from_slice_unchecked_mut(elements: &'a mut [T]) -> Self
+        requires { T.BITS * length elements.old ≤ max_bits }
+        ensures { IsWholeOf elements.old elements.entry.ghost_name result }
+    {
+        BitSliceMut::from_slice_mut(elements)
+    }
+
+    /// A view of all bits of the elements; `Err(TooLong(bits))` exactly where they are more than
+    /// `MAX_BITS` bits.
+    pub fn try_from_slice_mut(elements: &'a mut [T]) -> Result<Self, BitSpanError>
+        ensures made { IsOk result ↔ (T.BITS * length elements.old ≤ max_bits) }
+        ensures error { IfErr result
+            (λ error. error ≡ TooLong (min (T.BITS * length elements.old) (2 ^ 64 - 1))) }
+        ensures whole { IfOk result (IsWholeOf elements.old elements.entry.ghost_name) }
+    {
+        let bits = bits_in(elements);
+        if bits <= MAX_BITS {
+            Ok(BitSliceMut::from_slice_mut(elements))
         } else {
             Err(BitSpanError::TooLong(bits))
         }

@@ -1,11 +1,12 @@
 //! What a view is indexed by.
-ghost use Rattle.std.specs.Prelude.{◌≡◌, ℕ, ◌<◌, ◌↔◌, IfSome, IsSome, IsTrue};
+ghost use Rattle.std.specs.Prelude.{◌≡◌, ℕ, ◌<◌, ◌↔◌, IsTrue};
 
 use crate::{BitRef, BitRefMut, BitSlice, BitSliceMut};
 use bitvec_base::BitOrder;
 use bitvec_store::BitStore;
 
 /// A shared view, as an index meets it.
+#[doc(hidden)]
 pub trait Viewed: Drop {
     ghost use Rattle.bitvec_slice.specs.Seen.{Seen};
 
@@ -24,6 +25,7 @@ pub trait Viewed: Drop {
 }
 
 /// A writable view, as an index meets it.
+#[doc(hidden)]
 pub trait ViewedMut: Drop {
     ghost use Rattle.bitvec_slice.specs.Seen.{Seen};
 
@@ -43,7 +45,7 @@ pub trait ViewedMut: Drop {
 ///
 /// That a view has the index is the condition of the calls that give no `Option`.
 pub trait BitSliceIndex<V: Viewed>: Sized + Drop {
-    ghost use Rattle.bitvec_slice.specs.Seen.{Seen};
+    ghost use Rattle.bitvec_slice.specs.Seen.{IsGiven, Seen};
 
     /// What is read at the index.
     type Immut;
@@ -76,8 +78,7 @@ pub trait BitSliceIndex<V: Viewed>: Sized + Drop {
 
     /// What stands at the index: `None` exactly where the view does not have it.
     fn get(self, bits: V) -> Option<Self::Immut>
-        ensures some { IsSome result ↔ fits self (V.sees bits).window.len }
-        ensures gives { IfSome result (gives self (V.sees bits)) }
+        ensures { IsGiven (fits self (V.sees bits).window.len) (gives self (V.sees bits)) result }
     {
         if self.fits(bits.bit_len()) {
             Some(self.index(bits))
@@ -88,8 +89,7 @@ pub trait BitSliceIndex<V: Viewed>: Sized + Drop {
 
     /// What stands at the index, for writing: `None` exactly where the view does not have it.
     fn get_mut(self, bits: V::Writable) -> Option<Self::Mut>
-        ensures some { IsSome result ↔ fits self (V.Writable.sees bits).window.len }
-        ensures gives { IfSome result (gives_mut self (V.Writable.sees bits)) }
+        ensures { IsGiven (fits self (V.Writable.sees bits).window.len) (gives_mut self (V.Writable.sees bits)) result }
     {
         if self.fits(bits.bit_len()) {
             Some(self.index_mut(bits))
@@ -116,7 +116,7 @@ pub trait BitSliceIndex<V: Viewed>: Sized + Drop {
 }
 
 impl<'a, T: BitStore, O: BitOrder> Viewed for BitSlice<'a, T, O> {
-    ghost use Rattle.bitvec_slice.specs.Indices.{seen};
+    ghost use Rattle.bitvec_slice.specs.Views.{seen};
 
     type Element = T;
 
@@ -130,7 +130,7 @@ impl<'a, T: BitStore, O: BitOrder> Viewed for BitSlice<'a, T, O> {
 }
 
 impl<'a, T: BitStore, O: BitOrder> ViewedMut for BitSliceMut<'a, T, O> {
-    ghost use Rattle.bitvec_slice.specs.Indices.{seen_mut};
+    ghost use Rattle.bitvec_slice.specs.Views.{seen_mut};
 
     type Element = T;
 
@@ -142,7 +142,7 @@ impl<'a, T: BitStore, O: BitOrder> ViewedMut for BitSliceMut<'a, T, O> {
 }
 
 impl<'a, T: BitStore + 'a, O: BitOrder> BitSliceIndex<BitSlice<'a, T, O>> for usize {
-    ghost use Rattle.bitvec_slice.specs.Indices.{IsBitOf, IsBitOfMut};
+    ghost use Rattle.bitvec_slice.specs.Indices.{IsBitOf, WritesBitOf};
 
     type Immut = BitRef<'a, T, O>;
 
@@ -152,7 +152,7 @@ impl<'a, T: BitStore + 'a, O: BitOrder> BitSliceIndex<BitSlice<'a, T, O>> for us
 
     ghost gives = { λ index view bit. IsBitOf view index bit };
 
-    ghost gives_mut = { λ index view bit. IsBitOfMut view index bit };
+    ghost gives_mut = { λ index view bit. WritesBitOf view index bit };
 
     fn fits(&self, len: usize) -> bool {
         *self < len

@@ -8,7 +8,8 @@ use bitvec_store::BitStore;
 use std::ops::{Range, RangeFrom, RangeFull, RangeInclusive, RangeTo, RangeToInclusive};
 
 impl<'a, T: BitStore + 'a, O: BitOrder> BitSliceIndex<BitSlice<'a, T, O>> for Range<usize> {
-    ghost use Rattle.bitvec_slice.specs.Indices.{HasRange, seen, seen_mut};
+    ghost use Rattle.bitvec_slice.specs.Indices.{HasRange};
+    ghost use Rattle.bitvec_slice.specs.Views.{seen, seen_mut};
     ghost use Rattle.bitvec_slice.specs.Seen.{IsRangeOf};
 
     type Immut = BitSlice<'a, T, O>;
@@ -26,16 +27,16 @@ impl<'a, T: BitStore + 'a, O: BitOrder> BitSliceIndex<BitSlice<'a, T, O>> for Ra
     }
 
     fn index(self, bits: BitSlice<'a, T, O>) -> BitSlice<'a, T, O> {
-        bits.into_part(self.start, self.end)
+        bits.into_part(self)
     }
 
     fn index_mut(self, bits: BitSliceMut<'a, T, O>) -> BitSliceMut<'a, T, O> {
-        bits.into_part(self.start, self.end)
+        bits.into_part(self)
     }
 }
 
 impl<'a, T: BitStore + 'a, O: BitOrder> BitSliceIndex<BitSlice<'a, T, O>> for RangeFrom<usize> {
-    ghost use Rattle.bitvec_slice.specs.Indices.{seen, seen_mut};
+    ghost use Rattle.bitvec_slice.specs.Views.{seen, seen_mut};
     ghost use Rattle.bitvec_slice.specs.Seen.{IsRangeOf};
 
     type Immut = BitSlice<'a, T, O>;
@@ -64,7 +65,7 @@ impl<'a, T: BitStore + 'a, O: BitOrder> BitSliceIndex<BitSlice<'a, T, O>> for Ra
 }
 
 impl<'a, T: BitStore + 'a, O: BitOrder> BitSliceIndex<BitSlice<'a, T, O>> for RangeTo<usize> {
-    ghost use Rattle.bitvec_slice.specs.Indices.{seen, seen_mut};
+    ghost use Rattle.bitvec_slice.specs.Views.{seen, seen_mut};
     ghost use Rattle.bitvec_slice.specs.Seen.{IsRangeOf};
 
     type Immut = BitSlice<'a, T, O>;
@@ -91,7 +92,7 @@ impl<'a, T: BitStore + 'a, O: BitOrder> BitSliceIndex<BitSlice<'a, T, O>> for Ra
 }
 
 impl<'a, T: BitStore + 'a, O: BitOrder> BitSliceIndex<BitSlice<'a, T, O>> for RangeFull {
-    ghost use Rattle.bitvec_slice.specs.Indices.{seen, seen_mut};
+    ghost use Rattle.bitvec_slice.specs.Views.{seen, seen_mut};
     ghost use Rattle.bitvec_slice.specs.Seen.{IsRangeOf};
 
     type Immut = BitSlice<'a, T, O>;
@@ -121,7 +122,8 @@ impl<'a, T: BitStore + 'a, O: BitOrder> BitSliceIndex<BitSlice<'a, T, O>> for Ra
 
 impl<'a, T: BitStore + 'a, O: BitOrder> BitSliceIndex<BitSlice<'a, T, O>>
     for RangeInclusive<usize> {
-    ghost use Rattle.bitvec_slice.specs.Indices.{HasInclusive, seen, seen_mut};
+    ghost use Rattle.bitvec_slice.specs.Indices.{HasInclusive};
+    ghost use Rattle.bitvec_slice.specs.Views.{seen, seen_mut};
     ghost use Rattle.bitvec_slice.specs.Seen.{IsRangeOf};
 
     type Immut = BitSlice<'a, T, O>;
@@ -151,7 +153,7 @@ impl<'a, T: BitStore + 'a, O: BitOrder> BitSliceIndex<BitSlice<'a, T, O>>
 
 impl<'a, T: BitStore + 'a, O: BitOrder> BitSliceIndex<BitSlice<'a, T, O>>
     for RangeToInclusive<usize> {
-    ghost use Rattle.bitvec_slice.specs.Indices.{seen, seen_mut};
+    ghost use Rattle.bitvec_slice.specs.Views.{seen, seen_mut};
     ghost use Rattle.bitvec_slice.specs.Seen.{IsRangeOf};
 
     type Immut = BitSlice<'a, T, O>;

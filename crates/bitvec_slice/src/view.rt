@@ -10,6 +10,7 @@ use bitvec_domain::domain_of;
 use bitvec_store::BitStore;
 use std::alloc::AllocError;
 use std::marker::PhantomData;
+use std::ops::Range;
 
 /// Bits of a borrowed slice of elements, in an order: it stands for the crate's `&BitSlice<T, O>`.
 ///
@@ -41,13 +42,11 @@ impl<'a, T: BitStore, O: BitOrder> Clone for BitSlice<'a, T, O> {
 
 impl<'a, T: BitStore, O: BitOrder> BitSlice<'a, T, O> {
     ghost use Rattle.bitvec_base.specs.Memory.{HasWindow};
-    ghost use Rattle.bitvec_slice.specs.BitDomains.{IsBitDomain, bits_of_bit_domain};
-    ghost use Rattle.bitvec_domain.specs.Cuts.{cut_of};
-    ghost use Rattle.bitvec_domain.specs.Domains.{IsDomain, bits_of_domain};
-    ghost use Rattle.bitvec_slice.specs.Indices.{seen};
-    ghost use Rattle.bitvec_slice.specs.Seen.{CoversElements, IsRangeOf};
-    ghost use Rattle.bitvec_slice.specs.Views.{bits_of, elements_of, window_in};
-    ghost use Rattle.bitvec_slice.specs.Wholes.{IsView, IsWhole};
+    ghost use Rattle.bitvec_domain.specs.Domains.{pieces_of};
+    ghost use Rattle.bitvec_slice.specs.Domains.{IsBitDomain, IsDomain, views_of};
+    ghost use Rattle.bitvec_slice.specs.Indices.{HasRange};
+    ghost use Rattle.bitvec_slice.specs.Seen.{CoversElements, IsRangeOf, IsWhole, shown};
+    ghost use Rattle.bitvec_slice.specs.Views.{seen};
 
     /// The most bits that a view's memory may have.
     pub const MAX_BITS: usize = MAX_BITS;
@@ -56,9 +55,10 @@ impl<'a, T: BitStore, O: BitOrder> BitSlice<'a, T, O> {
     pub const MAX_ELTS: usize = (MAX_BITS + T::BITS as usize - 1) / (T::BITS as usize) + 1;
 
     /// A view of all bits of the elements. Condition: they are at most `MAX_BITS` bits.
+    #[tactic(auto, using(crate::specs::SeenLaws::whole_view))]
     pub fn from_slice(elements: &'a [T]) -> Self
         requires { T.BITS * length elements.now ≤ max_bits }
-        ensures { IsWhole elements.now result }
+        ensures { IsWhole T.BITS O.at T.value elements.now (seen result) }
     {
         let len = elements.len() * (T::BITS as usize);
         BitSlice::from_parts(elements, 0, len)
@@ -67,7 +67,7 @@ impl<'a, T: BitStore, O: BitOrder> BitSlice<'a, T, O> {
     pub(crate) fn from_parts(elements: &'a [T], head: usize, len: usize) -> Self
         requires inside { head + len ≤ T.BITS * length elements.now }
         requires bounded { T.BITS * length elements.now ≤ max_bits }
-        ensures { IsView elements.now head len result }
+        ensures { seen result ≡ shown T.BITS O.at T.value elements.now head len }
     {
         BitSlice {
             elements,
@@ -81,7 +81,7 @@ impl<'a, T: BitStore, O: BitOrder> BitSlice<'a, T, O> {
     /// those that are made of a slice have. The crate has no such call.
     pub fn into_slice(self) -> &'a [T]
         requires { CoversElements T.BITS (seen self) }
-        ensures { result.now ≡ elements_of self.entry }
+        ensures { result.now ≡ (seen self.entry).elements }
     {
         self.elements
     }
@@ -90,15 +90,23 @@ impl<'a, T: BitStore, O: BitOrder> BitSlice<'a, T, O> {
     /// view's own bits.
     #[doc(hidden)]
     pub fn elements(self) -> &'a [T]
-        ensures { result.now ≡ elements_of self.entry }
+        ensures { result.now ≡ (seen self.entry).elements }
     {
         self.elements
     }
 
+    /// The same view: `&*bits` of the crate, as [`crate::BitSliceMut::as_ref`] gives it.
+    pub fn as_ref(&self) -> BitSlice<'_, T, O>
+        ensures { seen result ≡ seen self.now }
+    {
+        *self
+    }
+
     /// How many bits there are.
+    #[tactic(auto, using(crate::specs::SeenLaws::length_bits))]
     pub fn len(&self) -> usize
-        ensures value { result ≡ length (bits_of self.now) }
-        ensures window { result ≡ (window_in self.now).len }
+        ensures value { result ≡ length (seen self.now).bits }
+        ensures window { result ≡ (seen self.now).window.len }
         ensures bound { result ≤ max_bits }
     {
         self.len
@@ -106,42 +114,46 @@ impl<'a, T: BitStore, O: BitOrder> BitSlice<'a, T, O> {
 
     /// Whether there is no bit.
     pub fn is_empty(&self) -> bool
-        ensures { result ≡ ((window_in self.now).len == 0) }
+        ensures { result ≡ ((seen self.now).window.len == 0) }
     {
         self.len == 0
     }
 
     /// The elements that the view touches, in their order.
     pub fn domain(self) -> Domain<'a, T, O>
-        ensures parts { IsDomain (elements_of self.entry) (cut_of T.BITS (window_in self.entry)) result }
-        ensures bits { bits_of_domain result ≡ bits_of self.entry }
+        ensures { IsDomain T.BITS O.at T.value (seen self.entry) (pieces_of result) }
     {
         domain_of(self.elements, self.window())
     }
 
     /// The view, cut at the edges of elements.
     pub fn bit_domain(self) -> BitDomain<'a, T, O>
-        ensures parts { IsBitDomain (elements_of self.entry) (cut_of T.BITS (window_in self.entry)) result }
-        ensures bits { bits_of_bit_domain result ≡ bits_of self.entry }
+        ensures { IsBitDomain T.BITS O.at T.value (seen self.entry) (views_of result) }
     {
         bit_domain_of(self.elements, self.window())
     }
 
-    pub(crate) fn into_part(self, from: usize, to: usize) -> Self
-        requires order { from ≤ to }
-        requires bound { to ≤ (window_in self).len }
-        ensures { IsRangeOf T.BITS (seen self.entry) from to (seen result) }
+    /// The bits of a range, as `get(range)` gives them. Condition: `start <= end <= len`. The crate has
+    /// no such call.
+    pub fn into_part(self, range: Range<usize>) -> Self
+        requires { HasRange range (seen self).window.len }
+        ensures { IsRangeOf T.BITS (seen self.entry) range.start range.end (seen result) }
     {
-        let start = self.head + from;
-        let cells = touched::<T>(start, self.head + to);
+        let start = self.head + range.start;
+        let cells = touched::<T>(start, self.head + range.end);
         let elements = &self.elements[cells.start..cells.end];
-        BitSlice::from_parts(elements, start % (T::BITS as usize), to - from)
+        BitSlice::from_parts(
+            elements,
+            start % (T::BITS as usize),
+            range.end - range.start,
+        )
     }
 
     /// Where the view stands among the elements that it touches. The crate has no such call.
+    #[tactic(auto, using(crate::specs::SeenLaws::has_window))]
     pub fn window(&self) -> Window
-        ensures value { result ≡ window_in self.now }
-        ensures inside { HasWindow T.BITS (map T.value (elements_of self.now)) result }
+        ensures value { result ≡ (seen self.now).window }
+        ensures inside { HasWindow T.BITS (map T.value (seen self.now).elements) result }
     {
         Window {
             start: self.head,

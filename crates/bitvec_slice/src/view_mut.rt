@@ -1,15 +1,15 @@
 //! A writable view of bits.
-ghost use Rattle.std.specs.Prelude.{◌≡◌, ◌+◌, ◌*◌, ◌<◌, ◌≤◌, ◌==◌, length, map, not, replicate, slice_range, slice_set};
+ghost use Rattle.std.specs.Prelude.{◌≡◌, ◌+◌, ◌*◌, ◌≤◌, ◌==◌, length, map, slice_range};
 ghost use Rattle.bitvec_base.specs.Window.{max_bits};
 
-use crate::bit_domain_mut::bit_domain_mut_of;
+use crate::bit_domain::bit_domain_mut_of;
 use crate::touched::touched;
 use crate::{BitDomain, BitDomainMut, BitSlice, Domain, DomainMut};
 use bitvec_base::{BitOrder, Window};
 use bitvec_domain::domain_mut_of;
-use bitvec_elements::{fill_in, invert_in, set_in};
 use bitvec_store::BitStore;
 use std::marker::PhantomData;
+use std::ops::Range;
 
 /// Bits of a slice of elements that is borrowed for writing, in an order: it stands for the
 /// crate's `&mut BitSlice<T, O>`.
@@ -22,8 +22,9 @@ use std::marker::PhantomData;
 /// range `get_mut`, `get_unchecked_mut` and the calls of [`crate::BitSliceIndex`]. References to one
 /// bit: `bit_mut`, `first_mut`, `last_mut`, and by an index `get_mut` and its kin. Elements and parts
 /// of them: `domain_mut`, and as views `bit_domain_mut`. A part holds the elements that its bits touch
-/// and no other, and no public call writes a bit of these outside the part. Whole elements are given
-/// out by `domain_mut`, which covers them, and by `into_slice`, which asks for a view of all their
+/// and no other, and no public call writes a bit of these outside the part: what an edit leaves says
+/// `WritesBits` of a view, `WritesBit` of a reference, `WritesPart` of a part of an element. Whole
+/// elements are given out by `domain_mut`, which covers them, and by `into_slice`, which asks for a view of all their
 /// bits. Two calls that this page hides, `elements_mut` and `elements_part_mut`, lend them to crates
 /// above, whose edits owe that bits outside the view stay.
 #[derive(Drop)]
@@ -39,21 +40,19 @@ pub struct BitSliceMut<'a, T: BitStore, O: BitOrder> {
 impl<'a, T: BitStore, O: BitOrder> BitSliceMut<'a, T, O> {
     ghost use Rattle.std.specs.Borrow.{sem};
     ghost use Rattle.bitvec_base.specs.Memory.{HasWindow, memory_bits};
-    ghost use Rattle.bitvec_slice.specs.BitDomains.{IsBitDomain, IsBitDomainMut, bits_of_bit_domain, bits_of_bit_domain_mut};
-    ghost use Rattle.bitvec_domain.specs.Cuts.{cut_of};
-    ghost use Rattle.bitvec_domain.specs.Domains.{IsDomain, IsDomainMut, bits_of_domain, bits_of_domain_mut};
-    ghost use Rattle.bitvec_slice.specs.Writes.{WritesBits};
+    ghost use Rattle.bitvec_base.specs.Window.{IsWithin};
+    ghost use Rattle.bitvec_domain.specs.Domains.{pieces_of, pieces_of_mut};
+    ghost use Rattle.bitvec_slice.specs.Domains.{IsBitDomain, IsDomain, views_of, views_of_mut};
+    ghost use Rattle.bitvec_slice.specs.Indices.{HasRange};
     ghost use Rattle.bitvec_slice.specs.Lending.{lends, lends_part};
-    ghost use Rattle.bitvec_slice.specs.Indices.{seen_mut};
-    ghost use Rattle.bitvec_slice.specs.Seen.{CoversElements, IsRangeOf};
-    ghost use Rattle.bitvec_slice.specs.Views.{bits_of, elements_of, window_in, bits_of_mut, elements_of_mut, memory_of_mut, name_of_mut, window_in_mut};
-    ghost use Rattle.bitvec_slice.specs.Wholes.{IsViewMut, IsWholeMut};
+    ghost use Rattle.bitvec_slice.specs.Seen.{CoversElements, IsRangeOf, shown};
+    ghost use Rattle.bitvec_slice.specs.Views.{IsWholeOf, name_of, seen, seen_mut};
 
     /// A view of all bits of the elements. Condition: they are at most `MAX_BITS` bits.
-    #[tactic(auto, unfolding(crate::specs::Views::memory_of_mut))]
+    #[tactic(auto, using(crate::specs::SeenLaws::whole_view))]
     pub fn from_slice_mut(elements: &'a mut [T]) -> Self
         requires { T.BITS * length elements.old ≤ max_bits }
-        ensures { IsWholeMut elements.old elements.entry.ghost_name result }
+        ensures { IsWholeOf elements.old elements.entry.ghost_name result }
     {
         let len = elements.len() * (T::BITS as usize);
         BitSliceMut::from_parts(elements, 0, len)
@@ -62,8 +61,8 @@ impl<'a, T: BitStore, O: BitOrder> BitSliceMut<'a, T, O> {
     pub(crate) fn from_parts(elements: &'a mut [T], head: usize, len: usize) -> Self
         requires inside { head + len ≤ T.BITS * length elements.old }
         requires bounded { T.BITS * length elements.old ≤ max_bits }
-        ensures view { IsViewMut elements.old head len result }
-        ensures name { name_of_mut result ≡ elements.entry.ghost_name }
+        ensures view { seen_mut result ≡ shown T.BITS O.at T.value elements.old head len }
+        ensures name { name_of result ≡ elements.entry.ghost_name }
     {
         BitSliceMut {
             elements,
@@ -75,19 +74,19 @@ impl<'a, T: BitStore, O: BitOrder> BitSliceMut<'a, T, O> {
 
     /// Ends a view of all bits of its elements, and gives these back. Condition: it has all of them,
     /// as a view that was made of a slice has, also after edits. The crate has no such call.
-    #[tactic(auto, unfolding(crate::specs::Views::memory_of_mut))]
     pub fn into_slice(self) -> &'a mut [T]
         requires { CoversElements T.BITS (seen_mut self) }
-        ensures elements { result.now ≡ elements_of_mut self.entry }
-        ensures memory { memory_bits T.BITS O.at (map T.value result.now) ≡ memory_of_mut self.entry }
-        ensures name { result.ghost_name ≡ name_of_mut self.entry }
+        ensures elements { result.now ≡ (seen_mut self.entry).elements }
+        ensures memory { memory_bits T.BITS O.at (map T.value result.now) ≡ (seen_mut self.entry).memory }
+        ensures bits { memory_bits T.BITS O.at (map T.value result.now) ≡ (seen_mut self.entry).bits }
+        ensures name { result.ghost_name ≡ name_of self.entry }
     {
         self.into_elements()
     }
 
     pub(crate) fn into_elements(self) -> &'a mut [T]
-        ensures elements { result.now ≡ elements_of_mut self.entry }
-        ensures name { result.ghost_name ≡ name_of_mut self.entry }
+        ensures elements { result.now ≡ (seen_mut self.entry).elements }
+        ensures name { result.ghost_name ≡ name_of self.entry }
     {
         let BitSliceMut {
             elements,
@@ -99,22 +98,16 @@ impl<'a, T: BitStore, O: BitOrder> BitSliceMut<'a, T, O> {
     }
 
     /// A shared view of the same bits: `&*bits` of the crate.
-    #[tactic(auto, unfolding(crate::specs::Views::memory_of, crate::specs::Views::bits_of, crate::specs::Views::memory_of_mut, crate::specs::Views::bits_of_mut))]
     pub fn as_ref(&self) -> BitSlice<'_, T, O>
-        ensures bits { bits_of result ≡ bits_of_mut self.now }
-        ensures window { window_in result ≡ window_in_mut self.now }
-        ensures elements { elements_of result ≡ elements_of_mut self.now }
+        ensures { seen result ≡ seen_mut self.now }
     {
         BitSlice::from_parts(&*self.elements, self.head, self.len)
     }
 
     /// A view of the same bits for a shorter time: `&mut *bits` of the crate.
-    #[tactic(auto, unfolding(crate::specs::Views::memory_of_mut, crate::specs::Views::bits_of_mut))]
     pub fn as_mut(&mut self) -> BitSliceMut<'_, T, O>
-        ensures* writes_back { sem 𝓛 (lends T.row O.row self.entry (name_of_mut result)) }
-        ensures bits { bits_of_mut result ≡ bits_of_mut self.old }
-        ensures window { window_in_mut result ≡ window_in_mut self.old }
-        ensures elements { elements_of_mut result ≡ elements_of_mut self.old }
+        ensures* writes_back { sem 𝓛 (lends T.row O.row self.entry (name_of result)) }
+        ensures view { seen_mut result ≡ seen_mut self.old }
     {
         let head = self.head;
         let len = self.len;
@@ -122,9 +115,10 @@ impl<'a, T: BitStore, O: BitOrder> BitSliceMut<'a, T, O> {
     }
 
     /// How many bits there are.
+    #[tactic(auto, using(crate::specs::SeenLaws::length_bits))]
     pub fn len(&self) -> usize
-        ensures value { result ≡ length (bits_of_mut self.now) }
-        ensures window { result ≡ (window_in_mut self.now).len }
+        ensures value { result ≡ length (seen_mut self.now).bits }
+        ensures window { result ≡ (seen_mut self.now).window.len }
         ensures bound { result ≤ max_bits }
     {
         self.len
@@ -132,56 +126,21 @@ impl<'a, T: BitStore, O: BitOrder> BitSliceMut<'a, T, O> {
 
     /// Whether there is no bit.
     pub fn is_empty(&self) -> bool
-        ensures { result ≡ ((window_in_mut self.now).len == 0) }
+        ensures { result ≡ ((seen_mut self.now).window.len == 0) }
     {
         self.len == 0
     }
 
-    /// Makes the bit at an index `bit`. Condition: the index is below `len`.
-    pub fn set(&mut self, index: usize, bit: bool)
-        requires { index < (window_in_mut self.old).len }
-        ensures { WritesBits self.old self.new (slice_set (bits_of_mut self.old) index bit) }
-    {
-        let window = self.window();
-        set_in::<T, O>(self.elements_mut(), window, index, bit);
-    }
-
-    /// The same as [`BitSliceMut::set`], under the same condition.
-    pub fn set_unchecked(&mut self, index: usize, bit: bool)
-        requires { index < (window_in_mut self.old).len }
-        ensures { WritesBits self.old self.new (slice_set (bits_of_mut self.old) index bit) }
-    {
-        self.set(index, bit);
-    }
-
-    /// Makes each bit `bit`.
-    pub fn fill(&mut self, bit: bool)
-        ensures { WritesBits self.old self.new (replicate (window_in_mut self.old).len bit) }
-    {
-        let window = self.window();
-        fill_in::<T, O>(self.elements_mut(), window, bit);
-    }
-
-    /// Flips each bit: what `!` does of the crate.
-    pub fn invert(&mut self)
-        ensures { WritesBits self.old self.new (map not (bits_of_mut self.old)) }
-    {
-        let window = self.window();
-        invert_in::<T, O>(self.elements_mut(), window);
-    }
-
     /// The elements that the view touches, in their order.
     pub fn domain(&self) -> Domain<'_, T, O>
-        ensures parts { IsDomain (elements_of_mut self.now) (cut_of T.BITS (window_in_mut self.now)) result }
-        ensures bits { bits_of_domain result ≡ bits_of_mut self.now }
+        ensures { IsDomain T.BITS O.at T.value (seen_mut self.now) (pieces_of result) }
     {
         self.as_ref().domain()
     }
 
     /// The elements that the view touches for writing, in their order.
     pub fn domain_mut(&mut self) -> DomainMut<'_, T, O>
-        ensures parts { IsDomainMut (elements_of_mut self.old) (cut_of T.BITS (window_in_mut self.old)) result }
-        ensures bits { bits_of_domain_mut result ≡ bits_of_mut self.old }
+        ensures { IsDomain T.BITS O.at T.value (seen_mut self.old) (pieces_of_mut result) }
     {
         let window = self.window();
         domain_mut_of(self.elements_mut(), window)
@@ -189,25 +148,24 @@ impl<'a, T: BitStore, O: BitOrder> BitSliceMut<'a, T, O> {
 
     /// The view, cut at the edges of elements.
     pub fn bit_domain(&self) -> BitDomain<'_, T, O>
-        ensures parts { IsBitDomain (elements_of_mut self.now) (cut_of T.BITS (window_in_mut self.now)) result }
-        ensures bits { bits_of_bit_domain result ≡ bits_of_mut self.now }
+        ensures { IsBitDomain T.BITS O.at T.value (seen_mut self.now) (views_of result) }
     {
         self.as_ref().bit_domain()
     }
 
     /// The view for writing, cut at the edges of elements.
     pub fn bit_domain_mut(&mut self) -> BitDomainMut<'_, T, O>
-        ensures parts { IsBitDomainMut (elements_of_mut self.old) (cut_of T.BITS (window_in_mut self.old)) result }
-        ensures bits { bits_of_bit_domain_mut result ≡ bits_of_mut self.old }
+        ensures { IsBitDomain T.BITS O.at T.value (seen_mut self.old) (views_of_mut result) }
     {
         let window = self.window();
         bit_domain_mut_of(self.elements_mut(), window)
     }
 
-    pub(crate) fn into_part(self, from: usize, to: usize) -> Self
-        requires order { from ≤ to }
-        requires bound { to ≤ (window_in_mut self).len }
-        ensures { IsRangeOf T.BITS (seen_mut self.entry) from to (seen_mut result) }
+    /// The bits of a range for writing, as `get_mut(range)` gives them, for as long as the view was
+    /// borrowed. Condition: `start <= end <= len`. The crate has no such call.
+    pub fn into_part(self, range: Range<usize>) -> Self
+        requires { HasRange range (seen_mut self).window.len }
+        ensures { IsRangeOf T.BITS (seen_mut self.entry) range.start range.end (seen_mut result) }
     {
         let BitSliceMut {
             elements,
@@ -215,16 +173,21 @@ impl<'a, T: BitStore, O: BitOrder> BitSliceMut<'a, T, O> {
             len: _,
             mark: _,
         } = self;
-        let start = head + from;
-        let cells = touched::<T>(start, head + to);
+        let start = head + range.start;
+        let cells = touched::<T>(start, head + range.end);
         let elements = &mut elements[cells.start..cells.end];
-        BitSliceMut::from_parts(elements, start % (T::BITS as usize), to - from)
+        BitSliceMut::from_parts(
+            elements,
+            start % (T::BITS as usize),
+            range.end - range.start,
+        )
     }
 
     /// Where the view stands among the elements that it touches. The crate has no such call.
+    #[tactic(auto, using(crate::specs::SeenLaws::has_window))]
     pub fn window(&self) -> Window
-        ensures value { result ≡ window_in_mut self.now }
-        ensures inside { HasWindow T.BITS (map T.value (elements_of_mut self.now)) result }
+        ensures value { result ≡ (seen_mut self.now).window }
+        ensures inside { HasWindow T.BITS (map T.value (seen_mut self.now).elements) result }
     {
         Window {
             start: self.head,
@@ -237,7 +200,7 @@ impl<'a, T: BitStore, O: BitOrder> BitSliceMut<'a, T, O> {
     #[doc(hidden)]
     pub fn elements_mut(&mut self) -> &mut [T]
         ensures* writes_back { sem 𝓛 (lends T.row O.row self.entry result.ghost_name) }
-        ensures elements { result.now ≡ elements_of_mut self.old }
+        ensures elements { result.now ≡ (seen_mut self.old).elements }
     {
         &mut *self.elements
     }
@@ -247,10 +210,23 @@ impl<'a, T: BitStore, O: BitOrder> BitSliceMut<'a, T, O> {
     #[doc(hidden)]
     pub fn elements_part_mut(&mut self, start: usize, end: usize) -> &mut [T]
         requires order { start ≤ end }
-        requires bound { end ≤ length (elements_of_mut self.old) }
+        requires bound { end ≤ length (seen_mut self.old).elements }
         ensures* writes_back { sem 𝓛 (lends_part T.row O.row self.entry start end result.ghost_name) }
-        ensures elements { result.now ≡ slice_range (elements_of_mut self.old) start end }
+        ensures elements { result.now ≡ slice_range (seen_mut self.old).elements start end }
     {
         &mut self.elements[start..end]
+    }
+
+    /// Moves the view to a window of the elements that it keeps, for a call of a crate above, which
+    /// owes that the view comes back. Condition: the elements have the window.
+    #[doc(hidden)]
+    pub fn stand_at(&mut self, window: Window)
+        requires { IsWithin window (T.BITS * length (seen_mut self.old).elements) }
+        ensures window { (seen_mut self.new).window ≡ window }
+        ensures elements { (seen_mut self.new).elements ≡ (seen_mut self.old).elements }
+        ensures name { name_of self.new ≡ name_of self.old }
+    {
+        self.head = window.start;
+        self.len = window.len;
     }
 }

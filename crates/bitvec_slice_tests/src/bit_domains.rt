@@ -2,7 +2,10 @@
 ghost use Rattle.std.specs.Prelude.{◌*◌, ◌≤◌, length};
 ghost use Rattle.bitvec_base.specs.Window.{max_bits};
 
-use bitvec_base::{BitOrder, Lsb0, Msb0};
+use bitvec_base::{BitOrder, HiLo, Lsb0, Msb0};
+use bitvec_edit::BitEdits;
+use bitvec_engine::SliceOrder;
+use bitvec_query::BitQueries;
 use bitvec_slice::{BitDomain, BitDomainMut, BitSlice, BitSliceMut};
 use bitvec_store::BitStore;
 
@@ -31,7 +34,7 @@ fn parts_of<T: BitStore, O: BitOrder>(elements: &[T], from: usize, to: usize) ->
 
 /// Fills the parts of a range that is cut, if the elements have it: an enclave, or the head and
 /// the tail, but not the body.
-fn fill_edges<T: BitStore, O: BitOrder>(elements: &mut [T], from: usize, to: usize)
+fn fill_edges<T: BitStore, O: SliceOrder>(elements: &mut [T], from: usize, to: usize)
     requires { T.BITS * length elements.old ≤ max_bits }
 {
     let mut view = BitSliceMut::<T, O>::from_slice_mut(elements);
@@ -99,6 +102,46 @@ fn the_edges_of_a_cut_are_where_they_were(rt: HostRuntime) {
     assert_eq!(rt; cells, [0xFFF0, 0x000F]);
     fill_edges::<u16, Lsb0>(&mut cells, 0, 32);
     assert_eq!(rt; cells, [0xFFF0, 0x000F]);
+}
+
+/// Whether the parts of a range, of which those of whole elements go from `first` to `last`, are the
+/// view's bits there: nothing where the elements don't have these.
+fn parts_stand<T: BitStore, O: SliceOrder>(
+    elements: &[T],
+    from: usize,
+    first: usize,
+    last: usize,
+    to: usize,
+) -> Option<bool>
+    requires { T.BITS * length elements.now ≤ max_bits }
+{
+    let view = BitSlice::<T, O>::from_slice(elements);
+    match view.get(from..to)?.bit_domain() {
+        BitDomain::Enclave(part) => Some(part.eq_bits(view.get(from..to)?)),
+        BitDomain::Region { head, body, tail } => Some(
+            head.eq_bits(view.get(from..first)?)
+                && body.eq_bits(view.get(first..last)?)
+                && tail.eq_bits(view.get(last..to)?),
+        ),
+    }
+}
+
+#[test]
+fn each_part_has_its_own_bits(rt: HostRuntime) {
+    let words = [0x1234_5678u32, 0x9ABC_DEF0, 0x0FED_CBA9];
+    assert_eq!(rt; parts_stand::<u32, Msb0>(&words, 2, 32, 64, 94), Some(true));
+    assert_eq!(rt; parts_stand::<u32, Lsb0>(&words, 5, 32, 96, 96), Some(true));
+    assert_eq!(rt;
+        parts_stand::<u32, HiLo>(&words, 32, 32, 64, 77),
+        Some(true)
+    );
+    assert_eq!(rt;
+        parts_stand::<u32, Lsb0>(&words, 34, 64, 64, 62),
+        Some(true)
+    );
+    let bytes = [0x3Cu8, 0xA5, 0x17, 0xE2];
+    assert_eq!(rt; parts_stand::<u8, HiLo>(&bytes, 3, 8, 24, 31), Some(true));
+    assert_eq!(rt; parts_stand::<u8, Msb0>(&bytes, 3, 9, 24, 31), Some(false));
 }
 
 /// The parts of all bits of the elements, which a writable view shows.

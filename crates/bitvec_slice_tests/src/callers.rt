@@ -1,8 +1,9 @@
 //! What a caller's contract can say by those of the calls that it makes.
 ghost use Rattle.std.specs.Prelude.{◌≡◌, ◌<◌, ◌≤◌, ◌↔◌, IfSome, IsSome, count_by, false, slice_index_or, slice_range};
-ghost use Rattle.bitvec_slice.specs.Views.{bits_of, bits_of_mut, window_in, window_in_mut};
+ghost use Rattle.bitvec_slice.specs.Views.{seen, seen_mut};
 
 use bitvec_base::BitOrder;
+use bitvec_edit::BitEdits;
 use bitvec_engine::SliceOrder;
 use bitvec_query::BitQueries;
 use bitvec_slice::{BitSlice, BitSliceMut};
@@ -13,9 +14,9 @@ pub fn ones_before<T: BitStore, O: SliceOrder>(
     view: BitSlice<'_, T, O>,
     index: usize,
 ) -> Option<usize>
-    ensures some { IsSome result ↔ index ≤ (window_in view.entry).len }
+    ensures some { IsSome result ↔ index ≤ (seen view.entry).window.len }
     ensures value { IfSome result
-        (λ count. count ≡ count_by (λ bit. bit) (slice_range (bits_of view.entry) 0 index)) }
+        (λ count. count ≡ count_by (λ bit. bit) (slice_range (seen view.entry).bits 0 index)) }
 {
     match view.get(..index) {
         Some(part) => Some(part.count_ones()),
@@ -23,13 +24,22 @@ pub fn ones_before<T: BitStore, O: SliceOrder>(
     }
 }
 
+/// How many bits are 1, counted in two halves. Condition: `mid` is at most the view's length.
+pub fn ones_by_halves<T: BitStore, O: SliceOrder>(view: BitSlice<'_, T, O>, mid: usize) -> usize
+    requires { mid ≤ (seen view).window.len }
+    ensures { result ≡ count_by (λ bit. bit) (seen view.entry).bits }
+{
+    let (left, right) = view.split_at(mid);
+    left.count_ones() + right.count_ones()
+}
+
 /// The bit at an index of a writable view, read through a reference that could write it.
 pub fn bit_at<T: BitStore, O: BitOrder>(
     view: &mut BitSliceMut<'_, T, O>,
     index: usize,
 ) -> Option<bool>
-    ensures some { IsSome result ↔ index < (window_in_mut view.old).len }
-    ensures value { IfSome result (λ bit. bit ≡ slice_index_or (bits_of_mut view.old) index false) }
+    ensures some { IsSome result ↔ index < (seen_mut view.old).window.len }
+    ensures value { IfSome result (λ bit. bit ≡ slice_index_or (seen_mut view.old).bits index false) }
 {
     match view.get_mut(index) {
         Some(bit) => Some(*bit),
@@ -38,13 +48,13 @@ pub fn bit_at<T: BitStore, O: BitOrder>(
 }
 
 /// Fills the bits before an index, and gives how many the view has, which stays.
-pub fn fill_before<T: BitStore, O: BitOrder>(
+pub fn fill_before<T: BitStore, O: SliceOrder>(
     view: &mut BitSliceMut<'_, T, O>,
     index: usize,
 ) -> usize
-    requires { index ≤ (window_in_mut view.old).len }
-    ensures value { result ≡ (window_in_mut view.old).len }
-    ensures window { window_in_mut view.new ≡ window_in_mut view.old }
+    requires { index ≤ (seen_mut view.old).window.len }
+    ensures value { result ≡ (seen_mut view.old).window.len }
+    ensures window { (seen_mut view.new).window ≡ (seen_mut view.old).window }
 {
     {
         let mut front = view.part_mut(0..index);

@@ -1,5 +1,7 @@
 //! Views that are made of no element, of one, and of slices of any length.
-use bitvec_base::{BitOrder, HiLo, Lsb0, Msb0};
+use bitvec_base::{HiLo, Lsb0, Msb0};
+use bitvec_edit::BitEdits;
+use bitvec_engine::SliceOrder;
 use bitvec_query::BitQueries;
 use bitvec_slice::{BitSlice, BitSliceMut, from_mut, from_ref};
 use bitvec_store::BitStore;
@@ -46,7 +48,7 @@ fn an_element_is_viewed_in_its_order(rt: HostRuntime) {
 }
 
 /// Sets an element's bit at an index of its order, if it has as many.
-fn set_bit<T: BitStore, O: BitOrder>(element: &mut T, index: usize) {
+fn set_bit<T: BitStore, O: SliceOrder>(element: &mut T, index: usize) {
     let mut view = BitSliceMut::<T, O>::from_element_mut(element);
     if index < view.len() {
         view.set(index, true);
@@ -54,7 +56,7 @@ fn set_bit<T: BitStore, O: BitOrder>(element: &mut T, index: usize) {
 }
 
 /// Flips each bit of an element.
-fn invert<T: BitStore, O: BitOrder>(element: &mut T) {
+fn invert<T: BitStore, O: SliceOrder>(element: &mut T) {
     let mut view = from_mut::<T, O>(element);
     view.invert();
 }
@@ -87,14 +89,14 @@ fn a_slice_that_is_short_enough_is_viewed(rt: HostRuntime) {
 }
 
 /// Fills the elements with ones, if they can be viewed.
-fn fill<T: BitStore, O: BitOrder>(elements: &mut [T]) {
+fn fill<T: BitStore, O: SliceOrder>(elements: &mut [T]) {
     if let Ok(mut view) = BitSliceMut::<T, O>::try_from_slice_mut(elements) {
         view.fill(true);
     }
 }
 
 /// Clears the elements, if they can be viewed, and answers whether.
-fn clear<T: BitStore, O: BitOrder>(elements: &mut [T]) -> bool {
+fn clear<T: BitStore, O: SliceOrder>(elements: &mut [T]) -> bool {
     let view: Result<BitSliceMut<'_, T, O>, &mut [T]> = BitSliceMut::try_from(elements);
     match view {
         Ok(mut view) => {

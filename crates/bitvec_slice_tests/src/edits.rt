@@ -2,13 +2,15 @@
 ghost use Rattle.std.specs.Prelude.{◌*◌, ◌≤◌, length};
 ghost use Rattle.bitvec_base.specs.Window.{max_bits};
 
-use bitvec_base::{BitOrder, HiLo, Lsb0, Msb0};
+use bitvec_base::{HiLo, Lsb0, Msb0};
+use bitvec_edit::BitEdits;
+use bitvec_engine::SliceOrder;
 use bitvec_query::BitQueries;
 use bitvec_slice::{BitSlice, BitSliceMut};
 use bitvec_store::BitStore;
 
 /// Makes the bits `from` up to `to` all `bit`, if the elements have them.
-pub fn fill_range<T: BitStore, O: BitOrder>(
+pub fn fill_range<T: BitStore, O: SliceOrder>(
     elements: &mut [T],
     from: usize,
     to: usize,
@@ -46,7 +48,7 @@ fn fill_under_hilo_takes_the_high_half_first(rt: HostRuntime) {
 }
 
 /// Flips the bits 16 to 79, and of these flips 24 to 39 again.
-fn invert_twice<T: BitStore, O: BitOrder>(elements: &mut [T])
+fn invert_twice<T: BitStore, O: SliceOrder>(elements: &mut [T])
     requires { T.BITS * length elements.old ≤ max_bits }
 {
     let mut view = BitSliceMut::<T, O>::from_slice_mut(elements);

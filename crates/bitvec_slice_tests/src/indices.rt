@@ -1,10 +1,11 @@
 //! Indices and ranges of indices of a view.
 ghost use Rattle.std.specs.Prelude.{◌*◌, ◌≤◌, length};
 ghost use Rattle.bitvec_base.specs.Window.{max_bits};
-ghost use Rattle.bitvec_slice.specs.Views.{window_in_mut};
+ghost use Rattle.bitvec_slice.specs.Views.{seen_mut};
 
 use crate::callers::fill_before;
 use bitvec_base::{BitOrder, Lsb0, Window};
+use bitvec_edit::BitEdits;
 use bitvec_engine::SliceOrder;
 use bitvec_query::BitQueries;
 use bitvec_slice::{BitSlice, BitSliceIndex, BitSliceMut, Viewed, ViewedMut};
@@ -77,7 +78,7 @@ fn each_kind_of_range_by_index(rt: HostRuntime) {
 }
 
 /// Makes the bits of each kind of range 1, of those that the elements have.
-fn fill<T: BitStore, O: BitOrder>(elements: &mut [T], kind: usize)
+fn fill<T: BitStore, O: SliceOrder>(elements: &mut [T], kind: usize)
     requires { T.BITS * length elements.old ≤ max_bits }
 {
     let mut view = BitSliceMut::<T, O>::from_slice_mut(elements);
@@ -113,7 +114,7 @@ fn each_kind_of_range_by_get_mut(rt: HostRuntime) {
 }
 
 /// Makes the bits of a range 1 through the view, by value.
-fn fill_index<'a, T: BitStore, O: BitOrder>(
+fn fill_index<'a, T: BitStore, O: SliceOrder>(
     elements: &'a mut [T],
     index: impl BitSliceIndex<BitSlice<'a, T, O>, Mut = BitSliceMut<'a, T, O>>,
 )
@@ -132,7 +133,7 @@ fn a_range_by_value(rt: HostRuntime) {
 }
 
 /// Makes some of the first eight bits 1, by the calls that ask for them.
-fn fill_some<T: BitStore, O: BitOrder>(elements: &mut [T], kind: usize)
+fn fill_some<T: BitStore, O: SliceOrder>(elements: &mut [T], kind: usize)
     requires fits { T.BITS * length elements.old ≤ max_bits }
     requires long { 8 ≤ T.BITS * length elements.old }
 {
@@ -150,7 +151,7 @@ fn fill_some<T: BitStore, O: BitOrder>(elements: &mut [T], kind: usize)
 
 /// The first bits of a writable view, read in two ways.
 fn first_three<T: BitStore, O: BitOrder>(view: &BitSliceMut<'_, T, O>) -> (bool, bool, bool)
-    requires { 3 ≤ (window_in_mut view.now).len }
+    requires { 3 ≤ (seen_mut view.now).window.len }
 {
     let third = view.get_unchecked(2);
     (view[0], view[1], *third)
@@ -184,7 +185,7 @@ fn brackets_of_a_writable_view(rt: HostRuntime) {
 }
 
 /// Fills the first ten bits, if there are as many, and gives how many there are in all.
-fn fill_ten<T: BitStore, O: BitOrder>(elements: &mut [T]) -> usize
+fn fill_ten<T: BitStore, O: SliceOrder>(elements: &mut [T]) -> usize
     requires { T.BITS * length elements.old ≤ max_bits }
 {
     let mut view = BitSliceMut::<T, O>::from_slice_mut(elements);

@@ -13,11 +13,14 @@ mod edits;
 #[cfg(test)]
 mod ends;
 #[cfg(test)]
+mod equality;
+#[cfg(test)]
 mod indices;
 #[cfg(test)]
 mod own_order;
 #[cfg(test)]
 mod references;
+pub mod split_apart;
 #[cfg(test)]
 mod split_at;
 #[cfg(test)]

@@ -1,10 +1,17 @@
 //! Views in a bit order of the tests' own.
+#![tactic(auto, using(bitvec_walk::specs::CostLaws::enough))]
+
+ghost use Rattle.std.specs.Prelude.{Bool, false};
 ghost use Rattle.bitvec_slice_tests.specs.Rotated.{rotated};
 ghost use Rattle.bitvec_slice_tests.specs.RotatedLaws.{rotated_permutes};
 
 use crate::edits::fill_range;
 use crate::widths::edit_twice;
-use bitvec_base::BitOrder;
+use bitvec_base::{BitOrder, Window};
+use bitvec_cells::{Cells, CellsRead};
+use bitvec_engine::{
+    BitOp, SliceOrder, bits_copy, bits_copy_within, bits_eq, bits_op, bits_reverse, bits_swap,
+};
 use bitvec_store::BitStore;
 
 /// The order in which index `i` is bit `(i + 3) % BITS`.
@@ -22,6 +29,63 @@ impl BitOrder for Rotated {
     fn select<R: BitStore>(index: usize) -> R {
         let place = (index + 3) % R::BITS as usize;
         R::from_u128(1).shl(place as u32)
+    }
+}
+
+impl SliceOrder for Rotated {
+    ghost WORDS = { false };
+
+    const WORDS: bool = false;
+
+    fn block_eq<C: CellsRead, D: CellsRead<Elem = C::Elem>>(
+        left: &mut C,
+        left_window: Window,
+        right: &mut D,
+        right_window: Window,
+    ) -> bool {
+        bits_eq::<Self, Self, C, D>(left, left_window, right, right_window)
+    }
+
+    fn block_copy<C: Cells, D: CellsRead<Elem = C::Elem>>(
+        left: &mut C,
+        to: Window,
+        right: &mut D,
+        from: Window,
+    ) {
+        bits_copy::<Self, Self, C, D>(left, to, right, from);
+    }
+
+    fn block_swap<C: Cells, D: Cells + CellsRead<Elem = C::Elem>>(
+        left: &mut C,
+        left_window: Window,
+        right: &mut D,
+        right_window: Window,
+    ) {
+        bits_swap::<Self, Self, C, D>(left, left_window, right, right_window);
+    }
+
+    fn block_copy_within<C: Cells>(
+        cells: &mut C,
+        window: Window,
+        from: usize,
+        to: usize,
+        dest: usize,
+    ) {
+        bits_copy_within::<Self, C>(cells, window, from, to, dest);
+    }
+
+    fn block_op<C: Cells, D: CellsRead<Elem = C::Elem>>(
+        left: &mut C,
+        to: Window,
+        right: &mut D,
+        from: Window,
+        op: BitOp,
+    ) {
+        bits_op::<Self, Self, C, D>(left, to, right, from, op);
+    }
+
+    fn block_reverse<C: Cells>(cells: &mut C, window: Window) {
+        bits_reverse::<Self, C>(cells, window);
     }
 }
 

@@ -3,13 +3,15 @@ ghost use Rattle.std.specs.Prelude.{◌≡◌, ◌*◌, ◌≤◌, length, map, 
 ghost use Rattle.bitvec_base.specs.Memory.{memory_bits};
 ghost use Rattle.bitvec_base.specs.Window.{max_bits, write_at};
 
-use bitvec_base::{BitOrder, HiLo, Lsb0, Msb0};
+use bitvec_base::{HiLo, Lsb0, Msb0};
+use bitvec_edit::BitEdits;
+use bitvec_engine::SliceOrder;
 use bitvec_slice::BitSliceMut;
 use bitvec_store::BitStore;
 
 /// Fills three elements' bits from 5 on but the last 3; in what it lends of that, sets the first
 /// bit and inverts the second element; and clears bit 6 of all. Of other lengths it touches none.
-pub fn edit_twice<T: BitStore, O: BitOrder>(elements: &mut [T])
+pub fn edit_twice<T: BitStore, O: SliceOrder>(elements: &mut [T])
     requires { T.BITS * length elements.old ≤ max_bits }
 {
     let bits = T::BITS as usize;
@@ -30,7 +32,7 @@ pub fn edit_twice<T: BitStore, O: BitOrder>(elements: &mut [T])
 }
 
 /// Fills all bits of the elements, and gives them back.
-fn filled<T: BitStore, O: BitOrder>(elements: &mut [T], bit: bool) -> &mut [T]
+fn filled<T: BitStore, O: SliceOrder>(elements: &mut [T], bit: bool) -> &mut [T]
     requires { T.BITS * length elements.old ≤ max_bits }
     ensures bits { memory_bits T.BITS O.at (map T.value result.now)
         ≡ write_at (memory_bits T.BITS O.at (map T.value elements.old)) 0 (replicate (T.BITS * length elements.old) bit) }
@@ -42,7 +44,7 @@ fn filled<T: BitStore, O: BitOrder>(elements: &mut [T], bit: bool) -> &mut [T]
 }
 
 /// Fills all bits of the elements.
-fn fill_all<T: BitStore, O: BitOrder>(elements: &mut [T], bit: bool)
+fn fill_all<T: BitStore, O: SliceOrder>(elements: &mut [T], bit: bool)
     requires { T.BITS * length elements.old ≤ max_bits }
     ensures { memory_bits T.BITS O.at (map T.value elements.new)
         ≡ write_at (memory_bits T.BITS O.at (map T.value elements.old)) 0 (replicate (T.BITS * length elements.old) bit) }

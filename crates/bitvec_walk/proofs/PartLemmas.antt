@@ -16,8 +16,9 @@ use Rattle.bitvec_store.specs.WidthLaws.{width_some}
 use Rattle.bitvec_base.specs.MaskLaws.{mask_of-none, mask_of-more}
 use Rattle.bitvec_base.specs.WriteLaws.{length-slice_range, write_at-all}
 use Rattle.bitvec_base.specs.MemoryLaws.{bit_of_complement, element_fits, length-element_bits, length-memory_bits}
-use Rattle.bitvec_base.specs.PartLaws.{element-all, element-none, mask_of-whole, part-clear, part-flip, part-set, part-write}
+use Rattle.bitvec_base.specs.PartLaws.{mask_of-whole, part-clear, part-flip, part-set, part-write}
 use Rattle.bitvec_walk.specs.Element.{put_mask}
+use Rattle.bitvec_walk.specs.ElementLaws.{element-filled}
 
 pub part-put : (b : ℕ) (at : ℕ → ℕ → ℕ) → IsWidth b → Permutes b (at b) → (xs : List ℕ) (e from to : ℕ) (bit : Bool) → e < length xs → from ≤ to → to ≤ b → memory_bits b at (slice_set xs e (put_mask b (slice_index xs e) (mask_of (at b) from to) bit)) ≡ write_at (memory_bits b at xs) (e * b + from) (replicate (to - from) bit)
 part-put b at w p xs e from to true h le fits = part-set b at p xs e from to (width_some b w) h le fits
@@ -53,10 +54,6 @@ whole-set b at w p xs e v bit h filled =
     (filled ∙ sym (write_at-all (element_bits b at (slice_index xs e)) (replicate b bit) (omega arith)))
     ∙ ap (λ (s : ℕ). write_at (memory_bits b at xs) s (replicate b bit)) zero_on
 
-all_or_none : (b : ℕ) (at : ℕ → ℕ → ℕ) → Permutes b (at b) → (bit : Bool) → element_bits b at (if bit then 2 ^ b - 1 else 0) ≡ replicate b bit
-all_or_none b at p true = element-all b at p
-all_or_none b at p false = element-none b at
-
 -- ---- a part is a window of the memory
 
 pub part-list : (b : ℕ) (at : ℕ → ℕ → ℕ) (xs : List ℕ) (part : Part) → part.from ≤ part.to → list_in b at xs (part_window b part) ≡ slice_range (memory_bits b at xs) (part.element * b + part.from) (part.element * b + part.to)
@@ -79,7 +76,7 @@ part-whole b at w p xs part bit has all =
     let some = width_some b w in
     let start : part.element * b + part.from ≡ part.element * b = omega arith in
     record {
-      bits = rw (all, start) (whole-set b at w p xs part.element (if bit then 2 ^ b - 1 else 0) bit has.element (all_or_none b at p bit));
+      bits = rw (all, start) (whole-set b at w p xs part.element (if bit then 2 ^ b - 1 else 0) bit has.element (element-filled b at p bit));
       long = length-replicate (part.to - part.from) bit;
       elements = length-set xs part.element _;
     }

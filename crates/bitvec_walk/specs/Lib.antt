@@ -1,5 +1,6 @@
 pub mod Cost
 pub mod CostLaws
 pub mod Element
+pub mod ElementLaws
 pub mod Walk
 pub mod WalkLaws

@@ -1,4 +1,4 @@
--- A walk over a window from its front, or from its back, a part of one element at a time.
+-- A walk over a window from its front, a part of one element at a time.
 use Rattle.std.specs.Prelude.{◌≡◌, ℕ, ◌+◌, ◌-◌, ◌%◌, ◌<◌, ◌≤◌, ◌==◌, if◌then◌else◌}
 use Rattle.bitvec_base.specs.declared.window.Window.{Window}
 
@@ -15,12 +15,3 @@ passed window rest = record { start = window.start; len = rest.start - window.st
 -- the loads of a fill so far: none at the start, the first element while something is left, the last one too at the end
 abbrev pub edge_loads : Window → Window → ℕ
 edge_loads window rest = if rest.start == window.start then 0 else (if rest.len == 0 then 2 else 1)
-
--- from the back: the rest is a beginning of the window; where something was passed and something is left, it ends where an element does
-pub record WalkedBack (b : ℕ) (window rest : Window) : Type 0 where
-  pub start : rest.start ≡ window.start
-  pub len : rest.len ≤ window.len
-  pub aligned : rest.len < window.len → 0 < rest.len → (rest.start + rest.len) % b ≡ 0
-
-abbrev pub passed_back : Window → Window → Window
-passed_back window rest = record { start = rest.start + rest.len; len = window.len - rest.len }

@@ -1,4 +1,4 @@
--- Which elements a walk over a window takes, from its front or from its back, a part of one element at a time.
+-- Which elements a walk over a window takes, from its front, a part of one element at a time.
 use Rattle.std.specs.Prelude.{◌≡◌, ℕ, ◌+◌, ◌-◌, ◌*◌, ◌/◌, ◌%◌, ◌<◌, ◌≤◌, min, ◌==◌, if◌then◌else◌, Bool, true, false, List, [], ◌++◌, length, Option, Some, None, refl, zero, suc}
 use Rattle.std.proofs.Common.{arith, ◌∙◌, ap, ⊎_elim, eqb}
 use Rattle.std.proofs.lemmas.Bool.{cases_lt, cond-true, cond-false, eq-eqb, ne_eqb}
@@ -6,13 +6,13 @@ use Rattle.std.proofs.lemmas.Nat.{div-mul-add, div-add-mod', mod_below, mod-mul-
 use Rattle.bitvec_base.specs.declared.window.Window.{Window}
 use Rattle.bitvec_base.specs.Lists.{first_place, last_place}
 use Rattle.bitvec_base.specs.Memory.{HasWindow, Writes, list_in, memory_bits}
-use Rattle.bitvec_base.specs.Parts.{first_part_of, last_part_of, part_window}
+use Rattle.bitvec_base.specs.Parts.{first_part_of, part_window}
 use Rattle.bitvec_base.specs.PlacesLaws.{first_place-below, last_place-below}
 use Rattle.bitvec_base.specs.SliceLaws.{range-none}
-use Rattle.bitvec_base.specs.Window.{window_after, window_of, window_until}
-use Rattle.bitvec_base.specs.WritesLaws.{length-list, Writes-empty, Writes-join, list-behind, list-join}
+use Rattle.bitvec_base.specs.Window.{window_after, window_of}
+use Rattle.bitvec_base.specs.WritesLaws.{length-list, Writes-empty, Writes-join, list-join}
 use Rattle.bitvec_walk.specs.Cost.{touched, part_loads, first_loads, last_loads}
-use Rattle.bitvec_walk.specs.Walk.{Walked, passed, WalkedBack, passed_back, edge_loads}
+use Rattle.bitvec_walk.specs.Walk.{Walked, edge_loads, passed}
 
 pub touched-none : (b s : ℕ) → touched b s 0 ≡ 0
 unfolding touched
@@ -174,13 +174,6 @@ list-next b at xs window rest t some more step has walk =
     (record { fits = has.fits; within = record { start = low; len = omega arith } })
     refl (omega arith) (omega arith)
 
--- the bits passed, with those that are left
-pub list-left : (b : ℕ) (at : ℕ → ℕ → ℕ) (xs : List ℕ) (window rest : Window) → HasWindow b xs window → Walked b window rest → list_in b at xs (passed window rest) ++ list_in b at xs rest ≡ list_in b at xs window
-list-left b at xs window rest has walk =
-    let start = walk.start in
-    let end = walk.end in
-    list-join b at xs (passed window rest) rest window has refl (omega arith) (omega arith)
-
 -- how many bits the next part has, and how many are passed
 pub length-first : (b : ℕ) (at : ℕ → ℕ → ℕ) (xs : List ℕ) (window rest : Window) → 0 < b → 0 < rest.len → HasWindow b xs window → Walked b window rest → length (list_in b at xs (part_window b (first_part_of b rest))) ≡ (first_part_of b rest).to - (first_part_of b rest).from
 length-first b at xs window rest some more has walk =
@@ -198,21 +191,6 @@ length-passed b at xs window rest has walk =
     let end = walk.end in
     let high = has.within.len in
     length-list b at xs (passed window rest) (record { fits = has.fits; within = record { start = has.within.start; len = omega arith } })
-
--- the bits of the next part, where only bits before them were written
-pub first-kept : (b : ℕ) (at : ℕ → ℕ → ℕ) (old mid : List ℕ) (window rest : Window) (list : List Bool) → 0 < b → 0 < rest.len → HasWindow b old window → Walked b window rest → Writes b at old mid (passed window rest) list
-    → list_in b at mid (part_window b (first_part_of b rest)) ≡ list_in b at old (part_window b (first_part_of b rest))
-first-kept b at old mid window rest list some more has walk writes =
-    let start = walk.start in
-    let end = walk.end in
-    let low = has.within.start in
-    let high = has.within.len in
-    let place = first-place b rest in
-    let len = first-len b rest some more in
-    list-behind b at old mid (passed window rest) (part_window b (first_part_of b rest)) list
-    (record { fits = has.fits; within = record { start = low; len = omega arith } })
-    (record { fits = has.fits; within = record { start = omega arith; len = omega arith } })
-    (omega arith) writes
 
 at_most_one : (whole : Bool) → (if whole then 0 else 1) ≤ 1
 at_most_one true = omega arith
@@ -256,116 +234,3 @@ edge_loads-next b window rest t some more step walk =
     (λ (none : rest.len - t ≤ 0). let moved = edge_loads-last window next (omega arith) none in omega arith)
     (cases_lt 0 (rest.len - t)))
     (cases_lt window.start rest.start)
-
--- ---- a walk from the back
-
-pub last-len : (b : ℕ) (rest : Window) → 0 < b → 0 < rest.len → let part = last_part_of b rest in (part.from < part.to) × (part.to ≤ b) × (part.to - part.from ≤ rest.len) × (part.to - part.from ≡ min rest.len ((rest.start + (rest.len - 1)) % b + 1))
-last-len b rest some more =
-    let head = mod_below (rest.start + (rest.len - 1)) b some in
-    (omega arith, omega arith, omega arith, omega arith)
-
-pub last-place : (b : ℕ) (rest : Window) (t : ℕ) → 0 < b → 0 < rest.len → t ≡ (last_part_of b rest).to - (last_part_of b rest).from → (part_window b (last_part_of b rest)).start ≡ rest.start + (rest.len - t)
-last-place b rest t some more step =
-    let place = div-add-mod' (rest.start + (rest.len - 1)) b in
-    omega arith
-
-pub length-last : (b : ℕ) (at : ℕ → ℕ → ℕ) (xs : List ℕ) (window rest : Window) → 0 < b → 0 < rest.len → HasWindow b xs window → WalkedBack b window rest → length (list_in b at xs (part_window b (last_part_of b rest))) ≡ (last_part_of b rest).to - (last_part_of b rest).from
-length-last b at xs window rest some more has walk =
-    let same = walk.start in
-    let within = walk.len in
-    let low = has.within.start in
-    let high = has.within.len in
-    let place = last-place b rest ((last_part_of b rest).to - (last_part_of b rest).from) some more refl in
-    let len = last-len b rest some more in
-    length-list b at xs (part_window b (last_part_of b rest)) (record { fits = has.fits; within = record { start = omega arith; len = omega arith } })
-
-pub length-left_back : (b : ℕ) (at : ℕ → ℕ → ℕ) (xs : List ℕ) (window rest : Window) → HasWindow b xs window → WalkedBack b window rest → length (list_in b at xs rest) ≡ rest.len
-length-left_back b at xs window rest has walk =
-    let same = walk.start in
-    let within = walk.len in
-    let low = has.within.start in
-    let high = has.within.len in
-    length-list b at xs rest (record { fits = has.fits; within = record { start = omega arith; len = omega arith } })
-
-pub WalkedBack-start : (b : ℕ) (window : Window) → WalkedBack b window window
-WalkedBack-start b window = record { start = refl; len = omega arith; aligned = λ later more. absurd (omega arith) }
-
-pub passed_back-none : (b : ℕ) (at : ℕ → ℕ → ℕ) (xs : List ℕ) (window : Window) → list_in b at xs (passed_back window window) ≡ []
-unfolding window_of
-passed_back-none b at xs window = range-none (memory_bits b at xs) (window.start + window.len) (window.start + window.len + (window.len - window.len)) (omega arith)
-
-pub WalkedBack-next : (b : ℕ) (window rest : Window) (t : ℕ) → 0 < b → 0 < rest.len → t ≡ (last_part_of b rest).to - (last_part_of b rest).from → WalkedBack b window rest → WalkedBack b window (window_until t rest)
-WalkedBack-next b window rest t some more step walk =
-    let within = walk.len in
-    let last : ℕ = rest.start + (rest.len - 1) in
-    let place = div-add-mod' last b in
-    let head = mod_below last b some in
-    record {
-      start = walk.start;
-      len = omega arith;
-      aligned = λ later left.
-          let next : rest.start + (rest.len - t) ≡ last / b * b + 0 = omega arith in
-          rw next (mod-mul-add (last / b) b 0 some);
-    }
-
--- the last place before an edge is an element's last
-last_full : (b n : ℕ) → 0 < b → (n + 1) % b ≡ 0 → n % b + 1 ≡ b
-last_full b n some edge =
-    let place = div-add-mod' n b in
-    let head = mod_below n b some in
-    ⊎_elim
-    (λ (short : n % b + 1 < b).
-    let next : (n + 1) % b ≡ n % b + 1 = ap (λ (m : ℕ). m % b) (let e : n + 1 ≡ n / b * b + (n % b + 1) = omega arith in e) ∙ mod-mul-add (n / b) b (n % b + 1) short in
-    absurd (omega arith))
-    (λ (long : b ≤ n % b + 1). omega arith)
-    (cases_lt (n % b + 1) b)
-
--- the elements from the last part's bits on are one more than those passed
-pub touched-before : (b : ℕ) (window rest : Window) (m : ℕ) → 0 < b → m < rest.len → rest.len ≤ m + ((last_part_of b rest).to - (last_part_of b rest).from) → WalkedBack b window rest
-    → touched b (window.start + m) (window.len - m) ≡ touched b (rest.start + rest.len) (window.len - rest.len) + 1
-touched-before b window rest m some low high walk =
-    let same = walk.start in
-    let within = walk.len in
-    let last : ℕ = rest.start + (rest.len - 1) in
-    let end : ℕ = window.start + window.len in
-    let place = div-add-mod' last b in
-    let head = mod_below last b some in
-    let here : (window.start + m) / b ≡ last / b =
-    ap (λ (n : ℕ). n / b) (let e : window.start + m ≡ last / b * b + (window.start + m - last / b * b) = omega arith in e)
-    ∙ div-mul-add (last / b) b (window.start + m - last / b * b) (omega arith) in
-    let all : end - (window.start + m) ≡ window.len - m = omega arith in
-    let whole = rw all at (touched-until b (window.start + m) end (omega arith)) in
-    ⊎_elim
-    (λ (later : rest.len < window.len).
-    let full : last % b + 1 ≡ b = last_full b last some (let e : last + 1 ≡ rest.start + rest.len = omega arith in ap (λ (n : ℕ). n % b) e ∙ walk.aligned later (omega arith)) in
-    let edge : rest.start + rest.len ≡ (last / b + 1) * b + 0 = omega arith in
-    let next : (rest.start + rest.len) / b ≡ last / b + 1 = ap (λ (n : ℕ). n / b) edge ∙ div-mul-add (last / b + 1) b 0 some in
-    let gone : end - (rest.start + rest.len) ≡ window.len - rest.len = omega arith in
-    let before = rw gone at (touched-until b (rest.start + rest.len) end (omega arith)) in
-    let order = le-div (last / b + 1) (end - 1) b some (omega arith) in
-    omega arith)
-    (λ (first : window.len ≤ rest.len).
-    let gone : window.len - rest.len ≡ 0 = omega arith in
-    let none : touched b (rest.start + rest.len) (window.len - rest.len) ≡ 0 = rw gone (touched-none b (rest.start + rest.len)) in
-    let at_end : (end - 1) / b ≡ last / b = ap (λ (n : ℕ). n / b) (let e : end - 1 ≡ last = omega arith in e) in
-    omega arith)
-    (cases_lt rest.len window.len)
-
--- the bits passed, with those of the next part, and with all that are left
-pub list-before : (b : ℕ) (at : ℕ → ℕ → ℕ) (xs : List ℕ) (window rest : Window) (t : ℕ) → 0 < b → 0 < rest.len → t ≡ (last_part_of b rest).to - (last_part_of b rest).from → HasWindow b xs window → WalkedBack b window rest
-    → list_in b at xs (part_window b (last_part_of b rest)) ++ list_in b at xs (passed_back window rest) ≡ list_in b at xs (passed_back window (window_until t rest))
-list-before b at xs window rest t some more step has walk =
-    let same = walk.start in
-    let within = walk.len in
-    let low = has.within.start in
-    let high = has.within.len in
-    let place = last-place b rest t some more step in
-    let len = last-len b rest some more in
-    list-join b at xs (part_window b (last_part_of b rest)) (passed_back window rest) (passed_back window (window_until t rest))
-    (record { fits = has.fits; within = record { start = omega arith; len = omega arith } })
-    place (omega arith) (omega arith)
-
-pub list-left_back : (b : ℕ) (at : ℕ → ℕ → ℕ) (xs : List ℕ) (window rest : Window) → HasWindow b xs window → WalkedBack b window rest → list_in b at xs rest ++ list_in b at xs (passed_back window rest) ≡ list_in b at xs window
-list-left_back b at xs window rest has walk =
-    let within = walk.len in
-    list-join b at xs rest (passed_back window rest) window has walk.start refl (omega arith)

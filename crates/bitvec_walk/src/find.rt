@@ -34,8 +34,13 @@ fn lacks<O: BitOrder, T: BitStore>(element: T, part: Part, want: bool) -> bool
     }
 }
 
-/// The first place of a bit in a part of an element, counted from the start of the part.
-fn first_in_element<O: BitOrder, T: BitStore>(element: T, part: Part, want: bool) -> Option<usize>
+/// The first place of a bit in a part of an element, counted from the start of the part. Condition:
+/// `from <= to`, and `to` is at most the width.
+pub fn first_in_element<O: BitOrder, T: BitStore>(
+    element: T,
+    part: Part,
+    want: bool,
+) -> Option<usize>
     requires order { part.from ≤ part.to }
     requires bound { part.to ≤ T.BITS }
     ensures { result
@@ -52,8 +57,13 @@ fn first_in_element<O: BitOrder, T: BitStore>(element: T, part: Part, want: bool
     None
 }
 
-/// The last place of a bit in a part of an element, counted from the start of the part.
-fn last_in_element<O: BitOrder, T: BitStore>(element: T, part: Part, want: bool) -> Option<usize>
+/// The last place of a bit in a part of an element, counted from the start of the part. Condition:
+/// as of [`first_in_element`].
+pub fn last_in_element<O: BitOrder, T: BitStore>(
+    element: T,
+    part: Part,
+    want: bool,
+) -> Option<usize>
     requires order { part.from ≤ part.to }
     requires bound { part.to ≤ T.BITS }
     ensures { result

@@ -71,7 +71,7 @@ pub fn fill_part<O: BitOrder, C: Cells>(cells: &mut C, part: Part, bit: bool)
     ensures cost { Costs C.CellsRead cells.old cells.new (part_loads C.Elem.BITS part) 1 }
 {
     if part.len() == C::Elem::BITS as usize {
-        cells.store(part.element, whole(bit));
+        cells.store(part.element, filled(bit));
         return;
     }
     let mask = O::mask::<C::Elem>(part.from, part.to);
@@ -80,7 +80,7 @@ pub fn fill_part<O: BitOrder, C: Cells>(cells: &mut C, part: Part, bit: bool)
 }
 
 /// The element whose bits are all set, or all cleared.
-fn whole<T: BitStore>(bit: bool) -> T
+pub fn filled<T: BitStore>(bit: bool) -> T
     ensures { T.value result ≡ (if bit then 2 ^ T.BITS - 1 else 0) }
 {
     if bit { T::ALL } else { T::ZERO }

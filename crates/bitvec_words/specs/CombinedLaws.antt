@@ -124,7 +124,7 @@ length-elements b at xs start count step has more =
     length-list b at xs (record { start = start; len = step * b }) (record { fits = has.fits; within = record { start = low; len = omega arith } })
 
 -- an element that stands behind those that were written
-element-kept : (b : ℕ) (at : ℕ → ℕ → ℕ) (old mid : List ℕ) (first count step : ℕ) (list : List Bool) → 0 < b → HasWindow b old (elements_window b first count) → step < count → Writes b at old mid (elements_window b first step) list
+pub element-kept : (b : ℕ) (at : ℕ → ℕ → ℕ) (old mid : List ℕ) (first count step : ℕ) (list : List Bool) → 0 < b → HasWindow b old (elements_window b first count) → step < count → Writes b at old mid (elements_window b first step) list
     → element_bits b at (slice_index mid (first + step)) ≡ element_bits b at (slice_index old (first + step))
 element-kept b at old mid first count step list some has more writes =
     let low = has.within.start in

@@ -4,16 +4,13 @@ pub mod Elements
 pub mod Field
 pub mod FieldLaws
 pub mod FieldWalkLaws
-pub mod MirrorLaws
+pub mod FillingLaws
 pub mod MovedLaws
 pub mod Operator
 pub mod OrderEnd
 pub mod OrderEndLaws
-pub mod RangeLaws
 pub mod SameLaws
 pub mod ShiftedLaws
-pub mod StepLaws
-pub mod Steps
 pub mod TouchedLaws
 pub mod Turn
 pub mod WholeLaws

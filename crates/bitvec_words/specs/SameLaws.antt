@@ -67,7 +67,8 @@ or_none_right a c none =
     let zero_bit = bit_at-zero i in
     omega arith)
 
-xor_none : (v w : ℕ) → bit_xor v w ≡ 0 → v ≡ w
+-- numbers with no differing bit
+pub xor_none : (v w : ℕ) → bit_xor v w ≡ 0 → v ≡ w
 xor_none v w none =
     same_from_bits v w (λ i.
     let apart = bit_at_xor v w i in

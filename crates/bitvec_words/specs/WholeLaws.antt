@@ -1,5 +1,5 @@
 -- Whole elements of a window, from its first bit on, and what is behind them.
-use Rattle.std.specs.Prelude.{◌≡◌, ℕ, zero, suc, ◌+◌, ◌-◌, ◌*◌, ◌/◌, ◌%◌, ◌<◌, ◌≤◌, true, List, ◌++◌, length, refl}
+use Rattle.std.specs.Prelude.{◌≡◌, ℕ, zero, suc, ◌+◌, ◌-◌, ◌*◌, ◌/◌, ◌%◌, ◌<◌, ◌≤◌, true, List, [], ◌++◌, length, refl}
 use Rattle.std.proofs.Common.{arith, sym, ◌∙◌, ap, ⊎_elim}
 use Rattle.std.proofs.lemmas.Bool.{cases_lt}
 use Rattle.std.proofs.lemmas.Nat.{div-add-mod', mod_below, mod-mul-add}
@@ -83,6 +83,10 @@ touched-behind_from b s n m some inside fits =
 -- ---- windows
 
 -- no bits
+pub list-empty : (b : ℕ) (at : ℕ → ℕ → ℕ) (xs : List ℕ) (window : Window) → window.len ≡ 0 → list_in b at xs window ≡ []
+unfolding window_of
+list-empty b at xs window none = range-none (memory_bits b at xs) window.start (window.start + window.len) (omega arith)
+
 pub same-empty : (b : ℕ) (at : ℕ → ℕ → ℕ) (xs ys : List ℕ) (window other : Window) → window.len ≡ 0 → other.len ≡ 0 → true ≡ same_bits (list_in b at xs window) (list_in b at ys other)
 unfolding window_of
 same-empty b at xs ys window other empty none =

@@ -97,12 +97,7 @@ fn exchanged<T: BitStore>(element: T, lower: T, by: u32) -> T
 
 /// Whether two elements have the same bits at the indices from `from` up to, without, `to`.
 /// Condition: `from <= to`, and `to` is at most the width. Cost: one mask.
-pub(crate) fn same_between<O: BitOrder, T: BitStore>(
-    element: T,
-    other: T,
-    from: usize,
-    to: usize,
-) -> bool
+pub fn same_between<O: BitOrder, T: BitStore>(element: T, other: T, from: usize, to: usize) -> bool
     requires order { from ≤ to }
     requires bound { to ≤ T.BITS }
     ensures { result ≡ same_bits (slice_range (element_bits T.BITS O.at (T.value element)) from to)

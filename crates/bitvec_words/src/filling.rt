@@ -1,10 +1,11 @@
-//! Each bit of a window set, cleared or flipped.
-ghost use Rattle.std.specs.Prelude.{◌≡◌, ◌+◌, ◌≤◌, not, map, replicate};
+//! Each bit of a window set, cleared or flipped: the edges behind masks, whole elements as they are.
+ghost use Rattle.std.specs.Prelude.{◌≡◌, ℕ, ◌+◌, ◌-◌, ◌*◌, ◌/◌, ◌%◌, ◌^◌, ◌<◌, ◌≤◌, if◌then◌else◌, Bool, not, map, replicate};
 ghost use Rattle.bitvec_base.specs.Memory.{Edits, HasWindow, Writes};
 ghost use Rattle.bitvec_cells.specs.Access.{Costs, CostsAtMost};
 ghost use Rattle.bitvec_walk.specs.Cost.{fill_loads, touched};
+ghost use Rattle.bitvec_words.specs.Elements.{elements_window};
 
-use bitvec_base::{BitOrder, Window, first_part};
+use bitvec_base::{BitOrder, Part, Window, first_part};
 use bitvec_cells::{Cells, CellsRead};
 use bitvec_store::BitStore;
 use bitvec_walk::{fill_part, invert_part};
@@ -20,12 +21,71 @@ pub fn fill<O: BitOrder, C: Cells>(cells: &mut C, window: Window, bit: bool)
     ensures stores { C.stores cells.new ≡ C.stores cells.old + touched C.Elem.BITS window.start window.len }
     ensures loads { C.loads cells.new ≤ C.loads cells.old + touched C.Elem.BITS window.start window.len }
 {
+    if window.len == 0 {
+        return;
+    }
     let bits = C::Elem::BITS as usize;
-    let mut rest = window;
-    while rest.len > 0 {
-        let part = first_part(bits, rest);
-        fill_part::<O, C>(cells, part, bit);
-        rest = rest.after(part.len());
+    let head = first_part(bits, window);
+    fill_part::<O, C>(cells, head, bit);
+    let passed = head.len();
+    if passed == window.len {
+        return;
+    }
+    fill_aligned::<O, C>(cells, window.after(passed), bit);
+}
+
+/// Fills a window that begins where an element does. It loads at most the last of its elements.
+fn fill_aligned<O: BitOrder, C: Cells>(cells: &mut C, window: Window, bit: bool)
+    requires window { HasWindow C.Elem.BITS (C.numbers cells.old) window }
+    requires edge { window.start % C.Elem.BITS ≡ 0 }
+    ensures writes { Writes C.Elem.BITS O.at (C.numbers cells.old) (C.numbers cells.new) window
+        (replicate window.len bit) }
+    ensures cost { CostsAtMost C.CellsRead cells.old cells.new 1 (touched C.Elem.BITS window.start window.len) }
+    ensures stores { C.stores cells.new ≡ C.stores cells.old + touched C.Elem.BITS window.start window.len }
+    ensures loads { C.loads cells.new ≤ C.loads cells.old + touched C.Elem.BITS window.start window.len }
+{
+    let bits = C::Elem::BITS as usize;
+    let count = window.len / bits;
+    let first = window.start / bits;
+    fill_whole::<O, C>(cells, first, count, bit);
+    let rest = window.len % bits;
+    if rest == 0 {
+        return;
+    }
+    let tail = Part {
+        element: first + count,
+        from: 0,
+        to: rest,
+    };
+    fill_part::<O, C>(cells, tail, bit);
+}
+
+/// Fills `count` whole elements, each with one store.
+fn fill_whole<O: BitOrder, C: Cells>(cells: &mut C, first: usize, count: usize, bit: bool)
+    requires { HasWindow C.Elem.BITS (C.numbers cells.old) (elements_window C.Elem.BITS first count) }
+    ensures writes { Writes C.Elem.BITS O.at (C.numbers cells.old) (C.numbers cells.new) (elements_window C.Elem.BITS first count)
+        (replicate (count * C.Elem.BITS) bit) }
+    ensures cost { Costs C.CellsRead cells.old cells.new 0 count }
+{
+    // a constant element in each loop, since a compiler makes the fastest fill of one
+    if bit {
+        store_whole::<O, C>(cells, first, count, C::Elem::ALL);
+    } else {
+        store_whole::<O, C>(cells, first, count, C::Elem::ZERO);
+    }
+}
+
+/// Stores an element into `count` elements, each with one store. If all its bits are the same, so
+/// are theirs.
+fn store_whole<O: BitOrder, C: Cells>(cells: &mut C, first: usize, count: usize, element: C::Elem)
+    requires { HasWindow C.Elem.BITS (C.numbers cells.old) (elements_window C.Elem.BITS first count) }
+    ensures writes { (bit : Bool) → C.Elem.value element ≡ (if bit then 2 ^ C.Elem.BITS - 1 else 0) →
+        Writes C.Elem.BITS O.at (C.numbers cells.old) (C.numbers cells.new) (elements_window C.Elem.BITS first count)
+        (replicate (count * C.Elem.BITS) bit) }
+    ensures cost { Costs C.CellsRead cells.old cells.new 0 count }
+{
+    for step in 0..count {
+        cells.store(first + step, element);
     }
 }
 
@@ -37,11 +97,51 @@ pub fn invert<O: BitOrder, C: Cells>(cells: &mut C, window: Window)
     ensures cost { let each = touched C.Elem.BITS window.start window.len in
         Costs C.CellsRead cells.old cells.new each each }
 {
+    if window.len == 0 {
+        return;
+    }
     let bits = C::Elem::BITS as usize;
-    let mut rest = window;
-    while rest.len > 0 {
-        let part = first_part(bits, rest);
-        invert_part::<O, C>(cells, part);
-        rest = rest.after(part.len());
+    let head = first_part(bits, window);
+    invert_part::<O, C>(cells, head);
+    let passed = head.len();
+    if passed == window.len {
+        return;
+    }
+    invert_aligned::<O, C>(cells, window.after(passed));
+}
+
+/// Flips the bits of a window that begins where an element does.
+fn invert_aligned<O: BitOrder, C: Cells>(cells: &mut C, window: Window)
+    requires window { HasWindow C.Elem.BITS (C.numbers cells.old) window }
+    requires edge { window.start % C.Elem.BITS ≡ 0 }
+    ensures writes { Edits C.Elem.BITS O.at (C.numbers cells.old) (C.numbers cells.new) window (map not) }
+    ensures cost { let each = touched C.Elem.BITS window.start window.len in
+        Costs C.CellsRead cells.old cells.new each each }
+{
+    let bits = C::Elem::BITS as usize;
+    let count = window.len / bits;
+    let first = window.start / bits;
+    invert_whole::<O, C>(cells, first, count);
+    let rest = window.len % bits;
+    if rest == 0 {
+        return;
+    }
+    let tail = Part {
+        element: first + count,
+        from: 0,
+        to: rest,
+    };
+    invert_part::<O, C>(cells, tail);
+}
+
+/// Flips the bits of `count` whole elements, each with one load and one store.
+fn invert_whole<O: BitOrder, C: Cells>(cells: &mut C, first: usize, count: usize)
+    requires { HasWindow C.Elem.BITS (C.numbers cells.old) (elements_window C.Elem.BITS first count) }
+    ensures writes { Edits C.Elem.BITS O.at (C.numbers cells.old) (C.numbers cells.new) (elements_window C.Elem.BITS first count) (map not) }
+    ensures cost { Costs C.CellsRead cells.old cells.new count count }
+{
+    for step in 0..count {
+        let element = cells.load(first + step);
+        cells.store(first + step, element.not());
     }
 }

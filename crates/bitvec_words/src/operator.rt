@@ -31,7 +31,7 @@ impl BitOp {
     }
 
     /// What the operator makes of the bits of two elements, index by index.
-    pub(crate) fn of_elements<O: BitOrder, T: BitStore>(self, element: T, other: T) -> T
+    pub fn of_elements<O: BitOrder, T: BitStore>(self, element: T, other: T) -> T
         ensures { element_bits T.BITS O.at (T.value result)
             ≡ combined (operator self) (element_bits T.BITS O.at (T.value element)) (element_bits T.BITS O.at (T.value other)) }
     {

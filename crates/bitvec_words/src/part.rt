@@ -13,7 +13,7 @@ use bitvec_store::BitStore;
 
 /// Gives a part the bits that an element has at the same indices. Condition: the part is one of an
 /// element of the memory. It takes one store, and one load unless the part is a whole element.
-pub(crate) fn store_part<O: BitOrder, C: Cells>(cells: &mut C, part: Part, element: C::Elem)
+pub fn store_part<O: BitOrder, C: Cells>(cells: &mut C, part: Part, element: C::Elem)
     requires { HasPart C.Elem.BITS (C.numbers cells.old) part }
     ensures writes { Writes C.Elem.BITS O.at (C.numbers cells.old) (C.numbers cells.new) (part_window C.Elem.BITS part)
         (slice_range (element_bits C.Elem.BITS O.at (C.Elem.value element)) part.from part.to) }
@@ -33,7 +33,7 @@ pub(crate) fn store_part<O: BitOrder, C: Cells>(cells: &mut C, part: Part, eleme
 /// An element that begins with the bits of a window of at most an element's width, and the last
 /// element that the window touches. Condition: the memory has at most `MAX_BITS` bits, the window
 /// lies in it and isn't empty. It loads each element that the window touches once.
-pub(crate) fn field<O: WordOrder, C: CellsRead>(cells: &mut C, window: Window) -> (C::Elem, C::Elem)
+pub fn field<O: WordOrder, C: CellsRead>(cells: &mut C, window: Window) -> (C::Elem, C::Elem)
     requires window { HasWindow C.Elem.BITS (C.numbers cells.old) window }
     requires some { 0 < window.len }
     requires bound { window.len ≤ C.Elem.BITS }
@@ -49,7 +49,7 @@ pub(crate) fn field<O: WordOrder, C: CellsRead>(cells: &mut C, window: Window) -
 
 /// The same, where the first element that the window touches was loaded before, and isn't loaded
 /// again.
-pub(crate) fn field_after<O: WordOrder, C: CellsRead>(
+pub fn field_after<O: WordOrder, C: CellsRead>(
     cells: &mut C,
     window: Window,
     first: C::Elem,

@@ -5,7 +5,7 @@ use Rattle.bitvec_edit_tests.proofs.kept.filled.Goals as goal
 
 pub returns : goal.returns
 returns g c =
-    let view = c.from_slice_mut-view.ensures in
+    let view = c.from_slice_mut-view.ensures.whole in
     let start = view.start in
     let len = view.len in
     let order = c.requires.range.0 in

@@ -2,7 +2,7 @@ use Rattle.std.proofs.Common.{sym, subst, ap, ◌∙◌}
 use Rattle.std.specs.Prelude.{length}
 use Rattle.bitvec_elements.specs.Asked.{FillsWith}
 use Rattle.bitvec_elements.specs.AskedLaws.{callable_below-always}
-use Rattle.bitvec_edit_tests.proofs.Whole.{whole-written}
+use Rattle.bitvec_slice.specs.WriteLaws.{whole-written}
 use Rattle.bitvec_edit_tests.proofs.laws.filled_by.Goals as goal
 
 pub fill_with-requires : goal.fill_with-requires
@@ -10,9 +10,9 @@ fill_with-requires g c = callable_below-always _ _ _ c.requires.callable
 
 pub returns : goal.returns
 returns g c =
-    let view = c.from_slice_mut-view.ensures in
+    let view = c.from_slice_mut-view.ensures.whole in
     let wrote = c.fill_with.ensures in
-    let memory = c.into_slice.ensures.memory ∙ whole-written _ _ _ _ wrote.bits view.elements view.start (wrote.len ∙ view.len) in
+    let memory = c.into_slice.ensures.memory ∙ whole-written _ _ _ _ wrote.bits view (wrote.len ∙ view.len) in
     record {
       answers = subst (FillsWith g.F.FnMut c.args.f) (sym memory) wrote.answers;
       length = ap length c.into_slice.ensures.elements ∙ wrote.bits.length ∙ ap length view.elements;

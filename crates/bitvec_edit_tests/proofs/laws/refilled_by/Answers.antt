@@ -2,7 +2,7 @@ use Rattle.std.proofs.Common.{sym, subst, ap, ◌∙◌}
 use Rattle.std.specs.Prelude.{length}
 use Rattle.bitvec_elements.specs.Asked.{RefillsWith}
 use Rattle.bitvec_elements.specs.AskedLaws.{callable_on_bits-always}
-use Rattle.bitvec_edit_tests.proofs.Whole.{whole-written}
+use Rattle.bitvec_slice.specs.WriteLaws.{whole-written}
 use Rattle.bitvec_edit_tests.proofs.laws.refilled_by.Goals as goal
 
 pub for_each-requires : goal.for_each-requires
@@ -10,9 +10,9 @@ for_each-requires g c = callable_on_bits-always _ _ _ c.requires.callable
 
 pub returns : goal.returns
 returns g c =
-    let view = c.from_slice_mut-view.ensures in
+    let view = c.from_slice_mut-view.ensures.whole in
     let wrote = c.for_each.ensures in
-    let memory = c.into_slice.ensures.memory ∙ whole-written _ _ _ _ wrote.bits view.elements view.start (wrote.len ∙ view.len) in
+    let memory = c.into_slice.ensures.memory ∙ whole-written _ _ _ _ wrote.bits view (wrote.len ∙ view.len) in
     let old = rw view.bits at wrote.answers in
     record {
       answers = subst (RefillsWith g.F.FnMut c.args.f _) (sym memory) old;

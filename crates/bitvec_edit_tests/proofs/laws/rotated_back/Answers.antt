@@ -1,11 +1,11 @@
 use Rattle.std.specs.Prelude.{◌≤◌}
 use Rattle.std.proofs.Common.{sym, subst, ◌∙◌}
 use Rattle.bitvec_edit.specs.UndoLaws.{rotated-back}
-use Rattle.bitvec_slice.specs.ViewLaws.{length-bits_of_mut}
+use Rattle.bitvec_slice.specs.SeenLaws.{length_bits}
 use Rattle.bitvec_edit_tests.proofs.laws.rotated_back.Goals as goal
 
 pub returns : goal.returns
 returns g c =
     let view = c.from_slice_mut-view.result in
-    let inside = subst (λ n. c.args.by ≤ n) (sym (length-bits_of_mut view ∙ c.from_slice_mut-view.ensures.len)) c.requires.by in
-    c.into_slice.ensures.memory ∙ rotated-back view _ _ c.args.by inside c.rotate_left.ensures c.rotate_right.ensures ∙ c.from_slice_mut-view.ensures.memory
+    let inside = subst (λ n. c.args.by ≤ n) (sym (length_bits g.T.BitStore.BITS g.O.BitOrder.at g.T.BitStore.value view.elements.now view.head view.len view.inside ∙ c.from_slice_mut-view.ensures.whole.len)) c.requires.by in
+    c.into_slice.ensures.memory ∙ rotated-back view _ _ c.args.by inside c.rotate_left.ensures c.rotate_right.ensures ∙ c.from_slice_mut-view.ensures.whole.memory

@@ -1,62 +1,61 @@
-use Rattle.std.proofs.Common.{◌≡◌, ℕ, ◌+◌, ◌-◌, ◌<◌, ◌≤◌, arith, rules, ap, refl, sym, ◌∙◌, Bool, List, cond, count_by}
-use Rattle.std.proofs.lemmas.List.Sums.{count_by-le-length, sum_by-append}
+use Rattle.std.proofs.Common.{◌≡◌, ◌<◌, ℕ, ◌-◌, arith, rules, refl, sym, ◌∙◌, ap, Bool, List, count_by}
 use Rattle.bitvec_base.specs.declared.part.Part.{Part}
-use Rattle.bitvec_base.specs.declared.window.Window.{Window}
-use Rattle.bitvec_base.specs.Memory.{HasWindow, list_in}
+use Rattle.bitvec_base.specs.Parts.{first_part_of}
 use Rattle.bitvec_store.specs.WidthLaws.{width_some}
-use Rattle.bitvec_base.specs.Parts.{first_part_of, part_window}
-use Rattle.bitvec_base.specs.Window.{window_after}
-use Rattle.bitvec_walk.specs.Walk.{Walked, passed}
-use Rattle.bitvec_walk.specs.WalkLaws.{Walked-start, Walked-next, first-len, length-passed, list-next, passed-none, touched-next, touched-none}
+use Rattle.bitvec_walk.specs.Cost.{touched}
+use Rattle.bitvec_walk.specs.WalkLaws.{touched-none}
+use Rattle.bitvec_words.specs.FieldLaws.{first_part-long}
+use Rattle.bitvec_words.specs.TouchedLaws.{touched-head, touched-rest}
+use Rattle.bitvec_words.specs.WholeLaws.{list-empty}
+use Rattle.bitvec_engine.proofs.CountLemmas.{count-head, count-within}
 use Rattle.bitvec_engine.proofs.counting.count.Goals as goal
 
--- the ones of one part more, which are no more than the window's bits
-count-next : (b : ℕ) (at : ℕ → ℕ → ℕ) (xs : List ℕ) (window rest : Window) (t m n : ℕ) → 0 < b → 0 < rest.len → t ≡ (first_part_of b rest).to - (first_part_of b rest).from → HasWindow b xs window → Walked b window rest
-    → m ≡ count_by (λ (bit : Bool). bit) (list_in b at xs (passed window rest)) → n ≡ count_by (λ (bit : Bool). bit) (list_in b at xs (part_window b (first_part_of b rest))) → m + n ≡ count_by (λ (bit : Bool). bit) (list_in b at xs (passed window (window_after t rest)))
-count-next b at xs window rest t m n some more step has walk first second =
-    rw (first, second, ← list-next b at xs window rest t some more step has walk)
-    (sym (sum_by-append (λ (bit : Bool). cond bit 1 0) (list_in b at xs (passed window rest)) (list_in b at xs (part_window b (first_part_of b rest)))))
-
-count-most : (b : ℕ) (at : ℕ → ℕ → ℕ) (xs : List ℕ) (window rest : Window) (m : ℕ) → HasWindow b xs window → Walked b window rest → m ≡ count_by (λ (bit : Bool). bit) (list_in b at xs (passed window rest)) → m ≤ window.len
-count-most b at xs window rest m has walk ones =
-    let end = walk.end in
-    let most = count_by-le-length (λ (bit : Bool). bit) (list_in b at xs (passed window rest)) in
-    let long = length-passed b at xs window rest has walk in
-    omega arith
-
-pub loop-rest-init : goal.loop-rest-init
-loop-rest-init g c =
-    let none : c.args.window.start - c.args.window.start ≡ 0 = omega arith in
-    let empty = touched-none g.C.Elem.BitStore.BITS c.args.window.start in
+pub returns-then-window-eq0 : goal.returns-then-window-eq0
+returns-then-window-eq0 g c =
+    let none = c.if-window-eq0.true in
+    let nothing = touched-none g.C.Elem.BitStore.BITS c.args.window.start in
     record {
-      walk = Walked-start _ _;
-      ones = rw (passed-none _ _ _ _) refl;
+      value = ap (λ (l : List Bool). count_by (λ (bit : Bool). bit) l) (sym (list-empty _ _ _ _ none));
       reads = rw none (record { numbers = refl; borrow = refl; loads = omega arith; stores = refl });
     }
 
-pub overflow_add-ones : goal.overflow_add-ones
-overflow_add-ones g c =
-    let inv = c.loop-rest.invariant in
-    let more = c.loop-rest-test.true in
+pub returns-then-passed-window-clause-reads : goal.returns-then-passed-window-clause-reads
+returns-then-passed-window-clause-reads g c =
+    let b = g.C.Elem.BitStore.BITS in
     let some = width_some _ g.met.C.Elem.BitStore.width_law in
-    let part : c.first_part-part.result ≡ first_part_of g.C.Elem.BitStore.BITS c.loop-rest.rest = c.first_part-part.ensures ∙ ap (λ (b : ℕ). first_part_of b c.loop-rest.rest) c.BITS-bits.ensures in
-    let here = rw (part, inv.reads.numbers) at c.count_part-ones.ensures.value in
-    let ones = count-next _ g.O.BitOrder.at _ _ _ _ _ _ some more refl c.requires inv.walk inv.ones here in
-    let most = count-most _ g.O.BitOrder.at _ _ _ _ c.requires (Walked-next _ _ _ _ some more refl inv.walk) ones in
+    let step = first_part-long c.len-passed.result b c.BITS-bits.result c.args.window c.first_part-head.result c.len-passed.ensures c.first_part-head.ensures c.BITS-bits.ensures in
+    let one = touched-head b c.args.window.start c.len-passed.result c.args.window.len some (omega arith) step in
+    let all = ap (touched b c.args.window.start) c.if-passed-window.true in
+    record { numbers = search rules; borrow = search rules; loads = omega arith; stores = search rules }
+
+pub overflow_add-result : goal.overflow_add-result
+overflow_add-result g c =
+    let b = g.C.Elem.BitStore.BITS in
+    let some = width_some _ g.met.C.Elem.BitStore.width_law in
+    let more : 0 < c.args.window.len = omega arith in
+    let head : c.first_part-head.result ≡ first_part_of b c.args.window = c.first_part-head.ensures ∙ ap (λ (n : ℕ). first_part_of n c.args.window) c.BITS-bits.ensures in
+    let step = c.len-passed.ensures ∙ ap (λ (p : Part). p.to - p.from) head in
+    let first = rw head at c.count_part-ones.ensures.value in
+    let rest = rw (c.after.ensures, c.count_part-ones.ensures.reads.numbers) at c.count_aligned.ensures.value in
+    let sum = count-head b g.O.BitOrder.at _ c.args.window _ _ _ some more step c.requires first rest in
+    let most = count-within b g.O.BitOrder.at _ _ _ c.requires sum in
+    let fits = c.requires.fits in
+    let len = c.requires.within.len in
     omega arith
 
-pub loop-rest-preserved : goal.loop-rest-preserved
-loop-rest-preserved g c =
-    let inv = c.loop-rest.invariant in
-    let more = c.loop-rest-test.true in
+pub returns : goal.returns
+returns g c =
+    let b = g.C.Elem.BitStore.BITS in
     let some = width_some _ g.met.C.Elem.BitStore.width_law in
-    let part : c.first_part-part.result ≡ first_part_of g.C.Elem.BitStore.BITS c.loop-rest.rest = c.first_part-part.ensures ∙ ap (λ (b : ℕ). first_part_of b c.loop-rest.rest) c.BITS-bits.ensures in
-    let step = c.len.ensures ∙ ap (λ (p : Part). p.to - p.from) part in
-    let len = first-len g.C.Elem.BitStore.BITS c.loop-rest.rest some more in
-    let each = touched-next g.C.Elem.BitStore.BITS c.args.window c.loop-rest.rest c.len.result some more (omega arith) (omega arith) inv.walk in
-    let here = rw (part, inv.reads.numbers) at c.count_part-ones.ensures.value in
-    rw c.after-rest.ensures (record {
-      walk = Walked-next _ _ _ _ some more step inv.walk;
-      ones = count-next _ _ _ _ _ _ _ _ some more step c.requires inv.walk inv.ones here;
+    let more : 0 < c.args.window.len = omega arith in
+    let head : c.first_part-head.result ≡ first_part_of b c.args.window = c.first_part-head.ensures ∙ ap (λ (n : ℕ). first_part_of n c.args.window) c.BITS-bits.ensures in
+    let step = c.len-passed.ensures ∙ ap (λ (p : Part). p.to - p.from) head in
+    let long = first_part-long c.len-passed.result b c.BITS-bits.result c.args.window c.first_part-head.result c.len-passed.ensures c.first_part-head.ensures c.BITS-bits.ensures in
+    let all = touched-rest b c.args.window.start c.len-passed.result c.args.window.len some more long c.if-passed-window.false in
+    let first = rw head at c.count_part-ones.ensures.value in
+    let rest = rw (c.after.ensures, c.count_part-ones.ensures.reads.numbers) at c.count_aligned.ensures.value in
+    let reads = rw c.after.ensures at c.count_aligned.ensures.reads in
+    record {
+      value = count-head b g.O.BitOrder.at _ c.args.window _ _ _ some more step c.requires first rest;
       reads = record { numbers = search rules; borrow = search rules; loads = omega arith; stores = search rules };
-    })
+    }

@@ -1,96 +1,89 @@
-use Rattle.std.proofs.Common.{◌≡◌, ℕ, ◌+◌, ◌-◌, ◌<◌, arith, rules, ap, refl, sym, ◌∙◌, Bool, List, ◌++◌, Some, None}
+use Rattle.std.proofs.Common.{◌≡◌, ◌<◌, ℕ, ◌+◌, ◌-◌, arith, rules, refl, sym, ◌∙◌, ap, Bool, List}
 use Rattle.bitvec_base.specs.declared.part.Part.{Part}
-use Rattle.bitvec_base.specs.declared.window.Window.{Window}
 use Rattle.bitvec_base.specs.Lists.{first_place}
-use Rattle.bitvec_base.specs.Memory.{HasWindow, list_in}
+use Rattle.bitvec_base.specs.Parts.{first_part_of}
+use Rattle.bitvec_base.specs.PlacesLaws.{first_place-nil}
+use Rattle.bitvec_base.specs.WritesLaws.{length-list}
 use Rattle.bitvec_store.specs.WidthLaws.{width_some}
-use Rattle.bitvec_base.specs.Parts.{first_part_of, part_window}
-use Rattle.bitvec_base.specs.PlacesLaws.{first_place-append, first_place-below, first_place-nil}
-use Rattle.bitvec_base.specs.Window.{window_after}
-use Rattle.bitvec_walk.specs.Walk.{Walked, passed}
-use Rattle.bitvec_walk.specs.WalkLaws.{Walked-start, Walked-next, first-len, length-first, length-passed, list-left, list-next, passed-none, touched-next, touched-none}
+use Rattle.bitvec_walk.specs.WalkLaws.{first-len}
+use Rattle.bitvec_words.specs.FieldLaws.{first_part-long, list-head}
+use Rattle.bitvec_words.specs.TouchedLaws.{touched-first, touched-rest}
+use Rattle.bitvec_words.specs.WholeLaws.{list-empty}
+use Rattle.bitvec_engine.proofs.ScanLemmas.{HasWindow-after, HasWindow-head, first-behind, first-front, first-inside, first-lacks, touched-behind_head}
 use Rattle.bitvec_engine.proofs.scanning.bits_scan_first.Goals as goal
 
--- one part more without the bit
-next-lacks : (want : Bool) (before part whole : List Bool) → first_place want before ≡ None → None ≡ first_place want part → before ++ part ≡ whole → first_place want whole ≡ None
-next-lacks want before part whole none here next = rw (← next, first_place-append want before part, none, ← here) refl
+pub returns-then-window-eq0-clause-value : goal.returns-then-window-eq0-clause-value
+returns-then-window-eq0-clause-value g c =
+    sym (ap (λ (l : List Bool). first_place c.args.want l) (list-empty _ _ _ _ c.if-window-eq0.true) ∙ first_place-nil c.args.want)
 
--- the part that has it
-part-has : (b : ℕ) (at : ℕ → ℕ → ℕ) (xs : List ℕ) (window rest : Window) (want : Bool) (i : ℕ) → 0 < b → 0 < rest.len → HasWindow b xs window → Walked b window rest
-    → first_place want (list_in b at xs (passed window rest)) ≡ None → Some i ≡ first_place want (list_in b at xs (part_window b (first_part_of b rest))) → Some (rest.start - window.start + i) ≡ first_place want (list_in b at xs window)
-part-has b at xs window rest want i some more has walk none here =
-    let len : ℕ = (first_part_of b rest).to - (first_part_of b rest).from in
-    rw (
-      ← list-left b at xs window (window_after len rest) has (Walked-next b window rest len some more refl walk),
-      ← list-next b at xs window rest len some more refl has walk,
-      first_place-append want (list_in b at xs (passed window rest) ++ list_in b at xs (part_window b (first_part_of b rest))) (list_in b at xs (window_after len rest)),
-      first_place-append want (list_in b at xs (passed window rest)) (list_in b at xs (part_window b (first_part_of b rest))),
-      none,
-      ← here,
-      length-passed b at xs window rest has walk,
-    )
-    refl
+pub returns-in-Some-clause-value : goal.returns-in-Some-clause-value
+returns-in-Some-clause-value g c =
+    let b = g.C.Elem.BitStore.BITS in
+    let t : ℕ = (first_part_of b c.args.window).to - (first_part_of b c.args.window).from in
+    first-front c.args.want _ _ _ _ (rw (c.first_part-head.ensures, c.BITS-bits.ensures) at c.in-Some.ensures.value)
+    (list-head b g.O.BitOrder.at _ _ _ t (width_some _ g.met.C.Elem.BitStore.width_law) (omega arith) refl refl refl c.requires)
 
-part-below : (b : ℕ) (at : ℕ → ℕ → ℕ) (xs : List ℕ) (window rest : Window) (want : Bool) (i : ℕ) → 0 < b → 0 < rest.len → HasWindow b xs window → Walked b window rest
-    → Some i ≡ first_place want (list_in b at xs (part_window b (first_part_of b rest))) → i < (first_part_of b rest).to - (first_part_of b rest).from
-part-below b at xs window rest want i some more has walk here =
-    let below = first_place-below want (list_in b at xs (part_window b (first_part_of b rest))) i (sym here) in
-    let long = length-first b at xs window rest some more has walk in
-    omega arith
+pub returns-in-Some-clause-reads : goal.returns-in-Some-clause-reads
+returns-in-Some-clause-reads g c =
+    let first = touched-first g.C.Elem.BitStore.BITS c.args.window.start (c.in-Some.found + 1) (omega arith) in
+    let reads = c.in-Some.ensures.reads in
+    record { numbers = search rules; borrow = search rules; loads = omega arith; stores = search rules }
 
-pub loop-rest-init : goal.loop-rest-init
-loop-rest-init g c =
-    let none : c.args.window.start - c.args.window.start ≡ 0 = omega arith in
-    let empty = touched-none g.C.Elem.BitStore.BITS c.args.window.start in
-    record {
-      walk = Walked-start _ _;
-      none = rw (passed-none _ _ _ _) (first_place-nil c.args.want);
-      reads = rw none (record { numbers = refl; borrow = refl; loads = omega arith; stores = refl });
-    }
+pub returns-then-passed-window-clause-reads : goal.returns-then-passed-window-clause-reads
+returns-then-passed-window-clause-reads g c =
+    let first = touched-first g.C.Elem.BitStore.BITS c.args.window.start c.args.window.len (omega arith) in
+    let reads = c.in_default.ensures.reads in
+    record { numbers = search rules; borrow = search rules; loads = omega arith; stores = search rules }
 
-pub loop-rest-preserved : goal.loop-rest-preserved
-loop-rest-preserved g c =
-    let inv = c.loop-rest.invariant in
-    let more = c.loop-rest-test.true in
+pub returns-in_err-found : goal.returns-in_err-found
+returns-in_err-found g c =
+    let b = g.C.Elem.BitStore.BITS in
     let some = width_some _ g.met.C.Elem.BitStore.width_law in
-    let part : c.first_part-part.result ≡ first_part_of g.C.Elem.BitStore.BITS c.loop-rest.rest = c.first_part-part.ensures ∙ ap (λ (b : ℕ). first_part_of b c.loop-rest.rest) c.BITS-bits.ensures in
-    let step = c.len.ensures ∙ ap (λ (p : Part). p.to - p.from) part in
-    let len = first-len g.C.Elem.BitStore.BITS c.loop-rest.rest some more in
-    let each = touched-next g.C.Elem.BitStore.BITS c.args.window c.loop-rest.rest c.len.result some more (omega arith) (omega arith) inv.walk in
-    let here = rw (part, inv.reads.numbers) at c.in_default.ensures.value in
-    rw c.after-rest.ensures (record {
-      walk = Walked-next _ _ _ _ some more step inv.walk;
-      none = next-lacks _ _ _ _ inv.none here (list-next _ _ _ _ _ _ some more step c.requires inv.walk);
+    let more : 0 < c.args.window.len = omega arith in
+    let head : c.first_part-head.result ≡ first_part_of b c.args.window = c.first_part-head.ensures ∙ ap (λ (n : ℕ). first_part_of n c.args.window) c.BITS-bits.ensures in
+    let step = c.len-passed.ensures ∙ ap (λ (p : Part). p.to - p.from) head in
+    let long = first_part-long c.len-passed.result b c.BITS-bits.result c.args.window c.first_part-head.result c.len-passed.ensures c.first_part-head.ensures c.BITS-bits.ensures in
+    let all = touched-rest b c.args.window.start c.len-passed.result c.args.window.len some more long c.if-passed-window.false in
+    let none = rw head at c.in_default.ensures.value in
+    let first = c.in_default.ensures.reads in
+    let rest = rw (c.after.ensures, first.numbers) at c.in_err-found.ensures in
+    let second = rest.reads in
+    rw c.from_residual.ensures (record {
+      value = first-lacks c.args.want _ _ _ none rest.value (list-head b g.O.BitOrder.at _ _ _ _ some more step refl refl c.requires);
       reads = record { numbers = search rules; borrow = search rules; loads = omega arith; stores = search rules };
     })
 
 pub overflow_add-result : goal.overflow_add-result
 overflow_add-result g c =
-    let inv = c.loop-rest.invariant in
-    let start = inv.walk.start in
-    let end = inv.walk.end in
-    let more = c.loop-rest-test.true in
+    let b = g.C.Elem.BitStore.BITS in
     let some = width_some _ g.met.C.Elem.BitStore.width_law in
-    let here = rw (c.first_part-part.ensures, c.BITS-bits.ensures, inv.reads.numbers) at c.in-Some.ensures.value in
-    let below = part-below _ _ _ _ _ _ _ some more c.requires inv.walk here in
-    let len = first-len g.C.Elem.BitStore.BITS c.loop-rest.rest some more in
+    let more : 0 < c.args.window.len = omega arith in
+    let head : c.first_part-head.result ≡ first_part_of b c.args.window = c.first_part-head.ensures ∙ ap (λ (n : ℕ). first_part_of n c.args.window) c.BITS-bits.ensures in
+    let step = c.len-passed.ensures ∙ ap (λ (p : Part). p.to - p.from) head in
+    let len = first-len b c.args.window some more in
+    let rest = rw (c.after.ensures, c.in_default.ensures.reads.numbers) at c.in_ok-found.ensures.value in
+    let below = first-inside b g.O.BitOrder.at _ _ c.args.want _ (HasWindow-after b _ c.args.window c.len-passed.result c.requires (omega arith)) rest in
+    let fits = c.requires.fits in
+    let bound = c.requires.within.len in
     omega arith
 
-pub returns-in-Some-clause-value : goal.returns-in-Some-clause-value
-returns-in-Some-clause-value g c =
-    let inv = c.loop-rest.invariant in
-    part-has _ _ _ _ _ _ _ (width_some _ g.met.C.Elem.BitStore.width_law) c.loop-rest-test.true c.requires inv.walk inv.none
-    (rw (c.first_part-part.ensures, c.BITS-bits.ensures, inv.reads.numbers) at c.in-Some.ensures.value)
-
-pub returns-in-Some-clause-reads : goal.returns-in-Some-clause-reads
-returns-in-Some-clause-reads g c =
-    let inv = c.loop-rest.invariant in
-    let start = inv.walk.start in
-    let more = c.loop-rest-test.true in
+pub returns : goal.returns
+returns g c =
+    let b = g.C.Elem.BitStore.BITS in
+    let at = g.O.BitOrder.at in
     let some = width_some _ g.met.C.Elem.BitStore.width_law in
-    let here = rw (c.first_part-part.ensures, c.BITS-bits.ensures, inv.reads.numbers) at c.in-Some.ensures.value in
-    let below = part-below _ _ _ _ _ _ _ some more c.requires inv.walk here in
-    let each = touched-next g.C.Elem.BitStore.BITS c.args.window c.loop-rest.rest (c.in-Some.found + 1) some more (omega arith) (omega arith) inv.walk in
-    let place : c.loop-rest.rest.start + (c.in-Some.found + 1) - c.args.window.start ≡ c.loop-rest.rest.start - c.args.window.start + c.in-Some.found + 1 = omega arith in
-    let loads = rw place at each in
-    record { numbers = search rules; borrow = search rules; loads = omega arith; stores = search rules }
+    let more : 0 < c.args.window.len = omega arith in
+    let head : c.first_part-head.result ≡ first_part_of b c.args.window = c.first_part-head.ensures ∙ ap (λ (n : ℕ). first_part_of n c.args.window) c.BITS-bits.ensures in
+    let step = c.len-passed.ensures ∙ ap (λ (p : Part). p.to - p.from) head in
+    let long = first_part-long c.len-passed.result b c.BITS-bits.result c.args.window c.first_part-head.result c.len-passed.ensures c.first_part-head.ensures c.BITS-bits.ensures in
+    let all = touched-behind_head b c.args.window.start c.len-passed.result c.args.window.len c.in_ok-found.found some more long c.if-passed-window.false in
+    let none = rw head at c.in_default.ensures.value in
+    let first = c.in_default.ensures.reads in
+    let rest = rw (c.after.ensures, first.numbers) at c.in_ok-found.ensures in
+    let second = rest.reads in
+    record {
+      value = first-behind c.args.want _ _ _ _ _ none rest.value
+          (step ∙ sym (length-list b at _ _ (HasWindow-head b _ _ some more c.requires)))
+          (list-head b at _ _ _ _ some more step refl refl c.requires);
+      reads = record { numbers = search rules; borrow = search rules; loads = omega arith; stores = search rules };
+    }

@@ -5,7 +5,7 @@ use Rattle.bitvec_walk.proofs.part.fill_part.Goals as goal
 pub returns-then-len-BITS-clause-writes : goal.returns-then-len-BITS-clause-writes
 returns-then-len-BITS-clause-writes g c =
     let width = g.met.C.Elem.BitStore.width_law in
-    rw (c.store.ensures.numbers, c.whole.ensures)
+    rw (c.store.ensures.numbers, c.filled.ensures)
     (part-whole _ _ width (g.met.O.BitOrder.permutes _ width) _ _ _ c.requires (sym c.len.ensures ∙ c.if-len-BITS.true ∙ c.BITS.ensures))
 
 pub returns-clause-writes : goal.returns-clause-writes

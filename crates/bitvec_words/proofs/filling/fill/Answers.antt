@@ -1,44 +1,77 @@
-use Rattle.std.proofs.Common.{◌≡◌, ℕ, ◌-◌, arith, rules, ap, sym, ◌∙◌, replicate}
-use Rattle.std.proofs.lemmas.List.{replicate-append-replicate}
+use Rattle.std.proofs.Common.{◌≡◌, ◌<◌, ℕ, ◌-◌, arith, rules, refl, sym, ◌∙◌, ap}
 use Rattle.bitvec_base.specs.declared.part.Part.{Part}
-use Rattle.bitvec_store.specs.WidthLaws.{width_some}
 use Rattle.bitvec_base.specs.Parts.{first_part_of}
-use Rattle.bitvec_base.specs.WritesLaws.{Writes-is}
-use Rattle.bitvec_walk.specs.WalkLaws.{Walked-start, Walked-next, Writes-next_part, Writes-none_passed, edge_loads-next, first-len, touched-next, touched-none}
-use Rattle.bitvec_words.specs.TouchedLaws.{part_loads-most}
+use Rattle.bitvec_base.specs.WritesLaws.{Writes-empty, Writes-is}
+use Rattle.bitvec_store.specs.WidthLaws.{width_some}
+use Rattle.bitvec_walk.specs.Cost.{touched}
+use Rattle.bitvec_walk.specs.WalkLaws.{first-len, touched-none}
+use Rattle.bitvec_words.specs.FieldLaws.{Writes-head, first_part-long}
+use Rattle.bitvec_words.specs.FillingLaws.{fill_loads-some, replicate-is, replicate-parts}
+use Rattle.bitvec_words.specs.TouchedLaws.{part_loads-most, touched-head, touched-rest}
 use Rattle.bitvec_words.proofs.filling.fill.Goals as goal
 
-pub loop-rest-init : goal.loop-rest-init
-loop-rest-init g c =
-    let none : c.args.window.start - c.args.window.start ≡ 0 = omega arith in
-    let empty = touched-none g.C.Elem.BitStore.BITS c.args.window.start in
-    record {
-      walk = Walked-start _ _;
-      writes = Writes-is _ _ _ _ _ _ _ (Writes-none_passed _ _ _ _ c.requires) (ap (λ (n : ℕ). replicate n c.args.bit) (sym none));
-      cost = search rules;
-      loads = rw none (omega arith);
-      stores = rw none (omega arith);
-    }
+pub returns-then-window-eq0-clause-writes : goal.returns-then-window-eq0-clause-writes
+returns-then-window-eq0-clause-writes g c =
+    let none = c.if-window-eq0.true in
+    Writes-is _ _ _ _ _ _ _ (Writes-empty _ _ _ _ _ c.requires none refl) (replicate-is 0 _ _ (sym none))
 
-pub loop-rest-preserved : goal.loop-rest-preserved
-loop-rest-preserved g c =
-    let inv = c.loop-rest.invariant in
-    let more = c.loop-rest-test.true in
+pub returns-then-window-eq0-clause-stores : goal.returns-then-window-eq0-clause-stores
+returns-then-window-eq0-clause-stores g c =
+    let none = touched-none g.C.Elem.BitStore.BITS c.args.window.start in
+    rw c.if-window-eq0.true (omega arith)
+
+pub returns-then-passed-window-clause-cost : goal.returns-then-passed-window-clause-cost
+returns-then-passed-window-clause-cost g c =
+    let b = g.C.Elem.BitStore.BITS in
     let some = width_some _ g.met.C.Elem.BitStore.width_law in
-    let part : c.first_part-part.result ≡ first_part_of g.C.Elem.BitStore.BITS c.loop-rest.rest = c.first_part-part.ensures ∙ ap (λ (b : ℕ). first_part_of b c.loop-rest.rest) c.BITS-bits.ensures in
-    let step = c.len.ensures ∙ ap (λ (p : Part). p.to - p.from) part in
-    let len = first-len g.C.Elem.BitStore.BITS c.loop-rest.rest some more in
-    let edges = edge_loads-next g.C.Elem.BitStore.BITS c.args.window c.loop-rest.rest c.len.result some more step inv.walk in
-    let each = touched-next g.C.Elem.BitStore.BITS c.args.window c.loop-rest.rest c.len.result some more (omega arith) (omega arith) inv.walk in
-    let ensures = rw part at c.fill_part.ensures in
-    let most = part_loads-most g.C.Elem.BitStore.BITS (first_part_of g.C.Elem.BitStore.BITS c.loop-rest.rest) in
-    let start = inv.walk.start in
-    rw c.after-rest.ensures (record {
-      walk = Walked-next _ _ _ _ some more step inv.walk;
+    let step = first_part-long c.len-passed.result b c.BITS-bits.result c.args.window c.first_part-head.result c.len-passed.ensures c.first_part-head.ensures c.BITS-bits.ensures in
+    let one = touched-head b c.args.window.start c.len-passed.result c.args.window.len some (omega arith) step in
+    let all = ap (touched b c.args.window.start) c.if-passed-window.true in
+    let most = part_loads-most b c.first_part-head.result in
+    let edges = fill_loads-some c.args.window.len c.if-window-eq0.false in
+    record { borrow = search rules; loads = omega arith; stores = omega arith }
+
+pub returns-then-passed-window-clause-stores : goal.returns-then-passed-window-clause-stores
+returns-then-passed-window-clause-stores g c =
+    let b = g.C.Elem.BitStore.BITS in
+    let some = width_some _ g.met.C.Elem.BitStore.width_law in
+    let step = first_part-long c.len-passed.result b c.BITS-bits.result c.args.window c.first_part-head.result c.len-passed.ensures c.first_part-head.ensures c.BITS-bits.ensures in
+    let one = touched-head b c.args.window.start c.len-passed.result c.args.window.len some (omega arith) step in
+    let all = ap (touched b c.args.window.start) c.if-passed-window.true in
+    omega arith
+
+pub returns-then-passed-window-clause-loads : goal.returns-then-passed-window-clause-loads
+returns-then-passed-window-clause-loads g c =
+    let b = g.C.Elem.BitStore.BITS in
+    let some = width_some _ g.met.C.Elem.BitStore.width_law in
+    let step = first_part-long c.len-passed.result b c.BITS-bits.result c.args.window c.first_part-head.result c.len-passed.ensures c.first_part-head.ensures c.BITS-bits.ensures in
+    let one = touched-head b c.args.window.start c.len-passed.result c.args.window.len some (omega arith) step in
+    let all = ap (touched b c.args.window.start) c.if-passed-window.true in
+    let most = part_loads-most b c.first_part-head.result in
+    omega arith
+
+pub returns : goal.returns
+returns g c =
+    let b = g.C.Elem.BitStore.BITS in
+    let some = width_some _ g.met.C.Elem.BitStore.width_law in
+    let more : 0 < c.args.window.len = omega arith in
+    let head : c.first_part-head.result ≡ first_part_of b c.args.window = c.first_part-head.ensures ∙ ap (λ (n : ℕ). first_part_of n c.args.window) c.BITS-bits.ensures in
+    let step = c.len-passed.ensures ∙ ap (λ (p : Part). p.to - p.from) head in
+    let long = first_part-long c.len-passed.result b c.BITS-bits.result c.args.window c.first_part-head.result c.len-passed.ensures c.first_part-head.ensures c.BITS-bits.ensures in
+    let len = first-len b c.args.window some more in
+    let all = touched-rest b c.args.window.start c.len-passed.result c.args.window.len some more long c.if-passed-window.false in
+    let most = part_loads-most b c.first_part-head.result in
+    let edges = fill_loads-some c.args.window.len c.if-window-eq0.false in
+    let first = rw head at c.fill_part.ensures.writes in
+    let rest = rw c.after.ensures at c.fill_aligned.ensures in
+    let loads = rest.loads in
+    let stores = rest.stores in
+    let cost = rest.cost in
+    record {
       writes = Writes-is _ _ _ _ _ _ _
-          (Writes-next_part _ _ _ _ _ _ _ _ _ _ some more step c.requires inv.walk inv.writes ensures.writes)
-          (replicate-append-replicate _ _ _ ∙ ap (λ (n : ℕ). replicate n c.args.bit) (omega arith));
+          (Writes-head _ _ _ _ _ _ _ _ _ some more step c.requires first rest.writes)
+          (replicate-parts _ _ _ _ (omega arith));
       cost = record { borrow = search rules; loads = omega arith; stores = omega arith };
-      loads = omega arith;
       stores = omega arith;
-    })
+      loads = omega arith;
+    }

@@ -1,39 +1,47 @@
-use Rattle.std.proofs.Common.{◌≡◌, ℕ, ◌-◌, arith, rules, ap, refl, sym, ◌∙◌, Bool, List, ◌++◌, not, map}
-use Rattle.std.proofs.lemmas.List.{map-append}
+use Rattle.std.proofs.Common.{◌≡◌, ◌<◌, ℕ, ◌-◌, arith, rules, refl, sym, ◌∙◌, ap, map, not}
 use Rattle.bitvec_base.specs.declared.part.Part.{Part}
-use Rattle.bitvec_store.specs.WidthLaws.{width_some}
 use Rattle.bitvec_base.specs.Parts.{first_part_of}
-use Rattle.bitvec_base.specs.WritesLaws.{Writes-is}
-use Rattle.bitvec_walk.specs.WalkLaws.{Walked-start, Walked-next, Writes-none_passed, Writes-next_part, first-kept, first-len, list-next, passed-none, touched-next, touched-none}
+use Rattle.bitvec_base.specs.WritesLaws.{Writes-empty, Writes-is}
+use Rattle.bitvec_store.specs.WidthLaws.{width_some}
+use Rattle.bitvec_walk.specs.Cost.{touched}
+use Rattle.bitvec_walk.specs.WalkLaws.{touched-none}
+use Rattle.bitvec_words.specs.FieldLaws.{first_part-long}
+use Rattle.bitvec_words.specs.FillingLaws.{Writes-flipped_head}
+use Rattle.bitvec_words.specs.TouchedLaws.{touched-head, touched-rest}
+use Rattle.bitvec_words.specs.WholeLaws.{list-empty}
 use Rattle.bitvec_words.proofs.filling.invert.Goals as goal
 
-flip-next : (before part kept whole : List Bool) → part ≡ kept → before ++ kept ≡ whole → map not before ++ map not part ≡ map not whole
-flip-next before part kept whole same next = ap (λ (l : List Bool). map not before ++ map not l) same ∙ sym (map-append not before kept) ∙ ap (map not) next
-
-pub loop-rest-init : goal.loop-rest-init
-loop-rest-init g c =
-    let none : c.args.window.start - c.args.window.start ≡ 0 = omega arith in
-    let empty = touched-none g.C.Elem.BitStore.BITS c.args.window.start in
+pub returns-then-window-eq0 : goal.returns-then-window-eq0
+returns-then-window-eq0 g c =
+    let none = c.if-window-eq0.true in
+    let nothing = touched-none g.C.Elem.BitStore.BITS c.args.window.start in
     record {
-      walk = Walked-start _ _;
-      writes = rw (passed-none _ _ _ _) (Writes-none_passed _ _ _ _ c.requires);
+      writes = Writes-is _ _ _ _ _ _ _ (Writes-empty _ _ _ _ _ c.requires none refl) (ap (map not) (sym (list-empty _ _ _ _ none)));
       cost = rw none (record { borrow = refl; loads = omega arith; stores = omega arith });
     }
 
-pub loop-rest-preserved : goal.loop-rest-preserved
-loop-rest-preserved g c =
-    let inv = c.loop-rest.invariant in
-    let more = c.loop-rest-test.true in
+pub returns-then-passed-window-clause-cost : goal.returns-then-passed-window-clause-cost
+returns-then-passed-window-clause-cost g c =
+    let b = g.C.Elem.BitStore.BITS in
     let some = width_some _ g.met.C.Elem.BitStore.width_law in
-    let part : c.first_part-part.result ≡ first_part_of g.C.Elem.BitStore.BITS c.loop-rest.rest = c.first_part-part.ensures ∙ ap (λ (b : ℕ). first_part_of b c.loop-rest.rest) c.BITS-bits.ensures in
-    let step = c.len.ensures ∙ ap (λ (p : Part). p.to - p.from) part in
-    let len = first-len g.C.Elem.BitStore.BITS c.loop-rest.rest some more in
-    let each = touched-next g.C.Elem.BitStore.BITS c.args.window c.loop-rest.rest c.len.result some more (omega arith) (omega arith) inv.walk in
-    let ensures = rw part at c.invert_part.ensures in
-    rw c.after-rest.ensures (record {
-      walk = Walked-next _ _ _ _ some more step inv.walk;
-      writes = Writes-is _ _ _ _ _ _ _
-          (Writes-next_part _ _ _ _ _ _ _ _ _ _ some more step c.requires inv.walk inv.writes ensures.writes)
-          (flip-next _ _ _ _ (first-kept _ _ _ _ _ _ _ some more c.requires inv.walk inv.writes) (list-next _ _ _ _ _ _ some more step c.requires inv.walk));
+    let step = first_part-long c.len-passed.result b c.BITS-bits.result c.args.window c.first_part-head.result c.len-passed.ensures c.first_part-head.ensures c.BITS-bits.ensures in
+    let one = touched-head b c.args.window.start c.len-passed.result c.args.window.len some (omega arith) step in
+    let all = ap (touched b c.args.window.start) c.if-passed-window.true in
+    record { borrow = search rules; loads = omega arith; stores = omega arith }
+
+pub returns : goal.returns
+returns g c =
+    let b = g.C.Elem.BitStore.BITS in
+    let some = width_some _ g.met.C.Elem.BitStore.width_law in
+    let more : 0 < c.args.window.len = omega arith in
+    let head : c.first_part-head.result ≡ first_part_of b c.args.window = c.first_part-head.ensures ∙ ap (λ (n : ℕ). first_part_of n c.args.window) c.BITS-bits.ensures in
+    let step = c.len-passed.ensures ∙ ap (λ (p : Part). p.to - p.from) head in
+    let long = first_part-long c.len-passed.result b c.BITS-bits.result c.args.window c.first_part-head.result c.len-passed.ensures c.first_part-head.ensures c.BITS-bits.ensures in
+    let all = touched-rest b c.args.window.start c.len-passed.result c.args.window.len some more long c.if-passed-window.false in
+    let first = rw head at c.invert_part.ensures.writes in
+    let rest = rw c.after.ensures at c.invert_aligned.ensures in
+    let cost = rest.cost in
+    record {
+      writes = Writes-flipped_head _ _ _ _ _ _ _ some more step c.requires first rest.writes;
       cost = record { borrow = search rules; loads = omega arith; stores = omega arith };
-    })
+    }

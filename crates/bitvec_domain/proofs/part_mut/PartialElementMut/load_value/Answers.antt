@@ -1,9 +1,7 @@
-use Rattle.bitvec_domain.specs.Parts.{bits_of_part_mut}
 use Rattle.bitvec_domain.proofs.Masks.{element-and_mask}
 use Rattle.bitvec_domain.proofs.part_mut.PartialElementMut.load_value.Goals as goal
 
 pub returns-clause-bits : goal.returns-clause-bits
-unfolding bits_of_part_mut
 returns-clause-bits g c =
     let p = c.args.self.now in
     rw (c.and.ensures, p.masked) (element-and_mask _ _ (g.met.O.BitOrder.permutes _ g.met.T.BitStore.width_law) _ p.head p.tail p.ordered p.inside)

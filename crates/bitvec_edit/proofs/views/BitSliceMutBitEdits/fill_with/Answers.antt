@@ -1,7 +1,6 @@
 use Rattle.std.proofs.Common.{length, ap, subst, sym, ◌∙◌}
 use Rattle.bitvec_elements.specs.Asked.{FillsWith}
 use Rattle.bitvec_slice.specs.Lending.{with_elements}
-use Rattle.bitvec_slice.specs.Views.{memory_of_mut}
 use Rattle.bitvec_slice.specs.Writes.{WritesBits}
 use Rattle.bitvec_slice.specs.WriteLaws.{writes_bits}
 use Rattle.bitvec_edit.proofs.views.BitSliceMutBitEdits.fill_with.Goals as goal
@@ -10,7 +9,6 @@ pub fill_with_in-requires-clause-callable : goal.fill_with_in-requires-clause-ca
 fill_with_in-requires-clause-callable g c = rw c.window-window.ensures.value c.requires
 
 pub returns : goal.returns
-unfolding memory_of_mut
 returns g c =
     let v = c.args.self.now in
     let cells = c.fill_with_in.new.cells in

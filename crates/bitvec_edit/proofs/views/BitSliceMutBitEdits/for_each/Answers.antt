@@ -1,24 +1,22 @@
 use Rattle.std.proofs.Common.{length, ap, subst, sym, ◌∙◌}
 use Rattle.bitvec_elements.specs.Asked.{RefillsWith}
 use Rattle.bitvec_slice.specs.Lending.{with_elements}
-use Rattle.bitvec_slice.specs.Views.{bits_of_mut, memory_of_mut}
 use Rattle.bitvec_slice.specs.Writes.{WritesBits}
 use Rattle.bitvec_slice.specs.WriteLaws.{writes_bits}
+use Rattle.bitvec_slice.specs.Views.{seen_mut}
 use Rattle.bitvec_edit.proofs.views.BitSliceMutBitEdits.for_each.Goals as goal
 
 pub for_each_in-requires-clause-callable : goal.for_each_in-requires-clause-callable
-unfolding bits_of_mut memory_of_mut
 for_each_in-requires-clause-callable g c = rw (c.elements_mut.ensures.elements, c.window-window.ensures.value) c.requires
 
 pub returns : goal.returns
-unfolding bits_of_mut memory_of_mut
 returns g c =
     let v = c.args.self.now in
     let cells = c.for_each_in.new.cells in
     let wrote = rw (c.elements_mut.ensures.elements, c.window-window.ensures.value) at c.for_each_in.ensures.writes in
     let written = writes_bits v cells wrote.0 wrote.2 in
     record {
-      answers = subst (RefillsWith g.F.FnMut c.args.f (bits_of_mut v)) (sym written.bits) wrote.1;
+      answers = subst (RefillsWith g.F.FnMut c.args.f (seen_mut v).bits) (sym written.bits) wrote.1;
       bits = subst (WritesBits v (with_elements v cells)) (sym written.bits) written;
       len = ap length written.bits ∙ wrote.2.long;
     }

@@ -1,7 +1,6 @@
-use Rattle.bitvec_slice.specs.Views.{bits_of_mut, memory_of_mut}
-use Rattle.bitvec_slice.specs.WriteLaws.{writes_bits}
+use Rattle.std.proofs.Common.{rules}
+use Rattle.bitvec_slice.specs.WriteLaws.{written}
 use Rattle.bitvec_edit.proofs.views.BitSliceMutBitEdits.swap.Goals as goal
 
 pub returns : goal.returns
-unfolding bits_of_mut memory_of_mut
-returns g c = writes_bits c.args.self.now c.swap_in.new.cells _ (rw (c.elements_mut.ensures.elements, c.window-window.ensures.value) at c.swap_in.ensures.writes)
+returns g c = written _ _ _ _ _ _ c.swap_in.ensures.writes c.elements_mut.ensures.elements c.window-window.ensures.value (search rules)

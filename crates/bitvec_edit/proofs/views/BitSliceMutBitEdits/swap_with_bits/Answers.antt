@@ -1,12 +1,9 @@
-use Rattle.bitvec_slice.specs.Views.{bits_of_mut, memory_of_mut}
-use Rattle.bitvec_slice.specs.WriteLaws.{writes_bits}
+use Rattle.std.proofs.Common.{rules}
+use Rattle.bitvec_slice.specs.WriteLaws.{written}
 use Rattle.bitvec_edit.proofs.views.BitSliceMutBitEdits.swap_with_bits.Goals as goal
 
 pub returns : goal.returns
-unfolding bits_of_mut memory_of_mut
-returns g c =
-    let swapped = rw (c.elements_mut.ensures.elements, c.elements_mut-2.ensures.elements, c.window-window.ensures.value, c.window-other_window.ensures.value) at c.swap_with_in.ensures in
-    record {
-      bits = writes_bits c.args.self.now c.swap_with_in.new.left _ swapped.writes;
-      other_bits = writes_bits c.args.other.now c.swap_with_in.new.right _ swapped.right_writes;
-    }
+returns g c = record {
+  bits = written _ _ _ _ _ _ c.swap_with_in.ensures.writes c.elements_mut.ensures.elements c.window-window.ensures.value (search rules);
+  other_bits = written _ _ _ _ _ _ c.swap_with_in.ensures.right_writes c.elements_mut-2.ensures.elements c.window-other_window.ensures.value (search rules);
+}

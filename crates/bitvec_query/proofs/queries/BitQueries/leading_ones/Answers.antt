@@ -5,4 +5,4 @@ use Rattle.bitvec_base.specs.LeadingLaws.{leading-ones}
 use Rattle.bitvec_query.proofs.queries.BitQueries.leading_ones.Goals as goal
 
 pub returns : goal.returns
-returns g c = c.before_first.ensures ∙ leading-ones _ ∙ ap (prefix_len (λ (bit : Bool). bit)) c.as_bitslice.ensures
+returns g c = c.before_first.ensures ∙ leading-ones _ ∙ ap (prefix_len (λ (bit : Bool). bit)) c.as_bitslice.ensures.bits

@@ -5,4 +5,4 @@ use Rattle.bitvec_base.specs.LeadingLaws.{leading-zeros}
 use Rattle.bitvec_query.proofs.queries.BitQueries.leading_zeros.Goals as goal
 
 pub returns : goal.returns
-returns g c = c.before_first.ensures ∙ leading-zeros _ ∙ ap (prefix_len not) c.as_bitslice.ensures
+returns g c = c.before_first.ensures ∙ leading-zeros _ ∙ ap (prefix_len not) c.as_bitslice.ensures.bits

@@ -1,0 +1,44 @@
+-- What callers name by `using`: a set of laws for each kind of call.
+use Rattle.std.proofs.lemmas.Grind.{get_or-set_at}
+use Rattle.std.proofs.lemmas.List.{get_or-replicate, get_or-set_other, length-set, reverse-reverse}
+use Rattle.bitvec_base.specs.CountLaws.{ones_and_zeros}
+use Rattle.bitvec_base.specs.FillLaws.{flip-undoes}
+use Rattle.bitvec_base.specs.PlacesLaws.{first_place-absent, first_place-before, first_place-below, first_place-bit, last_place-absent, last_place-after, last_place-below, last_place-bit}
+use Rattle.bitvec_base.specs.RotationLaws.{rotated_left-undoes, rotated_right-undoes}
+use Rattle.bitvec_walk.specs.CostLaws.{enough}
+use Rattle.bitvec_slice.specs.SeenLaws.{length_bits}
+use Rattle.bitvec.specs.CountedLaws.{ones-all, ones-fewer, ones-flipped, ones-front, ones-more, ones-none, ones-rest, ones-reversed, ones-rotated_left, ones-rotated_right, ones-whole, zeros-all, zeros-fewer, zeros-flipped, zeros-more, zeros-none, zeros-reversed, zeros-rotated_left, zeros-rotated_right}
+use Rattle.bitvec.specs.FilledLaws.{all-filled, any-filled, bits-zeros, equal-same, first-filled, first-of_filled, last-filled, same-equal}
+
+-- a view has as many bits as its window
+pub ruleset lengths = (length_bits)
+
+-- after `first_one`, `first_zero`, `last_one`, `last_zero`: the place is below the length, it has the bit,
+-- none before it or after it has; or none has
+pub ruleset found = (lengths, first_place-below, first_place-bit, first_place-before, first_place-absent, last_place-below, last_place-bit, last_place-after, last_place-absent)
+
+-- after `set`: what `get` and `bits[i]` give at the index and at another
+pub ruleset written = (lengths, get_or-set_at, get_or-set_other, length-set)
+
+-- `count_ones` and `count_zeros`: both make the length; after `set`; after calls that move bits or flip them
+pub ruleset counted = (lengths, ones_and_zeros, ones-more, ones-fewer, zeros-more, zeros-fewer, ones-flipped, zeros-flipped)
+
+pub ruleset moved = (lengths, ones-reversed, ones-rotated_left, ones-rotated_right, zeros-reversed, zeros-rotated_left, zeros-rotated_right)
+
+-- of the parts before and after an index
+pub ruleset parted = (lengths, ones-front, ones-rest, ones-whole)
+
+-- after `fill`: each bit, how many are 1 and 0, what is found, `all` and `any`
+pub ruleset filled = (lengths, get_or-replicate, ones-all, ones-none, zeros-all, zeros-none, first-filled, first-of_filled, last-filled, all-filled, any-filled)
+
+-- after `eq_bits`: whether the lists are equal
+pub ruleset compared = (same-equal, equal-same)
+
+-- calls that undo one another
+pub ruleset undone = (lengths, reverse-reverse, flip-undoes, rotated_left-undoes, rotated_right-undoes)
+
+-- arrays of zeros
+pub ruleset zeroed = (bits-zeros)
+
+-- a `SliceOrder` of a user's own, whose functions call `bits_..` of `engine`
+pub ruleset own_order = (enough)

@@ -1,0 +1,3 @@
+//! References to one bit, and why a view was refused.
+pub use bitvec_base::BitSpanError;
+pub use bitvec_reference::{BitRef, BitRefMut};

@@ -1,0 +1,118 @@
+use Rattle.std.proofs.Common.{◌≡◌, ℕ, ◌+◌, ◌-◌, min, ◌∙◌, arith, rules, ap, slice_index}
+use Rattle.std.proofs.lemmas.Nat.{mod_below}
+use Rattle.bitvec_base.specs.declared.part.Part.{Part}
+use Rattle.bitvec_base.specs.Parts.{first_part_of}
+use Rattle.bitvec_store.specs.WidthLaws.{width_some}
+use Rattle.bitvec_words.specs.CombinedLaws.{Writes-first_met}
+use Rattle.bitvec_words.specs.FieldLaws.{first_part-long}
+use Rattle.bitvec_words.specs.Operator.{operator}
+use Rattle.bitvec_words.specs.TouchedLaws.{inside_element, touched-edge, touched-inside, touched-parts}
+use Rattle.bitvec_combine.proofs.combining.combine_met.Goals as goal
+
+pub returns-then-passed-to-clause-cost : goal.returns-then-passed-to-clause-cost
+returns-then-passed-to-clause-cost g c =
+    let b = g.C.Elem.BitStore.BITS in
+    let some = width_some _ g.met.C.Elem.BitStore.width_law in
+    let step = first_part-long c.len-passed.result b c.BITS-bits.result c.args.to c.first_part-head.result c.len-passed.ensures c.first_part-head.ensures c.BITS-bits.ensures in
+    let lengths = c.requires.lengths in
+    let more = c.requires.some in
+    let all = touched-parts b c.args.to.start c.len-passed.result c.args.to.len some (omega arith) step in
+    record { borrow = search rules; loads = omega arith; stores = omega arith }
+
+pub returns-then-behind-bits-eq0-clause-writes : goal.returns-then-behind-bits-eq0-clause-writes
+returns-then-behind-bits-eq0-clause-writes g c =
+    let b = g.C.Elem.BitStore.BITS in
+    let some = width_some _ g.met.C.Elem.BitStore.width_law in
+    let lengths = c.requires.lengths in
+    let more = c.requires.some in
+    let head : c.first_part-head.result ≡ first_part_of b c.args.to = c.first_part-head.ensures ∙ ap (λ (n : ℕ). first_part_of n c.args.to) c.BITS-bits.ensures in
+    let long = c.len-passed.ensures ∙ ap (λ (p : Part). p.to - p.from) head in
+    let least : c.min-met.result ≡ min c.len-passed.result c.args.from.len = omega arith in
+    let first = rw (head, c.until.ensures) at c.combine_head-carry.ensures.writes in
+    let rest = rw (c.after-rest.ensures, c.after-behind.ensures, c.combine_head-carry.ensures.right.numbers) at c.combine_aligned.ensures.writes in
+    Writes-first_met _ _ (operator c.args.op) _ _ _ _ _ _ _ _ some (omega arith) long least c.requires.window c.requires.right_window first rest
+
+pub returns-then-behind-bits-eq0-clause-cost : goal.returns-then-behind-bits-eq0-clause-cost
+returns-then-behind-bits-eq0-clause-cost g c =
+    let b = g.C.Elem.BitStore.BITS in
+    let some = width_some _ g.met.C.Elem.BitStore.width_law in
+    let step = first_part-long c.len-passed.result b c.BITS-bits.result c.args.to c.first_part-head.result c.len-passed.ensures c.first_part-head.ensures c.BITS-bits.ensures in
+    let lengths = c.requires.lengths in
+    let more = c.requires.some in
+    let all = touched-parts b c.args.to.start c.len-passed.result c.args.to.len some (omega arith) step in
+    let rest = rw c.after-rest.ensures at c.combine_aligned.ensures.cost in
+    record { borrow = search rules; loads = omega arith; stores = omega arith }
+
+pub returns-then-behind-bits-eq0-clause-right : goal.returns-then-behind-bits-eq0-clause-right
+returns-then-behind-bits-eq0-clause-right g c =
+    let b = g.C.Elem.BitStore.BITS in
+    let some = width_some _ g.met.C.Elem.BitStore.width_law in
+    let step = first_part-long c.len-passed.result b c.BITS-bits.result c.args.to c.first_part-head.result c.len-passed.ensures c.first_part-head.ensures c.BITS-bits.ensures in
+    let lengths = c.requires.lengths in
+    let more = c.requires.some in
+    let least : c.min-met.result ≡ min c.len-passed.result c.args.from.len = omega arith in
+    let head = mod_below c.args.to.start b some in
+    let long : c.args.from.len - (c.args.from.len - c.min-met.result) ≡ c.min-met.result = omega arith in
+    let whole : c.min-met.result + (c.args.from.len - c.min-met.result) ≡ c.args.from.len = omega arith in
+    let edge = rw (c.after-behind.ensures, c.BITS-bits.ensures) at c.if-behind-bits-eq0.true in
+    let all = rw whole at (touched-edge b c.args.from.start c.min-met.result (c.args.from.len - c.min-met.result) some edge) in
+    let first = rw (c.until.ensures, long) at c.combine_head-carry.ensures.right in
+    let rest = rw c.after-behind.ensures at c.combine_aligned.ensures.right in
+    record { numbers = search rules; borrow = search rules; loads = omega arith; stores = search rules }
+
+pub combine_shifted-requires-clause-carry : goal.combine_shifted-requires-clause-carry
+combine_shifted-requires-clause-carry g c =
+    let b = g.C.Elem.BitStore.BITS in
+    let some = width_some _ g.met.C.Elem.BitStore.width_law in
+    let step = first_part-long c.len-passed.result b c.BITS-bits.result c.args.to c.first_part-head.result c.len-passed.ensures c.first_part-head.ensures c.BITS-bits.ensures in
+    let lengths = c.requires.lengths in
+    let more = c.requires.some in
+    let least : c.min-met.result ≡ min c.len-passed.result c.args.from.len = omega arith in
+    let head = mod_below c.args.to.start b some in
+    let long : c.args.from.len - (c.args.from.len - c.min-met.result) ≡ c.min-met.result = omega arith in
+    let index = rw (c.after-behind.ensures, c.BITS-bits.ensures) at c.if-behind-bits-eq0.false in
+    let same = inside_element b c.args.from.start c.min-met.result some (omega arith) in
+    let last = rw (c.until.ensures, long) at c.combine_head-carry.ensures.last in
+    rw (c.after-behind.ensures, c.combine_head-carry.ensures.right.numbers)
+    (last ∙ ap (slice_index (g.D.CellsRead.numbers c.args.right.now)) same)
+
+pub returns-clause-writes : goal.returns-clause-writes
+returns-clause-writes g c =
+    let b = g.C.Elem.BitStore.BITS in
+    let some = width_some _ g.met.C.Elem.BitStore.width_law in
+    let lengths = c.requires.lengths in
+    let more = c.requires.some in
+    let head : c.first_part-head.result ≡ first_part_of b c.args.to = c.first_part-head.ensures ∙ ap (λ (n : ℕ). first_part_of n c.args.to) c.BITS-bits.ensures in
+    let long = c.len-passed.ensures ∙ ap (λ (p : Part). p.to - p.from) head in
+    let least : c.min-met.result ≡ min c.len-passed.result c.args.from.len = omega arith in
+    let first = rw (head, c.until.ensures) at c.combine_head-carry.ensures.writes in
+    let rest = rw (c.after-rest.ensures, c.after-behind.ensures, c.combine_head-carry.ensures.right.numbers) at c.combine_shifted.ensures.writes in
+    Writes-first_met _ _ (operator c.args.op) _ _ _ _ _ _ _ _ some (omega arith) long least c.requires.window c.requires.right_window first rest
+
+pub returns-clause-cost : goal.returns-clause-cost
+returns-clause-cost g c =
+    let b = g.C.Elem.BitStore.BITS in
+    let some = width_some _ g.met.C.Elem.BitStore.width_law in
+    let step = first_part-long c.len-passed.result b c.BITS-bits.result c.args.to c.first_part-head.result c.len-passed.ensures c.first_part-head.ensures c.BITS-bits.ensures in
+    let lengths = c.requires.lengths in
+    let more = c.requires.some in
+    let all = touched-parts b c.args.to.start c.len-passed.result c.args.to.len some (omega arith) step in
+    let rest = rw c.after-rest.ensures at c.combine_shifted.ensures.cost in
+    record { borrow = search rules; loads = omega arith; stores = omega arith }
+
+pub returns-clause-right : goal.returns-clause-right
+returns-clause-right g c =
+    let b = g.C.Elem.BitStore.BITS in
+    let some = width_some _ g.met.C.Elem.BitStore.width_law in
+    let step = first_part-long c.len-passed.result b c.BITS-bits.result c.args.to c.first_part-head.result c.len-passed.ensures c.first_part-head.ensures c.BITS-bits.ensures in
+    let lengths = c.requires.lengths in
+    let more = c.requires.some in
+    let least : c.min-met.result ≡ min c.len-passed.result c.args.from.len = omega arith in
+    let head = mod_below c.args.to.start b some in
+    let long : c.args.from.len - (c.args.from.len - c.min-met.result) ≡ c.min-met.result = omega arith in
+    let whole : c.min-met.result + (c.args.from.len - c.min-met.result) ≡ c.args.from.len = omega arith in
+    let edge = rw (c.after-behind.ensures, c.BITS-bits.ensures) at c.if-behind-bits-eq0.false in
+    let all = rw whole at (touched-inside b c.args.from.start c.min-met.result (c.args.from.len - c.min-met.result) some (omega arith) (omega arith)) in
+    let first = rw (c.until.ensures, long) at c.combine_head-carry.ensures.right in
+    let rest = rw c.after-behind.ensures at c.combine_shifted.ensures.right in
+    record { numbers = search rules; borrow = search rules; loads = omega arith; stores = search rules }

@@ -1,0 +1,73 @@
+use Rattle.std.proofs.Common.{◌≡◌, ◌≤◌, ◌*◌, ◌/◌, ◌%◌, ◌-◌, ◌+◌, arith, rules}
+use Rattle.std.proofs.lemmas.Nat.{div-add-mod'}
+use Rattle.bitvec_store.specs.WidthLaws.{width_some}
+use Rattle.bitvec_words.specs.CombinedLaws.{Writes-all_met, Writes-some_met}
+use Rattle.bitvec_words.specs.Operator.{operator}
+use Rattle.bitvec_words.specs.TouchedLaws.{touched-after, touched-from_full, touched-from_more}
+use Rattle.bitvec_combine.proofs.combining.combine_shifted.Goals as goal
+
+pub returns-then-tail-eq0-clause-writes : goal.returns-then-tail-eq0-clause-writes
+returns-then-tail-eq0-clause-writes g c =
+    let b = g.C.Elem.BitStore.BITS in
+    let place = div-add-mod' c.args.from.start b in
+    let parts = div-add-mod' c.args.from.len b in
+    let none = rw (c.after-tail.ensures, c.BITS-bits.ensures) at c.if-tail-eq0.true in
+    let start : c.args.from.start / b * b + c.args.from.start % b ≡ c.args.from.start = place in
+    let all : c.args.from.len / b * b ≡ c.args.from.len = omega arith in
+    let first = rw c.BITS-bits.ensures at c.combine_joined-last.ensures.writes in
+    let rest = rw (c.after-rest.ensures, c.BITS-bits.ensures) at c.combine_zeros.ensures.writes in
+    Writes-all_met _ _ (operator c.args.op) _ _ _ _ _ _ _ _ c.requires.window c.requires.right_window c.requires.edge start all c.requires.lengths first rest
+
+pub returns-then-tail-eq0-clause-cost : goal.returns-then-tail-eq0-clause-cost
+returns-then-tail-eq0-clause-cost g c =
+    let b = g.C.Elem.BitStore.BITS in
+    let parts = div-add-mod' c.args.from.len b in
+    let lengths = c.requires.lengths in
+    let fits : c.args.from.len / b * b ≤ c.args.to.len = omega arith in
+    let all = touched-after b c.args.to.start c.args.to.len (c.args.from.len / b) (width_some _ g.met.C.Elem.BitStore.width_law) c.requires.edge fits in
+    let whole = rw c.BITS-bits.ensures at c.combine_joined-last.ensures.cost in
+    let rest = rw (c.after-rest.ensures, c.BITS-bits.ensures) at c.combine_zeros.ensures.cost in
+    record { borrow = search rules; loads = omega arith; stores = omega arith }
+
+pub returns-then-tail-eq0-clause-right : goal.returns-then-tail-eq0-clause-right
+returns-then-tail-eq0-clause-right g c =
+    let b = g.C.Elem.BitStore.BITS in
+    let parts = div-add-mod' c.args.from.len b in
+    let none = rw (c.after-tail.ensures, c.BITS-bits.ensures) at c.if-tail-eq0.true in
+    let all = touched-from_full b c.args.from.start c.args.from.len (width_some _ g.met.C.Elem.BitStore.width_law) c.requires.phase (omega arith) in
+    rw all (rw c.BITS-bits.ensures at c.combine_joined-last.ensures.right)
+
+pub returns-clause-writes : goal.returns-clause-writes
+returns-clause-writes g c =
+    let b = g.C.Elem.BitStore.BITS in
+    let place = div-add-mod' c.args.from.start b in
+    let parts = div-add-mod' c.args.from.len b in
+    let start : c.args.from.start / b * b + c.args.from.start % b ≡ c.args.from.start = place in
+    let fits : c.args.from.len / b * b ≤ c.args.from.len = omega arith in
+    let first = rw c.BITS-bits.ensures at c.combine_joined-last.ensures.writes in
+    let rest = rw (c.after-rest.ensures, c.BITS-bits.ensures) at c.combine_end.ensures.writes in
+    let value = rw (c.after-tail.ensures, c.BITS-bits.ensures, c.combine_joined-last.ensures.right.numbers) at c.field_after-front.ensures.value in
+    let tail = rw (c.after-tail.ensures, c.BITS-bits.ensures, value) at c.padded.ensures in
+    Writes-some_met _ _ (operator c.args.op) _ _ _ _ _ _ _ _ _ _ c.requires.window c.requires.right_window c.requires.edge start fits c.requires.lengths first rest tail
+
+pub returns-clause-cost : goal.returns-clause-cost
+returns-clause-cost g c =
+    let b = g.C.Elem.BitStore.BITS in
+    let parts = div-add-mod' c.args.from.len b in
+    let lengths = c.requires.lengths in
+    let fits : c.args.from.len / b * b ≤ c.args.to.len = omega arith in
+    let all = touched-after b c.args.to.start c.args.to.len (c.args.from.len / b) (width_some _ g.met.C.Elem.BitStore.width_law) c.requires.edge fits in
+    let whole = rw c.BITS-bits.ensures at c.combine_joined-last.ensures.cost in
+    let rest = rw (c.after-rest.ensures, c.BITS-bits.ensures) at c.combine_end.ensures.cost in
+    record { borrow = search rules; loads = omega arith; stores = omega arith }
+
+pub returns-clause-right : goal.returns-clause-right
+returns-clause-right g c =
+    let b = g.C.Elem.BitStore.BITS in
+    let parts = div-add-mod' c.args.from.len b in
+    let long : c.args.from.len - c.args.from.len / b * b ≡ c.args.from.len % b = omega arith in
+    let some = rw (c.after-tail.ensures, c.BITS-bits.ensures) at c.if-tail-eq0.false in
+    let all = touched-from_more b c.args.from.start c.args.from.len (width_some _ g.met.C.Elem.BitStore.width_law) c.requires.phase (omega arith) in
+    let whole = rw c.BITS-bits.ensures at c.combine_joined-last.ensures.right in
+    let rest = rw (c.after-tail.ensures, c.BITS-bits.ensures, long) at c.field_after-front.ensures.reads in
+    record { numbers = search rules; borrow = search rules; loads = omega arith; stores = search rules }

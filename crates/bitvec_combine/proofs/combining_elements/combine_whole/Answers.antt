@@ -1,0 +1,36 @@
+use Rattle.std.proofs.Common.{◌+◌, ap, rules, List, Bool}
+use Rattle.bitvec_store.specs.WidthLaws.{width_some}
+use Rattle.bitvec_base.specs.Lists.{combined}
+use Rattle.bitvec_base.specs.Memory.{list_in}
+use Rattle.bitvec_base.specs.WritesLaws.{Writes-is}
+use Rattle.bitvec_words.specs.CombinedLaws.{Writes-combined, combined-none, length-elements}
+use Rattle.bitvec_words.specs.Elements.{elements_window}
+use Rattle.bitvec_words.specs.FieldLaws.{list-element}
+use Rattle.bitvec_words.specs.Operator.{operator}
+use Rattle.bitvec_combine.proofs.combining_elements.combine_whole.Goals as goal
+
+pub loop-step-init : goal.loop-step-init
+loop-step-init g c = record {
+  writes = combined-none _ _ _ _ _ _ _ c.requires.window;
+  cost = search rules;
+  right = search rules;
+}
+
+pub loop-step-preserved : goal.loop-step-preserved
+loop-step-preserved g c =
+    let b = g.C.Elem.BitStore.BITS in
+    let at = g.O.BitOrder.at in
+    let inv = c.loop-step.invariant in
+    let some = width_some _ g.met.C.Elem.BitStore.width_law in
+    let more = c.loop-step-test.true in
+    let other = rw inv.right.numbers at c.load-other.ensures.value in
+    let made = rw (c.load-element.ensures.value, other) at c.of_elements.ensures in
+    let list = list_in b at (g.C.CellsRead.numbers c.args.left.now) (elements_window b c.args.first (c.loop-step.step + 1)) in
+    record {
+      writes = rw (c.store.ensures.numbers, c.load-element.ensures.numbers)
+          (Writes-is _ _ _ _ _ _ _
+          (Writes-combined _ _ (operator c.args.op) _ _ _ _ _ _ _ _ some c.requires.window more (length-elements _ _ _ _ _ _ c.requires.right_window more) made inv.writes)
+          (ap (λ (l : List Bool). combined (operator c.args.op) list l) (list-element _ _ _ _ _ _ some c.requires.right_window more)));
+      cost = search rules;
+      right = search rules;
+    }

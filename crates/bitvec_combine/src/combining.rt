@@ -1,0 +1,144 @@
+//! Each bit of a window with the one at its index in another, elements at a time.
+ghost use Rattle.std.specs.Prelude.{◌≡◌, ℕ, ◌+◌, ◌-◌, ◌*◌, ◌/◌, ◌%◌, ◌<◌, ◌≤◌, slice_index, true};
+ghost use Rattle.bitvec_base.specs.Lists.{combined};
+ghost use Rattle.bitvec_base.specs.Memory.{HasWindow, Writes, list_in};
+ghost use Rattle.bitvec_cells.specs.Access.{CostsAtMost, OnlyReads, OnlyReadsAtMost};
+ghost use Rattle.bitvec_walk.specs.Cost.{edit_loads, read_loads, touched, write_stores};
+ghost use Rattle.bitvec_words.specs.Operator.{operator};
+
+use crate::combining_elements::{
+    combine_end, combine_head, combine_joined, combine_whole, combine_zeros, padded,
+};
+use bitvec_base::{BitOrder, Window, first_part};
+use bitvec_cells::{Cells, CellsRead};
+use bitvec_store::BitStore;
+use bitvec_words::{BitOp, WordOrder, field, field_after};
+
+/// Replaces each bit of a window by what the operator makes of it and the one at its index in a
+/// window of another memory of the same elements, which counts as 0 past that window's end.
+/// Condition: each memory has at most `MAX_BITS` bits, and each window lies in its memory. It loads
+/// and stores each element that the window touches at most once, and loads each element with a bit
+/// that both have on the right once.
+#[tactic(auto, using(bitvec_walk::specs::CostLaws::in_steps, bitvec_store::specs::WidthLaws::width_some))]
+pub fn combine<O: WordOrder, C: Cells, D: CellsRead<Elem = C::Elem>>(
+    left: &mut C,
+    to: Window,
+    right: &mut D,
+    from: Window,
+    op: BitOp,
+)
+    requires window { HasWindow C.Elem.BITS (C.numbers left.old) to }
+    requires right_window { HasWindow C.Elem.BITS (D.numbers right.old) from }
+    ensures writes { Writes C.Elem.BITS O.at (C.numbers left.old) (C.numbers left.new) to
+        (combined (operator op) (list_in C.Elem.BITS O.at (C.numbers left.old) to) (list_in C.Elem.BITS O.at (D.numbers right.old) from)) }
+    ensures cost { CostsAtMost C.CellsRead left.old left.new (edit_loads C.Elem.BITS true to.len) (write_stores C.Elem.BITS true to.len) }
+    ensures right { OnlyReadsAtMost D.CellsRead right.old right.new (read_loads C.Elem.BITS true to.len) }
+{
+    let met = to.len.min(from.len);
+    if met == 0 {
+        combine_zeros::<O, C>(left, to, op);
+        return;
+    }
+    combine_met::<O, C, D>(left, to, right, from.until(from.len - met), op);
+}
+
+/// The same, where the other window isn't empty and no longer.
+fn combine_met<O: WordOrder, C: Cells, D: CellsRead<Elem = C::Elem>>(
+    left: &mut C,
+    to: Window,
+    right: &mut D,
+    from: Window,
+    op: BitOp,
+)
+    requires window { HasWindow C.Elem.BITS (C.numbers left.old) to }
+    requires right_window { HasWindow C.Elem.BITS (D.numbers right.old) from }
+    requires some { 0 < from.len }
+    requires lengths { from.len ≤ to.len }
+    ensures writes { Writes C.Elem.BITS O.at (C.numbers left.old) (C.numbers left.new) to
+        (combined (operator op) (list_in C.Elem.BITS O.at (C.numbers left.old) to) (list_in C.Elem.BITS O.at (D.numbers right.old) from)) }
+    ensures cost { let each = touched C.Elem.BITS to.start to.len in CostsAtMost C.CellsRead left.old left.new each each }
+    ensures right { OnlyReads D.CellsRead right.old right.new (touched C.Elem.BITS from.start from.len) }
+{
+    let bits = C::Elem::BITS as usize;
+    let head = first_part(bits, to);
+    let passed = head.len();
+    let met = passed.min(from.len);
+    let carry = combine_head::<O, C, D>(left, head, right, from.until(from.len - met), op);
+    if passed == to.len {
+        return;
+    }
+    let rest = to.after(passed);
+    let behind = from.after(met);
+    if behind.start % bits == 0 {
+        combine_aligned::<O, C, D>(left, rest, right, behind, op);
+        return;
+    }
+    combine_shifted::<O, C, D>(left, rest, right, behind, carry, op);
+}
+
+/// The same for two windows that begin where elements do, of which the other may be empty.
+fn combine_aligned<O: WordOrder, C: Cells, D: CellsRead<Elem = C::Elem>>(
+    left: &mut C,
+    to: Window,
+    right: &mut D,
+    from: Window,
+    op: BitOp,
+)
+    requires window { HasWindow C.Elem.BITS (C.numbers left.old) to }
+    requires right_window { HasWindow C.Elem.BITS (D.numbers right.old) from }
+    requires lengths { from.len ≤ to.len }
+    requires edge { to.start % C.Elem.BITS ≡ 0 }
+    requires right_edge { from.start % C.Elem.BITS ≡ 0 }
+    ensures writes { Writes C.Elem.BITS O.at (C.numbers left.old) (C.numbers left.new) to
+        (combined (operator op) (list_in C.Elem.BITS O.at (C.numbers left.old) to) (list_in C.Elem.BITS O.at (D.numbers right.old) from)) }
+    ensures cost { let each = touched C.Elem.BITS to.start to.len in CostsAtMost C.CellsRead left.old left.new each each }
+    ensures right { OnlyReads D.CellsRead right.old right.new (touched C.Elem.BITS from.start from.len) }
+{
+    let bits = C::Elem::BITS as usize;
+    let count = from.len / bits;
+    let (first, source) = (to.start / bits, from.start / bits);
+    combine_whole::<O, C, D>(left, first, right, source, count, op);
+    let rest = to.after(count * bits);
+    let tail = from.after(count * bits);
+    if tail.len == 0 {
+        combine_zeros::<O, C>(left, rest, op);
+        return;
+    }
+    let (front, _) = field::<O, D>(right, tail);
+    combine_end::<O, C>(left, rest, padded::<O, C::Elem>(front, tail.len), op);
+}
+
+/// The same for a window that begins where an element does and another that doesn't, whose first
+/// element was loaded before.
+fn combine_shifted<O: WordOrder, C: Cells, D: CellsRead<Elem = C::Elem>>(
+    left: &mut C,
+    to: Window,
+    right: &mut D,
+    from: Window,
+    carry: C::Elem,
+    op: BitOp,
+)
+    requires window { HasWindow C.Elem.BITS (C.numbers left.old) to }
+    requires right_window { HasWindow C.Elem.BITS (D.numbers right.old) from }
+    requires lengths { from.len ≤ to.len }
+    requires edge { to.start % C.Elem.BITS ≡ 0 }
+    requires phase { 0 < from.start % C.Elem.BITS }
+    requires carry { C.Elem.value carry ≡ slice_index (D.numbers right.old) (from.start / C.Elem.BITS) }
+    ensures writes { Writes C.Elem.BITS O.at (C.numbers left.old) (C.numbers left.new) to
+        (combined (operator op) (list_in C.Elem.BITS O.at (C.numbers left.old) to) (list_in C.Elem.BITS O.at (D.numbers right.old) from)) }
+    ensures cost { let each = touched C.Elem.BITS to.start to.len in CostsAtMost C.CellsRead left.old left.new each each }
+    ensures right { OnlyReads D.CellsRead right.old right.new (touched C.Elem.BITS from.start from.len - 1) }
+{
+    let bits = C::Elem::BITS as usize;
+    let count = from.len / bits;
+    let (first, source, skip) = (to.start / bits, from.start / bits, from.start % bits);
+    let last = combine_joined::<O, C, D>(left, first, right, source, carry, skip, count, op);
+    let rest = to.after(count * bits);
+    let tail = from.after(count * bits);
+    if tail.len == 0 {
+        combine_zeros::<O, C>(left, rest, op);
+        return;
+    }
+    let (front, _) = field_after::<O, D>(right, tail, last);
+    combine_end::<O, C>(left, rest, padded::<O, C::Elem>(front, tail.len), op);
+}

@@ -1,0 +1,163 @@
+//! Elements with the bits of others: a part of one, many whole ones, and zeros.
+ghost use Rattle.std.specs.Prelude.{◌≡◌, ℕ, ◌+◌, ◌-◌, ◌*◌, ◌/◌, ◌%◌, ◌<◌, ◌≤◌, [], false, min, ◌++◌, replicate, slice_index, slice_range, take};
+ghost use Rattle.bitvec_base.specs.Lists.{combined};
+ghost use Rattle.bitvec_base.specs.Memory.{HasWindow, Writes, element_bits, list_in};
+ghost use Rattle.bitvec_base.specs.Parts.{HasPart, part_window};
+ghost use Rattle.bitvec_cells.specs.Access.{Costs, CostsAtMost, OnlyReads, OnlyReadsAtMost};
+ghost use Rattle.bitvec_walk.specs.Cost.{touched};
+ghost use Rattle.bitvec_words.specs.Elements.{elements_window, elements_window_from};
+ghost use Rattle.bitvec_words.specs.Operator.{operator};
+
+use bitvec_base::{BitOrder, Part, Window, first_part};
+use bitvec_cells::{Cells, CellsRead};
+use bitvec_store::BitStore;
+use bitvec_words::{BitOp, WordOrder, field, fill, joined, merged, toward_end};
+
+/// Replaces the bits of a part by what the operator makes of them and the bits of an element at the
+/// same indices.
+pub(crate) fn combine_part<O: BitOrder, C: Cells>(
+    cells: &mut C,
+    part: Part,
+    other: C::Elem,
+    op: BitOp,
+)
+    requires { HasPart C.Elem.BITS (C.numbers cells.old) part }
+    ensures writes { Writes C.Elem.BITS O.at (C.numbers cells.old) (C.numbers cells.new) (part_window C.Elem.BITS part)
+        (combined (operator op) (list_in C.Elem.BITS O.at (C.numbers cells.old) (part_window C.Elem.BITS part))
+        (slice_range (element_bits C.Elem.BITS O.at (C.Elem.value other)) part.from part.to)) }
+    ensures cost { Costs C.CellsRead cells.old cells.new 1 1 }
+{
+    let old = cells.load(part.element);
+    let new = op.of_elements::<O, C::Elem>(old, other);
+    cells.store(
+        part.element,
+        merged::<O, C::Elem>(old, new, part.from, part.to),
+    );
+}
+
+/// The element with zeros behind its first `len` bits.
+pub(crate) fn padded<O: BitOrder, T: BitStore>(element: T, len: usize) -> T
+    requires { len ≤ T.BITS }
+    ensures { element_bits T.BITS O.at (T.value result)
+        ≡ take len (element_bits T.BITS O.at (T.value element)) ++ replicate (T.BITS - len) false }
+{
+    merged::<O, T>(T::ZERO, element, 0, len)
+}
+
+/// Replaces the bits of a part by what the operator makes of them and the bits of a window that is
+/// no longer, with zeros behind these. It gives the last element loaded.
+pub(crate) fn combine_head<O: WordOrder, C: Cells, D: CellsRead<Elem = C::Elem>>(
+    left: &mut C,
+    part: Part,
+    right: &mut D,
+    from: Window,
+    op: BitOp,
+) -> C::Elem
+    requires part { HasPart C.Elem.BITS (C.numbers left.old) part }
+    requires right_window { HasWindow C.Elem.BITS (D.numbers right.old) from }
+    requires some { 0 < from.len }
+    requires bound { part.from + from.len ≤ part.to }
+    ensures writes { Writes C.Elem.BITS O.at (C.numbers left.old) (C.numbers left.new) (part_window C.Elem.BITS part)
+        (combined (operator op) (list_in C.Elem.BITS O.at (C.numbers left.old) (part_window C.Elem.BITS part))
+        (list_in C.Elem.BITS O.at (D.numbers right.old) from)) }
+    ensures last { C.Elem.value result ≡ slice_index (D.numbers right.old) ((from.start + from.len - 1) / C.Elem.BITS) }
+    ensures cost { Costs C.CellsRead left.old left.new 1 1 }
+    ensures right { OnlyReads D.CellsRead right.old right.new (touched C.Elem.BITS from.start from.len) }
+{
+    let (front, last) = field::<O, D>(right, from);
+    let other = padded::<O, C::Elem>(front, from.len);
+    combine_part::<O, C>(left, part, toward_end::<O, C::Elem>(other, part.from), op);
+    last
+}
+
+/// Replaces the bits of a window by what the operator makes of them and zeros.
+pub(crate) fn combine_zeros<O: BitOrder, C: Cells>(cells: &mut C, window: Window, op: BitOp)
+    requires { HasWindow C.Elem.BITS (C.numbers cells.old) window }
+    ensures writes { Writes C.Elem.BITS O.at (C.numbers cells.old) (C.numbers cells.new) window
+        (combined (operator op) (list_in C.Elem.BITS O.at (C.numbers cells.old) window) []) }
+    ensures cost { let each = touched C.Elem.BITS window.start window.len in CostsAtMost C.CellsRead cells.old cells.new each each }
+{
+    match op {
+        BitOp::And => fill::<O, C>(cells, window, false),
+        BitOp::Or | BitOp::Xor => {}
+    }
+}
+
+/// Replaces the bits of a window that begins where an element does by what the operator makes of
+/// them and the bits of an element, with zeros behind these.
+pub(crate) fn combine_end<O: BitOrder, C: Cells>(
+    cells: &mut C,
+    window: Window,
+    other: C::Elem,
+    op: BitOp,
+)
+    requires window { HasWindow C.Elem.BITS (C.numbers cells.old) window }
+    requires some { 0 < window.len }
+    requires edge { window.start % C.Elem.BITS ≡ 0 }
+    ensures writes { Writes C.Elem.BITS O.at (C.numbers cells.old) (C.numbers cells.new) window
+        (combined (operator op) (list_in C.Elem.BITS O.at (C.numbers cells.old) window) (element_bits C.Elem.BITS O.at (C.Elem.value other))) }
+    ensures cost { let each = touched C.Elem.BITS window.start window.len in CostsAtMost C.CellsRead cells.old cells.new each each }
+{
+    let part = first_part(C::Elem::BITS as usize, window);
+    combine_part::<O, C>(cells, part, other, op);
+    combine_zeros::<O, C>(cells, window.after(part.len()), op);
+}
+
+/// Combines `count` whole elements with as many of another memory, each loaded once.
+pub(crate) fn combine_whole<O: BitOrder, C: Cells, D: CellsRead<Elem = C::Elem>>(
+    left: &mut C,
+    first: usize,
+    right: &mut D,
+    source: usize,
+    count: usize,
+    op: BitOp,
+)
+    requires window { HasWindow C.Elem.BITS (C.numbers left.old) (elements_window C.Elem.BITS first count) }
+    requires right_window { HasWindow C.Elem.BITS (D.numbers right.old) (elements_window C.Elem.BITS source count) }
+    ensures writes { Writes C.Elem.BITS O.at (C.numbers left.old) (C.numbers left.new) (elements_window C.Elem.BITS first count)
+        (combined (operator op) (list_in C.Elem.BITS O.at (C.numbers left.old) (elements_window C.Elem.BITS first count))
+        (list_in C.Elem.BITS O.at (D.numbers right.old) (elements_window C.Elem.BITS source count))) }
+    ensures cost { Costs C.CellsRead left.old left.new count count }
+    ensures right { OnlyReads D.CellsRead right.old right.new count }
+{
+    for step in 0..count {
+        let other = right.load(source + step);
+        let element = left.load(first + step);
+        left.store(first + step, op.of_elements::<O, C::Elem>(element, other));
+    }
+}
+
+/// Combines `count` whole elements with the bits at the index `skip` of an element of another
+/// memory on, where that element is `carry`. It gives the last element loaded.
+pub(crate) fn combine_joined<O: WordOrder, C: Cells, D: CellsRead<Elem = C::Elem>>(
+    left: &mut C,
+    first: usize,
+    right: &mut D,
+    source: usize,
+    carry: C::Elem,
+    skip: usize,
+    count: usize,
+    op: BitOp,
+) -> C::Elem
+    requires window { HasWindow C.Elem.BITS (C.numbers left.old) (elements_window C.Elem.BITS first count) }
+    requires right_window { HasWindow C.Elem.BITS (D.numbers right.old) (elements_window_from C.Elem.BITS source skip count) }
+    requires some { 0 < skip }
+    requires bound { skip < C.Elem.BITS }
+    requires carry { C.Elem.value carry ≡ slice_index (D.numbers right.old) source }
+    ensures writes { Writes C.Elem.BITS O.at (C.numbers left.old) (C.numbers left.new) (elements_window C.Elem.BITS first count)
+        (combined (operator op) (list_in C.Elem.BITS O.at (C.numbers left.old) (elements_window C.Elem.BITS first count))
+        (list_in C.Elem.BITS O.at (D.numbers right.old) (elements_window_from C.Elem.BITS source skip count))) }
+    ensures carried { C.Elem.value result ≡ slice_index (D.numbers right.old) (source + count) }
+    ensures cost { Costs C.CellsRead left.old left.new count count }
+    ensures right { OnlyReads D.CellsRead right.old right.new count }
+{
+    let mut last = carry;
+    for step in 0..count {
+        let next = right.load(source + step + 1);
+        let other = joined::<O, C::Elem>(last, next, skip);
+        let element = left.load(first + step);
+        left.store(first + step, op.of_elements::<O, C::Elem>(element, other));
+        last = next;
+    }
+    last
+}

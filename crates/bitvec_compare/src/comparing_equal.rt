@@ -1,0 +1,175 @@
+//! Windows compared that begin at the same index of an element: elements as they are.
+ghost use Rattle.std.specs.Prelude.{◌≡◌, ℕ, ◌*◌, ◌/◌, ◌%◌, ◌<◌, ◌==◌, length};
+ghost use Rattle.bitvec_base.specs.Lists.{same_bits};
+ghost use Rattle.bitvec_base.specs.Memory.{HasWindow, list_in};
+ghost use Rattle.bitvec_base.specs.Parts.{HasPart, part_window};
+ghost use Rattle.bitvec_cells.specs.Access.{OnlyReads, OnlyReadsAtMost};
+ghost use Rattle.bitvec_walk.specs.Cost.{touched};
+ghost use Rattle.bitvec_words.specs.Elements.{elements_window};
+
+use bitvec_base::{BitOrder, Part, Window, first_part};
+use bitvec_cells::CellsRead;
+use bitvec_store::BitStore;
+use bitvec_words::same_between;
+
+/// How many elements are compared before each test. A test after each single one would keep the
+/// loop from vector instructions.
+pub(crate) const ELEMENTS_PER_TEST: usize = 32;
+
+/// Whether a window has the bits of one whose first bit has the same index in its element.
+/// Condition: as of [`crate::equal`], and the windows aren't empty.
+pub(crate) fn equal_unshifted<O: BitOrder, C: CellsRead, D: CellsRead<Elem = C::Elem>>(
+    left: &mut C,
+    left_window: Window,
+    right: &mut D,
+    right_window: Window,
+) -> bool
+    requires window { HasWindow C.Elem.BITS (C.numbers left.old) left_window }
+    requires right_window { HasWindow C.Elem.BITS (D.numbers right.old) right_window }
+    requires lengths { left_window.len ≡ right_window.len }
+    requires some { 0 < left_window.len }
+    requires phases { left_window.start % C.Elem.BITS ≡ right_window.start % C.Elem.BITS }
+    ensures value { result ≡ same_bits (list_in C.Elem.BITS O.at (C.numbers left.old) left_window)
+        (list_in C.Elem.BITS O.at (D.numbers right.old) right_window) }
+    ensures reads { OnlyReadsAtMost C.CellsRead left.old left.new (touched C.Elem.BITS left_window.start left_window.len) }
+    ensures right { OnlyReadsAtMost D.CellsRead right.old right.new (touched C.Elem.BITS right_window.start right_window.len) }
+{
+    let bits = C::Elem::BITS as usize;
+    let head = first_part(bits, left_window);
+    if !equal_part::<O, C, D>(left, head, right, right_window.start / bits) {
+        return false;
+    }
+    let passed = head.len();
+    if passed == left_window.len {
+        return true;
+    }
+    equal_aligned::<O, C, D>(
+        left,
+        left_window.after(passed),
+        right,
+        right_window.after(passed),
+    )
+}
+
+/// Whether a window that begins where an element does has the bits of another that does.
+fn equal_aligned<O: BitOrder, C: CellsRead, D: CellsRead<Elem = C::Elem>>(
+    left: &mut C,
+    left_window: Window,
+    right: &mut D,
+    right_window: Window,
+) -> bool
+    requires window { HasWindow C.Elem.BITS (C.numbers left.old) left_window }
+    requires right_window { HasWindow C.Elem.BITS (D.numbers right.old) right_window }
+    requires lengths { left_window.len ≡ right_window.len }
+    requires edge { left_window.start % C.Elem.BITS ≡ 0 }
+    requires right_edge { right_window.start % C.Elem.BITS ≡ 0 }
+    ensures value { result ≡ same_bits (list_in C.Elem.BITS O.at (C.numbers left.old) left_window)
+        (list_in C.Elem.BITS O.at (D.numbers right.old) right_window) }
+    ensures reads { OnlyReadsAtMost C.CellsRead left.old left.new (touched C.Elem.BITS left_window.start left_window.len) }
+    ensures right { OnlyReadsAtMost D.CellsRead right.old right.new (touched C.Elem.BITS right_window.start right_window.len) }
+{
+    let bits = C::Elem::BITS as usize;
+    let (first, source) = (left_window.start / bits, right_window.start / bits);
+    let tests = left_window.len / bits / ELEMENTS_PER_TEST;
+    for test in 0..tests {
+        let passed = test * ELEMENTS_PER_TEST;
+        let found = differences::<O, C, D>(
+            left,
+            first + passed,
+            right,
+            source + passed,
+            ELEMENTS_PER_TEST,
+        );
+        if found.to_u128() != 0 {
+            return false;
+        }
+    }
+    let passed = tests * ELEMENTS_PER_TEST * bits;
+    equal_aligned_rest::<O, C, D>(
+        left,
+        left_window.after(passed),
+        right,
+        right_window.after(passed),
+    )
+}
+
+/// The same, with one test after all whole elements.
+fn equal_aligned_rest<O: BitOrder, C: CellsRead, D: CellsRead<Elem = C::Elem>>(
+    left: &mut C,
+    left_window: Window,
+    right: &mut D,
+    right_window: Window,
+) -> bool
+    requires window { HasWindow C.Elem.BITS (C.numbers left.old) left_window }
+    requires right_window { HasWindow C.Elem.BITS (D.numbers right.old) right_window }
+    requires lengths { left_window.len ≡ right_window.len }
+    requires edge { left_window.start % C.Elem.BITS ≡ 0 }
+    requires right_edge { right_window.start % C.Elem.BITS ≡ 0 }
+    ensures value { result ≡ same_bits (list_in C.Elem.BITS O.at (C.numbers left.old) left_window)
+        (list_in C.Elem.BITS O.at (D.numbers right.old) right_window) }
+    ensures reads { OnlyReadsAtMost C.CellsRead left.old left.new (touched C.Elem.BITS left_window.start left_window.len) }
+    ensures right { OnlyReadsAtMost D.CellsRead right.old right.new (touched C.Elem.BITS right_window.start right_window.len) }
+{
+    let bits = C::Elem::BITS as usize;
+    let count = left_window.len / bits;
+    let (first, source) = (left_window.start / bits, right_window.start / bits);
+    let found = differences::<O, C, D>(left, first, right, source, count);
+    if found.to_u128() != 0 {
+        return false;
+    }
+    let rest = left_window.len % bits;
+    if rest == 0 {
+        return true;
+    }
+    let tail = Part {
+        element: first + count,
+        from: 0,
+        to: rest,
+    };
+    equal_part::<O, C, D>(left, tail, right, source + count)
+}
+
+/// An element with each bit that differs in any of `count` whole elements: 0 exactly where all are
+/// the same.
+fn differences<O: BitOrder, C: CellsRead, D: CellsRead<Elem = C::Elem>>(
+    left: &mut C,
+    first: usize,
+    right: &mut D,
+    source: usize,
+    count: usize,
+) -> C::Elem
+    requires window { HasWindow C.Elem.BITS (C.numbers left.old) (elements_window C.Elem.BITS first count) }
+    requires right_window { HasWindow C.Elem.BITS (D.numbers right.old) (elements_window C.Elem.BITS source count) }
+    ensures value { (C.Elem.value result == 0)
+        ≡ same_bits (list_in C.Elem.BITS O.at (C.numbers left.old) (elements_window C.Elem.BITS first count))
+        (list_in C.Elem.BITS O.at (D.numbers right.old) (elements_window C.Elem.BITS source count)) }
+    ensures reads { OnlyReads C.CellsRead left.old left.new count }
+    ensures right { OnlyReads D.CellsRead right.old right.new count }
+{
+    let mut found = C::Elem::ZERO;
+    for step in 0..count {
+        let element = left.load(first + step);
+        let other = right.load(source + step);
+        found = found.or(element.xor(other));
+    }
+    found
+}
+
+/// Whether a part has the bits of an element at the same indices.
+fn equal_part<O: BitOrder, C: CellsRead, D: CellsRead<Elem = C::Elem>>(
+    left: &mut C,
+    part: Part,
+    right: &mut D,
+    source: usize,
+) -> bool
+    requires part { HasPart C.Elem.BITS (C.numbers left.old) part }
+    requires source { source < length (D.numbers right.old) }
+    ensures value { result ≡ same_bits (list_in C.Elem.BITS O.at (C.numbers left.old) (part_window C.Elem.BITS part))
+        (list_in C.Elem.BITS O.at (D.numbers right.old) (part_window C.Elem.BITS (record part { element = source }))) }
+    ensures reads { OnlyReads C.CellsRead left.old left.new 1 }
+    ensures right { OnlyReads D.CellsRead right.old right.new 1 }
+{
+    let element = left.load(part.element);
+    let other = right.load(source);
+    same_between::<O, C::Elem>(element, other, part.from, part.to)
+}

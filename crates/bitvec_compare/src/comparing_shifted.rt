@@ -1,0 +1,244 @@
+//! Windows compared that begin at different indices of an element: each element on the left with
+//! one that is joined of two on the right.
+ghost use Rattle.std.specs.Prelude.{◌≡◌, ◌≢◌, ℕ, ◌+◌, ◌-◌, ◌*◌, ◌/◌, ◌%◌, ◌<◌, ◌≤◌, ◌==◌, length, slice_index};
+ghost use Rattle.bitvec_base.specs.Lists.{same_bits};
+ghost use Rattle.bitvec_base.specs.Memory.{HasWindow, list_in};
+ghost use Rattle.bitvec_base.specs.Parts.{HasPart, part_window};
+ghost use Rattle.bitvec_cells.specs.Access.{OnlyReads, OnlyReadsAtMost};
+ghost use Rattle.bitvec_walk.specs.Cost.{touched};
+ghost use Rattle.bitvec_words.specs.Elements.{elements_window, elements_window_from};
+
+use crate::comparing_equal::ELEMENTS_PER_TEST;
+use bitvec_base::{BitOrder, Part, Window, first_part};
+use bitvec_cells::CellsRead;
+use bitvec_store::BitStore;
+use bitvec_words::{WordOrder, field, field_after, joined, same_between, toward_end};
+
+/// Whether a window has the bits of one whose first bit has another index in its element.
+/// Condition: as of [`crate::equal`], and the windows aren't empty.
+pub(crate) fn equal_shifted<O: WordOrder, C: CellsRead, D: CellsRead<Elem = C::Elem>>(
+    left: &mut C,
+    left_window: Window,
+    right: &mut D,
+    right_window: Window,
+) -> bool
+    requires window { HasWindow C.Elem.BITS (C.numbers left.old) left_window }
+    requires right_window { HasWindow C.Elem.BITS (D.numbers right.old) right_window }
+    requires lengths { left_window.len ≡ right_window.len }
+    requires some { 0 < left_window.len }
+    requires phases { left_window.start % C.Elem.BITS ≢ right_window.start % C.Elem.BITS }
+    ensures value { result ≡ same_bits (list_in C.Elem.BITS O.at (C.numbers left.old) left_window)
+        (list_in C.Elem.BITS O.at (D.numbers right.old) right_window) }
+    ensures reads { OnlyReadsAtMost C.CellsRead left.old left.new (touched C.Elem.BITS left_window.start left_window.len) }
+    ensures right { OnlyReadsAtMost D.CellsRead right.old right.new (touched C.Elem.BITS right_window.start right_window.len) }
+{
+    let bits = C::Elem::BITS as usize;
+    if left_window.start % bits == 0 {
+        let carry = right.load(right_window.start / bits);
+        return equal_carried::<O, C, D>(left, left_window, right, right_window, carry);
+    }
+    let head = first_part(bits, left_window);
+    let passed = head.len();
+    let beginning = right_window.until(right_window.len - passed);
+    let (same, carry) = equal_shifted_head::<O, C, D>(left, head, right, beginning);
+    if !same {
+        return false;
+    }
+    if passed == left_window.len {
+        return true;
+    }
+    equal_carried::<O, C, D>(
+        left,
+        left_window.after(passed),
+        right,
+        right_window.after(passed),
+        carry,
+    )
+}
+
+/// Whether a part of one element has the bits of a window, and the last element loaded on the
+/// right.
+fn equal_shifted_head<O: WordOrder, C: CellsRead, D: CellsRead<Elem = C::Elem>>(
+    left: &mut C,
+    part: Part,
+    right: &mut D,
+    window: Window,
+) -> (bool, C::Elem)
+    requires part { HasPart C.Elem.BITS (C.numbers left.old) part }
+    requires right_window { HasWindow C.Elem.BITS (D.numbers right.old) window }
+    requires lengths { part.to ≡ part.from + window.len }
+    requires some { 0 < window.len }
+    ensures value { result.0 ≡ same_bits (list_in C.Elem.BITS O.at (C.numbers left.old) (part_window C.Elem.BITS part))
+        (list_in C.Elem.BITS O.at (D.numbers right.old) window) }
+    ensures last { C.Elem.value result.1
+        ≡ slice_index (D.numbers right.old) ((window.start + window.len - 1) / C.Elem.BITS) }
+    ensures reads { OnlyReads C.CellsRead left.old left.new 1 }
+    ensures right { OnlyReads D.CellsRead right.old right.new (touched C.Elem.BITS window.start window.len) }
+{
+    let (front, last) = field::<O, D>(right, window);
+    let moved = toward_end::<O, C::Elem>(front, part.from);
+    let element = left.load(part.element);
+    (
+        same_between::<O, C::Elem>(element, moved, part.from, part.to),
+        last,
+    )
+}
+
+/// Whether a window that begins where an element does has the bits of another that doesn't, where
+/// the first element that the other window touches was loaded before, and isn't loaded again.
+fn equal_carried<O: WordOrder, C: CellsRead, D: CellsRead<Elem = C::Elem>>(
+    left: &mut C,
+    left_window: Window,
+    right: &mut D,
+    right_window: Window,
+    carry: C::Elem,
+) -> bool
+    requires window { HasWindow C.Elem.BITS (C.numbers left.old) left_window }
+    requires right_window { HasWindow C.Elem.BITS (D.numbers right.old) right_window }
+    requires lengths { left_window.len ≡ right_window.len }
+    requires edge { left_window.start % C.Elem.BITS ≡ 0 }
+    requires phase { 0 < right_window.start % C.Elem.BITS }
+    requires carry { C.Elem.value carry ≡ slice_index (D.numbers right.old) (right_window.start / C.Elem.BITS) }
+    ensures value { result ≡ same_bits (list_in C.Elem.BITS O.at (C.numbers left.old) left_window)
+        (list_in C.Elem.BITS O.at (D.numbers right.old) right_window) }
+    ensures reads { OnlyReadsAtMost C.CellsRead left.old left.new (touched C.Elem.BITS left_window.start left_window.len) }
+    ensures right { OnlyReadsAtMost D.CellsRead right.old right.new (touched C.Elem.BITS right_window.start right_window.len - 1) }
+{
+    let bits = C::Elem::BITS as usize;
+    let (first, source, skip) = (
+        left_window.start / bits,
+        right_window.start / bits,
+        right_window.start % bits,
+    );
+    let tests = left_window.len / bits / ELEMENTS_PER_TEST;
+    let mut last = carry;
+    for test in 0..tests {
+        let passed = test * ELEMENTS_PER_TEST;
+        let (found, next) = shifted_differences::<O, C, D>(
+            left,
+            first + passed,
+            right,
+            source + passed,
+            last,
+            skip,
+            ELEMENTS_PER_TEST,
+        );
+        if found.to_u128() != 0 {
+            return false;
+        }
+        last = next;
+    }
+    let passed = tests * ELEMENTS_PER_TEST * bits;
+    equal_carried_rest::<O, C, D>(
+        left,
+        left_window.after(passed),
+        right,
+        right_window.after(passed),
+        last,
+    )
+}
+
+/// The same, with one test after all whole elements.
+fn equal_carried_rest<O: WordOrder, C: CellsRead, D: CellsRead<Elem = C::Elem>>(
+    left: &mut C,
+    left_window: Window,
+    right: &mut D,
+    right_window: Window,
+    carry: C::Elem,
+) -> bool
+    requires window { HasWindow C.Elem.BITS (C.numbers left.old) left_window }
+    requires right_window { HasWindow C.Elem.BITS (D.numbers right.old) right_window }
+    requires lengths { left_window.len ≡ right_window.len }
+    requires edge { left_window.start % C.Elem.BITS ≡ 0 }
+    requires phase { 0 < right_window.start % C.Elem.BITS }
+    requires carry { C.Elem.value carry ≡ slice_index (D.numbers right.old) (right_window.start / C.Elem.BITS) }
+    ensures value { result ≡ same_bits (list_in C.Elem.BITS O.at (C.numbers left.old) left_window)
+        (list_in C.Elem.BITS O.at (D.numbers right.old) right_window) }
+    ensures reads { OnlyReadsAtMost C.CellsRead left.old left.new (touched C.Elem.BITS left_window.start left_window.len) }
+    ensures right { OnlyReadsAtMost D.CellsRead right.old right.new (touched C.Elem.BITS right_window.start right_window.len - 1) }
+{
+    let bits = C::Elem::BITS as usize;
+    let count = left_window.len / bits;
+    let (first, source, skip) = (
+        left_window.start / bits,
+        right_window.start / bits,
+        right_window.start % bits,
+    );
+    let (found, last) = shifted_differences::<O, C, D>(
+        left, first, right, source, carry, skip, count,
+    );
+    if found.to_u128() != 0 {
+        return false;
+    }
+    if left_window.len % bits == 0 {
+        return true;
+    }
+    equal_shifted_tail::<O, C, D>(
+        left,
+        first + count,
+        right,
+        right_window.after(count * bits),
+        last,
+    )
+}
+
+/// Whether an element begins with the bits of a window, where the first element that the window
+/// touches was loaded before.
+fn equal_shifted_tail<O: WordOrder, C: CellsRead, D: CellsRead<Elem = C::Elem>>(
+    left: &mut C,
+    element: usize,
+    right: &mut D,
+    window: Window,
+    carry: C::Elem,
+) -> bool
+    requires element { element < length (C.numbers left.old) }
+    requires right_window { HasWindow C.Elem.BITS (D.numbers right.old) window }
+    requires some { 0 < window.len }
+    requires bound { window.len ≤ C.Elem.BITS }
+    requires carry { C.Elem.value carry ≡ slice_index (D.numbers right.old) (window.start / C.Elem.BITS) }
+    ensures value { result ≡ same_bits (list_in C.Elem.BITS O.at (C.numbers left.old) (part_window C.Elem.BITS (record { element = element; from = 0; to = window.len })))
+        (list_in C.Elem.BITS O.at (D.numbers right.old) window) }
+    ensures reads { OnlyReads C.CellsRead left.old left.new 1 }
+    ensures right { OnlyReads D.CellsRead right.old right.new (touched C.Elem.BITS window.start window.len - 1) }
+{
+    let (front, _) = field_after::<O, D>(right, window, carry);
+    let beginning = left.load(element);
+    same_between::<O, C::Elem>(beginning, front, 0, window.len)
+}
+
+/// An element with each bit in which any of `count` whole elements differs from the bits at the
+/// index `skip` of an element on, where that element is `carry`: 0 exactly where all are the same.
+/// The other is the last element loaded.
+fn shifted_differences<O: WordOrder, C: CellsRead, D: CellsRead<Elem = C::Elem>>(
+    left: &mut C,
+    first: usize,
+    right: &mut D,
+    source: usize,
+    carry: C::Elem,
+    skip: usize,
+    count: usize,
+) -> (C::Elem, C::Elem)
+    requires window { HasWindow C.Elem.BITS (C.numbers left.old) (elements_window C.Elem.BITS first count) }
+    requires right_window { HasWindow C.Elem.BITS (D.numbers right.old) (elements_window_from C.Elem.BITS source skip count) }
+    requires some { 0 < skip }
+    requires bound { skip < C.Elem.BITS }
+    requires carry { C.Elem.value carry ≡ slice_index (D.numbers right.old) source }
+    ensures value { (C.Elem.value result.0 == 0)
+        ≡ same_bits (list_in C.Elem.BITS O.at (C.numbers left.old) (elements_window C.Elem.BITS first count))
+        (list_in C.Elem.BITS O.at (D.numbers right.old) (elements_window_from C.Elem.BITS source skip count)) }
+    ensures carried { C.Elem.value result.1 ≡ slice_index (D.numbers right.old) (source + count) }
+    ensures reads { OnlyReads C.CellsRead left.old left.new count }
+    ensures right { OnlyReads D.CellsRead right.old right.new count }
+{
+    let mut found = C::Elem::ZERO;
+    let mut last = carry;
+    for step in 0..count {
+        let next = right.load(source + step + 1);
+        let element = left.load(first + step);
+        let other = joined::<O, C::Elem>(last, next, skip);
+        other.in_range();
+        found = found.or(element.xor(other));
+        last = next;
+    }
+    (found, last)
+}

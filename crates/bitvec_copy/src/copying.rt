@@ -1,0 +1,42 @@
+//! Bits copied from one window to another.
+ghost use Rattle.std.specs.Prelude.{◌≡◌, true};
+ghost use Rattle.bitvec_base.specs.Memory.{HasWindow, Writes, list_in};
+ghost use Rattle.bitvec_cells.specs.Access.{CostsAtMost, OnlyReadsAtMost};
+ghost use Rattle.bitvec_walk.specs.Cost.{read_loads, write_loads, write_stores};
+
+use crate::copying_equal::copy_equal;
+use crate::copying_shifted::copy_shifted;
+use bitvec_base::{BitOrder, Window};
+use bitvec_cells::{Cells, CellsRead};
+use bitvec_store::BitStore;
+use bitvec_words::WordOrder;
+
+/// Copies the bits of a window of another memory of the same elements. Condition: each memory has
+/// at most `MAX_BITS` bits, each window lies in its memory, and the windows are as long. On the left
+/// it stores each element that the window touches once, and loads at most the first and the last;
+/// on the right it loads each element that the window touches once.
+#[tactic(auto, using(bitvec_walk::specs::CostLaws::in_steps, bitvec_store::specs::WidthLaws::width_some))]
+pub fn copy<O: WordOrder, C: Cells, D: CellsRead<Elem = C::Elem>>(
+    left: &mut C,
+    to: Window,
+    right: &mut D,
+    from: Window,
+)
+    requires window { HasWindow C.Elem.BITS (C.numbers left.old) to }
+    requires right_window { HasWindow C.Elem.BITS (D.numbers right.old) from }
+    requires lengths { to.len ≡ from.len }
+    ensures writes { Writes C.Elem.BITS O.at (C.numbers left.old) (C.numbers left.new) to
+        (list_in C.Elem.BITS O.at (D.numbers right.old) from) }
+    ensures cost { CostsAtMost C.CellsRead left.old left.new (write_loads C.Elem.BITS true to.len) (write_stores C.Elem.BITS true to.len) }
+    ensures right { OnlyReadsAtMost D.CellsRead right.old right.new (read_loads C.Elem.BITS true to.len) }
+{
+    if to.len == 0 {
+        return;
+    }
+    let bits = C::Elem::BITS as usize;
+    if to.start % bits == from.start % bits {
+        copy_equal::<O, C, D>(left, to, right, from);
+    } else {
+        copy_shifted::<O, C, D>(left, to, right, from);
+    }
+}

@@ -1,0 +1,112 @@
+//! Bits copied between windows that begin at the same index of an element: elements as they are.
+ghost use Rattle.std.specs.Prelude.{◌≡◌, ℕ, ◌*◌, ◌/◌, ◌%◌, ◌<◌, length};
+ghost use Rattle.bitvec_base.specs.Memory.{HasWindow, Writes, list_in};
+ghost use Rattle.bitvec_base.specs.Parts.{HasPart, part_window};
+ghost use Rattle.bitvec_cells.specs.Access.{Costs, CostsAtMost, OnlyReads};
+ghost use Rattle.bitvec_walk.specs.Cost.{part_loads, touched};
+ghost use Rattle.bitvec_words.specs.Elements.{elements_window};
+
+use bitvec_base::{BitOrder, Part, Window, first_part};
+use bitvec_cells::{Cells, CellsRead};
+use bitvec_store::BitStore;
+use bitvec_words::store_part;
+
+/// Copies a window whose first bit has the same index in its element as that of the other window.
+/// Condition: as of [`crate::copy`], and the windows aren't empty.
+pub(crate) fn copy_equal<O: BitOrder, C: Cells, D: CellsRead<Elem = C::Elem>>(
+    left: &mut C,
+    to: Window,
+    right: &mut D,
+    from: Window,
+)
+    requires window { HasWindow C.Elem.BITS (C.numbers left.old) to }
+    requires right_window { HasWindow C.Elem.BITS (D.numbers right.old) from }
+    requires lengths { to.len ≡ from.len }
+    requires some { 0 < to.len }
+    requires phases { to.start % C.Elem.BITS ≡ from.start % C.Elem.BITS }
+    ensures writes { Writes C.Elem.BITS O.at (C.numbers left.old) (C.numbers left.new) to
+        (list_in C.Elem.BITS O.at (D.numbers right.old) from) }
+    ensures cost { CostsAtMost C.CellsRead left.old left.new 2 (touched C.Elem.BITS to.start to.len) }
+    ensures right { OnlyReads D.CellsRead right.old right.new (touched C.Elem.BITS from.start from.len) }
+{
+    let bits = C::Elem::BITS as usize;
+    let head = first_part(bits, to);
+    copy_part::<O, C, D>(left, head, right, from.start / bits);
+    let passed = head.len();
+    if passed == to.len {
+        return;
+    }
+    copy_aligned::<O, C, D>(left, to.after(passed), right, from.after(passed));
+}
+
+/// Copies a window that begins where an element does, and so does the other.
+fn copy_aligned<O: BitOrder, C: Cells, D: CellsRead<Elem = C::Elem>>(
+    left: &mut C,
+    to: Window,
+    right: &mut D,
+    from: Window,
+)
+    requires window { HasWindow C.Elem.BITS (C.numbers left.old) to }
+    requires right_window { HasWindow C.Elem.BITS (D.numbers right.old) from }
+    requires lengths { to.len ≡ from.len }
+    requires edge { to.start % C.Elem.BITS ≡ 0 }
+    requires right_edge { from.start % C.Elem.BITS ≡ 0 }
+    ensures writes { Writes C.Elem.BITS O.at (C.numbers left.old) (C.numbers left.new) to
+        (list_in C.Elem.BITS O.at (D.numbers right.old) from) }
+    ensures cost { CostsAtMost C.CellsRead left.old left.new 1 (touched C.Elem.BITS to.start to.len) }
+    ensures right { OnlyReads D.CellsRead right.old right.new (touched C.Elem.BITS from.start from.len) }
+{
+    let bits = C::Elem::BITS as usize;
+    let count = to.len / bits;
+    let (first, source) = (to.start / bits, from.start / bits);
+    copy_whole::<O, C, D>(left, first, right, source, count);
+    let rest = to.len % bits;
+    if rest == 0 {
+        return;
+    }
+    let tail = Part {
+        element: first + count,
+        from: 0,
+        to: rest,
+    };
+    copy_part::<O, C, D>(left, tail, right, source + count);
+}
+
+/// Copies `count` whole elements, each with one load and one store.
+fn copy_whole<O: BitOrder, C: Cells, D: CellsRead<Elem = C::Elem>>(
+    left: &mut C,
+    first: usize,
+    right: &mut D,
+    source: usize,
+    count: usize,
+)
+    requires window { HasWindow C.Elem.BITS (C.numbers left.old) (elements_window C.Elem.BITS first count) }
+    requires right_window { HasWindow C.Elem.BITS (D.numbers right.old) (elements_window C.Elem.BITS source count) }
+    ensures writes { Writes C.Elem.BITS O.at (C.numbers left.old) (C.numbers left.new) (elements_window C.Elem.BITS first count)
+        (list_in C.Elem.BITS O.at (D.numbers right.old) (elements_window C.Elem.BITS source count)) }
+    ensures cost { Costs C.CellsRead left.old left.new 0 count }
+    ensures right { OnlyReads D.CellsRead right.old right.new count }
+{
+    for step in 0..count {
+        let element = right.load(source + step);
+        left.store(first + step, element);
+    }
+}
+
+/// Copies a part from an element, from its same indices.
+fn copy_part<O: BitOrder, C: Cells, D: CellsRead<Elem = C::Elem>>(
+    left: &mut C,
+    part: Part,
+    right: &mut D,
+    source: usize,
+)
+    requires part { HasPart C.Elem.BITS (C.numbers left.old) part }
+    requires source { source < length (D.numbers right.old) }
+    ensures writes { Writes C.Elem.BITS O.at (C.numbers left.old) (C.numbers left.new) (part_window C.Elem.BITS part)
+        (list_in C.Elem.BITS O.at (D.numbers right.old) (part_window C.Elem.BITS (record part { element = source }))) }
+    ensures cost { Costs C.CellsRead left.old left.new (part_loads C.Elem.BITS part) 1 }
+    ensures right { OnlyReads D.CellsRead right.old right.new 1 }
+{
+    let element = right.load(source);
+    store_part::<O, C>(left, part, element);
+}

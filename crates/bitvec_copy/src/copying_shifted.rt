@@ -1,0 +1,158 @@
+//! Bits copied between windows that begin at different indices of an element: each stored element
+//! is joined of two that were loaded.
+ghost use Rattle.std.specs.Prelude.{◌≡◌, ◌≢◌, ℕ, ◌+◌, ◌-◌, ◌*◌, ◌/◌, ◌%◌, ◌<◌, ◌≤◌, length, slice_index};
+ghost use Rattle.bitvec_base.specs.Memory.{HasWindow, Writes, list_in};
+ghost use Rattle.bitvec_base.specs.Parts.{HasPart, part_window};
+ghost use Rattle.bitvec_cells.specs.Access.{Costs, CostsAtMost, OnlyReads};
+ghost use Rattle.bitvec_walk.specs.Cost.{part_loads, touched};
+ghost use Rattle.bitvec_words.specs.Elements.{elements_window, elements_window_from};
+
+use bitvec_base::{BitOrder, Part, Window, first_part};
+use bitvec_cells::{Cells, CellsRead};
+use bitvec_store::BitStore;
+use bitvec_words::{WordOrder, field, field_after, joined, store_part, toward_end};
+
+/// Copies a window whose first bit has another index in its element than that of the other window.
+/// Condition: as of [`crate::copy`], and the windows aren't empty.
+pub(crate) fn copy_shifted<O: WordOrder, C: Cells, D: CellsRead<Elem = C::Elem>>(
+    left: &mut C,
+    to: Window,
+    right: &mut D,
+    from: Window,
+)
+    requires window { HasWindow C.Elem.BITS (C.numbers left.old) to }
+    requires right_window { HasWindow C.Elem.BITS (D.numbers right.old) from }
+    requires lengths { to.len ≡ from.len }
+    requires some { 0 < to.len }
+    requires phases { to.start % C.Elem.BITS ≢ from.start % C.Elem.BITS }
+    ensures writes { Writes C.Elem.BITS O.at (C.numbers left.old) (C.numbers left.new) to
+        (list_in C.Elem.BITS O.at (D.numbers right.old) from) }
+    ensures cost { CostsAtMost C.CellsRead left.old left.new 2 (touched C.Elem.BITS to.start to.len) }
+    ensures right { OnlyReads D.CellsRead right.old right.new (touched C.Elem.BITS from.start from.len) }
+{
+    let bits = C::Elem::BITS as usize;
+    if to.start % bits == 0 {
+        let carry = right.load(from.start / bits);
+        copy_rest::<O, C, D>(left, to, right, from, carry);
+        return;
+    }
+    let head = first_part(bits, to);
+    let passed = head.len();
+    let carry = shift_head::<O, C, D>(left, head, right, from.until(from.len - passed));
+    if passed == to.len {
+        return;
+    }
+    copy_rest::<O, C, D>(left, to.after(passed), right, from.after(passed), carry);
+}
+
+/// Copies the bits of a window to a part of one element, and gives the last element loaded.
+fn shift_head<O: WordOrder, C: Cells, D: CellsRead<Elem = C::Elem>>(
+    left: &mut C,
+    part: Part,
+    right: &mut D,
+    from: Window,
+) -> C::Elem
+    requires part { HasPart C.Elem.BITS (C.numbers left.old) part }
+    requires right_window { HasWindow C.Elem.BITS (D.numbers right.old) from }
+    requires lengths { part.to ≡ part.from + from.len }
+    requires some { 0 < from.len }
+    ensures writes { Writes C.Elem.BITS O.at (C.numbers left.old) (C.numbers left.new) (part_window C.Elem.BITS part)
+        (list_in C.Elem.BITS O.at (D.numbers right.old) from) }
+    ensures last { C.Elem.value result ≡ slice_index (D.numbers right.old) ((from.start + from.len - 1) / C.Elem.BITS) }
+    ensures cost { Costs C.CellsRead left.old left.new (part_loads C.Elem.BITS part) 1 }
+    ensures right { OnlyReads D.CellsRead right.old right.new (touched C.Elem.BITS from.start from.len) }
+{
+    let (front, last) = field::<O, D>(right, from);
+    store_part::<O, C>(left, part, toward_end::<O, C::Elem>(front, part.from));
+    last
+}
+
+/// Copies a window that begins where an element does, where the first element that the other window
+/// touches was loaded before, and isn't loaded again.
+fn copy_rest<O: WordOrder, C: Cells, D: CellsRead<Elem = C::Elem>>(
+    left: &mut C,
+    to: Window,
+    right: &mut D,
+    from: Window,
+    carry: C::Elem,
+)
+    requires window { HasWindow C.Elem.BITS (C.numbers left.old) to }
+    requires right_window { HasWindow C.Elem.BITS (D.numbers right.old) from }
+    requires lengths { to.len ≡ from.len }
+    requires some { 0 < to.len }
+    requires edge { to.start % C.Elem.BITS ≡ 0 }
+    requires phase { 0 < from.start % C.Elem.BITS }
+    requires carry { C.Elem.value carry ≡ slice_index (D.numbers right.old) (from.start / C.Elem.BITS) }
+    ensures writes { Writes C.Elem.BITS O.at (C.numbers left.old) (C.numbers left.new) to
+        (list_in C.Elem.BITS O.at (D.numbers right.old) from) }
+    ensures cost { CostsAtMost C.CellsRead left.old left.new 1 (touched C.Elem.BITS to.start to.len) }
+    ensures right { OnlyReads D.CellsRead right.old right.new (touched C.Elem.BITS from.start from.len - 1) }
+{
+    let bits = C::Elem::BITS as usize;
+    let count = to.len / bits;
+    let (first, source, skip) = (to.start / bits, from.start / bits, from.start % bits);
+    let last = shift_whole::<O, C, D>(left, first, right, source, carry, skip, count);
+    if to.len % bits == 0 {
+        return;
+    }
+    shift_tail::<O, C, D>(left, first + count, right, from.after(count * bits), last);
+}
+
+/// Copies the bits of a window to the beginning of an element, where the first element that the
+/// window touches was loaded before.
+fn shift_tail<O: WordOrder, C: Cells, D: CellsRead<Elem = C::Elem>>(
+    left: &mut C,
+    element: usize,
+    right: &mut D,
+    from: Window,
+    carry: C::Elem,
+)
+    requires element { element < length (C.numbers left.old) }
+    requires right_window { HasWindow C.Elem.BITS (D.numbers right.old) from }
+    requires some { 0 < from.len }
+    requires bound { from.len ≤ C.Elem.BITS }
+    requires carry { C.Elem.value carry ≡ slice_index (D.numbers right.old) (from.start / C.Elem.BITS) }
+    ensures writes { Writes C.Elem.BITS O.at (C.numbers left.old) (C.numbers left.new)
+        (part_window C.Elem.BITS (record { element = element; from = 0; to = from.len })) (list_in C.Elem.BITS O.at (D.numbers right.old) from) }
+    ensures cost { CostsAtMost C.CellsRead left.old left.new 1 1 }
+    ensures right { OnlyReads D.CellsRead right.old right.new (touched C.Elem.BITS from.start from.len - 1) }
+{
+    let (front, _) = field_after::<O, D>(right, from, carry);
+    let part = Part {
+        element,
+        from: 0,
+        to: from.len,
+    };
+    store_part::<O, C>(left, part, front);
+}
+
+/// Copies `count` whole elements from the bits at the index `skip` of an element on, each with one
+/// load and one store, where that element is `carry`. It gives the last element loaded.
+fn shift_whole<O: WordOrder, C: Cells, D: CellsRead<Elem = C::Elem>>(
+    left: &mut C,
+    first: usize,
+    right: &mut D,
+    source: usize,
+    carry: C::Elem,
+    skip: usize,
+    count: usize,
+) -> C::Elem
+    requires window { HasWindow C.Elem.BITS (C.numbers left.old) (elements_window C.Elem.BITS first count) }
+    requires right_window { HasWindow C.Elem.BITS (D.numbers right.old) (elements_window_from C.Elem.BITS source skip count) }
+    requires some { 0 < skip }
+    requires bound { skip < C.Elem.BITS }
+    requires carry { C.Elem.value carry ≡ slice_index (D.numbers right.old) source }
+    ensures writes { Writes C.Elem.BITS O.at (C.numbers left.old) (C.numbers left.new) (elements_window C.Elem.BITS first count)
+        (list_in C.Elem.BITS O.at (D.numbers right.old) (elements_window_from C.Elem.BITS source skip count)) }
+    ensures carried { C.Elem.value result ≡ slice_index (D.numbers right.old) (source + count) }
+    ensures cost { Costs C.CellsRead left.old left.new 0 count }
+    ensures right { OnlyReads D.CellsRead right.old right.new count }
+{
+    let mut last = carry;
+    for step in 0..count {
+        let next = right.load(source + step + 1);
+        left.store(first + step, joined::<O, C::Elem>(last, next, skip));
+        last = next;
+    }
+    last
+}

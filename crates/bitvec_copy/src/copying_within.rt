@@ -1,0 +1,62 @@
+//! The bits of a window copied to another place of it: by whole elements, from the end at which none
+//! is written over before it is read. All down to the loops is inlined into the function that makes
+//! the accessor, since a loop that has only a reference to it reads the slice's address again after
+//! each store.
+ghost use Rattle.std.specs.Prelude.{◌≡◌, ◌-◌, true};
+ghost use Rattle.bitvec_base.specs.Lists.{FitsWithin, copied_within};
+ghost use Rattle.bitvec_base.specs.Memory.{Edits, HasWindow, Writes, list_in};
+ghost use Rattle.bitvec_cells.specs.Access.{CostsAtMost};
+ghost use Rattle.bitvec_walk.specs.Cost.{edit_loads, write_stores};
+
+use crate::moving_to_end::move_to_end;
+use crate::moving_to_start::move_to_start;
+use bitvec_base::Window;
+use bitvec_cells::Cells;
+use bitvec_words::{WORD_BITS, WordOrder, load_field, store_field};
+
+/// Copies the bits `from..to` of a window to `dest` on, also where they overlap; all other bits of
+/// the memory stay. Condition: the memory has at most `MAX_BITS` bits, the window lies in it,
+/// `from <= to`, and both the bits read and those written lie in the window. It loads each element
+/// that the bits touch once, and stores each element that their new place touches once. At each of
+/// the two edges it may load the element that it stores, and one of more than 64 bits once more.
+#[inline(always)]
+pub fn copy_within<O: WordOrder, C: Cells>(
+    cells: &mut C,
+    window: Window,
+    from: usize,
+    to: usize,
+    dest: usize,
+)
+    requires window { HasWindow C.Elem.BITS (C.numbers cells.old) window }
+    requires fits { FitsWithin from to dest window.len }
+    ensures writes { Edits C.Elem.BITS O.at (C.numbers cells.old) (C.numbers cells.new) window (copied_within from to dest) }
+    ensures cost { CostsAtMost C.CellsRead cells.old cells.new (edit_loads C.Elem.BITS true (to - from)) (write_stores C.Elem.BITS true (to - from)) }
+{
+    let source = window.range(from, to);
+    let target = window.range(dest, dest + (to - from));
+    move_window::<O, C>(cells, target, source);
+}
+
+/// Moves the bits of a window to another of the same memory and of the same length, also where they
+/// overlap: at most 64 bits as one field, more by whole elements.
+#[tactic(auto, using(bitvec_walk::specs::CostLaws::in_steps, crate::specs::WithinLaws::edges_enough, bitvec_store::specs::WidthLaws::width_some))]
+#[inline(always)]
+fn move_window<O: WordOrder, C: Cells>(cells: &mut C, to: Window, from: Window)
+    requires window { HasWindow C.Elem.BITS (C.numbers cells.old) to }
+    requires source { HasWindow C.Elem.BITS (C.numbers cells.old) from }
+    requires lengths { to.len ≡ from.len }
+    ensures writes { Writes C.Elem.BITS O.at (C.numbers cells.old) (C.numbers cells.new) to
+        (list_in C.Elem.BITS O.at (C.numbers cells.old) from) }
+    ensures cost { CostsAtMost C.CellsRead cells.old cells.new (edit_loads C.Elem.BITS true to.len) (write_stores C.Elem.BITS true to.len) }
+{
+    if to.len <= WORD_BITS {
+        let field = load_field::<O, C>(cells, from);
+        store_field::<O, C>(cells, to, field);
+        return;
+    }
+    if to.start <= from.start {
+        move_to_start::<O, C>(cells, to, from);
+    } else {
+        move_to_end::<O, C>(cells, to, from);
+    }
+}

@@ -1,0 +1,31 @@
+//! Bits moved within one memory to places of one element: the edges of a window that is moved by
+//! whole elements.
+ghost use Rattle.std.specs.Prelude.{◌≡◌, ℕ, ◌+◌, ◌%◌, ◌≤◌};
+ghost use Rattle.bitvec_base.specs.Memory.{HasWindow, Writes, list_in};
+ghost use Rattle.bitvec_cells.specs.Access.{CostsAtMost};
+ghost use Rattle.bitvec_walk.specs.Cost.{touched};
+
+use bitvec_base::{Window, first_part};
+use bitvec_cells::Cells;
+use bitvec_store::BitStore;
+use bitvec_words::{WordOrder, field, store_part, toward_end};
+
+/// Moves the bits of a window to another, of the same length, that lies in one element or is empty:
+/// all are read before any is written. It loads each element that the first touches once, and that
+/// of the other unless it is stored whole.
+pub(crate) fn move_edge<O: WordOrder, C: Cells>(cells: &mut C, to: Window, from: Window)
+    requires window { HasWindow C.Elem.BITS (C.numbers cells.old) to }
+    requires source { HasWindow C.Elem.BITS (C.numbers cells.old) from }
+    requires lengths { to.len ≡ from.len }
+    requires element { to.start % C.Elem.BITS + to.len ≤ C.Elem.BITS }
+    ensures writes { Writes C.Elem.BITS O.at (C.numbers cells.old) (C.numbers cells.new) to
+        (list_in C.Elem.BITS O.at (C.numbers cells.old) from) }
+    ensures cost { CostsAtMost C.CellsRead cells.old cells.new (touched C.Elem.BITS from.start from.len + 1) (touched C.Elem.BITS to.start to.len) }
+{
+    if to.len == 0 {
+        return;
+    }
+    let part = first_part(C::Elem::BITS as usize, to);
+    let (front, _) = field::<O, C>(cells, from);
+    store_part::<O, C>(cells, part, toward_end::<O, C::Elem>(front, part.from));
+}

@@ -1,0 +1,128 @@
+//! Bits moved to a place of the same memory that is no later: the first elements first, so that none
+//! is written over before it is read.
+ghost use Rattle.std.specs.Prelude.{◌≡◌, ℕ, ◌+◌, ◌*◌, ◌/◌, ◌%◌, ◌<◌, ◌≤◌};
+ghost use Rattle.bitvec_base.specs.Memory.{HasWindow, Writes, list_in};
+ghost use Rattle.bitvec_cells.specs.Access.{Costs, CostsAtMost};
+ghost use Rattle.bitvec_walk.specs.Cost.{touched};
+ghost use Rattle.bitvec_words.specs.Elements.{elements_window, elements_window_from};
+
+use crate::moving_edge::move_edge;
+use bitvec_base::{BitOrder, Window, first_part};
+use bitvec_cells::Cells;
+use bitvec_store::BitStore;
+use bitvec_words::{WordOrder, joined};
+
+/// Moves the bits of a window to another, of the same length, that begins no later. Condition: both
+/// lie in the memory, and aren't empty.
+#[inline(always)]
+pub(crate) fn move_to_start<O: WordOrder, C: Cells>(cells: &mut C, to: Window, from: Window)
+    requires window { HasWindow C.Elem.BITS (C.numbers cells.old) to }
+    requires source { HasWindow C.Elem.BITS (C.numbers cells.old) from }
+    requires lengths { to.len ≡ from.len }
+    requires some { 0 < to.len }
+    requires towards_start { to.start ≤ from.start }
+    ensures writes { Writes C.Elem.BITS O.at (C.numbers cells.old) (C.numbers cells.new) to
+        (list_in C.Elem.BITS O.at (C.numbers cells.old) from) }
+    ensures cost { CostsAtMost C.CellsRead cells.old cells.new (touched C.Elem.BITS from.start from.len + 4) (touched C.Elem.BITS to.start to.len) }
+{
+    let passed = first_part(C::Elem::BITS as usize, to).len();
+    let rest = to.len - passed;
+    move_edge::<O, C>(cells, to.until(rest), from.until(rest));
+    if rest > 0 {
+        move_aligned_to_start::<O, C>(cells, to.after(passed), from.after(passed));
+    }
+}
+
+/// Moves the bits of a window to another that begins where an element does: whole elements, and
+/// then the part of the last one.
+#[inline(always)]
+fn move_aligned_to_start<O: WordOrder, C: Cells>(cells: &mut C, to: Window, from: Window)
+    requires window { HasWindow C.Elem.BITS (C.numbers cells.old) to }
+    requires source { HasWindow C.Elem.BITS (C.numbers cells.old) from }
+    requires lengths { to.len ≡ from.len }
+    requires edge { to.start % C.Elem.BITS ≡ 0 }
+    requires towards_start { to.start ≤ from.start }
+    ensures writes { Writes C.Elem.BITS O.at (C.numbers cells.old) (C.numbers cells.new) to
+        (list_in C.Elem.BITS O.at (C.numbers cells.old) from) }
+    ensures cost { CostsAtMost C.CellsRead cells.old cells.new (touched C.Elem.BITS from.start from.len + 2) (touched C.Elem.BITS to.start to.len) }
+{
+    let bits = C::Elem::BITS as usize;
+    let count = to.len / bits;
+    let (first, source, skip) = (to.start / bits, from.start / bits, from.start % bits);
+    move_elements_to_start::<O, C>(cells, first, source, skip, count);
+    let passed = count * bits;
+    move_edge::<O, C>(cells, to.after(passed), from.after(passed));
+}
+
+/// Moves as many bits as `count` elements have, which begin at the index `skip` of an element, to
+/// whole elements.
+#[inline(always)]
+fn move_elements_to_start<O: WordOrder, C: Cells>(
+    cells: &mut C,
+    first: usize,
+    source: usize,
+    skip: usize,
+    count: usize,
+)
+    requires window { HasWindow C.Elem.BITS (C.numbers cells.old) (elements_window C.Elem.BITS first count) }
+    requires source { HasWindow C.Elem.BITS (C.numbers cells.old) (elements_window_from C.Elem.BITS source skip count) }
+    requires bound { skip < C.Elem.BITS }
+    requires towards_start { first ≤ source }
+    ensures writes { Writes C.Elem.BITS O.at (C.numbers cells.old) (C.numbers cells.new) (elements_window C.Elem.BITS first count)
+        (list_in C.Elem.BITS O.at (C.numbers cells.old) (elements_window_from C.Elem.BITS source skip count)) }
+    ensures cost { CostsAtMost C.CellsRead cells.old cells.new (count + 1) count }
+{
+    if skip == 0 {
+        move_whole_to_start::<O, C>(cells, first, source, count);
+    } else {
+        shift_whole_to_start::<O, C>(cells, first, source, skip, count);
+    }
+}
+
+/// Moves `count` whole elements as they are, each with one load and one store.
+#[inline(always)]
+fn move_whole_to_start<O: BitOrder, C: Cells>(
+    cells: &mut C,
+    first: usize,
+    source: usize,
+    count: usize,
+)
+    requires window { HasWindow C.Elem.BITS (C.numbers cells.old) (elements_window C.Elem.BITS first count) }
+    requires source { HasWindow C.Elem.BITS (C.numbers cells.old) (elements_window C.Elem.BITS source count) }
+    requires towards_start { first ≤ source }
+    ensures writes { Writes C.Elem.BITS O.at (C.numbers cells.old) (C.numbers cells.new) (elements_window C.Elem.BITS first count)
+        (list_in C.Elem.BITS O.at (C.numbers cells.old) (elements_window C.Elem.BITS source count)) }
+    ensures cost { Costs C.CellsRead cells.old cells.new count count }
+{
+    for step in 0..count {
+        let element = cells.load(source + step);
+        cells.store(first + step, element);
+    }
+}
+
+/// The same, where `skip` is above 0: each stored element is joined of two that were loaded, and each
+/// element is loaded once.
+#[inline(always)]
+fn shift_whole_to_start<O: WordOrder, C: Cells>(
+    cells: &mut C,
+    first: usize,
+    source: usize,
+    skip: usize,
+    count: usize,
+)
+    requires window { HasWindow C.Elem.BITS (C.numbers cells.old) (elements_window C.Elem.BITS first count) }
+    requires source { HasWindow C.Elem.BITS (C.numbers cells.old) (elements_window_from C.Elem.BITS source skip count) }
+    requires some { 0 < skip }
+    requires bound { skip < C.Elem.BITS }
+    requires towards_start { first ≤ source }
+    ensures writes { Writes C.Elem.BITS O.at (C.numbers cells.old) (C.numbers cells.new) (elements_window C.Elem.BITS first count)
+        (list_in C.Elem.BITS O.at (C.numbers cells.old) (elements_window_from C.Elem.BITS source skip count)) }
+    ensures cost { Costs C.CellsRead cells.old cells.new (count + 1) count }
+{
+    let mut last = cells.load(source);
+    for step in 0..count {
+        let next = cells.load(source + step + 1);
+        cells.store(first + step, joined::<O, C::Elem>(last, next, skip));
+        last = next;
+    }
+}

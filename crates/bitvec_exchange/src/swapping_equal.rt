@@ -1,0 +1,129 @@
+//! Bits exchanged between windows that begin at the same index of an element: elements as they are.
+ghost use Rattle.std.specs.Prelude.{◌≡◌, ℕ, ◌*◌, ◌/◌, ◌%◌, ◌<◌, length};
+ghost use Rattle.bitvec_base.specs.Memory.{HasWindow, Writes, list_in};
+ghost use Rattle.bitvec_base.specs.Parts.{HasPart, part_window};
+ghost use Rattle.bitvec_cells.specs.Access.{Costs};
+ghost use Rattle.bitvec_walk.specs.Cost.{touched};
+ghost use Rattle.bitvec_words.specs.Elements.{elements_window};
+
+use bitvec_base::{BitOrder, Part, Window, first_part};
+use bitvec_cells::{Cells, CellsRead};
+use bitvec_store::BitStore;
+use bitvec_words::merged;
+
+/// Exchanges two windows whose first bits have the same index in their elements. Condition: as of
+/// [`crate::swap`], and the windows aren't empty.
+pub(crate) fn swap_equal<O: BitOrder, C: Cells, D: Cells + CellsRead<Elem = C::Elem>>(
+    left: &mut C,
+    left_window: Window,
+    right: &mut D,
+    right_window: Window,
+)
+    requires window { HasWindow C.Elem.BITS (C.numbers left.old) left_window }
+    requires right_window { HasWindow C.Elem.BITS (D.numbers right.old) right_window }
+    requires lengths { left_window.len ≡ right_window.len }
+    requires some { 0 < left_window.len }
+    requires phases { left_window.start % C.Elem.BITS ≡ right_window.start % C.Elem.BITS }
+    ensures writes { Writes C.Elem.BITS O.at (C.numbers left.old) (C.numbers left.new) left_window
+        (list_in C.Elem.BITS O.at (D.numbers right.old) right_window) }
+    ensures cost { let each = touched C.Elem.BITS left_window.start left_window.len in Costs C.CellsRead left.old left.new each each }
+    ensures right_writes { Writes C.Elem.BITS O.at (D.numbers right.old) (D.numbers right.new) right_window
+        (list_in C.Elem.BITS O.at (C.numbers left.old) left_window) }
+    ensures right_cost { let each = touched C.Elem.BITS right_window.start right_window.len in Costs D.CellsRead right.old right.new each each }
+{
+    let bits = C::Elem::BITS as usize;
+    let head = first_part(bits, left_window);
+    swap_part::<O, C, D>(left, head, right, right_window.start / bits);
+    let passed = head.len();
+    if passed == left_window.len {
+        return;
+    }
+    let rest = left_window.after(passed);
+    let behind = right_window.after(passed);
+    swap_aligned::<O, C, D>(left, rest, right, behind);
+}
+
+/// Exchanges two windows that begin where elements do.
+fn swap_aligned<O: BitOrder, C: Cells, D: Cells + CellsRead<Elem = C::Elem>>(
+    left: &mut C,
+    left_window: Window,
+    right: &mut D,
+    right_window: Window,
+)
+    requires window { HasWindow C.Elem.BITS (C.numbers left.old) left_window }
+    requires right_window { HasWindow C.Elem.BITS (D.numbers right.old) right_window }
+    requires lengths { left_window.len ≡ right_window.len }
+    requires edge { left_window.start % C.Elem.BITS ≡ 0 }
+    requires right_edge { right_window.start % C.Elem.BITS ≡ 0 }
+    ensures writes { Writes C.Elem.BITS O.at (C.numbers left.old) (C.numbers left.new) left_window
+        (list_in C.Elem.BITS O.at (D.numbers right.old) right_window) }
+    ensures cost { let each = touched C.Elem.BITS left_window.start left_window.len in Costs C.CellsRead left.old left.new each each }
+    ensures right_writes { Writes C.Elem.BITS O.at (D.numbers right.old) (D.numbers right.new) right_window
+        (list_in C.Elem.BITS O.at (C.numbers left.old) left_window) }
+    ensures right_cost { let each = touched C.Elem.BITS right_window.start right_window.len in Costs D.CellsRead right.old right.new each each }
+{
+    let bits = C::Elem::BITS as usize;
+    let count = left_window.len / bits;
+    let (first, source) = (left_window.start / bits, right_window.start / bits);
+    swap_whole::<O, C, D>(left, first, right, source, count);
+    let rest = left_window.len % bits;
+    if rest == 0 {
+        return;
+    }
+    let tail = Part {
+        element: first + count,
+        from: 0,
+        to: rest,
+    };
+    swap_part::<O, C, D>(left, tail, right, source + count);
+}
+
+/// Exchanges `count` whole elements, each with one load and one store.
+fn swap_whole<O: BitOrder, C: Cells, D: Cells + CellsRead<Elem = C::Elem>>(
+    left: &mut C,
+    first: usize,
+    right: &mut D,
+    source: usize,
+    count: usize,
+)
+    requires window { HasWindow C.Elem.BITS (C.numbers left.old) (elements_window C.Elem.BITS first count) }
+    requires right_window { HasWindow C.Elem.BITS (D.numbers right.old) (elements_window C.Elem.BITS source count) }
+    ensures writes { Writes C.Elem.BITS O.at (C.numbers left.old) (C.numbers left.new) (elements_window C.Elem.BITS first count)
+        (list_in C.Elem.BITS O.at (D.numbers right.old) (elements_window C.Elem.BITS source count)) }
+    ensures cost { Costs C.CellsRead left.old left.new count count }
+    ensures right_writes { Writes C.Elem.BITS O.at (D.numbers right.old) (D.numbers right.new) (elements_window C.Elem.BITS source count)
+        (list_in C.Elem.BITS O.at (C.numbers left.old) (elements_window C.Elem.BITS first count)) }
+    ensures right_cost { Costs D.CellsRead right.old right.new count count }
+{
+    for step in 0..count {
+        let element = left.load(first + step);
+        let other = right.load(source + step);
+        left.store(first + step, other);
+        right.store(source + step, element);
+    }
+}
+
+/// Exchanges a part with the same indices of an element of the other memory, each with one load and
+/// one store.
+fn swap_part<O: BitOrder, C: Cells, D: Cells + CellsRead<Elem = C::Elem>>(
+    left: &mut C,
+    part: Part,
+    right: &mut D,
+    source: usize,
+)
+    requires part { HasPart C.Elem.BITS (C.numbers left.old) part }
+    requires source { source < length (D.numbers right.old) }
+    ensures writes { Writes C.Elem.BITS O.at (C.numbers left.old) (C.numbers left.new) (part_window C.Elem.BITS part)
+        (list_in C.Elem.BITS O.at (D.numbers right.old) (part_window C.Elem.BITS (record part { element = source }))) }
+    ensures cost { Costs C.CellsRead left.old left.new 1 1 }
+    ensures right_writes { Writes C.Elem.BITS O.at (D.numbers right.old) (D.numbers right.new) (part_window C.Elem.BITS (record part { element = source }))
+        (list_in C.Elem.BITS O.at (C.numbers left.old) (part_window C.Elem.BITS part)) }
+    ensures right_cost { Costs D.CellsRead right.old right.new 1 1 }
+{
+    let element = left.load(part.element);
+    let other = right.load(source);
+    let new = merged::<O, C::Elem>(element, other, part.from, part.to);
+    left.store(part.element, new);
+    let right_new = merged::<O, C::Elem>(other, element, part.from, part.to);
+    right.store(source, right_new);
+}

@@ -1,0 +1,183 @@
+//! Bits exchanged between windows that begin at different indices of an element. The last element
+//! that was loaded on the right waits until the rest of its bits are known, and is stored then.
+ghost use Rattle.std.specs.Prelude.{◌≡◌, ◌≢◌, ℕ, ◌+◌, ◌-◌, ◌*◌, ◌/◌, ◌%◌, ◌<◌, ◌≤◌, slice_set};
+ghost use Rattle.bitvec_base.specs.Memory.{HasWindow, Writes, list_in};
+ghost use Rattle.bitvec_base.specs.Parts.{HasPart, part_window};
+ghost use Rattle.bitvec_cells.specs.Access.{Costs};
+ghost use Rattle.bitvec_walk.specs.Cost.{touched};
+ghost use Rattle.bitvec_words.specs.Elements.{elements_window, elements_window_from};
+
+use bitvec_base::{BitOrder, Part, Window, first_part};
+use bitvec_cells::{Cells, CellsRead};
+use bitvec_store::BitStore;
+use bitvec_words::{WordOrder, joined, merged, toward_end, toward_start};
+
+/// Exchanges two windows whose first bits have different indices in their elements. Condition: as
+/// of [`crate::swap`], and the windows aren't empty.
+pub(crate) fn swap_shifted<O: WordOrder, C: Cells, D: Cells + CellsRead<Elem = C::Elem>>(
+    left: &mut C,
+    left_window: Window,
+    right: &mut D,
+    right_window: Window,
+)
+    requires window { HasWindow C.Elem.BITS (C.numbers left.old) left_window }
+    requires right_window { HasWindow C.Elem.BITS (D.numbers right.old) right_window }
+    requires lengths { left_window.len ≡ right_window.len }
+    requires some { 0 < left_window.len }
+    requires phases { left_window.start % C.Elem.BITS ≢ right_window.start % C.Elem.BITS }
+    ensures writes { Writes C.Elem.BITS O.at (C.numbers left.old) (C.numbers left.new) left_window
+        (list_in C.Elem.BITS O.at (D.numbers right.old) right_window) }
+    ensures cost { let each = touched C.Elem.BITS left_window.start left_window.len in Costs C.CellsRead left.old left.new each each }
+    ensures right_writes { Writes C.Elem.BITS O.at (D.numbers right.old) (D.numbers right.new) right_window
+        (list_in C.Elem.BITS O.at (C.numbers left.old) left_window) }
+    ensures right_cost { let each = touched C.Elem.BITS right_window.start right_window.len in Costs D.CellsRead right.old right.new each each }
+{
+    let bits = C::Elem::BITS as usize;
+    let head = first_part(bits, left_window);
+    let passed = head.len();
+    let waiting = right.load(right_window.start / bits);
+    let met = right_window.until(right_window.len - passed);
+    let last = swap_waiting::<O, C, D>(left, head, right, met, waiting);
+    if passed == left_window.len {
+        right.store((met.start + met.len - 1) / bits, last);
+        return;
+    }
+    let rest = left_window.after(passed);
+    let behind = right_window.after(passed);
+    swap_rest::<O, C, D>(left, rest, right, behind, last);
+}
+
+/// Exchanges two windows of which the left one begins where an element does and the right one
+/// doesn't, where `waiting` is to be stored as the right one's first element.
+fn swap_rest<O: WordOrder, C: Cells, D: Cells + CellsRead<Elem = C::Elem>>(
+    left: &mut C,
+    left_window: Window,
+    right: &mut D,
+    right_window: Window,
+    waiting: C::Elem,
+)
+    requires window { HasWindow C.Elem.BITS (C.numbers left.old) left_window }
+    requires right_window { HasWindow C.Elem.BITS (D.numbers right.old) right_window }
+    requires lengths { left_window.len ≡ right_window.len }
+    requires some { 0 < left_window.len }
+    requires edge { left_window.start % C.Elem.BITS ≡ 0 }
+    requires phase { 0 < right_window.start % C.Elem.BITS }
+    ensures writes { Writes C.Elem.BITS O.at (C.numbers left.old) (C.numbers left.new) left_window
+        (list_in C.Elem.BITS O.at (slice_set (D.numbers right.old) (right_window.start / C.Elem.BITS) (C.Elem.value waiting)) right_window) }
+    ensures cost { let each = touched C.Elem.BITS left_window.start left_window.len in Costs C.CellsRead left.old left.new each each }
+    ensures right_writes { Writes C.Elem.BITS O.at
+        (slice_set (D.numbers right.old) (right_window.start / C.Elem.BITS) (C.Elem.value waiting)) (D.numbers right.new) right_window
+        (list_in C.Elem.BITS O.at (C.numbers left.old) left_window) }
+    ensures right_cost { let each = touched C.Elem.BITS right_window.start right_window.len in Costs D.CellsRead right.old right.new (each - 1) each }
+{
+    let bits = C::Elem::BITS as usize;
+    let count = left_window.len / bits;
+    let (first, source) = (left_window.start / bits, right_window.start / bits);
+    let skip = right_window.start % bits;
+    let last = swap_across::<O, C, D>(left, first, right, source, waiting, skip, count);
+    let rest = left_window.len % bits;
+    if rest == 0 {
+        right.store(source + count, last);
+        return;
+    }
+    let tail = Part {
+        element: first + count,
+        from: 0,
+        to: rest,
+    };
+    let behind = right_window.after(count * bits);
+    let end = swap_waiting::<O, C, D>(left, tail, right, behind, last);
+    right.store((behind.start + behind.len - 1) / bits, end);
+}
+
+/// Exchanges `count` whole elements with the bits at the index `skip` of an element on, each with
+/// one load and one store, where `waiting` is to be stored as that element. It gives the element
+/// that is to be stored as the last one.
+fn swap_across<O: WordOrder, C: Cells, D: Cells + CellsRead<Elem = C::Elem>>(
+    left: &mut C,
+    first: usize,
+    right: &mut D,
+    source: usize,
+    waiting: C::Elem,
+    skip: usize,
+    count: usize,
+) -> C::Elem
+    requires window { HasWindow C.Elem.BITS (C.numbers left.old) (elements_window C.Elem.BITS first count) }
+    requires right_window { HasWindow C.Elem.BITS (D.numbers right.old) (elements_window_from C.Elem.BITS source skip count) }
+    requires some { 0 < skip }
+    requires bound { skip < C.Elem.BITS }
+    ensures writes { Writes C.Elem.BITS O.at (C.numbers left.old) (C.numbers left.new) (elements_window C.Elem.BITS first count)
+        (list_in C.Elem.BITS O.at (slice_set (D.numbers right.old) source (C.Elem.value waiting)) (elements_window_from C.Elem.BITS source skip count)) }
+    ensures cost { Costs C.CellsRead left.old left.new count count }
+    ensures right_writes { Writes C.Elem.BITS O.at (slice_set (D.numbers right.old) source (C.Elem.value waiting))
+        (slice_set (D.numbers right.new) (source + count) (C.Elem.value result)) (elements_window_from C.Elem.BITS source skip count)
+        (list_in C.Elem.BITS O.at (C.numbers left.old) (elements_window C.Elem.BITS first count)) }
+    ensures right_cost { Costs D.CellsRead right.old right.new count count }
+{
+    let rest = C::Elem::BITS as usize - skip;
+    let mut last = waiting;
+    // what a turn needs of `last` is in the two elements that were loaded before it, and is taken
+    // from there: so the turns can go many at once
+    let mut before = toward_end::<O, C::Elem>(waiting, rest);
+    let mut latest = waiting;
+    for step in 0..count {
+        let element = left.load(first + step);
+        let next = right.load(source + step + 1);
+        left.store(first + step, joined::<O, C::Elem>(latest, next, skip));
+        right.store(source + step, joined::<O, C::Elem>(before, element, rest));
+        let carried = toward_start::<O, C::Elem>(element, rest);
+        last = merged::<O, C::Elem>(next, carried, 0, skip);
+        before = element;
+        latest = next;
+    }
+    last
+}
+
+/// Exchanges a part of an element with a window, where `waiting` is to be stored as the first
+/// element that the window touches. It gives the element that is to be stored as the last one.
+fn swap_waiting<O: WordOrder, C: Cells, D: Cells + CellsRead<Elem = C::Elem>>(
+    left: &mut C,
+    part: Part,
+    right: &mut D,
+    from: Window,
+    waiting: C::Elem,
+) -> C::Elem
+    requires part { HasPart C.Elem.BITS (C.numbers left.old) part }
+    requires right_window { HasWindow C.Elem.BITS (D.numbers right.old) from }
+    requires lengths { part.to ≡ part.from + from.len }
+    requires some { 0 < from.len }
+    ensures writes { Writes C.Elem.BITS O.at (C.numbers left.old) (C.numbers left.new) (part_window C.Elem.BITS part)
+        (list_in C.Elem.BITS O.at (slice_set (D.numbers right.old) (from.start / C.Elem.BITS) (C.Elem.value waiting)) from) }
+    ensures cost { Costs C.CellsRead left.old left.new 1 1 }
+    ensures right_writes { Writes C.Elem.BITS O.at (slice_set (D.numbers right.old) (from.start / C.Elem.BITS) (C.Elem.value waiting))
+        (slice_set (D.numbers right.new) ((from.start + from.len - 1) / C.Elem.BITS) (C.Elem.value result)) from
+        (list_in C.Elem.BITS O.at (C.numbers left.old) (part_window C.Elem.BITS part)) }
+    ensures right_cost { let more = touched C.Elem.BITS from.start from.len - 1 in Costs D.CellsRead right.old right.new more more }
+{
+    let bits = C::Elem::BITS as usize;
+    let (index, skip) = (from.start / bits, from.start % bits);
+    let element = left.load(part.element);
+    let moved = toward_start::<O, C::Elem>(element, part.from);
+    let end = skip + from.len;
+    if end <= bits {
+        let front = toward_start::<O, C::Elem>(waiting, skip);
+        let new = toward_end::<O, C::Elem>(front, part.from);
+        left.store(
+            part.element,
+            merged::<O, C::Elem>(element, new, part.from, part.to),
+        );
+        let back = toward_end::<O, C::Elem>(moved, skip);
+        return merged::<O, C::Elem>(waiting, back, skip, end);
+    }
+    let next = right.load(index + 1);
+    let front = joined::<O, C::Elem>(waiting, next, skip);
+    let new = toward_end::<O, C::Elem>(front, part.from);
+    left.store(
+        part.element,
+        merged::<O, C::Elem>(element, new, part.from, part.to),
+    );
+    let back = toward_end::<O, C::Elem>(moved, skip);
+    right.store(index, merged::<O, C::Elem>(waiting, back, skip, bits));
+    let carried = toward_start::<O, C::Elem>(moved, bits - skip);
+    merged::<O, C::Elem>(next, carried, 0, end - bits)
+}

@@ -1,0 +1,27 @@
+//! Parts of writable views are edited in place.
+ghost use Rattle.bitvec_pieces.specs.ViewShown.{shown_by};
+ghost use Rattle.bitvec_pieces.specs.ViewShownLaws.{is_shown, written_so};
+ghost use Rattle.bitvec_slice.specs.Writes.{WritesBits};
+
+use crate::EditParts;
+use bitvec_base::{BitOrder, Window};
+use bitvec_slice::BitSliceMut;
+use bitvec_store::BitStore;
+
+impl<'a, T: BitStore, O: BitOrder> EditParts for BitSliceMut<'a, T, O> {
+    ghost shows = { shown_by };
+
+    ghost writes = { WritesBits };
+
+    ghost shown = { is_shown };
+
+    ghost written = { written_so };
+
+    fn place(&self) -> Window {
+        self.window()
+    }
+
+    fn stand_at(&mut self, window: Window) {
+        BitSliceMut::stand_at(self, window);
+    }
+}

@@ -1,0 +1,24 @@
+use Rattle.std.specs.Prelude.{◌≡◌, ℕ, ◌-◌, ◌*◌, drop, length, take}
+use Rattle.std.proofs.Common.{arith, ◌∙◌, ap, length-drop, length-take}
+use Rattle.bitvec_slice.proofs.DomainBits.{head_view, middle, region-same, shown-same, tail_view}
+use Rattle.bitvec_slice.proofs.bit_domain.region.Goals as goal
+
+pub returns : goal.returns
+returns g c =
+    let b = g.T.BitStore.BITS in
+    let at = g.O.BitOrder.at in
+    let value = g.T.BitStore.value in
+    let cells = c.args.cells.now in
+    let start = c.args.start in
+    let end = c.args.end in
+    let cut = c.requires.cut in
+    let front = c.split_at_mut-front.ensures in
+    let before = c.split_at_mut-before.ensures in
+    let whole = rw (before.back, front.front) at c.from_slice_mut-body.ensures.whole in
+    let order = cut.1 in
+    let bound = cut.2 in
+    let long : length (drop start (take end cells)) ≡ end - start = omega (arith, length-drop start (take end cells), length-take end cells) in
+    region-same _ _ _ _ _ _
+    ((rw (before.front, front.front) at c.part_view_if_mut-head.ensures) ∙ head_view b at value cells start end c.args.head order bound cut.0)
+    (shown-same b at value _ _ _ _ _ _ (whole.elements ∙ middle b at value cells start end order bound) whole.start (whole.len ∙ ap (λ (n : ℕ). b * n) long))
+    ((rw front.back at c.part_view_if_mut-tail.ensures) ∙ tail_view b at value cells end c.args.tail cut.3)

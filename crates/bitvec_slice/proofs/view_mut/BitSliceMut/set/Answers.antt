@@ -1,7 +1,0 @@
-use Rattle.bitvec_slice.specs.Views.{bits_of_mut, memory_of_mut}
-use Rattle.bitvec_slice.specs.WriteLaws.{writes_bits}
-use Rattle.bitvec_slice.proofs.view_mut.BitSliceMut.set.Goals as goal
-
-pub returns : goal.returns
-unfolding bits_of_mut memory_of_mut
-returns g c = writes_bits c.args.self.now c.set_in.new.cells _ (rw (c.elements_mut.ensures.elements, c.window-window.ensures.value) at c.set_in.ensures.writes)

@@ -1,0 +1,59 @@
+-- What the parts of a view are that is cut at the edges of elements.
+use Rattle.std.specs.Prelude.{◌≡◌, ℕ, ◌+◌, ◌-◌, ◌*◌, Bool, List, [], ◌++◌, Option, None, Some, slice_range}
+use Rattle.bitvec_base.specs.declared.part.Part.{Part}
+use Rattle.bitvec_store.specs.declared.store.BitStore.{Ghosts as Store}
+use Rattle.bitvec_base.specs.declared.order.BitOrder.{Ghosts as Order}
+use Rattle.bitvec_domain.specs.Cuts.{cut_of}
+use Rattle.bitvec_domain.specs.Domains.{Pieces, bits_of_pieces, pieces_in}
+use Rattle.bitvec_domain.specs.declared.cut.Cut.{Cut}
+use Rattle.bitvec_domain.specs.declared.cut.Cut.TheVariants.{Inside, Across}
+use Rattle.bitvec_slice.specs.Seen.{Seen, shown}
+use Rattle.bitvec_slice.specs.Views.{seen, seen_mut}
+use Rattle.bitvec_slice.specs.declared.bit_domain.BitDomain.{BitDomain}
+use Rattle.bitvec_slice.specs.declared.bit_domain.BitDomain.TheVariants.{Enclave, Region}
+use Rattle.bitvec_slice.specs.declared.bit_domain.BitDomainMut.{BitDomainMut}
+use Rattle.bitvec_slice.specs.declared.bit_domain.BitDomainMut.TheVariants.{Enclave as EnclaveMut, Region as RegionMut}
+
+-- what both types of bit domains show: one view, or three
+pub data Views (T : Type 0) : Type 0 where
+  enclave : Seen T → Views T
+  region : Seen T → Seen T → Seen T → Views T
+
+-- the bits of the views, one view after the other
+abbrev pub bits_of_views : {T : Type 0} → Views T → List Bool
+bits_of_views (enclave view) = view.bits
+bits_of_views (region head body tail) = head.bits ++ (body.bits ++ tail.bits)
+
+module _ {T O : Type 0} {t : Store T} {o : Order O} where
+  abbrev pub views_of : BitDomain T O t o → Views T
+  views_of (Enclave v) = enclave (seen v)
+  views_of (Region head body tail) = region (seen head) (seen body) (seen tail)
+
+  abbrev pub views_of_mut : BitDomainMut T O t o → Views T
+  views_of_mut (EnclaveMut v) = enclave (seen_mut v)
+  views_of_mut (RegionMut head body tail) = region (seen_mut head) (seen_mut body) (seen_mut tail)
+
+module _ {T : Type 0} (b : ℕ) (at : ℕ → ℕ → ℕ) (value : T → ℕ) where
+  -- a view of the part, which has its element alone; and of no bit, of no element, if there is no part
+  abbrev pub view_in : List T → Part → Seen T
+  view_in elements part = shown b at value (slice_range elements part.element (part.element + 1)) part.from (part.to - part.from)
+
+  abbrev pub view_in_if : List T → Option Part → Seen T
+  view_in_if elements None = shown b at value [] 0 0
+  view_in_if elements (Some part) = view_in elements part
+
+  -- views of the elements, cut so
+  abbrev pub views_in : List T → Cut → Views T
+  views_in elements (Inside part) = enclave (view_in elements part)
+  views_in elements (Across before start end after) =
+      region (view_in_if elements before) (shown b at value (slice_range elements start end) 0 (b * (end - start))) (view_in_if elements after)
+
+  -- the views are those that the view is cut into, and their bits, one after the other, are its own
+  pub record IsBitDomain (view : Seen T) (views : Views T) : Type 0 where
+    pub parts : views ≡ views_in view.elements (cut_of b view.window)
+    pub bits : bits_of_views views ≡ view.bits
+
+  -- the same of pieces of elements
+  pub record IsDomain (view : Seen T) (pieces : Pieces T) : Type 0 where
+    pub parts : pieces ≡ pieces_in b at value view.elements (cut_of b view.window)
+    pub bits : bits_of_pieces b at value pieces ≡ view.bits

@@ -1,0 +1,70 @@
+//! A writable view's bits, cut in two that are written at once.
+ghost use Rattle.std.specs.Prelude.{◌≡◌, ◌+◌, ◌%◌, ◌<◌, ◌≤◌, ◌↔◌, IfSome, IsSome};
+
+use crate::BitSliceMut;
+use bitvec_base::BitOrder;
+use bitvec_store::BitStore;
+
+impl<'a, T: BitStore, O: BitOrder> BitSliceMut<'a, T, O> {
+    ghost use Rattle.bitvec_slice.specs.Apart.{ComesApart, IsSideOf};
+    ghost use Rattle.bitvec_slice.specs.Seen.{IsRangeOf};
+    ghost use Rattle.bitvec_slice.specs.Views.{seen_mut};
+
+    /// The bits before the index `mid` and those from it on, both for writing, if they share no
+    /// element: exactly where the first of the latter begins an element, or there are none of the
+    /// ones or the others. Condition: `mid` is at most `len`. The crate's `split_at_mut` cuts
+    /// anywhere, by two views of the element that is cut.
+    pub fn split_apart_mut(
+        &mut self,
+        mid: usize,
+    ) -> Option<(BitSliceMut<'_, T, O>, BitSliceMut<'_, T, O>)>
+        requires { mid ≤ (seen_mut self.old).window.len }
+        ensures some { IsSome result ↔ ComesApart T.BITS (seen_mut self.old).window mid }
+        ensures front { IfSome result (λ sides. IsSideOf T.BITS (seen_mut self.old) 0 mid (seen_mut sides.0)) }
+        ensures rest { IfSome result
+            (λ sides. IsSideOf T.BITS (seen_mut self.old) mid (seen_mut self.old).window.len (seen_mut sides.1)) }
+    {
+        self.as_mut().into_sides(mid)
+    }
+
+    fn into_sides(self, mid: usize) -> Option<(Self, Self)>
+        requires { mid ≤ (seen_mut self).window.len }
+        ensures some { IsSome result ↔ ComesApart T.BITS (seen_mut self.entry).window mid }
+        ensures front { IfSome result (λ sides. IsSideOf T.BITS (seen_mut self.entry) 0 mid (seen_mut sides.0)) }
+        ensures rest { IfSome result
+            (λ sides. IsSideOf T.BITS (seen_mut self.entry) mid (seen_mut self.entry).window.len (seen_mut sides.1)) }
+    {
+        let window = self.window();
+        if mid == 0 {
+            return Some((BitSliceMut::empty_mut(), self.into_part(0..window.len)));
+        }
+        if mid == window.len {
+            return Some((self.into_part(0..mid), BitSliceMut::empty_mut()));
+        }
+        if (window.start + mid) % (T::BITS as usize) == 0 {
+            return Some(self.into_halves(mid));
+        }
+        None
+    }
+
+    /// The bits before the index `mid`, which begins an element, and those from it on.
+    fn into_halves(self, mid: usize) -> (Self, Self)
+        requires edge { ((seen_mut self).window.start + mid) % T.BITS ≡ 0 }
+        requires inside { mid < (seen_mut self).window.len }
+        ensures front { IsRangeOf T.BITS (seen_mut self.entry) 0 mid (seen_mut result.0) }
+        ensures rest { IsRangeOf T.BITS (seen_mut self.entry) mid (seen_mut self.entry).window.len (seen_mut result.1) }
+    {
+        let window = self.window();
+        let bits = T::BITS as usize;
+        let first = window.start / bits;
+        let edge = (window.start + mid) / bits;
+        let end = (window.start + window.len).div_ceil(bits);
+        let (front, rest) = self.into_elements().split_at_mut(edge);
+        let front = &mut front[first..];
+        let rest = &mut rest[..end - edge];
+        (
+            BitSliceMut::from_parts(front, window.start % bits, mid),
+            BitSliceMut::from_parts(rest, 0, window.len - mid),
+        )
+    }
+}

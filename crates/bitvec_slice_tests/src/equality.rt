@@ -1,0 +1,38 @@
+//! `==` of views of one type.
+ghost use Rattle.std.specs.Prelude.{◌≡◌};
+ghost use Rattle.bitvec_base.specs.Lists.{same_bits};
+ghost use Rattle.bitvec_slice.specs.Views.{seen};
+
+use bitvec_base::{Lsb0, Msb0};
+use bitvec_engine::SliceOrder;
+use bitvec_slice::BitSlice;
+use bitvec_store::BitStore;
+use std::test::Fail;
+
+/// Whether two views have the same bits, whatever lifetimes they have.
+fn have_same_bits<T: BitStore, O: SliceOrder>(
+    view: BitSlice<'_, T, O>,
+    other: BitSlice<'_, T, O>,
+) -> bool
+    ensures { result ≡ same_bits (seen view.entry).bits (seen other.entry).bits }
+{
+    view == other
+}
+
+#[test]
+fn equal_bits_at_other_places(rt: HostRuntime) -> Result<(), Fail> {
+    let low = [0x50u8, 0x0F];
+    let part = BitSlice::<u8, Lsb0>::from_slice(&low)
+        .get(4..12)
+        .ok_or("no such bits")?;
+    assert!(rt; have_same_bits(part, BitSlice::from_slice(&[0xF5])));
+    assert!(rt; part != BitSlice::from_slice(&[0x75]));
+    assert!(rt; part != BitSlice::from_slice(&low));
+    let high = [0x05u8, 0xF0];
+    let part = BitSlice::<u8, Msb0>::from_slice(&high)
+        .get(4..12)
+        .ok_or("no such bits")?;
+    assert!(rt; part == BitSlice::from_slice(&[0x5F]));
+    assert!(rt; part != BitSlice::from_slice(&[0x5E]));
+    Ok(())
+}

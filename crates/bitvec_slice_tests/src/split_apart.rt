@@ -1,0 +1,61 @@
+//! Two parts of a view that are written at once.
+ghost use Rattle.std.specs.Prelude.{◌≡◌, ◌*◌, ◌%◌, ◌≤◌, ◌↔◌, IsTrue, length};
+ghost use Rattle.bitvec_base.specs.Window.{max_bits};
+ghost use Rattle.bitvec_slice.specs.Apart.{ComesApart};
+ghost use Rattle.bitvec_slice.specs.Views.{seen_mut};
+
+use bitvec_base::Lsb0;
+use bitvec_edit::BitEdits;
+use bitvec_engine::SliceOrder;
+use bitvec_slice::BitSliceMut;
+use bitvec_store::BitStore;
+
+/// Fills the bits before `mid` and flips those from it on, if they share no element, and says
+/// whether it did.
+pub fn fill_and_flip<T: BitStore, O: SliceOrder>(
+    view: &mut BitSliceMut<'_, T, O>,
+    mid: usize,
+) -> bool
+    requires { mid ≤ (seen_mut view.old).window.len }
+    ensures { IsTrue result ↔ ComesApart T.BITS (seen_mut view.old).window mid }
+{
+    match view.split_apart_mut(mid) {
+        Some((mut front, mut rest)) => {
+            front.fill(true);
+            rest.invert();
+            true
+        }
+        None => false,
+    }
+}
+
+/// The same of all bits of some elements; false where they are fewer than `mid`.
+fn fill_and_flip_in(elements: &mut [u8], mid: usize) -> bool
+    requires { 8 * length elements.old ≤ max_bits }
+{
+    let mut view = BitSliceMut::<u8, Lsb0>::from_slice_mut(elements);
+    mid <= view.len() && fill_and_flip(&mut view, mid)
+}
+
+#[test]
+fn two_parts_are_written_at_once(rt: HostRuntime) {
+    let mut cells = [0x0F, 0x0F, 0x0F];
+    assert!(rt; fill_and_flip_in(&mut cells, 8));
+    assert_eq!(rt; cells, [0xFF, 0xF0, 0xF0]);
+}
+
+#[test]
+fn an_element_is_not_cut(rt: HostRuntime) {
+    let mut cells = [0x0F, 0x0F];
+    assert!(rt; !fill_and_flip_in(&mut cells, 12));
+    assert_eq!(rt; cells, [0x0F, 0x0F]);
+}
+
+#[test]
+fn a_part_may_be_empty(rt: HostRuntime) {
+    let mut cells = [0x0F, 0x0F];
+    assert!(rt; fill_and_flip_in(&mut cells, 0));
+    assert_eq!(rt; cells, [0xF0, 0xF0]);
+    assert!(rt; fill_and_flip_in(&mut cells, 16));
+    assert_eq!(rt; cells, [0xFF, 0xFF]);
+}

@@ -1,0 +1,171 @@
+//! What a caller knows of the answers that it got, by a set of laws a function.
+ghost use Rattle.std.specs.Prelude.{◌≡◌, ◌≢◌, ℕ, ◌*◌, ◌<◌, ◌≤◌, ◌↔◌, IfNone, IfSome, IsTrue, Some, None, false, true, slice_index_or};
+ghost use Rattle.bitvec.specs.Counts.{ones_of, zeros_of};
+ghost use Rattle.bitvec.specs.Lists.{last_place};
+ghost use Rattle.bitvec.specs.Views.{seen, seen_mut};
+
+use bitvec::prelude::*;
+
+/// Clears the last bit that is 1, and gives its index: every bit after it is 0, and all are where
+/// there is none.
+#[tactic(auto, using(bitvec::specs::Laws::found))]
+pub fn clear_last<T: BitStore, O: SliceOrder>(view: &mut BitSliceMut<'_, T, O>) -> Option<usize>
+    ensures last { result ≡ last_place true (seen_mut view.old).bits }
+    ensures after { IfSome result (λ index. (k : ℕ) → index < k → k < (seen_mut view.old).window.len
+        → slice_index_or (seen_mut view.old).bits k false ≢ true) }
+    ensures none { IfNone result ((k : ℕ) → k < (seen_mut view.old).window.len
+        → slice_index_or (seen_mut view.old).bits k false ≢ true) }
+    ensures window { (seen_mut view.new).window ≡ (seen_mut view.old).window }
+{
+    let index = view.last_one()?;
+    view.set(index, false);
+    Some(index)
+}
+
+/// Writes a bit, and reads it and another.
+#[tactic(auto, using(bitvec::specs::Laws::written))]
+pub fn write_and_read<T: BitStore, O: SliceOrder>(
+    view: &mut BitSliceMut<'_, T, O>,
+    index: usize,
+    other: usize,
+    bit: bool,
+) -> (bool, bool)
+    requires index { index < (seen_mut view.old).window.len }
+    requires other { other < (seen_mut view.old).window.len }
+    requires apart { other ≢ index }
+    ensures written { result.0 ≡ bit }
+    ensures kept { result.1 ≡ slice_index_or (seen_mut view.old).bits other false }
+    ensures window { (seen_mut view.new).window ≡ (seen_mut view.old).window }
+{
+    view.set(index, bit);
+    (view[index], view[other])
+}
+
+/// Writes a bit, and gives the one at any index, if there is one.
+#[tactic(auto, using(bitvec::specs::Laws::written))]
+pub fn write_and_get<T: BitStore, O: SliceOrder>(
+    view: &mut BitSliceMut<'_, T, O>,
+    index: usize,
+    bit: bool,
+    other: usize,
+) -> Option<bool>
+    requires { index < (seen_mut view.old).window.len }
+    ensures written { other ≡ index → result ≡ Some bit }
+    ensures kept { other ≢ index → IfSome result (λ found. found ≡ slice_index_or (seen_mut view.old).bits other false) }
+    ensures window { (seen_mut view.new).window ≡ (seen_mut view.old).window }
+{
+    view.set(index, bit);
+    match view.get(other) {
+        Some(found) => Some(*found),
+        None => None,
+    }
+}
+
+/// How many bits are 1 and how many 0: together all.
+#[tactic(auto, using(bitvec::specs::Laws::counted))]
+pub fn count_both<T: BitStore, O: SliceOrder>(view: BitSlice<'_, T, O>) -> usize
+    ensures { result ≡ (seen view.entry).window.len }
+{
+    let _len = view.len();
+    view.count_ones() + view.count_zeros()
+}
+
+/// Flips all bits, and gives how many were 0.
+#[tactic(auto, using(bitvec::specs::Laws::counted))]
+pub fn flip_and_count<T: BitStore, O: SliceOrder>(view: &mut BitSliceMut<'_, T, O>) -> usize
+    ensures { result ≡ zeros_of (seen_mut view.old).bits }
+{
+    view.invert();
+    view.count_ones()
+}
+
+/// How many bits are 1 and how many 0, once they were moved.
+#[tactic(auto, using(bitvec::specs::Laws::moved))]
+pub fn move_and_count<T: BitStore, O: SliceOrder>(
+    view: &mut BitSliceMut<'_, T, O>,
+    by: usize,
+) -> (usize, usize)
+    requires { by ≤ (seen_mut view.old).window.len }
+    ensures ones { result.0 ≡ ones_of (seen_mut view.old).bits }
+    ensures zeros { result.1 ≡ zeros_of (seen_mut view.old).bits }
+    ensures window { (seen_mut view.new).window ≡ (seen_mut view.old).window }
+{
+    view.rotate_left(by);
+    view.reverse();
+    view.rotate_right(by);
+    (view.count_ones(), view.count_zeros())
+}
+
+/// How many bits are 1, counted in two parts.
+#[tactic(auto, using(bitvec::specs::Laws::parted))]
+pub fn count_parts<T: BitStore, O: SliceOrder>(view: BitSlice<'_, T, O>, mid: usize) -> usize
+    requires { mid ≤ (seen view).window.len }
+    ensures { result ≡ ones_of (seen view.entry).bits }
+{
+    let _ones = view.count_ones();
+    let (left, right) = view.split_at(mid);
+    left.count_ones() + right.count_ones()
+}
+
+/// Fills the view with ones: all are 1, and no 0 is found from either end.
+#[tactic(auto, using(bitvec::specs::Laws::filled))]
+pub fn fill_and_ask<T: BitStore, O: SliceOrder>(
+    view: &mut BitSliceMut<'_, T, O>,
+) -> (usize, Option<usize>, Option<usize>, bool)
+    ensures count { result.0 ≡ (seen_mut view.old).window.len }
+    ensures first { result.1 ≡ None }
+    ensures last { result.2 ≡ None }
+    ensures all { result.3 ≡ true }
+{
+    view.fill(true);
+    (
+        view.count_ones(),
+        view.first_zero(),
+        view.last_zero(),
+        view.all(),
+    )
+}
+
+/// Whether two views have the same bits, in any element types and orders.
+#[tactic(auto, using(bitvec::specs::Laws::compared))]
+pub fn same<T: BitStore, O: SliceOrder, U: BitStore, P: BitOrder>(
+    view: BitSlice<'_, T, O>,
+    other: BitSlice<'_, U, P>,
+) -> bool
+    ensures { IsTrue result ↔ ((seen view.entry).bits ≡ (seen other.entry).bits) }
+{
+    view.eq_bits(other)
+}
+
+/// Reverses, rotates and flips the view, and takes all of it back.
+#[tactic(auto, using(bitvec::specs::Laws::undone))]
+pub fn there_and_back<T: BitStore, O: SliceOrder>(view: &mut BitSliceMut<'_, T, O>, by: usize)
+    requires { by ≤ (seen_mut view.old).window.len }
+    ensures bits { (seen_mut view.new).bits ≡ (seen_mut view.old).bits }
+    ensures window { (seen_mut view.new).window ≡ (seen_mut view.old).window }
+{
+    view.reverse();
+    view.reverse();
+    view.rotate_left(by);
+    view.rotate_right(by);
+    view.invert();
+    view.invert();
+}
+
+#[test]
+fn answers_are_known(rt: HostRuntime) {
+    let mut cells = [0b0010_1100u8, 0b0000_0001];
+    let mut view = BitSliceMut::<u8, Lsb0>::from_slice_mut(&mut cells);
+    assert_eq!(rt; clear_last(&mut view), Some(8));
+    assert_eq!(rt; write_and_read(&mut view, 0, 2, true), (true, true));
+    assert_eq!(rt; count_both(view.as_ref()), 16);
+    assert_eq!(rt; count_parts(view.as_ref(), 3), 4);
+    there_and_back(&mut view, 5);
+    assert_eq!(rt; write_and_get(&mut view, 1, false, 16), None);
+    assert_eq!(rt; move_and_count(&mut view, 7), (4, 12));
+    assert_eq!(rt; flip_and_count(&mut view), 12);
+    assert_eq!(rt; fill_and_ask(&mut view), (16, None, None, true));
+    let words = [0xFFFFu16];
+    let other = BitSlice::<u16, Msb0>::from_slice(&words);
+    assert!(rt; same(view.as_ref(), other));
+}

@@ -1,0 +1,43 @@
+use Rattle.std.proofs.Common.{ℕ, ◌+◌, ◌/◌, ◌%◌, arith, rules}
+use Rattle.std.proofs.lemmas.Nat.{div-add-mod'}
+use Rattle.bitvec_store.specs.WidthLaws.{width_some}
+use Rattle.bitvec_base.specs.WritesLaws.{Writes-is}
+use Rattle.bitvec_words.specs.FieldLaws.{Writes-tail}
+use Rattle.bitvec_words.specs.FillingLaws.{replicate-parts}
+use Rattle.bitvec_words.specs.TouchedLaws.{part_loads-most, touched-full, touched-more}
+use Rattle.bitvec_words.proofs.filling.fill_aligned.Goals as goal
+
+pub returns-then-rest-eq0-clause-cost : goal.returns-then-rest-eq0-clause-cost
+returns-then-rest-eq0-clause-cost g c =
+    let full = rw c.BITS-bits.ensures at c.if-rest-eq0.true in
+    let all = touched-full g.C.Elem.BitStore.BITS c.args.window.start c.args.window.len (width_some _ g.met.C.Elem.BitStore.width_law) c.requires.edge full in
+    let cost = rw c.BITS-bits.ensures at c.fill_whole.ensures.cost in
+    record { borrow = search rules; loads = omega arith; stores = omega arith }
+
+pub returns-then-rest-eq0-clause-stores : goal.returns-then-rest-eq0-clause-stores
+returns-then-rest-eq0-clause-stores g c =
+    let full = rw c.BITS-bits.ensures at c.if-rest-eq0.true in
+    let all = touched-full g.C.Elem.BitStore.BITS c.args.window.start c.args.window.len (width_some _ g.met.C.Elem.BitStore.width_law) c.requires.edge full in
+    let cost = rw c.BITS-bits.ensures at c.fill_whole.ensures.cost in
+    omega arith
+
+pub returns : goal.returns
+returns g c =
+    let b = g.C.Elem.BitStore.BITS in
+    let len : ℕ = c.args.window.len in
+    let first = rw c.BITS-bits.ensures at c.fill_whole.ensures in
+    let second = rw c.BITS-bits.ensures at c.fill_part.ensures in
+    let left = rw c.BITS-bits.ensures at c.if-rest-eq0.false in
+    let parts = div-add-mod' len b in
+    let all = touched-more b c.args.window.start len (width_some _ g.met.C.Elem.BitStore.width_law) c.requires.edge (omega arith) in
+    let most = part_loads-most b (record { element = c.args.window.start / b + len / b; from = 0; to = len % b }) in
+    let cost = first.cost in
+    let tail = second.cost in
+    record {
+      writes = Writes-is _ _ _ _ _ _ _
+          (Writes-tail _ _ _ _ _ _ _ _ c.requires.window c.requires.edge first.writes second.writes)
+          (replicate-parts _ _ _ _ (omega arith));
+      cost = record { borrow = search rules; loads = omega arith; stores = omega arith };
+      stores = omega arith;
+      loads = omega arith;
+    }

@@ -1,0 +1,20 @@
+use Rattle.std.proofs.Common.{rules}
+use Rattle.bitvec_store.specs.WidthLaws.{width_some}
+use Rattle.bitvec_words.specs.FillingLaws.{Writes-flipped, Writes-none_flipped}
+use Rattle.bitvec_words.proofs.filling.invert_whole.Goals as goal
+
+pub loop-step-init : goal.loop-step-init
+loop-step-init g c = record {
+  writes = Writes-none_flipped _ _ _ _ _ c.requires;
+  cost = search rules;
+}
+
+pub loop-step-preserved : goal.loop-step-preserved
+loop-step-preserved g c =
+    let inv = c.loop-step.invariant in
+    let width = g.met.C.Elem.BitStore.width_law in
+    record {
+      writes = rw (c.store.ensures.numbers, c.not.ensures, c.load-element.ensures.numbers)
+          (Writes-flipped _ _ (g.met.O.BitOrder.permutes _ width) _ _ _ _ _ _ (width_some _ width) c.requires c.loop-step-test.true c.load-element.ensures.value c.load-element.ensures.in_range inv.writes);
+      cost = search rules;
+    }

@@ -1,0 +1,117 @@
+-- Whole elements that are filled, or flipped, one after the other.
+use Rattle.std.specs.Prelude.{◌≡◌, ◌≢◌, ℕ, ◌+◌, ◌-◌, ◌*◌, ◌%◌, ◌^◌, ◌<◌, if◌then◌else◌, Bool, not, List, ◌++◌, map, replicate, slice_index, slice_set, refl}
+use Rattle.std.proofs.Common.{arith, sym, ◌∙◌, ap}
+use Rattle.std.proofs.lemmas.Bool.{cond-false, ne_eqb}
+use Rattle.std.proofs.lemmas.List.{map-append, replicate-append-replicate}
+use Rattle.std.proofs.lemmas.Nat.{div-add-mod'}
+use Rattle.bitvec_base.specs.declared.window.Window.{Window}
+use Rattle.bitvec_base.specs.Memory.{HasWindow, Writes, element_bits, list_in}
+use Rattle.bitvec_base.specs.Order.{Permutes}
+use Rattle.bitvec_base.specs.Parts.{first_part_of, part_window}
+use Rattle.bitvec_base.specs.Window.{window_after}
+use Rattle.bitvec_base.specs.WritesLaws.{Writes-empty, Writes-is, list-behind}
+use Rattle.bitvec_walk.specs.Cost.{fill_loads}
+use Rattle.bitvec_walk.specs.ElementLaws.{element-filled, element-flipped}
+use Rattle.bitvec_walk.specs.WalkLaws.{first-len, first-place}
+use Rattle.bitvec_words.specs.CombinedLaws.{element-kept}
+use Rattle.bitvec_words.specs.Elements.{elements_window, tail_of, whole_of}
+use Rattle.bitvec_words.specs.FieldLaws.{Writes-element, Writes-head, Writes-tail, list-element, list-head, list-tail}
+use Rattle.bitvec_words.specs.WholeLaws.{HasWindow-part, list-empty}
+
+-- n values of one kind, where n is told in another way
+pub replicate-is : (n m : ℕ) (bit : Bool) → n ≡ m → replicate n bit ≡ replicate m bit
+replicate-is n m bit same = ap (λ (k : ℕ). replicate k bit) same
+
+pub replicate-parts : (n m all : ℕ) (bit : Bool) → n + m ≡ all → replicate n bit ++ replicate m bit ≡ replicate all bit
+replicate-parts n m all bit sum = replicate-append-replicate n m bit ∙ replicate-is (n + m) all bit sum
+
+-- ---- no element, and one more
+
+pub Writes-none_filled : (b : ℕ) (at : ℕ → ℕ → ℕ) (xs : List ℕ) (first count : ℕ) (bit : Bool) → HasWindow b xs (elements_window b first count) → Writes b at xs xs (elements_window b first 0) (replicate (0 * b) bit)
+Writes-none_filled b at xs first count bit has =
+    let start = has.within.start in
+    let none : 0 * b ≡ 0 = omega arith in
+    Writes-is b at xs xs (elements_window b first 0) _ _
+    (Writes-empty b at xs xs (elements_window b first 0) (record { fits = has.fits; within = record { start = start; len = omega arith } }) none refl)
+    (replicate-is 0 (0 * b) bit (sym none))
+
+pub Writes-filled : (b : ℕ) (at : ℕ → ℕ → ℕ) → Permutes b (at b) → (old mid : List ℕ) (first count step : ℕ) (bit : Bool) → 0 < b → HasWindow b old (elements_window b first count) → step < count
+    → Writes b at old mid (elements_window b first step) (replicate (step * b) bit)
+    → Writes b at old (slice_set mid (first + step) (if bit then 2 ^ b - 1 else 0)) (elements_window b first (step + 1)) (replicate ((step + 1) * b) bit)
+Writes-filled b at p old mid first count step bit some has more before =
+    Writes-is b at old _ (elements_window b first (step + 1)) _ _
+    (Writes-element b at old mid first count step (if bit then 2 ^ b - 1 else 0) (replicate (step * b) bit) some has more before)
+    (ap (λ (l : List Bool). replicate (step * b) bit ++ l) (element-filled b at p bit)
+    ∙ replicate-parts (step * b) b ((step + 1) * b) bit (omega arith))
+
+pub Writes-none_flipped : (b : ℕ) (at : ℕ → ℕ → ℕ) (xs : List ℕ) (first count : ℕ) → HasWindow b xs (elements_window b first count) → Writes b at xs xs (elements_window b first 0) (map not (list_in b at xs (elements_window b first 0)))
+Writes-none_flipped b at xs first count has =
+    let start = has.within.start in
+    let none : 0 * b ≡ 0 = omega arith in
+    let here : HasWindow b xs (elements_window b first 0) = record { fits = has.fits; within = record { start = start; len = omega arith } } in
+    let nothing = list-empty b at xs (elements_window b first 0) none in
+    Writes-is b at xs xs (elements_window b first 0) _ _
+    (Writes-empty b at xs xs (elements_window b first 0) here none refl)
+    (ap (map not) (sym nothing))
+
+pub Writes-flipped : (b : ℕ) (at : ℕ → ℕ → ℕ) → Permutes b (at b) → (old mid : List ℕ) (first count step v : ℕ) → 0 < b → HasWindow b old (elements_window b first count) → step < count → v ≡ slice_index mid (first + step) → v < 2 ^ b
+    → Writes b at old mid (elements_window b first step) (map not (list_in b at old (elements_window b first step)))
+    → Writes b at old (slice_set mid (first + step) (2 ^ b - 1 - v)) (elements_window b first (step + 1)) (map not (list_in b at old (elements_window b first (step + 1))))
+Writes-flipped b at p old mid first count step v some has more is small before =
+    let front = list_in b at old (elements_window b first step) in
+    let here = element_bits b at (slice_index old (first + step)) in
+    Writes-is b at old _ (elements_window b first (step + 1)) _ _
+    (Writes-element b at old mid first count step (2 ^ b - 1 - v) (map not front) some has more before)
+    (ap (λ (l : List Bool). map not front ++ l)
+    (element-flipped b at p v small
+    ∙ ap (λ (n : ℕ). map not (element_bits b at n)) is
+    ∙ ap (map not) (element-kept b at old mid first count step (map not front) some has more before))
+    ∙ sym (map-append not front here)
+    ∙ ap (map not) (list-element b at old first count step some has more))
+
+-- ---- a window by two parts of it, side by side
+
+-- the second part is as it was when it is flipped
+flip-parts : (before part kept whole : List Bool) → part ≡ kept → before ++ kept ≡ whole → map not before ++ map not part ≡ map not whole
+flip-parts before part kept whole same next = ap (λ (l : List Bool). map not before ++ map not l) same ∙ sym (map-append not before kept) ∙ ap (map not) next
+
+-- its whole elements, and what is left
+pub Writes-flipped_tail : (b : ℕ) (at : ℕ → ℕ → ℕ) (old mid new : List ℕ) (window : Window) → HasWindow b old window → window.start % b ≡ 0
+    → Writes b at old mid (whole_of b window) (map not (list_in b at old (whole_of b window)))
+    → Writes b at mid new (part_window b (tail_of b window)) (map not (list_in b at mid (part_window b (tail_of b window))))
+    → Writes b at old new window (map not (list_in b at old window))
+Writes-flipped_tail b at old mid new window has edge before after =
+    let place = div-add-mod' window.start b in
+    let all = div-add-mod' window.len b in
+    let whole = whole_of b window in
+    let tail = part_window b (tail_of b window) in
+    let kept = list-behind b at old mid whole tail _
+    (HasWindow-part b old window whole has (omega arith) (omega arith))
+    (HasWindow-part b old window tail has (omega arith) (omega arith))
+    (omega arith) before in
+    Writes-is b at old new window _ _
+    (Writes-tail b at old mid new window _ _ has edge before after)
+    (flip-parts _ _ _ _ kept (list-tail b at old window window.len has edge refl))
+
+-- the part of its first element, of t places, and what is left
+pub Writes-flipped_head : (b : ℕ) (at : ℕ → ℕ → ℕ) (old mid new : List ℕ) (window : Window) (t : ℕ) → 0 < b → 0 < window.len → t ≡ (first_part_of b window).to - (first_part_of b window).from → HasWindow b old window
+    → Writes b at old mid (part_window b (first_part_of b window)) (map not (list_in b at old (part_window b (first_part_of b window))))
+    → Writes b at mid new (window_after t window) (map not (list_in b at mid (window_after t window)))
+    → Writes b at old new window (map not (list_in b at old window))
+Writes-flipped_head b at old mid new window t some more part has before after =
+    let place = first-place b window in
+    let len = first-len b window some more in
+    let head = part_window b (first_part_of b window) in
+    let rest = window_after t window in
+    let kept = list-behind b at old mid head rest _
+    (HasWindow-part b old window head has (omega arith) (omega arith))
+    (HasWindow-part b old window rest has (omega arith) (omega arith))
+    (omega arith) before in
+    Writes-is b at old new window _ _
+    (Writes-head b at old mid new window t _ _ some more part has before after)
+    (flip-parts _ _ _ _ kept (list-head b at old window window t some more part refl refl has))
+
+-- ---- loads
+
+pub fill_loads-some : (n : ℕ) → n ≢ 0 → fill_loads n ≡ 2
+fill_loads-some n some = cond-false _ _ _ (ne_eqb n 0 some)

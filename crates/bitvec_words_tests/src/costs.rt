@@ -1,0 +1,45 @@
+//! What a caller knows of the cost of a copy under any order that works by words.
+ghost use Rattle.std.specs.Prelude.{◌≡◌, true};
+ghost use Rattle.bitvec_base.specs.Memory.{HasWindow};
+ghost use Rattle.bitvec_cells.specs.Access.{CostsAtMost, OnlyReadsAtMost};
+ghost use Rattle.bitvec_walk.specs.Cost.{read_loads, write_loads, write_stores};
+
+use bitvec_base::{Lsb0, Msb0, Window};
+use bitvec_cells::{Cells, CellsRead, Exclusive, Shared};
+use bitvec_engine::ByWords;
+use bitvec_test_support::Counted;
+use std::process::Abort;
+
+/// Copies a window, in steps of 64 bits.
+fn copy_in_steps<O: ByWords, C: Cells, D: CellsRead<Elem = C::Elem>>(
+    left: &mut C,
+    to: Window,
+    right: &mut D,
+    from: Window,
+)
+    requires window { HasWindow C.Elem.BITS (C.numbers left.old) to }
+    requires right_window { HasWindow C.Elem.BITS (D.numbers right.old) from }
+    requires lengths { to.len ≡ from.len }
+    ensures cost { CostsAtMost C.CellsRead left.old left.new (write_loads C.Elem.BITS true to.len) (write_stores C.Elem.BITS true to.len) }
+    ensures right { OnlyReadsAtMost D.CellsRead right.old right.new (read_loads C.Elem.BITS true to.len) }
+{
+    O::block_copy::<C, D>(left, to, right, from);
+}
+
+/// A copy of 130 bits: three steps, of at most nine bytes each.
+fn three_steps<O: ByWords, R: Abort>(rt: &R) {
+    let mut zeros = [0u8; 18];
+    let ones = [0xFFu8; 18];
+    let mut left = Counted::new(Exclusive::new(&mut zeros));
+    let mut right = Counted::new(Shared::new(&ones));
+    let to = Window { start: 5, len: 130 };
+    let from = Window { start: 3, len: 130 };
+    copy_in_steps::<O, _, _>(&mut left, to, &mut right, from);
+    assert!(rt; left.loads() <= 6 && left.stores() <= 27 && right.loads() <= 27);
+}
+
+#[test]
+fn a_copy_goes_in_steps(rt: HostRuntime) {
+    three_steps::<Lsb0, _>(&rt);
+    three_steps::<Msb0, _>(&rt);
+}

@@ -1,0 +1,212 @@
+//! Each command at each width, by words and bit by bit: windows of no bits up to many elements, at
+//! the edges of elements and inside. Both memories are compared as a whole.
+ghost use Rattle.std.specs.Prelude.{◌^◌, ◌<◌};
+
+use crate::bit_by_bit::BitByBit;
+use crate::commands::{Command, carry_out};
+use bitvec_base::{BitOrder, Lsb0, Msb0, Window};
+use bitvec_cells::{Exclusive, Shared, has_window};
+use bitvec_engine::{BitOp, SliceOrder};
+use bitvec_store::BitStore;
+use bitvec_test_support::mixed_elements;
+use std::process::Abort;
+use std::test::Fail;
+
+const LEFT: u64 = 0x9E37_79B9_7F4A_7C15;
+
+const RIGHT: u64 = 0xBF58_476D_1CE4_E5B9;
+
+/// So many elements hold 1,000 bits from any bit of the first on.
+const COUNT: usize = 128;
+
+const TWO_SIDED: [Command; 6] = [
+    Command::Copy,
+    Command::Swap,
+    Command::Combine(BitOp::And),
+    Command::Combine(BitOp::Or),
+    Command::Combine(BitOp::Xor),
+    Command::Reverse,
+];
+
+/// The elements of two memories.
+#[derive(Clone, Copy, Drop)]
+struct Sides<'a, T> {
+    left: &'a [T],
+    right: &'a [T],
+}
+
+/// Whether the elements' numbers are the same.
+fn same_numbers<T: BitStore>(left: &[T], right: &[T]) -> bool {
+    left.len() == right.len()
+        && left
+            .iter()
+            .zip(right)
+            .all(|(element, other)| element.to_u128() == other.to_u128())
+}
+
+/// A command by the order and bit by bit, on the same elements.
+fn agrees<T: BitStore, O: SliceOrder, R: Abort + AllocGlobal>(
+    rt: &R,
+    command: Command,
+    sides: Sides<T>,
+    to: Window,
+    from: Window,
+) -> Result<(), Fail> {
+    let mut left = Vec::from_slice(rt.alloc(), sides.left)?;
+    let mut right = Vec::from_slice(rt.alloc(), sides.right)?;
+    carry_out::<O, _, _, R>(
+        rt,
+        command,
+        &mut Exclusive::new(&mut left),
+        to,
+        &mut Exclusive::new(&mut right),
+        from,
+    );
+    let mut plain_left = Vec::from_slice(rt.alloc(), sides.left)?;
+    let mut plain_right = Vec::from_slice(rt.alloc(), sides.right)?;
+    carry_out::<BitByBit<O>, _, _, R>(
+        rt,
+        command,
+        &mut Exclusive::new(&mut plain_left),
+        to,
+        &mut Exclusive::new(&mut plain_right),
+        from,
+    );
+    assert!(rt;
+        same_numbers(&left, &plain_left),
+        "{command:?} {to:?} {from:?}"
+    );
+    assert!(rt;
+        same_numbers(&right, &plain_right),
+        "{command:?} {to:?} {from:?}"
+    );
+    Ok(())
+}
+
+/// Whether the order says that the windows' bits are the same.
+fn are_equal<T: BitStore, O: SliceOrder, R: Abort>(
+    rt: &R,
+    left: &[T],
+    left_window: Window,
+    right: &[T],
+    right_window: Window,
+) -> bool {
+    let mut left = Shared::new(left);
+    let mut right = Shared::new(right);
+    assert!(rt; has_window(&left, left_window) && has_window(&right, right_window));
+    O::block_eq::<Shared<T>, Shared<T>>(&mut left, left_window, &mut right, right_window)
+}
+
+/// Flips the bit at a place of the elements, if there is one.
+fn flip<T: BitStore, O: BitOrder>(elements: &mut [T], place: usize) {
+    let width = T::BITS as usize;
+    if let Some(element) = elements.get_mut(place / width) {
+        *element = element.xor(O::select::<T>(place % width));
+    }
+}
+
+/// Equality of a window with its copy, in which then one bit after the other differs, and one on
+/// either side of it.
+fn equality_agrees<T: BitStore, O: SliceOrder, R: Abort + AllocGlobal>(
+    rt: &R,
+    sides: Sides<T>,
+    to: Window,
+    from: Window,
+) -> Result<(), Fail>
+    requires start { to.start < 2 ^ 32 }
+    requires len { to.len < 2 ^ 32 }
+{
+    let mut left = Vec::from_slice(rt.alloc(), sides.left)?;
+    let mut right = Vec::from_slice(rt.alloc(), sides.right)?;
+    carry_out::<BitByBit<O>, _, _, R>(
+        rt,
+        Command::Copy,
+        &mut Exclusive::new(&mut left),
+        to,
+        &mut Exclusive::new(&mut right),
+        from,
+    );
+    let end = to.start + to.len;
+    for place in to.start.saturating_sub(1)..end + 1 {
+        assert!(rt;
+            are_equal::<T, O, R>(rt, &left, to, &right, from),
+            "{to:?} {from:?}"
+        );
+        flip::<T, O>(&mut left, place);
+        let outside = place < to.start || place >= end;
+        let equal = are_equal::<T, O, R>(rt, &left, to, &right, from);
+        assert_eq!(rt; equal, outside, "{place} {to:?} {from:?}");
+        flip::<T, O>(&mut left, place);
+    }
+    Ok(())
+}
+
+/// Every command and equality, in windows of few bits up to 1,000.
+fn sweep<T: BitStore, O: SliceOrder, R: Abort + AllocGlobal>(
+    rt: &R,
+    sides: Sides<T>,
+) -> Result<(), Fail> {
+    let width = T::BITS as usize;
+    for len in [0, 1, width - 1, width, width + 1, 63, 64, 65, 130, 1000] {
+        for start in [0, 1, width - 1] {
+            for right_start in [0, 1, width - 1] {
+                let to = Window { start, len };
+                let from = Window {
+                    start: right_start,
+                    len,
+                };
+                for command in TWO_SIDED {
+                    agrees::<T, O, R>(rt, command, sides, to, from)?;
+                }
+                equality_agrees::<T, O, R>(rt, sides, to, from)?;
+            }
+        }
+    }
+    Ok(())
+}
+
+/// Overlapping copies by every distance up to 70 places, both ways.
+fn sweep_within<T: BitStore, O: SliceOrder, R: Abort + AllocGlobal>(
+    rt: &R,
+    sides: Sides<T>,
+) -> Result<(), Fail> {
+    for start in [0, 1, T::BITS as usize - 1] {
+        let window = Window { start, len: 150 };
+        for by in 0..71 {
+            agrees::<T, O, R>(rt, Command::TowardStart(by), sides, window, window)?;
+            agrees::<T, O, R>(rt, Command::TowardEnd(by), sides, window, window)?;
+        }
+    }
+    Ok(())
+}
+
+/// Both sweeps on elements with no pattern.
+fn sweep_all<T: BitStore, O: SliceOrder, R: Abort + AllocGlobal>(rt: &R) -> Result<(), Fail> {
+    let left = mixed_elements::<T, _>(rt.alloc(), LEFT, COUNT)?;
+    let right = mixed_elements::<T, _>(rt.alloc(), RIGHT, COUNT)?;
+    let sides = Sides {
+        left: &left,
+        right: &right,
+    };
+    sweep::<T, O, R>(rt, sides)?;
+    sweep_within::<T, O, R>(rt, sides)
+}
+
+/// The same at each width.
+fn sweep_each_width<O: SliceOrder, R: Abort + AllocGlobal>(rt: &R) -> Result<(), Fail> {
+    sweep_all::<u8, O, R>(rt)?;
+    sweep_all::<u16, O, R>(rt)?;
+    sweep_all::<u32, O, R>(rt)?;
+    sweep_all::<u64, O, R>(rt)?;
+    sweep_all::<usize, O, R>(rt)
+}
+
+#[test]
+fn words_agree_with_bits_from_the_low_end(rt: HostRuntime) -> Result<(), Fail> {
+    sweep_each_width::<Lsb0, _>(&rt)
+}
+
+#[test]
+fn words_agree_with_bits_from_the_high_end(rt: HostRuntime) -> Result<(), Fail> {
+    sweep_each_width::<Msb0, _>(&rt)
+}
