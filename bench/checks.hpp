@@ -68,6 +68,13 @@ class Checks {
         return result;
     }
 
+    static size_t sum_of_ones(const List &list) {
+        size_t sum = 0;
+        for (size_t i = 0; i < list.size(); ++i)
+            sum += list[i] ? i : 0;
+        return sum;
+    }
+
     static void expect(bool same, const char *what, Place at) {
         if (same)
             return;
@@ -202,6 +209,7 @@ class Checks {
         const size_t place = size_t(std::find(list.begin(), list.end(), 1) - list.begin());
         expect(Call::count_ones(left.data(), left.size(), at.left, at.len) == ones, "count_ones", at);
         expect(Call::first_one(left.data(), left.size(), at.left, at.len) == place, "first_one", at);
+        expect(Call::iter_ones(left.data(), left.size(), at.left, at.len) == sum_of_ones(list), "iter_ones", at);
         Memory same = right;
         Bits::write(same, at.right, list);
         one_equality(at, left, same, true);
@@ -226,6 +234,8 @@ class Checks {
             expect(Loop::count_ones(right.data(), unsigned(at.right), count) ==
                        size_t(std::count(there.begin(), there.end(), 1)),
                    "count_ones by a plain loop", at);
+            expect(Loop::iter_ones(right.data(), unsigned(at.right), count) == sum_of_ones(there),
+                   "iter_ones by a plain loop", at);
             Memory one(right.size());
             List last(at.len, 0);
             last.back() = 1;

@@ -206,6 +206,20 @@ class Timed {
         return t;
     }
 
+    // The sum of the indices of the ones, which are one bit in `every`.
+    Times iter_ones(unsigned every) {
+        std::mt19937_64 random(5);
+        for (Element &element : right) {
+            element = 0;
+            for (size_t i = 0; i < width; ++i)
+                element = Element(element | Element(random() % every == 0) << i);
+        }
+        Times t;
+        t.library = time_call([&] { keep(Call::iter_ones(r(), size, start, len)); });
+        t.loop = time_call([&] { keep(Loop::iter_ones(r(), unsigned(start), count)); });
+        return t;
+    }
+
   private:
     size_t len, start, first;
     bool inner;
@@ -269,6 +283,8 @@ void measure(size_t len, Phase phase, PeerTimes &peers) {
     row("invert", one, timed.invert(), [](Peers &p) { return p.invert(); });
     row("count_ones", one, timed.count_ones(), [](Peers &p) { return p.count_ones(); });
     row("first_one", one, timed.first_one(), [](Peers &p) { return p.first_one(); });
+    row("iter_ones 1/61", one, timed.iter_ones(61), [](Peers &p) { return p.iter_ones(61); });
+    row("iter_ones 1/2", one, timed.iter_ones(2), [](Peers &p) { return p.iter_ones(2); });
 }
 
 // Copies of few bits, in nanoseconds, with starts that the compiler doesn't know.

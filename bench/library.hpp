@@ -30,6 +30,7 @@ struct Library;
     void bitvec_bench_invert_##suffix(Element *, size_t, size_t, size_t);                                             \
     size_t bitvec_bench_count_ones_##suffix(const Element *, size_t, size_t, size_t);                                 \
     size_t bitvec_bench_first_one_##suffix(const Element *, size_t, size_t, size_t);                                  \
+    size_t bitvec_bench_iter_ones_##suffix(const Element *, size_t, size_t, size_t);                                  \
     }                                                                                                                 \
     template <>                                                                                                       \
     struct Library<Element, Order> {                                                                                  \
@@ -45,6 +46,7 @@ struct Library;
         static constexpr auto invert = bitvec_bench_invert_##suffix;                                                  \
         static constexpr auto count_ones = bitvec_bench_count_ones_##suffix;                                          \
         static constexpr auto first_one = bitvec_bench_first_one_##suffix;                                            \
+        static constexpr auto iter_ones = bitvec_bench_iter_ones_##suffix;                                            \
     };
 
 LIBRARY(uint8_t, Lsb0, u8_lsb0)

@@ -231,6 +231,22 @@ struct Loops {
         return last == 0 ? count * width : count * width + first_place(last) - start;
     }
 
+    // The sum of the indices of the ones.
+    [[gnu::noinline]] static size_t iter_ones(const Element *p, unsigned start, size_t count) {
+        size_t sum = 0;
+        for (size_t i = 0; i <= count; ++i) {
+            Element here = i < count ? p[i] : start == 0 ? Element(0) : Element(p[count] & first(start));
+            if (i == 0)
+                here = Element(here & Element(~first(start)));
+            while (here != 0) {
+                unsigned place = first_place(here);
+                sum += i * width + place - start;
+                here = Element(here & Element(~to_back(to_front(ones, width - 1), place)));
+            }
+        }
+        return sum;
+    }
+
     // A copy of `len` bits, at most an element's, by shifts and masks, between any two places.
     [[gnu::noinline]] static void copy_few(Element *to, size_t to_place, const Element *from, size_t from_place,
                                            unsigned len) {

@@ -9,6 +9,7 @@
 #include <boost/dynamic_bitset.hpp>
 #include <cstddef>
 #include <cstdint>
+#include <random>
 #include <string>
 #include <vector>
 
@@ -25,6 +26,7 @@ void fixedbitset_fill(FixedBitSet *, size_t, size_t, bool);
 void fixedbitset_invert(FixedBitSet *, size_t, size_t);
 size_t fixedbitset_count_ones(const FixedBitSet *, size_t, size_t);
 size_t fixedbitset_first_one(const FixedBitSet *);
+size_t fixedbitset_iter_ones(const FixedBitSet *);
 BitVec *bit_vec_new(const uint32_t *, size_t);
 void bit_vec_free(BitVec *);
 void bit_vec_copy(BitVec *, const BitVec *);
@@ -34,6 +36,7 @@ void bit_vec_fill(BitVec *, bool);
 void bit_vec_invert(BitVec *);
 size_t bit_vec_count_ones(const BitVec *);
 size_t bit_vec_first_one(const BitVec *);
+size_t bit_vec_iter_ones(const BitVec *);
 }
 
 // The fastest peer of an operation, and how long one call of it takes.
@@ -228,6 +231,32 @@ class Peers {
         return best;
     }
 
+    // The sum of the indices of all ones, which are one bit in `every`; fixedbitset and bit-vec walk over
+    // whole sets alone.
+    Best iter_ones(unsigned every) {
+        Sets sparse(sparse_words(start + len + 63, every));
+        Best best;
+        best.try_peer("vector<bool>", [&] {
+            size_t sum = 0;
+            for (size_t i = start; i < start + len; ++i)
+                if (sparse.vector[i])
+                    sum += i - start;
+            keep(sum);
+        });
+        best.try_peer("dynamic_bitset", [&] {
+            size_t sum = 0;
+            size_t i = start == 0 ? sparse.bitset.find_first() : sparse.bitset.find_next(start - 1);
+            for (; i < start + len; i = sparse.bitset.find_next(i))
+                sum += i - start;
+            keep(sum);
+        });
+        if (start == 0) {
+            best.try_peer("fixedbitset", [&] { keep(fixedbitset_iter_ones(sparse.fixed)); });
+            best.try_peer("bit-vec", [&] { keep(bit_vec_iter_ones(sparse.bit_vec)); });
+        }
+        return best;
+    }
+
   private:
     size_t len, start;
     bool inner;
@@ -237,6 +266,18 @@ class Peers {
         std::vector<uint32_t> result((len + 31) / 32);
         for (uint32_t &word : result)
             word = seed = seed * 1664525 + 1013904223;
+        return result;
+    }
+
+    // Words of which one bit in `every` is 1.
+    static std::vector<uint32_t> sparse_words(size_t len, unsigned every) {
+        std::vector<uint32_t> result = words(len, 0);
+        std::mt19937_64 random(5);
+        for (uint32_t &word : result) {
+            word = 0;
+            for (unsigned i = 0; i < 32; ++i)
+                word |= uint32_t(random() % every == 0) << i;
+        }
         return result;
     }
 

@@ -56,6 +56,11 @@ pub extern "C" fn fixedbitset_first_one(set: &FixedBitSet) -> usize {
     set.ones().next().unwrap_or(set.len())
 }
 
+#[no_mangle]
+pub extern "C" fn fixedbitset_iter_ones(set: &FixedBitSet) -> usize {
+    set.ones().fold(0, usize::wrapping_add)
+}
+
 /// A vector of the bits of the words, bit 0 of the first word first.
 ///
 /// # Safety
@@ -111,4 +116,10 @@ pub extern "C" fn bit_vec_count_ones(bits: &BitVec) -> usize {
 #[no_mangle]
 pub extern "C" fn bit_vec_first_one(bits: &BitVec) -> usize {
     bits.iter().position(|bit| bit).unwrap_or(bits.len())
+}
+
+#[no_mangle]
+pub extern "C" fn bit_vec_iter_ones(bits: &BitVec) -> usize {
+    let ones = bits.iter().enumerate().filter(|&(_, bit)| bit);
+    ones.fold(0, |sum, (index, _)| sum.wrapping_add(index))
 }

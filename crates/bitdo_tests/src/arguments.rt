@@ -1,6 +1,5 @@
 //! The words after the program's name.
-use crate::support::expect;
-use bitdo_work::work;
+use crate::support::{expect, status};
 use std::test::Fail;
 
 #[test]
@@ -54,13 +53,13 @@ fn other_words_are_bad(rt: HostRuntime) -> Result<(), Fail> {
 fn no_words_are_bad(rt: HostRuntime) -> Result<(), Fail> {
     let args: Vec<String> = Vec::new(rt.alloc());
     let mut output = Vec::new(rt.alloc());
-    let status = work(
+    let ended = status(
         rt.alloc(),
         args.as_slice(),
         &mut b"".as_slice(),
         &mut output,
     );
-    assert_eq!(rt; status, 2);
+    assert_eq!(rt; ended, 2);
     assert_eq!(rt; output.as_slice(), b"bad arguments\n".as_slice());
     Ok(())
 }

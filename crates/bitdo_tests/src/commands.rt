@@ -1,5 +1,5 @@
 //! What each command answers and leaves.
-use crate::support::{expect, line};
+use crate::support::expect;
 use std::process::Abort;
 use std::test::Fail;
 
@@ -137,8 +137,11 @@ const ARGUMENTS: [(&str, usize); 29] = [
 #[test]
 fn each_command_takes_so_many_arguments(rt: HostRuntime) -> Result<(), Fail> {
     for (word, count) in ARGUMENTS {
-        for given in 0..=4 {
-            let input = line(rt.alloc(), word, given)?;
+        for (given, zeros) in ["", " 0", " 0 0", " 0 0 0", " 0 0 0 0"]
+            .into_iter()
+            .enumerate()
+        {
+            let input = format!(in rt.alloc(); "0 8 {word}{zeros}\nno line")?;
             let printed = if given == count {
                 "bad line 2\n"
             } else {

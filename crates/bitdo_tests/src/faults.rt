@@ -1,6 +1,5 @@
 //! Readers and writers that give little or fail, and want of memory.
-use crate::support::words;
-use bitdo_work::work;
+use crate::support::{status, words};
 use std::io::ErrorKind;
 use std::test::Fail;
 use test_streams::{FailingReader, FailingWriter, OneByteReader, Refusing};
@@ -16,8 +15,8 @@ fn a_byte_a_read_is_enough(rt: HostRuntime) -> Result<(), Fail> {
     let args = words(rt.alloc(), ARGS)?;
     let mut output = Vec::new(rt.alloc());
     let mut input = OneByteReader::new(INPUT);
-    let status = work(rt.alloc(), args.as_slice(), &mut input, &mut output);
-    assert_eq!(rt; status, 0);
+    let ended = status(rt.alloc(), args.as_slice(), &mut input, &mut output);
+    assert_eq!(rt; ended, 0);
     assert_eq!(rt; output.as_slice(), PRINTED);
     Ok(())
 }
@@ -33,13 +32,13 @@ fn many_chunks_are_one_input(rt: HostRuntime) -> Result<(), Fail> {
     }
     printed.extend_from_slice(b"= 01,02\n")?;
     let mut output = Vec::new(rt.alloc());
-    let status = work(
+    let ended = status(
         rt.alloc(),
         args.as_slice(),
         &mut input.as_slice(),
         &mut output,
     );
-    assert_eq!(rt; status, 0);
+    assert_eq!(rt; ended, 0);
     assert_eq!(rt; output.as_slice(), printed.as_slice());
     Ok(())
 }
@@ -60,9 +59,9 @@ fn a_reader_that_fails_is_bad_input(rt: HostRuntime) -> Result<(), Fail> {
             let args = words(rt.alloc(), args)?;
             let mut output = Vec::new(rt.alloc());
             let mut input = FailingReader::new(given, kind);
-            let status = work(rt.alloc(), args.as_slice(), &mut input, &mut output);
+            let ended = status(rt.alloc(), args.as_slice(), &mut input, &mut output);
             assert_eq!(rt; output.as_slice(), printed);
-            assert_eq!(rt; status, 2);
+            assert_eq!(rt; ended, 2);
         }
     }
     Ok(())
@@ -78,9 +77,9 @@ fn an_input_is_text_before_its_first_line(rt: HostRuntime) -> Result<(), Fail> {
     ] {
         let mut input = given;
         let mut output = Vec::new(rt.alloc());
-        let status = work(rt.alloc(), args.as_slice(), &mut input, &mut output);
+        let ended = status(rt.alloc(), args.as_slice(), &mut input, &mut output);
         assert_eq!(rt; output.as_slice(), b"bad input\n".as_slice());
-        assert_eq!(rt; status, 2);
+        assert_eq!(rt; ended, 2);
     }
     Ok(())
 }
@@ -96,8 +95,8 @@ fn an_output_that_fails_is_status_1(rt: HostRuntime) -> Result<(), Fail> {
         for room in 0..=printed {
             let mut input = input;
             let mut output = FailingWriter::new(room, ErrorKind::StorageFull);
-            let status = work(rt.alloc(), args.as_slice(), &mut input, &mut output);
-            assert_eq!(rt; status, 1, "with room for {room}");
+            let ended = status(rt.alloc(), args.as_slice(), &mut input, &mut output);
+            assert_eq!(rt; ended, 1, "with room for {room}");
         }
     }
     Ok(())
@@ -111,10 +110,10 @@ fn want_of_memory_is_told_at_each_request(rt: HostRuntime) -> Result<(), Fail> {
         let refusing = Refusing::new(rt.alloc(), granted);
         let mut input = INPUT;
         let mut output = Vec::new(rt.alloc());
-        let status = work(&refusing, args.as_slice(), &mut input, &mut output);
+        let ended = status(&refusing, args.as_slice(), &mut input, &mut output);
         if refusing.granted_all() {
             assert_eq!(rt; output.as_slice(), PRINTED);
-            assert_eq!(rt; status, 0);
+            assert_eq!(rt; ended, 0);
             needed = Some(granted);
             break;
         }
@@ -123,7 +122,7 @@ fn want_of_memory_is_told_at_each_request(rt: HostRuntime) -> Result<(), Fail> {
             b"run error: memory\n".as_slice(),
             "after {granted}"
         );
-        assert_eq!(rt; status, 3, "after {granted}");
+        assert_eq!(rt; ended, 3, "after {granted}");
     }
     // One at least for each memory, the input, the steps and the replies.
     assert!(rt; needed >= Some(5), "{needed:?} requests");

@@ -12,39 +12,39 @@ use bitvec_run::Op;
 pub(crate) fn parse_op(word: &str, arguments: Words<'_>) -> Option<Op>
     ensures { result ≡ op_of word.now (words_left arguments.entry) }
 {
-    Some(match word {
-        "get" => Op::Get(arguments.number()?),
+    match word {
+        "get" => arguments.number().map(Op::Get),
         "set" => {
             let (index, bit) = arguments.number_and_bit()?;
-            Op::Set(index, bit)
+            Some(Op::Set(index, bit))
         }
         "replace" => {
             let (index, bit) = arguments.number_and_bit()?;
-            Op::Replace(index, bit)
+            Some(Op::Replace(index, bit))
         }
         "swap" => {
             let (first, second) = arguments.two_numbers()?;
-            Op::Swap(first, second)
+            Some(Op::Swap(first, second))
         }
-        "fill" => Op::Fill(arguments.bit()?),
+        "fill" => arguments.bit().map(Op::Fill),
         "invert" => {
             arguments.none()?;
-            Op::Invert
+            Some(Op::Invert)
         }
         "reverse" => {
             arguments.none()?;
-            Op::Reverse
+            Some(Op::Reverse)
         }
-        "shift_start" => Op::ShiftStart(arguments.number()?),
-        "shift_end" => Op::ShiftEnd(arguments.number()?),
-        "rotate_left" => Op::RotateLeft(arguments.number()?),
-        "rotate_right" => Op::RotateRight(arguments.number()?),
+        "shift_start" => arguments.number().map(Op::ShiftStart),
+        "shift_end" => arguments.number().map(Op::ShiftEnd),
+        "rotate_left" => arguments.number().map(Op::RotateLeft),
+        "rotate_right" => arguments.number().map(Op::RotateRight),
         "copy_within" => {
             let (start, end, dest) = arguments.three_numbers()?;
-            Op::CopyWithin(start, end, dest)
+            Some(Op::CopyWithin(start, end, dest))
         }
-        _ => parse_right_op(word, arguments)?,
-    })
+        _ => parse_right_op(word, arguments),
+    }
 }
 
 /// The same of the commands with a right window.
@@ -52,18 +52,18 @@ pub(crate) fn parse_op(word: &str, arguments: Words<'_>) -> Option<Op>
 fn parse_right_op(word: &str, arguments: Words<'_>) -> Option<Op>
     ensures { result ≡ right_op_of word.now (words_left arguments.entry) }
 {
-    Some(match word {
-        "copy_from" => Op::CopyFrom(arguments.window()?),
-        "and" => Op::And(arguments.window()?),
-        "or" => Op::Or(arguments.window()?),
-        "xor" => Op::Xor(arguments.window()?),
-        "eq" => Op::Eq(arguments.window()?),
-        "cmp" => Op::Cmp(arguments.window()?),
-        "starts_with" => Op::StartsWith(arguments.window()?),
-        "ends_with" => Op::EndsWith(arguments.window()?),
-        "contains" => Op::Contains(arguments.window()?),
-        _ => parse_query(word, arguments)?,
-    })
+    match word {
+        "copy_from" => arguments.window().map(Op::CopyFrom),
+        "and" => arguments.window().map(Op::And),
+        "or" => arguments.window().map(Op::Or),
+        "xor" => arguments.window().map(Op::Xor),
+        "eq" => arguments.window().map(Op::Eq),
+        "cmp" => arguments.window().map(Op::Cmp),
+        "starts_with" => arguments.window().map(Op::StartsWith),
+        "ends_with" => arguments.window().map(Op::EndsWith),
+        "contains" => arguments.window().map(Op::Contains),
+        _ => parse_query(word, arguments),
+    }
 }
 
 /// The same of the commands that ask without an argument.

@@ -1,14 +1,18 @@
 -- What callers name by `using`: a set of laws for each kind of call.
-use Rattle.std.proofs.lemmas.Grind.{get_or-set_at}
+use Rattle.std.proofs.iter.Rest.{run_of_first, run_of_first_by, run_of_last, run_of_last_by}
+use Rattle.std.proofs.lemmas.Grind.{common_steps, get_or-set_at}
 use Rattle.std.proofs.lemmas.List.{get_or-replicate, get_or-set_other, length-set, reverse-reverse}
 use Rattle.bitvec_base.specs.CountLaws.{ones_and_zeros}
+use Rattle.bitvec_base.specs.CountedLaws.{ones-all, ones-fewer, ones-flipped, ones-front, ones-more, ones-none, ones-rest, ones-reversed, ones-rotated_left, ones-rotated_right, ones-whole, zeros-all, zeros-fewer, zeros-flipped, zeros-more, zeros-none, zeros-reversed, zeros-rotated_left, zeros-rotated_right}
 use Rattle.bitvec_base.specs.FillLaws.{flip-undoes}
+use Rattle.bitvec_base.specs.FilledLaws.{all-filled, any-filled, bits-zeros, equal-same, first-filled, first-of_filled, last-filled, same-equal}
 use Rattle.bitvec_base.specs.PlacesLaws.{first_place-absent, first_place-before, first_place-below, first_place-bit, last_place-absent, last_place-after, last_place-below, last_place-bit}
 use Rattle.bitvec_base.specs.RotationLaws.{rotated_left-undoes, rotated_right-undoes}
 use Rattle.bitvec_walk.specs.CostLaws.{enough}
+use Rattle.bitvec_iter.specs.JoinLaws.{few_counted, parts_counted, parts_joined}
 use Rattle.bitvec_slice.specs.SeenLaws.{length_bits}
-use Rattle.bitvec.specs.CountedLaws.{ones-all, ones-fewer, ones-flipped, ones-front, ones-more, ones-none, ones-rest, ones-reversed, ones-rotated_left, ones-rotated_right, ones-whole, zeros-all, zeros-fewer, zeros-flipped, zeros-more, zeros-none, zeros-reversed, zeros-rotated_left, zeros-rotated_right}
-use Rattle.bitvec.specs.FilledLaws.{all-filled, any-filled, bits-zeros, equal-same, first-filled, first-of_filled, last-filled, same-equal}
+use Rattle.bitvec_traits.specs.FeedingLaws.{fed_same}
+use Rattle.bitvec_traits.specs.OrderLaws.{cmp-back, cmp-on, same_bits-ties}
 
 -- a view has as many bits as its window
 pub ruleset lengths = (length_bits)
@@ -33,6 +37,15 @@ pub ruleset filled = (lengths, get_or-replicate, ones-all, ones-none, zeros-all,
 
 -- after `eq_bits`: whether the lists are equal
 pub ruleset compared = (same-equal, equal-same)
+
+-- after `cmp`, `<` and their kin: the order is total and agrees with `==`; and equal views feed a hasher the same
+pub ruleset ordered = (same_bits-ties, cmp-back, cmp-on, fed_same)
+
+-- what std's adapters make of a walk: the items of a run, one after the other, are those that were to come
+pub ruleset walked = (run_of_first, run_of_first_by, run_of_last, run_of_last_by, common_steps)
+
+-- the chunks of a view: joined they are its bits, and what is counted in them adds up
+pub ruleset joining = (parts_joined, parts_counted, few_counted)
 
 -- calls that undo one another
 pub ruleset undone = (lengths, reverse-reverse, flip-undoes, rotated_left-undoes, rotated_right-undoes)

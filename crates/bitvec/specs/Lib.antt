@@ -1,28 +1,53 @@
 pub mod Arrays
-pub mod CountedLaws
-pub mod Counts
 pub mod Domains
-pub mod FilledLaws
 pub mod Laws
 pub mod Operators
 pub mod Types
+pub use Rattle.bitvec_base.specs.Counts
 pub use Rattle.bitvec_base.specs.Lists
 pub use Rattle.bitvec_base.specs.Memory
 pub use Rattle.bitvec_base.specs.Order
 pub use Rattle.bitvec_base.specs.Window
+pub use Rattle.bitvec_cutting.specs.Cutting
+pub use Rattle.bitvec_cutting.specs.Walks as PieceWalks
 pub use Rattle.bitvec_domain.specs.Cuts
 pub use Rattle.bitvec_domain.specs.Parts
 pub use Rattle.bitvec_edit.specs.UndoLaws
 pub use Rattle.bitvec_elements.specs.Asked
+pub use Rattle.bitvec_field.specs.Fields
+pub use Rattle.bitvec_field.specs.Integers
+pub use Rattle.bitvec_iter.specs.Left
+pub use Rattle.bitvec_iter.specs.Parts as PieceParts
+pub use Rattle.bitvec_lent.specs.Bits as LentBits
+pub use Rattle.bitvec_lent.specs.Halves
+pub use Rattle.bitvec_lent.specs.Pieces as LentPieces
+pub use Rattle.bitvec_lent.specs.Walk as LentWalk
+pub use Rattle.bitvec_ones.specs.Indices as OnesLeft
+pub use Rattle.bitvec_owned.specs.Copies
+pub use Rattle.bitvec_owned.specs.Owned
+pub use Rattle.bitvec_pieces.specs.Numbered
 pub use Rattle.bitvec_pieces.specs.Pieces
 pub use Rattle.bitvec_pieces.specs.Shown
 pub use Rattle.bitvec_reference.specs.References
+pub use Rattle.bitvec_segments.specs.Segments
 pub use Rattle.bitvec_slice.specs.Indices
 pub use Rattle.bitvec_slice.specs.Kept
 pub use Rattle.bitvec_slice.specs.Seen
 pub use Rattle.bitvec_slice.specs.Touched
 pub use Rattle.bitvec_slice.specs.Views
+pub use Rattle.bitvec_slice.specs.Walks as BitWalks
 pub use Rattle.bitvec_slice.specs.Writes
+pub use Rattle.bitvec_split.specs.Asked as SplitAsked
+pub use Rattle.bitvec_split.specs.Lent as SplitLent
+pub use Rattle.bitvec_split.specs.LentViews as SplitLentViews
+pub use Rattle.bitvec_split.specs.Splits
+pub use Rattle.bitvec_split.specs.Views as SplitViews
 pub use Rattle.bitvec_store.specs.Width
 pub use Rattle.bitvec_store.specs.WidthLaws
+pub use Rattle.bitvec_text.specs.Radix
+pub use Rattle.bitvec_traits.specs.Feeding
+pub use Rattle.bitvec_traits.specs.Listing
+pub use Rattle.bitvec_turns.specs.Loads
+pub use Rattle.bitvec_turns.specs.Places
+pub use Rattle.bitvec_turns.specs.Turns
 pub use Rattle.bitvec_words.specs.Operator

@@ -6,3 +6,4 @@ pub use Rattle.bitvec_reference.specs.declared.reference.BitRef.{BitRef}
 pub use Rattle.bitvec_reference.specs.declared.reference_mut.BitRefMut.{BitRefMut}
 pub use Rattle.bitvec_slice.specs.declared.view.BitSlice.{BitSlice}
 pub use Rattle.bitvec_slice.specs.declared.view_mut.BitSliceMut.{BitSliceMut}
+pub use Rattle.bitvec_owned.specs.declared.bit_vec.BitVec.{BitVec}

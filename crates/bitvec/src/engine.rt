@@ -5,3 +5,4 @@ pub use bitvec_engine::{
     contains, count, count_zeros, ends_with, fill, get_bit, invert, replace_bit, reverse,
     rotate_left, rotate_right, shift_end, shift_start, starts_with, swap_bits,
 };
+pub use bitvec_turns::{End, Rest, count_left, scan_turns, take_first, take_last};

@@ -2,7 +2,11 @@ pub mod BitsFixMemory
 pub mod CompareLaws
 pub mod CopyLaws
 pub mod CountLaws
+pub mod CountedLaws
+pub mod Counts
 pub mod FillLaws
+pub mod FilledLaws
+pub mod FoundLaws
 pub mod HiLoLaws
 pub mod LeadingLaws
 pub mod LengthLaws

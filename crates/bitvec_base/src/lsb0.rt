@@ -2,7 +2,7 @@
 ghost use Rattle.bitvec_base.specs.OrderLaws.{lsb0_permutes};
 
 use crate::BitOrder;
-use crate::ones::{ones, single};
+use crate::ones::{highest, lowest, ones, single};
 use bitvec_store::BitStore;
 
 /// The order in which index `i` is bit `i`: the least significant bit first, as in the crate.
@@ -24,5 +24,13 @@ impl BitOrder for Lsb0 {
 
     fn mask<R: BitStore>(from: usize, to: usize) -> R {
         ones(from, to)
+    }
+
+    fn first_one<R: BitStore>(element: R) -> Option<usize> {
+        lowest(element)
+    }
+
+    fn last_one<R: BitStore>(element: R) -> Option<usize> {
+        highest(element)
     }
 }

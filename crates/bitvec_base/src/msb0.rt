@@ -3,7 +3,7 @@ ghost use Rattle.std.specs.Prelude.{◌-◌};
 ghost use Rattle.bitvec_base.specs.OrderLaws.{msb0_permutes};
 
 use crate::BitOrder;
-use crate::ones::{ones, single};
+use crate::ones::{highest, lowest, ones, single};
 use bitvec_store::BitStore;
 
 /// The order in which index `i` is bit `BITS - 1 - i`: the most significant bit first, as in the
@@ -27,5 +27,15 @@ impl BitOrder for Msb0 {
     fn mask<R: BitStore>(from: usize, to: usize) -> R {
         let bits = R::BITS as usize;
         ones(bits - to, bits - from)
+    }
+
+    fn first_one<R: BitStore>(element: R) -> Option<usize> {
+        let place = highest(element)?;
+        Some(Self::at::<R>(place))
+    }
+
+    fn last_one<R: BitStore>(element: R) -> Option<usize> {
+        let place = lowest(element)?;
+        Some(Self::at::<R>(place))
     }
 }

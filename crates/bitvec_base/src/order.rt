@@ -1,5 +1,7 @@
 //! Bit orders: which bit of an element comes first.
-ghost use Rattle.std.specs.Prelude.{◌≡◌, ℕ, ◌^◌, ◌<◌, ◌≤◌};
+ghost use Rattle.std.specs.Prelude.{◌≡◌, ℕ, ◌^◌, ◌<◌, ◌≤◌, true};
+ghost use Rattle.bitvec_base.specs.Lists.{first_place, last_place};
+ghost use Rattle.bitvec_base.specs.Memory.{element_bits};
 ghost use Rattle.bitvec_base.specs.Order.{Permutes, mask_of};
 ghost use Rattle.bitvec_store.specs.Width.{IsWidth};
 
@@ -35,6 +37,31 @@ pub trait BitOrder {
             mask = mask.or(Self::select::<R>(index));
         }
         mask
+    }
+
+    /// The least index whose bit is 1, if there is one.
+    fn first_one<R: BitStore>(element: R) -> Option<usize>
+        ensures { result ≡ first_place true (element_bits R.BITS at (R.value element)) }
+    {
+        // any lawful order, bit by bit: one that knows a shorter way overrides this
+        for index in 0..R::BITS as usize {
+            if element.and(Self::select::<R>(index)).to_u128() != 0 {
+                return Some(index);
+            }
+        }
+        None
+    }
+
+    /// The greatest index whose bit is 1, if there is one.
+    fn last_one<R: BitStore>(element: R) -> Option<usize>
+        ensures { result ≡ last_place true (element_bits R.BITS at (R.value element)) }
+    {
+        for index in (0..R::BITS as usize).rev() {
+            if element.and(Self::select::<R>(index)).to_u128() != 0 {
+                return Some(index);
+            }
+        }
+        None
     }
 
     ghost permutes: { (b : ℕ) → IsWidth b → Permutes b (at b) };

@@ -1,4 +1,6 @@
 //! The operations of `BitStore` by value, at each width.
+ghost use Rattle.std.specs.Prelude.{◌<◌};
+
 use bitvec_store::BitStore;
 use std::process::Abort;
 
@@ -19,31 +21,62 @@ struct Row {
     trailing: u32,
 }
 
+/// What the operations on bits and the moves give.
+fn results<T: BitStore>(left: T, right: T, by: u32) -> [u128; 6]
+    requires { by < T.BITS }
+{
+    [
+        left.and(right).to_u128(),
+        left.or(right).to_u128(),
+        left.xor(right).to_u128(),
+        left.not().to_u128(),
+        left.shl(by).to_u128(),
+        left.shr(by).to_u128(),
+    ]
+}
+
+/// The element of a number, if it is one.
+fn element<T: BitStore>(number: u128) -> Option<T> {
+    if number <= T::ALL.to_u128() {
+        Some(T::from_u128(number))
+    } else {
+        None
+    }
+}
+
+/// How many bits are 1, and how many are 0 above the highest and below the lowest of these.
+fn counts<T: BitStore>(element: T) -> [u32; 3] {
+    [
+        element.count_ones(),
+        element.leading_zeros(),
+        element.trailing_zeros(),
+    ]
+}
+
+/// What the operations give of a row's numbers, if they are elements' and a number of bits.
+fn answers<T: BitStore>(row: &Row) -> Option<([u128; 6], [u32; 3])> {
+    let left = element::<T>(row.left)?;
+    let right = element::<T>(row.right)?;
+    if row.by < T::BITS {
+        Some((results(left, right, row.by), counts(left)))
+    } else {
+        None
+    }
+}
+
 /// The operations give what the rows say.
 fn give<T: BitStore, A: Abort>(rt: &A, rows: &[Row]) {
-    for row in rows.iter().copied() {
-        assert!(rt; row.by < T::BITS);
-        assert!(rt; row.left <= T::ALL.to_u128() && row.right <= T::ALL.to_u128());
-        let left = T::from_u128(row.left);
-        let right = T::from_u128(row.right);
-        assert_eq!(rt; left.to_u128(), row.left);
-        assert_eq!(rt; left.and(right).to_u128(), row.and);
-        assert_eq!(rt; left.or(right).to_u128(), row.or);
-        assert_eq!(rt; left.xor(right).to_u128(), row.xor);
-        assert_eq!(rt; left.not().to_u128(), row.not);
-        assert_eq!(rt; left.shl(row.by).to_u128(), row.shl);
-        assert_eq!(rt; left.shr(row.by).to_u128(), row.shr);
-        assert_eq!(rt; left.count_ones(), row.ones);
-        assert_eq!(rt; left.leading_zeros(), row.leading);
-        assert_eq!(rt; left.trailing_zeros(), row.trailing);
+    for row in rows {
+        let numbers = [row.and, row.or, row.xor, row.not, row.shl, row.shr];
+        let counts = [row.ones, row.leading, row.trailing];
+        assert_eq!(rt; answers::<T>(row), Some((numbers, counts)));
     }
 }
 
 /// Whether the constants are a width, no bit and all bits.
 fn has_constants<T: BitStore, A: Abort>(rt: &A, bits: u32, all: u128) {
-    assert_eq!(rt; T::BITS, bits);
-    assert_eq!(rt; T::ZERO.to_u128(), 0);
-    assert_eq!(rt; T::ALL.to_u128(), all);
+    let numbers = (T::BITS, T::ZERO.to_u128(), T::ALL.to_u128());
+    assert_eq!(rt; numbers, (bits, 0, all));
 }
 
 #[test]

@@ -4,24 +4,37 @@ use bitvec_base::{BitOrder, HiLo, Lsb0, Msb0};
 use bitvec_store::BitStore;
 use std::process::Abort;
 
+/// The number of the bit at an index, and the number of the element that has it alone.
+fn bit_at<O: BitOrder, R: BitStore>(index: usize) -> Option<(usize, u128)> {
+    if index < R::BITS as usize {
+        Some((O::at::<R>(index), O::select::<R>(index).to_u128()))
+    } else {
+        None
+    }
+}
+
 /// Each row is an index and the number of the bit that stands there.
-fn stand_at<O: BitOrder, R: BitStore, A: Abort>(rt: &A, rows: &[(usize, usize)]) {
+fn stand_at<O: BitOrder, R: BitStore, A: Abort>(rt: &A, rows: &[(usize, u32)]) {
     for (index, place) in rows.iter().copied() {
-        assert!(rt; index < R::BITS as usize && place < 128);
-        assert_eq!(rt; O::at::<R>(index), place, "at {index}");
-        assert_eq!(rt;
-            O::select::<R>(index).to_u128(),
-            1 << place,
-            "select {index}"
-        );
+        let alone = 1u128.checked_shl(place).unwrap_or(0);
+        let found = bit_at::<O, R>(index);
+        assert_eq!(rt; found, Some((place as usize, alone)), "at {index}");
+    }
+}
+
+/// The number of a range's mask.
+fn mask<O: BitOrder, R: BitStore>(from: usize, to: usize) -> Option<u128> {
+    if from <= to && to <= R::BITS as usize {
+        Some(O::mask::<R>(from, to).to_u128())
+    } else {
+        None
     }
 }
 
 /// Each row is a range of indices and the number of its mask.
 fn have_masks<O: BitOrder, R: BitStore, A: Abort>(rt: &A, rows: &[(usize, usize, u128)]) {
-    for (from, to, mask) in rows.iter().copied() {
-        assert!(rt; from <= to && to <= R::BITS as usize);
-        assert_eq!(rt; O::mask::<R>(from, to).to_u128(), mask, "mask {from} {to}");
+    for (from, to, number) in rows.iter().copied() {
+        assert_eq!(rt; mask::<O, R>(from, to), Some(number), "mask {from} {to}");
     }
 }
 

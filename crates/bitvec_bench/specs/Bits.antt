@@ -1,5 +1,6 @@
 -- What a call of the benchmark needs of the slices that it is handed, and the bits that it takes of them.
-use Rattle.std.specs.Prelude.{ℕ, ◌+◌, ◌-◌, ◌*◌, ◌≤◌, Bool, List, length, map}
+use Rattle.std.specs.Prelude.{ℕ, ◌+◌, ◌-◌, ◌*◌, ◌%◌, ◌^◌, ◌≤◌, Bool, List, length, map}
+use Rattle.std.specs.List.{fold}
 use Rattle.bitvec_base.specs.Memory.{Writes, list_in}
 use Rattle.bitvec_base.specs.Window.{max_bits}
 use Rattle.bitvec_base.specs.declared.window.Window.{Window}
@@ -11,6 +12,10 @@ HasBits b elements start len = (b * length elements ≤ max_bits) × (start + le
 -- `len` bits from `start` on
 abbrev pub place : ℕ → ℕ → Window
 place start len = record { start = start; len = len }
+
+-- the sum of numbers, as far as a word of 64 bits holds it
+abbrev pub wrapped_sum : List ℕ → ℕ
+wrapped_sum numbers = fold (λ sum number. (sum + number) % 2 ^ 64) 0 numbers
 
 -- ---- the same of elements that are integers, in an order
 

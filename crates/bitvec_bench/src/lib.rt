@@ -4,7 +4,7 @@
 //! Each export takes a slice as a pointer and a number of elements, and of it `len` bits from bit
 //! `start` on, and carries out one operation on these. It makes no view: it calls the function on
 //! slices that the view's method calls (`bitvec_elements`), since a part of a view doesn't give its
-//! lender's slice back. Equality is `==` of views of one type. An export's name ends in the element
+//! lender's slice back; the walk over ones alone makes a shared view. Equality is `==` of views of one type. An export's name ends in the element
 //! type and the order.
 #![tactic(auto)]
 

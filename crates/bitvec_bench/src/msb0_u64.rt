@@ -1,10 +1,10 @@
 //! The exports over `u64` elements in `Msb0` order.
 ghost use Rattle.std.specs.Prelude.{◌≡◌, ◌-◌, ◌≤◌, count_by, map, not, replicate, reverse, true};
 ghost use Rattle.std.specs.Option.{unwrap_or};
-ghost use Rattle.bitvec_base.specs.Lists.{combined, copied_within, first_place, rotated_left, same_bits, shifted_start};
+ghost use Rattle.bitvec_base.specs.Lists.{combined, copied_within, first_place, places_of, rotated_left, same_bits, shifted_start};
 ghost use Rattle.bitvec_words.specs.Operator.{operator};
 ghost use Rattle.bitvec_words.specs.declared.operator.BitOp.TheVariants.{Or};
-ghost use Rattle.bitvec_bench.specs.Bits.{HasBits, Wrote, bits_in, from_most};
+ghost use Rattle.bitvec_bench.specs.Bits.{HasBits, Wrote, bits_in, from_most, wrapped_sum};
 
 use crate::{edits, questions, transfers};
 use bitvec_base::Msb0;
@@ -175,4 +175,17 @@ pub extern "C" fn bitvec_bench_first_one_u64_msb0(
     ensures { result ≡ unwrap_or (first_place true (bits_in 64 from_most elements.now start len)) len }
 {
     questions::first_one::<u64, Msb0>(elements, start, len).unwrap_or(len)
+}
+
+/// The sum of the indices of those of `len` bits that are 1, as far as a `usize` holds it.
+#[unsafe(no_mangle)]
+pub extern "C" fn bitvec_bench_iter_ones_u64_msb0(
+    elements: &[u64],
+    start: usize,
+    len: usize,
+) -> usize
+    requires { HasBits 64 elements.now start len }
+    ensures { result ≡ wrapped_sum (places_of true (bits_in 64 from_most elements.now start len)) }
+{
+    questions::sum_of_ones::<u64, Msb0>(elements, start, len)
 }

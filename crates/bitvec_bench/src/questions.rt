@@ -2,13 +2,15 @@
 #![tactic(auto, using(crate::proofs::Places::has_window))]
 
 ghost use Rattle.std.specs.Prelude.{◌≡◌, count_by, map, true};
-ghost use Rattle.bitvec_base.specs.Lists.{first_place, same_bits};
+ghost use Rattle.bitvec_base.specs.Lists.{first_place, places_of, same_bits};
 ghost use Rattle.bitvec_base.specs.Memory.{list_in};
-ghost use Rattle.bitvec_bench.specs.Bits.{HasBits, place};
+ghost use Rattle.bitvec_bench.specs.Bits.{HasBits, place, wrapped_sum};
 
 use bitvec_base::Window;
 use bitvec_elements::{count_in, eq_block_in, first_in};
 use bitvec_engine::SliceOrder;
+use bitvec_ones::OnesCalls;
+use bitvec_slice::BitSlice;
 use bitvec_store::BitStore;
 
 /// Whether `len` bits of two slices are the same, as the order compares them.
@@ -53,4 +55,15 @@ pub fn first_one<T: BitStore, O: SliceOrder>(
     ensures { result ≡ first_place true (list_in T.BITS O.at (map T.value elements.now) (place start len)) }
 {
     first_in::<T, O>(elements, Window { start, len }, true)
+}
+
+/// The sum of the indices of those of `len` bits that are 1, as far as a `usize` holds it.
+#[tactic(auto, using(crate::proofs::Places::part_bits))]
+pub fn sum_of_ones<T: BitStore, O: SliceOrder>(elements: &[T], start: usize, len: usize) -> usize
+    requires { HasBits T.BITS elements.now start len }
+    ensures { result ≡ wrapped_sum (places_of true (list_in T.BITS O.at (map T.value elements.now) (place start len))) }
+{
+    let view = BitSlice::<T, O>::from_slice(elements).into_part(start..start + len);
+    view.iter_ones()
+        .fold(0, |sum, index| sum.wrapping_add(index))
 }

@@ -1,9 +1,10 @@
 //! How a window is cut at the edges of elements.
-ghost use Rattle.std.specs.Prelude.{◌≡◌, ℕ, ◌+◌, ◌*◌, ◌^◌, ◌<◌};
-ghost use Rattle.bitvec_base.specs.Window.{IsWithin};
+ghost use Rattle.std.specs.Prelude.{◌≡◌, ◌+◌, ◌^◌, ◌<◌, length, map};
+ghost use Rattle.bitvec_base.specs.Memory.{HasWindow};
 ghost use Rattle.bitvec_domain.specs.Cuts.{IsCutWithin, cut_across, cut_of};
 
 use bitvec_base::{Part, Window, first_part, last_part};
+use bitvec_store::BitStore;
 
 /// A window of a memory, cut at the edges of its elements.
 #[derive(Clone, Copy)]
@@ -24,13 +25,22 @@ pub enum Cut {
 }
 
 impl Cut {
+    /// The window of some elements. Condition: they have at most `MAX_BITS` bits, and the window lies
+    /// in them.
+    pub fn of_elements<T: BitStore>(_elements: &[T], window: Window) -> Cut
+        requires { HasWindow T.BITS (map T.value _elements.now) window }
+        ensures value { result ≡ cut_of T.BITS window }
+        ensures within { IsCutWithin T.BITS (length _elements.now) result }
+    {
+        Cut::of(T::BITS as usize, window)
+    }
+
     /// The window of a memory of elements of that many bits. Condition: the window's end is a
     /// `usize`.
     pub fn of(bits: usize, window: Window) -> Cut
         requires width { 0 < bits }
         requires end { window.start + window.len < 2 ^ 64 }
-        ensures value { result ≡ cut_of bits window }
-        ensures within { (count : ℕ) → IsWithin window (bits * count) → IsCutWithin bits count result }
+        ensures { result ≡ cut_of bits window }
     {
         if window.len == 0 {
             let element = window.start / bits;

@@ -32,7 +32,7 @@ pub fn domain_of<T: BitStore, O: BitOrder>(cells: &[T], window: Window) -> Domai
     requires window { HasWindow T.BITS (map T.value cells.now) window }
     ensures { pieces_of result ≡ pieces_in T.BITS O.at T.value cells.now (cut_of T.BITS window) }
 {
-    match Cut::of(T::BITS as usize, window) {
+    match Cut::of_elements(cells, window) {
         Cut::Inside(part) => Domain::Enclave(part_of(cells, part)),
         Cut::Across {
             head,

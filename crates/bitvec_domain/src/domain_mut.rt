@@ -37,7 +37,7 @@ pub fn domain_mut_of<T: BitStore, O: BitOrder>(
     requires window { HasWindow T.BITS (map T.value cells.old) window }
     ensures { pieces_of_mut result ≡ pieces_in T.BITS O.at T.value cells.old (cut_of T.BITS window) }
 {
-    match Cut::of(T::BITS as usize, window) {
+    match Cut::of_elements(cells, window) {
         Cut::Inside(part) => DomainMut::Enclave(part_of(cells, 0, part)),
         Cut::Across {
             head,

@@ -117,6 +117,33 @@ pub trait BitEdits<T> {
         self.copy_within(src, dest);
     }
 
+    /// The old name of [`BitEdits::shift_start`].
+    #[deprecated]
+    fn shift_left(&mut self, by: usize)
+        requires { by ≤ (shows self.old).window.len }
+        ensures { writes self.old self.new (shifted_start by (shows self.old).bits) }
+    {
+        self.shift_start(by);
+    }
+
+    /// The old name of [`BitEdits::shift_end`].
+    #[deprecated]
+    fn shift_right(&mut self, by: usize)
+        requires { by ≤ (shows self.old).window.len }
+        ensures { writes self.old self.new (shifted_end by (shows self.old).bits) }
+    {
+        self.shift_end(by);
+    }
+
+    /// The old name of [`BitEdits::clone_from_bitslice`].
+    #[deprecated]
+    fn clone_from_slice<U: BitStore, P: BitOrder>(&mut self, src: BitSlice<'_, U, P>)
+        requires { (shows self.old).window.len ≡ (seen src).window.len }
+        ensures { writes self.old self.new (seen src.entry).bits }
+    {
+        self.clone_from_bitslice(src);
+    }
+
     /// Copies the bits of a view of any element type and order. Condition: the views are as long.
     fn clone_from_bitslice<U: BitStore, P: BitOrder>(&mut self, src: BitSlice<'_, U, P>)
         requires { (shows self.old).window.len ≡ (seen src).window.len }

@@ -72,8 +72,6 @@ fn fill_with_calls_once_for_each_bit(rt: HostRuntime) {
     let mut cells = [0xFFu8, 0xFF];
     assert_eq!(rt; each_third_call::<u8, HiLo>(&mut cells, 3, 15), 12);
     assert_eq!(rt; cells, [0x72, 0x9C]);
-    assert_eq!(rt; each_third_call::<u8, HiLo>(&mut cells, 5, 5), 0);
-    assert_eq!(rt; cells, [0x72, 0x9C]);
 }
 
 /// Makes each of the bits `from` up to `to` 1 if its index is the number of calls before its own.
@@ -125,19 +123,30 @@ fn for_each_goes_on_from_what_the_calls_before_left(rt: HostRuntime) {
 }
 
 #[test]
-fn the_laws_at_concrete_types(rt: HostRuntime) {
+fn edits_that_undo_one_another(rt: HostRuntime) {
     let mut cells = [0x3Cu8];
     inverted_twice::<u8, HiLo>(&mut cells);
     assert_eq!(rt; cells, [0x3C]);
     let mut cells = [0x1234u16, 0x5678];
     reversed_twice::<u16, HiLo>(&mut cells);
+    assert_eq!(rt; cells, [0x1234, 0x5678]);
+    let mut cells = [0x1234u16, 0x5678];
     rotated_back::<u16, Msb0>(&mut cells, 21);
     assert_eq!(rt; cells, [0x1234, 0x5678]);
+}
+
+#[test]
+fn bits_by_their_indices_and_by_a_count(rt: HostRuntime) {
     let mut cells = [0xFFu8, 0x00];
     filled_with_even::<u8, Lsb0>(&mut cells);
     assert_eq!(rt; cells, [0x55, 0x55]);
+    let mut cells = [0xFFu8, 0x00];
     filled_by_count::<u8, Msb0>(&mut cells);
     assert_eq!(rt; cells, [0x24, 0x92]);
+}
+
+#[test]
+fn bits_by_a_closure_of_the_callers(rt: HostRuntime) {
     let mut cells = [0u8];
     filled_by::<u8, Lsb0, _>(&mut cells, |index| index >= 3);
     assert_eq!(rt; cells, [0xF8]);

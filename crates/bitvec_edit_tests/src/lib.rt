@@ -3,10 +3,15 @@
 
 #[cfg(test)]
 mod asked;
-pub mod kept;
-pub mod laws;
+#[cfg(test)]
+mod kept;
+#[cfg(test)]
+mod laws;
 #[cfg(test)]
 mod moves;
-pub mod pieces;
+#[cfg(test)]
+mod old_names;
+#[cfg(test)]
+mod pieces;
 #[cfg(test)]
 mod transfers;

@@ -1,8 +1,9 @@
 //! Edits of parts of a view by closures: what a caller knows of the view afterwards.
-ghost use Rattle.std.specs.Prelude.{◌≡◌, ℕ, ◌+◌, ◌*◌, ◌%◌, ◌<◌, ◌≤◌, ◌==◌, length, map, not, replicate, reverse, slice_range, slice_set, true};
+ghost use Rattle.std.specs.Prelude.{◌≡◌, ℕ, ◌+◌, ◌*◌, ◌%◌, ◌<◌, ◌≤◌, ◌==◌, ◌++◌, length, map, not, replicate, reverse, slice_range, slice_set, true};
 ghost use Rattle.bitvec_base.specs.Lists.{rotated_left};
 ghost use Rattle.bitvec_base.specs.Memory.{memory_bits};
 ghost use Rattle.bitvec_base.specs.Window.{max_bits, write_at};
+ghost use Rattle.bitvec_cutting.specs.Cutting.{back_chunk, chunk_count, cut};
 ghost use Rattle.bitvec_slice.specs.Views.{seen_mut};
 ghost use Rattle.bitvec_slice.specs.Writes.{WritesBits};
 
@@ -85,6 +86,15 @@ pub fn fill_within<T: BitStore, O: SliceOrder>(view: &mut BitSliceMut<'_, T, O>)
     });
 }
 
+/// Makes the bits before `mid` ones, and flips those from it.
+pub fn fill_then_invert<T: BitStore, O: SliceOrder>(view: &mut BitSliceMut<'_, T, O>, mid: usize)
+    requires { mid ≤ (seen_mut view.old).window.len }
+    ensures { WritesBits view.old view.new
+        (replicate mid true ++ map not (slice_range (seen_mut view.old).bits mid (seen_mut view.old).window.len)) }
+{
+    view.edit_halves(mid, |left| left.fill(true), |right| right.invert());
+}
+
 /// Makes the bits 2 up to 5 of the elements ones, through a view, and gives the elements back.
 pub fn fill_three_of<T: BitStore, O: SliceOrder>(elements: &mut [T]) -> &mut [T]
     requires fits { T.BITS * length elements.old ≤ max_bits }
@@ -122,6 +132,40 @@ pub fn stripe<T: BitStore, O: SliceOrder>(view: &mut BitSliceMut<'_, T, O>)
     view.for_each_chunk_mut(8, |index, piece| piece.fill(index % 2 == 1));
 }
 
+/// Flips each chunk of `size` bits, counted from the end.
+pub fn invert_back_chunks<T: BitStore, O: SliceOrder>(view: &mut BitSliceMut<'_, T, O>, size: usize)
+    requires { 0 < size }
+    ensures { (k : ℕ) → k < chunk_count size (seen_mut view.old).window.len
+        → cut (seen_mut view.new).bits (back_chunk size (seen_mut view.old).window.len k)
+        ≡ map not (cut (seen_mut view.old).bits (back_chunk size (seen_mut view.old).window.len k)) }
+{
+    view.for_each_rchunk_mut(size, |_index, piece| piece.invert());
+}
+
+/// Makes chunks of three bits from the end ones and zeros by turns.
+fn fill_back_chunks<T: BitStore, O: SliceOrder>(elements: &mut [T])
+    requires { T.BITS * length elements.old ≤ max_bits }
+{
+    let mut view = BitSliceMut::<T, O>::from_slice_mut(elements);
+    view.for_each_rchunk_mut(3, |index, chunk| chunk.fill(index % 2 == 0));
+}
+
+/// The same of the whole chunks from the start.
+fn fill_whole_chunks<T: BitStore, O: SliceOrder>(elements: &mut [T])
+    requires { T.BITS * length elements.old ≤ max_bits }
+{
+    let mut view = BitSliceMut::<T, O>::from_slice_mut(elements);
+    view.for_each_chunk_exact_mut(3, |index, chunk| chunk.fill(index % 2 == 0));
+}
+
+/// The same of the whole chunks from the end.
+fn fill_whole_back_chunks<T: BitStore, O: SliceOrder>(elements: &mut [T])
+    requires { T.BITS * length elements.old ≤ max_bits }
+{
+    let mut view = BitSliceMut::<T, O>::from_slice_mut(elements);
+    view.for_each_rchunk_exact_mut(3, |index, chunk| chunk.fill(index % 2 == 0));
+}
+
 /// Edits by closures all bits of the elements but the first three.
 fn edit_behind_three<T: BitStore, O: SliceOrder>(elements: &mut [T])
     requires { T.BITS * length elements.old ≤ max_bits }
@@ -132,6 +176,16 @@ fn edit_behind_three<T: BitStore, O: SliceOrder>(elements: &mut [T])
         view.edit_with(3..len, |piece| {
             piece.for_each_chunk_mut(4, |index, chunk| chunk.fill(index % 2 == 0))
         });
+    }
+}
+
+/// Edits the first three bits of the elements and those behind them.
+fn edit_two_halves<T: BitStore, O: SliceOrder>(elements: &mut [T])
+    requires { T.BITS * length elements.old ≤ max_bits }
+{
+    let mut view = BitSliceMut::<T, O>::from_slice_mut(elements);
+    if view.len() >= 3 {
+        fill_then_invert(&mut view, 3);
     }
 }
 
@@ -147,4 +201,32 @@ fn chunks_of_a_part_are_filled_by_turns(rt: HostRuntime) {
     let mut cells = [0u8; 2];
     edit_behind_three::<u8, Lsb0>(&mut cells);
     assert_eq!(rt; cells, [0x78, 0x78]);
+}
+
+#[test]
+fn both_halves_are_edited(rt: HostRuntime) {
+    let mut cells = [0x50u8, 0];
+    edit_two_halves::<u8, Lsb0>(&mut cells);
+    assert_eq!(rt; cells, [0xAF, 0xFF]);
+}
+
+#[test]
+fn chunks_from_the_end_are_filled_by_turns(rt: HostRuntime) {
+    let mut cells = [0u8; 1];
+    fill_back_chunks::<u8, Lsb0>(&mut cells);
+    assert_eq!(rt; cells, [0xE3]);
+}
+
+#[test]
+fn bits_behind_the_whole_chunks_stay(rt: HostRuntime) {
+    let mut cells = [0xFFu8; 1];
+    fill_whole_chunks::<u8, Lsb0>(&mut cells);
+    assert_eq!(rt; cells, [0xC7]);
+}
+
+#[test]
+fn bits_before_the_whole_chunks_stay(rt: HostRuntime) {
+    let mut cells = [1u8; 1];
+    fill_whole_back_chunks::<u8, Lsb0>(&mut cells);
+    assert_eq!(rt; cells, [0xE1]);
 }

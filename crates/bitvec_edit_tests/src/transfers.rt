@@ -7,6 +7,7 @@ use bitvec_edit::BitEdits;
 use bitvec_engine::SliceOrder;
 use bitvec_slice::{BitSlice, BitSliceMut};
 use bitvec_store::BitStore;
+use std::process::Abort;
 
 /// Exchanges the bits 3 to 9 of the one with the bits 0 to 6 of the other.
 fn swap_seven(elements: &mut [u8], others: &mut [u8])
@@ -68,46 +69,37 @@ fn combine_five<O: SliceOrder>(elements: &mut [u8], source: &[u8], right: usize,
     }
 }
 
+/// Each row is a byte, another, how many of its bits are on the right, the operator, and the byte
+/// that the first becomes.
+fn combine<O: SliceOrder, A: Abort>(rt: &A, rows: &[(u8, u8, usize, u8, u8)]) {
+    for (left, source, right, operator, after) in rows.iter().copied() {
+        let mut cells = [left];
+        combine_five::<O>(&mut cells, &[source], right, operator);
+        assert_eq!(rt; cells, [after], "{source}");
+    }
+}
+
 #[test]
 fn a_shorter_right_side_is_extended_by_zeros(rt: HostRuntime) {
-    let mut cells = [0xFFu8];
-    combine_five::<Lsb0>(&mut cells, &[0xFD], 2, b'&');
-    assert_eq!(rt; cells, [0xE1]);
-    let mut cells = [0xE2u8];
-    combine_five::<Lsb0>(&mut cells, &[0xFD], 2, b'|');
-    assert_eq!(rt; cells, [0xE3]);
-    let mut cells = [0x12u8];
-    combine_five::<Lsb0>(&mut cells, &[0xFF], 2, b'^');
-    assert_eq!(rt; cells, [0x11]);
-    let mut cells = [0xFFu8];
-    combine_five::<Msb0>(&mut cells, &[0x7F], 2, b'&');
-    assert_eq!(rt; cells, [0x47]);
-    let mut cells = [0x00u8];
-    combine_five::<HiLo>(&mut cells, &[0xFF], 2, b'^');
-    assert_eq!(rt; cells, [0x30]);
+    let rows = [
+        (0xFF, 0xFD, 2, b'&', 0xE1),
+        (0xE2, 0xFD, 2, b'|', 0xE3),
+        (0x12, 0xFF, 2, b'^', 0x11),
+    ];
+    combine::<Lsb0, _>(&rt, &rows);
+    combine::<Msb0, _>(&rt, &[(0xFF, 0x7F, 2, b'&', 0x47)]);
+    combine::<HiLo, _>(&rt, &[(0x00, 0xFF, 2, b'^', 0x30)]);
 }
 
 // Under HiLo the first five bits of a byte are 4, 5, 6, 7 and 0.
 #[test]
 fn a_longer_right_side_is_cut(rt: HostRuntime) {
-    let mut cells = [0xFFu8];
-    combine_five::<Lsb0>(&mut cells, &[0x0A], 8, b'&');
-    assert_eq!(rt; cells, [0xEA]);
-    let mut cells = [0xE0u8];
-    combine_five::<Lsb0>(&mut cells, &[0xEA], 8, b'|');
-    assert_eq!(rt; cells, [0xEA]);
-    let mut cells = [0xFFu8];
-    combine_five::<Msb0>(&mut cells, &[0xA5], 8, b'&');
-    assert_eq!(rt; cells, [0xA7]);
-    let mut cells = [0x07u8];
-    combine_five::<Msb0>(&mut cells, &[0xA5], 8, b'^');
-    assert_eq!(rt; cells, [0xA7]);
-    let mut cells = [0xFFu8];
-    combine_five::<HiLo>(&mut cells, &[0x5A], 8, b'&');
-    assert_eq!(rt; cells, [0x5E]);
-    let mut cells = [0x0Eu8];
-    combine_five::<HiLo>(&mut cells, &[0x51], 8, b'|');
-    assert_eq!(rt; cells, [0x5F]);
+    let rows = [(0xFF, 0x0A, 8, b'&', 0xEA), (0xE0, 0xEA, 8, b'|', 0xEA)];
+    combine::<Lsb0, _>(&rt, &rows);
+    let rows = [(0xFF, 0xA5, 8, b'&', 0xA7), (0x07, 0xA5, 8, b'^', 0xA7)];
+    combine::<Msb0, _>(&rt, &rows);
+    let rows = [(0xFF, 0x5A, 8, b'&', 0x5E), (0x0E, 0x51, 8, b'|', 0x5F)];
+    combine::<HiLo, _>(&rt, &rows);
 }
 
 /// Copies the first five bits of the one to the bits 2 to 6 of the other.
@@ -173,16 +165,12 @@ fn combine_named(elements: &mut [u8], source: &[u16], operator: u8)
     }
 }
 
+// On the right are 1, 0, 1.
 #[test]
 fn named_operators_take_another_width_and_order(rt: HostRuntime) {
-    // on the right 1, 0, 1
-    let mut cells = [0xFFu8];
-    combine_named(&mut cells, &[0xBFFF], b'&');
-    assert_eq!(rt; cells, [0xE5]);
-    let mut cells = [0x42u8];
-    combine_named(&mut cells, &[0xBFFF], b'|');
-    assert_eq!(rt; cells, [0x47]);
-    let mut cells = [0x9Fu8];
-    combine_named(&mut cells, &[0xBFFF], b'^');
-    assert_eq!(rt; cells, [0x9A]);
+    for (left, operator, after) in [(0xFF, b'&', 0xE5), (0x42, b'|', 0x47), (0x9F, b'^', 0x9A)] {
+        let mut cells = [left];
+        combine_named(&mut cells, &[0xBFFF], operator);
+        assert_eq!(rt; cells, [after]);
+    }
 }

@@ -11,6 +11,9 @@ use bitvec_engine::{SliceOrder, bits_eq, compare};
 use bitvec_store::BitStore;
 use std::cmp::Ordering;
 
+/// How many bits [`compare_block_in`] passes at a time where they are equal.
+const STRETCH: usize = 512;
+
 /// Whether two windows have the same bits. Condition: each memory has at most `MAX_BITS` bits, and
 /// each window lies in its memory.
 pub fn eq_in<T: BitStore, O: BitOrder, U: BitStore, P: BitOrder>(
@@ -62,4 +65,34 @@ pub fn compare_in<T: BitStore, O: BitOrder, U: BitStore, P: BitOrder>(
     let mut left = Shared::new(left);
     let mut right = Shared::new(right);
     compare::<O, P, Shared<T>, Shared<U>>(&mut left, left_window, &mut right, right_window)
+}
+
+/// How the bits of two windows compare, as lists of truth values do, of elements of the same type
+/// and order. It passes equal stretches as the order compares them, and goes bit by bit from the
+/// first stretch on that differs. Condition: as of [`eq_in`].
+pub fn compare_block_in<T: BitStore, O: SliceOrder>(
+    left: &[T],
+    left_window: Window,
+    right: &[T],
+    right_window: Window,
+) -> Ordering
+    requires window { HasWindow T.BITS (map T.value left.now) left_window }
+    requires right_window { HasWindow T.BITS (map T.value right.now) right_window }
+    ensures { result ≡ slice_cmp bool_cmp (list_in T.BITS O.at (map T.value left.now) left_window)
+        (list_in T.BITS O.at (map T.value right.now) right_window) }
+{
+    let len = left_window.len.min(right_window.len);
+    let mut from = 0;
+    while from < len {
+        let to = from + STRETCH.min(len - from);
+        let part = left_window.range(from, to);
+        let other = right_window.range(from, to);
+        if !eq_block_in::<T, O>(left, part, right, other) {
+            let rest = left_window.after(from);
+            let other = right_window.after(from);
+            return compare_in::<T, O, T, O>(left, rest, right, other);
+        }
+        from = to;
+    }
+    left_window.len.cmp(&right_window.len)
 }

@@ -19,7 +19,7 @@ mod swapping;
 pub use answering::{fill_with_in, for_each_in};
 pub use bits::{bit_in, replace_in, set_in, swap_in};
 pub use combining::{combine_block_in, combine_in};
-pub use comparing::{compare_in, eq_block_in, eq_in};
+pub use comparing::{compare_block_in, compare_in, eq_block_in, eq_in};
 pub use copying::{copy_from_block_in, copy_from_in};
 pub use copying_within::copy_within_in;
 pub use counting::count_in;

@@ -1,5 +1,7 @@
 pub mod ChunkLaws
 pub mod LeftLaws
+pub mod Numbered
+pub mod NumberedLaws
 pub mod Pieces
 pub mod Shown
 pub mod ShownLaws

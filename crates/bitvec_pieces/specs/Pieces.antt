@@ -1,5 +1,5 @@
 -- Parts of a view that are lent to closures in its place, and what the closures leave.
-use Rattle.std.specs.Prelude.{◌≡◌, ℕ, ◌+◌, ◌-◌, ◌*◌, ◌<◌, ◌≤◌, Bool, List, min, slice_range}
+use Rattle.std.specs.Prelude.{◌≡◌, ℕ, ◌+◌, ◌-◌, ◌*◌, ◌<◌, ◌≤◌, ◌++◌, Bool, List, min, slice_range}
 use Rattle.std.specs.Borrow.{MutBor}
 use Rattle.bitvec_base.specs.Window.{max_bits, write_at}
 use Rattle.bitvec_pieces.specs.Shown.{Shown, StaysInPlace}
@@ -34,6 +34,15 @@ module _ {V : Type 0} (shows : V → Shown) where
   EditsPiece writes post before from to r after =
       (p : MutBor V) × (q : MutBor V) × IsPieceOf (shows before) from to (shows p.now) × post p r q
       × writes before after (write_at (shows before).bits from (shows q.now).bits)
+
+  -- an edit with the one `post` was called on the bits before `mid`, and one with the other on those from it, and the view has what they left
+  abbrev pub EditsHalves :
+      {A B : Type 0} → (V → V → List Bool → Type 0) → (MutBor V → A → MutBor V → Type 0) → (MutBor V → B → MutBor V → Type 0) → V → ℕ → A → B → V → Type 0
+  EditsHalves writes left right before mid a b after =
+      (p : MutBor V) × (q : MutBor V) × (p2 : MutBor V) × (q2 : MutBor V)
+      × IsPieceOf (shows before) 0 mid (shows p.now) × left p a q
+      × IsPieceOf (shows before) mid (shows before).window.len (shows p2.now) × right p2 b q2
+      × writes before after ((shows q.now).bits ++ (shows q2.now).bits)
 
   -- an edit with this `pre` may be called on any chunk, in any of its states
   abbrev pub MayEditChunks : {F : Type 0} → (F → ℕ → MutBor V → Type 0) → Shown → ℕ → Type 0

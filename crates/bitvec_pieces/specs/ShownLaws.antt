@@ -1,10 +1,10 @@
 -- A piece of a view that was edited in the view's place.
-use Rattle.std.specs.Prelude.{◌≡◌, ℕ, ◌+◌, ◌-◌, ◌≤◌, Bool, List, drop, length, slice_range, take}
-use Rattle.std.proofs.Common.{arith, refl, rules, sym, ◌∙◌, ap, length-drop}
+use Rattle.std.specs.Prelude.{◌≡◌, ℕ, ◌+◌, ◌-◌, ◌≤◌, ◌++◌, Bool, List, drop, length, slice_range, take}
+use Rattle.std.proofs.Common.{arith, refl, rules, sym, ◌∙◌, ap, length-append, length-drop}
 use Rattle.std.proofs.lemmas.List.{places, same_lists}
 use Rattle.bitvec_base.specs.Window.{IsWithin, window_of, window_range, write_at, write_window}
 use Rattle.bitvec_base.specs.WindowLaws.{length-window, part-of_window, part-written, window-written}
-use Rattle.bitvec_base.specs.WriteLaws.{drop-write_at, length-slice_range, length-write_at, take-write_at}
+use Rattle.bitvec_base.specs.WriteLaws.{drop-write_at, length-slice_range, length-write_at, range-write_at_after, take-write_at, write_at-all, write_at-next}
 use Rattle.bitvec_base.specs.declared.window.Window.{Window}
 use Rattle.bitvec_pieces.specs.Pieces.{IsPieceOf}
 use Rattle.bitvec_pieces.specs.Shown.{IsShown, Shown, StandsAt, StaysInPlace, WritesShown}
@@ -102,3 +102,31 @@ module _ (view piece left after : Shown) (from to : ℕ) where
       ∙ part-written view.memory view.window (window_range view.window from to) from left.bits old.within refl (omega arith)
       ∙ ap (λ (l : List Bool). write_window view.memory view.window (write_at l from left.bits)) (sym old.bits) in
       rewritten view after (write_at view.bits from left.bits) old new now back.window memory (back.elements ∙ stays.elements ∙ stands.elements) (back.name ∙ stays.name ∙ stands.name)
+
+-- the bits before `mid` were edited, and then those from it are
+module _ (view half : Shown) (mid : ℕ) (left : List Bool) (old : IsShown view) (bound : mid ≤ view.window.len) (long : length left ≡ mid - 0)
+    (wrote : WritesShown view half (write_at view.bits 0 left)) where
+  pub behind-is : (to : ℕ) (piece : Shown) → to ≤ view.window.len → IsPieceOf half mid to piece → IsPieceOf view mid to piece
+  behind-is to piece within is =
+      let wide = length-shown view old in
+      record {
+        bits = is.bits ∙ ap (λ (l : List Bool). slice_range l mid to) wrote.bits ∙ range-write_at_after view.bits 0 left mid to (omega arith) (omega arith) (omega arith);
+        start = is.start ∙ ap (λ (w : Window). w.start + mid) wrote.stays.window;
+        len = is.len;
+      }
+
+  pub halves-written : (after : Shown) (right : List Bool) → IsShown after → length right ≡ view.window.len - mid → WritesShown half after (write_at half.bits mid right)
+      → WritesShown view after (left ++ right)
+  halves-written after right now rest then =
+      let wide = length-shown view old in
+      let place : mid ≡ 0 + length left = omega arith in
+      let both = length-append left right in
+      let bits : after.bits ≡ left ++ right = then.bits ∙ ap (λ (l : List Bool). write_at l mid right) wrote.bits
+      ∙ ap (λ (n : ℕ). write_at (write_at view.bits 0 left) n right) place ∙ write_at-next view.bits 0 left right (omega arith) ∙ write_at-all view.bits (left ++ right) (omega arith) in
+      let stays : StaysInPlace view after = record {
+        outside = then.stays.outside ∙ wrote.stays.outside;
+        window = then.stays.window ∙ wrote.stays.window;
+        elements = then.stays.elements ∙ wrote.stays.elements;
+        name = then.stays.name ∙ wrote.stays.name;
+      } in
+      record { bits = bits; stays = stays; memory = kept-memory view after old now stays ∙ ap (λ (l : List Bool). write_window view.memory view.window l) bits }

@@ -5,8 +5,6 @@
 mod bits;
 mod command;
 mod run;
-#[cfg(test)]
-mod tests;
 
 pub use bits::{bits_of_elements, same_bits};
 pub use run::{PlainRun, plain_run};

@@ -45,6 +45,43 @@ fn packed<T: BitStore, O: BitOrder, A: Allocator>(
     Ok(elements)
 }
 
+/// Whether a needle is in a text, before it and behind it, and how much is left without it there.
+type Answers = ([bool; 3], [Option<usize>; 2]);
+
+/// The answers of texts.
+fn by_texts(text: &str, needle: &str) -> Answers {
+    let behind = text.strip_prefix(needle).map(|rest| rest.len());
+    let before = text.strip_suffix(needle).map(|rest| rest.len());
+    let found = [
+        text.contains(needle),
+        text.starts_with(needle),
+        text.ends_with(needle),
+    ];
+    (found, [behind, before])
+}
+
+/// How many bits a view has, if there is one.
+fn len<T: BitStore, O: BitOrder>(view: Option<BitSlice<'_, T, O>>) -> Option<usize> {
+    Some(view?.len())
+}
+
+/// The answers of views.
+fn by_views<T: BitStore, O: SliceOrder, U: BitStore, P: BitOrder>(
+    view: BitSlice<'_, T, O>,
+    needle: BitSlice<'_, U, P>,
+) -> Answers {
+    let found = [
+        view.contains(needle),
+        view.starts_with(needle),
+        view.ends_with(needle),
+    ];
+    let left = [
+        len(view.strip_prefix(needle)),
+        len(view.strip_suffix(needle)),
+    ];
+    (found, left)
+}
+
 /// Whether the needle stands in the text, by its own search.
 fn finds_as_text<T: BitStore, O: SliceOrder, U: BitStore, P: BitOrder, R: Abort + AllocGlobal>(
     rt: &R,
@@ -54,38 +91,14 @@ fn finds_as_text<T: BitStore, O: SliceOrder, U: BitStore, P: BitOrder, R: Abort 
     let cells = packed::<T, O, _>(rt.alloc(), text, 3)?;
     let parts = packed::<U, P, _>(rt.alloc(), needle, 1)?;
     let all = BitSlice::<T, O>::try_from_slice(&cells).map_err(|_| "too long")?;
-    let view = all
-        .get(3..text.len().saturating_add(3))
-        .ok_or("no such bits")?;
+    let end = text.len().saturating_add(3);
+    let view = all.get(3..end).ok_or("no such bits")?;
     let others = BitSlice::<U, P>::try_from_slice(&parts).map_err(|_| "too long")?;
-    let part = others
-        .get(1..needle.len().saturating_add(1))
-        .ok_or("no such bits")?;
+    let end = needle.len().saturating_add(1);
+    let part = others.get(1..end).ok_or("no such bits")?;
     assert_eq!(rt;
-        view.contains(part),
-        text.contains(needle),
-        "{needle} in {text}"
-    );
-    assert_eq!(rt;
-        view.starts_with(part),
-        text.starts_with(needle),
-        "{needle} in {text}"
-    );
-    assert_eq!(rt;
-        view.ends_with(part),
-        text.ends_with(needle),
-        "{needle} in {text}"
-    );
-    let behind = view.strip_prefix(part).map(|rest| rest.len());
-    assert_eq!(rt;
-        behind,
-        text.strip_prefix(needle).map(|rest| rest.len()),
-        "{needle} in {text}"
-    );
-    let before = view.strip_suffix(part).map(|rest| rest.len());
-    assert_eq!(rt;
-        before,
-        text.strip_suffix(needle).map(|rest| rest.len()),
+        by_views(view, part),
+        by_texts(text, needle),
         "{needle} in {text}"
     );
     Ok(())

@@ -1,146 +1,182 @@
 //! Searches of a view, and comparisons of two.
 
-use bitvec_base::{Lsb0, Msb0};
+use bitvec_base::{BitOrder, Lsb0, Msb0};
+use bitvec_engine::SliceOrder;
 use bitvec_query::BitQueries;
 use bitvec_slice::{BitSlice, BitSliceMut};
+use bitvec_store::BitStore;
 use std::cmp::Ordering;
 use std::test::Fail;
 
+/// The ones before the first zero, the zeros before the first one, and the same behind the last.
+fn runs<T: BitStore, O: SliceOrder, V: BitQueries<T, O>>(view: &V) -> [usize; 4] {
+    [
+        view.leading_ones(),
+        view.leading_zeros(),
+        view.trailing_ones(),
+        view.trailing_zeros(),
+    ]
+}
+
+/// Where the first one, the first zero, the last one and the last zero are.
+fn places<T: BitStore, O: SliceOrder, V: BitQueries<T, O>>(view: &V) -> [Option<usize>; 4] {
+    [
+        view.first_one(),
+        view.first_zero(),
+        view.last_one(),
+        view.last_zero(),
+    ]
+}
+
+/// Whether any bit is 1, all are, none is, not all are, and some are and some are not.
+fn answers<T: BitStore, O: SliceOrder, V: BitQueries<T, O>>(view: &V) -> [bool; 5] {
+    [
+        view.any(),
+        view.all(),
+        view.not_any(),
+        view.not_all(),
+        view.some(),
+    ]
+}
+
 #[test]
-fn runs_of_ones_and_zeros(rt: HostRuntime) -> Result<(), Fail> {
+fn runs_of_ones_and_zeros(rt: HostRuntime) {
     let cells = [0x0Bu8];
-    let all = BitSlice::<u8, Lsb0>::from_slice(&cells);
-    let view = all.get(0..5).ok_or("no such bits")?;
-    assert_eq!(rt; (view.leading_ones(), view.leading_zeros()), (2, 0));
-    assert_eq!(rt; (view.trailing_ones(), view.trailing_zeros()), (0, 1));
-    assert_eq!(rt; (view.first_one(), view.first_zero()), (Some(0), Some(2)));
-    assert_eq!(rt; (view.last_one(), view.last_zero()), (Some(3), Some(4)));
-    assert_eq!(rt; (view.any(), view.all()), (true, false));
-    assert_eq!(rt; (view.not_any(), view.not_all()), (false, true));
-    assert!(rt; view.some());
-    Ok(())
+    let view = BitSlice::<u8, Lsb0>::from_slice(&cells).into_part(0..5);
+    assert_eq!(rt; runs(&view), [2, 0, 0, 1]);
+    assert_eq!(rt; places(&view), [Some(0), Some(2), Some(3), Some(4)]);
+    assert_eq!(rt; answers(&view), [true, false, false, true, true]);
 }
 
 #[test]
 fn a_bit_that_does_not_occur(rt: HostRuntime) {
     let zeros = [0u8; 2];
     let view = BitSlice::<u8, Msb0>::from_slice(&zeros);
-    assert_eq!(rt; (view.first_one(), view.last_one()), (None, None));
-    assert_eq!(rt; (view.leading_zeros(), view.trailing_zeros()), (16, 16));
-    assert_eq!(rt; (view.not_any(), view.some()), (true, false));
+    assert_eq!(rt; runs(&view), [0, 16, 0, 16]);
+    assert_eq!(rt; places(&view), [None, Some(0), None, Some(15)]);
+    assert_eq!(rt; answers(&view), [false, false, true, true, false]);
+}
+
+#[test]
+fn a_writable_view_of_ones(rt: HostRuntime) {
     let mut ones = [0xFFu8; 2];
     let view = BitSliceMut::<u8, Msb0>::from_slice_mut(&mut ones);
-    assert_eq!(rt; (view.first_zero(), view.last_zero()), (None, None));
-    assert_eq!(rt; (view.leading_ones(), view.trailing_ones()), (16, 16));
-    assert_eq!(rt; (view.all(), view.not_all()), (true, false));
+    assert_eq!(rt; runs(&view), [16, 0, 16, 0]);
+    assert_eq!(rt; places(&view), [Some(0), None, Some(15), None]);
+    assert_eq!(rt; answers(&view), [true, true, false, false, false]);
 }
 
 #[test]
 fn the_empty_view(rt: HostRuntime) {
-    let none: [u8; 0] = [];
-    let view = BitSlice::<u8, Lsb0>::from_slice(&none);
-    assert_eq!(rt; (view.all(), view.not_any()), (true, true));
-    assert_eq!(rt; (view.any(), view.not_all()), (false, false));
-    assert!(rt; !view.some());
-    assert_eq!(rt; (view.first_one(), view.last_zero()), (None, None));
-    assert_eq!(rt; (view.leading_ones(), view.trailing_zeros()), (0, 0));
+    let view = BitSlice::<u8, Lsb0>::empty();
+    assert_eq!(rt; runs(&view), [0, 0, 0, 0]);
+    assert_eq!(rt; places(&view), [None, None, None, None]);
+    assert_eq!(rt; answers(&view), [false, true, true, false, false]);
 }
 
+/// Whether a view contains the bits `from` up to `to` of another, begins with them, and ends with
+/// them.
+fn stand<T: BitStore, O: SliceOrder, U: BitStore, P: BitOrder>(
+    view: BitSlice<'_, T, O>,
+    needles: BitSlice<'_, U, P>,
+    from: usize,
+    to: usize,
+) -> Option<[bool; 3]> {
+    let needle = needles.get(from..to)?;
+    Some([
+        view.contains(needle),
+        view.starts_with(needle),
+        view.ends_with(needle),
+    ])
+}
+
+// The view is 0, 1, 0, 0, 1, 0, 1, 1, 0, 1, the needles 0, 1, 0, 1, 1 and eleven zeros.
 #[test]
-fn needles_of_another_width_and_order(rt: HostRuntime) -> Result<(), Fail> {
-    // 0, 1, 0, 0, 1, 0, 1, 1, 0, 1
+fn needles_of_another_width_and_order(rt: HostRuntime) {
     let cells = [0x4Bu8, 0x40];
-    let all = BitSlice::<u8, Msb0>::from_slice(&cells);
-    let view = all.get(0..10).ok_or("no such bits")?;
-    // 0, 1, 0, 1, 1, 0, 0, 0, 0
+    let view = BitSlice::<u8, Msb0>::from_slice(&cells).into_part(0..10);
     let parts = [0x1Au16];
     let needles = BitSlice::<u16, Lsb0>::from_slice(&parts);
-    assert!(rt; view.contains(needles.get(0..4).ok_or("no such bits")?));
-    assert!(rt; !view.contains(needles.get(5..9).ok_or("no such bits")?));
-    assert!(rt; !view.starts_with(needles.get(2..5).ok_or("no such bits")?));
-    assert!(rt; view.starts_with(needles.get(0..3).ok_or("no such bits")?));
-    assert!(rt; view.ends_with(needles.get(1..4).ok_or("no such bits")?));
-    assert!(rt; !view.ends_with(needles.get(0..3).ok_or("no such bits")?));
-    let empty = needles.get(4..4).ok_or("no such bits")?;
-    assert!(rt; view.contains(empty) && view.starts_with(empty) && view.ends_with(empty));
-    assert!(rt; !view.contains(needles) && !view.starts_with(needles) && !view.ends_with(needles));
-    Ok(())
+    for (from, to, found) in [
+        (0, 4, [true, false, false]),
+        (5, 9, [false, false, false]),
+        (2, 5, [true, false, false]),
+        (0, 3, [true, true, false]),
+        (1, 4, [true, false, true]),
+        (4, 4, [true, true, true]),
+        (0, 16, [false, false, false]),
+    ] {
+        assert_eq!(rt; stand(view, needles, from, to), Some(found), "{from} {to}");
+    }
 }
 
-#[test]
-fn views_without_their_ends(rt: HostRuntime) -> Result<(), Fail> {
-    // 0, 1, 0, 0, 1, 0, 1, 1
-    let cells = [0x4Bu8];
-    let view = BitSlice::<u8, Msb0>::from_slice(&cells);
-    // 0, 1, 0, 1, 1, 0, 0, 0, 0
-    let parts = [0x1Au16];
-    let needles = BitSlice::<u16, Lsb0>::from_slice(&parts);
-    let needle = needles.get(0..2).ok_or("no such bits")?;
-    let rest = view.strip_prefix(needle).ok_or("not its beginning")?;
-    assert_eq!(rt; (rest.len(), rest.count_ones()), (6, 3));
-    assert!(rt; view.strip_suffix(needle).is_none());
-    let needle = needles.get(3..5).ok_or("no such bits")?;
-    let rest = view.strip_suffix(needle).ok_or("not its end")?;
-    assert_eq!(rt; (rest.len(), rest.count_ones()), (6, 2));
-    assert!(rt; view.strip_prefix(needle).is_none());
-    Ok(())
+/// Whether what is left of a view has these bits.
+fn is_left<T: BitStore, O: SliceOrder, U: BitStore, P: BitOrder>(
+    rest: Option<BitSlice<'_, T, O>>,
+    bits: Option<BitSlice<'_, U, P>>,
+) -> Option<bool> {
+    Some(rest?.eq_bits(bits?))
 }
 
+/// The bits of a byte from one index up to another, the lowest first.
+fn part(byte: &[u8; 1], from: usize, to: usize) -> Option<BitSlice<'_, u8, Lsb0>> {
+    BitSlice::from_slice(byte).get(from..to)
+}
+
+// The view and the needles' byte are 0, 1, 0, 0, 1.
 #[test]
 fn what_a_needle_leaves_of_five_bits(rt: HostRuntime) -> Result<(), Fail> {
-    // 0, 1, 0, 0, 1
     let cells = [0x48u8];
-    let all = BitSlice::<u8, Msb0>::from_slice(&cells);
-    let view = all.get(..5).ok_or("no such bits")?;
-    // 0, 1, 0, 0, 1, 0
-    let parts = [0x12u8];
-    let others = BitSlice::<u8, Lsb0>::from_slice(&parts);
-    let zero_one = others.get(0..2).ok_or("no such bits")?;
-    let one_zero = others.get(1..=2).ok_or("no such bits")?;
+    let view = BitSlice::<u8, Msb0>::from_slice(&cells).into_part(0..5);
+    let zero_one = part(&[0x12], 0, 2).ok_or("no such bits")?;
+    let one_zero = part(&[0x12], 1, 3).ok_or("no such bits")?;
     assert!(rt; view.strip_prefix(one_zero).is_none());
     assert!(rt; view.strip_suffix(one_zero).is_none());
-    let rest = view.strip_prefix(zero_one).ok_or("not its beginning")?;
-    assert!(rt; rest.eq_bits(others.get(2..5).ok_or("no such bits")?));
-    let rest = view.strip_suffix(zero_one).ok_or("not its end")?;
-    assert!(rt; rest.eq_bits(others.get(..3).ok_or("no such bits")?));
+    let rest = view.strip_prefix(zero_one);
+    assert_eq!(rt; is_left(rest, part(&[0x12], 2, 5)), Some(true));
+    let rest = view.strip_suffix(zero_one);
+    assert_eq!(rt; is_left(rest, part(&[0x12], 0, 3)), Some(true));
     Ok(())
 }
 
+// The view is 0, 1, 0, 0, 1, 0, 0, 0.
 #[test]
-fn views_of_two_orders_compared(rt: HostRuntime) -> Result<(), Fail> {
+fn a_writable_view_without_its_ends(rt: HostRuntime) -> Result<(), Fail> {
+    let mut cells = [0x12u8];
+    let view = BitSliceMut::<u8, Lsb0>::from_slice_mut(&mut cells);
+    let zero_one = part(&[0x02], 0, 2).ok_or("no such bits")?;
+    let rest = view.strip_prefix(zero_one);
+    assert_eq!(rt; is_left(rest, part(&[0x04], 0, 6)), Some(true));
+    assert!(rt; view.strip_suffix(zero_one).is_none());
+    let zeros = part(&[0x02], 2, 5).ok_or("no such bits")?;
+    let rest = view.strip_suffix(zeros);
+    assert_eq!(rt; is_left(rest, part(&[0x12], 0, 5)), Some(true));
+    Ok(())
+}
+
+/// How two ranges of a byte compare.
+fn compare(byte: &[u8; 1], range: (usize, usize), other: (usize, usize)) -> Option<Ordering> {
+    let view = part(byte, range.0, range.1)?;
+    Some(view.cmp_bits(part(byte, other.0, other.1)?))
+}
+
+// The byte is 0, 1, 0.
+#[test]
+fn views_in_order(rt: HostRuntime) {
+    for (range, other, order) in [
+        ((0, 2), (0, 3), Ordering::Less),
+        ((1, 2), (0, 2), Ordering::Greater),
+        ((0, 3), (0, 3), Ordering::Equal),
+    ] {
+        assert_eq!(rt; compare(&[0x02], range, other), Some(order));
+    }
+}
+
+#[test]
+fn views_of_two_orders_compared(rt: HostRuntime) {
     let low = [0x21u8];
     let high = [0x84u8];
     let view = BitSlice::<u8, Lsb0>::from_slice(&low);
     assert!(rt; view.eq_bits(BitSlice::<u8, Msb0>::from_slice(&high)));
     assert!(rt; !view.eq_bits(BitSlice::<u8, Lsb0>::from_slice(&high)));
-    let cells = [0x02u8];
-    let all = BitSlice::<u8, Lsb0>::from_slice(&cells);
-    let short = all.get(0..2).ok_or("no such bits")?;
-    let long = all.get(0..3).ok_or("no such bits")?;
-    let one = all.get(1..2).ok_or("no such bits")?;
-    assert_eq!(rt; short.cmp_bits(long), Ordering::Less);
-    assert_eq!(rt; one.cmp_bits(short), Ordering::Greater);
-    assert_eq!(rt; long.cmp_bits(long), Ordering::Equal);
-    Ok(())
-}
-
-#[test]
-fn a_writable_view_without_its_ends(rt: HostRuntime) -> Result<(), Fail> {
-    // 0, 1, 0, 0, 1, 0, 0, 0
-    let mut cells = [0x12u8];
-    let view = BitSliceMut::<u8, Lsb0>::from_slice_mut(&mut cells);
-    let parts = [0x40u8];
-    let needles = BitSlice::<u8, Msb0>::from_slice(&parts);
-    let needle = needles.get(..2).ok_or("no such bits")?;
-    let rest = view.strip_prefix(needle).ok_or("not its beginning")?;
-    assert_eq!(rt; (rest.len(), rest.first_one()), (6, Some(2)));
-    assert!(rt; view.strip_suffix(needle).is_none());
-    let needle = needles.get(..4).ok_or("no such bits")?;
-    assert!(rt; view.strip_prefix(needle).is_some());
-    let zeros = needles.get(4..).ok_or("no such bits")?;
-    assert!(rt; view.strip_suffix(zeros).is_none());
-    let zeros = needles.get(5..).ok_or("no such bits")?;
-    let rest = view.strip_suffix(zeros).ok_or("not its end")?;
-    assert_eq!(rt; (rest.len(), rest.last_one()), (5, Some(4)));
-    Ok(())
 }

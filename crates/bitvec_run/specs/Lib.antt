@@ -6,6 +6,7 @@ pub mod FoldLaws
 pub mod Follows
 pub mod FollowsLaws
 pub mod Groups
+pub mod RanLaws
 pub mod Rows
 pub mod Runs
 pub mod RunsLaws

@@ -1,5 +1,5 @@
 -- What a command is: one row of four entries.
-use Rattle.std.specs.Prelude.{ℕ, Bool, ◌-◌, ◌&&◌, if◌then◌else◌, nat_le, Option, Some, None, List, slice_range}
+use Rattle.std.specs.Prelude.{ℕ, Bool, ◌-◌, ◌&&◌, if◌then◌else◌, nat_le, Option, Some, None, List, length, slice_range}
 use Rattle.bitvec_base.specs.declared.window.Window.{Window}
 use Rattle.bitvec_base.specs.Window.{write_at}
 use Rattle.bitvec_run.specs.declared.command.Refusal.{Refusal}
@@ -49,6 +49,14 @@ unless_refused (Some refusal) row = refused refusal
 
 abbrev pub outcome : Row → Row
 outcome row = unless_refused row.refusal row
+
+-- of steps each of which is a row, on a list of n bits
+module _ {S : Type 0} (row_of : ℕ → S → Row) where
+  abbrev pub row_reply : List Bool → S → Reply
+  row_reply list step = (row_of (length list) step).reply list
+
+  abbrev pub row_list : List Bool → S → List Bool
+  row_list list step = (row_of (length list) step).list list
 
 -- ---- refusals
 

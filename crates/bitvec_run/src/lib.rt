@@ -11,4 +11,5 @@ mod step;
 
 pub use bitvec_base::Window;
 pub use command::{Op, Refusal, Reply, RunError, Step};
-pub use runner::run;
+pub use runner::{run, whole};
+pub use step::carry_out;

@@ -6,7 +6,7 @@ ghost use Rattle.bitvec_run.specs.Costs.{place_of};
 ghost use Rattle.bitvec_run.specs.Fold.{cost_of, list_after, replies_of};
 ghost use Rattle.bitvec_run.specs.Runs.{CanRun, step_cost, step_list, step_reply, whole_window};
 
-use crate::step::step;
+use crate::step::carry_out;
 use crate::{Reply, RunError, Step};
 use bitvec_base::Window;
 use bitvec_cells::{Cells, CellsRead, fits_max_bits, has_window};
@@ -71,13 +71,13 @@ where
     };
     let source = whole(right);
     for next in steps {
-        replies.push_reserved(step::<O, C, D>(cells, window, right, source, *next));
+        replies.push_reserved(carry_out::<O, C, D>(cells, window, right, source, *next));
     }
     Ok(replies)
 }
 
 /// All bits of a memory. Condition: it has at most `MAX_BITS`.
-fn whole<D: CellsRead>(memory: &D) -> Window
+pub fn whole<D: CellsRead>(memory: &D) -> Window
     requires { FitsMaxBits D.Elem.BITS (D.numbers memory.now) }
     ensures { result ≡ whole_window D.Elem.BITS (D.numbers memory.now) }
 {

@@ -19,7 +19,7 @@ use bitvec_store::BitStore;
 /// One step of a run in a window, whose right list is the one that `source` holds: it replies, and
 /// leaves in the window the list after it. Condition: each memory has at most `MAX_BITS` bits, and
 /// each window lies in its memory.
-pub(crate) fn step<O, C, D>(
+pub fn carry_out<O, C, D>(
     cells: &mut C,
     window: Window,
     right: &mut D,
@@ -44,7 +44,7 @@ where
     }
 }
 
-/// One command, which isn't refused, on the list that `target` holds. Condition: as of [`step`].
+/// One command, which isn't refused, on the list that `target` holds. Condition: as of [`carry_out`].
 fn command<O, C, D>(cells: &mut C, target: Window, right: &mut D, source: Window, op: Op) -> Reply
 where
     O: SliceOrder,

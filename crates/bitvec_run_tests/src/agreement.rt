@@ -1,15 +1,14 @@
 //! Runs at each width and order, against the plain program on the memories' bits.
-ghost use Rattle.std.specs.Prelude.{◌^◌, ◌<◌};
-
 use crate::own_order::Scattered;
-use crate::slices::run_in;
+use crate::slices::answer;
 use crate::steps::{edits, moves, queries, right_commands};
 use bitvec_base::{HiLo, Lsb0, Msb0};
 use bitvec_engine::SliceOrder;
 use bitvec_plain::{bits_of_elements, plain_run, same_bits};
-use bitvec_run::{Step, Window};
+use bitvec_run::{Reply, Step, Window};
 use bitvec_store::BitStore;
 use bitvec_test_support::mixed_elements;
+use std::alloc::Global;
 use std::process::Abort;
 use std::test::Fail;
 
@@ -20,6 +19,49 @@ const RIGHT: u64 = 0xBF58_476D_1CE4_E5B9;
 /// So many elements hold a window of 131 bits from the last bit of the first element on.
 const COUNT: usize = 18;
 
+/// What a run replies, and the bits of the memory that it leaves.
+#[derive(Drop)]
+struct Outcome {
+    replies: Vec<Reply>,
+    bits: Vec<bool>,
+}
+
+/// The outcome of a run of those steps in that window.
+fn by_run<T: BitStore, O: SliceOrder>(
+    alloc: Global,
+    left: &[T],
+    right: &[T],
+    window: Window,
+    steps: &[Step],
+) -> Result<Outcome, Fail> {
+    let mut cells = Vec::from_slice(alloc, left)?;
+    let replies = answer::<T, O, _>(alloc, &mut cells, window, right, steps)?;
+    let bits = bits_of_elements::<T, O, _>(alloc, &cells)?;
+    Ok(Outcome { replies, bits })
+}
+
+/// The same by the plain program, and no bit outside the window changed.
+fn by_lists<T: BitStore, O: SliceOrder>(
+    alloc: Global,
+    left: &[T],
+    right: &[T],
+    window: Window,
+    steps: &[Step],
+) -> Result<Outcome, Fail> {
+    let before = bits_of_elements::<T, O, _>(alloc, left)?;
+    let right_bits = bits_of_elements::<T, O, _>(alloc, right)?;
+    let end = window.start.saturating_add(window.len);
+    let list = before.get(window.start..end).ok_or("a window outside")?;
+    let plain = plain_run(alloc, list, &right_bits, steps)?;
+    let mut bits = Vec::from_slice(alloc, before.get(..window.start).unwrap_or(&[]))?;
+    bits.extend_from_slice(&plain.list)?;
+    bits.extend_from_slice(before.get(end..).unwrap_or(&[]))?;
+    Ok(Outcome {
+        replies: plain.replies,
+        bits,
+    })
+}
+
 /// A run of those steps in that window, and the same by the plain program.
 fn agrees<T: BitStore, O: SliceOrder, R: Abort + AllocGlobal>(
     rt: &R,
@@ -27,29 +69,15 @@ fn agrees<T: BitStore, O: SliceOrder, R: Abort + AllocGlobal>(
     right: &[T],
     window: Window,
     steps: &[Step],
-) -> Result<(), Fail>
-    requires start { window.start < 2 ^ 32 }
-    requires len { window.len < 2 ^ 32 }
-{
-    let end = window.start + window.len;
-    let before = bits_of_elements::<T, O, _>(rt.alloc(), left)?;
-    let right_bits = bits_of_elements::<T, O, _>(rt.alloc(), right)?;
-    assert!(rt; end <= before.len(), "{window:?}");
-    let plain = plain_run(rt.alloc(), &before[window.start..end], &right_bits, steps)?;
-    let mut cells = Vec::from_slice(rt.alloc(), left)?;
-    let replies = run_in::<T, O, _>(rt.alloc(), &mut cells, window, right, steps)?;
-    assert_eq!(rt; replies.as_slice(), plain.replies.as_slice(), "{window:?}");
-    let after = bits_of_elements::<T, O, _>(rt.alloc(), &cells)?;
-    assert_eq!(rt; after.len(), before.len(), "{window:?}");
-    assert!(rt;
-        same_bits(&after[..window.start], &before[..window.start]),
+) -> Result<(), Fail> {
+    let run = by_run::<T, O>(rt.alloc(), left, right, window, steps)?;
+    let plain = by_lists::<T, O>(rt.alloc(), left, right, window, steps)?;
+    assert_eq!(rt;
+        run.replies.as_slice(),
+        plain.replies.as_slice(),
         "{window:?}"
     );
-    assert!(rt;
-        same_bits(&after[window.start..end], &plain.list),
-        "{window:?}"
-    );
-    assert!(rt; same_bits(&after[end..], &before[end..]), "{window:?}");
+    assert!(rt; same_bits(&run.bits, &plain.bits), "{window:?}");
     Ok(())
 }
 

@@ -55,18 +55,6 @@ fn an_operator_takes_zeros_past_the_right_window(rt: HostRuntime) -> Result<(), 
     Ok(())
 }
 
-#[test]
-fn a_copy_may_overlap_its_source(rt: HostRuntime) -> Result<(), Fail> {
-    let row = Row {
-        window: Window { start: 0, len: 80 },
-        right: &[],
-        steps: &[step(0, 80, Op::CopyWithin(0, 70, 3))],
-        replies: &[Reply::Done],
-        after: &[0x09, 0, 0, 0, 0, 0, 0, 0, 0x01, 0],
-    };
-    check::<Lsb0, _>(&rt, &mut [0x01, 0, 0, 0, 0, 0, 0, 0x20, 0, 0], &row)
-}
-
 // The bits 01001 turn to 00101, and back.
 #[test]
 fn a_rotation_turns_back(rt: HostRuntime) -> Result<(), Fail> {

@@ -1,10 +1,10 @@
 //! When a run isn't made, and what its errors print.
 ghost use Rattle.std.specs.Prelude.{replicate};
 
-use crate::slices::{four_nibbles, run_in};
+use crate::slices::{answer, four_nibbles};
 use bitvec_base::{Lsb0, MAX_BITS};
 use bitvec_cells::{Cells, CellsRead};
-use bitvec_run::{RunError, Window, run};
+use bitvec_run::{RunError, Step, Window, run};
 use std::process::Abort;
 use std::test::Fail;
 
@@ -47,6 +47,20 @@ impl<'a, R: Abort> Cells for Untouched<'a, R> {
     }
 }
 
+/// How many replies a run of those steps on so many bytes, with as many on the right, gives.
+fn count_replies<R: Abort + AllocGlobal>(
+    rt: &R,
+    len: usize,
+    window: Window,
+    right_len: usize,
+    steps: &[Step],
+) -> Result<usize, RunError> {
+    let mut cells = Untouched::new(rt, len);
+    let mut right = Untouched::new(rt, right_len);
+    let replies = run::<Lsb0, _, _, _>(rt.alloc(), &mut cells, window, &mut right, steps)?;
+    Ok(replies.len())
+}
+
 #[test]
 fn a_window_outside_is_an_error(rt: HostRuntime) {
     for (start, len) in [
@@ -59,7 +73,7 @@ fn a_window_outside_is_an_error(rt: HostRuntime) {
     ] {
         let mut cells = [0x5Au8, 0xC3];
         let window = Window { start, len };
-        let outcome = run_in::<_, Lsb0, _>(rt.alloc(), &mut cells, window, &[], &four_nibbles());
+        let outcome = answer::<_, Lsb0, _>(rt.alloc(), &mut cells, window, &[], &four_nibbles());
         assert_eq!(rt; outcome.err(), Some(RunError::Window), "({start}, {len})");
         assert_eq!(rt; cells, [0x5A, 0xC3], "({start}, {len})");
     }
@@ -81,26 +95,20 @@ fn a_memory_of_too_many_bits_is_an_error(rt: HostRuntime) {
         (long, usize::MAX, long, RunError::Window),
     ];
     for (len, start, right_len, error) in table {
-        let mut cells = Untouched::new(&rt, len);
-        let mut right = Untouched::new(&rt, right_len);
         let window = Window { start, len: 0 };
-        let steps = four_nibbles();
-        let outcome = run::<Lsb0, _, _, _>(rt.alloc(), &mut cells, window, &mut right, &steps);
-        assert_eq!(rt; outcome.err(), Some(error), "{len} {start} {right_len}");
+        let outcome = count_replies(&rt, len, window, right_len, &four_nibbles());
+        assert_eq!(rt; outcome, Err(error), "{len} {start} {right_len}");
     }
 }
 
 #[test]
 fn memories_of_the_most_bits_are_none(rt: HostRuntime) {
     let most = MAX_BITS / 8;
-    let mut cells = Untouched::new(&rt, most);
-    let mut right = Untouched::new(&rt, most);
     let window = Window {
         start: most * 8,
         len: 0,
     };
-    let outcome = run::<Lsb0, _, _, _>(rt.alloc(), &mut cells, window, &mut right, &[]);
-    assert_eq!(rt; outcome.map(|replies| replies.len()), Ok(0));
+    assert_eq!(rt; count_replies(&rt, most, window, most, &[]), Ok(0));
 }
 
 #[test]

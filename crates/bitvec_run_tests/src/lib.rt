@@ -11,8 +11,6 @@ mod cost;
 #[cfg(test)]
 mod errors;
 #[cfg(test)]
-mod own_element;
-#[cfg(test)]
 mod own_order;
 #[cfg(test)]
 mod rows;

@@ -1,19 +1,17 @@
-//! A run in a bit order of the tests' own.
+//! A bit order of the tests' own.
 #![tactic(auto, using(bitvec_walk::specs::CostLaws::enough))]
 
 ghost use Rattle.std.specs.Prelude.{Bool, false};
 ghost use Rattle.bitvec_run_tests.specs.Scattered.{scattered};
 ghost use Rattle.bitvec_run_tests.specs.ScatteredLaws.{scattered_permutes};
 
-use crate::slices::{run_in, step};
 use bitvec_base::BitOrder;
 use bitvec_cells::{Cells, CellsRead};
 use bitvec_engine::{
     BitOp, SliceOrder, bits_copy, bits_copy_within, bits_eq, bits_op, bits_reverse, bits_swap,
 };
-use bitvec_run::{Op, Reply, Window};
+use bitvec_run::Window;
 use bitvec_store::BitStore;
-use std::test::Fail;
 
 /// The order in which index `i` is bit `(5 * i + 3) % BITS`.
 pub(crate) struct Scattered;
@@ -88,22 +86,4 @@ impl SliceOrder for Scattered {
     fn block_reverse<C: Cells>(cells: &mut C, window: Window) {
         bits_reverse::<Self, C>(cells, window);
     }
-}
-
-// Indices 0, 1 and 2 of a byte are bits 3, 0 and 5.
-#[test]
-fn an_own_order_is_followed(rt: HostRuntime) -> Result<(), Fail> {
-    let mut cells = [0x00u8];
-    let window = Window { start: 0, len: 8 };
-    let steps = [
-        step(0, 8, Op::Set(0, true)),
-        step(0, 8, Op::Set(1, true)),
-        step(0, 8, Op::Set(2, true)),
-        step(2, 5, Op::CountOnes),
-    ];
-    let replies = run_in::<_, Scattered, _>(rt.alloc(), &mut cells, window, &[], &steps)?;
-    let wanted = [Reply::Done, Reply::Done, Reply::Done, Reply::Count(1)];
-    assert_eq!(rt; replies.as_slice(), wanted.as_slice());
-    assert_eq!(rt; cells, [0x29]);
-    Ok(())
 }

@@ -1,5 +1,6 @@
 //! Worked rows: what a run replies, and the memory that it leaves.
-use crate::slices::{FOUR_NIBBLES_REPLIES, four_nibbles, run_in, step};
+use crate::own_order::Scattered;
+use crate::slices::{FOUR_NIBBLES_REPLIES, answer, four_nibbles, step};
 use bitvec_base::{HiLo, Lsb0};
 use bitvec_engine::SliceOrder;
 use bitvec_run::{Op, Refusal, Reply, Step, Window};
@@ -21,7 +22,7 @@ pub(crate) fn check<O: SliceOrder, R: Abort + AllocGlobal>(
     cells: &mut [u8],
     row: &Row,
 ) -> Result<(), Fail> {
-    let replies = run_in::<u8, O, _>(rt.alloc(), cells, row.window, row.right, row.steps)?;
+    let replies = answer::<u8, O, _>(rt.alloc(), cells, row.window, row.right, row.steps)?;
     assert_eq!(rt; replies.as_slice(), row.replies);
     assert_eq!(rt; &*cells, row.after);
     Ok(())
@@ -34,7 +35,7 @@ pub(crate) fn check_four_nibbles<T: BitStore, R: Abort + AllocGlobal>(
     after: &[u128],
 ) -> Result<(), Fail> {
     let window = Window { start: 0, len: 16 };
-    let replies = run_in::<T, Lsb0, _>(rt.alloc(), cells, window, &[], &four_nibbles())?;
+    let replies = answer::<T, Lsb0, _>(rt.alloc(), cells, window, &[], &four_nibbles())?;
     assert_eq!(rt; replies.as_slice(), FOUR_NIBBLES_REPLIES.as_slice());
     assert_eq!(rt; cells.len(), after.len());
     for (cell, number) in cells.iter().zip(after) {
@@ -119,4 +120,17 @@ fn a_memory_may_be_empty_and_a_window_may_lie_at_its_end(rt: HostRuntime) -> Res
         after: &[0x5A, 0xC3],
     };
     check::<Lsb0, _>(&rt, &mut [0x5A, 0xC3], &end)
+}
+
+// Indices 0, 1 and 2 of a byte are bits 3, 0 and 5.
+#[test]
+fn an_own_order_is_followed(rt: HostRuntime) -> Result<(), Fail> {
+    let row = Row {
+        window: Window { start: 0, len: 8 },
+        right: &[],
+        steps: &[step(0, 3, Op::Fill(true)), step(2, 5, Op::CountOnes)],
+        replies: &[Reply::Done, Reply::Count(1)],
+        after: &[0x29],
+    };
+    check::<Scattered, _>(&rt, &mut [0x00], &row)
 }

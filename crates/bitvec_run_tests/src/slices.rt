@@ -55,3 +55,14 @@ pub(crate) fn run_in<T: BitStore, O: SliceOrder, A: Allocator>(
     let mut source = Shared::new(right);
     run::<O, A, _, _>(alloc, &mut left, window, &mut source, steps)
 }
+
+/// The same for tests, which compare plain values.
+pub(crate) fn answer<T: BitStore, O: SliceOrder, A: Allocator>(
+    alloc: A,
+    cells: &mut [T],
+    window: Window,
+    right: &[T],
+    steps: &[Step],
+) -> Result<Vec<Reply, A>, RunError> {
+    run_in::<T, O, A>(alloc, cells, window, right, steps)
+}

@@ -1,5 +1,5 @@
 //! A run for whose replies there is no room.
-use crate::slices::{FOUR_NIBBLES_REPLIES, four_nibbles, run_in};
+use crate::slices::{FOUR_NIBBLES_REPLIES, answer, four_nibbles};
 use bitvec_base::Lsb0;
 use bitvec_run::{RunError, Window};
 use test_streams::Refusing;
@@ -13,7 +13,7 @@ fn a_run_asks_once_and_changes_nothing_where_it_is_refused(rt: HostRuntime) {
         let refusing = Refusing::new(rt.alloc(), granted);
         let mut cells = [0x00u8, 0x00];
         let right = [0x0F];
-        let outcome = run_in::<_, Lsb0, _>(&refusing, &mut cells, WINDOW, &right, &four_nibbles());
+        let outcome = answer::<_, Lsb0, _>(&refusing, &mut cells, WINDOW, &right, &four_nibbles());
         assert_eq!(rt; outcome.is_ok(), refusing.granted_all(), "at {granted}");
         assert_eq!(rt; right, [0x0F], "at {granted}");
         match outcome {
@@ -35,7 +35,7 @@ fn a_run_asks_once_and_changes_nothing_where_it_is_refused(rt: HostRuntime) {
 fn a_run_of_no_steps_asks_for_nothing(rt: HostRuntime) {
     let refusing = Refusing::new(rt.alloc(), 0);
     let mut cells = [0x5Au8, 0xC3];
-    let outcome = run_in::<_, Lsb0, _>(&refusing, &mut cells, WINDOW, &[], &[]);
+    let outcome = answer::<_, Lsb0, _>(&refusing, &mut cells, WINDOW, &[], &[]);
     assert_eq!(rt; outcome.map(|replies| replies.len()), Ok(0));
     assert!(rt; refusing.granted_all());
     assert_eq!(rt; cells, [0x5A, 0xC3]);

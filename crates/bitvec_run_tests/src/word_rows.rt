@@ -3,13 +3,14 @@ use crate::slices::step;
 use bitvec_base::{Lsb0, Msb0};
 use bitvec_cells::{Exclusive, Shared};
 use bitvec_engine::SliceOrder;
-use bitvec_run::{Op, Reply, Step, Window, run};
+use bitvec_run::{Op, Reply, RunError, Step, Window, run};
 use bitvec_store::BitStore;
 use bitvec_test_support::Counted;
+use std::alloc::Allocator;
 use std::process::Abort;
 use std::test::Fail;
 
-/// At most so many loads and stores of the memory, and loads of the right memory.
+/// So many loads and stores of the memory, and loads of the right memory.
 #[derive(Clone, Copy)]
 struct Most {
     loads: u64,
@@ -25,7 +26,28 @@ const fn at_most(loads: u64, stores: u64, right_loads: u64) -> Most {
     }
 }
 
-/// A run of one step on all bits of some elements, what it replies, and the numbers that it leaves.
+/// What a run of one step on all bits of some elements replies, and the loads and stores that it
+/// takes, with the loads of the right memory.
+fn tallies<T: BitStore, O: SliceOrder, A: Allocator>(
+    alloc: A,
+    elements: &mut [T],
+    right: &[T],
+    step: Step,
+) -> Result<(Vec<Reply, A>, Most), RunError> {
+    let window = Window {
+        start: 0,
+        len: step.to,
+    };
+    let mut cells = Counted::new(Exclusive::new(elements));
+    let mut source = Counted::new(Shared::new(right));
+    let replies = run::<O, _, _, _>(alloc, &mut cells, window, &mut source, &[step])?;
+    Ok((
+        replies,
+        at_most(cells.loads(), cells.stores(), source.loads()),
+    ))
+}
+
+/// A run of one step, its reply, and the most that it takes.
 fn check<T: BitStore, O: SliceOrder, R: Abort + AllocGlobal>(
     rt: &R,
     elements: &mut [T],
@@ -34,17 +56,13 @@ fn check<T: BitStore, O: SliceOrder, R: Abort + AllocGlobal>(
     most: Most,
     reply: Reply,
 ) -> Result<(), Fail> {
-    let window = Window {
-        start: 0,
-        len: step.to,
-    };
-    let mut cells = Counted::new(Exclusive::new(elements));
-    let mut source = Counted::new(Shared::new(right));
-    let replies = run::<O, _, _, _>(rt.alloc(), &mut cells, window, &mut source, &[step])?;
+    let (replies, took) = tallies::<T, O, _>(rt.alloc(), elements, right, step)?;
     assert_eq!(rt; replies.as_slice(), [reply].as_slice());
-    assert!(rt; cells.loads() <= most.loads, "{step:?}");
-    assert!(rt; cells.stores() <= most.stores, "{step:?}");
-    assert!(rt; source.loads() <= most.right_loads, "{step:?}");
+    assert!(rt;
+        took.loads <= most.loads && took.stores <= most.stores,
+        "{step:?}"
+    );
+    assert!(rt; took.right_loads <= most.right_loads, "{step:?}");
     Ok(())
 }
 
@@ -139,18 +157,27 @@ fn reversals_and_rotations_go_by_words(rt: HostRuntime) -> Result<(), Fail> {
     Ok(())
 }
 
-#[test]
-fn an_exchange_goes_by_words(rt: HostRuntime) -> Result<(), Fail> {
-    let mut left = [u64::MAX, 0];
-    let mut right = [0, u64::MAX];
-    let mut cells = Counted::new(Exclusive::new(&mut left));
-    let mut others = Counted::new(Exclusive::new(&mut right));
+/// Exchanges 64 bits of two pairs of elements, and gives the loads and stores of each side.
+fn exchange(left: &mut [u64; 2], right: &mut [u64; 2]) -> [u64; 4] {
+    let mut cells = Counted::new(Exclusive::new(left));
+    let mut others = Counted::new(Exclusive::new(right));
     let window = Window { start: 3, len: 64 };
     let other = Window { start: 5, len: 64 };
     Lsb0::block_swap(&mut cells, window, &mut others, other);
-    assert!(rt; cells.loads() <= 4 && cells.stores() <= 2);
-    assert!(rt; others.loads() <= 4 && others.stores() <= 2);
+    [
+        cells.loads(),
+        cells.stores(),
+        others.loads(),
+        others.stores(),
+    ]
+}
+
+#[test]
+fn an_exchange_goes_by_words(rt: HostRuntime) {
+    let mut left = [u64::MAX, 0];
+    let mut right = [0, u64::MAX];
+    let [loads, stores, other_loads, other_stores] = exchange(&mut left, &mut right);
+    assert!(rt; loads <= 4 && stores <= 2 && other_loads <= 4 && other_stores <= 2);
     assert_eq!(rt; left, [0xC000_0000_0000_0007, 0x7]);
     assert_eq!(rt; right, [0xFFFF_FFFF_FFFF_FFE0, 0xFFFF_FFFF_FFFF_FFE3]);
-    Ok(())
 }

@@ -1,7 +1,2 @@
 pub mod DomainBits
-pub mod Lender
-pub mod Middle
 pub mod OneBit
-pub mod PartLender
-pub mod Steps
-pub mod Through

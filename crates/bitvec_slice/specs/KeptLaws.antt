@@ -11,7 +11,7 @@ use Rattle.bitvec_base.specs.declared.order.BitOrder.{Ghosts as Order}
 use Rattle.bitvec_base.specs.WriteLaws.{length-slice_range}
 use Rattle.bitvec_slice.specs.Kept.{KeepsOutside}
 use Rattle.bitvec_slice.specs.Lending.{with_elements}
-use Rattle.bitvec_slice.specs.Refill.{with_range}
+use Rattle.bitvec_lending.specs.Refill.{with_range}
 use Rattle.bitvec_slice.specs.Touched.{end_touched, first_touched}
 use Rattle.bitvec_slice.specs.TouchedLaws.{touches}
 use Rattle.bitvec_slice.specs.Views.{seen_mut}
@@ -28,6 +28,12 @@ pub with_range-keeps : {X : Type 0} (xs ws : List X) (start end : ℕ) → start
 with_range-keeps xs ws start end order bound =
     let mid = slice_range xs start end in
     put-keeps xs (refill (length mid) mid ws) start end order bound (sym (length_refill (length mid) mid ws refl) ∙ length-slice_range xs start end bound)
+
+-- so does a borrowed slice that ends as that list, whatever was left in the range
+pub refilled-keeps : {X : Type 0} (xs ws : List X) (start end : ℕ) → start ≤ end → end ≤ length xs → KeepsOutside start end xs (refill (length xs) xs (with_range xs start end ws))
+refilled-keeps {X} xs ws start end order bound =
+    let kept = with_range-keeps xs ws start end order bound in
+    subst (λ (ys : List X). KeepsOutside start end xs ys) (sym (take_at (with_range xs start end ws) (drop (length (with_range xs start end ws)) xs) (length xs) kept.length)) kept
 
 -- a value outside is as before
 pub kept-at : {X : Type 0} {start end : ℕ} {old new : List X} (i : ℕ) (d : X) → KeepsOutside start end old new → (i < start) ⊎ (end ≤ i) → slice_index_or new i d ≡ slice_index_or old i d
@@ -52,10 +58,7 @@ module _ {T O : Type 0} {t : Store T} {o : Order O} (v : BitSliceMut T O t o) wh
   -- what a view ends as after a lend of its elements from `start` up to `end`, whatever was left in those
   pub lent-keeps : (start end : ℕ) (ws : List T) → start ≤ end → end ≤ length (seen_mut v).elements
       → KeepsOutside start end (seen_mut v).elements (seen_mut (with_elements v (with_range (seen_mut v).elements start end ws))).elements
-  lent-keeps start end ws order bound =
-      let xs = (seen_mut v).elements in
-      let kept = with_range-keeps xs ws start end order bound in
-      subst (λ (ys : List T). KeepsOutside start end xs ys) (sym (take_at (with_range xs start end ws) (drop (length (with_range xs start end ws)) xs) (length xs) kept.length)) kept
+  lent-keeps start end ws order bound = refilled-keeps (seen_mut v).elements ws start end order bound
 
   -- the same of a lend of its bits from `from` up to `to`, which stand at the places from `start` up to `end`
   pub lent_bits-keep : (from to start end : ℕ) (ws : List T) → 0 < t.BITS → from ≤ to → to ≤ (seen_mut v).window.len → (seen_mut v).window.start + from ≡ start → (seen_mut v).window.start + to ≡ end

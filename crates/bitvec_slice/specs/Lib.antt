@@ -5,11 +5,12 @@ pub mod Indices
 pub mod Kept
 pub mod KeptLaws
 pub mod Lending
-pub mod Refill
 pub mod Seen
 pub mod SeenLaws
 pub mod Touched
 pub mod TouchedLaws
 pub mod Views
+pub mod WalkLaws
+pub mod Walks
 pub mod WriteLaws
 pub mod Writes

@@ -55,7 +55,7 @@ pub(crate) fn bit_domain_of<T: BitStore, O: BitOrder>(
     requires window { HasWindow T.BITS (map T.value cells.now) window }
     ensures { views_of result ≡ views_in T.BITS O.at T.value cells.now (cut_of T.BITS window) }
 {
-    match Cut::of(T::BITS as usize, window) {
+    match Cut::of_elements(cells, window) {
         Cut::Inside(part) => BitDomain::Enclave(part_view(cells, part)),
         Cut::Across {
             head,
@@ -100,7 +100,7 @@ pub(crate) fn bit_domain_mut_of<T: BitStore, O: BitOrder>(
     requires window { HasWindow T.BITS (map T.value cells.old) window }
     ensures { views_of_mut result ≡ views_in T.BITS O.at T.value cells.old (cut_of T.BITS window) }
 {
-    match Cut::of(T::BITS as usize, window) {
+    match Cut::of_elements(cells, window) {
         Cut::Inside(part) => BitDomainMut::Enclave(part_view_mut(cells, 0, part)),
         Cut::Across {
             head,

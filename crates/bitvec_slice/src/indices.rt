@@ -1,7 +1,7 @@
 //! Indices of a view, and ranges of them.
 ghost use Rattle.std.specs.Prelude.{◌≡◌, ◌+◌, ◌<◌, false, slice_index_or};
 
-use crate::touched::touched;
+use crate::touching::touched;
 use crate::{BitRef, BitRefMut, BitSlice, BitSliceIndex, BitSliceMut};
 use bitvec_base::BitOrder;
 use bitvec_elements::bit_in;
@@ -127,8 +127,10 @@ impl<'a, T: BitStore, O: BitOrder> BitSliceMut<'a, T, O> {
         self.into_part(index..index + 1).into_reference()
     }
 
-    /// The bit of a view that has just one.
-    fn into_reference(self) -> BitRefMut<'a, T, O>
+    /// The bit of a view that has just one, for a call of a crate above. Condition: it has one. The crate
+    /// has no such call.
+    #[doc(hidden)]
+    pub fn into_reference(self) -> BitRefMut<'a, T, O>
         requires { (seen_mut self).window.len ≡ 1 }
         ensures bit { bit_of_ref_mut result ≡ slice_index_or (seen_mut self.entry).bits 0 false }
         ensures place { place_of_ref_mut result ≡ (seen_mut self.entry).window.start }

@@ -2,6 +2,7 @@
 ghost use Rattle.std.specs.Prelude.{◌≡◌, ◌+◌, ◌%◌, ◌<◌, ◌≤◌, ◌↔◌, IfSome, IsSome};
 
 use crate::BitSliceMut;
+use crate::touching::touched;
 use bitvec_base::BitOrder;
 use bitvec_store::BitStore;
 
@@ -55,16 +56,15 @@ impl<'a, T: BitStore, O: BitOrder> BitSliceMut<'a, T, O> {
         ensures rest { IsRangeOf T.BITS (seen_mut self.entry) mid (seen_mut self.entry).window.len (seen_mut result.1) }
     {
         let window = self.window();
-        let bits = T::BITS as usize;
-        let first = window.start / bits;
-        let edge = (window.start + mid) / bits;
-        let end = (window.start + window.len).div_ceil(bits);
-        let (front, rest) = self.into_elements().split_at_mut(edge);
-        let front = &mut front[first..];
-        let rest = &mut rest[..end - edge];
+        let middle = window.start + mid;
+        let front = touched::<T>(window.start, middle);
+        let rest = touched::<T>(middle, window.start + window.len);
+        let (before, after) = self.into_elements().split_at_mut(rest.start);
+        let before = &mut before[front.start..];
+        let after = &mut after[..rest.end - rest.start];
         (
-            BitSliceMut::from_parts(front, window.start % bits, mid),
-            BitSliceMut::from_parts(rest, 0, window.len - mid),
+            BitSliceMut::from_parts(before, window.start % (T::BITS as usize), mid),
+            BitSliceMut::from_parts(after, 0, window.len - mid),
         )
     }
 }

@@ -36,4 +36,23 @@ impl<'a, T: BitStore, O: SliceOrder> BitSliceMut<'a, T, O> {
             other_window,
         );
     }
+
+    /// The old name of [`BitSliceMut::copy_from_bitslice`].
+    #[deprecated]
+    pub fn copy_from_slice(&mut self, src: BitSlice<'_, T, O>)
+        requires { (seen_mut self.old).window.len ≡ (seen src).window.len }
+        ensures { WritesBits self.old self.new (seen src.entry).bits }
+    {
+        self.copy_from_bitslice(src);
+    }
+
+    /// The old name of [`BitSliceMut::swap_with_bitslice`].
+    #[deprecated]
+    pub fn swap_with_slice(&mut self, other: &mut BitSliceMut<'_, T, O>)
+        requires { (seen_mut self.old).window.len ≡ (seen_mut other.old).window.len }
+        ensures bits { WritesBits self.old self.new (seen_mut other.old).bits }
+        ensures other_bits { WritesBits other.old other.new (seen_mut self.old).bits }
+    {
+        self.swap_with_bitslice(other);
+    }
 }

@@ -3,7 +3,7 @@ ghost use Rattle.std.specs.Prelude.{◌≡◌, ◌+◌, ◌*◌, ◌≤◌, ◌=
 ghost use Rattle.bitvec_base.specs.Window.{max_bits};
 
 use crate::bit_domain::bit_domain_of;
-use crate::touched::touched;
+use crate::touching::touched;
 use crate::{BitDomain, Domain};
 use bitvec_base::{BitOrder, MAX_BITS, Window};
 use bitvec_domain::domain_of;
@@ -64,7 +64,10 @@ impl<'a, T: BitStore, O: BitOrder> BitSlice<'a, T, O> {
         BitSlice::from_parts(elements, 0, len)
     }
 
-    pub(crate) fn from_parts(elements: &'a [T], head: usize, len: usize) -> Self
+    /// A view of some of the elements' bits, for a call of a crate above. Conditions: they have them, and
+    /// are at most `MAX_BITS` bits. The crate has no such call.
+    #[doc(hidden)]
+    pub fn from_parts(elements: &'a [T], head: usize, len: usize) -> Self
         requires inside { head + len ≤ T.BITS * length elements.now }
         requires bounded { T.BITS * length elements.now ≤ max_bits }
         ensures { seen result ≡ shown T.BITS O.at T.value elements.now head len }

@@ -3,7 +3,7 @@ ghost use Rattle.std.specs.Prelude.{◌≡◌, ◌+◌, ◌*◌, ◌≤◌, ◌=
 ghost use Rattle.bitvec_base.specs.Window.{max_bits};
 
 use crate::bit_domain::bit_domain_mut_of;
-use crate::touched::touched;
+use crate::touching::touched;
 use crate::{BitDomain, BitDomainMut, BitSlice, Domain, DomainMut};
 use bitvec_base::{BitOrder, Window};
 use bitvec_domain::domain_mut_of;
@@ -58,7 +58,10 @@ impl<'a, T: BitStore, O: BitOrder> BitSliceMut<'a, T, O> {
         BitSliceMut::from_parts(elements, 0, len)
     }
 
-    pub(crate) fn from_parts(elements: &'a mut [T], head: usize, len: usize) -> Self
+    /// A view of some of the elements' bits, for a call of a crate above. Conditions: they have them, and
+    /// are at most `MAX_BITS` bits. The crate has no such call.
+    #[doc(hidden)]
+    pub fn from_parts(elements: &'a mut [T], head: usize, len: usize) -> Self
         requires inside { head + len ≤ T.BITS * length elements.old }
         requires bounded { T.BITS * length elements.old ≤ max_bits }
         ensures view { seen_mut result ≡ shown T.BITS O.at T.value elements.old head len }

@@ -24,15 +24,6 @@ pub fn ones_before<T: BitStore, O: SliceOrder>(
     }
 }
 
-/// How many bits are 1, counted in two halves. Condition: `mid` is at most the view's length.
-pub fn ones_by_halves<T: BitStore, O: SliceOrder>(view: BitSlice<'_, T, O>, mid: usize) -> usize
-    requires { mid ≤ (seen view).window.len }
-    ensures { result ≡ count_by (λ bit. bit) (seen view.entry).bits }
-{
-    let (left, right) = view.split_at(mid);
-    left.count_ones() + right.count_ones()
-}
-
 /// The bit at an index of a writable view, read through a reference that could write it.
 pub fn bit_at<T: BitStore, O: BitOrder>(
     view: &mut BitSliceMut<'_, T, O>,

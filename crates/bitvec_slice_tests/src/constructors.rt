@@ -1,34 +1,42 @@
 //! Views that are made of no element, of one, and of slices of any length.
-use bitvec_base::{HiLo, Lsb0, Msb0};
+ghost use Rattle.bitvec_slice.specs.Seen.{CoversElements};
+ghost use Rattle.bitvec_slice.specs.Views.{seen, seen_mut};
+
+use bitvec_base::{BitOrder, HiLo, Lsb0, Msb0};
 use bitvec_edit::BitEdits;
 use bitvec_engine::SliceOrder;
 use bitvec_query::BitQueries;
 use bitvec_slice::{BitSlice, BitSliceMut, from_mut, from_ref};
 use bitvec_store::BitStore;
 
-#[test]
-fn an_empty_view_has_no_bit(rt: HostRuntime) {
-    let view = BitSlice::<u8, Lsb0>::empty();
-    assert_eq!(rt; view.len(), 0);
-    assert_eq!(rt; view.into_slice().len(), 0);
-    let view: BitSlice<'_, u64, Msb0> = Default::default();
-    assert_eq!(rt; view.len(), 0);
-    let view = BitSliceMut::<u16, Msb0>::empty_mut();
-    assert_eq!(rt; view.len(), 0);
-    assert_eq!(rt; view.into_slice().len(), 0);
-    let view: BitSliceMut<'_, u32, HiLo> = Default::default();
-    assert_eq!(rt; view.len(), 0);
+/// How many bits a view has, and how many elements.
+fn sizes<T: BitStore, O: BitOrder>(view: BitSlice<'_, T, O>) -> (usize, usize)
+    requires { CoversElements T.BITS (seen view) }
+{
+    (view.len(), view.into_slice().len())
+}
+
+/// The same of a writable view.
+fn sizes_of_writable<T: BitStore, O: BitOrder>(view: BitSliceMut<'_, T, O>) -> (usize, usize)
+    requires { CoversElements T.BITS (seen_mut view) }
+{
+    (view.len(), view.into_slice().len())
 }
 
 #[test]
-fn a_slice_of_no_elements_is_viewed(rt: HostRuntime) {
-    let mut none: [u8; 0] = [];
-    assert_eq!(rt; BitSlice::<u8, Lsb0>::from_slice(&none).len(), 0);
-    assert_eq!(rt; BitSlice::<u8, Lsb0>::from_slice_unchecked(&none).len(), 0);
-    let view = BitSlice::<u8, Lsb0>::try_from_slice(&none);
-    assert!(rt; view.is_ok());
-    let view = BitSliceMut::<u8, Lsb0>::try_from_slice_mut(&mut none);
-    assert!(rt; view.is_ok());
+fn an_empty_view_has_no_bit(rt: HostRuntime) {
+    assert_eq!(rt; sizes(BitSlice::<u8, Lsb0>::empty()), (0, 0));
+    assert_eq!(rt; sizes(BitSlice::<u64, Msb0>::default()), (0, 0));
+    assert!(rt; BitSlice::<u8, Lsb0>::empty().is_empty());
+    assert!(rt; BitSliceMut::<u8, Lsb0>::empty_mut().is_empty());
+    assert_eq!(rt;
+        sizes_of_writable(BitSliceMut::<u16, Msb0>::empty_mut()),
+        (0, 0)
+    );
+    assert_eq!(rt;
+        sizes_of_writable(BitSliceMut::<u32, HiLo>::default()),
+        (0, 0)
+    );
 }
 
 #[test]
@@ -77,15 +85,31 @@ fn an_element_is_written_through_its_view(rt: HostRuntime) {
     assert_eq!(rt; wide, 0x8000_0000_0000_0001);
 }
 
+/// How many bits a view has and where the last one is, if it was made.
+fn found<T: BitStore, O: SliceOrder, E: Drop>(
+    view: Result<BitSlice<'_, T, O>, E>,
+) -> Option<(usize, Option<usize>)> {
+    match view {
+        Ok(view) => Some((view.len(), view.last_one())),
+        Err(_) => None,
+    }
+}
+
 #[test]
 fn a_slice_that_is_short_enough_is_viewed(rt: HostRuntime) {
     let cells = [0x0Fu8, 0x01];
     let view = BitSlice::<u8, Lsb0>::try_from_slice(&cells);
-    assert!(rt; view.is_ok_and(|view| view.len() == 16 && view.count_ones() == 5));
-    let view = BitSlice::<u8, Lsb0>::from_slice_unchecked(&cells);
-    assert_eq!(rt; (view.len(), view.last_one()), (16, Some(8)));
+    assert_eq!(rt; found(view), Some((16, Some(8))));
     let view: Result<BitSlice<'_, u8, Msb0>, &[u8]> = BitSlice::try_from(&cells[..]);
-    assert!(rt; view.is_ok_and(|view| view.len() == 16 && view.last_one() == Some(15)));
+    assert_eq!(rt; found(view), Some((16, Some(15))));
+    let none: [u8; 0] = [];
+    let view = BitSlice::<u8, Lsb0>::try_from_slice(&none);
+    assert_eq!(rt; found(view), Some((0, None)));
+    assert_eq!(rt;
+        sizes(BitSlice::<u8, Lsb0>::from_slice_unchecked(&cells)),
+        (16, 2)
+    );
+    assert_eq!(rt; sizes(BitSlice::<u8, Lsb0>::from_slice(&none)), (0, 0));
 }
 
 /// Fills the elements with ones, if they can be viewed.

@@ -2,28 +2,21 @@
 ghost use Rattle.std.specs.Prelude.{◌*◌, ◌≤◌, length};
 ghost use Rattle.bitvec_base.specs.Window.{max_bits};
 
+use crate::parts::Parts;
 use bitvec_base::{BitOrder, Lsb0, Msb0};
 use bitvec_slice::{BitSlice, BitSliceMut, Domain, DomainMut};
 use bitvec_store::BitStore;
 use std::test::Fail;
 
-/// Which of a domain's parts there are.
-#[derive(Clone, Copy, PartialEq, Eq, Debug)]
-enum Parts {
-    Enclave,
-    Region(bool, usize, bool),
-    Missing,
-}
-
-/// The parts of a range of the elements' bits, with the number of whole elements.
+/// How many elements each part of a range of the elements' bits touches.
 fn parts_of<T: BitStore, O: BitOrder>(elements: &[T], from: usize, to: usize) -> Parts
     requires { T.BITS * length elements.now ≤ max_bits }
 {
     match BitSlice::<T, O>::from_slice(elements).get(from..to) {
         Some(range) => match range.domain() {
-            Domain::Enclave(_) => Parts::Enclave,
+            Domain::Enclave(_) => Parts::Enclave(1),
             Domain::Region { head, body, tail } => {
-                Parts::Region(head.is_some(), body.len(), tail.is_some())
+                Parts::Region(head.is_some() as usize, body.len(), tail.is_some() as usize)
             }
         },
         None => Parts::Missing,
@@ -107,37 +100,21 @@ fn an_enclave_stores_and_inverts_its_bits_alone(rt: HostRuntime) {
 #[test]
 fn each_case_of_a_domain(rt: HostRuntime) {
     let cells = [0u32; 3];
-    assert_eq!(rt;
-        parts_of::<u32, Msb0>(&cells, 2, 94),
-        Parts::Region(true, 1, true)
-    );
-    assert_eq!(rt; parts_of::<u32, Msb0>(&cells, 34, 62), Parts::Enclave);
-    assert_eq!(rt;
-        parts_of::<u32, Msb0>(&cells, 2, 32),
-        Parts::Region(true, 0, false)
-    );
-    assert_eq!(rt;
-        parts_of::<u32, Msb0>(&cells, 0, 30),
-        Parts::Region(false, 0, true)
-    );
-    assert_eq!(rt;
-        parts_of::<u32, Msb0>(&cells, 32, 64),
-        Parts::Region(false, 1, false)
-    );
-    assert_eq!(rt;
-        parts_of::<u32, Msb0>(&cells, 5, 5),
-        Parts::Region(false, 0, false)
-    );
-    assert_eq!(rt;
-        parts_of::<u32, Msb0>(&cells, 96, 96),
-        Parts::Region(false, 0, false)
-    );
-    assert_eq!(rt; parts_of::<u32, Msb0>(&cells, 95, 97), Parts::Missing);
-    let none: [u8; 0] = [];
-    assert_eq!(rt;
-        parts_of::<u8, Lsb0>(&none, 0, 0),
-        Parts::Region(false, 0, false)
-    );
+    for (from, to, parts) in [
+        (2, 94, Parts::Region(1, 1, 1)),
+        (34, 62, Parts::Enclave(1)),
+        (2, 32, Parts::Region(1, 0, 0)),
+        (0, 30, Parts::Region(0, 0, 1)),
+        (32, 64, Parts::Region(0, 1, 0)),
+        (5, 5, Parts::Region(0, 0, 0)),
+        (96, 96, Parts::Region(0, 0, 0)),
+        (95, 97, Parts::Missing),
+    ] {
+        assert!(rt;
+            parts_of::<u32, Msb0>(&cells, from, to) == parts,
+            "{from} {to}"
+        );
+    }
 }
 
 #[test]
@@ -152,15 +129,23 @@ fn parts_are_written_where_they_were(rt: HostRuntime) {
     assert_eq!(rt; cells, [0x58, 0x5A, 0x0A]);
 }
 
+/// The whole elements of a domain that has no parts of elements.
+fn whole_elements<'a, T: BitStore, O: BitOrder>(domain: Domain<'a, T, O>) -> Option<&'a [T]> {
+    match domain {
+        Domain::Region {
+            head: None,
+            body,
+            tail: None,
+        } => Some(body),
+        _ => None,
+    }
+}
+
 #[test]
-fn a_writable_view_shows_its_elements(rt: HostRuntime) {
+fn a_writable_view_shows_its_elements(rt: HostRuntime) -> Result<(), Fail> {
     let mut cells = [0u8, 0xFF, 0];
     let view = BitSliceMut::<u8, Msb0>::from_slice_mut(&mut cells);
-    match view.domain() {
-        Domain::Region { head, body, tail } => {
-            assert!(rt; head.is_none() && tail.is_none());
-            assert_eq!(rt; body, [0, 0xFF, 0].as_slice());
-        }
-        Domain::Enclave(_) => assert!(rt; false, "whole elements are no enclave"),
-    }
+    let body = whole_elements(view.domain()).ok_or("parts of elements")?;
+    assert_eq!(rt; body, [0, 0xFF, 0].as_slice());
+    Ok(())
 }

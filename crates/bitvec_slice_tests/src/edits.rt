@@ -70,31 +70,6 @@ fn not_twice(rt: HostRuntime) {
 }
 
 #[test]
-fn a_view_of_no_elements_has_no_bit(rt: HostRuntime) {
-    let none: [u16; 0] = [];
-    let view = BitSlice::<u16, Lsb0>::from_slice(&none);
-    assert_eq!(rt; view.len(), 0);
-    assert!(rt; view.is_empty());
-    assert_eq!(rt; view.count_ones(), 0);
-    assert_eq!(rt; view.count_zeros(), 0);
-    assert!(rt; view.get(0..0).is_some());
-    assert!(rt; view.get(0..1).is_none());
-}
-
-#[test]
-fn a_range_is_there_exactly_where_the_view_has_it(rt: HostRuntime) {
-    let cells = [0xF0u8, 0x0F];
-    let view = BitSlice::<u8, Lsb0>::from_slice(&cells);
-    assert!(rt; view.get(0..16).is_some());
-    assert!(rt; view.get(16..16).is_some());
-    assert!(rt; view.get(16..17).is_none());
-    assert!(rt; view.get(9..8).is_none());
-    assert!(rt; view.get(17..17).is_none());
-    let part = view.get(4..12);
-    assert!(rt; part.is_some_and(|part| part.len() == 8 && part.count_ones() == 8));
-}
-
-#[test]
 fn the_constants_are_the_crates(rt: HostRuntime) {
     assert_eq!(rt; BitSlice::<u8, Lsb0>::MAX_BITS, 0x1FFF_FFFF_FFFF_FFFF);
     assert_eq!(rt; BitSlice::<u8, Lsb0>::MAX_ELTS, 0x0400_0000_0000_0001);

@@ -23,28 +23,39 @@ fn read_pair<T: BitStore, O: SliceOrder>(
     }
 }
 
+/// The ends of a view, and what is split off at them.
+type Ends = ([Option<bool>; 2], [Option<(bool, usize, usize)>; 2]);
+
+fn ends<T: BitStore, O: SliceOrder>(view: BitSlice<'_, T, O>) -> Ends {
+    (
+        [read(view.first()), read(view.last())],
+        [read_pair(view.split_first()), read_pair(view.split_last())],
+    )
+}
+
+fn ends_of_writable<T: BitStore, O: SliceOrder>(view: &BitSliceMut<'_, T, O>) -> Ends {
+    (
+        [read(view.first()), read(view.last())],
+        [read_pair(view.split_first()), read_pair(view.split_last())],
+    )
+}
+
 #[test]
 fn ends_of_three_bits(rt: HostRuntime) {
     let cells = [0xF9u8];
-    let view = BitSlice::<u8, Lsb0>::from_slice(&cells).split_at(3).0;
-    assert_eq!(rt; read(view.first()), Some(true));
-    assert_eq!(rt; read(view.last()), Some(false));
-    assert_eq!(rt; read_pair(view.split_first()), Some((true, 2, 0)));
-    assert_eq!(rt; read_pair(view.split_last()), Some((false, 2, 1)));
+    let view = BitSlice::<u8, Lsb0>::from_slice(&cells).into_part(0..3);
+    let wanted = [Some((true, 2, 0)), Some((false, 2, 1))];
+    assert_eq!(rt; ends(view), ([Some(true), Some(false)], wanted));
 }
 
 #[test]
 fn an_empty_view_has_no_ends(rt: HostRuntime) {
-    let view = BitSlice::<u16, Msb0>::empty();
-    assert_eq!(rt; read(view.first()), None);
-    assert_eq!(rt; read(view.last()), None);
-    assert_eq!(rt; read_pair(view.split_first()), None);
-    assert_eq!(rt; read_pair(view.split_last()), None);
+    assert_eq!(rt;
+        ends(BitSlice::<u16, Msb0>::empty()),
+        ([None; 2], [None; 2])
+    );
     let mut view = BitSliceMut::<u16, Msb0>::empty_mut();
-    assert_eq!(rt; read(view.first()), None);
-    assert_eq!(rt; read(view.last()), None);
-    assert_eq!(rt; read_pair(view.split_first()), None);
-    assert_eq!(rt; read_pair(view.split_last()), None);
+    assert_eq!(rt; ends_of_writable(&view), ([None; 2], [None; 2]));
     assert!(rt; view.first_mut().is_none());
     assert!(rt; view.last_mut().is_none());
 }
@@ -53,10 +64,11 @@ fn an_empty_view_has_no_ends(rt: HostRuntime) {
 fn ends_of_a_writable_view(rt: HostRuntime) {
     let mut cells = [0x80u8, 0x10];
     let view = BitSliceMut::<u8, Msb0>::from_slice_mut(&mut cells);
-    assert_eq!(rt; read(view.first()), Some(true));
-    assert_eq!(rt; read(view.last()), Some(false));
-    assert_eq!(rt; read_pair(view.split_first()), Some((true, 15, 1)));
-    assert_eq!(rt; read_pair(view.split_last()), Some((false, 15, 2)));
+    let wanted = [Some((true, 15, 1)), Some((false, 15, 2))];
+    assert_eq!(rt;
+        ends_of_writable(&view),
+        ([Some(true), Some(false)], wanted)
+    );
 }
 
 /// Flips the first and the last bit of an element.

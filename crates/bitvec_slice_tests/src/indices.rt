@@ -10,71 +10,15 @@ use bitvec_engine::SliceOrder;
 use bitvec_query::BitQueries;
 use bitvec_slice::{BitSlice, BitSliceIndex, BitSliceMut, Viewed, ViewedMut};
 use bitvec_store::BitStore;
-use std::test::Fail;
 
 /// How many bits a range has, and how many of them are 1.
-fn counts<T: BitStore, O: SliceOrder>(part: Option<BitSlice<'_, T, O>>) -> Option<(usize, usize)> {
+pub(crate) fn counts<T: BitStore, O: SliceOrder>(
+    part: Option<BitSlice<'_, T, O>>,
+) -> Option<(usize, usize)> {
     match part {
         Some(part) => Some((part.len(), part.count_ones())),
         None => None,
     }
-}
-
-#[test]
-fn ranges_that_are_there_and_that_are_not(rt: HostRuntime) -> Result<(), Fail> {
-    let cells = [0x12u8];
-    let view = BitSlice::<u8, Lsb0>::from_slice(&cells)
-        .get(..5)
-        .ok_or("no such bits")?;
-    assert_eq!(rt; view.len(), 5);
-    assert_eq!(rt; counts(view.get(5..5)), Some((0, 0)));
-    assert_eq!(rt; counts(view.get(5..=5)), None);
-    assert_eq!(rt; counts(view.get(2..=1)), None);
-    assert_eq!(rt; counts(view.get(10..12)), None);
-    assert_eq!(rt; counts(view.get(0..=usize::MAX)), None);
-    assert_eq!(rt; counts(view.get(..=usize::MAX)), None);
-    assert_eq!(rt; counts(view.get(usize::MAX..)), None);
-    assert_eq!(rt; counts(view.get(5..)), Some((0, 0)));
-    assert_eq!(rt; counts(view.get(6..)), None);
-    assert_eq!(rt; counts(view.get(..6)), None);
-    assert_eq!(rt; counts(view.get(..=5)), None);
-    assert_eq!(rt; view.get(5).is_none(), true);
-    let pair = view.get(1..=2).ok_or("no such bits")?;
-    assert_eq!(rt; (pair.len(), pair[0], pair[1]), (2, true, false));
-    Ok(())
-}
-
-#[test]
-fn each_kind_of_range_by_get(rt: HostRuntime) -> Result<(), Fail> {
-    let cells = [0x12u8];
-    let view = BitSlice::<u8, Lsb0>::from_slice(&cells)
-        .get(0..5)
-        .ok_or("no such bits")?;
-    assert_eq!(rt; counts(view.get(1..4)), Some((3, 1)));
-    assert_eq!(rt; counts(view.get(2..)), Some((3, 1)));
-    assert_eq!(rt; counts(view.get(..4)), Some((4, 1)));
-    assert_eq!(rt; counts(view.get(1..=4)), Some((4, 2)));
-    assert_eq!(rt; counts(view.get(..=1)), Some((2, 1)));
-    assert_eq!(rt; counts(view.get(..)), Some((5, 2)));
-    assert_eq!(rt; *view.get(4).ok_or("no such bit")?, true);
-    assert_eq!(rt; *view.get(3).ok_or("no such bit")?, false);
-    Ok(())
-}
-
-#[test]
-fn each_kind_of_range_by_index(rt: HostRuntime) {
-    let cells = [0x12u8];
-    let view = BitSlice::<u8, Lsb0>::from_slice(&cells);
-    assert_eq!(rt; (1..5).index(view).count_ones(), 2);
-    assert_eq!(rt; (2..).index(view).count_ones(), 1);
-    assert_eq!(rt; (..5).index(view).count_ones(), 2);
-    assert_eq!(rt; (1..=3).index(view).count_ones(), 1);
-    assert_eq!(rt; (..=3).index(view).count_ones(), 1);
-    assert_eq!(rt; (..).index(view).count_ones(), 2);
-    assert_eq!(rt; *4.index(view), true);
-    assert_eq!(rt; *view.get_unchecked(5), false);
-    assert_eq!(rt; view.get_unchecked(1..=1).count_ones(), 1);
-    assert_eq!(rt; (view[0], view[1], view[7]), (false, true, false));
 }
 
 /// Makes the bits of each kind of range 1, of those that the elements have.
@@ -97,20 +41,11 @@ fn fill<T: BitStore, O: SliceOrder>(elements: &mut [T], kind: usize)
 
 #[test]
 fn each_kind_of_range_by_get_mut(rt: HostRuntime) {
-    let mut cells = [0x00u8];
-    fill::<u8, Lsb0>(&mut cells, 0);
-    assert_eq!(rt; cells, [0x0C]);
-    fill::<u8, Lsb0>(&mut cells, 1);
-    assert_eq!(rt; cells, [0xCC]);
-    fill::<u8, Lsb0>(&mut cells, 2);
-    assert_eq!(rt; cells, [0xCD]);
-    fill::<u8, Lsb0>(&mut cells, 3);
-    assert_eq!(rt; cells, [0xFD]);
-    fill::<u8, Lsb0>(&mut cells, 4);
-    assert_eq!(rt; cells, [0xFF]);
-    let mut cells = [0x00u8];
-    fill::<u8, Lsb0>(&mut cells, 5);
-    assert_eq!(rt; cells, [0xFF]);
+    for (kind, after) in [0x0C, 0xC0, 0x01, 0x30, 0x07, 0xFF].into_iter().enumerate() {
+        let mut cells = [0x00u8];
+        fill::<u8, Lsb0>(&mut cells, kind);
+        assert_eq!(rt; cells, [after], "{kind}");
+    }
 }
 
 /// Makes the bits of a range 1 through the view, by value.
@@ -160,20 +95,13 @@ fn first_three<T: BitStore, O: BitOrder>(view: &BitSliceMut<'_, T, O>) -> (bool,
 #[test]
 fn each_kind_of_range_by_index_mut(rt: HostRuntime) {
     let mut cells = [0x00u8];
-    fill_some::<u8, Lsb0>(&mut cells, 0);
-    assert_eq!(rt; cells, [0x06]);
-    fill_some::<u8, Lsb0>(&mut cells, 1);
-    assert_eq!(rt; cells, [0x36]);
-    fill_some::<u8, Lsb0>(&mut cells, 2);
-    assert_eq!(rt; cells, [0x37]);
-    fill_some::<u8, Lsb0>(&mut cells, 3);
-    assert_eq!(rt; cells, [0xB7]);
-    fill_some::<u8, Lsb0>(&mut cells, 4);
-    assert_eq!(rt; cells, [0xBF]);
-    fill_some::<u8, Lsb0>(&mut cells, 5);
-    assert_eq!(rt; cells, [0x80]);
-    fill_some::<u8, Lsb0>(&mut cells, 6);
-    assert_eq!(rt; cells, [0xFF]);
+    for (kind, after) in [0x06, 0x36, 0x37, 0xB7, 0xBF, 0x80, 0xFF]
+        .into_iter()
+        .enumerate()
+    {
+        fill_some::<u8, Lsb0>(&mut cells, kind);
+        assert_eq!(rt; cells, [after], "{kind}");
+    }
 }
 
 #[test]
@@ -202,22 +130,23 @@ fn a_part_for_writing_leaves_the_others(rt: HostRuntime) {
     assert_eq!(rt; cells, [0xFF, 0x83]);
 }
 
+/// Where a range of three elements' bits stands among the elements that it keeps.
+fn place_of(from: usize, to: usize) -> Option<(usize, usize)> {
+    let cells = [0u8; 3];
+    let part = BitSlice::<u8, Lsb0>::from_slice(&cells).get(from..to)?;
+    let window = part.window();
+    Some((window.start, window.len))
+}
+
 #[test]
-fn a_view_says_where_it_stands(rt: HostRuntime) -> Result<(), Fail> {
+fn a_view_says_where_it_stands(rt: HostRuntime) {
+    for (from, to, place) in [(5, 17, (5, 12)), (13, 17, (5, 4)), (11, 11, (3, 0))] {
+        assert_eq!(rt; place_of(from, to), Some(place));
+    }
     let mut cells = [0u8; 3];
-    let all = BitSlice::<u8, Lsb0>::from_slice(&cells);
-    let part = all.get(5..17).ok_or("no such bits")?;
-    assert_eq!(rt; part.window(), Window { start: 5, len: 12 });
-    assert_eq!(rt; part.bit_len(), 12);
-    let later = all.get(13..17).ok_or("no such bits")?;
-    assert_eq!(rt; later.window(), Window { start: 5, len: 4 });
-    let nothing = part.get(6..6).ok_or("no such bits")?;
-    assert_eq!(rt; nothing.window(), Window { start: 3, len: 0 });
     let view = BitSliceMut::<u8, Lsb0>::from_slice_mut(&mut cells);
     assert_eq!(rt; view.window(), Window { start: 0, len: 24 });
-    assert_eq!(rt; view.as_ref().window(), Window { start: 0, len: 24 });
-    assert_eq!(rt; view.bit_len(), 24);
-    Ok(())
+    assert_eq!(rt; (view.bit_len(), view.as_ref().bit_len()), (24, 24));
 }
 
 #[test]

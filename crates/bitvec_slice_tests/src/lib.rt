@@ -3,7 +3,8 @@
 
 #[cfg(test)]
 mod bit_domains;
-pub mod callers;
+#[cfg(test)]
+mod callers;
 #[cfg(test)]
 mod constructors;
 #[cfg(test)]
@@ -17,10 +18,13 @@ mod equality;
 #[cfg(test)]
 mod indices;
 #[cfg(test)]
-mod own_order;
+mod parts;
+#[cfg(test)]
+mod ranges;
 #[cfg(test)]
 mod references;
-pub mod split_apart;
+#[cfg(test)]
+mod split_apart;
 #[cfg(test)]
 mod split_at;
 #[cfg(test)]

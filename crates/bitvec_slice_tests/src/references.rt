@@ -31,23 +31,22 @@ fn write_thrice<T: BitStore, O: BitOrder>(
 
 #[test]
 fn a_reference_writes_at_once(rt: HostRuntime) {
-    let mut cells = [0x00u8];
-    assert_eq!(rt;
-        write_thrice::<u8, Lsb0>(&mut cells, 2),
-        Some((false, true, false))
-    );
-    assert_eq!(rt; cells, [0x04]);
-    assert_eq!(rt;
-        write_thrice::<u8, Lsb0>(&mut cells, 2),
-        Some((true, true, false))
-    );
-    assert_eq!(rt; cells, [0x04]);
-    assert_eq!(rt; write_thrice::<u8, Lsb0>(&mut cells, 8), None);
+    for (byte, index, read, after) in [
+        (0x00, 2, Some((false, true, false)), 0x04),
+        (0x04, 2, Some((true, true, false)), 0x04),
+        (0x04, 8, None, 0x04),
+    ] {
+        let mut cells = [byte];
+        assert_eq!(rt; write_thrice::<u8, Lsb0>(&mut cells, index), read);
+        assert_eq!(rt; cells, [after]);
+    }
+}
+
+#[test]
+fn a_reference_stands_where_the_order_says(rt: HostRuntime) {
     let mut cells = [0xFFFFu16, 0];
-    assert_eq!(rt;
-        write_thrice::<u16, Msb0>(&mut cells, 17),
-        Some((false, true, false))
-    );
+    let read = write_thrice::<u16, Msb0>(&mut cells, 17);
+    assert_eq!(rt; read, Some((false, true, false)));
     assert_eq!(rt; cells, [0xFFFF, 0x4000]);
 }
 
@@ -82,9 +81,7 @@ fn a_shared_reference_is_copied(rt: HostRuntime) -> Result<(), Fail> {
     let cells = [0x12u8];
     let view = BitSlice::<u8, Lsb0>::from_slice(&cells);
     let one = view.get(1).ok_or("no such bit")?;
-    let zero = view.get(2).ok_or("no such bit")?;
-    assert_eq!(rt; (*one, *zero), (true, false));
-    assert_eq!(rt; (read_copy(&one), read_copy(&zero)), (true, false));
+    assert_eq!(rt; (*one, read_copy(&one)), (true, true));
     let again = one.clone()?;
     assert_eq!(rt; (*one, *again), (true, true));
     Ok(())

@@ -1,7 +1,6 @@
 //! Make, edit, lend, edit again and read back, over every element type and order.
-ghost use Rattle.std.specs.Prelude.{◌≡◌, ◌*◌, ◌≤◌, length, map, replicate};
-ghost use Rattle.bitvec_base.specs.Memory.{memory_bits};
-ghost use Rattle.bitvec_base.specs.Window.{max_bits, write_at};
+ghost use Rattle.std.specs.Prelude.{◌*◌, ◌≤◌, length};
+ghost use Rattle.bitvec_base.specs.Window.{max_bits};
 
 use bitvec_base::{HiLo, Lsb0, Msb0};
 use bitvec_edit::BitEdits;
@@ -29,37 +28,6 @@ pub fn edit_twice<T: BitStore, O: SliceOrder>(elements: &mut [T])
     if 6 < view.len() {
         view.set(6, false);
     }
-}
-
-/// Fills all bits of the elements, and gives them back.
-fn filled<T: BitStore, O: SliceOrder>(elements: &mut [T], bit: bool) -> &mut [T]
-    requires { T.BITS * length elements.old ≤ max_bits }
-    ensures bits { memory_bits T.BITS O.at (map T.value result.now)
-        ≡ write_at (memory_bits T.BITS O.at (map T.value elements.old)) 0 (replicate (T.BITS * length elements.old) bit) }
-    ensures name { result.ghost_name ≡ elements.entry.ghost_name }
-{
-    let mut view = BitSliceMut::<T, O>::from_slice_mut(elements);
-    view.fill(bit);
-    view.into_slice()
-}
-
-/// Fills all bits of the elements.
-fn fill_all<T: BitStore, O: SliceOrder>(elements: &mut [T], bit: bool)
-    requires { T.BITS * length elements.old ≤ max_bits }
-    ensures { memory_bits T.BITS O.at (map T.value elements.new)
-        ≡ write_at (memory_bits T.BITS O.at (map T.value elements.old)) 0 (replicate (T.BITS * length elements.old) bit) }
-{
-    let _elements = filled::<T, O>(elements, bit);
-}
-
-#[test]
-fn a_slice_is_given_back(rt: HostRuntime) {
-    let mut cells = [0u16, 7];
-    fill_all::<u16, HiLo>(&mut cells, true);
-    assert_eq!(rt; cells, [0xFFFF, 0xFFFF]);
-    let given = filled::<u16, Msb0>(&mut cells, false);
-    assert_eq!(rt; given.len(), 2);
-    assert_eq!(rt; cells, [0, 0]);
 }
 
 #[test]

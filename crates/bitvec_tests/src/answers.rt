@@ -153,17 +153,30 @@ pub fn there_and_back<T: BitStore, O: SliceOrder>(view: &mut BitSliceMut<'_, T, 
 }
 
 #[test]
-fn answers_are_known(rt: HostRuntime) {
+fn bits_are_written_and_read(rt: HostRuntime) {
     let mut cells = [0b0010_1100u8, 0b0000_0001];
     let mut view = BitSliceMut::<u8, Lsb0>::from_slice_mut(&mut cells);
     assert_eq!(rt; clear_last(&mut view), Some(8));
     assert_eq!(rt; write_and_read(&mut view, 0, 2, true), (true, true));
+    assert_eq!(rt; write_and_get(&mut view, 1, false, 16), None);
+    assert_eq!(rt; cells, [0b0010_1101, 0]);
+}
+
+#[test]
+fn bits_are_counted(rt: HostRuntime) {
+    let mut cells = [0b0010_1101u8, 0];
+    let mut view = BitSliceMut::<u8, Lsb0>::from_slice_mut(&mut cells);
     assert_eq!(rt; count_both(view.as_ref()), 16);
     assert_eq!(rt; count_parts(view.as_ref(), 3), 4);
-    there_and_back(&mut view, 5);
-    assert_eq!(rt; write_and_get(&mut view, 1, false, 16), None);
     assert_eq!(rt; move_and_count(&mut view, 7), (4, 12));
     assert_eq!(rt; flip_and_count(&mut view), 12);
+}
+
+#[test]
+fn views_are_filled_and_compared(rt: HostRuntime) {
+    let mut cells = [0b0010_1101u8, 0];
+    let mut view = BitSliceMut::<u8, Lsb0>::from_slice_mut(&mut cells);
+    there_and_back(&mut view, 5);
     assert_eq!(rt; fill_and_ask(&mut view), (16, None, None, true));
     let words = [0xFFFFu16];
     let other = BitSlice::<u16, Msb0>::from_slice(&words);

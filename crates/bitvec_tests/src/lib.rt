@@ -1,11 +1,21 @@
 //! Callers of `bitvec`, who depend on it alone: the blocks of docs/CALLING.md stand here.
 #![tactic(auto)]
 
-pub mod answers;
-pub mod device;
-pub mod filled;
-pub mod number_set;
-pub mod own_element;
-pub mod own_order;
-pub mod slots;
-pub mod transfers;
+#[cfg(test)]
+mod answers;
+#[cfg(test)]
+mod device;
+#[cfg(test)]
+mod filled;
+#[cfg(test)]
+mod guide;
+#[cfg(test)]
+mod number_set;
+#[cfg(test)]
+mod own_element;
+#[cfg(test)]
+mod own_order;
+#[cfg(test)]
+mod slots;
+#[cfg(test)]
+mod transfers;

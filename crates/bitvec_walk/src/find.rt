@@ -1,37 +1,27 @@
 //! Where a bit stands in a part of one element.
-ghost use Rattle.std.specs.Prelude.{◌≡◌, ℕ, ◌+◌, ◌-◌, ◌*◌, ◌<◌, ◌≤◌, Bool, true, false, not, List, length, replicate, slice_range, slice_index_or};
+ghost use Rattle.std.specs.Prelude.{◌≡◌, ℕ, ◌+◌, ◌-◌, ◌*◌, ◌^◌, ◌<◌, ◌≤◌, Bool, if◌then◌else◌, List, length, slice_range, bit_and};
 ghost use Rattle.bitvec_base.specs.Lists.{first_place, last_place};
 ghost use Rattle.bitvec_base.specs.Memory.{element_bits, list_in};
+ghost use Rattle.bitvec_base.specs.Order.{mask_of};
 ghost use Rattle.bitvec_base.specs.Parts.{HasPart, part_window};
 ghost use Rattle.bitvec_cells.specs.Access.{OnlyReads};
 
+use crate::part::masked;
 use bitvec_base::{BitOrder, Part};
 use bitvec_cells::CellsRead;
 use bitvec_store::BitStore;
 
-/// The bit at an index of an element.
-fn bit_of<O: BitOrder, T: BitStore>(element: T, index: usize) -> bool
-    requires { index < T.BITS }
-    ensures { result ≡ slice_index_or (element_bits T.BITS O.at (T.value element)) index false }
-{
-    element.and(O::select::<T>(index)).to_u128() != 0
-}
-
-/// Whether a part of an element has no bit that is `want`; where it may have one, the answer may be
-/// `false`.
-fn lacks<O: BitOrder, T: BitStore>(element: T, part: Part, want: bool) -> bool
+/// The element whose ones are the bits of a part that are `want`.
+fn sought<O: BitOrder, T: BitStore>(element: T, part: Part, want: bool) -> T
     requires order { part.from ≤ part.to }
     requires bound { part.to ≤ T.BITS }
-    ensures { result ≡ true → slice_range (element_bits T.BITS O.at (T.value element)) part.from part.to
-        ≡ replicate (part.to - part.from) (not want) }
+    ensures in_range { T.value element < 2 ^ T.BITS }
+    ensures value { T.value result ≡ bit_and (if want then T.value element else 2 ^ T.BITS - 1 - T.value element)
+        (mask_of (O.at T.BITS) part.from part.to) }
 {
-    let mask = O::mask::<T>(part.from, part.to);
-    let ones = element.and(mask).to_u128();
-    if want {
-        ones == 0
-    } else {
-        ones == mask.to_u128()
-    }
+    element.in_range();
+    let seen = if want { element } else { element.not() };
+    masked::<O, T>(seen, part)
 }
 
 /// The first place of a bit in a part of an element, counted from the start of the part. Condition:
@@ -46,15 +36,8 @@ pub fn first_in_element<O: BitOrder, T: BitStore>(
     ensures { result
         ≡ first_place want (slice_range (element_bits T.BITS O.at (T.value element)) part.from part.to) }
 {
-    if lacks::<O, T>(element, part, want) {
-        return None;
-    }
-    for index in part.from..part.to {
-        if bit_of::<O, T>(element, index) == want {
-            return Some(index - part.from);
-        }
-    }
-    None
+    let found = O::first_one::<T>(sought::<O, T>(element, part, want))?;
+    Some(found - part.from)
 }
 
 /// The last place of a bit in a part of an element, counted from the start of the part. Condition:
@@ -69,15 +52,8 @@ pub fn last_in_element<O: BitOrder, T: BitStore>(
     ensures { result
         ≡ last_place want (slice_range (element_bits T.BITS O.at (T.value element)) part.from part.to) }
 {
-    if lacks::<O, T>(element, part, want) {
-        return None;
-    }
-    for index in (part.from..part.to).rev() {
-        if bit_of::<O, T>(element, index) == want {
-            return Some(index - part.from);
-        }
-    }
-    None
+    let found = O::last_one::<T>(sought::<O, T>(element, part, want))?;
+    Some(found - part.from)
 }
 
 /// The first place of a bit in a part, counted from the start of the part. Condition: the part is

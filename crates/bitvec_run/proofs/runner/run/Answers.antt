@@ -3,8 +3,8 @@ use Rattle.bitvec_base.specs.Memory.{list_in, memory_bits}
 use Rattle.bitvec_base.specs.WritesLaws.{Writes-nothing}
 use Rattle.bitvec_run.specs.Costs.{place_of}
 use Rattle.bitvec_run.specs.FoldLaws.{costs-next, reads-next}
-use Rattle.bitvec_run.specs.Runs.{step_cost}
-use Rattle.bitvec_run.proofs.RunLemmas.{Ran-next, list-whole}
+use Rattle.bitvec_run.specs.Runs.{step_cost, step_outcome}
+use Rattle.bitvec_run.specs.RanLaws.{Ran-next, list-whole}
 use Rattle.bitvec_run.proofs.runner.run.Goals as goal
 
 pub loop-next-init : goal.loop-next-init
@@ -23,9 +23,9 @@ loop-next-preserved g c =
     let list = list_in g.C.Elem.BitStore.BITS g.O.BitOrder.at (g.C.CellsRead.numbers c.args.cells.now) c.args.window in
     let cost = step_cost right c.args.window.len (place_of g.C.Elem.BitStore.BITS g.O.SliceOrder.WORDS c.args.window) in
     let has = c.has_window.ensures.0 c.if-not-has_window.false in
-    let did = rw (c.whole-source.ensures, inv.right.numbers, list-whole g.C.Elem.BitStore.BITS g.O.BitOrder.at (g.D.CellsRead.numbers c.args.right.now)) at c.step.ensures in
+    let did = rw (c.whole-source.ensures, inv.right.numbers, list-whole g.C.Elem.BitStore.BITS g.O.BitOrder.at (g.D.CellsRead.numbers c.args.right.now)) at c.carry_out.ensures in
     record {
-      ran = rw c.push_reserved.ensures.items (Ran-next g.C.CellsRead _ _ _ right list c.args.steps.now _ _ _ _ _ _ _ _ has c.loop-next-test.true inv.ran did.left);
+      ran = rw c.push_reserved.ensures.items (Ran-next g.C.CellsRead (step_outcome right) _ _ _ list c.args.steps.now _ _ _ _ _ _ _ _ has c.loop-next-test.true inv.ran did.left);
       cost = costs-next g.C.CellsRead cost _ _ _ c.args.steps.now _ _ c.loop-next-test.true inv.cost did.left.cost;
       right = reads-next g.D.CellsRead cost _ _ _ c.args.steps.now _ _ c.loop-next-test.true inv.right did.right;
       count = search rules;

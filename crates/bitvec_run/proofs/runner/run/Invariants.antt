@@ -3,8 +3,8 @@ use Rattle.bitvec_base.specs.Memory.{list_in, memory_bits}
 use Rattle.bitvec_cells.specs.Access.{CostsAtMost, OnlyReadsAtMost}
 use Rattle.bitvec_run.specs.Costs.{place_of}
 use Rattle.bitvec_run.specs.Fold.{cost_of}
-use Rattle.bitvec_run.specs.Runs.{step_cost}
-use Rattle.bitvec_run.proofs.RunLemmas.{Ran}
+use Rattle.bitvec_run.specs.RanLaws.{Ran}
+use Rattle.bitvec_run.specs.Runs.{step_cost, step_outcome}
 use Rattle.bitvec_run.proofs.runner.run.Given as goal
 
 -- what is promised of all steps, of those so far
@@ -17,7 +17,7 @@ invariant-loop-next g l =
     let made = take l.next-index l.fn.steps in
     let spent = cost_of (step_cost right l.window.len (place_of b g.O.SliceOrder.WORDS l.window)) made in
     record {
-      ran : Ran g.C.CellsRead b place right (list_in b place before l.window) made l.window l.fn.cells l.cells l.replies.items;
+      ran : Ran g.C.CellsRead (step_outcome right) b place (list_in b place before l.window) made l.window l.fn.cells l.cells l.replies.items;
       cost : CostsAtMost g.C.CellsRead l.fn.cells l.cells spent.loads spent.stores;
       right : OnlyReadsAtMost g.D.CellsRead l.fn.right l.right spent.right_loads;
       count : vec_len l.replies ≡ l.next-index;

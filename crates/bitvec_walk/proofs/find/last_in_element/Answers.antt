@@ -1,31 +1,19 @@
-use Rattle.std.proofs.Common.{arith, sym, refl}
-use Rattle.bitvec_base.specs.MemoryLaws.{length-element_bits}
-use Rattle.bitvec_base.specs.PlacesLaws.{last_place-other}
-use Rattle.bitvec_base.specs.ScanLaws.{last-empty, last-here, last-not_here}
+use Rattle.std.proofs.Common.{arith, ◌∙◌}
+use Rattle.bitvec_walk.proofs.FindLemmas.{last-sought, last-sought_from, last-sought_none}
 use Rattle.bitvec_walk.proofs.find.last_in_element.Goals as goal
 
-pub returns-then-lacks : goal.returns-then-lacks
-returns-then-lacks g c = rw (c.lacks.ensures c.if-lacks.true, last_place-other c.args.want _) refl
+pub returns-in_err-found : goal.returns-in_err-found
+returns-in_err-found g c =
+    let width = g.met.T.BitStore.width_law in
+    c.from_residual.ensures ∙ last-sought_none g.T.BitStore.BITS g.O.BitOrder.at (g.met.O.BitOrder.permutes _ width) _ _ _ _ c.args.want c.requires.order c.requires.bound c.sought.ensures.in_range c.sought.ensures.value c.in_err-found.ensures
 
-pub loop-index-init : goal.loop-index-init
-loop-index-init g c = record {
-  low = omega arith;
-  high = omega arith;
-  none = last-empty c.args.want _ c.args.part.to;
-}
+pub overflow_sub-result : goal.overflow_sub-result
+overflow_sub-result g c =
+    let width = g.met.T.BitStore.width_law in
+    let from = last-sought_from g.T.BitStore.BITS g.O.BitOrder.at (g.met.O.BitOrder.permutes _ width) _ _ _ _ c.args.want c.requires.order c.requires.bound c.sought.ensures.in_range c.sought.ensures.value _ c.in_ok-found.ensures in
+    omega arith
 
-pub returns-then-bit_of-want : goal.returns-then-bit_of-want
-returns-then-bit_of-want g c =
-    let inv = c.loop-index.invariant in
-    let long = length-element_bits g.T.BitStore.BITS g.O.BitOrder.at (g.T.BitStore.value c.args.element) in
-    sym (last-here c.args.want _ c.args.part.from c.loop-index.index c.args.part.to (omega arith) (omega arith) (omega arith) inv.none _ c.bit_of.ensures c.if-bit_of-want.true)
-
-pub loop-index-preserved : goal.loop-index-preserved
-loop-index-preserved g c =
-    let inv = c.loop-index.invariant in
-    let long = length-element_bits g.T.BitStore.BITS g.O.BitOrder.at (g.T.BitStore.value c.args.element) in
-    record {
-      low = omega arith;
-      high = omega arith;
-      none = last-not_here c.args.want _ c.loop-index.index c.args.part.to (omega arith) (omega arith) (omega arith) inv.none _ c.bit_of.ensures c.if-bit_of-want.false;
-    }
+pub returns : goal.returns
+returns g c =
+    let width = g.met.T.BitStore.width_law in
+    last-sought g.T.BitStore.BITS g.O.BitOrder.at (g.met.O.BitOrder.permutes _ width) _ _ _ _ c.args.want c.requires.order c.requires.bound c.sought.ensures.in_range c.sought.ensures.value _ c.in_ok-found.ensures

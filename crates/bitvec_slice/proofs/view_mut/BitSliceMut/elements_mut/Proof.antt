@@ -1,7 +1,8 @@
 -- `elements_mut` lends what the view's first field points at, and the view follows it. Assumes `Logic`.
-use Rattle.bitvec_slice.proofs.Steps.{refl, [], ◌∷◌, full_share, a_type, dcons, dnil, erased, NamedLft, layout, bounded, copied, param, copied_laws, param_laws, part_apart}
-use Rattle.bitvec_slice.proofs.Through.{tail}
-use Rattle.bitvec_slice.proofs.Lender.{behind_ty, behind, lends_first}
+use Rattle.bitvec_lending.specs.Steps.{refl, [], ◌∷◌, full_share, a_type, dcons, dnil, erased, NamedLft, layout, bounded, copied, param, copied_laws, param_laws, part_apart}
+use Rattle.bitvec_lending.specs.Arity.{of_two}
+use Rattle.bitvec_lending.specs.Through.{tail}
+use Rattle.bitvec_lending.specs.Lender.{behind_ty, behind, lends_first}
 use Rattle.bitvec_slice.specs.Lending.{with_elements}
 use Rattle.bitvec_slice.specs.contracts.view_mut.BitSliceMut.{struct, the_type, the_row}
 use Rattle.bitvec_slice.specs.contracts.view_mut.BitSliceMut.elements_mut.Key.{name as #self}
@@ -16,7 +17,7 @@ elements_mut_spec 𝓤 𝓛 𝓜 𝓡 wired T O LT LO CT g gd c cd o od _ _ _ =
     let LX = copied_laws 0 T LT in
     let LY = param_laws 1 O LO in
     let N = λ (a : NamedLft). struct a X Y g o in
-    lends_first T O (N (record { mir = erased; lft = [] })).name (behind_ty (layout (the_row (record { mir = erased; lft = [] }) X Y g o)))
+    lends_first T (of_two T O) (N (record { mir = erased; lft = [] })).name (behind_ty (layout (the_row (record { mir = erased; lft = [] }) X Y g o)))
     (λ a. the_row a X Y g o) (λ a. (N a).args) (λ a. (N a).types) (λ a. tail (N a).parts)
     (λ a s. (N a).as_values s) (λ a. with_elements) (λ a. the_loose a X Y g o LX LY)
     (λ a s b e. part_apart (the_type a X Y g o) full_share s ((N a).as_values s) refl b e) (λ a s ws. refl)

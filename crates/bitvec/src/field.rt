@@ -1,0 +1,2 @@
+//! Integers in views.
+pub use bitvec_field::{BitField, BitFieldMut, FieldOrder, Integral};

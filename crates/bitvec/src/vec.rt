@@ -1,0 +1,2 @@
+//! Owned sequences of bits.
+pub use bitvec_owned::{BitVec, RepeatError, ToBitVec};

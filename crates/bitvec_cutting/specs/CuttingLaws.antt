@@ -1,0 +1,63 @@
+-- The pieces of a list lie in it, and there are no more of them than values.
+use Rattle.std.specs.Prelude.{ℕ, ◌+◌, ◌*◌, ◌<◌, ◌≤◌}
+use Rattle.std.proofs.Common.{arith}
+use Rattle.std.proofs.Math.Nat.{add-mul, div-le_self, div-mul-le_self, lt_of_mul-lt-mul_right, mul-le-mul_left, mul-le-mul_right}
+use Rattle.std.proofs.lemmas.Grind.{div_ceil_times}
+use Rattle.bitvec_cutting.specs.Cutting.{LiesIn, back_chunk, chunk, chunk_count, left_before, left_behind, whole_chunk, whole_count, window, window_count}
+
+module _ (width len : ℕ) (some : 0 < width) where
+  pub few_windows : window_count width len ≤ len
+  few_windows = omega arith
+
+  pub few_chunks : chunk_count width len ≤ len
+  few_chunks =
+      let end = div_ceil_times len width some in
+      let next = add-mul len 1 width in
+      let long = mul-le-mul_left {m = 1} {n = width} len some in
+      let below : chunk_count width len < len + 1 = lt_of_mul-lt-mul_right width (omega arith) in
+      omega arith
+
+  pub few_whole : whole_count width len ≤ len
+  few_whole = div-le_self len width
+
+  module _ (number : ℕ) where
+    pub window_inside : number < window_count width len → LiesIn len (window width len number)
+    window_inside below = omega arith
+
+    -- each chunk begins in the list
+    pub begins : number < chunk_count width len → number * width < len
+    begins below =
+        let end = div_ceil_times len width some in
+        let up = mul-le-mul_right {m = number + 1} {n = chunk_count width len} width (omega arith) in
+        let next = add-mul number 1 width in
+        omega arith
+
+    pub chunk_inside : number < chunk_count width len → LiesIn len (chunk width len number)
+    chunk_inside below =
+        let start = begins below in
+        let next = add-mul number 1 width in
+        omega arith
+
+    -- each whole chunk ends in it
+    pub ends : number < whole_count width len → (number + 1) * width ≤ len
+    ends below =
+        let end = div-mul-le_self len width in
+        let up = mul-le-mul_right {m = number + 1} {n = whole_count width len} width (omega arith) in
+        omega arith
+
+    pub whole_inside : number < whole_count width len → LiesIn len (whole_chunk width len number)
+    whole_inside below =
+        let end = ends below in
+        let next = add-mul number 1 width in
+        omega arith
+
+    pub back_inside : LiesIn len (back_chunk width len number)
+    back_inside =
+        let next = add-mul number 1 width in
+        omega arith
+
+  pub behind_inside : LiesIn len (left_behind width len)
+  behind_inside = omega arith
+
+  pub before_inside : LiesIn len (left_before width len)
+  before_inside = omega arith

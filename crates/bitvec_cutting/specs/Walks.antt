@@ -1,0 +1,29 @@
+-- A walk over numbered pieces: those of an interval of numbers, that are still to come.
+use Rattle.std.specs.Prelude.{ℕ, ◌-◌, List, length, map}
+use Rattle.std.specs.List.{range_with_len}
+use Rattle.std.specs.declared.ops.Range.{Range}
+use Rattle.bitvec_cutting.specs.Cutting.{back_chunk, chunk, chunk_count, cut, whole_chunk, whole_count, window, window_count}
+
+-- the pieces with the numbers from `front` up to, without, `back`
+unfoldable pub walk : {X : Type 0} → (ℕ → X) → ℕ → ℕ → List X
+walk piece front back = map piece (range_with_len front (back - front))
+
+-- all pieces of a list that is cut so
+abbrev pub cut_all : {X : Type 0} → (ℕ → ℕ) → (ℕ → ℕ → Range ℕ) → List X → List (List X)
+cut_all pieces place xs = walk (λ number. cut xs (place (length xs) number)) 0 (pieces (length xs))
+
+module _ {X : Type 0} (width : ℕ) where
+  abbrev pub windows_of : List X → List (List X)
+  windows_of = cut_all (window_count width) (window width)
+
+  abbrev pub chunks_of : List X → List (List X)
+  chunks_of = cut_all (chunk_count width) (chunk width)
+
+  abbrev pub whole_chunks_of : List X → List (List X)
+  whole_chunks_of = cut_all (whole_count width) (whole_chunk width)
+
+  abbrev pub back_chunks_of : List X → List (List X)
+  back_chunks_of = cut_all (chunk_count width) (back_chunk width)
+
+  abbrev pub whole_back_chunks_of : List X → List (List X)
+  whole_back_chunks_of = cut_all (whole_count width) (back_chunk width)

@@ -1,0 +1,14 @@
+//! Walks over the parts of a view, from both ends.
+#![tactic(auto)]
+
+mod calls;
+mod parts;
+mod pieces;
+mod views;
+
+pub use bitvec_cutting::{
+    Cutting, ExactCutting, InChunks, InChunksFromEnd, InExactChunks, InExactChunksFromEnd,
+    InWindows,
+};
+pub use calls::IterCalls;
+pub use pieces::{Chunks, ChunksExact, Pieces, RChunks, RChunksExact, Windows};

@@ -1,0 +1,94 @@
+//! Walks over the pieces of 0, 0, 0, 1, 0, 1, 1, 1, of which no two of one length above 2 are the same.
+
+use crate::reading::read;
+use bitvec_base::Msb0;
+use bitvec_iter::IterCalls;
+use bitvec_slice::{BitSlice, BitSliceMut};
+use std::test::Fail;
+
+#[test]
+fn the_back_of_chunks(rt: HostRuntime) {
+    let cells = [0x17u8];
+    let view = BitSlice::<u8, Msb0>::from_slice(&cells);
+    let mut chunks = view.chunks(3);
+    assert_eq!(rt; read(chunks.nth_back(0)), Some((2, 3)));
+    assert_eq!(rt; read(chunks.next_back()), Some((3, 5)));
+    assert_eq!(rt; read(chunks.next_back()), Some((3, 0)));
+    assert_eq!(rt; read(chunks.next_back()), None);
+}
+
+#[test]
+fn both_ends_of_chunks(rt: HostRuntime) {
+    let cells = [0x17u8];
+    let view = BitSlice::<u8, Msb0>::from_slice(&cells);
+    let mut chunks = view.chunks(3);
+    assert_eq!(rt; read(chunks.nth(1)), Some((3, 5)));
+    assert_eq!(rt; read(chunks.next_back()), Some((2, 3)));
+    assert_eq!(rt; read(chunks.next()), None);
+    assert_eq!(rt; read(chunks.next_back()), None);
+}
+
+#[test]
+fn whole_chunks_from_the_end(rt: HostRuntime) {
+    let cells = [0x17u8];
+    let view = BitSlice::<u8, Msb0>::from_slice(&cells);
+    let mut chunks = view.rchunks_exact(3);
+    assert_eq!(rt; read(chunks.nth_back(1)), Some((3, 7)));
+    assert_eq!(rt; read(chunks.next()), None);
+    assert_eq!(rt; read(chunks.next_back()), None);
+    assert_eq!(rt; read(Some(chunks.remainder())), Some((2, 0)));
+}
+
+#[test]
+fn a_clone_walks_alone(rt: HostRuntime) -> Result<(), Fail> {
+    let cells = [0x17u8];
+    let view = BitSlice::<u8, Msb0>::from_slice(&cells);
+    let mut chunks = view.chunks(3);
+    assert_eq!(rt; read(chunks.next()), Some((3, 0)));
+    assert_eq!(rt; chunks.size_hint(), (2, Some(2)));
+    let mut copy = chunks.clone()?;
+    assert_eq!(rt; read(copy.next()), Some((3, 5)));
+    assert_eq!(rt; read(copy.next()), Some((2, 3)));
+    assert_eq!(rt; read(chunks.next()), Some((3, 5)));
+    Ok(())
+}
+
+#[test]
+fn chunks_from_the_end(rt: HostRuntime) {
+    let mut cells = [0x17u8];
+    let view = BitSliceMut::<u8, Msb0>::from_slice_mut(&mut cells);
+    let mut chunks = view.rchunks(3);
+    assert_eq!(rt; read(chunks.next()), Some((3, 7)));
+    assert_eq!(rt; read(chunks.next()), Some((3, 2)));
+    assert_eq!(rt; read(chunks.next()), Some((2, 0)));
+    assert_eq!(rt; read(chunks.next()), None);
+}
+
+#[test]
+fn whole_chunks(rt: HostRuntime) {
+    let mut cells = [0x17u8];
+    let view = BitSliceMut::<u8, Msb0>::from_slice_mut(&mut cells);
+    let mut front = view.chunks_exact(3);
+    assert_eq!(rt; (read(front.next_back()), front.len()), (Some((3, 5)), 1));
+    assert_eq!(rt; read(Some(front.remainder())), Some((2, 3)));
+    let mut back = view.rchunks_exact(3);
+    assert_eq!(rt;
+        (read(back.next()), read(back.next())),
+        (Some((3, 7)), Some((3, 2)))
+    );
+}
+
+#[test]
+fn windows_of_five_bits(rt: HostRuntime) -> Result<(), Fail> {
+    let cells = [0x17u8];
+    let all = BitSlice::<u8, Msb0>::from_slice(&cells);
+    let view = all.get(0..5).ok_or("no such bits")?;
+    let mut windows = view.windows(3);
+    assert_eq!(rt; read(windows.nth_back(1)), Some((3, 1)));
+    assert_eq!(rt;
+        (read(windows.next()), read(windows.next())),
+        (Some((3, 0)), None)
+    );
+    assert_eq!(rt; view.windows(6).len(), 0);
+    Ok(())
+}

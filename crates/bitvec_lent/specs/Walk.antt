@@ -1,0 +1,37 @@
+-- What contracts see of a walk that lends the pieces of a view.
+use Rattle.std.specs.Prelude.{◌≡◌, ℕ, ◌+◌, ◌-◌, Bool, false, if◌then◌else◌, min}
+use Rattle.std.specs.declared.ops.Range.{Range}
+use Rattle.bitvec_slice.specs.Seen.{IsRangeOf, Seen}
+
+-- the view that is cut, how it is cut, which numbers are left, from `front` up to `back`, and whether what no piece has was taken
+pub record Walk (T C : Type 0) : Type 0 where
+  pub view : Seen T
+  pub cutting : C
+  pub front : ℕ
+  pub back : ℕ
+  pub taken : Bool
+
+module _ {T C : Type 0} where
+  -- all pieces of the view are left, `count` of them
+  pub record IsWalkOf (all : Seen T) (count : ℕ) (walk : Walk T C) : Type 0 where
+    pub view : walk.view ≡ all
+    pub front : walk.front ≡ 0
+    pub back : walk.back ≡ count
+    pub taken : walk.taken ≡ false
+
+  -- the view is the piece of this number, where elements have b bits
+  abbrev pub IsPieceOf : ℕ → (C → ℕ → ℕ → Range ℕ) → Walk T C → ℕ → Seen T → Type 0
+  IsPieceOf b place walk number part =
+      let range = place walk.cutting walk.view.window.len number in
+      IsRangeOf b walk.view range.start range.end part
+
+  -- the walk without its first pieces, of which it has as many or fewer, and without its last ones
+  abbrev pub past : Walk T C → ℕ → Walk T C
+  past walk count = record walk { front = walk.front + min count (walk.back - walk.front) }
+
+  abbrev pub past_back : Walk T C → ℕ → Walk T C
+  past_back walk count = record walk { back = walk.back - min count (walk.back - walk.front) }
+
+  -- where what no piece has stands, where it is left, and no index later
+  abbrev pub rest_of : (C → ℕ → Range ℕ) → Walk T C → Range ℕ
+  rest_of left_over walk = if walk.taken then (record { start = 0; end = 0 }) else left_over walk.cutting walk.view.window.len

@@ -1,0 +1,100 @@
+//! Single bits of a view.
+use bitvec_base::Lsb0;
+use bitvec_lent::PieceCallsMut;
+use bitvec_slice::BitSliceMut;
+
+/// Sets the first bit, the last, and the third of the others.
+fn set_three(bytes: &mut [u8; 1]) -> usize {
+    let mut view = BitSliceMut::<u8, Lsb0>::from_slice_mut(bytes);
+    let mut bits = view.iter_mut();
+    if let Some(mut bit) = bits.next_mut() {
+        bit.set(true);
+    }
+    if let Some(mut bit) = bits.next_back_mut() {
+        bit.set(true);
+    }
+    if let Some(mut bit) = bits.nth_mut(2) {
+        bit.set(true);
+    }
+    bits.len()
+}
+
+#[test]
+fn bits_are_given_from_both_ends(rt: HostRuntime) {
+    let mut bytes = [0x00];
+    assert_eq!(rt; set_three(&mut bytes), 3);
+    assert_eq!(rt; bytes, [0x89]);
+}
+
+/// How many bits are left behind the first two and before the last.
+fn left_of(view: &mut BitSliceMut<'_, u8, Lsb0>) -> usize {
+    let mut bits = view.iter_mut();
+    bits.pass(2);
+    bits.pass_back(1);
+    let left = bits.as_bitslice();
+    left.len()
+}
+
+/// The same, by the view for writing.
+fn taken_of(view: &mut BitSliceMut<'_, u8, Lsb0>) -> usize {
+    let mut bits = view.iter_mut();
+    bits.pass(2);
+    bits.pass_back(1);
+    let left = bits.into_bitslice();
+    left.len()
+}
+
+#[test]
+fn bits_that_are_left(rt: HostRuntime) {
+    let mut bytes = [0x00u8];
+    let mut view = BitSliceMut::from_slice_mut(&mut bytes);
+    assert_eq!(rt; left_of(&mut view), 5);
+    assert_eq!(rt; taken_of(&mut view), 5);
+}
+
+/// How many bits are left behind the first, by the old names.
+fn left_by_old_name(view: &mut BitSliceMut<'_, u8, Lsb0>) -> usize {
+    let mut bits = view.iter_mut();
+    bits.pass(1);
+    let left = bits.as_slice();
+    left.len()
+}
+
+fn taken_by_old_name(view: &mut BitSliceMut<'_, u8, Lsb0>) -> usize {
+    let mut bits = view.iter_mut();
+    bits.pass(1);
+    let left = bits.into_slice();
+    left.len()
+}
+
+/// How many bits there are, by `as_ref`.
+fn count_by_ref(view: &mut BitSliceMut<'_, u8, Lsb0>) -> usize {
+    let bits = view.iter_mut();
+    let left = bits.as_ref();
+    left.len()
+}
+
+#[test]
+fn the_old_names_mean_the_same(rt: HostRuntime) {
+    let mut bytes = [0x00u8];
+    let mut view = BitSliceMut::from_slice_mut(&mut bytes);
+    assert_eq!(rt; left_by_old_name(&mut view), 7);
+    assert_eq!(rt; taken_by_old_name(&mut view), 7);
+    assert_eq!(rt; count_by_ref(&mut view), 8);
+}
+
+/// Clears the last bit but one, by the call from the back.
+fn clear_one(bytes: &mut [u8; 1]) {
+    let mut view = BitSliceMut::<u8, Lsb0>::from_slice_mut(bytes);
+    let mut bits = view.iter_mut();
+    if let Some(mut bit) = bits.nth_back_mut(1) {
+        bit.set(false);
+    }
+}
+
+#[test]
+fn the_last_bit_but_one(rt: HostRuntime) {
+    let mut bytes = [0xFF];
+    clear_one(&mut bytes);
+    assert_eq!(rt; bytes, [0xBF]);
+}

@@ -1,0 +1,33 @@
+//! The calls that make walks over the ones and the zeros of a view.
+ghost use Rattle.std.specs.Prelude.{◌≡◌, ◌≤◌, false, length, true};
+ghost use Rattle.bitvec_base.specs.Lists.{places_of};
+ghost use Rattle.bitvec_base.specs.Window.{max_bits};
+ghost use Rattle.bitvec_ones.specs.Indices.{RunsInOrder, RunsInReverse, indices_left};
+
+use crate::places::{IterOnes, IterZeros, Places};
+use bitvec_engine::SliceOrder;
+use bitvec_query::BitQueries;
+use bitvec_store::BitStore;
+
+/// Walks over the indices of the bits of a view that are 1, or 0, for both view types.
+pub trait OnesCalls<T: BitStore, O: SliceOrder>: BitQueries<T, O> {
+    /// The indices of the bits that are 1, ascending.
+    fn iter_ones(&self) -> IterOnes<'_, T, O>
+        ensures indices { indices_left result ≡ places_of true (Self.shows self.now).bits }
+        ensures few { length (indices_left result) ≤ max_bits }
+        ensures runs { RunsInOrder result }
+        ensures runs_back { RunsInReverse result }
+    {
+        Places::new(self.as_bitslice())
+    }
+
+    /// The indices of the bits that are 0, ascending.
+    fn iter_zeros(&self) -> IterZeros<'_, T, O>
+        ensures indices { indices_left result ≡ places_of false (Self.shows self.now).bits }
+        ensures few { length (indices_left result) ≤ max_bits }
+        ensures runs { RunsInOrder result }
+        ensures runs_back { RunsInReverse result }
+    {
+        Places::new(self.as_bitslice())
+    }
+}

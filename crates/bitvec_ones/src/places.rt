@@ -1,0 +1,141 @@
+//! The indices of the bits of a view that are 1, or 0, from both ends.
+ghost use Rattle.std.specs.Prelude.{◌≡◌, ⊤};
+ghost use Rattle.bitvec_slice.specs.Views.{seen};
+ghost use Rattle.bitvec_turns.specs.Places.{IsRestOf};
+
+use crate::wanted::{Ones, Wanted, Zeros};
+use bitvec_base::BitOrder;
+use bitvec_cells::Shared;
+use bitvec_engine::SliceOrder;
+use bitvec_slice::BitSlice;
+use bitvec_store::BitStore;
+use bitvec_turns::{Rest, count_left, take_first, take_last};
+use std::alloc::AllocError;
+use std::iter::FusedIterator;
+use std::marker::PhantomData;
+
+/// The indices of the bits of a view that `W` names, ascending from the front and descending from
+/// the back.
+///
+/// Each call of `next` or `next_back` is a search of the bits that are left from that end, so that
+/// a walk loads each element once and once more for each index given. How many indices are left is
+/// counted at each call of `len` or `size_hint`.
+pub struct Places<'a, T: BitStore, O: BitOrder, W: Wanted> {
+    view: BitSlice<'a, T, O>,
+    rest: Rest,
+    wanted: PhantomData<W>,
+    ghost inside: { IsRestOf rest (seen view).window.len },
+}
+
+/// The indices of the bits of a view that are 1.
+pub type IterOnes<'a, T, O> = Places<'a, T, O, Ones>;
+
+/// The indices of the bits of a view that are 0.
+pub type IterZeros<'a, T, O> = Places<'a, T, O, Zeros>;
+
+impl<'a, T: BitStore, O: BitOrder, W: Wanted> Copy for Places<'a, T, O, W> {}
+
+impl<'a, T: BitStore, O: BitOrder, W: Wanted> Clone for Places<'a, T, O, W> {
+    ghost is_clone = { λ x y. y ≡ x };
+
+    ghost is_infallible = { λ _. ⊤ };
+
+    fn clone(&self) -> Result<Self, AllocError> {
+        Ok(*self)
+    }
+}
+
+impl<'a, T: BitStore, O: BitOrder, W: Wanted> Places<'a, T, O, W> {
+    ghost use Rattle.std.specs.Prelude.{◌≤◌, length};
+    ghost use Rattle.bitvec_base.specs.Lists.{places_of};
+    ghost use Rattle.bitvec_base.specs.Window.{max_bits};
+    ghost use Rattle.bitvec_ones.specs.Indices.{RunsInOrder, RunsInReverse, indices_left};
+
+    /// The indices of all bits of the view that `W` names. The crate has no such call.
+    #[tactic(auto, using(bitvec_turns::specs::PlacesLaws::all_places, bitvec_turns::specs::PlacesLaws::few_places), unfolding(crate::specs::Indices::indices_left))]
+    pub fn new(view: BitSlice<'a, T, O>) -> Self
+        ensures indices { indices_left result ≡ places_of W.BIT (seen view.entry).bits }
+        ensures few { length (indices_left result) ≤ max_bits }
+        ensures runs { RunsInOrder result }
+        ensures runs_back { RunsInReverse result }
+    {
+        Places {
+            view,
+            rest: Rest {
+                front: 0,
+                back: view.len(),
+            },
+            wanted: PhantomData,
+        }
+    }
+}
+
+/// A walk over no bits.
+impl<'a, T: BitStore, O: BitOrder, W: Wanted> Default for Places<'a, T, O, W> {
+    ghost use Rattle.std.specs.Prelude.{[]};
+    ghost use Rattle.bitvec_ones.specs.Indices.{indices_left};
+
+    ghost is_default = { λ walk. indices_left walk ≡ [] };
+
+    #[tactic(auto, using(bitvec_turns::specs::PlacesLaws::no_places))]
+    fn default() -> Self {
+        Places::new(BitSlice::empty())
+    }
+}
+
+impl<'a, T: BitStore, O: SliceOrder, W: Wanted> Iterator for Places<'a, T, O, W> {
+    type Item = usize;
+
+    ghost use Rattle.std.specs.Prelude.{IfSome, Some, length};
+    ghost use Rattle.std.specs.Iterator.{UpTo, YieldsFirst, item_count};
+    ghost use Rattle.std.specs.Iterator.SizeHint.{IsWithinCount};
+    ghost use Rattle.bitvec_ones.specs.Indices.{indices_left};
+
+    ghost next_gives = { YieldsFirst indices_left };
+
+    ghost remaining = { item_count indices_left };
+
+    #[tactic(auto, unfolding(crate::specs::Indices::indices_left))]
+    fn next(&mut self) -> Option<usize> {
+        let mut cells = Shared::new(self.view.elements());
+        let mut rest = self.rest;
+        let index = take_first::<O, Shared<T>>(&mut cells, self.view.window(), W::BIT, &mut rest);
+        self.rest = rest;
+        index
+    }
+
+    fn size_hint(&self) -> (usize, Option<usize>)
+        ensures lower { IsWithinCount result.0 (item_count indices_left self.now) }
+        ensures upper { IfSome result.1 (UpTo (item_count indices_left self.now)) }
+        ensures exact { result ≡ (length (indices_left self.now), Some (length (indices_left self.now))) }
+    {
+        let count = self.len();
+        (count, Some(count))
+    }
+}
+
+impl<'a, T: BitStore, O: SliceOrder, W: Wanted> DoubleEndedIterator for Places<'a, T, O, W> {
+    ghost use Rattle.std.specs.Iterator.{YieldsLast};
+    ghost use Rattle.bitvec_ones.specs.Indices.{indices_left};
+
+    ghost next_back_gives = { YieldsLast indices_left };
+
+    #[tactic(auto, unfolding(crate::specs::Indices::indices_left))]
+    fn next_back(&mut self) -> Option<usize> {
+        let mut cells = Shared::new(self.view.elements());
+        let mut rest = self.rest;
+        let index = take_last::<O, Shared<T>>(&mut cells, self.view.window(), W::BIT, &mut rest);
+        self.rest = rest;
+        index
+    }
+}
+
+impl<'a, T: BitStore, O: SliceOrder, W: Wanted> ExactSizeIterator for Places<'a, T, O, W> {
+    #[tactic(auto, unfolding(crate::specs::Indices::indices_left))]
+    fn len(&self) -> usize {
+        let mut cells = Shared::new(self.view.elements());
+        count_left::<O, Shared<T>>(&mut cells, self.view.window(), W::BIT, self.rest)
+    }
+}
+
+impl<'a, T: BitStore, O: SliceOrder, W: Wanted> FusedIterator for Places<'a, T, O, W> {}

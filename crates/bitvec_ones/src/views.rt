@@ -1,0 +1,9 @@
+//! The two view types are walked.
+use crate::OnesCalls;
+use bitvec_engine::SliceOrder;
+use bitvec_slice::{BitSlice, BitSliceMut};
+use bitvec_store::BitStore;
+
+impl<'a, T: BitStore, O: SliceOrder> OnesCalls<T, O> for BitSlice<'a, T, O> {}
+
+impl<'a, T: BitStore, O: SliceOrder> OnesCalls<T, O> for BitSliceMut<'a, T, O> {}

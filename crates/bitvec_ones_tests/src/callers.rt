@@ -1,0 +1,51 @@
+//! What callers know of the indices that walks give them.
+ghost use Rattle.std.specs.Prelude.{◌≡◌, ◌≤◌, IfOk, false, length, reverse, sum, true};
+ghost use Rattle.bitvec_base.specs.Lists.{places_of};
+ghost use Rattle.bitvec_slice.specs.Views.{seen, seen_mut};
+
+use bitvec_engine::SliceOrder;
+use bitvec_ones::OnesCalls;
+use bitvec_slice::{BitSlice, BitSliceMut};
+use bitvec_store::BitStore;
+use std::alloc::{AllocError, Allocator};
+
+/// The indices of all ones, collected.
+pub fn ones_of<T: BitStore, O: SliceOrder, A: Allocator>(
+    alloc: A,
+    view: BitSlice<'_, T, O>,
+) -> Result<Vec<usize, A>, AllocError>
+    ensures { IfOk result (λ list. list.items ≡ places_of true (seen view.entry).bits) }
+{
+    view.iter_ones().collect(alloc)
+}
+
+/// The indices of all zeros of a writable view, from the back.
+pub fn zeros_from_the_back<T: BitStore, O: SliceOrder, A: Allocator>(
+    alloc: A,
+    view: &BitSliceMut<'_, T, O>,
+) -> Result<Vec<usize, A>, AllocError>
+    ensures { IfOk result (λ list. list.items ≡ reverse (places_of false (seen_mut view.now).bits)) }
+{
+    view.iter_zeros().rev().collect(alloc)
+}
+
+/// The indices of all ones, one by one.
+pub fn ones_in_turn<T: BitStore, O: SliceOrder, A: Allocator>(
+    alloc: A,
+    view: BitSlice<'_, T, O>,
+) -> Result<Vec<usize, A>, AllocError>
+    ensures { IfOk result (λ list. list.items ≡ places_of true (seen view.entry).bits) }
+{
+    let mut list = Vec::new(alloc);
+    for index in view.iter_ones() {
+        list.push(index)?;
+    }
+    Ok(list)
+}
+
+/// How many ones there are, by the walk's length.
+pub fn number_of_ones<T: BitStore, O: SliceOrder>(view: BitSlice<'_, T, O>) -> usize
+    ensures { result ≡ length (places_of true (seen view.entry).bits) }
+{
+    view.iter_ones().len()
+}

@@ -1,0 +1,61 @@
+//! Turns of a walk from both ends, and the loads that they take.
+ghost use Rattle.std.specs.Prelude.{◌≡◌, length};
+ghost use Rattle.bitvec_base.specs.Memory.{HasWindow};
+
+use bitvec_base::{HiLo, Lsb0, Window};
+use bitvec_cells::Shared;
+use bitvec_engine::SliceOrder;
+use bitvec_test_support::Counted;
+use bitvec_turns::End::{Back, Front};
+use bitvec_turns::{End, scan_turns};
+
+/// What the turns give of a window of some bytes, in `out`, and how many loads they take.
+fn walk<O: SliceOrder>(
+    bytes: &[u8],
+    window: Window,
+    want: bool,
+    turns: &[End],
+    out: &mut [Option<usize>],
+) -> u64
+    requires window { HasWindow 8 bytes.now window }
+    requires lengths { length turns.now ≡ length out.old }
+{
+    let mut cells = Counted::new(Shared::new(bytes));
+    scan_turns::<O, _>(&mut cells, window, want, turns, out);
+    cells.loads()
+}
+
+#[test]
+fn turns_from_both_ends(rt: HostRuntime) {
+    let window = Window { start: 0, len: 24 };
+    let mut out = [None; 5];
+    let turns = [Front, Back, Front, Back, Front];
+    let loads = walk::<Lsb0>(&[0x21, 0x00, 0x80], window, true, &turns, &mut out);
+    assert_eq!(rt; out, [Some(0), Some(23), Some(5), None, None]);
+    assert!(rt; loads <= 6);
+}
+
+#[test]
+fn turns_under_another_order(rt: HostRuntime) {
+    let window = Window { start: 0, len: 8 };
+    let mut out = [None; 3];
+    let loads = walk::<HiLo>(&[0xA5], window, true, &[Back, Front, Front], &mut out);
+    assert_eq!(rt; out, [Some(6), Some(1), Some(3)]);
+    assert!(rt; loads <= 4);
+}
+
+#[test]
+fn turns_over_zeros(rt: HostRuntime) {
+    let window = Window { start: 2, len: 3 };
+    let mut out = [Some(0); 2];
+    let loads = walk::<Lsb0>(&[0xF7], window, false, &[Back, Back], &mut out);
+    assert_eq!(rt; out, [Some(1), None]);
+    assert!(rt; loads <= 2);
+}
+
+#[test]
+fn no_turn(rt: HostRuntime) {
+    let window = Window { start: 0, len: 8 };
+    let loads = walk::<Lsb0>(&[0xFF], window, true, &[], &mut []);
+    assert_eq!(rt; loads, 0);
+}

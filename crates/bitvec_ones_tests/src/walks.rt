@@ -1,0 +1,91 @@
+//! Walks over the ones and the zeros of views.
+use crate::callers::{number_of_ones, ones_in_turn, ones_of, zeros_from_the_back};
+use bitvec_base::{HiLo, Lsb0, Msb0};
+use bitvec_ones::{IterOnes, IterZeros, OnesCalls};
+use bitvec_slice::{BitSlice, BitSliceMut};
+use std::test::Fail;
+
+#[test]
+fn ones_from_both_ends(rt: HostRuntime) {
+    let cells = [0x21u8];
+    let view = BitSlice::<u8, Lsb0>::from_slice(&cells);
+    let mut ones = view.iter_ones();
+    assert_eq!(rt; (ones.next(), ones.next_back()), (Some(0), Some(5)));
+    assert_eq!(rt; (ones.next(), ones.next_back()), (None, None));
+}
+
+#[test]
+fn zeros_from_both_ends(rt: HostRuntime) {
+    let mut cells = [0xF7u8, 0xFE];
+    let view = BitSliceMut::<u8, Msb0>::from_slice_mut(&mut cells);
+    let mut zeros = view.iter_zeros();
+    assert_eq!(rt; (zeros.next_back(), zeros.next()), (Some(15), Some(4)));
+    assert_eq!(rt; (zeros.next_back(), zeros.next()), (None, None));
+}
+
+#[test]
+fn an_index_far_behind(rt: HostRuntime) {
+    let cells = [0xFFFFu16, 1];
+    let view = BitSlice::<u16, Lsb0>::from_slice(&cells);
+    let mut ones = view.iter_ones();
+    let mut others = ones;
+    assert_eq!(rt;
+        (ones.nth(usize::MAX), ones.next(), ones.next_back()),
+        (None, None, None)
+    );
+    assert_eq!(rt;
+        (others.nth(15), others.nth_back(0), others.next()),
+        (Some(15), Some(16), None)
+    );
+}
+
+#[test]
+fn a_copy_goes_its_own_way(rt: HostRuntime) {
+    let cells = [0xA5u8];
+    let view = BitSlice::<u8, HiLo>::from_slice(&cells);
+    let mut ones = view.iter_ones();
+    let mut copy = ones;
+    assert_eq!(rt;
+        (copy.next(), copy.next(), copy.next()),
+        (Some(1), Some(3), Some(4))
+    );
+    assert_eq!(rt; (copy.len(), copy.size_hint()), (1, (1, Some(1))));
+    assert_eq!(rt; (ones.len(), ones.next()), (4, Some(1)));
+}
+
+#[test]
+fn a_walk_over_no_bits(rt: HostRuntime) {
+    let mut ones = IterOnes::<u32, Lsb0>::default();
+    let mut zeros: IterZeros<'_, u64, Msb0> = Default::default();
+    assert_eq!(rt; (ones.len(), ones.next()), (0, None));
+    assert_eq!(rt;
+        (zeros.size_hint(), zeros.next_back()),
+        ((0, Some(0)), None)
+    );
+}
+
+#[test]
+fn a_list_of_ones(rt: HostRuntime) -> Result<(), Fail> {
+    let cells = [0x8000u16, 0x0101];
+    let all = BitSlice::<u16, Lsb0>::from_slice(&cells);
+    let view = all.get(3..30).ok_or("no such bits")?;
+    assert_eq!(rt; number_of_ones(view), 3);
+    assert_eq!(rt;
+        ones_of(rt.alloc(), view)?.as_slice(),
+        [12, 13, 21].as_slice()
+    );
+    assert_eq!(rt;
+        ones_in_turn(rt.alloc(), view)?.as_slice(),
+        [12, 13, 21].as_slice()
+    );
+    Ok(())
+}
+
+#[test]
+fn a_list_of_zeros(rt: HostRuntime) -> Result<(), Fail> {
+    let mut cells = [0xDEu8];
+    let view = BitSliceMut::<u8, Msb0>::from_slice_mut(&mut cells);
+    let zeros = zeros_from_the_back(rt.alloc(), &view)?;
+    assert_eq!(rt; zeros.as_slice(), [7, 2].as_slice());
+    Ok(())
+}

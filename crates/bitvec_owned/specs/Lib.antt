@@ -1,0 +1,3 @@
+pub mod Copies
+pub mod Owned
+pub mod ZeroLaws

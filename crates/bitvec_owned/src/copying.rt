@@ -1,0 +1,45 @@
+//! Copies of views.
+ghost use Rattle.std.specs.Prelude.{◌≡◌, IfOk, IsOk};
+ghost use Rattle.bitvec_owned.specs.Copies.{Holds, copy_start};
+ghost use Rattle.bitvec_owned.specs.Owned.{owned};
+ghost use Rattle.bitvec_slice.specs.Views.{seen};
+
+use crate::BitVec;
+use crate::zeros::zeros;
+use bitvec_base::Window;
+use bitvec_elements::copy_from_block_in;
+use bitvec_engine::SliceOrder;
+use bitvec_slice::BitSlice;
+use bitvec_store::BitStore;
+use std::alloc::{AllocError, Allocator};
+
+/// A copy of a view's bits, from the index in its first element on at which the view begins.
+pub(crate) fn copy_of<T: BitStore, O: SliceOrder, A: Allocator>(
+    view: BitSlice<'_, T, O>,
+    alloc: A,
+) -> Result<BitVec<T, O, A>, AllocError>
+    ensures copy { IfOk result (λ copy. Holds T.BITS (seen view.entry).bits
+        (copy_start T.BITS (seen view.entry).window) (owned copy)) }
+    ensures none { (seen view.entry).window.len ≡ 0 → IsOk result }
+{
+    let from = view.window();
+    let head = start_of_copy::<T>(from);
+    let window = Window {
+        start: head,
+        len: from.len,
+    };
+    let count = (head + from.len).div_ceil(T::BITS as usize);
+    let mut elements = zeros::<T, A>(alloc, count)?;
+    copy_from_block_in::<T, O>(elements.as_mut_slice(), window, view.elements(), from);
+    Ok(BitVec::from_parts(elements, head, from.len))
+}
+
+fn start_of_copy<T: BitStore>(window: Window) -> usize
+    ensures { result ≡ copy_start T.BITS window }
+{
+    if window.len == 0 {
+        0
+    } else {
+        window.start % (T::BITS as usize)
+    }
+}

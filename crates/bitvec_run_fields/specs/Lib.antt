@@ -1,0 +1,2 @@
+pub mod FieldRows
+pub mod FieldRowsLaws

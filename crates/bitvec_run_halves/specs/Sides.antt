@@ -1,0 +1,31 @@
+-- Two lists, of which a step is made on one.
+use Rattle.std.specs.Prelude.{ℕ, Bool, List, ◌++◌, drop, take}
+use Rattle.bitvec_base.specs.declared.window.Window.{Window}
+use Rattle.bitvec_base.specs.Window.{window_range}
+use Rattle.bitvec_run.specs.declared.command.Reply.{Reply}
+use Rattle.bitvec_run.specs.declared.command.Step.{Step}
+use Rattle.bitvec_run.specs.Runs.{step_list, step_reply}
+use Rattle.bitvec_run_halves.specs.declared.halves.Side.{Side}
+use Rattle.bitvec_run_halves.specs.declared.halves.Side.TheVariants.{Left, Right}
+
+-- a list's values before the index `mid`, and those from it on
+abbrev pub halves_of : {X : Type 0} → ℕ → List X → List X × List X
+halves_of mid xs = (take mid xs, drop mid xs)
+
+-- two lists, one after the other
+abbrev pub joined : {X : Type 0} → List X × List X → List X
+joined lists = lists.0 ++ lists.1
+
+-- what a step replies, and what lists it leaves: it is made on the one that its side names, and the other stays
+abbrev pub side_reply : List Bool → List Bool × List Bool → Side × Step → Reply
+side_reply right lists (Left, step) = step_reply right lists.0 step
+side_reply right lists (Right, step) = step_reply right lists.1 step
+
+abbrev pub side_lists : List Bool → List Bool × List Bool → Side × Step → List Bool × List Bool
+side_lists right lists (Left, step) = (step_list right lists.0 step, lists.1)
+side_lists right lists (Right, step) = (lists.0, step_list right lists.1 step)
+
+-- where the side stands of a window that is cut at `mid`
+abbrev pub side_window : Window → ℕ → Side → Window
+side_window window mid Left = window_range window 0 mid
+side_window window mid Right = window_range window mid window.len

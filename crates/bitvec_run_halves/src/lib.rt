@@ -1,0 +1,9 @@
+//! Lists of commands run through the two halves of a writable view.
+#![tactic(auto)]
+
+mod halves;
+mod runner;
+
+pub use bitvec_run::{Op, Refusal, Reply, Step};
+pub use halves::Side;
+pub use runner::run_halves;

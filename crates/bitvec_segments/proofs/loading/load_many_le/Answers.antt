@@ -1,0 +1,63 @@
+use Rattle.std.proofs.Common.{◌≡◌, ℕ, ◌-◌, arith, ap, refl, ◌∙◌}
+use Rattle.bitvec_base.specs.declared.part.Part.{Part}
+use Rattle.bitvec_base.specs.Parts.{first_part_of}
+use Rattle.bitvec_store.specs.WidthLaws.{width_some}
+use Rattle.bitvec_walk.specs.WalkLaws.{Walked-start, Walked-next, first-len, touched-next, touched-none}
+use Rattle.bitvec_segments.proofs.WalkLemmas.{LoadedLe-all, LoadedLe-fits, LoadedLe-next, part_kept}
+use Rattle.bitvec_segments.proofs.loading.load_many_le.Goals as goal
+
+pub loop-rest-init : goal.loop-rest-init
+loop-rest-init g c =
+    let window = c.args.window in
+    let none : window.start - window.start ≡ 0 = omega arith in
+    let passed_none : window.len - window.len ≡ 0 = omega arith in
+    let empty = touched-none g.C.Elem.BitStore.BITS window.start in
+    record {
+      walk = Walked-start _ _;
+      value = rw passed_none (omega arith);
+      reads = rw none (record { numbers = refl; borrow = refl; loads = omega arith; stores = refl });
+    }
+
+pub overflow_add-number : goal.overflow_add-number
+overflow_add-number g c =
+    let inv = c.loop-rest.invariant in
+    let more = c.loop-rest-test.true in
+    let b = g.C.Elem.BitStore.BITS in
+    let at = g.O.BitOrder.at in
+    let window = c.args.window in
+    let rest = c.loop-rest.rest in
+    let some = width_some _ g.met.C.Elem.BitStore.width_law in
+    let part : c.first_part-part.result ≡ first_part_of b rest = c.first_part-part.ensures ∙ ap (λ (n : ℕ). first_part_of n rest) c.BITS-bits.ensures in
+    let number = rw (part, inv.reads.numbers) at c.part_number.ensures.value in
+    let next = LoadedLe-next _ _ at _ window rest _ _ _ some more refl c.requires.window inv.walk number inv.value in
+    let fits = LoadedLe-fits _ _ at _ window _ _ c.requires.window c.requires.size next in
+    let kept = part_kept _ _ _ fits in
+    rw kept (record { fits = fits })
+
+pub loop-rest-preserved : goal.loop-rest-preserved
+loop-rest-preserved g c =
+    let inv = c.loop-rest.invariant in
+    let more = c.loop-rest-test.true in
+    let b = g.C.Elem.BitStore.BITS in
+    let at = g.O.BitOrder.at in
+    let window = c.args.window in
+    let rest = c.loop-rest.rest in
+    let some = width_some _ g.met.C.Elem.BitStore.width_law in
+    let part : c.first_part-part.result ≡ first_part_of b rest = c.first_part-part.ensures ∙ ap (λ (n : ℕ). first_part_of n rest) c.BITS-bits.ensures in
+    let step = c.len.ensures ∙ ap (λ (p : Part). p.to - p.from) part in
+    let len = first-len b rest some more in
+    let each = touched-next b window rest c.len.result some more (omega arith) (omega arith) inv.walk in
+    let number = rw (part, inv.reads.numbers) at c.part_number.ensures.value in
+    let next = LoadedLe-next _ _ at _ window rest _ _ _ some more step c.requires.window inv.walk number inv.value in
+    let fits = LoadedLe-fits _ _ at _ window _ _ c.requires.window c.requires.size next in
+    let kept = part_kept _ _ _ fits in
+    rw c.after-rest.ensures (record {
+      walk = Walked-next _ _ _ _ some more step inv.walk;
+      value = rw kept next;
+      reads = record { numbers = c.part_number.ensures.reads.numbers ∙ inv.reads.numbers; borrow = c.part_number.ensures.reads.borrow ∙ inv.reads.borrow; loads = omega arith; stores = c.part_number.ensures.reads.stores ∙ inv.reads.stores };
+    })
+
+pub returns-clause-value : goal.returns-clause-value
+returns-clause-value g c =
+    let none = c.loop-rest-test.false in
+    LoadedLe-all _ _ _ _ c.args.window _ _ (omega arith) c.loop-rest.invariant.value

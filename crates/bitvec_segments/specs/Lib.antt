@@ -1,0 +1,5 @@
+pub mod LoadLaws
+pub mod NumberLaws
+pub mod Segments
+pub mod SegmentsLaws
+pub mod StoreLaws

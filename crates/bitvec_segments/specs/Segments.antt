@@ -1,0 +1,68 @@
+-- Lists of bits cut at the edges of elements, and the numbers that they stand for.
+--
+-- `s` is the place of a list's first bit in a memory of b-bit elements; its remainder by b is the list's phase. Under an order that is
+-- `high` the first bit of a segment is its highest, under any other its lowest.
+use Rattle.std.specs.Prelude.{ℕ, ◌+◌, ◌-◌, ◌*◌, ◌/◌, ◌%◌, ◌^◌, ◌==◌, Bool, true, false, if◌then◌else◌, List, [], ◌∷◌, ◌++◌, length}
+use Rattle.std.specs.List.{sum_by}
+use Rattle.bitvec_base.specs.Memory.{element_bits}
+
+-- a bit before the bits of the first segment; alone, where there is none
+abbrev pub in_first : Bool → List (List Bool) → List (List Bool)
+in_first bit [] = (bit ∷ []) ∷ []
+in_first bit (segment ∷ rest) = (bit ∷ segment) ∷ rest
+
+-- the segments of a list: it is cut before each bit, but the first, whose place is a multiple of b
+unfoldable pub segments : ℕ → ℕ → List Bool → List (List Bool)
+segments b s [] = []
+segments b s (bit ∷ list) = if (s + 1) % b == 0 then (bit ∷ []) ∷ segments b (s + 1) list else in_first bit (segments b (s + 1) list)
+
+-- ---- the number of one segment
+
+-- the number of the bit that stands at the index i of k bits
+abbrev pub bit_number : Bool → ℕ → ℕ → ℕ
+bit_number high k i = if high then k - 1 - i else i
+
+-- the number of a segment: its first bit counts 1 and each other twice the one before it, or the last 1 and each twice the one behind it
+unfoldable pub segment_number : Bool → List Bool → ℕ
+segment_number high [] = 0
+segment_number false (bit ∷ rest) = segment_number false rest * 2 + (if bit then 1 else 0)
+segment_number true (bit ∷ rest) = (if bit then 1 else 0) * 2 ^ length rest + segment_number true rest
+
+-- the k bits of a segment whose number is v mod 2 ^ k
+abbrev pub segment_bits : Bool → ℕ → ℕ → List Bool
+segment_bits high k v = element_bits k (bit_number high) v
+
+-- ---- the number of many, the first one lowest, or the first one highest
+
+unfoldable pub le_number : Bool → List (List Bool) → ℕ
+le_number high [] = 0
+le_number high (segment ∷ rest) = le_number high rest * 2 ^ length segment + segment_number high segment
+
+unfoldable pub be_number : Bool → List (List Bool) → ℕ
+be_number high [] = 0
+be_number high (segment ∷ rest) = segment_number high segment * 2 ^ sum_by length rest + be_number high rest
+
+-- the bits of segments as long as these, whose number is v modulo two to the power of the bits they have
+unfoldable pub le_bits : Bool → ℕ → List (List Bool) → List Bool
+le_bits high v [] = []
+le_bits high v (segment ∷ rest) = segment_bits high (length segment) v ++ le_bits high (v / 2 ^ length segment) rest
+
+unfoldable pub be_bits : Bool → ℕ → List (List Bool) → List Bool
+be_bits high v [] = []
+be_bits high v (segment ∷ rest) = segment_bits high (length segment) (v / 2 ^ sum_by length rest) ++ be_bits high v rest
+
+-- ---- lists at a place
+
+-- the number that a load gives
+unfoldable pub loaded_le : Bool → ℕ → ℕ → List Bool → ℕ
+loaded_le high b s list = le_number high (segments b s list)
+
+unfoldable pub loaded_be : Bool → ℕ → ℕ → List Bool → ℕ
+loaded_be high b s list = be_number high (segments b s list)
+
+-- the list that a store of v leaves
+unfoldable pub stored_le : Bool → ℕ → ℕ → ℕ → List Bool → List Bool
+stored_le high b s v list = le_bits high v (segments b s list)
+
+unfoldable pub stored_be : Bool → ℕ → ℕ → ℕ → List Bool → List Bool
+stored_be high b s v list = be_bits high v (segments b s list)

@@ -1,0 +1,63 @@
+-- How a list is cut into segments: its first one, and those of the rest.
+use Rattle.std.specs.Prelude.{◌≡◌, ℕ, ◌+◌, ◌-◌, ◌*◌, ◌/◌, ◌%◌, ◌<◌, ◌≤◌, min, ◌==◌, Bool, true, false, List, [], ◌∷◌, length, take, drop, refl, suc}
+use Rattle.std.proofs.Common.{arith, sym, ◌∙◌, ap, ⊎_elim}
+use Rattle.std.proofs.lemmas.Bool.{cases_Bool, cases_lt, cond-true, cond-false, eq-eqb, ne_eqb}
+use Rattle.std.proofs.lemmas.Nat.{div-add-mod', mod_below, mod-mul-add}
+use Rattle.bitvec_segments.specs.Segments.{in_first, segments}
+
+-- the bits of a list that stand in the element in which it begins
+abbrev pub first_len : ℕ → ℕ → ℕ → ℕ
+first_len b s n = min n (b - s % b)
+
+-- the next place stands in the same element, or at the start of the next one
+next_inside : (b s : ℕ) → s % b + 1 < b → (s + 1) % b ≡ s % b + 1
+next_inside b s inside =
+    let place = div-add-mod' s b in
+    ap (λ (n : ℕ). n % b) (let e : s + 1 ≡ s / b * b + (s % b + 1) = omega arith in e) ∙ mod-mul-add (s / b) b (s % b + 1) inside
+
+next_edge : (b s : ℕ) → 0 < b → s % b + 1 ≡ b → (s + 1) % b ≡ 0
+next_edge b s some edge =
+    let place = div-add-mod' s b in
+    ap (λ (n : ℕ). n % b) (let e : s + 1 ≡ (s / b + 1) * b + 0 = omega arith in e) ∙ mod-mul-add (s / b + 1) b 0 some
+
+-- one bit alone
+segments-one : (b s : ℕ) (bit : Bool) → segments b s (bit ∷ []) ≡ (bit ∷ []) ∷ []
+unfolding segments
+segments-one b s bit =
+    ⊎_elim
+    (λ (t : (s + 1) % b == 0 ≡ true). cond-true _ _ _ t)
+    (λ (f : (s + 1) % b == 0 ≡ false). cond-false _ _ _ f)
+    (cases_Bool ((s + 1) % b == 0))
+
+segments-edge : (b s : ℕ) (bit : Bool) (list : List Bool) → (s + 1) % b ≡ 0 → segments b s (bit ∷ list) ≡ (bit ∷ []) ∷ segments b (s + 1) list
+unfolding segments
+segments-edge b s bit list edge = cond-true _ _ _ (eq-eqb ((s + 1) % b) 0 edge)
+
+segments-inside : (b s r : ℕ) (bit : Bool) (list : List Bool) → (s + 1) % b ≡ r + 1 → segments b s (bit ∷ list) ≡ in_first bit (segments b (s + 1) list)
+unfolding segments
+segments-inside b s r bit list inside = cond-false _ _ _ (ne_eqb ((s + 1) % b) 0 (λ e. let no : r + 1 ≡ 0 = sym inside ∙ e in omega arith))
+
+-- the first segment, and the rest
+pub segments-first : (b s : ℕ) (list : List Bool) (k : ℕ) → 0 < b → 0 < length list → k ≡ first_len b s (length list) → segments b s list ≡ take k list ∷ segments b (s + k) (drop k list)
+unfolding segments
+segments-first b s [] k some more is = absurd (omega arith)
+segments-first b s (bit ∷ []) k some more is =
+    let below = mod_below s b some in
+    let one : k ≡ 1 = omega arith in
+    rw one (segments-one b s bit)
+segments-first b s (bit ∷ (second ∷ list)) k some more is =
+    let below = mod_below s b some in
+    ⊎_elim
+    (λ (inside : s % b + 1 < b).
+    let next = next_inside b s inside in
+    let j : ℕ = first_len b (s + 1) (length (second ∷ list)) in
+    let longer : k ≡ suc j = omega arith in
+    let place : s + 1 + j ≡ s + suc j = omega arith in
+    rw longer
+    (segments-inside b s (s % b) bit (second ∷ list) next
+    ∙ ap (in_first bit) (segments-first b (s + 1) (second ∷ list) j some (omega arith) refl)
+    ∙ ap (λ (e : ℕ). (bit ∷ take j (second ∷ list)) ∷ segments b e (drop j (second ∷ list))) place))
+    (λ (over : b ≤ s % b + 1).
+    let one : k ≡ 1 = omega arith in
+    rw one (segments-edge b s bit (second ∷ list) (next_edge b s some (omega arith))))
+    (cases_lt (s % b + 1) b)

@@ -1,0 +1,10 @@
+//! Numbers in windows: the bits of a window, cut at the edges of elements, loaded and stored as one
+//! number.
+#![tactic(auto)]
+
+mod field_order;
+mod loading;
+mod part;
+mod storing;
+
+pub use field_order::FieldOrder;

@@ -1,0 +1,56 @@
+//! The number of the bits of one part of an element.
+ghost use Rattle.std.specs.Prelude.{◌≡◌, ◌-◌, ◌<◌, ◌≤◌};
+ghost use Rattle.bitvec_base.specs.Memory.{Writes, list_in};
+ghost use Rattle.bitvec_base.specs.Parts.{HasPart, part_window};
+ghost use Rattle.bitvec_cells.specs.Access.{Costs, OnlyReads};
+ghost use Rattle.bitvec_segments.specs.Segments.{segment_bits, segment_number};
+ghost use Rattle.bitvec_walk.specs.Cost.{part_loads};
+ghost use Rattle.bitvec_words.specs.Field.{lowest_bit};
+
+use bitvec_base::Part;
+use bitvec_cells::{Cells, CellsRead};
+use bitvec_store::BitStore;
+use bitvec_words::{WordOrder, store_part};
+
+/// How many bits of an element are less significant than all bits of a part. Condition: the part is
+/// one of an element.
+fn bits_below<O: WordOrder, T: BitStore>(part: Part) -> usize
+    requires order { part.from ≤ part.to }
+    requires bound { part.to ≤ T.BITS }
+    ensures { result ≡ lowest_bit O.HIGH T.BITS part.from (part.to - part.from) }
+{
+    if O::HIGH {
+        T::BITS as usize - part.to
+    } else {
+        part.from
+    }
+}
+
+/// The number of a part's bits, whose first one is the highest where the order begins with the most
+/// significant bit, and else the lowest. Condition: the part is one of an element of the memory, and
+/// isn't empty. It takes one load.
+pub(crate) fn part_number<O: WordOrder, C: CellsRead>(cells: &mut C, part: Part) -> u128
+    requires part { HasPart C.Elem.BITS (C.numbers cells.old) part }
+    requires some { part.from < part.to }
+    ensures value { result ≡ segment_number O.HIGH (list_in C.Elem.BITS O.at (C.numbers cells.old) (part_window C.Elem.BITS part)) }
+    ensures reads { OnlyReads C.CellsRead cells.old cells.new 1 }
+{
+    let below = bits_below::<O, C::Elem>(part);
+    let mask = C::Elem::ALL.shr(C::Elem::BITS - part.len() as u32);
+    let element = cells.load(part.element);
+    element.shr(below as u32).and(mask).to_u128()
+}
+
+/// Gives a part the lowest bits of a number, as many as it has, in the same order. Condition: as of
+/// [`part_number`]. It takes one store, and one load unless the part is a whole element.
+pub(crate) fn store_part_number<O: WordOrder, C: Cells>(cells: &mut C, part: Part, number: u128)
+    requires part { HasPart C.Elem.BITS (C.numbers cells.old) part }
+    requires some { part.from < part.to }
+    ensures writes { Writes C.Elem.BITS O.at (C.numbers cells.old) (C.numbers cells.new) (part_window C.Elem.BITS part)
+        (segment_bits O.HIGH (part.to - part.from) number) }
+    ensures cost { Costs C.CellsRead cells.old cells.new (part_loads C.Elem.BITS part) 1 }
+{
+    let below = bits_below::<O, C::Elem>(part);
+    let lowest = C::Elem::from_u128(number & C::Elem::ALL.to_u128());
+    store_part::<O, C>(cells, part, lowest.shl(below as u32));
+}

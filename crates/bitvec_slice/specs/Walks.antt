@@ -1,0 +1,50 @@
+-- What a walk over the bits of a view has still to give.
+use Rattle.std.specs.Prelude.{◌≡◌, ℕ, Bool, List, slice_range}
+use Rattle.std.specs.Iterator.{YieldsFirst, YieldsFirstBy, YieldsFirstRef, YieldsLast, YieldsLastBy, YieldsLastRef}
+use Rattle.std.specs.Iterator.Runs.{EveryRun, ItemsAre, ItemsAreReversed, ItemsMapTo, ItemsMapToReversed}
+use Rattle.std.specs.declared.ops.Range.{Range}
+use Rattle.bitvec_store.specs.declared.store.BitStore.{Ghosts as Store}
+use Rattle.bitvec_base.specs.declared.order.BitOrder.{Ghosts as Order}
+use Rattle.bitvec_reference.specs.References.{bit_of_ref}
+use Rattle.bitvec_slice.specs.Seen.{Seen}
+use Rattle.bitvec_slice.specs.Views.{seen}
+use Rattle.bitvec_slice.specs.declared.iter.Iter.{Iter}
+use Rattle.bitvec_slice.specs.declared.bit_iters.BitRefIter.{BitRefIter}
+use Rattle.bitvec_slice.specs.declared.bit_iters.BitValIter.{BitValIter}
+
+module _ {T O : Type 0} {t : Store T} {o : Order O} where
+  -- the view that is walked, and the indices of its bits that are still to come
+  abbrev pub walked : Iter T O t o → Seen T
+  walked it = seen it.view
+
+  abbrev pub indices_left : Iter T O t o → Range ℕ
+  indices_left it = it.indices
+
+  -- these bits
+  unfoldable pub bits_left : Iter T O t o → List Bool
+  bits_left it = slice_range (seen it.view).bits it.indices.start it.indices.end
+
+  -- two walks have the same still to come
+  pub record IsSameWalk (first second : Iter T O t o) : Type 0 where
+    pub bits : bits_left second ≡ bits_left first
+    pub view : walked second ≡ walked first
+    pub indices : indices_left second ≡ indices_left first
+
+  abbrev pub refs_left : BitRefIter T O t o → List Bool
+  refs_left it = bits_left it.bits
+
+  abbrev pub vals_left : BitValIter T O t o → List Bool
+  vals_left it = bits_left it.bits
+
+  -- what calls of `next`, or of `next_back`, give of such a walk is what is still to come, in its order, or from its end
+  pub record YieldsBits (it : Iter T O t o) : Type 0 where
+    pub front : EveryRun (YieldsFirstBy (bit_of_ref {T = T} {O = O}) bits_left) (λ p. ItemsMapTo p bit_of_ref (bits_left p.from))
+    pub back : EveryRun (YieldsLastBy (bit_of_ref {T = T} {O = O}) bits_left) (λ p. ItemsMapToReversed p bit_of_ref (bits_left p.from))
+
+  pub record YieldsRefs (it : BitRefIter T O t o) : Type 0 where
+    pub front : EveryRun (YieldsFirstRef refs_left) (λ p. ItemsMapTo p (λ bit. bit.now) (refs_left p.from))
+    pub back : EveryRun (YieldsLastRef refs_left) (λ p. ItemsMapToReversed p (λ bit. bit.now) (refs_left p.from))
+
+  pub record YieldsVals (it : BitValIter T O t o) : Type 0 where
+    pub front : EveryRun (YieldsFirst vals_left) (λ p. ItemsAre p (vals_left p.from))
+    pub back : EveryRun (YieldsLast vals_left) (λ p. ItemsAreReversed p (vals_left p.from))

@@ -1,0 +1,57 @@
+//! Walks over the bits of both types of views.
+ghost use Rattle.std.specs.Prelude.{◌≡◌, ◌≤◌, length};
+ghost use Rattle.bitvec_base.specs.Window.{max_bits};
+
+use crate::{BitRef, BitSlice, BitSliceMut, Iter};
+use bitvec_base::BitOrder;
+use bitvec_store::BitStore;
+
+impl<'a, T: BitStore, O: BitOrder> BitSlice<'a, T, O> {
+    ghost use Rattle.bitvec_slice.specs.Views.{seen};
+    ghost use Rattle.bitvec_slice.specs.Walks.{YieldsBits, bits_left, walked};
+
+    /// The bits, one by one.
+    #[tactic(auto, unfolding(crate::specs::Walks::bits_left))]
+    pub fn iter(self) -> Iter<'a, T, O>
+        ensures bits { bits_left result ≡ (seen self.entry).bits }
+        ensures view { walked result ≡ seen self.entry }
+        ensures bound { length (bits_left result) ≤ max_bits }
+        ensures runs { YieldsBits result }
+    {
+        let len = self.len();
+        Iter {
+            view: self,
+            indices: 0..len,
+        }
+    }
+}
+
+impl<'a, T: BitStore, O: BitOrder> BitSliceMut<'a, T, O> {
+    ghost use Rattle.bitvec_slice.specs.Views.{seen_mut};
+    ghost use Rattle.bitvec_slice.specs.Walks.{YieldsBits, bits_left, walked};
+
+    /// The bits, one by one.
+    pub fn iter(&self) -> Iter<'_, T, O>
+        ensures bits { bits_left result ≡ (seen_mut self.now).bits }
+        ensures view { walked result ≡ seen_mut self.now }
+        ensures bound { length (bits_left result) ≤ max_bits }
+        ensures runs { YieldsBits result }
+    {
+        self.as_ref().iter()
+    }
+}
+
+impl<'a, T: BitStore, O: BitOrder> IntoIterator for BitSlice<'a, T, O> {
+    ghost use Rattle.bitvec_slice.specs.Views.{seen};
+    ghost use Rattle.bitvec_slice.specs.Walks.{YieldsBits, bits_left};
+
+    type Item = BitRef<'a, T, O>;
+
+    type IntoIter = Iter<'a, T, O>;
+
+    ghost into_iter_gives = { λ view it. (bits_left it ≡ (seen view).bits) × (length (bits_left it) ≤ max_bits) × YieldsBits it };
+
+    fn into_iter(self) -> Iter<'a, T, O> {
+        self.iter()
+    }
+}

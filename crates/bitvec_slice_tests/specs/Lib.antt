@@ -1,2 +1,0 @@
-pub mod Rotated
-pub mod RotatedLaws

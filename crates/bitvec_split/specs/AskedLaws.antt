@@ -1,0 +1,77 @@
+-- How the askings of a predicate go on.
+use Rattle.std.specs.Prelude.{◌≡◌, ℕ, ◌+◌, ◌-◌, ◌<◌, ◌≤◌, suc, Bool, true, false, List, [], ◌∷◌, Option, Some, slice_index_or, refl}
+use Rattle.std.specs.Borrow.{Bor}
+use Rattle.std.specs.Fn.{Mut, Takes, always_mut}
+use Rattle.std.specs.List.{range_with_len}
+use Rattle.std.specs.Bool.{MatchBool}
+use Rattle.std.proofs.Common.{◌⊎◌, arith, ap, cond, find, inl, inr, subst}
+use Rattle.bitvec_split.specs.Asked.{Asked, Asks, MayAsk, MayAskEach, downward}
+
+by_answer : (A B : Type 0) (i : ℕ) (found rest : Option ℕ) (answer test : Bool) → answer ≡ test → MatchBool answer ((found ≡ Some i) × A) B → (B → found ≡ rest) → found ≡ cond test (Some i) rest
+by_answer A B i found rest true true is met later = met.0
+by_answer A B i found rest false false is met later = later met
+by_answer A B i found rest true false is met later = absurd cc
+by_answer A B i found rest false true is met later = absurd cc
+
+module _ {P : Type 0} (g : Mut P (ℕ × (Bor Bool × Unit {0})) Bool) where
+  less_each : (m n : ℕ) (pred : P) (questions : List (ℕ × Bool)) → m ≤ n → MayAskEach g n pred questions → MayAskEach g m pred questions
+  less_each m n pred [] order may = may
+  less_each m n pred (q ∷ more) order may = λ below. let each = may (omega (arith, below, order)) in
+      (each.0, λ answer next asks. less_each m n next more order (each.1 answer next asks))
+
+  always_each : (n : ℕ) (pred : P) (questions : List (ℕ × Bool)) → always_mut g pred → MayAskEach g n pred questions
+  always_each n pred [] always = tt
+  always_each n pred (q ∷ more) always = λ below. (
+    λ shown shows. (always.at ((q.0, (shown, tt)) ∷ [])).0,
+    λ answer next asks. always_each n next more (record { at = λ xs. (always.at ((q.0, (asks.shown, tt)) ∷ xs)).1 answer next asks.called }),
+  )
+
+module _ {P : Type 0} {g : Mut P (ℕ × (Bor Bool × Unit {0})) Bool} where
+  module _ {n : ℕ} {pred : P} (may : MayAsk g n pred) where
+    -- it may be asked now, and again afterwards
+    pub may_ask-now : (index : ℕ) (shown : Bor Bool) → index < n → Takes g pred (index, (shown, tt))
+    may_ask-now index shown below = (may.at ((index, shown.now) ∷ []) below).0 shown refl
+
+    pub may_ask-next : {index : ℕ} {bit answer : Bool} {next : P} → index < n → Asks g pred index bit answer next → MayAsk g n next
+    may_ask-next {index} {bit} below asks = record { at = λ more. (may.at ((index, bit) ∷ more) below).1 _ _ asks }
+
+  -- about fewer bits, too
+  pub may_ask_of_fewer : {m n : ℕ} {pred : P} → MayAsk g n pred → m ≤ n → MayAsk g m pred
+  may_ask_of_fewer {m} {n} {pred} may order = record { at = λ questions. less_each g m n pred questions order (may.at questions) }
+
+  -- a predicate that may always be called may be asked
+  pub may_ask_always : {n : ℕ} {pred : P} → always_mut g pred → MayAsk g n pred
+  may_ask_always {n} {pred} always = record { at = λ questions. always_each g n pred questions always }
+
+  pub may_ask_either : {n : ℕ} {pred : P} → always_mut g pred ⊎ MayAsk g n pred → MayAsk g n pred
+  may_ask_either (inl always) = may_ask_always always
+  may_ask_either (inr may) = may
+
+  -- the askings that go on with a yes, or with a no and the others
+  module _ (bits : List Bool) {pred next : P} {index : ℕ} (indices more : List ℕ) (are : indices ≡ index ∷ more) where
+    pub asked-yes : Asks g pred index (slice_index_or bits index false) true next → Asked g bits pred indices (Some index) next
+    asked-yes asks = rw are (true, next, asks, (refl, refl))
+
+    pub asked-no : (found : Option ℕ) (last : P) → Asks g pred index (slice_index_or bits index false) false next → Asked g bits next more found last
+        → Asked g bits pred indices found last
+    asked-no found last asks rest = rw are (false, next, asks, rest)
+
+  -- a predicate that is a function of the index and the bit there said yes at the first index at which that is true
+  pub asked_first : (bits : List Bool) (test : ℕ → Bool → Bool) (pred : P)
+      → ((index : ℕ) (bit answer : Bool) (next : P) → Asks g pred index bit answer next → (next ≡ pred) × (answer ≡ test index bit))
+      → (indices : List ℕ) (found : Option ℕ) (last : P) → Asked g bits pred indices found last → found ≡ find (λ i. test i (slice_index_or bits i false)) indices
+  asked_first bits test pred acts [] found last asked = asked.0
+  asked_first bits test pred acts (i ∷ more) found last asked =
+      let same = acts i _ asked.0 asked.1 asked.2 in
+      by_answer _ _ i found (find (λ k. test k (slice_index_or bits k false)) more) asked.0 (test i (slice_index_or bits i false)) same.1 asked.3
+      (λ rest. asked_first bits test pred acts more found last (subst (λ (q : P). Asked g bits q more found last) same.0 rest))
+
+-- the indices from one up: it, and those from the next on
+pub upward-from : (index n : ℕ) → index < n → range_with_len index (n - index) ≡ index ∷ range_with_len (index + 1) (n - (index + 1))
+upward-from index n below =
+    let one : n - index ≡ suc (n - (index + 1)) = omega (arith, below) in
+    ap (λ (k : ℕ). range_with_len index k) one
+
+-- those from one down: the one before its end, and those below
+pub downward-from : (end : ℕ) → 0 < end → downward end ≡ (end - 1) ∷ downward (end - 1)
+downward-from end some = let one : end ≡ suc (end - 1) = omega (arith, some) in ap downward one

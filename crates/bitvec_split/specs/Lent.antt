@@ -1,0 +1,93 @@
+-- What is left of a split that lends its pieces, and what each call asks, lends and leaves. The bits that are
+-- left are a range of the view that was split.
+use Rattle.std.specs.Prelude.{◌≡◌, ℕ, ◌+◌, ◌-◌, ◌<◌, ◌==◌, ◌&&◌, ◌⊎◌, Bool, true, false, Option, Some, None, IfSome, MatchOption, if◌then◌else◌, min, not, slice_range}
+use Rattle.std.specs.Bool.{MatchBool}
+use Rattle.std.specs.Borrow.{Bor}
+use Rattle.std.specs.Fn.{Mut, always_mut}
+use Rattle.std.specs.declared.ops.Range.{Range}
+use Rattle.bitvec_slice.specs.Indices.{HasRange}
+use Rattle.bitvec_slice.specs.Seen.{IsRangeOf, Seen}
+use Rattle.bitvec_split.specs.Asked.{Asked, MayAsk}
+use Rattle.bitvec_split.specs.Splits.{Row, row_of}
+
+-- the view, the indices `from` up to `to` of the bits that no piece has yet, and the rest as of a shared split
+pub record LeftIn (T P : Type 0) : Type 0 where
+  pub view : Seen T
+  pub from : ℕ
+  pub to : ℕ
+  pub finished : Bool
+  pub pred : P
+
+-- of a counted split, also how many pieces it may still lend
+pub record CountedIn (T P : Type 0) : Type 0 where
+  pub left : LeftIn T P
+  pub count : ℕ
+
+module _ {T P : Type 0} where
+  abbrev pub unsplit_in : Seen T → P → LeftIn T P
+  unsplit_in view pred = record { view = view; from = 0; to = view.window.len; finished = false; pred = pred }
+
+  -- how many pieces come at least, and how many at most
+  abbrev pub least_in : LeftIn T P → ℕ
+  least_in s = if s.finished then 0 else 1
+
+  abbrev pub most_in : LeftIn T P → ℕ
+  most_in s = if s.finished then 0 else s.to - s.from + 1
+
+  abbrev pub counted_most_in : CountedIn T P → ℕ
+  counted_most_in s = min (most_in s.left) s.count
+
+  -- all that is left is the last piece
+  pub record GivesAllIn (s : LeftIn T P) (piece : Range ℕ) (t : LeftIn T P) : Type 0 where
+    pub start : piece.start ≡ s.from
+    pub end : piece.end ≡ s.to
+    pub view : t.view ≡ s.view
+    pub finished : t.finished ≡ true
+
+  -- and is given unasked
+  abbrev pub SplitRestIn : LeftIn T P → Option (Range ℕ) → LeftIn T P → Type 0
+  SplitRestIn s result t = MatchOption result ((s.finished ≡ true) × (t ≡ s)) (λ piece. (s.finished ≡ false) × GivesAllIn s piece t × (t.pred ≡ s.pred))
+
+  -- one range of what is left is the piece, another is left
+  pub record GivesRangeIn (inclusive : Bool) (range rest : ℕ × ℕ) (s : LeftIn T P) (piece : Range ℕ) (t : LeftIn T P) : Type 0 where
+    pub start : piece.start ≡ s.from + range.0
+    pub end : piece.end ≡ s.from + range.1
+    pub view : t.view ≡ s.view
+    pub from : t.from ≡ s.from + rest.0
+    pub to : t.to ≡ s.from + rest.1
+    pub finished : t.finished ≡ (inclusive && (t.to - t.from == 0))
+
+module _ {T P : Type 0} (g : Mut P (ℕ × (Bor Bool × Unit {0})) Bool) where
+  -- the predicate may always be called, or at least asked about all that is left
+  abbrev pub MayGoOnIn : LeftIn T P → Type 0
+  MayGoOnIn s = always_mut g s.pred ⊎ MayAsk g (s.to - s.from) s.pred
+
+  -- as `SplitStep`, of ranges of the view
+  abbrev pub SplitStepIn : Bool → Row → LeftIn T P → Option (Range ℕ) → LeftIn T P → Type 0
+  SplitStepIn inclusive row s result t =
+      MatchOption result ((s.finished ≡ true) × (t ≡ s))
+      (λ piece. (s.finished ≡ false) × ((found : Option ℕ) × Asked g (slice_range s.view.bits s.from s.to) s.pred row.asks found t.pred
+      × MatchOption found (GivesAllIn s piece t) (λ j. GivesRangeIn inclusive (row.piece j) (row.keeps j) s piece t)))
+
+  abbrev pub SplitNextIn : Bool → Bool → LeftIn T P → Option (Range ℕ) → LeftIn T P → Type 0
+  SplitNextIn inclusive reversed s result t = SplitStepIn inclusive (row_of inclusive reversed (s.to - s.from)) s result t
+
+  abbrev pub SplitNextBackIn : Bool → Bool → LeftIn T P → Option (Range ℕ) → LeftIn T P → Type 0
+  SplitNextBackIn inclusive reversed s result t = SplitStepIn inclusive (row_of inclusive (not reversed) (s.to - s.from)) s result t
+
+  abbrev pub CountedNextIn : Bool → Bool → CountedIn T P → Option (Range ℕ) → CountedIn T P → Type 0
+  CountedNextIn inclusive reversed s result t =
+      MatchOption result (((s.count ≡ 0) ⊎ (s.left.finished ≡ true)) × (t ≡ s))
+      (λ piece. (0 < s.count) × (t.count ≡ s.count - 1)
+      × MatchBool (s.count == 1) (SplitRestIn s.left (Some piece) t.left)
+      (SplitNextIn inclusive reversed s.left (Some piece) t.left))
+
+-- the view stays, and has the range that a step gave
+pub record StaysIn {T P : Type 0} (s : LeftIn T P) (result : Option (Range ℕ)) (t : LeftIn T P) : Type 0 where
+  pub view : t.view ≡ s.view
+  pub inside : IfSome result (λ range. HasRange range s.view.window.len)
+
+-- What is lent, where the step gives a range of the view: that range. What is left then is known by the step alone.
+abbrev pub Lends : {T S : Type 0} → ℕ → Seen T → (Option (Range ℕ) → S → Type 0) → Option (Seen T) → Type 0
+Lends {T} {S} b view step result =
+    MatchOption result ((t : S) × step None t) (λ piece. (range : Range ℕ) × (t : S) × step (Some range) t × IsRangeOf b view range.start range.end piece)

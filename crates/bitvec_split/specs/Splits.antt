@@ -1,0 +1,106 @@
+-- What is left of a split, and what each call asks, gives and leaves.
+use Rattle.std.specs.Prelude.{◌≡◌, ℕ, ◌+◌, ◌-◌, ◌<◌, ◌==◌, ◌&&◌, ◌⊎◌, Bool, true, false, List, Option, Some, MatchOption, if◌then◌else◌, min, not}
+use Rattle.std.specs.Bool.{MatchBool}
+use Rattle.std.specs.Borrow.{Bor}
+use Rattle.std.specs.Fn.{Mut, always_mut}
+use Rattle.bitvec_slice.specs.Seen.{IsRangeOf, Seen}
+use Rattle.bitvec_split.specs.Asked.{Asked, MayAsk, downward, upward}
+
+-- the bits that no piece has yet, whether the last piece was given, and the predicate as it is now
+pub record Left (T P : Type 0) : Type 0 where
+  pub rest : Seen T
+  pub finished : Bool
+  pub pred : P
+
+-- of a counted split, also how many pieces it may still give
+pub record Counted (T P : Type 0) : Type 0 where
+  pub left : Left T P
+  pub count : ℕ
+
+module _ {T P : Type 0} where
+  -- a split of all bits of a view
+  abbrev pub unsplit : Seen T → P → Left T P
+  unsplit view pred = record { rest = view; finished = false; pred = pred }
+
+  -- how many pieces come at least, and how many at most
+  abbrev pub least : Left T P → ℕ
+  least s = if s.finished then 0 else 1
+
+  abbrev pub most : Left T P → ℕ
+  most s = if s.finished then 0 else s.rest.window.len + 1
+
+  abbrev pub counted_most : Counted T P → ℕ
+  counted_most s = min (most s.left) s.count
+
+  -- all that is left is the last piece
+  pub record GivesAll (s : Left T P) (piece : Seen T) (t : Left T P) : Type 0 where
+    pub gives : piece ≡ s.rest
+    pub keeps : t.rest ≡ s.rest
+    pub finished : t.finished ≡ true
+
+  -- all that is left is given, unasked
+  abbrev pub SplitRest : Left T P → Option (Seen T) → Left T P → Type 0
+  SplitRest s result t = MatchOption result ((s.finished ≡ true) × (t ≡ s)) (λ piece. (s.finished ≡ false) × GivesAll s piece t × (t.pred ≡ s.pred))
+
+-- the predicate may always be called, or at least asked about all that is left
+abbrev pub MayGoOn : {T P : Type 0} → Mut P (ℕ × (Bor Bool × Unit {0})) Bool → Left T P → Type 0
+MayGoOn g s = always_mut g s.pred ⊎ MayAsk g s.rest.window.len s.pred
+
+-- where a piece ends whose match is at j: an inclusive split keeps the matched bit, others leave it out
+abbrev pub end_of : Bool → ℕ → ℕ
+end_of inclusive j = if inclusive then j + 1 else j
+
+-- how many of n bits a call from the back asks about: the last bit ends an inclusive split's last piece, whatever it is
+abbrev pub asked_behind : Bool → ℕ → ℕ
+asked_behind inclusive n = if inclusive then n - 1 else n
+
+-- How a call goes about n bits: which indices it asks about, and where after a yes at j the piece lies,
+-- and what is left.
+pub record Row : Type 0 where
+  pub asks : List ℕ
+  pub piece : ℕ → ℕ × ℕ
+  pub keeps : ℕ → ℕ × ℕ
+
+-- from the front: the bits before the first match are the piece, and those behind it are left
+abbrev pub front : Bool → ℕ → Row
+front inclusive n = record { asks = upward n; piece = λ j. (0, end_of inclusive j); keeps = λ j. (j + 1, n) }
+
+-- from the back: those behind the last match are the piece; an inclusive split doesn't ask about the last bit
+abbrev pub back : Bool → ℕ → Row
+back inclusive n = record { asks = downward (asked_behind inclusive n); piece = λ j. (j + 1, n); keeps = λ j. (0, end_of inclusive j) }
+
+-- a reversed split exchanges its ends
+abbrev pub row_of : Bool → Bool → ℕ → Row
+row_of inclusive reversed n = if reversed then back inclusive n else front inclusive n
+
+module _ {T P : Type 0} (b : ℕ) where
+  -- one range of what is left is the piece, another is left; an inclusive split that has none left is finished
+  pub record GivesRange (inclusive : Bool) (range rest : ℕ × ℕ) (s : Left T P) (piece : Seen T) (t : Left T P) : Type 0 where
+    pub gives : IsRangeOf b s.rest range.0 range.1 piece
+    pub keeps : IsRangeOf b s.rest rest.0 rest.1 t.rest
+    pub finished : t.finished ≡ (inclusive && (t.rest.window.len == 0))
+
+module _ {T P : Type 0} (b : ℕ) (g : Mut P (ℕ × (Bor Bool × Unit {0})) Bool) where
+  -- A finished split gives nothing, and asks nothing. Any other asks as the row says about the bits that
+  -- are left, and gives and keeps the row's ranges of them at the first yes; with no yes it gives all.
+  abbrev pub SplitStep : Bool → Row → Left T P → Option (Seen T) → Left T P → Type 0
+  SplitStep inclusive row s result t =
+      MatchOption result ((s.finished ≡ true) × (t ≡ s))
+      (λ piece. (s.finished ≡ false) × ((found : Option ℕ) × Asked g s.rest.bits s.pred row.asks found t.pred
+      × MatchOption found (GivesAll s piece t) (λ j. GivesRange b inclusive (row.piece j) (row.keeps j) s piece t)))
+
+  -- a call from the front, and one from the back
+  abbrev pub SplitNext : Bool → Bool → Left T P → Option (Seen T) → Left T P → Type 0
+  SplitNext inclusive reversed s result t = SplitStep inclusive (row_of inclusive reversed s.rest.window.len) s result t
+
+  abbrev pub SplitNextBack : Bool → Bool → Left T P → Option (Seen T) → Left T P → Type 0
+  SplitNextBack inclusive reversed s result t = SplitStep inclusive (row_of inclusive (not reversed) s.rest.window.len) s result t
+
+  -- A counted split gives nothing where it may give no piece more; the last that it may give is all that
+  -- is left, unasked; any other it gives as the plain split does. Each piece takes one from the count.
+  abbrev pub CountedNext : Bool → Bool → Counted T P → Option (Seen T) → Counted T P → Type 0
+  CountedNext inclusive reversed s result t =
+      MatchOption result (((s.count ≡ 0) ⊎ (s.left.finished ≡ true)) × (t ≡ s))
+      (λ piece. (0 < s.count) × (t.count ≡ s.count - 1)
+      × MatchBool (s.count == 1) (SplitRest s.left (Some piece) t.left)
+      (SplitNext inclusive reversed s.left (Some piece) t.left))

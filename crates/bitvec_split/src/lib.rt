@@ -1,0 +1,19 @@
+//! Views, split by a predicate.
+#![tactic(auto)]
+
+mod asking;
+mod calls;
+mod calls_mut;
+mod counted_lending;
+mod counting;
+mod lending;
+mod splitting;
+mod ways;
+
+pub use calls::SplitCalls;
+pub use calls_mut::SplitCallsMut;
+pub use counted_lending::{RSplitNMut, SplitNMut, SplitsNMut};
+pub use counting::{RSplitN, SplitN, SplitsN};
+pub use lending::{RSplitMut, SplitInclusiveMut, SplitMut, SplitsMut};
+pub use splitting::{RSplit, Split, SplitInclusive, Splits};
+pub use ways::{Forward, Inclusive, Reversed, Way};

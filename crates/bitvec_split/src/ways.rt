@@ -1,0 +1,74 @@
+//! How a split goes.
+ghost use Rattle.std.specs.Prelude.{◌≡◌, ◌+◌, ◌<◌, ◌^◌, Bool, false, true};
+ghost use Rattle.bitvec_split.specs.Splits.{asked_behind, end_of};
+
+/// How a split goes. The crate has a type for each way.
+pub trait Way {
+    /// Whether a piece keeps the bit at which the predicate said yes.
+    const INCLUSIVE: bool;
+
+    /// Whether the first piece is the last of the view.
+    const REVERSED: bool;
+
+    ghost INCLUSIVE: { Bool };
+
+    ghost REVERSED: { Bool };
+}
+
+/// The way of `split` and `splitn`.
+pub struct Forward;
+
+/// The way of `split_inclusive`.
+pub struct Inclusive;
+
+/// The way of `rsplit` and `rsplitn`.
+pub struct Reversed;
+
+impl Way for Forward {
+    const INCLUSIVE: bool = false;
+
+    const REVERSED: bool = false;
+
+    ghost INCLUSIVE = { false };
+
+    ghost REVERSED = { false };
+}
+
+impl Way for Inclusive {
+    const INCLUSIVE: bool = true;
+
+    const REVERSED: bool = false;
+
+    ghost INCLUSIVE = { true };
+
+    ghost REVERSED = { false };
+}
+
+impl Way for Reversed {
+    const INCLUSIVE: bool = false;
+
+    const REVERSED: bool = true;
+
+    ghost INCLUSIVE = { false };
+
+    ghost REVERSED = { true };
+}
+
+/// The index behind a piece that the yes at an index ends.
+pub(crate) fn end_of<W: Way>(index: usize) -> usize
+    requires { index + 1 < 2 ^ 64 }
+    ensures { result ≡ end_of W.INCLUSIVE index }
+{
+    if W::INCLUSIVE { index + 1 } else { index }
+}
+
+/// How many of the last bits a call from the back of so many asks about.
+pub(crate) fn asked_behind<W: Way>(len: usize) -> usize
+    ensures { result ≡ asked_behind W.INCLUSIVE len }
+{
+    if W::INCLUSIVE {
+        len.saturating_sub(1)
+    } else {
+        len
+    }
+}

@@ -1,0 +1,76 @@
+//! Which indices a predicate is asked about, by predicates that keep a state.
+
+use bitvec_base::{BitOrder, Lsb0, Msb0};
+use bitvec_slice::BitSlice;
+use bitvec_split::SplitCalls;
+use bitvec_store::BitStore;
+use std::test::Fail;
+
+/// Appends the digit above an index.
+fn logged(log: u32, index: usize) -> u32 {
+    log.wrapping_mul(10)
+        .wrapping_add(u32::try_from(index).unwrap_or(8))
+        .wrapping_add(1)
+}
+
+/// The indices about which some pieces from the front ask a predicate that says yes at ones, as
+/// digits, each one greater.
+fn asked_in_front<T: BitStore, O: BitOrder>(view: BitSlice<'_, T, O>, calls: usize) -> u32 {
+    let mut log = 0;
+    let mut pieces = view.split(|index, bit| {
+        log = logged(log, index);
+        *bit
+    });
+    for _ in 0..calls {
+        let _piece = pieces.next();
+    }
+    log
+}
+
+/// The same of pieces from the back of an inclusive split.
+fn asked_behind<T: BitStore, O: BitOrder>(view: BitSlice<'_, T, O>, calls: usize) -> u32 {
+    let mut log = 0;
+    let mut pieces = view.split_inclusive(|index, bit| {
+        log = logged(log, index);
+        *bit
+    });
+    for _ in 0..calls {
+        let _piece = pieces.next_back();
+    }
+    log
+}
+
+/// The same of the pieces of a split into two at most, from the back.
+fn asked_in_two<T: BitStore, O: BitOrder>(view: BitSlice<'_, T, O>) -> u32 {
+    let mut log = 0;
+    let pieces = view.rsplitn(2, |index, bit| {
+        log = logged(log, index);
+        *bit
+    });
+    for _piece in pieces {}
+    log
+}
+
+#[test]
+fn indices_begin_at_0_in_what_is_left(rt: HostRuntime) -> Result<(), Fail> {
+    // 0, 1, 0, 0, 1
+    let cells = [0x09u8];
+    let all = BitSlice::<u8, Msb0>::from_slice(&cells);
+    let view = all.get(3..8).ok_or("no such bits")?;
+    assert_eq!(rt; asked_in_front(view, 1), 12);
+    assert_eq!(rt; asked_in_front(view, 2), 12_123);
+    assert_eq!(rt; asked_in_front(view, 9), 12_123);
+    Ok(())
+}
+
+#[test]
+fn neither_the_last_bit_nor_the_last_piece_is_asked(rt: HostRuntime) -> Result<(), Fail> {
+    // 0, 1, 0, 0, 1
+    let cells = [0x12u16];
+    let all = BitSlice::<u16, Lsb0>::from_slice(&cells);
+    let view = all.get(0..5).ok_or("no such bits")?;
+    assert_eq!(rt; asked_behind(view, 1), 432);
+    assert_eq!(rt; asked_behind(view, 9), 4321);
+    assert_eq!(rt; asked_in_two(view), 5);
+    Ok(())
+}

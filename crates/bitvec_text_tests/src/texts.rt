@@ -1,0 +1,60 @@
+//! What views print.
+
+use bitvec_base::{Lsb0, Msb0};
+use bitvec_slice::BitSlice;
+use bitvec_text::{Binary, LowerHex, Octal, UpperHex};
+use std::test::Fail;
+
+#[test]
+fn one_element(rt: HostRuntime) -> Result<(), Fail> {
+    let bits = [0x21u8];
+    let hex = LowerHex(BitSlice::<u8, Lsb0>::from_slice(&bits));
+    let octal = Octal(BitSlice::<u8, Msb0>::from_slice(&bits));
+    assert_eq!(rt; format!(in rt.alloc(); "{hex}")?.as_str(), "[84]");
+    assert_eq!(rt; format!(in rt.alloc(); "{octal}")?.as_str(), "[041]");
+    Ok(())
+}
+
+#[test]
+fn two_elements(rt: HostRuntime) -> Result<(), Fail> {
+    let bits = [0x21u8, 0x84];
+    let view = BitSlice::<u8, Lsb0>::from_slice(&bits).into_part(4..12);
+    let hex = UpperHex(view);
+    let binary = Binary(view);
+    assert_eq!(rt; format!(in rt.alloc(); "{hex}")?.as_str(), "[4, 2]");
+    assert_eq!(rt;
+        format!(in rt.alloc(); "{binary}")?.as_str(),
+        "[0100, 0010]"
+    );
+    assert_eq!(rt;
+        format!(in rt.alloc(); "{view}")?.as_str(),
+        "[0, 1, 0, 0, 0, 0, 1, 0]"
+    );
+    assert_eq!(rt;
+        format!(in rt.alloc(); "{view:?}")?.as_str(),
+        "[0, 1, 0, 0, 0, 0, 1, 0]"
+    );
+    Ok(())
+}
+
+#[test]
+fn letters(rt: HostRuntime) -> Result<(), Fail> {
+    let bits = [0xABCDu16, 0x00EF];
+    let view = BitSlice::<u16, Msb0>::from_slice(&bits).into_part(2..32);
+    let lower = LowerHex(view);
+    let upper = UpperHex(view);
+    assert_eq!(rt; format!(in rt.alloc(); "{lower}")?.as_str(), "[2bcd, 00ef]");
+    assert_eq!(rt; format!(in rt.alloc(); "{upper}")?.as_str(), "[2BCD, 00EF]");
+    Ok(())
+}
+
+#[test]
+fn no_bits(rt: HostRuntime) -> Result<(), Fail> {
+    let empty = BitSlice::<u8, Lsb0>::empty();
+    let binary = Binary(empty);
+    let hex = LowerHex(empty);
+    assert_eq!(rt; format!(in rt.alloc(); "{empty}")?.as_str(), "[]");
+    assert_eq!(rt; format!(in rt.alloc(); "{binary}")?.as_str(), "[]");
+    assert_eq!(rt; format!(in rt.alloc(); "{hex}")?.as_str(), "[]");
+    Ok(())
+}

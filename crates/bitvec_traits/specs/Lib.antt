@@ -1,0 +1,5 @@
+pub mod Feeding
+pub mod FeedingLaws
+pub mod Listing
+pub mod ListingLaws
+pub mod OrderLaws
