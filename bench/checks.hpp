@@ -1,5 +1,6 @@
 // The library and the plain loops against loops over single bits.
 #pragma once
+#include "fields.hpp"
 #include "library.hpp"
 #include "loops.hpp"
 #include <algorithm>
@@ -253,5 +254,60 @@ class Checks {
         if (has_loop(at) || has_inner_loop(at))
             expect(equal(left.data(), right.data(), unsigned(at.right), at.len / width) == wanted,
                    "equal by a plain loop", at);
+    }
+};
+
+// Fields of 12 bits by the library and by hand, against their single bits.
+template <class Element, class Order>
+class FieldChecks {
+    using Call = Fields<Element, Order>;
+    using Loop = FieldLoops<Element, Order>;
+    using Bits = Single<Element, Order>;
+    using List = typename Bits::List;
+    using Memory = std::vector<Element>;
+    static constexpr unsigned field = Loop::field;
+
+  public:
+    explicit FieldChecks(unsigned seed) : random(seed) {}
+
+    // `count` fields from the bit `start` on.
+    void all(size_t start, size_t count) {
+        Memory memory((start + field * count) / Bits::width + 2);
+        for (Element &element : memory)
+            element = Element(random());
+        size_t sum = 0;
+        Memory stored = memory;
+        for (size_t i = 0; i < count; ++i) {
+            const List bits = Bits::read(memory, start + field * i, field);
+            List index(field);
+            for (unsigned k = 0; k < field; ++k) {
+                sum += size_t(bits[k]) << weight(k);
+                index[k] = i >> weight(k) & 1;
+            }
+            Bits::write(stored, start + field * i, index);
+        }
+        const Memory before = memory;
+        expect(Call::load(memory.data(), memory.size(), start, count) == sum, "load", start, count);
+        expect(Loop::load(memory.data(), start, count) == sum, "load by hand", start, count);
+        expect(memory == before, "a load's memory", start, count);
+        Memory by_call = before, by_hand = before;
+        Call::store(by_call.data(), by_call.size(), start, count);
+        expect(by_call == stored, "store", start, count);
+        Loop::store(by_hand.data(), start, count);
+        expect(by_hand == stored, "store by hand", start, count);
+    }
+
+  private:
+    std::mt19937_64 random;
+
+    // Which bit of a field's number stands at an index of the field.
+    static unsigned weight(unsigned k) { return std::is_same_v<Order, Lsb0> ? k : field - 1 - k; }
+
+    static void expect(bool same, const char *what, size_t start, size_t count) {
+        if (same)
+            return;
+        std::fprintf(stderr, "%s of fields differs: u%u %s start %zu count %zu\n", what, Bits::width, Order::name,
+                     start, count);
+        std::exit(1);
     }
 };

@@ -1,5 +1,6 @@
 // Tests the library against loops over single bits, then times it beside its peers, and prints tables.
 #include "checks.hpp"
+#include "fields.hpp"
 #include "library.hpp"
 #include "loops.hpp"
 #include "peers.hpp"
@@ -37,6 +38,14 @@ void check() {
             checks.all({0, start, len, random() % (len + 1)});
             checks.all({start, start, len, random() % (len + 1)});
         }
+}
+
+template <class Element, class Order>
+void check_fields() {
+    FieldChecks<Element, Order> checks(1);
+    for (size_t start = 0; start <= 16 * sizeof(Element); ++start)
+        for (size_t count : {size_t(0), size_t(1), size_t(2), size_t(3), size_t(17), size_t(5000)})
+            checks.all(start, count);
 }
 
 // The times of one operation at one place, of one call each; 0 where there is none.
@@ -196,10 +205,9 @@ class Timed {
         return t;
     }
 
-    // Of bits of which the last alone is 1.
+    // Of zeros.
     Times first_one() {
-        Loop::fill(r(), unsigned(start), count, false);
-        Call::fill(r(), size, start + len - 1, 1, true);
+        Call::fill(r(), size, start, len, false);
         Times t;
         t.library = time_call([&] { keep(Call::first_one(r(), size, start, len)); });
         t.loop = time_call([&] { keep(Loop::first_one(r(), unsigned(start), count)); });
@@ -306,6 +314,30 @@ void measure_few() {
     }
 }
 
+// Fields of 12 bits that follow one another, in nanoseconds a field.
+template <class Element, class Order>
+void measure_fields() {
+    using Call = Fields<Element, Order>;
+    using Loop = FieldLoops<Element, Order>;
+    const unsigned width = 8 * sizeof(Element);
+    const size_t count = 4096;
+    std::vector<Element> memory(Loop::field * count / width + 2, Element(0x5A5A5A5A));
+    Element *p = memory.data();
+    for (size_t start : {size_t(0), middle<Element>}) {
+        const double load = time_call([&] { keep(Call::load(p, memory.size(), start, count)); });
+        const double load_by_hand = time_call([&] { keep(Loop::load(p, start, count)); });
+        const double store = time_call([&] { Call::store(p, memory.size(), start, count); });
+        const double store_by_hand = time_call([&] { Loop::store(p, start, count); });
+        auto row = [&](const char *operation, double library, double by_hand) {
+            std::printf("| %s | u%u %s | %zu | %s | %s | %s |\n", operation, width, Order::name, start,
+                        number(library / double(count)).c_str(), number(by_hand / double(count)).c_str(),
+                        ratio(by_hand, library).c_str());
+        };
+        row("load", load, load_by_hand);
+        row("store", store, store_by_hand);
+    }
+}
+
 } // namespace
 
 int main() {
@@ -313,6 +345,10 @@ int main() {
     check<uint8_t, Msb0>();
     check<uint64_t, Lsb0>();
     check<uint64_t, Msb0>();
+    check_fields<uint8_t, Lsb0>();
+    check_fields<uint8_t, Msb0>();
+    check_fields<uint32_t, Lsb0>();
+    check_fields<uint32_t, Msb0>();
     std::printf("The library's results are those of the loops over single bits.\n");
     for (size_t len : sizes) {
         PeerTimes peers;
@@ -330,4 +366,11 @@ int main() {
     measure_few<uint64_t, Msb0>();
     measure_few<uint8_t, Lsb0>();
     measure_few<uint8_t, Msb0>();
+    std::printf("\n### Fields of 12 bits in a row, in ns a field\n\n"
+                "| operation | elements | start | library | by hand | library / by hand |\n");
+    std::printf("|---|---|---|---|---|---|\n");
+    measure_fields<uint8_t, Lsb0>();
+    measure_fields<uint8_t, Msb0>();
+    measure_fields<uint32_t, Lsb0>();
+    measure_fields<uint32_t, Msb0>();
 }

@@ -54,3 +54,24 @@ LIBRARY(uint8_t, Msb0, u8_msb0)
 LIBRARY(uint64_t, Lsb0, u64_lsb0)
 LIBRARY(uint64_t, Msb0, u64_msb0)
 #undef LIBRARY
+
+// Fields of 12 bits that follow one another, so many from a bit on.
+template <class Element, class Order>
+struct Fields;
+
+#define FIELDS(Element, Order, suffix)                                                                                \
+    extern "C" {                                                                                                      \
+    size_t bitvec_bench_load_fields_##suffix(const Element *, size_t, size_t, size_t);                                \
+    void bitvec_bench_store_fields_##suffix(Element *, size_t, size_t, size_t);                                       \
+    }                                                                                                                 \
+    template <>                                                                                                       \
+    struct Fields<Element, Order> {                                                                                   \
+        static constexpr auto load = bitvec_bench_load_fields_##suffix;                                               \
+        static constexpr auto store = bitvec_bench_store_fields_##suffix;                                             \
+    };
+
+FIELDS(uint8_t, Lsb0, u8_lsb0)
+FIELDS(uint8_t, Msb0, u8_msb0)
+FIELDS(uint32_t, Lsb0, u32_lsb0)
+FIELDS(uint32_t, Msb0, u32_msb0)
+#undef FIELDS

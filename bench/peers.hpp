@@ -216,18 +216,18 @@ class Peers {
         return best;
     }
 
-    // Of bits of which the last alone is 1.
+    // Of zeros; fixedbitset and bit-vec search whole sets alone.
     Best first_one() {
-        std::vector<uint32_t> zeros(words(start + len + 63, 0).size() / 2 * 2, 0);
-        zeros[(start + len - 1) / 32] |= uint32_t(1) << (start + len - 1) % 32;
-        Sets sparse(zeros);
+        Sets zeros(std::vector<uint32_t>((start + len + 63) / 64 * 2, 0));
         Best best;
-        auto bits = sparse.vector.begin() + ptrdiff_t(start);
+        auto bits = zeros.vector.begin() + ptrdiff_t(start);
         best.try_peer("vector<bool>", [&] { keep(std::find(bits, bits + ptrdiff_t(len), true) - bits); });
         best.try_peer("dynamic_bitset",
-                      [&] { keep(start == 0 ? sparse.bitset.find_first() : sparse.bitset.find_next(start - 1)); });
-        best.try_peer("fixedbitset", [&] { keep(fixedbitset_first_one(sparse.fixed)); });
-        best.try_peer("bit-vec", [&] { keep(bit_vec_first_one(sparse.bit_vec)); });
+                      [&] { keep(start == 0 ? zeros.bitset.find_first() : zeros.bitset.find_next(start - 1)); });
+        if (start == 0) {
+            best.try_peer("fixedbitset", [&] { keep(fixedbitset_first_one(zeros.fixed)); });
+            best.try_peer("bit-vec", [&] { keep(bit_vec_first_one(zeros.bit_vec)); });
+        }
         return best;
     }
 

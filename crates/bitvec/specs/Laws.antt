@@ -1,6 +1,5 @@
 -- What callers name by `using`: a set of laws for each kind of call.
-use Rattle.std.proofs.iter.Rest.{run_of_first, run_of_first_by, run_of_last, run_of_last_by}
-use Rattle.std.proofs.lemmas.Grind.{common_steps, get_or-set_at}
+use Rattle.std.proofs.lemmas.Grind.{get_or-set_at}
 use Rattle.std.proofs.lemmas.List.{get_or-replicate, get_or-set_other, length-set, reverse-reverse}
 use Rattle.bitvec_base.specs.CountLaws.{ones_and_zeros}
 use Rattle.bitvec_base.specs.CountedLaws.{ones-all, ones-fewer, ones-flipped, ones-front, ones-more, ones-none, ones-rest, ones-reversed, ones-rotated_left, ones-rotated_right, ones-whole, zeros-all, zeros-fewer, zeros-flipped, zeros-more, zeros-none, zeros-reversed, zeros-rotated_left, zeros-rotated_right}
@@ -9,10 +8,15 @@ use Rattle.bitvec_base.specs.FilledLaws.{all-filled, any-filled, bits-zeros, equ
 use Rattle.bitvec_base.specs.PlacesLaws.{first_place-absent, first_place-before, first_place-below, first_place-bit, last_place-absent, last_place-after, last_place-below, last_place-bit}
 use Rattle.bitvec_base.specs.RotationLaws.{rotated_left-undoes, rotated_right-undoes}
 use Rattle.bitvec_walk.specs.CostLaws.{enough}
-use Rattle.bitvec_iter.specs.JoinLaws.{few_counted, parts_counted, parts_joined}
+use Rattle.bitvec_field.specs.IntegersLaws.{remainder-narrow}
+use Rattle.bitvec_iter.specs.JoinLaws.{joining as chunks}
+use Rattle.bitvec_iter.specs.Laws.{walked as walks}
+use Rattle.bitvec_segments.specs.LoadLaws.{loaded-one}
+use Rattle.bitvec_segments.specs.StoreLaws.{loaded_be-stores, loaded_le-stores, stored_be-loads, stored_le-loads}
 use Rattle.bitvec_slice.specs.SeenLaws.{length_bits}
+use Rattle.bitvec_store.specs.WidthLaws.{width_some}
 use Rattle.bitvec_traits.specs.FeedingLaws.{fed_same}
-use Rattle.bitvec_traits.specs.OrderLaws.{cmp-back, cmp-on, same_bits-ties}
+use Rattle.bitvec_traits.specs.OrderLaws.{ordered as orders}
 
 -- a view has as many bits as its window
 pub ruleset lengths = (length_bits)
@@ -39,16 +43,20 @@ pub ruleset filled = (lengths, get_or-replicate, ones-all, ones-none, zeros-all,
 pub ruleset compared = (same-equal, equal-same)
 
 -- after `cmp`, `<` and their kin: the order is total and agrees with `==`; and equal views feed a hasher the same
-pub ruleset ordered = (same_bits-ties, cmp-back, cmp-on, fed_same)
+pub ruleset ordered = (orders, fed_same)
 
 -- what std's adapters make of a walk: the items of a run, one after the other, are those that were to come
-pub ruleset walked = (run_of_first, run_of_first_by, run_of_last, run_of_last_by, common_steps)
+pub ruleset walked = (walks)
 
 -- the chunks of a view: joined they are its bits, and what is counted in them adds up
-pub ruleset joining = (parts_joined, parts_counted, few_counted)
+pub ruleset joining = (chunks)
 
 -- calls that undo one another
 pub ruleset undone = (lengths, reverse-reverse, flip-undoes, rotated_left-undoes, rotated_right-undoes)
+
+-- after `store` and `load`, in either order: the number is that which was stored, the bits are those that were loaded, and
+-- in one element both ends give one number
+pub ruleset numbered = (lengths, width_some, stored_le-loads, stored_be-loads, loaded_le-stores, loaded_be-stores, loaded-one, remainder-narrow)
 
 -- arrays of zeros
 pub ruleset zeroed = (bits-zeros)

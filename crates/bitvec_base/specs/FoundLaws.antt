@@ -8,6 +8,7 @@ use Rattle.std.proofs.lemmas.Bool.{cases_lt}
 use Rattle.std.proofs.lemmas.Nat.{div-mul-add, leading_top, pow_pos}
 use Rattle.std.proofs.lemmas.Nat.Bits.{and_pow, bit_at_above, bit_at-lt, bit_at-trailing_zeros, bit_at-zero}
 use Rattle.bitvec_base.specs.Lists.{first_place, last_place}
+use Rattle.bitvec_base.specs.ListsLaws.{first_place-found, first_place-none, last_place-found, last_place-none}
 use Rattle.bitvec_base.specs.Memory.{element_bits}
 use Rattle.bitvec_base.specs.MemoryLaws.{length-element_bits, get-element_bits}
 use Rattle.bitvec_base.specs.PlacesLaws.{first_place-absent, first_place-before, first_place-below, first_place-bit, last_place-absent, last_place-after, last_place-below, last_place-bit}
@@ -15,42 +16,6 @@ use Rattle.bitvec_base.specs.ScanLaws.{first-here, first-not_here, last-here, la
 use Rattle.bitvec_base.specs.SliceLaws.{range-all}
 use Rattle.bitvec_store.specs.Width.{IsWidth}
 use Rattle.bitvec_store.specs.WidthLaws.{at_each_width}
-
--- ---- lists: what is at a place, and not before it, or not behind it
-
-first_is : (want : Bool) (list : List Bool) (i : ℕ) → i < length list → slice_index_or list i false ≡ want → ((k : ℕ) → k < i → slice_index_or list k false ≢ want) → (o : Option ℕ) → first_place want list ≡ o → o ≡ Some i
-first_is want list i inside here before None found = absurd (first_place-absent want list found i inside here)
-first_is want list i inside here before (Some j) found =
-    ⊎_elim (λ (low : i < j). absurd (first_place-before want list j i found low here))
-    (λ (high : j ≤ i). ⊎_elim (λ (less : j < i). absurd (before j less (first_place-bit want list j found)))
-    (λ (same : i ≤ j). let e : j ≡ i = omega arith in ap Some e) (cases_lt j i)) (cases_lt i j)
-
-pub first_place-is : (want : Bool) (list : List Bool) (i : ℕ) → i < length list → slice_index_or list i false ≡ want → ((k : ℕ) → k < i → slice_index_or list k false ≢ want) → first_place want list ≡ Some i
-first_place-is want list i inside here before = first_is want list i inside here before (first_place want list) refl
-
-last_is : (want : Bool) (list : List Bool) (i : ℕ) → i < length list → slice_index_or list i false ≡ want → ((k : ℕ) → i < k → k < length list → slice_index_or list k false ≢ want) → (o : Option ℕ) → last_place want list ≡ o → o ≡ Some i
-last_is want list i inside here after None found = absurd (last_place-absent want list found i inside here)
-last_is want list i inside here after (Some j) found =
-    ⊎_elim (λ (high : j < i). absurd (last_place-after want list j i found high inside here))
-    (λ (low : i ≤ j). ⊎_elim (λ (more : i < j). absurd (after j more (last_place-below want list j found) (last_place-bit want list j found)))
-    (λ (same : j ≤ i). let e : j ≡ i = omega arith in ap Some e) (cases_lt i j)) (cases_lt j i)
-
-pub last_place-is : (want : Bool) (list : List Bool) (i : ℕ) → i < length list → slice_index_or list i false ≡ want → ((k : ℕ) → i < k → k < length list → slice_index_or list k false ≢ want) → last_place want list ≡ Some i
-last_place-is want list i inside here after = last_is want list i inside here after (last_place want list) refl
-
-first_none : (want : Bool) (list : List Bool) → ((k : ℕ) → k < length list → slice_index_or list k false ≢ want) → (o : Option ℕ) → first_place want list ≡ o → o ≡ None
-first_none want list absent None found = refl
-first_none want list absent (Some j) found = absurd (absent j (first_place-below want list j found) (first_place-bit want list j found))
-
-pub first_place-none : (want : Bool) (list : List Bool) → ((k : ℕ) → k < length list → slice_index_or list k false ≢ want) → first_place want list ≡ None
-first_place-none want list absent = first_none want list absent (first_place want list) refl
-
-last_none : (want : Bool) (list : List Bool) → ((k : ℕ) → k < length list → slice_index_or list k false ≢ want) → (o : Option ℕ) → last_place want list ≡ o → o ≡ None
-last_none want list absent None found = refl
-last_none want list absent (Some j) found = absurd (absent j (last_place-below want list j found) (last_place-bit want list j found))
-
-pub last_place-none : (want : Bool) (list : List Bool) → ((k : ℕ) → k < length list → slice_index_or list k false ≢ want) → last_place want list ≡ None
-last_place-none want list absent = last_none want list absent (last_place want list) refl
 
 -- ---- the bits of an element
 
@@ -147,7 +112,7 @@ first-trailing b n z width fits is apart =
     ⊎_elim (λ (some : 0 < n).
     let lowest = rw (← is) at (lowest_one b width n some fits) in
     let below = lowest.0 in
-    sym (first_place-is true (element_bits b (λ b i. i) n) z (omega arith) (bit-set b (λ b i. i) n z below lowest.1) (λ k before. clear_apart b (λ b i. i) n k (omega arith) (lowest.2 k before))))
+    sym (first_place-found true (element_bits b (λ b i. i) n) z (omega arith) (bit-set b (λ b i. i) n z below lowest.1) (λ k before. clear_apart b (λ b i. i) n k (omega arith) (lowest.2 k before))))
     (λ (none : n ≤ 0). let e : n ≡ 0 = omega arith in absurd (apart (is ∙ ap (count_trailing_zeros b) e ∙ trailing_of_zero b)))
     (cases_lt 0 n)
 
@@ -174,7 +139,7 @@ last-leading b n z fits is apart =
     let j : ℕ = top.0 in
     let sum = top.1 in
     let place : j ≡ b - 1 - z = omega arith in
-    sym (last_place-is true (element_bits b (λ b i. i) n) j (omega arith) (bit-set b (λ b i. i) n j (omega arith) (top_bit n j top.2 top.3)) (λ k after inside. clear_apart b (λ b i. i) n k (omega arith) (bit_at_above n (suc j) k top.3 (omega arith))) ∙ ap Some place))
+    sym (last_place-found true (element_bits b (λ b i. i) n) j (omega arith) (bit-set b (λ b i. i) n j (omega arith) (top_bit n j top.2 top.3)) (λ k after inside. clear_apart b (λ b i. i) n k (omega arith) (bit_at_above n (suc j) k top.3 (omega arith))) ∙ ap Some place))
     (λ (none : n ≤ 0). let e : n ≡ 0 = omega arith in absurd (apart (is ∙ ap (count_leading_zeros b) e ∙ leading_of_zero b)))
     (cases_lt 0 n)
 
@@ -214,7 +179,7 @@ first-mirrored b n p found =
     let below = last-below_width b n p found in
     let back : b - 1 - (b - 1 - p) ≡ p = omega arith in
     let one = set-bit b (λ b i. i) n p below (last_place-bit true (element_bits b (λ b i. i) n) p (sym found)) in
-    sym (first_place-is true (element_bits b (λ b i. b - 1 - i) n) (b - 1 - p) (omega arith) (bit-set b (λ b i. b - 1 - i) n (b - 1 - p) (omega arith) (ap (bit_at n) back ∙ one))
+    sym (first_place-found true (element_bits b (λ b i. b - 1 - i) n) (b - 1 - p) (omega arith) (bit-set b (λ b i. b - 1 - i) n (b - 1 - p) (omega arith) (ap (bit_at n) back ∙ one))
     (λ k before. mirrored_clear b n k (omega arith) (λ set. last_place-after true (element_bits b (λ b i. i) n) p (b - 1 - k) (sym found) (omega arith) (omega arith) (bit-set b (λ b i. i) n (b - 1 - k) (omega arith) set))))
 
 pub last-mirrored : (b n p : ℕ) → Some p ≡ first_place true (element_bits b (λ b i. i) n) → Some (b - 1 - p) ≡ last_place true (element_bits b (λ b i. b - 1 - i) n)
@@ -224,5 +189,5 @@ last-mirrored b n p found =
     let below = first-below_width b n p found in
     let back : b - 1 - (b - 1 - p) ≡ p = omega arith in
     let one = set-bit b (λ b i. i) n p below (first_place-bit true (element_bits b (λ b i. i) n) p (sym found)) in
-    sym (last_place-is true (element_bits b (λ b i. b - 1 - i) n) (b - 1 - p) (omega arith) (bit-set b (λ b i. b - 1 - i) n (b - 1 - p) (omega arith) (ap (bit_at n) back ∙ one))
+    sym (last_place-found true (element_bits b (λ b i. b - 1 - i) n) (b - 1 - p) (omega arith) (bit-set b (λ b i. b - 1 - i) n (b - 1 - p) (omega arith) (ap (bit_at n) back ∙ one))
     (λ k after inside. mirrored_clear b n k (omega arith) (λ set. first_place-before true (element_bits b (λ b i. i) n) p (b - 1 - k) (sym found) (omega arith) (bit-set b (λ b i. i) n (b - 1 - k) (omega arith) set))))

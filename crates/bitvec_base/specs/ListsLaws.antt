@@ -74,7 +74,7 @@ combined-is f list other new long each = fill_by_all (λ i. f (slice_index_or li
 
 -- ---- places of a bit
 
-range_with_len-add : (a n m : ℕ) → range_with_len a (n + m) ≡ range_with_len a n ++ range_with_len (a + n) m
+pub range_with_len-add : (a n m : ℕ) → range_with_len a (n + m) ≡ range_with_len a n ++ range_with_len (a + n) m
 range_with_len-add a zero m =
     let from : a + 0 ≡ a = omega arith in let long : 0 + m ≡ m = omega arith in rw (from, long) refl
 range_with_len-add a (suc n) m =

@@ -1,1 +1,2 @@
-mod Places
+pub mod FieldPlaces
+pub mod Places

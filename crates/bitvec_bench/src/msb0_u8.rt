@@ -1,12 +1,13 @@
 //! The exports over `u8` elements in `Msb0` order.
-ghost use Rattle.std.specs.Prelude.{◌≡◌, ◌-◌, ◌≤◌, count_by, map, not, replicate, reverse, true};
+ghost use Rattle.std.specs.Prelude.{◌≡◌, ◌-◌, ◌*◌, ◌≤◌, count_by, map, not, replicate, reverse, true};
 ghost use Rattle.std.specs.Option.{unwrap_or};
 ghost use Rattle.bitvec_base.specs.Lists.{combined, copied_within, first_place, places_of, rotated_left, same_bits, shifted_start};
 ghost use Rattle.bitvec_words.specs.Operator.{operator};
 ghost use Rattle.bitvec_words.specs.declared.operator.BitOp.TheVariants.{Or};
 ghost use Rattle.bitvec_bench.specs.Bits.{HasBits, Wrote, bits_in, from_most, wrapped_sum};
+ghost use Rattle.bitvec_bench.specs.Fields.{field_numbers, numbered_fields};
 
-use crate::{edits, questions, transfers};
+use crate::{edits, fields, questions, transfers};
 use bitvec_base::Msb0;
 
 /// Copies `len` bits.
@@ -180,4 +181,28 @@ pub extern "C" fn bitvec_bench_iter_ones_u8_msb0(elements: &[u8], start: usize, 
     ensures { result ≡ wrapped_sum (places_of true (bits_in 8 from_most elements.now start len)) }
 {
     questions::sum_of_ones::<u8, Msb0>(elements, start, len)
+}
+
+/// The sum of the numbers of `count` fields of 12 bits that follow one another, as far as a `usize`
+/// holds it.
+#[unsafe(no_mangle)]
+pub extern "C" fn bitvec_bench_load_fields_u8_msb0(
+    elements: &[u8],
+    start: usize,
+    count: usize,
+) -> usize
+    requires { HasBits 8 elements.now start (12 * count) }
+    ensures { result ≡ wrapped_sum (field_numbers true (bits_in 8 from_most elements.now start (12 * count)) count) }
+{
+    fields::sum::<u8, Msb0>(elements, start, count)
+}
+
+/// Stores its index in each of `count` fields of 12 bits that follow one another, without the bits of
+/// the index past the twelfth.
+#[unsafe(no_mangle)]
+pub extern "C" fn bitvec_bench_store_fields_u8_msb0(elements: &mut [u8], start: usize, count: usize)
+    requires { HasBits 8 elements.old start (12 * count) }
+    ensures { Wrote 8 from_most elements.old elements.new start (12 * count) (numbered_fields true count) }
+{
+    fields::number::<u8, Msb0>(elements, start, count);
 }

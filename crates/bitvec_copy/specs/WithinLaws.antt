@@ -16,8 +16,8 @@ use Rattle.bitvec_walk.specs.Cost.{touched, work_steps, write_loads}
 use Rattle.bitvec_walk.specs.WalkLaws.{touched-none}
 use Rattle.bitvec_words.specs.Elements.{elements_window, elements_window_from}
 use Rattle.bitvec_words.specs.FieldLaws.{Writes-none, element_of, list-both, list-whole}
-use Rattle.bitvec_words.specs.TouchedLaws.{touched-edge, touched-first, touched-inside}
-use Rattle.bitvec_words.specs.WholeLaws.{touched-behind, touched-behind_from}
+use Rattle.bitvec_words.specs.TouchedLaws.{touched-after, touched-edge, touched-first, touched-inside}
+use Rattle.bitvec_words.specs.WholeLaws.{touched-behind_from}
 
 -- ---- writes side by side, the second place first
 
@@ -248,7 +248,7 @@ touched-split_whole b s n m some fits =
     let gone = rw (rest, nothing) at all in
     rw (rest, nothing) (omega arith))
     (cases_lt 0 n))
-    (λ (edge : s % b ≤ 0). let all = touched-behind b s n m some (omega arith) fits in omega arith)
+    (λ (edge : s % b ≤ 0). let all = touched-after b s n m some (omega arith) fits in omega arith)
     (cases_lt 0 (s % b))
 
 -- ---- a window that lies in one element

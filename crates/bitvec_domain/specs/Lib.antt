@@ -1,5 +1,4 @@
 pub mod CutLaws
 pub mod Cuts
-pub mod DomainLaws
 pub mod Domains
 pub mod Parts

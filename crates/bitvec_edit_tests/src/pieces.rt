@@ -3,7 +3,7 @@ ghost use Rattle.std.specs.Prelude.{◌≡◌, ℕ, ◌+◌, ◌*◌, ◌%◌, �
 ghost use Rattle.bitvec_base.specs.Lists.{rotated_left};
 ghost use Rattle.bitvec_base.specs.Memory.{memory_bits};
 ghost use Rattle.bitvec_base.specs.Window.{max_bits, write_at};
-ghost use Rattle.bitvec_cutting.specs.Cutting.{back_chunk, chunk_count, cut};
+ghost use Rattle.bitvec_cutting.specs.Cutting.{back_chunk, chunk_count, cut, whole_chunk, whole_count};
 ghost use Rattle.bitvec_slice.specs.Views.{seen_mut};
 ghost use Rattle.bitvec_slice.specs.Writes.{WritesBits};
 
@@ -140,6 +140,32 @@ pub fn invert_back_chunks<T: BitStore, O: SliceOrder>(view: &mut BitSliceMut<'_,
         ≡ map not (cut (seen_mut view.old).bits (back_chunk size (seen_mut view.old).window.len k)) }
 {
     view.for_each_rchunk_mut(size, |_index, piece| piece.invert());
+}
+
+/// Flips each whole chunk of `size` bits.
+pub fn invert_whole_chunks<T: BitStore, O: SliceOrder>(
+    view: &mut BitSliceMut<'_, T, O>,
+    size: usize,
+)
+    requires { 0 < size }
+    ensures { (k : ℕ) → k < whole_count size (seen_mut view.old).window.len
+        → cut (seen_mut view.new).bits (whole_chunk size (seen_mut view.old).window.len k)
+        ≡ map not (cut (seen_mut view.old).bits (whole_chunk size (seen_mut view.old).window.len k)) }
+{
+    view.for_each_chunk_exact_mut(size, |_index, piece| piece.invert());
+}
+
+/// Flips each whole chunk of `size` bits, counted from the end.
+pub fn invert_whole_back_chunks<T: BitStore, O: SliceOrder>(
+    view: &mut BitSliceMut<'_, T, O>,
+    size: usize,
+)
+    requires { 0 < size }
+    ensures { (k : ℕ) → k < whole_count size (seen_mut view.old).window.len
+        → cut (seen_mut view.new).bits (back_chunk size (seen_mut view.old).window.len k)
+        ≡ map not (cut (seen_mut view.old).bits (back_chunk size (seen_mut view.old).window.len k)) }
+{
+    view.for_each_rchunk_exact_mut(size, |_index, piece| piece.invert());
 }
 
 /// Makes chunks of three bits from the end ones and zeros by turns.

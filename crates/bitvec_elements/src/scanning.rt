@@ -20,7 +20,7 @@ pub fn first_in<T: BitStore, O: SliceOrder>(
     ensures { result ≡ first_place want (list_in T.BITS O.at (map T.value cells.now) window) }
 {
     let mut accessor = Shared::new(cells);
-    O::scan_first::<Shared<T>>(&mut accessor, window, want)
+    O::search_first::<Shared<T>>(&mut accessor, window, want)
 }
 
 /// The index of a window's last bit that is `want`, if there is one. Condition: as of [`first_in`].

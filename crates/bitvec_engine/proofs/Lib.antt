@@ -1,3 +1,4 @@
 pub mod CountLemmas
 pub mod NeedleLemmas
 pub mod ScanLemmas
+pub mod WordScanLemmas

@@ -14,6 +14,7 @@ mod needles;
 mod reversing;
 mod rotating;
 mod scanning;
+mod scanning_words;
 mod shifting;
 mod slice_order;
 mod swapping;

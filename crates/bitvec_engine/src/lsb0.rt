@@ -3,6 +3,7 @@
 
 ghost use Rattle.std.specs.Prelude.{refl, true};
 
+use crate::scanning_words::words_scan_first;
 use crate::slice_order::{ByWords, SliceOrder};
 use bitvec_base::{Lsb0, Window};
 use bitvec_cells::{Cells, CellsRead};
@@ -68,6 +69,10 @@ impl SliceOrder for Lsb0 {
 
     fn block_reverse<C: Cells>(cells: &mut C, window: Window) {
         reverse::<Self, C>(cells, window);
+    }
+
+    fn search_first<C: CellsRead>(cells: &mut C, window: Window, want: bool) -> Option<usize> {
+        words_scan_first::<Self, C>(cells, window, want)
     }
 }
 

@@ -25,10 +25,13 @@ pub fn bits_scan_first<O: BitOrder, C: CellsRead>(
     ensures value { result ≡ first_place want (list_in C.Elem.BITS O.at (C.numbers cells.old) window) }
     ensures reads { OnlyReadsAtMost C.CellsRead cells.old cells.new (first_loads C.Elem.BITS window result) }
 {
+    let bits = C::Elem::BITS as usize;
+    if window.start % bits == 0 {
+        return first_aligned::<O, C>(cells, window, want);
+    }
     if window.len == 0 {
         return None;
     }
-    let bits = C::Elem::BITS as usize;
     let head = first_part(bits, window);
     if let Some(found) = first_in_part::<O, C>(cells, head, want) {
         return Some(found);
@@ -196,7 +199,7 @@ pub fn any<O: SliceOrder, C: CellsRead>(cells: &mut C, window: Window) -> bool
     ensures value { result ≡ list_any (λ bit. bit) (list_in C.Elem.BITS O.at (C.numbers cells.old) window) }
     ensures reads { OnlyReadsAtMost C.CellsRead cells.old cells.new (touched C.Elem.BITS window.start window.len) }
 {
-    O::scan_first::<C>(cells, window, true).is_some()
+    O::search_first::<C>(cells, window, true).is_some()
 }
 
 /// Whether every bit of a window is 1; an empty window's are. Condition: as of [`bits_scan_first`].
@@ -206,5 +209,5 @@ pub fn all<O: SliceOrder, C: CellsRead>(cells: &mut C, window: Window) -> bool
     ensures value { result ≡ list_all (λ bit. bit) (list_in C.Elem.BITS O.at (C.numbers cells.old) window) }
     ensures reads { OnlyReadsAtMost C.CellsRead cells.old cells.new (touched C.Elem.BITS window.start window.len) }
 {
-    O::scan_first::<C>(cells, window, false).is_none()
+    O::search_first::<C>(cells, window, false).is_none()
 }

@@ -11,3 +11,4 @@ mod words;
 
 pub use reversing::reverse;
 pub use swapping::swap;
+pub use words::load_elements;

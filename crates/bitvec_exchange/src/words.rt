@@ -31,9 +31,9 @@ pub(crate) fn load_word<O: WordOrder, C: CellsRead>(cells: &mut C, window: Windo
     joined::<O, u64>(word, behind, skip)
 }
 
-/// The bits of the elements of one word from the element `first` on. Condition: as of
-/// [`load_word`].
-fn load_elements<O: WordOrder, C: CellsRead>(cells: &mut C, first: usize) -> u64
+/// The bits of the elements of one word from the element `first` on. Condition: the elements are
+/// narrower than a word, and lie in a memory of at most `MAX_BITS` bits. It loads each of them once.
+pub fn load_elements<O: WordOrder, C: CellsRead>(cells: &mut C, first: usize) -> u64
     requires window { HasWindow C.Elem.BITS (C.numbers cells.old) (elements_window C.Elem.BITS first (64 / C.Elem.BITS)) }
     requires narrow { C.Elem.BITS < 64 }
     ensures value { element_bits 64 O.at result

@@ -37,7 +37,8 @@ pub(crate) fn load_be_in<T: BitStore, O: FieldOrder, I: Integral>(cells: &[T], w
     I::from_bits(number, window.len as u32)
 }
 
-/// Stores an integer in a window, the first segment lowest. Condition: as of [`load_le_in`].
+/// Stores an integer in a window, the first segment lowest. Condition: as of [`load_le_in`], but the
+/// window may be empty.
 pub(crate) fn store_le_in<T: BitStore, O: FieldOrder, I: Integral>(
     cells: &mut [T],
     window: Window,
@@ -52,7 +53,8 @@ pub(crate) fn store_le_in<T: BitStore, O: FieldOrder, I: Integral>(
     O::store_le::<Exclusive<T>>(&mut accessor, window, value.to_bits());
 }
 
-/// Stores an integer in a window, the first segment highest. Condition: as of [`load_le_in`].
+/// Stores an integer in a window, the first segment highest. Condition: as of [`load_le_in`], but the
+/// window may be empty.
 pub(crate) fn store_be_in<T: BitStore, O: FieldOrder, I: Integral>(
     cells: &mut [T],
     window: Window,

@@ -94,11 +94,11 @@ impl Integral for u128 {
     ghost value = { λ x. pos x };
 
     fn from_bits(number: u128, bits: u32) -> u128 {
-        number as u128
+        number
     }
 
     fn to_bits(self) -> u128 {
-        self as u128
+        self
     }
 
     ghost bits_law = { Prim.search rules };

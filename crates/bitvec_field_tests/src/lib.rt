@@ -2,6 +2,10 @@
 #![tactic(auto)]
 
 #[cfg(test)]
+mod chunks;
+#[cfg(test)]
+mod costs;
+#[cfg(test)]
 mod laws;
 #[cfg(test)]
 mod parts;

@@ -19,23 +19,6 @@ fn a_signed_load_is_extended(rt: HostRuntime) {
 }
 
 #[test]
-fn chunks_of_five_bits_hold_their_numbers(rt: HostRuntime) {
-    let mut cells = [0u8; 5];
-    for chunk in 0..8usize {
-        assert!(rt;
-            store_at::<u8, Msb0, u8>(&mut cells, 5 * chunk..5 * chunk + 5, false, 4 * chunk as u8)
-        );
-    }
-    assert_eq!(rt; cells, [0x01, 0x10, 0xC8, 0x53, 0x1C]);
-    for chunk in 0..8usize {
-        assert!(rt;
-            load_at::<u8, Msb0, u8>(&cells, 5 * chunk..5 * chunk + 5, false)
-                == Some(4 * chunk as u8)
-        );
-    }
-}
-
-#[test]
 fn a_negative_number_comes_back_from_the_lower_end(rt: HostRuntime) {
     let mut cells = [0u8, 0];
     assert!(rt; store_at::<u8, Msb0, i8>(&mut cells, 6..10, true, -3));

@@ -83,6 +83,15 @@ fn windows_of_five_bits(rt: HostRuntime) -> Result<(), Fail> {
     let cells = [0x17u8];
     let all = BitSlice::<u8, Msb0>::from_slice(&cells);
     let view = all.get(0..5).ok_or("no such bits")?;
+    let mut forward = view.windows(3);
+    assert_eq!(rt;
+        (read(forward.next()), read(forward.next())),
+        (Some((3, 0)), Some((3, 1)))
+    );
+    assert_eq!(rt;
+        (read(forward.next()), read(forward.next())),
+        (Some((3, 2)), None)
+    );
     let mut windows = view.windows(3);
     assert_eq!(rt; read(windows.nth_back(1)), Some((3, 1)));
     assert_eq!(rt;

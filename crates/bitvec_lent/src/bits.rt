@@ -90,6 +90,7 @@ impl<'a, T: BitStore, O: BitOrder> IterMut<'a, T, O> {
     }
 
     /// The old name of [`IterMut::as_bitslice`].
+    #[deprecated]
     pub fn as_slice(&self) -> BitSlice<'_, T, O>
         ensures { IsRangeOf T.BITS (bits_left self.now).view (start_of (bits_left self.now)) (bits_left self.now).back (seen result) }
     {
@@ -112,6 +113,7 @@ impl<'a, T: BitStore, O: BitOrder> IterMut<'a, T, O> {
     }
 
     /// The old name of [`IterMut::into_bitslice`].
+    #[deprecated]
     pub fn into_slice(self) -> BitSliceMut<'a, T, O>
         ensures { IsRangeOf T.BITS (bits_left self.entry).view (start_of (bits_left self.entry)) (bits_left self.entry).back (seen_mut result) }
     {

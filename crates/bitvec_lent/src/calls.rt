@@ -11,8 +11,8 @@ use bitvec_cutting::{InChunks, InChunksFromEnd, InExactChunks, InExactChunksFrom
 use bitvec_slice::BitSliceMut;
 use bitvec_store::BitStore;
 
-/// The crate's calls on a `&mut BitSlice` that give pieces of it for writing, lent one at a time. Indices
-/// and widths are in bits.
+/// The crate's calls on a `&mut BitSlice` that give pieces of it for writing, lent one at a time.
+/// Indices and widths are in bits.
 pub trait PieceCallsMut<T: BitStore, O: BitOrder> {
     ghost use Rattle.bitvec_slice.specs.Seen.{IsGiven, Seen};
     ghost use Rattle.bitvec_lent.specs.Bits.{IsAllOf, bits_left, name_of_bits};
@@ -52,28 +52,32 @@ pub trait PieceCallsMut<T: BitStore, O: BitOrder> {
         ensures { IsGiven (0 < (shows self.old).window.len)
             (IsCutOf (shows self.old) ((shows self.old).window.len - 1)) result };
 
-    /// The chunks of `width` bits from the first bit on: the last may be shorter. Condition: `width` is not 0.
+    /// The chunks of `width` bits from the first bit on: the last may be shorter. Condition: `width` is
+    /// not 0.
     fn chunks_mut(&mut self, width: usize) -> ChunksMut<'_, T, O>
         requires { 0 < width }
         ensures* writes_back { sem 𝓛 (follows Self.row (Array T.row 0) self.entry.ghost_name (name_of_pieces result) (with_elements self.old)) }
         ensures walk { IsWalkOf (shows self.old) (chunk_count width (shows self.old).window.len) (walk_of result) }
         ensures width { (walk_of result).cutting.width ≡ width };
 
-    /// The whole chunks of `width` bits from the first bit on: the others are the remainder. Condition: `width` is not 0.
+    /// The whole chunks of `width` bits from the first bit on: the others are the remainder. Condition:
+    /// `width` is not 0.
     fn chunks_exact_mut(&mut self, width: usize) -> ChunksExactMut<'_, T, O>
         requires { 0 < width }
         ensures* writes_back { sem 𝓛 (follows Self.row (Array T.row 0) self.entry.ghost_name (name_of_pieces result) (with_elements self.old)) }
         ensures walk { IsWalkOf (shows self.old) (whole_count width (shows self.old).window.len) (walk_of result) }
         ensures width { (walk_of result).cutting.width ≡ width };
 
-    /// The chunks of `width` bits from the last bit on: the last, which begins the view, may be shorter. Condition: `width` is not 0.
+    /// The chunks of `width` bits from the last bit on: the last, which begins the view, may be shorter.
+    /// Condition: `width` is not 0.
     fn rchunks_mut(&mut self, width: usize) -> RChunksMut<'_, T, O>
         requires { 0 < width }
         ensures* writes_back { sem 𝓛 (follows Self.row (Array T.row 0) self.entry.ghost_name (name_of_pieces result) (with_elements self.old)) }
         ensures walk { IsWalkOf (shows self.old) (chunk_count width (shows self.old).window.len) (walk_of result) }
         ensures width { (walk_of result).cutting.width ≡ width };
 
-    /// The whole chunks of `width` bits from the last bit on: the others are the remainder. Condition: `width` is not 0.
+    /// The whole chunks of `width` bits from the last bit on: the others are the remainder. Condition:
+    /// `width` is not 0.
     fn rchunks_exact_mut(&mut self, width: usize) -> RChunksExactMut<'_, T, O>
         requires { 0 < width }
         ensures* writes_back { sem 𝓛 (follows Self.row (Array T.row 0) self.entry.ghost_name (name_of_pieces result) (with_elements self.old)) }

@@ -69,7 +69,7 @@ fn chunks_from_the_end(rt: HostRuntime) {
     assert_eq!(rt; bytes, [0x03]);
 }
 
-/// How many chunks are left when all were passed but one, and that one is taken.
+/// How many chunks are left where more were passed than there are.
 fn left_at_last(bytes: &mut [u8; 1]) -> usize {
     let mut view = BitSliceMut::<u8, Lsb0>::from_slice_mut(bytes);
     let mut chunks = view.chunks_mut(3);
@@ -83,8 +83,8 @@ fn a_walk_that_ended_stays_ended(rt: HostRuntime) {
     assert_eq!(rt; left_at_last(&mut bytes), 0);
 }
 
-/// Flips the first bit of each chunk of three, by the calls that give no `Option`.
-fn flip_first_bits(bytes: &mut [u8; 1]) {
+/// Sets the first bit of each chunk of three, by the calls that give no `Option`.
+fn set_first_bits(bytes: &mut [u8; 1]) {
     let mut view = BitSliceMut::<u8, Lsb0>::from_slice_mut(bytes);
     let mut chunks = view.chunks_mut(3);
     for _ in 0..chunks.len() {
@@ -101,6 +101,6 @@ fn flip_first_bits(bytes: &mut [u8; 1]) {
 #[test]
 fn each_chunk_is_taken(rt: HostRuntime) {
     let mut bytes = [0x00];
-    flip_first_bits(&mut bytes);
+    set_first_bits(&mut bytes);
     assert_eq!(rt; bytes, [0x49]);
 }

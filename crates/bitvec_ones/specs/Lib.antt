@@ -1,2 +1,4 @@
 pub mod Indices
 pub mod IndicesLaws
+pub mod Kept
+pub mod KeptLaws

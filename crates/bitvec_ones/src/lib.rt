@@ -1,6 +1,7 @@
 //! Walks over the indices of the bits of a view that are 1, and of those that are 0.
 #![tactic(auto)]
 
+mod kept;
 mod ones_calls;
 mod places;
 mod views;

@@ -1,15 +1,18 @@
 //! The indices of the bits of a view that are 1, or 0, from both ends.
 ghost use Rattle.std.specs.Prelude.{◌≡◌, ⊤};
+ghost use Rattle.bitvec_base.specs.Memory.{element_bits};
 ghost use Rattle.bitvec_slice.specs.Views.{seen};
 ghost use Rattle.bitvec_turns.specs.Places.{IsRestOf};
+ghost use Rattle.bitvec_ones.specs.Kept.{Keeps};
 
+use crate::kept::{keep_first, take_kept};
 use crate::wanted::{Ones, Wanted, Zeros};
 use bitvec_base::BitOrder;
 use bitvec_cells::Shared;
 use bitvec_engine::SliceOrder;
 use bitvec_slice::BitSlice;
 use bitvec_store::BitStore;
-use bitvec_turns::{Rest, count_left, take_first, take_last};
+use bitvec_turns::{Rest, count_left, take_last};
 use std::alloc::AllocError;
 use std::iter::FusedIterator;
 use std::marker::PhantomData;
@@ -17,14 +20,18 @@ use std::marker::PhantomData;
 /// The indices of the bits of a view that `W` names, ascending from the front and descending from
 /// the back.
 ///
-/// Each call of `next` or `next_back` is a search of the bits that are left from that end, so that
-/// a walk loads each element once and once more for each index given. How many indices are left is
-/// counted at each call of `len` or `size_hint`.
+/// A walk from the front loads each element once, and keeps its bits until their indices are given;
+/// the first element is loaded when the walk is made. Each call of `next_back` is a search of the
+/// bits that are left from the back, so that it loads an element once more for each index given. How
+/// many indices are left is counted at each call of `len` or `size_hint`.
 pub struct Places<'a, T: BitStore, O: BitOrder, W: Wanted> {
     view: BitSlice<'a, T, O>,
     rest: Rest,
+    ones: T,
+    edge: usize,
     wanted: PhantomData<W>,
     ghost inside: { IsRestOf rest (seen view).window.len },
+    ghost keeps: { Keeps T.BITS (seen view).window.start W.BIT (seen view).bits rest.front edge (element_bits T.BITS O.at (T.value ones)) },
 }
 
 /// The indices of the bits of a view that are 1.
@@ -41,7 +48,13 @@ impl<'a, T: BitStore, O: BitOrder, W: Wanted> Clone for Places<'a, T, O, W> {
     ghost is_infallible = { λ _. ⊤ };
 
     fn clone(&self) -> Result<Self, AllocError> {
-        Ok(*self)
+        Ok(Places {
+            view: self.view,
+            rest: self.rest,
+            ones: self.ones,
+            edge: self.edge,
+            wanted: PhantomData,
+        })
     }
 }
 
@@ -59,12 +72,15 @@ impl<'a, T: BitStore, O: BitOrder, W: Wanted> Places<'a, T, O, W> {
         ensures runs { RunsInOrder result }
         ensures runs_back { RunsInReverse result }
     {
+        let kept = keep_first::<T, O>(view.elements(), view.window(), W::BIT);
         Places {
             view,
             rest: Rest {
                 front: 0,
                 back: view.len(),
             },
+            ones: kept.ones,
+            edge: kept.edge,
             wanted: PhantomData,
         }
     }
@@ -97,10 +113,20 @@ impl<'a, T: BitStore, O: SliceOrder, W: Wanted> Iterator for Places<'a, T, O, W>
 
     #[tactic(auto, unfolding(crate::specs::Indices::indices_left))]
     fn next(&mut self) -> Option<usize> {
-        let mut cells = Shared::new(self.view.elements());
         let mut rest = self.rest;
-        let index = take_first::<O, Shared<T>>(&mut cells, self.view.window(), W::BIT, &mut rest);
+        let mut ones = self.ones;
+        let mut edge = self.edge;
+        let index = take_kept::<T, O>(
+            self.view.elements(),
+            self.view.window(),
+            W::BIT,
+            &mut rest,
+            &mut ones,
+            &mut edge,
+        );
         self.rest = rest;
+        self.ones = ones;
+        self.edge = edge;
         index
     }
 

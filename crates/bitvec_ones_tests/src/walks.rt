@@ -37,6 +37,11 @@ fn an_index_far_behind(rt: HostRuntime) {
         (others.nth(15), others.nth_back(0), others.next()),
         (Some(15), Some(16), None)
     );
+    let mut zeros = view.iter_zeros();
+    assert_eq!(rt;
+        (zeros.nth(usize::MAX), zeros.next(), zeros.next_back()),
+        (None, None, None)
+    );
 }
 
 #[test]

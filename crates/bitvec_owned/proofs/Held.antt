@@ -1,24 +1,34 @@
 -- Elements that were 0, and into which a list was written.
-use Rattle.std.specs.Prelude.{◌≡◌, ℕ, ◌+◌, ◌*◌, ◌<◌, ◌≤◌, Bool, false, List, ◌++◌, drop, length, map, replicate, refl, take}
+use Rattle.std.specs.Prelude.{◌≡◌, ℕ, zero, suc, ◌+◌, ◌*◌, ◌<◌, ◌≤◌, Bool, false, List, ◌++◌, drop, length, map, replicate, refl, take}
 use Rattle.std.specs.Int.{div_ceil}
 use Rattle.std.proofs.Common.{◌∙◌, ap, arith}
 use Rattle.std.proofs.lemmas.Grind.{div_ceil_times}
 use Rattle.std.proofs.lemmas.List.{length-map, length-replicate, take_at}
+use Rattle.bitvec_base.specs.FilledLaws.{bits-zeros}
 use Rattle.bitvec_base.specs.Memory.{memory_bits}
 use Rattle.bitvec_base.specs.Window.{window_of, write_at}
 use Rattle.bitvec_base.specs.WriteLaws.{range-write_at}
 use Rattle.bitvec_slice.specs.Seen.{Seen, shown}
 use Rattle.bitvec_owned.specs.Copies.{Holds}
-use Rattle.bitvec_owned.specs.ZeroLaws.{memory-zeros}
 
 module _ {T : Type 0} (b : ℕ) (at : ℕ → ℕ → ℕ) (value : T → ℕ) (some : 0 < b) where
+  numbers : (none : T) (n : ℕ) → value none ≡ 0 → map value (replicate n none) ≡ replicate n 0
+  numbers none zero is = refl
+  numbers none (suc n) is = rw (is, numbers none n is) refl
+
+  -- the bits of elements that are all 0
+  zeros : (none : T) (n : ℕ) → value none ≡ 0 → memory_bits b at (map value (replicate n none)) ≡ replicate (b * n) false
+  zeros none n is =
+      let long : length (replicate n 0) ≡ n = length-replicate {A = ℕ} n 0 in
+      rw (numbers none n is) (rw long at (bits-zeros b at (replicate n 0) (rw long refl)))
+
   holds : (cells : List T) (from n : ℕ) (list : List Bool) → n ≡ length list → length cells ≡ div_ceil (from + n) b
       → memory_bits b at (map value cells) ≡ write_at (replicate (b * length cells) false) from list → Holds b list from (shown b at value cells from n)
   unfolding window_of
   holds cells from n list long count written =
       let rounded = div_ceil_times (from + n) b some in
-      let zeros = length-replicate (b * length cells) false in
-      let fits : from + length list ≤ length (replicate (b * length cells) false) = rw (zeros, count) (omega arith) in
+      let places = length-replicate (b * length cells) false in
+      let fits : from + length list ≤ length (replicate (b * length cells) false) = rw (places, count) (omega arith) in
       record {
         bits = rw (written, long) (range-write_at (replicate (b * length cells) false) from list fits);
         start = refl;
@@ -28,12 +38,12 @@ module _ {T : Type 0} (b : ℕ) (at : ℕ → ℕ → ℕ) (value : T → ℕ) (
       }
 
   -- what such elements hold
-  pub held : (zero : T) (old cells : List T) (count from n : ℕ) (list : List Bool) (sequence : Seen T) → value zero ≡ 0 → old ≡ replicate count zero → length cells ≡ length old
+  pub held : (none : T) (old cells : List T) (count from n : ℕ) (list : List Bool) (sequence : Seen T) → value none ≡ 0 → old ≡ replicate count none → length cells ≡ length old
       → count ≡ div_ceil (from + n) b → n ≡ length list → memory_bits b at (map value cells) ≡ write_at (memory_bits b at (map value old)) from list
       → sequence ≡ shown b at value cells from n → Holds b list from sequence
-  held zero old cells count from n list sequence none zeros many rounded long written is =
-      let size : length cells ≡ count = many ∙ ap length zeros ∙ length-replicate count zero in
-      let before : memory_bits b at (map value old) ≡ replicate (b * length cells) false = rw (size, zeros) (memory-zeros b at value zero count none) in
+  held none old cells count from n list sequence is_zero filled many rounded long written is =
+      let size : length cells ≡ count = many ∙ ap length filled ∙ length-replicate count none in
+      let before : memory_bits b at (map value old) ≡ replicate (b * length cells) false = rw (size, filled) (zeros none count is_zero) in
       rw is (holds cells from n list long (size ∙ rounded) (written ∙ ap (λ (memory : List Bool). write_at memory from list) before))
 
 -- lists as long as each other, seen through their numbers; and a list put in the place of one as long

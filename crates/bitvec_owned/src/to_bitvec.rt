@@ -40,7 +40,7 @@ pub trait ToBitVec<T: BitStore, O: SliceOrder> {
         copy_of(self.to_copy(), alloc)
     }
 
-    /// The same as [`ToBitVec::to_bitvec`].
+    /// The old name of [`ToBitVec::to_bitvec`].
     #[deprecated]
     fn to_vec<A: Allocator>(&self, alloc: A) -> Result<BitVec<T, O, A>, AllocError>
         ensures copy { IfOk result (λ copy. Holds T.BITS (shows self.now).bits

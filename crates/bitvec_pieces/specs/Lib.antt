@@ -1,9 +1,6 @@
-pub mod ChunkLaws
 pub mod LeftLaws
-pub mod Numbered
 pub mod NumberedLaws
 pub mod Pieces
 pub mod Shown
 pub mod ShownLaws
 pub mod ViewShown
-pub mod ViewShownLaws

@@ -1,56 +1,47 @@
--- Numbered pieces of a view that were edited one after the other.
-use Rattle.std.specs.Prelude.{◌≡◌, ℕ, ◌+◌, ◌-◌, ◌<◌, ◌≤◌, ◌⊎◌, Bool, List, length, slice_index_or, slice_range}
+-- Numbered pieces of a view that are edited one after the other.
+use Rattle.std.specs.Prelude.{◌≡◌, ℕ, ◌+◌, ◌<◌, ◌≤◌, ◌⊎◌, Bool, List, length, slice_index_or, slice_range, ⊤}
 use Rattle.std.specs.Borrow.{MutBor}
-use Rattle.std.specs.declared.ops.Range.{Range}
-use Rattle.std.proofs.Common.{arith, inl, inr, sym, ◌∙◌, ap, ⊎_elim}
+use Rattle.std.proofs.Common.{arith, inl, inr, sym, subst, ◌∙◌, ap, ⊎_elim}
 use borrow.Author.Count.{below_more}
-use Rattle.bitvec_base.specs.Window.{window_range, write_at}
+use Rattle.bitvec_base.specs.Window.{write_at}
 use Rattle.bitvec_base.specs.WriteLaws.{get-write_at_above, get-write_at_below, range-write_at, range-write_at_after, range-write_at_before}
 use Rattle.bitvec_base.specs.declared.window.Window.{Window}
 use Rattle.bitvec_cutting.specs.Cutting.{LiesIn, cut}
-use Rattle.bitvec_pieces.specs.Numbered.{Apart, EditsNumbered, IsLeftOut}
-use Rattle.bitvec_pieces.specs.Pieces.{IsPieceOf}
-use Rattle.bitvec_pieces.specs.Shown.{IsShown, Shown, StandsAt, StaysInPlace, WritesShown}
-use Rattle.bitvec_pieces.specs.ShownLaws.{length-shown, piece-is}
+use Rattle.bitvec_pieces.specs.Pieces.{EditsNumbered, IsApart, IsLeftOut, IsNumbered, Narrows, WayToCut}
+use Rattle.bitvec_pieces.specs.Shown.{Shown, StaysInPlace, WritesShown}
+use Rattle.bitvec_pieces.specs.ShownLaws.{length-left, length-shown, piece-before, stays-then}
 
--- the pieces before `index` were edited, and those from it on are as before, as is what lies in none
-pub record PiecesSoFar
-    {V F : Type 0} (shows : V → Shown) (step : F → ℕ → MutBor V → MutBor V → F → Type 0) (view : Shown) (count : ℕ) (place : ℕ → Range ℕ) (index : ℕ) (now : Shown)
-    : Type 0 where
-  pub stays : StaysInPlace view now
-  pub pieces : (k : ℕ) → k < index → EditsNumbered shows step view (place k) k now.bits
-  pub rest : (k : ℕ) → index ≤ k → k < count → cut now.bits (place k) ≡ cut view.bits (place k)
-  pub others : (i : ℕ) (d : Bool) → IsLeftOut count place i → slice_index_or now.bits i d ≡ slice_index_or view.bits i d
+module _ {V F : Type 0} (shows : V → Shown) (step : F → ℕ → MutBor V → ⊤ → MutBor V → F → Type 0) (view : Shown) (way : WayToCut) where
+  -- the pieces before `index` were edited, and those from it on are as before, as is what lies in none
+  pub record PiecesSoFar (index : ℕ) (now : Shown) : Type 0 where
+    pub stays : StaysInPlace view now
+    pub pieces : (k : ℕ) → k < index → EditsNumbered shows step view way k (cut now.bits (way.place view.window.len k))
+    pub rest : (k : ℕ) → index ≤ k → k < way.count view.window.len → cut now.bits (way.place view.window.len k) ≡ cut view.bits (way.place view.window.len k)
+    pub others : (i : ℕ) (d : Bool) → IsLeftOut way view.window.len i → slice_index_or now.bits i d ≡ slice_index_or view.bits i d
 
--- the next piece stands in the view as it is now, and is the piece of the view before
-module _ (view now piece : Shown) (places : Range ℕ) (stays : StaysInPlace view now) (lies : LiesIn view.window.len places)
-    (stands : StandsAt now (record { start = view.window.start + places.start; len = places.end - places.start }) piece) where
-  pub stands-there : StandsAt now (window_range now.window places.start places.end) piece
-  stands-there = record {
-    window = stands.window ∙ ap (λ (w : Window). window_range w places.start places.end) (sym stays.window);
-    memory = stands.memory;
-    elements = stands.elements;
-    name = stands.name;
-  }
+module _ {V F : Type 0} {shows : V → Shown} {step : F → ℕ → MutBor V → ⊤ → MutBor V → F → Type 0} {view now : Shown} {way : WayToCut} {index : ℕ}
+    (apart : IsApart way view.window.len) (inside : (k : ℕ) → k < way.count view.window.len → LiesIn view.window.len (way.place view.window.len k))
+    (far : PiecesSoFar shows step view way index now) (below : index < way.count view.window.len) where
+  -- the next piece lies in the view as it is now, and is the piece of the view before
+  pub next-lies : LiesIn now.window.len (way.place view.window.len index)
+  next-lies = rw far.stays.window (inside index below)
 
-  pub ends-there : places.end ≤ now.window.len
-  ends-there = rw stays.window lies.1
+  pub next-is : {window : Window} {piece : Shown} → way.count view.window.len ≤ view.window.len → Narrows now (way.place view.window.len index) window piece → IsNumbered view way index piece
+  next-is few narrowed =
+      let some = (apart index below).0 in
+      let len = narrowed.part.len in
+      let fits = view.fits in
+      let within = view.within.len in
+      record { part = piece-before _ far.stays (far.rest index (omega arith) below) narrowed.part; below = below; bound = omega arith; some = omega arith }
 
-  pub numbered-is : IsShown now → IsShown piece → cut now.bits places ≡ cut view.bits places → IsPieceOf view places.start places.end piece
-  numbered-is old new same =
-      let is = piece-is now piece places.start places.end old new lies.0 ends-there stands-there in
-      record { bits = is.bits ∙ same; start = is.start ∙ ap (λ (w : Window). w.start + places.start) stays.window; len = is.len }
-
-module _ {V F : Type 0} (shows : V → Shown) (step : F → ℕ → MutBor V → MutBor V → F → Type 0) (view now after : Shown) (count : ℕ) (place : ℕ → Range ℕ) (index : ℕ)
-    (apart : Apart count place) (inside : (k : ℕ) → k < count → LiesIn view.window.len (place k)) (below : index < count) where
-  pub pieces-next : (f g : F) (p q : MutBor V) → IsShown view → IsShown now → PiecesSoFar shows step view count place index now
-      → length (shows q.now).bits ≡ (place index).end - (place index).start → WritesShown now after (write_at now.bits (place index).start (shows q.now).bits)
-      → IsPieceOf view (place index).start (place index).end (shows p.now) → step f index p q g → PiecesSoFar shows step view count place (index + 1) after
-  pieces-next f g p q old new far long wrote is stepped =
-      let from = (place index).start in
-      let to = (place index).end in
+  pub pieces-next : {f g : F} {p q : MutBor V} {after : Shown} → IsNumbered view way index (shows p.now) → step f index p tt q g → StaysInPlace (shows p.now) (shows q.now)
+      → WritesShown now after (write_at now.bits (way.place view.window.len index).start (shows q.now).bits) → PiecesSoFar shows step view way (index + 1) after
+  pieces-next {f} {g} {p} {q} {after} is stepped kept wrote =
+      let from = (way.place view.window.len index).start in
+      let to = (way.place view.window.len index).end in
       let left = (shows q.now).bits in
-      let wide : length now.bits ≡ view.window.len = length-shown now new ∙ ap (λ w. w.len) far.stays.window in
+      let long = length-left is.part kept in
+      let wide : length now.bits ≡ view.window.len = length-shown now ∙ ap (λ (w : Window). w.len) far.stays.window in
       let order = (inside index below).0 in
       let bound = (inside index below).1 in
       let end : to ≡ from + length left = omega arith in
@@ -58,35 +49,20 @@ module _ {V F : Type 0} (shows : V → Shown) (step : F → ℕ → MutBor V →
       λ a e fits away. ap (λ (l : List Bool). slice_range l a e) wrote.bits
       ∙ ⊎_elim (λ before. range-write_at_before now.bits from left a e (omega arith) before) (λ behind. range-write_at_after now.bits from left a e (omega arith) (omega arith) (omega arith)) away in
       record {
-        stays = record {
-          outside = wrote.stays.outside ∙ far.stays.outside;
-          window = wrote.stays.window ∙ far.stays.window;
-          elements = wrote.stays.elements ∙ far.stays.elements;
-          name = wrote.stays.name ∙ far.stays.name;
-        };
-        pieces = below_more (λ k. EditsNumbered shows step view (place k) k after.bits) index
-            (λ k earlier.
-            let e = far.pieces k earlier in
-            record {
-              before = e.before;
-              after = e.after;
-              piece = e.piece;
-              left = e.left;
-              part = e.part;
-              stepped = e.stepped;
-              bits = elsewhere _ _ (inside k (omega arith)).1 (apart k index earlier below) ∙ e.bits;
-            })
+        stays = stays-then far.stays wrote.stays;
+        pieces = below_more (λ k. EditsNumbered shows step view way k (cut after.bits (way.place view.window.len k))) index
+            (λ k earlier. subst (EditsNumbered shows step view way k) (sym (elsewhere _ _ (inside k (omega arith)).1 ((apart index below).1 k earlier))) (far.pieces k earlier))
             (record {
               before = f;
               after = g;
               piece = p;
               left = q;
-              part = is;
+              is = is;
               stepped = stepped;
               bits = ap (λ (l : List Bool). slice_range l from to) wrote.bits ∙ ap (λ (n : ℕ). slice_range (write_at now.bits from left) from n) end
                   ∙ range-write_at now.bits from left (omega arith);
             });
-        rest = λ k later fits. elsewhere _ _ (inside k fits).1 (⊎_elim inr inl (apart index k (omega arith) fits)) ∙ far.rest k (omega arith) fits;
+        rest = λ k later fits. elsewhere _ _ (inside k fits).1 (⊎_elim inr inl ((apart k fits).1 index (omega arith))) ∙ far.rest k (omega arith) fits;
         others = λ i d out. ap (λ (l : List Bool). slice_index_or l i d) wrote.bits
             ∙ ⊎_elim (λ before. get-write_at_below now.bits from left i d (omega arith) before) (λ behind. get-write_at_above now.bits from left i d (omega arith) (omega arith)) (out index below)
             ∙ far.others i d out;

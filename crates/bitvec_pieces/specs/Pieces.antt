@@ -1,68 +1,102 @@
--- Parts of a view that are lent to closures in its place, and what the closures leave.
-use Rattle.std.specs.Prelude.{◌≡◌, ℕ, ◌+◌, ◌-◌, ◌*◌, ◌<◌, ◌≤◌, ◌++◌, Bool, List, min, slice_range}
+-- Pieces of a view that are lent to closures in its place, and what the closures leave.
+use Rattle.std.specs.Prelude.{◌≡◌, ℕ, ◌+◌, ◌-◌, ◌<◌, ◌≤◌, ◌⊎◌, ◌++◌, Bool, List, slice_index_or, ⊤}
 use Rattle.std.specs.Borrow.{MutBor}
-use Rattle.bitvec_base.specs.Window.{max_bits, write_at}
-use Rattle.bitvec_pieces.specs.Shown.{Shown, StaysInPlace}
+use Rattle.std.specs.declared.ops.Range.{Range}
+use Rattle.bitvec_base.specs.Window.{max_bits, window_range, write_at}
+use Rattle.bitvec_base.specs.declared.window.Window.{Window}
+use Rattle.bitvec_cutting.specs.Cutting.{back_chunk, chunk, chunk_count, cut, whole_chunk, whole_count}
+use Rattle.bitvec_pieces.specs.Shown.{Shown, StandsAt, StaysInPlace}
 
--- the piece is the view's bits from the index `from` up to, without, `to`
-pub record IsPieceOf (view : Shown) (from to : ℕ) (piece : Shown) : Type 0 where
-  pub bits : piece.bits ≡ slice_range view.bits from to
-  pub start : piece.window.start ≡ view.window.start + from
-  pub len : piece.window.len ≡ to - from
+abbrev pub range_of : ℕ → ℕ → Range ℕ
+range_of from to = record { start = from; end = to }
 
--- the piece is the view's bits from the index `index * size` on, `size` of them or as many as there are
-pub record IsChunkOf (view : Shown) (size index : ℕ) (piece : Shown) : Type 0 where
-  pub bits : piece.bits ≡ slice_range view.bits (index * size) (index * size + size)
-  pub start : piece.window.start ≡ view.window.start + index * size
-  pub len : piece.window.len ≡ min size (view.window.len - index * size)
-  pub full : index * size + size ≤ view.window.len → piece.window.len ≡ size
-  pub begins : index * size < view.window.len
-  pub bound : index < max_bits
+-- a way to cut a list into numbered pieces: how many a list of so many values has, and where in it each stands
+pub record WayToCut : Type 0 where
+  pub count : ℕ → ℕ
+  pub place : ℕ → ℕ → Range ℕ
+
+abbrev pub way_of : (ℕ → ℕ) → (ℕ → ℕ → Range ℕ) → WayToCut
+way_of count place = record { count = count; place = place }
+
+-- chunks of a size from the start and from the end, of which the last may be shorter, and those that are whole
+abbrev pub in_chunks : ℕ → WayToCut
+in_chunks size = record { count = chunk_count size; place = chunk size }
+
+abbrev pub in_back_chunks : ℕ → WayToCut
+in_back_chunks size = record { count = chunk_count size; place = back_chunk size }
+
+abbrev pub in_whole_chunks : ℕ → WayToCut
+in_whole_chunks size = record { count = whole_count size; place = whole_chunk size }
+
+abbrev pub in_whole_back_chunks : ℕ → WayToCut
+in_whole_back_chunks size = record { count = whole_count size; place = back_chunk size }
+
+-- each piece of a list of so many values has some of them, and no two have one in common
+abbrev pub IsApart : WayToCut → ℕ → Type 0
+IsApart way len = (k : ℕ) → k < way.count len → ((way.place len k).start < (way.place len k).end)
+    × ((j : ℕ) → j < k → ((way.place len j).end ≤ (way.place len k).start) ⊎ ((way.place len k).end ≤ (way.place len j).start))
+
+-- the index lies in none of them
+abbrev pub IsLeftOut : WayToCut → ℕ → ℕ → Type 0
+IsLeftOut way len i = (k : ℕ) → k < way.count len → (i < (way.place len k).start) ⊎ ((way.place len k).end ≤ i)
+
+-- the piece is the view's bits in the range
+pub record IsPieceOf (view : Shown) (range : Range ℕ) (piece : Shown) : Type 0 where
+  pub bits : piece.bits ≡ cut view.bits range
+  pub start : piece.window.start ≡ view.window.start + range.start
+  pub len : piece.window.len ≡ range.end - range.start
+
+-- the view is narrowed to its bits in the range, and `window` is where it stood
+pub record Narrows (view : Shown) (range : Range ℕ) (window : Window) (piece : Shown) : Type 0 where
+  pub stood : window ≡ view.window
+  pub stands : StandsAt view (window_range view.window range.start range.end) piece
+  pub part : IsPieceOf view range piece
+
+-- the piece is that of the number, which has some bits
+pub record IsNumbered (view : Shown) (way : WayToCut) (number : ℕ) (piece : Shown) : Type 0 where
+  pub part : IsPieceOf view (way.place view.window.len number) piece
+  pub below : number < way.count view.window.len
+  pub bound : number < max_bits
+  pub some : 0 < piece.window.len
 
 module _ {V : Type 0} (shows : V → Shown) where
-  -- an edit with this `pre` may be called on any such piece
-  abbrev pub MayEdit : (MutBor V → Type 0) → Shown → ℕ → ℕ → Type 0
-  MayEdit pre view from to = (p : MutBor V) → IsPieceOf view from to (shows p.now) → pre p
+  -- an edit with this `pre` may be called on any such piece, and one with this `post` leaves it in its place
+  pub record MayEdit {R : Type 0} (pre : MutBor V → Type 0) (post : MutBor V → R → MutBor V → Type 0) (IsPiece : Shown → Type 0) : Type 0 where
+    pub accepts : (p : MutBor V) → IsPiece (shows p.now) → pre p
+    pub in_place : (p q : MutBor V) (r : R) → IsPiece (shows p.now) → post p r q → StaysInPlace (shows p.now) (shows q.now)
 
-  -- an edit with this `post` leaves any such piece in its place
-  abbrev pub KeepsPlace : {R : Type 0} → (MutBor V → R → MutBor V → Type 0) → Shown → ℕ → ℕ → Type 0
-  KeepsPlace {R} post view from to =
-      (p q : MutBor V) (r : R) → IsPieceOf view from to (shows p.now) → post p r q → StaysInPlace (shows p.now) (shows q.now)
+  -- so it is of an edit with these steps, in any of its states, on each piece
+  abbrev pub MayEditEach : {F : Type 0} → (F → ℕ → MutBor V → Type 0) → (F → ℕ → MutBor V → ⊤ → MutBor V → F → Type 0) → Shown → WayToCut → Type 0
+  MayEditEach {F} pre step view way = (f : F) (k : ℕ) → MayEdit (pre f k) (λ p r q. (g : F) × step f k p r q g) (IsNumbered view way k)
 
-  -- such an edit was called on the piece and left the piece's bits in the view
-  abbrev pub EditsPiece : {R : Type 0} → (V → V → List Bool → Type 0) → (MutBor V → R → MutBor V → Type 0) → V → ℕ → ℕ → R → V → Type 0
-  EditsPiece writes post before from to r after =
-      (p : MutBor V) × (q : MutBor V) × IsPieceOf (shows before) from to (shows p.now) × post p r q
-      × writes before after (write_at (shows before).bits from (shows q.now).bits)
+  -- such an edit was called on the piece, and the view has there the bits that it left
+  abbrev pub EditsPiece : {R : Type 0} → (V → V → List Bool → Type 0) → (MutBor V → R → MutBor V → Type 0) → V → Range ℕ → R → V → Type 0
+  EditsPiece writes post before range r after =
+      (p : MutBor V) × (q : MutBor V) × IsPieceOf (shows before) range (shows p.now) × post p r q
+      × writes before after (write_at (shows before).bits range.start (shows q.now).bits)
 
   -- an edit with the one `post` was called on the bits before `mid`, and one with the other on those from it, and the view has what they left
   abbrev pub EditsHalves :
       {A B : Type 0} → (V → V → List Bool → Type 0) → (MutBor V → A → MutBor V → Type 0) → (MutBor V → B → MutBor V → Type 0) → V → ℕ → A → B → V → Type 0
   EditsHalves writes left right before mid a b after =
       (p : MutBor V) × (q : MutBor V) × (p2 : MutBor V) × (q2 : MutBor V)
-      × IsPieceOf (shows before) 0 mid (shows p.now) × left p a q
-      × IsPieceOf (shows before) mid (shows before).window.len (shows p2.now) × right p2 b q2
+      × IsPieceOf (shows before) (range_of 0 mid) (shows p.now) × left p a q
+      × IsPieceOf (shows before) (range_of mid (shows before).window.len) (shows p2.now) × right p2 b q2
       × writes before after ((shows q.now).bits ++ (shows q2.now).bits)
 
-  -- an edit with this `pre` may be called on any chunk, in any of its states
-  abbrev pub MayEditChunks : {F : Type 0} → (F → ℕ → MutBor V → Type 0) → Shown → ℕ → Type 0
-  MayEditChunks {F} pre view size = (f : F) (index : ℕ) (p : MutBor V) → IsChunkOf view size index (shows p.now) → pre f index p
-
-  -- an edit with these steps leaves any chunk in its place
-  abbrev pub KeepsChunks : {F : Type 0} → (F → ℕ → MutBor V → MutBor V → F → Type 0) → Shown → ℕ → Type 0
-  KeepsChunks {F} step view size =
-      (f g : F) (index : ℕ) (p q : MutBor V) → IsChunkOf view size index (shows p.now) → step f index p q g → StaysInPlace (shows p.now) (shows q.now)
-
-  -- a step of such an edit was made at the chunk, and the bits `new` from the chunk's first index on are what it left there
-  pub record EditsChunk {F : Type 0} (step : F → ℕ → MutBor V → MutBor V → F → Type 0) (view : Shown) (size index : ℕ) (new : List Bool) : Type 0 where
+  -- a step of such an edit was made at the piece of the number, and left this list there
+  pub record EditsNumbered {F : Type 0} (step : F → ℕ → MutBor V → ⊤ → MutBor V → F → Type 0) (view : Shown) (way : WayToCut) (number : ℕ) (list : List Bool) : Type 0 where
     pub before : F
     pub after : F
     pub piece : MutBor V
     pub left : MutBor V
-    pub chunk : IsChunkOf view size index (shows piece.now)
-    pub stepped : step before index piece left after
-    pub bits : slice_range new (index * size) (index * size + size) ≡ (shows left.now).bits
+    pub is : IsNumbered view way number (shows piece.now)
+    pub stepped : step before number piece tt left after
+    pub bits : list ≡ (shows left.now).bits
 
-  -- so it was at each chunk
-  pub record EditsChunks {F : Type 0} (step : F → ℕ → MutBor V → MutBor V → F → Type 0) (view : Shown) (size : ℕ) (new : List Bool) : Type 0 where
-    pub chunks : (index : ℕ) → index * size < view.window.len → EditsChunk step view size index new
+  -- so it was at each piece, the bits in no piece are as before, and so is all else
+  pub record EditsPieces {F : Type 0} (writes : V → V → List Bool → Type 0) (step : F → ℕ → MutBor V → ⊤ → MutBor V → F → Type 0) (before : V) (way : WayToCut) (after : V) : Type 0 where
+    pub pieces : (k : ℕ) → k < way.count (shows before).window.len → EditsNumbered step (shows before) way k (cut (shows after).bits (way.place (shows before).window.len k))
+    pub others : (i : ℕ) (d : Bool) → IsLeftOut way (shows before).window.len i → slice_index_or (shows after).bits i d ≡ slice_index_or (shows before).bits i d
+    pub stays : StaysInPlace (shows before) (shows after)
+    pub written : writes before after (shows after).bits

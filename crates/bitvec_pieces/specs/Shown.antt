@@ -1,11 +1,11 @@
 -- What a writable view shows of itself to edits of its parts.
 use Rattle.std.specs.Prelude.{◌≡◌, ℕ, ◌+◌, ◌≤◌, Bool, List, drop, length, take}
 use Rattle.std.specs.Borrow.{GName}
-use Rattle.bitvec_base.specs.Window.{IsWithin, max_bits, window_of, write_window}
+use Rattle.bitvec_base.specs.Window.{IsWithin, max_bits, window_of}
 use Rattle.bitvec_base.specs.declared.window.Window.{Window}
 
 -- the bits of its memory, its window there, its own bits, those before and after it, how many elements
--- the memory has, and its name among borrows
+-- the memory has, and its name among borrows: the window lies in the memory, and the bits are those in it
 pub record Shown : Type 0 where
   pub memory : List Bool
   pub window : Window
@@ -13,13 +13,10 @@ pub record Shown : Type 0 where
   pub outside : List Bool × List Bool
   pub elements : ℕ
   pub name : GName
-
--- the window lies in the memory, and the view's bits are those in it
-pub record IsShown (view : Shown) : Type 0 where
-  pub fits : length view.memory ≤ max_bits
-  pub within : IsWithin view.window (length view.memory)
-  pub bits : view.bits ≡ window_of view.memory view.window
-  pub outside : view.outside ≡ (take view.window.start view.memory, drop (view.window.start + view.window.len) view.memory)
+  pub fits : length memory ≤ max_bits
+  pub within : IsWithin window (length memory)
+  pub are_bits : bits ≡ window_of memory window
+  pub are_outside : outside ≡ (take window.start memory, drop (window.start + window.len) memory)
 
 -- the view stands at another window of the same memory
 pub record StandsAt (before : Shown) (place : Window) (after : Shown) : Type 0 where
@@ -39,4 +36,3 @@ pub record StaysInPlace (before after : Shown) : Type 0 where
 pub record WritesShown (before after : Shown) (new : List Bool) : Type 0 where
   pub bits : after.bits ≡ new
   pub stays : StaysInPlace before after
-  pub memory : after.memory ≡ write_window before.memory before.window new

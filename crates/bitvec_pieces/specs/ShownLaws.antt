@@ -1,132 +1,116 @@
--- A piece of a view that was edited in the view's place.
+-- A view that is narrowed to a piece of it, edited there, and stands again where it stood.
 use Rattle.std.specs.Prelude.{◌≡◌, ℕ, ◌+◌, ◌-◌, ◌≤◌, ◌++◌, Bool, List, drop, length, slice_range, take}
-use Rattle.std.proofs.Common.{arith, refl, rules, sym, ◌∙◌, ap, length-append, length-drop}
-use Rattle.std.proofs.lemmas.List.{places, same_lists}
+use Rattle.std.specs.declared.ops.Range.{Range}
+use Rattle.std.proofs.Common.{arith, refl, sym, ◌∙◌, ap, length-append, length-drop}
 use Rattle.bitvec_base.specs.Window.{IsWithin, window_of, window_range, write_at, write_window}
 use Rattle.bitvec_base.specs.WindowLaws.{length-window, part-of_window, part-written, window-written}
-use Rattle.bitvec_base.specs.WriteLaws.{drop-write_at, length-slice_range, length-write_at, range-write_at_after, take-write_at, write_at-all, write_at-next}
+use Rattle.bitvec_base.specs.WriteLaws.{drop-write_at, length-write_at, range-write_at_after, take-write_at, write_at-all, write_at-next, write_at-same}
 use Rattle.bitvec_base.specs.declared.window.Window.{Window}
-use Rattle.bitvec_pieces.specs.Pieces.{IsPieceOf}
-use Rattle.bitvec_pieces.specs.Shown.{IsShown, Shown, StandsAt, StaysInPlace, WritesShown}
+use Rattle.bitvec_cutting.specs.Cutting.{LiesIn, cut}
+use Rattle.bitvec_pieces.specs.Pieces.{IsPieceOf, Narrows, range_of}
+use Rattle.bitvec_pieces.specs.Shown.{Shown, StandsAt, StaysInPlace, WritesShown}
 
-pub length-shown : (view : Shown) → IsShown view → length view.bits ≡ view.window.len
-length-shown view is = ap length is.bits ∙ length-window view.memory view.window is.within
+pub length-shown : (view : Shown) → length view.bits ≡ view.window.len
+length-shown view = ap length view.are_bits ∙ length-window view.memory view.window view.within
 
--- a list that is as another before and behind a range is the other with what is now in the range
-put-back : {X : Type 0} (old new : List X) (s e : ℕ) → s ≤ e → e ≤ length old → length new ≡ length old → take s new ≡ take s old → drop e new ≡ drop e old → new ≡ write_at old s (slice_range new s e)
-unfolding write_at
-put-back old new s e order inside long before behind =
-    let mid = length-slice_range new s e (omega arith) in
-    let end : s + (e - s) ≡ e = omega arith in
-    rw (sym before, mid, end, sym behind) (same_lists _ _ (search (rules, places)) (λ k d inside. grind (arith, places)))
+-- ---- a view that stays in its place
 
-module _ (before after : Shown) (old : IsShown before) (new : IsShown after) (stays : StaysInPlace before after) where
-  kept-window : IsWithin before.window (length after.memory)
-  kept-window = rw (sym stays.window) new.within
+pub stays-then : {first second last : Shown} → StaysInPlace first second → StaysInPlace second last → StaysInPlace first last
+stays-then one two = record { outside = cc; window = cc; elements = cc; name = cc }
 
-  kept-before : take before.window.start after.memory ≡ take before.window.start before.memory
-  kept-before = rw (sym stays.window) (sym (ap (λ p. p.0) new.outside)) ∙ ap (λ p. p.0) stays.outside ∙ ap (λ p. p.0) old.outside
+module _ {before after : Shown} (stays : StaysInPlace before after) where
+  same-outside : after.outside ≡ (take before.window.start after.memory, drop (before.window.start + before.window.len) after.memory)
+  same-outside = after.are_outside ∙ ap (λ (w : Window). (take w.start after.memory, drop (w.start + w.len) after.memory)) stays.window
 
-  kept-behind : drop (before.window.start + before.window.len) after.memory ≡ drop (before.window.start + before.window.len) before.memory
-  kept-behind = rw (sym stays.window) (sym (ap (λ p. p.1) new.outside)) ∙ ap (λ p. p.1) stays.outside ∙ ap (λ p. p.1) old.outside
+  kept-outside : (take before.window.start after.memory ≡ take before.window.start before.memory)
+      × (drop (before.window.start + before.window.len) after.memory ≡ drop (before.window.start + before.window.len) before.memory)
+  kept-outside =
+      let same = sym same-outside ∙ stays.outside ∙ before.are_outside in
+      (ap (λ p. p.0) same, ap (λ p. p.1) same)
+
+  same-window : IsWithin before.window (length after.memory)
+  same-window = rw (sym stays.window) after.within
 
   -- the memory is as long as before
   pub kept-length : length after.memory ≡ length before.memory
   kept-length =
-      let e = before.window.start + before.window.len in
-      let old-start = old.within.start in
-      let old-len = old.within.len in
-      let new-start = kept-window.start in
-      let new-len = kept-window.len in
-      let rests = ap length kept-behind in
-      omega (arith, length-drop e after.memory, length-drop e before.memory)
+      let behind = ap length kept-outside.1 in
+      let old = before.within in
+      let new = same-window in
+      omega (arith, length-drop {A = Bool})
 
   -- it is the memory before with the view's bits as they are now
   pub kept-memory : after.memory ≡ write_window before.memory before.window after.bits
-  unfolding window_of
+  unfolding window_of write_at
   kept-memory =
-      let start = old.within.start in
-      let len = old.within.len in
-      let bits : after.bits ≡ window_of after.memory before.window = rw (sym stays.window) new.bits in
-      put-back before.memory after.memory before.window.start (before.window.start + before.window.len) (omega arith) (omega arith) kept-length kept-before kept-behind
-      ∙ ap (write_at before.memory before.window.start) (sym bits)
+      let start = before.window.start in
+      let end = before.window.start + before.window.len in
+      let new = same-window in
+      let long : start + length after.bits ≡ end = omega (arith, length-shown after, ap (λ (w : Window). w.len) stays.window) in
+      let outside = kept-outside in
+      let same = write_at-same after.memory start end (omega arith) (omega arith) in
+      cc
 
--- a view whose memory was written in its window
-rewritten : (before after : Shown) (new : List Bool) → IsShown before → IsShown after → length new ≡ before.window.len → after.window ≡ before.window
-    → after.memory ≡ write_window before.memory before.window new → after.elements ≡ before.elements → after.name ≡ before.name → WritesShown before after new
-rewritten before after new old is long window memory elements name =
-    let s = before.window.start in
-    let start = old.within.start in
-    let kept-before : take s after.memory ≡ take s before.memory = ap (λ (m : List Bool). take s m) memory ∙ take-write_at before.memory s new start in
-    let kept-behind : drop (s + before.window.len) after.memory ≡ drop (s + before.window.len) before.memory =
-    ap (λ (m : List Bool). drop (s + before.window.len) m) memory ∙ rw (sym long) (drop-write_at before.memory s new start) in
-    record {
-      bits = is.bits ∙ ap (λ (w : Window). window_of after.memory w) window ∙ ap (λ (m : List Bool). window_of m before.window) memory ∙ window-written before.memory before.window new old.within long;
-      stays = record {
-        outside = is.outside ∙ ap (λ (w : Window). (take w.start after.memory, drop (w.start + w.len) after.memory)) window
-            ∙ ap (λ (l : List Bool). (l, drop (s + before.window.len) after.memory)) kept-before ∙ ap (λ (l : List Bool). (take s before.memory, l)) kept-behind ∙ sym old.outside;
-        window = window;
-        elements = elements;
-        name = name;
-      };
-      memory = memory;
-    }
+-- ---- a view that is narrowed, edited and put back
 
-module _ (view piece : Shown) (from to : ℕ) where
-  pub piece-is : IsShown view → IsShown piece → from ≤ to → to ≤ view.window.len → StandsAt view (window_range view.window from to) piece → IsPieceOf view from to piece
-  piece-is old new order bound stands =
-      let end : from + (to - from) ≡ to = omega arith in
+pub piece-is : {view piece : Shown} (range : Range ℕ) → LiesIn view.window.len range → StandsAt view (window_range view.window range.start range.end) piece → IsPieceOf view range piece
+piece-is {view} {piece} range lies stands =
+    let place = window_range view.window range.start range.end in
+    let end : range.start + (range.end - range.start) ≡ range.end = omega arith in
+    let part = part-of_window view.memory view.window place range.start view.within refl (omega arith) in
+    record { bits = cc; start = ap (λ (w : Window). w.start) stands.window; len = ap (λ (w : Window). w.len) stands.window }
+
+-- the piece is that of the view before, where other pieces were edited
+pub piece-before : {view now piece : Shown} (range : Range ℕ) → StaysInPlace view now → cut now.bits range ≡ cut view.bits range → IsPieceOf now range piece → IsPieceOf view range piece
+piece-before range stays same is = record { bits = is.bits ∙ same; start = is.start ∙ ap (λ (w : Window). w.start + range.start) stays.window; len = is.len }
+
+pub length-left : {view piece left : Shown} {range : Range ℕ} → IsPieceOf view range piece → StaysInPlace piece left → length left.bits ≡ range.end - range.start
+length-left {view} {piece} {left} is stays = length-shown left ∙ ap (λ (w : Window). w.len) stays.window ∙ is.len
+
+module _ {view piece left : Shown} {range : Range ℕ} {window : Window} (lies : LiesIn view.window.len range) (narrowed : Narrows view range window piece) (stays : StaysInPlace piece left) where
+  pub may-return : IsWithin window (length left.memory)
+  may-return = rw (narrowed.stood, kept-length stays, narrowed.stands.memory) view.within
+
+  pub returned : {after : Shown} → StandsAt left window after → WritesShown view after (write_at view.bits range.start left.bits)
+  returned {after} back =
+      let memory = view.memory in
+      let start = view.window.start in
+      let place = window_range view.window range.start range.end in
+      let within = view.within in
+      let view-long = length-shown view in
+      let long = length-left narrowed.part stays in
+      let new = write_at view.bits range.start left.bits in
+      let all : length new ≡ view.window.len = length-write_at view.bits range.start left.bits (omega arith) ∙ view-long in
+      let kept = kept-memory stays in
+      let stands = narrowed.stands in
+      let stood = narrowed.stood in
+      let part = part-written memory view.window place range.start left.bits within refl (omega arith) in
+      let now : after.memory ≡ write_window memory view.window new = cc in
+      let written = window-written memory view.window new within all in
+      let front = take-write_at memory start new within.start in
+      let behind = drop-write_at memory start new within.start in
       record {
-        bits = new.bits ∙ ap (λ (m : List Bool). window_of m piece.window) stands.memory ∙ ap (λ (w : Window). window_of view.memory w) stands.window
-            ∙ part-of_window view.memory view.window (window_range view.window from to) from old.within refl (omega arith)
-            ∙ ap (λ (e : ℕ). slice_range (window_of view.memory view.window) from e) end ∙ ap (λ (l : List Bool). slice_range l from to) (sym old.bits);
-        start = ap (λ (w : Window). w.start) stands.window;
-        len = ap (λ (w : Window). w.len) stands.window;
+        bits = cc;
+        stays = record { outside = cc; window = cc; elements = cc; name = cc };
       }
 
--- the view stands again where it stood, once a piece of it was edited
-module _ (view piece left after : Shown) (from to : ℕ) where
-  pub piece-written : IsShown view → IsShown piece → IsShown left → IsShown after → from ≤ to → to ≤ view.window.len
-      → StandsAt view (window_range view.window from to) piece → StaysInPlace piece left → StandsAt left view.window after → WritesShown view after (write_at view.bits from left.bits)
-  piece-written old narrow edited new order bound stands stays back =
-      let start = old.within.start in
-      let len = old.within.len in
-      let long : length left.bits ≡ to - from =
-      length-shown left edited ∙ ap (λ (w : Window). w.len) (stays.window ∙ stands.window) in
-      let view-long = length-shown view old in
-      let now : length (write_at view.bits from left.bits) ≡ view.window.len = length-write_at view.bits from left.bits (omega arith) ∙ view-long in
-      let memory : after.memory ≡ write_window view.memory view.window (write_at view.bits from left.bits) =
-      back.memory ∙ kept-memory piece left narrow edited stays
-      ∙ ap (λ (w : Window). write_window piece.memory w left.bits) stands.window
-      ∙ ap (λ (m : List Bool). write_window m (window_range view.window from to) left.bits) stands.memory
-      ∙ part-written view.memory view.window (window_range view.window from to) from left.bits old.within refl (omega arith)
-      ∙ ap (λ (l : List Bool). write_window view.memory view.window (write_at l from left.bits)) (sym old.bits) in
-      rewritten view after (write_at view.bits from left.bits) old new now back.window memory (back.elements ∙ stays.elements ∙ stands.elements) (back.name ∙ stays.name ∙ stands.name)
+-- ---- a view of which the bits before an index were edited, and then those from it on
 
--- the bits before `mid` were edited, and then those from it are
-module _ (view half : Shown) (mid : ℕ) (left : List Bool) (old : IsShown view) (bound : mid ≤ view.window.len) (long : length left ≡ mid - 0)
-    (wrote : WritesShown view half (write_at view.bits 0 left)) where
-  pub behind-is : (to : ℕ) (piece : Shown) → to ≤ view.window.len → IsPieceOf half mid to piece → IsPieceOf view mid to piece
-  behind-is to piece within is =
-      let wide = length-shown view old in
-      record {
-        bits = is.bits ∙ ap (λ (l : List Bool). slice_range l mid to) wrote.bits ∙ range-write_at_after view.bits 0 left mid to (omega arith) (omega arith) (omega arith);
-        start = is.start ∙ ap (λ (w : Window). w.start + mid) wrote.stays.window;
-        len = is.len;
-      }
+module _ {view half piece left : Shown} {mid : ℕ} (bound : mid ≤ view.window.len) (is : IsPieceOf view (range_of 0 mid) piece) (stays : StaysInPlace piece left)
+    (wrote : WritesShown view half (write_at view.bits 0 left.bits)) where
+  pub behind-is : {other : Shown} → IsPieceOf half (range_of mid view.window.len) other → IsPieceOf view (range_of mid view.window.len) other
+  behind-is other-is =
+      let long = length-left is stays in
+      let wide = length-shown view in
+      piece-before _ wrote.stays (ap (λ (l : List Bool). slice_range l mid view.window.len) wrote.bits ∙ range-write_at_after view.bits 0 left.bits mid _ (omega arith) (omega arith) (omega arith)) other-is
 
-  pub halves-written : (after : Shown) (right : List Bool) → IsShown after → length right ≡ view.window.len - mid → WritesShown half after (write_at half.bits mid right)
-      → WritesShown view after (left ++ right)
-  halves-written after right now rest then =
-      let wide = length-shown view old in
-      let place : mid ≡ 0 + length left = omega arith in
-      let both = length-append left right in
-      let bits : after.bits ≡ left ++ right = then.bits ∙ ap (λ (l : List Bool). write_at l mid right) wrote.bits
-      ∙ ap (λ (n : ℕ). write_at (write_at view.bits 0 left) n right) place ∙ write_at-next view.bits 0 left right (omega arith) ∙ write_at-all view.bits (left ++ right) (omega arith) in
-      let stays : StaysInPlace view after = record {
-        outside = then.stays.outside ∙ wrote.stays.outside;
-        window = then.stays.window ∙ wrote.stays.window;
-        elements = then.stays.elements ∙ wrote.stays.elements;
-        name = then.stays.name ∙ wrote.stays.name;
-      } in
-      record { bits = bits; stays = stays; memory = kept-memory view after old now stays ∙ ap (λ (l : List Bool). write_window view.memory view.window l) bits }
+  pub halves-written : {other right after : Shown} → IsPieceOf view (range_of mid view.window.len) other → StaysInPlace other right → WritesShown half after (write_at half.bits mid right.bits)
+      → WritesShown view after (left.bits ++ right.bits)
+  halves-written {other} {right} other-is kept then =
+      let long = length-left is stays in
+      let rest = length-left other-is kept in
+      let wide = length-shown view in
+      let place : 0 + length left.bits ≡ mid = omega arith in
+      let next = write_at-next view.bits 0 left.bits right.bits (omega arith) in
+      let all = write_at-all view.bits (left.bits ++ right.bits) (omega (arith, length-append left.bits right.bits)) in
+      record { bits = cc; stays = stays-then wrote.stays then.stays }

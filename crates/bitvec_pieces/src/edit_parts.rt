@@ -2,10 +2,8 @@
 ghost use Rattle.std.specs.Prelude.{◌≡◌, ℕ, ◌<◌, ◌≤◌, Bool, List, length};
 ghost use Rattle.bitvec_base.specs.Window.{IsWithin, write_at};
 ghost use Rattle.bitvec_slice.specs.Indices.{HasRange};
-ghost use Rattle.bitvec_pieces.specs.Shown.{IsShown, Shown, StandsAt, StaysInPlace, WritesShown};
-ghost use Rattle.bitvec_cutting.specs.Cutting.{back_chunk, chunk_count, whole_chunk, whole_count};
-ghost use Rattle.bitvec_pieces.specs.Numbered.{Apart, EditsPieces, KeepsPieces, MayEditPieces};
-ghost use Rattle.bitvec_pieces.specs.Pieces.{EditsChunks, EditsHalves, EditsPiece, KeepsChunks, KeepsPlace, MayEdit, MayEditChunks};
+ghost use Rattle.bitvec_pieces.specs.Shown.{Shown, StandsAt, WritesShown};
+ghost use Rattle.bitvec_pieces.specs.Pieces.{EditsHalves, EditsPiece, EditsPieces, IsApart, IsPieceOf, MayEdit, MayEditEach, Narrows, way_of, in_back_chunks, in_chunks, in_whole_back_chunks, in_whole_chunks, range_of};
 
 use bitvec_base::Window;
 use bitvec_cutting::{Cutting, InChunks, InChunksFromEnd, InExactChunks, InExactChunksFromEnd};
@@ -39,27 +37,33 @@ pub trait EditParts: Sized {
         requires { IsWithin window (length (shows self.old).memory) }
         ensures { StandsAt (shows self.old) window (shows self.new) };
 
-    // A view's bits are those in its window, which lies in its memory.
-    ghost shown: { (view : Self) → IsShown (shows view) };
-
     // What shows new bits, and all else as before, was written so.
     ghost written: { (before after : Self) (new : List Bool)
         → WritesShown (shows before) (shows after) new → writes before after new };
 
-    /// `edit_with`, with all that the view shows as what a caller learns.
+    /// Narrows the view to a range of its bits, and gives where it stood. Condition: it has the range.
     #[doc(hidden)]
-    final fn edit_shown<R, F: FnOnce(&mut Self) -> R>(&mut self, range: Range<usize>, edit: F) -> R
-        requires range { HasRange range (shows self.old).window.len }
-        requires accepts { MayEdit shows (F.pre edit) (shows self.old) range.start range.end }
-        requires in_place { KeepsPlace shows (F.post edit) (shows self.old) range.start range.end }
-        ensures { EditsPiece shows (λ before after new. WritesShown (shows before) (shows after) new)
-            (F.post edit) self.old range.start range.end result self.new }
+    final fn narrow(&mut self, range: Range<usize>) -> Window
+        requires { HasRange range (shows self.old).window.len }
+        ensures { Narrows (shows self.old) range result (shows self.new) }
     {
         let window = self.place();
         self.stand_at(Window {
             start: window.start + range.start,
             len: range.end - range.start,
         });
+        window
+    }
+
+    /// `edit_with`, with all that the view shows as what a caller learns.
+    #[doc(hidden)]
+    final fn edit_shown<R, F: FnOnce(&mut Self) -> R>(&mut self, range: Range<usize>, edit: F) -> R
+        requires range { HasRange range (shows self.old).window.len }
+        requires edit { MayEdit shows (F.pre edit) (F.post edit) (IsPieceOf (shows self.old) range) }
+        ensures { EditsPiece shows (λ before after new. WritesShown (shows before) (shows after) new)
+            (F.post edit) self.old range result self.new }
+    {
+        let window = self.narrow(range);
         let result = edit(self);
         self.stand_at(window);
         result
@@ -69,9 +73,8 @@ pub trait EditParts: Sized {
     /// `edit` may be called on a view of these bits, and leaves it in its place.
     final fn edit_with<R, F: FnOnce(&mut Self) -> R>(&mut self, range: Range<usize>, edit: F) -> R
         requires range { HasRange range (shows self.old).window.len }
-        requires accepts { MayEdit shows (F.pre edit) (shows self.old) range.start range.end }
-        requires in_place { KeepsPlace shows (F.post edit) (shows self.old) range.start range.end }
-        ensures { EditsPiece shows writes (F.post edit) self.old range.start range.end result self.new }
+        requires edit { MayEdit shows (F.pre edit) (F.post edit) (IsPieceOf (shows self.old) range) }
+        ensures { EditsPiece shows writes (F.post edit) self.old range result self.new }
     {
         self.edit_shown(range, edit)
     }
@@ -86,10 +89,8 @@ pub trait EditParts: Sized {
         right: R,
     ) -> (A, B)
         requires mid { mid ≤ (shows self.old).window.len }
-        requires left_accepts { MayEdit shows (L.pre left) (shows self.old) 0 mid }
-        requires left_in_place { KeepsPlace shows (L.post left) (shows self.old) 0 mid }
-        requires right_accepts { MayEdit shows (R.pre right) (shows self.old) mid (shows self.old).window.len }
-        requires right_in_place { KeepsPlace shows (R.post right) (shows self.old) mid (shows self.old).window.len }
+        requires left { MayEdit shows (L.pre left) (L.post left) (IsPieceOf (shows self.old) (range_of 0 mid)) }
+        requires right { MayEdit shows (R.pre right) (R.post right) (IsPieceOf (shows self.old) (range_of mid (shows self.old).window.len)) }
         ensures { EditsHalves shows writes (L.post left) (R.post right) self.old mid result.0 result.1 self.new }
     {
         let len = self.place().len;
@@ -98,49 +99,36 @@ pub trait EditParts: Sized {
         (before, behind)
     }
 
-    /// Calls `edit` on each chunk of `size` bits and its number, in ascending order from 0 on; the
-    /// last chunk has as many bits as are left. Conditions: `size` is not 0; `edit` may be called on
-    /// each chunk, whatever it keeps from the calls before, and leaves it in its place.
-    final fn for_each_chunk_mut<F: FnMut(usize, &mut Self)>(&mut self, size: usize, edit: F)
-        requires size { 0 < size }
-        requires accepts { MayEditChunks shows (λ f k p. F.pre f k p) (shows self.old) size }
-        requires in_place { KeepsChunks shows (λ f k p q g. F.step f k p tt q g) (shows self.old) size }
-        ensures chunks { EditsChunks shows (λ f k p q g. F.step f k p tt q g) (shows self.old) size (shows self.new).bits }
-        ensures bits { writes self.old self.new (shows self.new).bits }
-    {
-        self.for_each_piece_mut(InChunks { width: size }, edit)
-    }
-
     /// Calls `edit` on each piece of a cutting and its number, in ascending order from 0 on.
-    /// Conditions: no two pieces overlap; `edit` may be called on each piece, whatever it keeps from
-    /// the calls before, and leaves it in its place.
+    /// Conditions: each piece has some bits, and no two overlap; `edit` may be called on each piece,
+    /// whatever it keeps from the calls before, and leaves it in its place.
     #[doc(hidden)]
     final fn for_each_piece_mut<C: Cutting, F: FnMut(usize, &mut Self)>(
         &mut self,
         cutting: C,
         mut edit: F,
     )
-        requires apart { Apart (C.pieces cutting (shows self.old).window.len) (C.place cutting (shows self.old).window.len) }
-        requires accepts { MayEditPieces shows (λ f k p. F.pre f k p) (shows self.old)
-            (C.pieces cutting (shows self.old).window.len) (C.place cutting (shows self.old).window.len) }
-        requires in_place { KeepsPieces shows (λ f k p q g. F.step f k p tt q g) (shows self.old)
-            (C.pieces cutting (shows self.old).window.len) (C.place cutting (shows self.old).window.len) }
-        ensures pieces { EditsPieces shows (λ f k p q g. F.step f k p tt q g) (shows self.old)
-            (C.pieces cutting (shows self.old).window.len) (C.place cutting (shows self.old).window.len) (shows self.new).bits }
-        ensures stays { StaysInPlace (shows self.old) (shows self.new) }
-        ensures bits { writes self.old self.new (shows self.new).bits }
+        requires apart { IsApart (way_of (C.pieces cutting) (C.place cutting)) (shows self.old).window.len }
+        requires edit { MayEditEach shows F.pre F.step (shows self.old) (way_of (C.pieces cutting) (C.place cutting)) }
+        ensures { EditsPieces shows writes F.step self.old (way_of (C.pieces cutting) (C.place cutting)) self.new }
     {
-        let window = self.place();
-        let count = cutting.count(window.len);
-        for number in 0..count {
-            let part = cutting.piece(window.len, number);
-            self.stand_at(Window {
-                start: window.start + part.start,
-                len: part.end - part.start,
-            });
+        let len = self.place().len;
+        for number in 0..cutting.count(len) {
+            let window = self.narrow(cutting.piece(len, number));
             edit(number, self);
             self.stand_at(window);
         }
+    }
+
+    /// Calls `edit` on each chunk of `size` bits and its number, in ascending order from 0 on; the
+    /// last chunk has as many bits as are left. Conditions: `size` is not 0; `edit` may be called on
+    /// each chunk, whatever it keeps from the calls before, and leaves it in its place.
+    final fn for_each_chunk_mut<F: FnMut(usize, &mut Self)>(&mut self, size: usize, edit: F)
+        requires size { 0 < size }
+        requires edit { MayEditEach shows F.pre F.step (shows self.old) (in_chunks size) }
+        ensures { EditsPieces shows writes F.step self.old (in_chunks size) self.new }
+    {
+        self.for_each_piece_mut(InChunks { width: size }, edit)
     }
 
     /// Calls `edit` on each chunk of `size` bits from the end and its number, in ascending order from
@@ -148,13 +136,8 @@ pub trait EditParts: Sized {
     /// Conditions: as of `for_each_chunk_mut`.
     final fn for_each_rchunk_mut<F: FnMut(usize, &mut Self)>(&mut self, size: usize, edit: F)
         requires size { 0 < size }
-        requires accepts { MayEditPieces shows (λ f k p. F.pre f k p) (shows self.old)
-            (chunk_count size (shows self.old).window.len) (back_chunk size (shows self.old).window.len) }
-        requires in_place { KeepsPieces shows (λ f k p q g. F.step f k p tt q g) (shows self.old)
-            (chunk_count size (shows self.old).window.len) (back_chunk size (shows self.old).window.len) }
-        ensures pieces { EditsPieces shows (λ f k p q g. F.step f k p tt q g) (shows self.old)
-            (chunk_count size (shows self.old).window.len) (back_chunk size (shows self.old).window.len) (shows self.new).bits }
-        ensures bits { writes self.old self.new (shows self.new).bits }
+        requires edit { MayEditEach shows F.pre F.step (shows self.old) (in_back_chunks size) }
+        ensures { EditsPieces shows writes F.step self.old (in_back_chunks size) self.new }
     {
         self.for_each_piece_mut(InChunksFromEnd { width: size }, edit)
     }
@@ -163,13 +146,8 @@ pub trait EditParts: Sized {
     /// the bits behind them stay. Conditions: as of `for_each_chunk_mut`.
     final fn for_each_chunk_exact_mut<F: FnMut(usize, &mut Self)>(&mut self, size: usize, edit: F)
         requires size { 0 < size }
-        requires accepts { MayEditPieces shows (λ f k p. F.pre f k p) (shows self.old)
-            (whole_count size (shows self.old).window.len) (whole_chunk size (shows self.old).window.len) }
-        requires in_place { KeepsPieces shows (λ f k p q g. F.step f k p tt q g) (shows self.old)
-            (whole_count size (shows self.old).window.len) (whole_chunk size (shows self.old).window.len) }
-        ensures pieces { EditsPieces shows (λ f k p q g. F.step f k p tt q g) (shows self.old)
-            (whole_count size (shows self.old).window.len) (whole_chunk size (shows self.old).window.len) (shows self.new).bits }
-        ensures bits { writes self.old self.new (shows self.new).bits }
+        requires edit { MayEditEach shows F.pre F.step (shows self.old) (in_whole_chunks size) }
+        ensures { EditsPieces shows writes F.step self.old (in_whole_chunks size) self.new }
     {
         self.for_each_piece_mut(InExactChunks { width: size }, edit)
     }
@@ -179,13 +157,8 @@ pub trait EditParts: Sized {
     /// `for_each_chunk_mut`.
     final fn for_each_rchunk_exact_mut<F: FnMut(usize, &mut Self)>(&mut self, size: usize, edit: F)
         requires size { 0 < size }
-        requires accepts { MayEditPieces shows (λ f k p. F.pre f k p) (shows self.old)
-            (whole_count size (shows self.old).window.len) (back_chunk size (shows self.old).window.len) }
-        requires in_place { KeepsPieces shows (λ f k p q g. F.step f k p tt q g) (shows self.old)
-            (whole_count size (shows self.old).window.len) (back_chunk size (shows self.old).window.len) }
-        ensures pieces { EditsPieces shows (λ f k p q g. F.step f k p tt q g) (shows self.old)
-            (whole_count size (shows self.old).window.len) (back_chunk size (shows self.old).window.len) (shows self.new).bits }
-        ensures bits { writes self.old self.new (shows self.new).bits }
+        requires edit { MayEditEach shows F.pre F.step (shows self.old) (in_whole_back_chunks size) }
+        ensures { EditsPieces shows writes F.step self.old (in_whole_back_chunks size) self.new }
     {
         self.for_each_piece_mut(InExactChunksFromEnd { width: size }, edit)
     }

@@ -1,6 +1,5 @@
 //! Parts of writable views are edited in place.
-ghost use Rattle.bitvec_pieces.specs.ViewShown.{shown_by};
-ghost use Rattle.bitvec_pieces.specs.ViewShownLaws.{is_shown, written_so};
+ghost use Rattle.bitvec_pieces.specs.ViewShown.{shown_by, written_so};
 ghost use Rattle.bitvec_slice.specs.Writes.{WritesBits};
 
 use crate::EditParts;
@@ -12,8 +11,6 @@ impl<'a, T: BitStore, O: BitOrder> EditParts for BitSliceMut<'a, T, O> {
     ghost shows = { shown_by };
 
     ghost writes = { WritesBits };
-
-    ghost shown = { is_shown };
 
     ghost written = { written_so };
 

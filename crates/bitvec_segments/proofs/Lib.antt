@@ -1,2 +1,3 @@
+pub mod JoinedWindow
 pub mod PartLemmas
 pub mod WalkLemmas

@@ -1,19 +1,19 @@
 -- A walk over a window that loads or stores a number, a part of one element at a time.
-use Rattle.std.specs.Prelude.{◌≡◌, ℕ, ◌+◌, ◌-◌, ◌*◌, ◌/◌, ◌%◌, ◌^◌, ◌<◌, ◌≤◌, ◌==◌, if◌then◌else◌, Bool, true, false, zero, suc, List, ◌++◌, [], length, take, drop, refl}
+use Rattle.std.specs.Prelude.{◌≡◌, ℕ, ◌+◌, ◌-◌, ◌*◌, ◌/◌, ◌%◌, ◌^◌, ◌<◌, ◌≤◌, ◌==◌, if◌then◌else◌, Bool, true, false, zero, suc, List, ◌++◌, [], length, take, drop, min, refl}
 use Rattle.std.proofs.Common.{arith, sym, ◌∙◌, ap, ⊎_elim, eqb}
-use Rattle.std.proofs.lemmas.Bool.{cases_lt, cond-false, ne_eqb}
-use Rattle.std.proofs.lemmas.Nat.{div-add-mod', div-mul-add, mod_below, pow-add, shr-shr}
+use Rattle.std.proofs.lemmas.Bool.{cases_lt, cond-false, cond-true, eq-eqb, ne_eqb}
+use Rattle.std.proofs.lemmas.Nat.{div-add-mod', div-mul-add, mod-mul-add, mod_below, pow-add, shr-shr}
 use Rattle.std.proofs.lemmas.List.{drop-drop, take_all}
 use Rattle.std.proofs.Math.Nat.{mod-eq_of_lt}
 use Rattle.std.proofs.Math.Pow.{pow_mono}
 use Rattle.std.proofs.Math.Seq.{take-add}
 use Rattle.bitvec_base.specs.declared.part.Part.{Part}
 use Rattle.bitvec_base.specs.declared.window.Window.{Window}
-use Rattle.bitvec_base.specs.Memory.{HasWindow, Writes, list_in, memory_bits}
+use Rattle.bitvec_base.specs.Memory.{Edits, HasWindow, Writes, list_in, memory_bits}
 use Rattle.bitvec_base.specs.Parts.{first_part_of, part_window}
 use Rattle.bitvec_base.specs.SliceLaws.{range-none}
 use Rattle.bitvec_base.specs.Window.{window_after, window_of}
-use Rattle.bitvec_base.specs.WritesLaws.{Writes-is, length-list, list-join}
+use Rattle.bitvec_base.specs.WritesLaws.{Writes-is, Writes-join, length-list, list-behind, list-join}
 use Rattle.bitvec_walk.specs.Cost.{fill_loads, part_loads, touched}
 use Rattle.bitvec_walk.specs.Walk.{Walked, passed}
 use Rattle.bitvec_walk.specs.WalkLaws.{Walked-next, Walked-start, Writes-next_part, Writes-none_passed, div-order, first-len, first-place, touched-none, touched-until}
@@ -314,6 +314,10 @@ part_loads-most false = omega arith
 pub edge-most : (b : ℕ) (part : Part) → part_loads b part ≤ 1
 edge-most b part = part_loads-most (part.to - part.from == b)
 
+-- a whole element takes no load
+pub whole-none : (b : ℕ) (part : Part) → part.to - part.from ≡ b → part_loads b part ≡ 0
+whole-none b part all = cond-true (eqb (part.to - part.from) b) 0 1 (eq-eqb (part.to - part.from) b all)
+
 pub fill-two : (n : ℕ) → 0 < n → fill_loads n ≡ 2
 fill-two zero more = absurd (omega arith)
 fill-two (suc n) more = cond-false (eqb (suc n) 0) 0 2 (ne_eqb (suc n) 0 (λ e. omega arith))
@@ -337,20 +341,24 @@ module _ (high : Bool) (b : ℕ) (at : ℕ → ℕ → ℕ) (old : List ℕ) (wi
       Writes-all b at old new window (window_after t window) _ (omega arith) (length-stored_le high b window.start v _ ∙ length-list b at old window has)
       (Walked-next b window window t some more step (Walked-start b window)) (started_le new written)
 
-  -- it is its first part and one more, of k bits
-  pub store_le-two : (mid new : List ℕ) (k : ℕ) → let rest = window_after t window in 0 < rest.len → k ≡ (first_part_of b rest).to - (first_part_of b rest).from → rest.len ≤ k
-      → Writes b at old mid (part_window b (first_part_of b window)) (segment_bits high ((first_part_of b window).to - (first_part_of b window).from) (v))
-      → Writes b at mid new (part_window b (first_part_of b rest)) (segment_bits high ((first_part_of b rest).to - (first_part_of b rest).from) (v / 2 ^ t))
-      → Writes b at old new window (stored_le high b window.start v (list_in b at old window))
-  store_le-two mid new k left next all first second =
+  -- it is its first part and what is left
+  pub store_le-joined : (mid new : List ℕ) → Writes b at old mid (part_window b (first_part_of b window)) (segment_bits high ((first_part_of b window).to - (first_part_of b window).from) v)
+      → Edits b at mid new (window_after t window) (stored_le high b (window.start + t) (v / 2 ^ t))
+      → Edits b at old new window (stored_le high b window.start v)
+  store_le-joined mid new first later =
       let rest : Window = window_after t window in
-      let walk = Walked-next b window window t some more step (Walked-start b window) in
-      let same : v / 2 ^ t ≡ v / 2 ^ (window.len - rest.len) = ap (λ (n : ℕ). v / 2 ^ n) (let e : t ≡ window.len - rest.len = omega arith in e) in
-      let passed_first = LeftLe-next high b at old window window t v (stored_le high b window.start v (list_in b at old window)) some more step has (Walked-start b window) (LeftLe-start high b (list_in b at old window) window v) in
-      Writes-all b at old new window (window_after k rest) _ (omega arith) (length-stored_le high b window.start v _ ∙ length-list b at old window has)
-      (Walked-next b window rest k some left next walk)
-      (Writes-next_le high b at old window rest k v _ some left next has walk mid new (started_le mid first) passed_first
-      (Writes-is b at mid new _ _ _ second (ap (segment_bits high ((first_part_of b rest).to - (first_part_of b rest).from)) same)))
+      let place = first-place b window in
+      let len = first-len b window some more in
+      let low = has.within.start in
+      let high_end = has.within.len in
+      let part : HasWindow b old (part_window b (first_part_of b window)) = record { fits = has.fits; within = record { start = omega arith; len = omega arith } } in
+      let left : HasWindow b old rest = record { fits = has.fits; within = record { start = omega arith; len = omega arith } } in
+      let kept = list-behind b at old mid (part_window b (first_part_of b window)) rest _ part left (omega arith) first in
+      let written = Writes-is b at mid new rest _ _ later (ap (stored_le high b (window.start + t) (v / 2 ^ t)) kept) in
+      let begun = Writes-is b at old mid (part_window b (first_part_of b window)) _ _ first (ap (λ (k : ℕ). segment_bits high k v) (sym step)) in
+      Writes-is b at old new window _ _
+      (Writes-join b at old mid new (part_window b (first_part_of b window)) rest window _ _ has place (omega arith) (omega arith) begun written)
+      (sym (le-bits-part high b at old window t some more step has v))
 
 module _ (high : Bool) (b : ℕ) (at : ℕ → ℕ → ℕ) (old : List ℕ) (window : Window) (t v : ℕ) (some : 0 < b) (more : 0 < window.len)
     (step : t ≡ (first_part_of b window).to - (first_part_of b window).from) (has : HasWindow b old window) where
@@ -371,17 +379,37 @@ module _ (high : Bool) (b : ℕ) (at : ℕ → ℕ → ℕ) (old : List ℕ) (wi
       Writes-all b at old new window (window_after t window) _ (omega arith) (length-stored_be high b window.start v _ ∙ length-list b at old window has)
       (Walked-next b window window t some more step (Walked-start b window)) (started_be new (Writes-is b at old new _ _ _ written (ap (segment_bits high ((first_part_of b window).to - (first_part_of b window).from)) (sym same))))
 
-  -- it is its first part and one more, of k bits
-  pub store_be-two : (mid new : List ℕ) (k : ℕ) → let rest = window_after t window in 0 < rest.len → k ≡ (first_part_of b rest).to - (first_part_of b rest).from → rest.len ≤ k
-      → Writes b at old mid (part_window b (first_part_of b window)) (segment_bits high ((first_part_of b window).to - (first_part_of b window).from) (v / 2 ^ (window.len - t)))
-      → Writes b at mid new (part_window b (first_part_of b rest)) (segment_bits high ((first_part_of b rest).to - (first_part_of b rest).from) (v))
-      → Writes b at old new window (stored_be high b window.start v (list_in b at old window))
-  store_be-two mid new k left next all first second =
+  -- it is its first part and what is left
+  pub store_be-joined : (mid new : List ℕ) → Writes b at old mid (part_window b (first_part_of b window)) (segment_bits high ((first_part_of b window).to - (first_part_of b window).from) (v / 2 ^ (window.len - t)))
+      → Edits b at mid new (window_after t window) (stored_be high b (window.start + t) v)
+      → Edits b at old new window (stored_be high b window.start v)
+  store_be-joined mid new first later =
       let rest : Window = window_after t window in
-      let walk = Walked-next b window window t some more step (Walked-start b window) in
-      let same : v ≡ v / 2 ^ (rest.len - k) = sym (ap (λ (n : ℕ). v / 2 ^ n) (let e : rest.len - k ≡ 0 = omega arith in e) ∙ omega arith) in
-      let passed_first = LeftBe-next high b at old window window t v (stored_be high b window.start v (list_in b at old window)) some more step has (Walked-start b window) (LeftBe-start high b (list_in b at old window) window v) in
-      Writes-all b at old new window (window_after k rest) _ (omega arith) (length-stored_be high b window.start v _ ∙ length-list b at old window has)
-      (Walked-next b window rest k some left next walk)
-      (Writes-next_be high b at old window rest k v _ some left next has walk mid new (started_be mid first) passed_first
-      (Writes-is b at mid new _ _ _ second (ap (segment_bits high ((first_part_of b rest).to - (first_part_of b rest).from)) same)))
+      let place = first-place b window in
+      let len = first-len b window some more in
+      let low = has.within.start in
+      let high_end = has.within.len in
+      let part : HasWindow b old (part_window b (first_part_of b window)) = record { fits = has.fits; within = record { start = omega arith; len = omega arith } } in
+      let left : HasWindow b old rest = record { fits = has.fits; within = record { start = omega arith; len = omega arith } } in
+      let kept = list-behind b at old mid (part_window b (first_part_of b window)) rest _ part left (omega arith) first in
+      let written = Writes-is b at mid new rest _ _ later (ap (stored_be high b (window.start + t) v) kept) in
+      let begun = Writes-is b at old mid (part_window b (first_part_of b window)) _ _ first (ap (λ (k : ℕ). segment_bits high k (v / 2 ^ (window.len - t))) (sym step)) in
+      Writes-is b at old new window _ _
+      (Writes-join b at old mid new (part_window b (first_part_of b window)) rest window _ _ has place (omega arith) (omega arith) begun written)
+      (sym (be-bits-part high b at old window t some more step has v))
+
+-- ---- the first part of a window that begins where an element does
+
+pub edge-part : (b e to : ℕ) (window : Window) → 0 < b → window.start ≡ e * b → to ≡ min window.len b → record { element = e; from = 0; to = to } ≡ first_part_of b window
+edge-part b e to window some edge is =
+    let start : window.start ≡ e * b + 0 = omega arith in
+    let place : window.start / b ≡ e = ap (λ (n : ℕ). n / b) start ∙ div-mul-add e b 0 some in
+    let phase : window.start % b ≡ 0 = ap (λ (n : ℕ). n % b) start ∙ mod-mul-add e b 0 some in
+    let len : 0 + min window.len (b - 0) ≡ min window.len b = omega arith in
+    rw (place, phase, is) (ap (λ (k : ℕ). let part : Part = record { element = e; from = 0; to = k } in part) (sym len))
+
+pub edge-len : (b e : ℕ) (window : Window) → 0 < b → window.start ≡ e * b → min window.len b ≡ (first_part_of b window).to - (first_part_of b window).from
+edge-len b e window some edge =
+    let part = edge-part b e (min window.len b) window some edge refl in
+    let long : min window.len b ≡ min window.len b - 0 = omega arith in
+    long ∙ ap (λ (p : Part). p.to - p.from) part

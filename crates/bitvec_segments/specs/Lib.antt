@@ -1,5 +1,6 @@
 pub mod LoadLaws
 pub mod NumberLaws
+pub mod PlainLaws
 pub mod Segments
 pub mod SegmentsLaws
 pub mod StoreLaws

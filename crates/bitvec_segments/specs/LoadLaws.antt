@@ -32,7 +32,7 @@ segments-total b s (bit ∷ list) =
 
 -- ---- a number has as many bits as its list
 
-joined_below : (v w j k : ℕ) → v < 2 ^ j → w < 2 ^ k → v * 2 ^ k + w < 2 ^ (k + j)
+pub joined_below : (v w j k : ℕ) → v < 2 ^ j → w < 2 ^ k → v * 2 ^ k + w < 2 ^ (k + j)
 joined_below v w j k high low =
     let order = mul-le-mul_left (2 ^ k) high in
     let power = pow-add 2 k j in

@@ -2,7 +2,9 @@
 //! number.
 #![tactic(auto)]
 
+mod cutting;
 mod field_order;
+mod joining;
 mod loading;
 mod part;
 mod storing;

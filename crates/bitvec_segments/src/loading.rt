@@ -5,6 +5,7 @@ ghost use Rattle.bitvec_cells.specs.Access.{OnlyReads};
 ghost use Rattle.bitvec_segments.specs.Segments.{loaded_be, loaded_le};
 ghost use Rattle.bitvec_walk.specs.Cost.{touched};
 
+use crate::joining::{fits_word, joined_number};
 use crate::part::part_number;
 use bitvec_base::{Window, first_part};
 use bitvec_cells::CellsRead;
@@ -14,7 +15,22 @@ use bitvec_words::WordOrder;
 /// The number of a window's segments, the first of them lowest. Condition: the window has at most
 /// 128 bits, and lies in a memory of at most `MAX_BITS` bits. It loads each element that the window
 /// touches once, and takes no loop where the window lies in one element or two.
+#[inline(always)]
 pub(crate) fn load_le<O: WordOrder, C: CellsRead>(cells: &mut C, window: Window) -> u128
+    requires window { HasWindow C.Elem.BITS (C.numbers cells.old) window }
+    requires size { window.len ≤ 128 }
+    ensures value { result
+        ≡ loaded_le O.HIGH C.Elem.BITS window.start (list_in C.Elem.BITS O.at (C.numbers cells.old) window) }
+    ensures reads { OnlyReads C.CellsRead cells.old cells.new (touched C.Elem.BITS window.start window.len) }
+{
+    if !O::HIGH && fits_word::<C::Elem>(window) {
+        return joined_number::<O, C>(cells, window) as u128;
+    }
+    load_parts_le::<O, C>(cells, window)
+}
+
+/// `load_le` of any window: straight where it lies in one element or two.
+fn load_parts_le<O: WordOrder, C: CellsRead>(cells: &mut C, window: Window) -> u128
     requires window { HasWindow C.Elem.BITS (C.numbers cells.old) window }
     requires size { window.len ≤ 128 }
     ensures value { result
@@ -72,7 +88,22 @@ fn load_many_le<O: WordOrder, C: CellsRead>(cells: &mut C, window: Window) -> u1
 
 /// The number of a window's segments, the first of them highest. Condition, cost and loop: as of
 /// `load_le`.
+#[inline(always)]
 pub(crate) fn load_be<O: WordOrder, C: CellsRead>(cells: &mut C, window: Window) -> u128
+    requires window { HasWindow C.Elem.BITS (C.numbers cells.old) window }
+    requires size { window.len ≤ 128 }
+    ensures value { result
+        ≡ loaded_be O.HIGH C.Elem.BITS window.start (list_in C.Elem.BITS O.at (C.numbers cells.old) window) }
+    ensures reads { OnlyReads C.CellsRead cells.old cells.new (touched C.Elem.BITS window.start window.len) }
+{
+    if O::HIGH && fits_word::<C::Elem>(window) {
+        return joined_number::<O, C>(cells, window) as u128;
+    }
+    load_parts_be::<O, C>(cells, window)
+}
+
+/// `load_be` of any window: straight where it lies in one element or two.
+fn load_parts_be<O: WordOrder, C: CellsRead>(cells: &mut C, window: Window) -> u128
     requires window { HasWindow C.Elem.BITS (C.numbers cells.old) window }
     requires size { window.len ≤ 128 }
     ensures value { result

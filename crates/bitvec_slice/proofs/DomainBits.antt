@@ -2,6 +2,7 @@
 use Rattle.std.specs.Prelude.{◌≡◌, ℕ, ◌+◌, ◌-◌, ◌*◌, ◌<◌, ◌≤◌, Bool, List, [], Option, None, Some, IfSome, drop, length, map, slice_range, take, refl}
 use Rattle.std.proofs.Common.{arith, rules, ◌∙◌, ap}
 use Rattle.std.proofs.lemmas.List.{places, same_lists}
+use Rattle.std.proofs.lemmas.Option.{IfSome_then}
 use Rattle.bitvec_base.specs.Memory.{list_in, memory_bits}
 use Rattle.bitvec_base.specs.MemoryLaws.{element_fits, length-memory_bits}
 use Rattle.bitvec_base.specs.Parts.{part_window}
@@ -9,9 +10,8 @@ use Rattle.bitvec_base.specs.SliceLaws.{range-all, range-map, range-none, range-
 use Rattle.bitvec_base.specs.Window.{max_bits, window_of}
 use Rattle.bitvec_base.specs.WriteLaws.{length-slice_range, range-range}
 use Rattle.bitvec_base.specs.declared.part.Part.{Part}
-use Rattle.bitvec_domain.specs.CutLaws.{cut_bits, cut_is, cut_within, memory-range, part_bits_if}
+use Rattle.bitvec_domain.specs.CutLaws.{cut_bits, cut_is, memory-range, part_bits_if, pieces-bits}
 use Rattle.bitvec_domain.specs.Cuts.{IsCutWithin, IsHeadWithin, IsPartWithin, IsTailWithin, cut_of, part_if_from}
-use Rattle.bitvec_domain.specs.DomainLaws.{appended, head-within, pieces-bits, tail-within}
 use Rattle.bitvec_domain.specs.Domains.{Pieces, bits_of_pieces, pieces_in}
 use Rattle.bitvec_domain.specs.declared.cut.Cut.{Cut}
 use Rattle.bitvec_domain.specs.declared.cut.Cut.TheVariants.{Inside, Across}
@@ -59,15 +59,15 @@ module _ {T : Type 0} (b : ℕ) (at : ℕ → ℕ → ℕ) (value : T → ℕ) (
   views-bits : (c : Cut) → 0 < b → IsCutWithin b (length (map value cells)) c → bits_of_views (views_in b at value cells c) ≡ cut_bits b at (map value cells) c
   views-bits (Inside part) some within = view-bits part some within
   views-bits (Across before start end after) some within =
-      appended _ _ _ _ _ _ (view_if-bits before some (head-within _ _ start before within.0)) (body-bits start end within.2) (view_if-bits after some (tail-within _ _ end after within.3))
+      rw (view_if-bits before some (IfSome_then before within.0 (λ part is. is.within)), body-bits start end within.2, view_if-bits after some (IfSome_then after within.3 (λ part is. is.within))) refl
 
   -- what a view is cut into, as views and as pieces of elements
   module _ (start len : ℕ) (some : 0 < b) (inside : start + len ≤ b * length cells) (bounded : b * length cells ≤ max_bits) where
     pub bit_domain_shown : (views : Views T) → views ≡ views_in b at value cells (cut_of b (shown b at value cells start len).window) → IsBitDomain b at value (shown b at value cells start len) views
     bit_domain_shown views is =
         let window = (shown b at value cells start len).window in
-        let has = has_window b at value cells start len inside bounded in
-        record { parts = is; bits = ap bits_of_views is ∙ views-bits (cut_of b window) some (cut_within b _ window some has.within) ∙ cut_is b at (map value cells) window some has }
+        let cut = cut_is b at (map value cells) window some (has_window b at value cells start len inside bounded) in
+        record { parts = is; bits = ap bits_of_views is ∙ views-bits (cut_of b window) some cut.within ∙ cut.bits }
 
     pub domain_shown : (pieces : Pieces T) → pieces ≡ pieces_in b at value cells (cut_of b (shown b at value cells start len).window) → IsDomain b at value (shown b at value cells start len) pieces
     domain_shown pieces is =
@@ -80,9 +80,6 @@ module _ {T : Type 0} (b : ℕ) (at : ℕ → ℕ → ℕ) (value : T → ℕ) (
   head_view start end (Some part) order bound is =
       let next = is.next in
       ap (λ (zs : List T). shown b at value zs part.from (part.to - part.from)) (same_lists _ _ (search (rules, places)) (λ k d inside. grind (arith, places)))
-
-  pub middle : (start end : ℕ) → start ≤ end → end ≤ length cells → drop start (take end cells) ≡ slice_range cells start end
-  middle start end order bound = same_lists _ _ (search (rules, places)) (λ k d inside. grind (arith, places))
 
   pub tail_view : (end : ℕ) (part : Option Part) → IfSome part (IsTailWithin b (length cells) end) → view_in_if b at value (drop end cells) (part_if_from end part) ≡ view_in_if b at value cells part
   tail_view end None is = refl

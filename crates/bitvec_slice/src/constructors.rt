@@ -42,7 +42,7 @@ impl<'a, T: BitStore, O: BitOrder> BitSlice<'a, T, O> {
     }
 
     /// A view of all bits of the elements; `Err(TooLong(bits))` exactly where they are more than
-    /// `MAX_BITS` bits.
+    /// `MAX_BITS` bits: so many, or `usize::MAX` where they are more than that.
     pub fn try_from_slice(elements: &'a [T]) -> Result<Self, BitSpanError>
         ensures made { IsOk result ↔ (T.BITS * length elements.now ≤ max_bits) }
         ensures error { IfErr result
@@ -89,7 +89,7 @@ impl<'a, T: BitStore, O: BitOrder> BitSliceMut<'a, T, O> {
     }
 
     /// A view of all bits of the elements; `Err(TooLong(bits))` exactly where they are more than
-    /// `MAX_BITS` bits.
+    /// `MAX_BITS` bits: so many, or `usize::MAX` where they are more than that.
     pub fn try_from_slice_mut(elements: &'a mut [T]) -> Result<Self, BitSpanError>
         ensures made { IsOk result ↔ (T.BITS * length elements.old ≤ max_bits) }
         ensures error { IfErr result

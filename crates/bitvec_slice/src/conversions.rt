@@ -66,15 +66,16 @@ impl<'a, T: BitStore, O: BitOrder> TryFrom<&'a mut [T]> for BitSliceMut<'a, T, O
     }
 }
 
-/// A view of all bits of one element: the deprecated name of [`BitSlice::from_element`].
+/// A view of all bits of one element: the old name of [`BitSlice::from_element`].
+#[deprecated]
 pub fn from_ref<T: BitStore, O: BitOrder>(element: &T) -> BitSlice<'_, T, O>
     ensures { IsWhole T.BITS O.at T.value (element.now ∷ []) (seen result) }
 {
     BitSlice::from_element(element)
 }
 
-/// A writable view of all bits of one element: the deprecated name of
-/// [`BitSliceMut::from_element_mut`].
+/// A writable view of all bits of one element: the old name of [`BitSliceMut::from_element_mut`].
+#[deprecated]
 pub fn from_mut<T: BitStore, O: BitOrder>(element: &mut T) -> BitSliceMut<'_, T, O>
     ensures* writes_back { sem 𝓛 (follows T.row (Array T.row 0) element.entry.ghost_name (name_of result)
         (λ left. slice_index_or left 0 element.old)) }

@@ -36,7 +36,7 @@ impl<'a, T: BitStore, O: BitOrder> Iter<'a, T, O> {
         self.view.into_part(self.indices.start..self.indices.end)
     }
 
-    /// The same: `as_bitslice`.
+    /// The same as [`Iter::as_bitslice`].
     pub fn as_ref(&self) -> BitSlice<'a, T, O>
         ensures bits { (seen result).bits ≡ bits_left self.now }
         ensures part { IsRangeOf T.BITS (walked self.now) (indices_left self.now).start (indices_left self.now).end (seen result) }
@@ -44,7 +44,8 @@ impl<'a, T: BitStore, O: BitOrder> Iter<'a, T, O> {
         self.as_bitslice()
     }
 
-    /// The deprecated name of `as_bitslice`.
+    /// The old name of [`Iter::as_bitslice`].
+    #[deprecated]
     pub fn as_slice(&self) -> BitSlice<'a, T, O>
         ensures bits { (seen result).bits ≡ bits_left self.now }
         ensures part { IsRangeOf T.BITS (walked self.now) (indices_left self.now).start (indices_left self.now).end (seen result) }
@@ -68,7 +69,8 @@ impl<'a, T: BitStore, O: BitOrder> Iter<'a, T, O> {
         BitValIter { bits: self }
     }
 
-    /// The deprecated name of `by_vals`.
+    /// The old name of [`Iter::by_vals`].
+    #[deprecated]
     pub fn copied(self) -> BitValIter<'a, T, O>
         ensures bits { vals_left result ≡ bits_left self.entry }
         ensures runs { YieldsVals result }

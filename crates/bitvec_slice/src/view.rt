@@ -51,7 +51,8 @@ impl<'a, T: BitStore, O: BitOrder> BitSlice<'a, T, O> {
     /// The most bits that a view's memory may have.
     pub const MAX_BITS: usize = MAX_BITS;
 
-    /// The most elements that a view's memory may have.
+    /// The crate's constant: one more than the elements that `MAX_BITS` bits take. No view here touches
+    /// as many, since `MAX_BITS` bounds its memory.
     pub const MAX_ELTS: usize = (MAX_BITS + T::BITS as usize - 1) / (T::BITS as usize) + 1;
 
     /// A view of all bits of the elements. Condition: they are at most `MAX_BITS` bits.

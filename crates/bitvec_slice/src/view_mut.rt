@@ -18,15 +18,21 @@ use std::ops::Range;
 /// borrows. Lengths, indices and ranges are in bits. A call has the name and the meaning of the
 /// crate's, unless its text says what it stands for.
 ///
-/// What is written through comes from these calls alone. Views: `as_mut`, `part_mut`, `!`, and by a
-/// range `get_mut`, `get_unchecked_mut` and the calls of [`crate::BitSliceIndex`]. References to one
-/// bit: `bit_mut`, `first_mut`, `last_mut`, and by an index `get_mut` and its kin. Elements and parts
-/// of them: `domain_mut`, and as views `bit_domain_mut`. A part holds the elements that its bits touch
-/// and no other, and no public call writes a bit of these outside the part: what an edit leaves says
-/// `WritesBits` of a view, `WritesBit` of a reference, `WritesPart` of a part of an element. Whole
-/// elements are given out by `domain_mut`, which covers them, and by `into_slice`, which asks for a view of all their
-/// bits. Two calls that this page hides, `elements_mut` and `elements_part_mut`, lend them to crates
-/// above, whose edits owe that bits outside the view stay.
+/// What is written through comes from these calls alone. Views: `as_mut`, `part_mut`, `into_part`,
+/// `split_apart_mut`, `!`, and by a range `get_mut`, `get_unchecked_mut` and the calls of
+/// [`crate::BitSliceIndex`]. References to one bit: `bit_mut`, `into_bit`, `first_mut`, `last_mut`, and
+/// by an index `get_mut` and its kin. Elements and parts of them: `domain_mut`, and as views
+/// `bit_domain_mut`. In crates above: halves, walks and splits, which lend such views and references one
+/// at a time (`PieceCallsMut` of `bitvec_lent`, `SplitCallsMut` of `bitvec_split`), and the view itself,
+/// which a closure gets moved to a part of it, and owes to leave there (`EditParts` of
+/// `bitvec_pieces`).
+///
+/// A part holds the elements that its bits touch and no other, and no call that these pages show writes a
+/// bit of these outside the part: what an edit leaves says `WritesBits` of a view, `WritesBit` of a
+/// reference, `WritesPart` of a part of an element. Whole elements are given out by `domain_mut`, which
+/// covers them, and by `into_slice`, which asks for a view of all their bits. Three calls that this page
+/// hides, `elements_mut`, `elements_part_mut` and `stand_at`, reach the other bits of the elements for
+/// crates above, whose edits owe that bits outside the view stay.
 #[derive(Drop)]
 pub struct BitSliceMut<'a, T: BitStore, O: BitOrder> {
     elements: &'a mut [T],

@@ -6,6 +6,7 @@ use crate::parts::Parts;
 use bitvec_base::{BitOrder, Lsb0, Msb0};
 use bitvec_edit::BitEdits;
 use bitvec_engine::SliceOrder;
+use bitvec_query::BitQueries;
 use bitvec_slice::{BitDomain, BitDomainMut, BitSlice, BitSliceMut};
 use bitvec_store::BitStore;
 
@@ -64,6 +65,32 @@ fn each_case_of_a_cut(rt: HostRuntime) {
             "{from} {to}"
         );
     }
+}
+
+/// The index of the last one of a view, or 100 where none is.
+fn last_one<T: BitStore, O: SliceOrder>(part: BitSlice<'_, T, O>) -> usize {
+    part.last_one().unwrap_or(100)
+}
+
+/// Where in its part the last one of each part of a range of the elements' bits is.
+fn last_ones<T: BitStore, O: SliceOrder>(elements: &[T], from: usize, to: usize) -> Parts
+    requires { T.BITS * length elements.now ≤ max_bits }
+{
+    match BitSlice::<T, O>::from_slice(elements).get(from..to) {
+        Some(range) => match range.bit_domain() {
+            BitDomain::Enclave(part) => Parts::Enclave(last_one(part)),
+            BitDomain::Region { head, body, tail } => {
+                Parts::Region(last_one(head), last_one(body), last_one(tail))
+            }
+        },
+        None => Parts::Missing,
+    }
+}
+
+#[test]
+fn the_parts_of_a_cut_have_their_bits(rt: HostRuntime) {
+    let cells = [0x8000_0010u32, 0x0F00_0001, 0x6000_0002];
+    assert!(rt; last_ones::<u32, Msb0>(&cells, 2, 94) == Parts::Region(25, 31, 2));
 }
 
 #[test]

@@ -70,6 +70,26 @@ fn invert_parts<T: BitStore, O: BitOrder>(elements: &mut [T], from: usize, to: u
     }
 }
 
+/// What the part reads that a range inside one element is: its value, its two indices and its mask.
+fn read_part(elements: &mut [u8], from: usize, to: usize) -> Option<(u8, usize, usize, u8)>
+    requires { 8 * length elements.old ≤ max_bits }
+{
+    let mut view = BitSliceMut::<u8, Lsb0>::from_slice_mut(elements);
+    if let Some(mut range) = view.get_mut(from..to) {
+        if let DomainMut::Enclave(part) = range.domain_mut() {
+            return Some((part.load_value(), part.head(), part.tail(), part.mask()));
+        }
+    }
+    None
+}
+
+#[test]
+fn a_writable_part_is_read(rt: HostRuntime) {
+    let mut cells = [0xB4u8, 0xB4];
+    assert_eq!(rt; read_part(&mut cells, 10, 14), Some((0x34, 2, 6, 0x3C)));
+    assert_eq!(rt; read_part(&mut cells, 6, 10), None);
+}
+
 #[test]
 fn an_enclave_loads_its_bits_alone(rt: HostRuntime) -> Result<(), Fail> {
     let cells = [0xB4u8];

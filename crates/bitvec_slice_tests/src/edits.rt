@@ -38,6 +38,9 @@ fn fill_leaves_the_neighbours(rt: HostRuntime) {
     assert_eq!(rt; cells, [0x1F, 0xFF, 0xF8]);
     assert!(rt; fill_range::<u8, Msb0>(&mut cells, 11, 13, false));
     assert_eq!(rt; cells, [0x1F, 0xE7, 0xF8]);
+    let mut cells = [0u8];
+    assert!(rt; fill_range::<u8, Lsb0>(&mut cells, 0, 5, true));
+    assert_eq!(rt; cells, [0x1F]);
 }
 
 #[test]

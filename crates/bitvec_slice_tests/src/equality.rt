@@ -20,6 +20,16 @@ fn have_same_bits<T: BitStore, O: SliceOrder>(
 }
 
 #[test]
+fn a_clone_has_the_same_bits(rt: HostRuntime) -> Result<(), Fail> {
+    let cells = [0x50u8, 0x0F];
+    let view = BitSlice::<u8, Lsb0>::from_slice(&cells).into_part(4..12);
+    let copy = view.clone()?;
+    assert!(rt; view == copy);
+    assert_eq!(rt; (copy.len(), copy.window()), (8, view.window()));
+    Ok(())
+}
+
+#[test]
 fn equal_bits_at_other_places(rt: HostRuntime) -> Result<(), Fail> {
     let low = [0x50u8, 0x0F];
     let part = BitSlice::<u8, Lsb0>::from_slice(&low)

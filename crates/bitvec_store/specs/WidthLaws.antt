@@ -1,6 +1,6 @@
 -- What holds at each width.
-use Rattle.std.specs.Prelude.{◌≡◌, ℕ, ◌<◌}
-use Rattle.std.proofs.Common.{sym, subst, ⊎_elim, lit<}
+use Rattle.std.specs.Prelude.{◌≡◌, ℕ, ◌<◌, ◌≤◌}
+use Rattle.std.proofs.Common.{arith, sym, subst, ⊎_elim, lit<}
 use Rattle.bitvec_store.specs.Width.{IsWidth}
 
 -- what is true of each of the widths is true of a width
@@ -11,3 +11,7 @@ at_each_width P p8 p16 p32 p64 b w =
 -- a width is not 0
 pub width_some : (b : ℕ) → IsWidth b → 0 < b
 width_some b w = at_each_width (λ n. 0 < n) (lit< tt) (lit< tt) (lit< tt) (lit< tt) b w
+
+-- nor more than 64
+pub width_most : (b : ℕ) → IsWidth b → b ≤ 64
+width_most b w = at_each_width (λ n. n ≤ 64) (omega arith) (omega arith) (omega arith) (omega arith) b w

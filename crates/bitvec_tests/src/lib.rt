@@ -1,4 +1,5 @@
-//! Callers of `bitvec`, who depend on it alone: the blocks of docs/CALLING.md stand here.
+//! Callers of `bitvec`, who depend on it alone: the functions of docs/GUIDE.md, and the blocks of
+//! docs/CALLING.md that name no other crate.
 #![tactic(auto)]
 
 #[cfg(test)]
@@ -6,15 +7,23 @@ mod answers;
 #[cfg(test)]
 mod device;
 #[cfg(test)]
+mod edits_known;
+#[cfg(test)]
 mod filled;
 #[cfg(test)]
 mod guide;
 #[cfg(test)]
+mod lends_known;
+#[cfg(test)]
 mod number_set;
+#[cfg(test)]
+mod numbers_known;
 #[cfg(test)]
 mod own_element;
 #[cfg(test)]
 mod own_order;
+#[cfg(test)]
+mod runs_known;
 #[cfg(test)]
 mod slots;
 #[cfg(test)]

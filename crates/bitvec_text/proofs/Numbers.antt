@@ -1,9 +1,9 @@
 -- The number of a group of bits, a bit at a time.
-use Rattle.std.specs.Prelude.{◌≡◌, ℕ, ◌+◌, ◌*◌, ◌^◌, ◌<◌, ◌≤◌, Bool, true, false, if◌then◌else◌, List, [], ◌∷◌, ◌++◌, length, slice_index_or, take}
+use Rattle.std.specs.Prelude.{◌≡◌, ℕ, ◌+◌, ◌*◌, ◌^◌, ◌<◌, ◌≤◌, Bool, true, false, List, [], ◌∷◌, ◌++◌, length, slice_index_or, take}
 use Rattle.std.specs.Int.{from_bool}
 use Rattle.std.proofs.Common.{arith, length-append}
 use Rattle.std.proofs.Math.Nat.{pow-le-pow_right}
-use Rattle.std.proofs.lemmas.List.{length-take-le, take_more}
+use Rattle.std.proofs.lemmas.List.{length-take-le, take_all, take_more}
 use Rattle.std.proofs.lemmas.Nat.{pow-add}
 use Rattle.bitvec_segments.specs.NumberLaws.{segment_number-below}
 use Rattle.bitvec_segments.specs.Segments.{segment_number}
@@ -12,16 +12,8 @@ number-push : (list : List Bool) (bit : Bool) → segment_number true (list ++ b
 unfolding segment_number
 number-push [] true = omega arith
 number-push [] false = omega arith
-number-push (first ∷ rest) bit =
-    let others = number-push rest bit in
-    let long = length-append rest (bit ∷ []) in
-    let power : 2 ^ length (rest ++ bit ∷ []) ≡ 2 * 2 ^ length rest = rw long (let twice = pow-add 2 (length rest) 1 in omega arith) in
-    higher first (length rest) _ _ others power
-  where
-    higher : (first : Bool) (k : ℕ) (all part : ℕ) → all ≡ 2 * part + from_bool bit → 2 ^ length (rest ++ bit ∷ []) ≡ 2 * 2 ^ k
-        → (if first then 1 else 0) * 2 ^ length (rest ++ bit ∷ []) + all ≡ 2 * ((if first then 1 else 0) * 2 ^ k + part) + from_bool bit
-    higher true k all part others power = omega arith
-    higher false k all part others power = omega arith
+number-push (true ∷ rest) bit = let others = number-push rest bit in let twice = pow-add 2 (length rest) 1 in rw (length-append rest (bit ∷ [])) (omega arith)
+number-push (false ∷ rest) bit = let others = number-push rest bit in omega arith
 
 -- one bit more
 pub number-more : (bits : List Bool) (i : ℕ) → i < length bits
@@ -39,3 +31,5 @@ number-small bits i inside most =
 pub from_bool-small : (bit : Bool) → from_bool bit ≤ 1
 from_bool-small true = omega arith
 from_bool-small false = omega arith
+
+pub ruleset number_steps = (number-more, number-small, from_bool-small, take_all)

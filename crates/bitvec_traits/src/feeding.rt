@@ -8,6 +8,7 @@ use bitvec_elements::bit_in;
 use bitvec_store::BitStore;
 use std::hash::{Hash, Hasher};
 
+#[tactic(auto, using(crate::proofs::Steps::steps), unfolding(crate::specs::Feeding::bits_fed))]
 /// Feeds each bit of a window as a truth value, in their order, without their number. Condition: the
 /// memory has at most `MAX_BITS` bits, and the window lies in it.
 pub fn hash_in<T: BitStore, O: BitOrder, H: Hasher>(cells: &[T], window: Window, state: &mut H)

@@ -10,9 +10,9 @@ use bitvec_elements::bit_in;
 use bitvec_store::BitStore;
 use std::fmt;
 
-#[tactic(auto, unfolding(crate::specs::Listing::listed))]
 /// Writes the bits of a window as `[0, 1, 0]`. Condition: the memory has at most `MAX_BITS` bits, and
 /// the window lies in it.
+#[tactic(auto, unfolding(crate::specs::Listing::listed))]
 pub fn write_bits_in<T: BitStore, O: BitOrder, W: fmt::Write>(
     cells: &[T],
     window: Window,
@@ -27,6 +27,7 @@ pub fn write_bits_in<T: BitStore, O: BitOrder, W: fmt::Write>(
     f.write_str("]")
 }
 
+#[tactic(auto, using(crate::proofs::Steps::steps))]
 fn write_joined_in<T: BitStore, O: BitOrder, W: fmt::Write>(
     cells: &[T],
     window: Window,

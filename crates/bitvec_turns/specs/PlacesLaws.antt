@@ -8,24 +8,17 @@ use Rattle.std.proofs.lemmas.Bool.{false_from_ne_true}
 use Rattle.std.proofs.lemmas.List.Elements.{filter-append}
 use Rattle.std.proofs.lemmas.List.FromFn.{length-range_with_len}
 use Rattle.std.proofs.lemmas.List.Sums.{count_by-le-length, length-filter}
+use Rattle.std.proofs.Math.Bridge.{le_prop}
 use Rattle.std.proofs.Math.Nat.{sub_self}
 use Rattle.bitvec_base.specs.Lists.{first_place, last_place, places_of}
+use Rattle.bitvec_base.specs.ListsLaws.{range_with_len-add}
 use Rattle.bitvec_base.specs.PlacesLaws.{first_place-absent, first_place-before, first_place-bit, last_place-absent, last_place-after, last_place-bit}
 use Rattle.bitvec_base.specs.SliceLaws.{range-front, range-none}
 use Rattle.bitvec_base.specs.WriteLaws.{get-slice_range, length-slice_range}
-use Rattle.bitvec_turns.specs.Places.{places_in}
+use Rattle.bitvec_turns.specs.declared.rest.Rest.{Rest}
+use Rattle.bitvec_turns.specs.Places.{IsRestOf, places_in}
 
 -- ---- parts
-
-numbers-join : (a m n : ℕ) → range_with_len a (m + n) ≡ range_with_len a m ++ range_with_len (a + m) n
-numbers-join a zero n =
-    let none : zero + n ≡ n = omega arith in
-    let same : a + zero ≡ a = omega arith in
-    rw (none, same) refl
-numbers-join a (suc m) n =
-    let more : suc m + n ≡ suc (m + n) = omega arith in
-    let same : a + suc m ≡ a + 1 + m = omega arith in
-    rw (more, same) (ap (λ (l : List ℕ). a ∷ l) (numbers-join (a + 1) m n))
 
 -- the places before m, and those from it on
 pub places-join : (wanted : Bool) (list : List Bool) (a m e : ℕ) → a ≤ m → m ≤ e → places_in wanted list a e ≡ places_in wanted list a m ++ places_in wanted list m e
@@ -33,7 +26,7 @@ unfolding places_in
 places-join wanted list a m e low high =
     let sum : e - a ≡ m - a + (e - m) = omega arith in
     let start : a + (m - a) ≡ m = omega arith in
-    rw (sum, numbers-join a (m - a) (e - m), start) (filter-append (λ (i : ℕ). beq (slice_index_or list i false) wanted) (range_with_len a (m - a)) (range_with_len m (e - m)))
+    rw (sum, range_with_len-add a (m - a) (e - m), start) (filter-append (λ (i : ℕ). beq (slice_index_or list i false) wanted) (range_with_len a (m - a)) (range_with_len m (e - m)))
 
 filter-none : (p : ℕ → Bool) (a n : ℕ) → ((k : ℕ) → k < n → p (a + k) ≡ false) → filter p (range_with_len a n) ≡ []
 filter-none p a zero lacks = refl
@@ -62,6 +55,14 @@ places-one wanted list i here =
     let one : i + 1 - i ≡ suc zero = omega arith in
     rw (one, is_wanted (slice_index_or list i false) wanted here) refl
 
+-- where the bit is the wanted one at a place, and at none before it
+pub places-next : (wanted : Bool) (list : List Bool) (a i e : ℕ) → a ≤ i → i < e → ((k : ℕ) → k < i - a → slice_index_or list (a + k) false ≢ wanted) → slice_index_or list i false ≡ wanted → places_in wanted list a e ≡ i ∷ places_in wanted list (i + 1) e
+places-next wanted list a i e low high before here =
+    places-join wanted list a i e low (omega arith)
+    ∙ ap (λ (l : List ℕ). l ++ places_in wanted list i e) (places-none wanted list a i before)
+    ∙ places-join wanted list i (i + 1) e (omega arith) (omega arith)
+    ∙ ap (λ (l : List ℕ). l ++ places_in wanted list (i + 1) e) (places-one wanted list i here)
+
 -- ---- what a search of the part from f up to, without, e tells
 
 module _ (wanted : Bool) (list : List Bool) (f e : ℕ) (order : f ≤ e) (within : e ≤ length list) where
@@ -79,13 +80,9 @@ module _ (wanted : Bool) (list : List Bool) (f e : ℕ) (order : f ≤ e) (withi
   -- the first that is found comes before all others
   pub places-first : (i : ℕ) → Some i ≡ first_place wanted (slice_range list f e) → i < e - f → places_in wanted list f e ≡ (f + i) ∷ places_in wanted list (f + i + 1) e
   places-first i found below =
-      let before = places-none wanted list f (f + i) (λ k h here.
-      first_place-before wanted (slice_range list f e) i k (sym found) (omega arith) (get-slice_range list f e k false (omega arith) ∙ here)) in
-      let bit = sym (get-slice_range list f e i false (omega arith)) ∙ first_place-bit wanted (slice_range list f e) i (sym found) in
-      places-join wanted list f (f + i) e (omega arith) (omega arith)
-      ∙ ap (λ (l : List ℕ). l ++ places_in wanted list (f + i) e) before
-      ∙ places-join wanted list (f + i) (f + i + 1) e (omega arith) (omega arith)
-      ∙ ap (λ (l : List ℕ). l ++ places_in wanted list (f + i + 1) e) (places-one wanted list (f + i) bit)
+      places-next wanted list f (f + i) e (omega arith) (omega arith)
+      (λ k h here. first_place-before wanted (slice_range list f e) i k (sym found) (omega arith) (get-slice_range list f e k false (omega arith) ∙ here))
+      (sym (get-slice_range list f e i false (omega arith)) ∙ first_place-bit wanted (slice_range list f e) i (sym found))
 
   -- the last comes behind them
   pub places-last : (i : ℕ) → Some i ≡ last_place wanted (slice_range list f e) → i < e - f → places_in wanted list f e ≡ places_in wanted list f (f + i) ++ (f + i) ∷ []
@@ -148,3 +145,7 @@ few_places wanted list =
     let most = count_by-le-length test (range_with_len 0 (length list)) in
     let all = length-range_with_len 0 (length list) in
     omega arith
+
+-- there is one proof at most of what a rest is
+pub IsRestOf-prop : (rest : Rest) (n : ℕ) → IsProp (IsRestOf rest n)
+IsRestOf-prop rest n x y = λ i. record { order = le_prop x.order y.order i; bound = le_prop x.bound y.bound i }

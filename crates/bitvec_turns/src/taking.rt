@@ -41,7 +41,8 @@ pub fn take_first<O: SliceOrder, C: CellsRead>(
 }
 
 /// The last index of the rest whose bit is `want`, if there is one; the rest then ends before it,
-/// or is empty. Condition: as of [`take_first`]. It loads each element from the index on once.
+/// or is empty, and begins where it did. Condition: as of [`take_first`]. It loads each element from
+/// the index on once.
 pub fn take_last<O: SliceOrder, C: CellsRead>(
     cells: &mut C,
     window: Window,
@@ -51,6 +52,7 @@ pub fn take_last<O: SliceOrder, C: CellsRead>(
     requires window { HasWindow C.Elem.BITS (C.numbers cells.old) window }
     requires inside { IsRestOf rest.old window.len }
     ensures inside { IsRestOf rest.new window.len }
+    ensures front { rest.new.front ≡ rest.old.front }
     ensures gives { YieldsLast (places_left want (list_in C.Elem.BITS O.at (C.numbers cells.old) window)) rest.old result rest.new }
     ensures reads { LoadsPassed C.CellsRead C.Elem.BITS window rest.old rest.new result cells.old cells.new }
 {

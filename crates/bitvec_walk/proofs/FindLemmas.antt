@@ -4,21 +4,16 @@ use Rattle.std.specs.Int.{bit_at}
 use Rattle.std.proofs.Common.{arith, sym, ◌∙◌, ap, ⊎_elim, inl, inr}
 use Rattle.std.proofs.lemmas.Bool.{cases_lt}
 use Rattle.std.proofs.lemmas.Nat.Bits.{bit_at_and, bit_at-lt}
-use Rattle.bitvec_base.specs.FoundLaws.{bit-set, first_place-is, first_place-none, last_place-is, last_place-none, set-bit}
+use Rattle.bitvec_base.specs.FoundLaws.{bit-set, set-bit}
 use Rattle.bitvec_base.specs.Lists.{first_place, last_place}
+use Rattle.bitvec_base.specs.ListsLaws.{first_place-found, first_place-none, last_place-found, last_place-none}
 use Rattle.bitvec_base.specs.MaskLaws.{mask_of-has, mask_of-lacks}
 use Rattle.bitvec_base.specs.Memory.{element_bits}
 use Rattle.bitvec_base.specs.MemoryLaws.{bit_of_complement, get-element_bits, length-element_bits}
 use Rattle.bitvec_base.specs.Order.{Permutes, mask_of}
 use Rattle.bitvec_base.specs.PlacesLaws.{first_place-absent, first_place-before, first_place-below, first_place-bit, last_place-absent, last_place-after, last_place-below, last_place-bit}
 use Rattle.bitvec_base.specs.WriteLaws.{length-slice_range, get-slice_range}
-
--- the ones of m are the bits of v from one index to another that are `want`
-record Shows (b : ℕ) (at : ℕ → ℕ → ℕ) (v m from to : ℕ) (want : Bool) : Type 0 where
-  has : (i : ℕ) → from ≤ i → i < to → slice_index_or (element_bits b at v) i false ≡ want → slice_index_or (element_bits b at m) i false ≡ true
-  low : (i : ℕ) → i < b → slice_index_or (element_bits b at m) i false ≡ true → from ≤ i
-  high : (i : ℕ) → i < b → slice_index_or (element_bits b at m) i false ≡ true → i < to
-  bit : (i : ℕ) → i < b → slice_index_or (element_bits b at m) i false ≡ true → slice_index_or (element_bits b at v) i false ≡ want
+use Rattle.bitvec_walk.specs.Sought.{Shows}
 
 -- a bit that is `want` is 1 in what is masked, and one that isn't is 0
 wanted : (c d : ℕ) (want : Bool) → c < 2 → d + c ≡ 1 → (c == 1) ≡ want → (if want then c else d) ≡ 1
@@ -42,7 +37,7 @@ bit_if v w p false = refl
 both_ones : (c d : ℕ) → c < 2 → d < 2 → min c d ≡ 1 → (c ≡ 1) × (d ≡ 1)
 both_ones c d hc hd one = (omega arith, omega arith)
 
-sought-shows : (b : ℕ) (at : ℕ → ℕ → ℕ) → Permutes b (at b) → (v m from to : ℕ) (want : Bool) → from ≤ to → to ≤ b → v < 2 ^ b
+pub sought-shows : (b : ℕ) (at : ℕ → ℕ → ℕ) → Permutes b (at b) → (v m from to : ℕ) (want : Bool) → from ≤ to → to ≤ b → v < 2 ^ b
     → m ≡ bit_and (if want then v else 2 ^ b - 1 - v) (mask_of (at b) from to) → Shows b at v m from to want
 sought-shows b at p v m from to want order bound fits is =
     let seen : ℕ = if want then v else 2 ^ b - 1 - v in
@@ -68,10 +63,7 @@ sought-shows b at p v m from to want order bound fits is =
           get-element_bits b at v i false below ∙ is_wanted _ _ want (bit_at-lt v (at b i)) (flipped i below) (sym (bit_if v (2 ^ b - 1 - v) (at b i) want) ∙ (ones i below set).0);
     }
 
-module _ (b : ℕ) (at : ℕ → ℕ → ℕ) (p : Permutes b (at b)) (v m from to : ℕ) (want : Bool) (order : from ≤ to) (bound : to ≤ b) (fits : v < 2 ^ b) (is : m ≡ bit_and (if want then v else 2 ^ b - 1 - v) (mask_of (at b) from to)) where
-  shows : Shows b at v m from to want
-  shows = sought-shows b at p v m from to want order bound fits is
-
+module _ (b : ℕ) (at : ℕ → ℕ → ℕ) (v m from to : ℕ) (want : Bool) (bound : to ≤ b) (shows : Shows b at v m from to want) where
   long_ones : length (element_bits b at m) ≡ b
   long_ones = length-element_bits b at m
 
@@ -122,7 +114,7 @@ module _ (b : ℕ) (at : ℕ → ℕ → ℕ) (p : Permutes b (at b)) (v m from 
       let set = first_place-bit true (element_bits b at m) i (sym found) in
       let low = shows.low i below set in
       let high = shows.high i below set in
-      sym (first_place-is want (slice_range (element_bits b at v) from to) (i - from) (omega arith) (set-part i below set)
+      sym (first_place-found want (slice_range (element_bits b at v) from to) (i - from) (omega arith) (set-part i below set)
       (λ k before here. first_place-before true (element_bits b at m) i (from + k) (sym found) (omega arith) (part-set k (omega arith) here)))
 
   pub last-sought : (i : ℕ) → Some i ≡ last_place true (element_bits b at m) → Some (i - from) ≡ last_place want (slice_range (element_bits b at v) from to)
@@ -134,5 +126,5 @@ module _ (b : ℕ) (at : ℕ → ℕ → ℕ) (p : Permutes b (at b)) (v m from 
       let set = last_place-bit true (element_bits b at m) i (sym found) in
       let low = shows.low i below set in
       let high = shows.high i below set in
-      sym (last_place-is want (slice_range (element_bits b at v) from to) (i - from) (omega arith) (set-part i below set)
+      sym (last_place-found want (slice_range (element_bits b at v) from to) (i - from) (omega arith) (set-part i below set)
       (λ k after within here. last_place-after true (element_bits b at m) i (from + k) (sym found) (omega arith) (omega arith) (part-set k (omega arith) here)))

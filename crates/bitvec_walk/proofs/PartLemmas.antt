@@ -13,20 +13,15 @@ use Rattle.bitvec_store.specs.Width.{IsWidth}
 use Rattle.bitvec_base.specs.Parts.{HasPart, part_window}
 use Rattle.bitvec_base.specs.Window.{window_of, write_at}
 use Rattle.bitvec_store.specs.WidthLaws.{width_some}
-use Rattle.bitvec_base.specs.MaskLaws.{mask_of-none, mask_of-more}
 use Rattle.bitvec_base.specs.WriteLaws.{length-slice_range, write_at-all}
 use Rattle.bitvec_base.specs.MemoryLaws.{bit_of_complement, element_fits, length-element_bits, length-memory_bits}
 use Rattle.bitvec_base.specs.PartLaws.{mask_of-whole, part-clear, part-flip, part-set, part-write}
 use Rattle.bitvec_walk.specs.Element.{put_mask}
-use Rattle.bitvec_walk.specs.ElementLaws.{element-filled}
+use Rattle.bitvec_walk.specs.ElementLaws.{element-filled, single_mask}
 
 pub part-put : (b : ℕ) (at : ℕ → ℕ → ℕ) → IsWidth b → Permutes b (at b) → (xs : List ℕ) (e from to : ℕ) (bit : Bool) → e < length xs → from ≤ to → to ≤ b → memory_bits b at (slice_set xs e (put_mask b (slice_index xs e) (mask_of (at b) from to) bit)) ≡ write_at (memory_bits b at xs) (e * b + from) (replicate (to - from) bit)
 part-put b at w p xs e from to true h le fits = part-set b at p xs e from to (width_some b w) h le fits
 part-put b at w p xs e from to false h le fits = part-clear b at p xs e from to (width_some b w) h le fits
-
--- the one bit of an index is the mask of that index alone
-single_mask : (at : ℕ → ℕ) (i : ℕ) → 2 ^ at i ≡ mask_of at i (i + 1)
-single_mask at i = let none = mask_of-none at i in let more = mask_of-more at i i (omega arith) in omega arith
 
 replicate_one : (n : ℕ) (bit : Bool) → n ≡ 1 → replicate n bit ≡ bit ∷ []
 replicate_one n bit e = rw e refl

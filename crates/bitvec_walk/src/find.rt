@@ -1,23 +1,22 @@
 //! Where a bit stands in a part of one element.
-ghost use Rattle.std.specs.Prelude.{◌≡◌, ℕ, ◌+◌, ◌-◌, ◌*◌, ◌^◌, ◌<◌, ◌≤◌, Bool, if◌then◌else◌, List, length, slice_range, bit_and};
+ghost use Rattle.std.specs.Prelude.{◌≡◌, ℕ, ◌+◌, ◌-◌, ◌*◌, ◌≤◌, Bool, List, length, slice_range};
 ghost use Rattle.bitvec_base.specs.Lists.{first_place, last_place};
 ghost use Rattle.bitvec_base.specs.Memory.{element_bits, list_in};
-ghost use Rattle.bitvec_base.specs.Order.{mask_of};
 ghost use Rattle.bitvec_base.specs.Parts.{HasPart, part_window};
 ghost use Rattle.bitvec_cells.specs.Access.{OnlyReads};
+ghost use Rattle.bitvec_walk.specs.Sought.{Shows};
 
 use crate::part::masked;
 use bitvec_base::{BitOrder, Part};
 use bitvec_cells::CellsRead;
 use bitvec_store::BitStore;
 
-/// The element whose ones are the bits of a part that are `want`.
-fn sought<O: BitOrder, T: BitStore>(element: T, part: Part, want: bool) -> T
+/// The element whose ones are the bits of a part that are `want`. Condition: `from <= to`, and `to`
+/// is at most the width.
+pub fn sought<O: BitOrder, T: BitStore>(element: T, part: Part, want: bool) -> T
     requires order { part.from ≤ part.to }
     requires bound { part.to ≤ T.BITS }
-    ensures in_range { T.value element < 2 ^ T.BITS }
-    ensures value { T.value result ≡ bit_and (if want then T.value element else 2 ^ T.BITS - 1 - T.value element)
-        (mask_of (O.at T.BITS) part.from part.to) }
+    ensures { Shows T.BITS O.at (T.value element) (T.value result) part.from part.to want }
 {
     element.in_range();
     let seen = if want { element } else { element.not() };

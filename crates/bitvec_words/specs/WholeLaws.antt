@@ -31,27 +31,7 @@ behind-mod b s m some =
     let same : s + m * b ≡ (s / b + m) * b + s % b = omega arith in
     ap (λ (n : ℕ). n % b) same ∙ mod-mul-add (s / b + m) b (s % b) (mod_below s b some)
 
--- fewer bits touch no more elements
-pub touched-front : (b s t n : ℕ) → 0 < b → t ≤ n → touched b s t ≤ touched b s n
-touched-front b s zero n some fewer = let none = touched-none b s in omega arith
-touched-front b s (suc t) zero some fewer = absurd (omega arith)
-touched-front b s (suc t) (suc n) some fewer =
-    let front = touched-some b s t in
-    let all = touched-some b s n in
-    let order = div-order b (s + t) (s + n) some (omega arith) in
-    omega arith
-
--- a window that begins where an element does touches each of its whole elements, and what is behind them
-pub touched-behind : (b s n m : ℕ) → 0 < b → s % b ≡ 0 → m * b ≤ n → touched b s n ≡ m + touched b (s + m * b) (n - m * b)
-touched-behind b s n m some edge fits =
-    let place = div-add-mod' s b in
-    let start : s / b * b ≡ s = omega arith in
-    let whole = rw start at (touched-whole b (s / b) m some) in
-    let all : m * b + (n - m * b) ≡ n = omega arith in
-    let both = rw all at (touched-edge b s (m * b) (n - m * b) some (behind-mod b s m some ∙ edge)) in
-    omega arith
-
--- another, beside the element in which it begins
+-- a window that begins inside an element touches, beside that one, each of the whole elements behind it, and what is behind them
 pub touched-behind_from : (b s n m : ℕ) → 0 < b → 0 < s % b → m * b ≤ n → touched b s n - 1 ≡ m + (touched b (s + m * b) (n - m * b) - 1)
 touched-behind_from b s n m some inside fits =
     let place = div-add-mod' s b in

@@ -2,8 +2,8 @@ use Rattle.std.proofs.Common.{◌/◌, arith, rules, refl, ◌∙◌}
 use Rattle.bitvec_store.specs.WidthLaws.{width_some}
 use Rattle.bitvec_words.specs.FieldLaws.{list-tail}
 use Rattle.bitvec_words.specs.SameLaws.{found-none, found-some, same-apart, same-then}
-use Rattle.bitvec_words.specs.TouchedLaws.{touched-more}
-use Rattle.bitvec_words.specs.WholeLaws.{long-whole, touched-behind, whole_fits}
+use Rattle.bitvec_words.specs.TouchedLaws.{touched-after, touched-more}
+use Rattle.bitvec_words.specs.WholeLaws.{long-whole, whole_fits}
 use Rattle.bitvec_compare.proofs.comparing_equal.equal_aligned_rest.Goals as goal
 
 pub returns-then-to_u128-ne0-clause-value : goal.returns-then-to_u128-ne0-clause-value
@@ -19,7 +19,7 @@ pub returns-then-to_u128-ne0-clause-reads : goal.returns-then-to_u128-ne0-clause
 returns-then-to_u128-ne0-clause-reads g c =
     let b = g.C.Elem.BitStore.BITS in
     let n = c.args.left_window.len in
-    let all = touched-behind b c.args.left_window.start n (n / b) (width_some _ g.met.C.Elem.BitStore.width_law) c.requires.edge (whole_fits b n (n / b) (omega arith)) in
+    let all = touched-after b c.args.left_window.start n (n / b) (width_some _ g.met.C.Elem.BitStore.width_law) c.requires.edge (whole_fits b n (n / b) (omega arith)) in
     let reads = rw c.BITS-bits.ensures at c.differences-found.ensures.reads in
     record { numbers = search rules; borrow = search rules; loads = omega arith; stores = search rules }
 
@@ -27,7 +27,7 @@ pub returns-then-to_u128-ne0-clause-right : goal.returns-then-to_u128-ne0-clause
 returns-then-to_u128-ne0-clause-right g c =
     let b = g.C.Elem.BitStore.BITS in
     let n = c.args.right_window.len in
-    let all = touched-behind b c.args.right_window.start n (n / b) (width_some _ g.met.C.Elem.BitStore.width_law) c.requires.right_edge (whole_fits b n (n / b) (omega arith)) in
+    let all = touched-after b c.args.right_window.start n (n / b) (width_some _ g.met.C.Elem.BitStore.width_law) c.requires.right_edge (whole_fits b n (n / b) (omega arith)) in
     let reads = rw (c.BITS-bits.ensures, c.requires.lengths) at c.differences-found.ensures.right in
     record { numbers = search rules; borrow = search rules; loads = omega arith; stores = search rules }
 
@@ -35,7 +35,7 @@ pub returns-then-rest-eq0-clause-reads : goal.returns-then-rest-eq0-clause-reads
 returns-then-rest-eq0-clause-reads g c =
     let b = g.C.Elem.BitStore.BITS in
     let n = c.args.left_window.len in
-    let all = touched-behind b c.args.left_window.start n (n / b) (width_some _ g.met.C.Elem.BitStore.width_law) c.requires.edge (whole_fits b n (n / b) (omega arith)) in
+    let all = touched-after b c.args.left_window.start n (n / b) (width_some _ g.met.C.Elem.BitStore.width_law) c.requires.edge (whole_fits b n (n / b) (omega arith)) in
     let reads = rw c.BITS-bits.ensures at c.differences-found.ensures.reads in
     record { numbers = search rules; borrow = search rules; loads = omega arith; stores = search rules }
 
@@ -43,7 +43,7 @@ pub returns-then-rest-eq0-clause-right : goal.returns-then-rest-eq0-clause-right
 returns-then-rest-eq0-clause-right g c =
     let b = g.C.Elem.BitStore.BITS in
     let n = c.args.right_window.len in
-    let all = touched-behind b c.args.right_window.start n (n / b) (width_some _ g.met.C.Elem.BitStore.width_law) c.requires.right_edge (whole_fits b n (n / b) (omega arith)) in
+    let all = touched-after b c.args.right_window.start n (n / b) (width_some _ g.met.C.Elem.BitStore.width_law) c.requires.right_edge (whole_fits b n (n / b) (omega arith)) in
     let reads = rw (c.BITS-bits.ensures, c.requires.lengths) at c.differences-found.ensures.right in
     record { numbers = search rules; borrow = search rules; loads = omega arith; stores = search rules }
 

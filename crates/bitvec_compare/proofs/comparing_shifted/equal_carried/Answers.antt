@@ -1,7 +1,8 @@
 use Rattle.std.proofs.Common.{◌≡◌, ◌≤◌, ℕ, ◌+◌, ◌*◌, ◌/◌, arith, rules, ◌∙◌, ap, slice_index}
 use Rattle.bitvec_store.specs.WidthLaws.{width_some}
 use Rattle.bitvec_words.specs.SameLaws.{found-none, found-some, same-apart, same-then}
-use Rattle.bitvec_words.specs.WholeLaws.{list-elements, list-elements_from, long-elements_from, touched-behind, touched-behind_from, whole_fits}
+use Rattle.bitvec_words.specs.TouchedLaws.{touched-after}
+use Rattle.bitvec_words.specs.WholeLaws.{list-elements, list-elements_from, long-elements_from, touched-behind_from, whole_fits}
 use Rattle.bitvec_compare.proofs.comparing_shifted.equal_carried.Goals as goal
 
 pub returns-then-to_u128-ne0-clause-value : goal.returns-then-to_u128-ne0-clause-value
@@ -27,7 +28,7 @@ returns-then-to_u128-ne0-clause-reads g c =
     let passed : ℕ = c.loop-test.test * 32 in
     let more = rw c.BITS-bits.ensures at c.loop-test-test.true in
     let fits = whole_fits b c.args.left_window.len (passed + 32) (omega arith) in
-    let all = touched-behind b c.args.left_window.start c.args.left_window.len (passed + 32) (width_some _ g.met.C.Elem.BitStore.width_law) c.requires.edge fits in
+    let all = touched-after b c.args.left_window.start c.args.left_window.len (passed + 32) (width_some _ g.met.C.Elem.BitStore.width_law) c.requires.edge fits in
     let before = c.loop-test.invariant.reads in
     record { numbers = search rules; borrow = search rules; loads = omega arith; stores = search rules }
 
@@ -71,7 +72,7 @@ returns-clause-reads g c =
     let b = g.C.Elem.BitStore.BITS in
     let passed : ℕ = c.args.left_window.len / b / 32 * 32 in
     let fits = whole_fits b c.args.left_window.len passed (omega arith) in
-    let all = touched-behind b c.args.left_window.start c.args.left_window.len passed (width_some _ g.met.C.Elem.BitStore.width_law) c.requires.edge fits in
+    let all = touched-after b c.args.left_window.start c.args.left_window.len passed (width_some _ g.met.C.Elem.BitStore.width_law) c.requires.edge fits in
     let last = rw c.BITS-bits.ensures at c.loop-test.auto.test-end in
     let before = c.loop-test.invariant.reads in
     let rest = rw (c.after.ensures, c.BITS-bits.ensures) at c.equal_carried_rest.ensures.reads in

@@ -3,8 +3,8 @@ use Rattle.std.proofs.lemmas.Nat.{div-add-mod'}
 use Rattle.bitvec_store.specs.WidthLaws.{width_some}
 use Rattle.bitvec_words.specs.FieldLaws.{list-rest, list-tail}
 use Rattle.bitvec_words.specs.SameLaws.{found-none, found-some, same-apart, same-then}
-use Rattle.bitvec_words.specs.TouchedLaws.{touched-from_more, touched-more}
-use Rattle.bitvec_words.specs.WholeLaws.{long-whole_from, touched-behind, touched-behind_from, whole_fits}
+use Rattle.bitvec_words.specs.TouchedLaws.{touched-after, touched-from_more, touched-more}
+use Rattle.bitvec_words.specs.WholeLaws.{long-whole_from, touched-behind_from, whole_fits}
 use Rattle.bitvec_compare.proofs.comparing_shifted.equal_carried_rest.Goals as goal
 
 pub returns-then-to_u128-ne0-clause-value : goal.returns-then-to_u128-ne0-clause-value
@@ -24,7 +24,7 @@ pub returns-then-to_u128-ne0-clause-reads : goal.returns-then-to_u128-ne0-clause
 returns-then-to_u128-ne0-clause-reads g c =
     let b = g.C.Elem.BitStore.BITS in
     let n = c.args.left_window.len in
-    let all = touched-behind b c.args.left_window.start n (n / b) (width_some _ g.met.C.Elem.BitStore.width_law) c.requires.edge (whole_fits b n (n / b) (omega arith)) in
+    let all = touched-after b c.args.left_window.start n (n / b) (width_some _ g.met.C.Elem.BitStore.width_law) c.requires.edge (whole_fits b n (n / b) (omega arith)) in
     let reads = rw c.BITS-bits.ensures at c.shifted_differences-found.ensures.reads in
     record { numbers = search rules; borrow = search rules; loads = omega arith; stores = search rules }
 
@@ -40,7 +40,7 @@ pub returns-then-left_window-bits-eq0-clause-reads : goal.returns-then-left_wind
 returns-then-left_window-bits-eq0-clause-reads g c =
     let b = g.C.Elem.BitStore.BITS in
     let n = c.args.left_window.len in
-    let all = touched-behind b c.args.left_window.start n (n / b) (width_some _ g.met.C.Elem.BitStore.width_law) c.requires.edge (whole_fits b n (n / b) (omega arith)) in
+    let all = touched-after b c.args.left_window.start n (n / b) (width_some _ g.met.C.Elem.BitStore.width_law) c.requires.edge (whole_fits b n (n / b) (omega arith)) in
     let reads = rw c.BITS-bits.ensures at c.shifted_differences-found.ensures.reads in
     record { numbers = search rules; borrow = search rules; loads = omega arith; stores = search rules }
 

@@ -3,10 +3,11 @@ use Rattle.std.proofs.lemmas.Nat.{mod_below}
 use Rattle.bitvec_base.specs.declared.part.Part.{Part}
 use Rattle.bitvec_base.specs.Parts.{first_part_of}
 use Rattle.bitvec_store.specs.WidthLaws.{width_some}
+use Rattle.bitvec_walk.specs.WalkLaws.{touched-less}
 use Rattle.bitvec_words.specs.FieldLaws.{first_part-long, list-head, list-parted}
 use Rattle.bitvec_words.specs.SameLaws.{same-apart, same-then}
 use Rattle.bitvec_words.specs.TouchedLaws.{apart_edge, inside_element, touched-first, touched-inside, touched-rest}
-use Rattle.bitvec_words.specs.WholeLaws.{long-parted, touched-front}
+use Rattle.bitvec_words.specs.WholeLaws.{long-parted}
 use Rattle.bitvec_compare.proofs.comparing_shifted.equal_shifted.Goals as goal
 
 pub returns-then-left_window-bits-eq0-clause-right : goal.returns-then-left_window-bits-eq0-clause-right
@@ -44,7 +45,7 @@ returns-then-not-same-clause-right g c =
     let step = first_part-long c.len-passed.result b c.BITS-bits.result c.args.left_window c.first_part-head.result c.len-passed.ensures c.first_part-head.ensures c.BITS-bits.ensures in
     let lengths = c.requires.lengths in
     let long : c.args.right_window.len - (c.args.right_window.len - c.len-passed.result) ≡ c.len-passed.result = omega arith in
-    let most = touched-front b c.args.right_window.start c.len-passed.result c.args.right_window.len some (omega arith) in
+    let most = touched-less b c.args.right_window.start c.len-passed.result c.args.right_window.len some (omega arith) in
     let first = rw (c.until-beginning.ensures, long) at c.equal_shifted_head-same.ensures.right in
     record { numbers = search rules; borrow = search rules; loads = omega arith; stores = search rules }
 

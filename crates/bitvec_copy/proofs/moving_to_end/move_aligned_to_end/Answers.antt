@@ -1,9 +1,9 @@
 use Rattle.std.proofs.Common.{◌≤◌, ◌*◌, ◌/◌, arith, rules, refl}
 use Rattle.std.proofs.lemmas.Nat.{div-add-mod'}
 use Rattle.bitvec_store.specs.WidthLaws.{width_some}
-use Rattle.bitvec_words.specs.WholeLaws.{touched-behind}
 use Rattle.bitvec_copy.specs.WithinLaws.{Writes-move_back, touched-split_whole}
 use Rattle.bitvec_copy.proofs.moving_to_end.move_aligned_to_end.Goals as goal
+use Rattle.bitvec_words.specs.TouchedLaws.{touched-after}
 
 pub returns-clause-writes : goal.returns-clause-writes
 returns-clause-writes g c =
@@ -26,7 +26,7 @@ returns-clause-cost g c =
     let lengths = c.requires.lengths in
     let fits : c.args.to.len / b * b ≤ c.args.to.len = omega arith in
     let read = touched-split_whole b c.args.from.start c.args.from.len (c.args.to.len / b) some (omega arith) in
-    let written = touched-behind b c.args.to.start c.args.to.len (c.args.to.len / b) some c.requires.edge fits in
+    let written = touched-after b c.args.to.start c.args.to.len (c.args.to.len / b) some c.requires.edge fits in
     let elements = rw c.BITS-bits.ensures at c.move_elements_to_end.ensures.cost in
     let tail = rw (c.after.ensures, c.after-2.ensures, c.BITS-bits.ensures) at c.move_edge.ensures.cost in
     record { borrow = search rules; loads = omega arith; stores = omega arith }

@@ -3,4 +3,4 @@ use Rattle.bitvec_pieces.specs.LeftLaws.{piece_left}
 use Rattle.bitvec_edit_tests.proofs.pieces.invert_back_chunks.Goals as goal
 
 pub returns : goal.returns
-returns g c = λ k below. piece_left k _ c.for_each_rchunk_mut.ensures.pieces below (search rules)
+returns g c = λ k below. piece_left k _ c.for_each_rchunk_mut.ensures below (search rules)

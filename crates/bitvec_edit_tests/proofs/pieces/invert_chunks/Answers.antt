@@ -3,4 +3,4 @@ use Rattle.bitvec_pieces.specs.LeftLaws.{chunk_left}
 use Rattle.bitvec_edit_tests.proofs.pieces.invert_chunks.Goals as goal
 
 pub returns : goal.returns
-returns g c = λ k begins. chunk_left k _ c.for_each_chunk_mut.ensures.chunks begins (search rules)
+returns g c = λ k begins. chunk_left k _ c.requires c.for_each_chunk_mut.ensures begins (search rules)

@@ -3,4 +3,4 @@ use Rattle.bitvec_pieces.specs.LeftLaws.{chunk_left}
 use Rattle.bitvec_edit_tests.proofs.pieces.stripe.Goals as goal
 
 pub returns : goal.returns
-returns g c = λ k fits. chunk_left k _ c.for_each_chunk_mut.ensures.chunks (omega arith) (λ f f' p q is s. let long = is.full fits in search rules)
+returns g c = λ k fits. chunk_left k _ (omega arith) c.for_each_chunk_mut.ensures (omega arith) (search rules)

@@ -1,14 +1,5 @@
-use Rattle.std.proofs.Common.{arith, rules, true}
-use Rattle.bitvec_store.specs.WidthLaws.{width_some}
 use Rattle.bitvec_base.specs.PlacesLaws.{list_any-first_place}
-use Rattle.bitvec_walk.specs.WalkLaws.{first_loads-most}
 use Rattle.bitvec_engine.proofs.scanning.any.Goals as goal
 
 pub returns-clause-value : goal.returns-clause-value
-returns-clause-value g c = rw (c.is_some.ensures, c.scan_first.ensures.value) (list_any-first_place _)
-
-pub returns-clause-reads : goal.returns-clause-reads
-returns-clause-reads g c =
-    let reads = rw c.scan_first.ensures.value at c.scan_first.ensures.reads in
-    let most = first_loads-most g.C.Elem.BitStore.BITS g.O.BitOrder.at (g.C.CellsRead.numbers c.args.cells.now) c.args.window true (width_some _ g.met.C.Elem.BitStore.width_law) c.requires in
-    record { numbers = search rules; borrow = search rules; loads = omega arith; stores = search rules }
+returns-clause-value g c = rw (c.is_some.ensures, c.search_first.ensures.value) (list_any-first_place _)

@@ -1,13 +1,12 @@
-use Rattle.std.proofs.Common.{◌≡◌, ◌<◌, ℕ, ◌+◌, ◌-◌, arith, ap, sym, refl, ◌∙◌}
-use Rattle.bitvec_base.specs.declared.part.Part.{Part}
+use Rattle.std.proofs.Common.{◌≡◌, ◌<◌, ℕ, ◌-◌, ◌%◌, arith, ap, sym, refl, ◌∙◌}
 use Rattle.bitvec_base.specs.Parts.{first_part_of}
 use Rattle.bitvec_base.specs.Window.{window_after}
 use Rattle.bitvec_base.specs.WritesLaws.{Writes-empty, Writes-is}
 use Rattle.bitvec_store.specs.WidthLaws.{width_some}
-use Rattle.bitvec_walk.specs.WalkLaws.{first-len, touched-none}
+use Rattle.bitvec_walk.specs.WalkLaws.{first-len}
 use Rattle.bitvec_segments.specs.Segments.{stored_le}
 use Rattle.bitvec_segments.specs.StoreLaws.{stored_le-none}
-use Rattle.bitvec_segments.proofs.WalkLemmas.{edge-most, fill-two, list-empty, store_le-one, store_le-two, touched-first}
+use Rattle.bitvec_segments.proofs.WalkLemmas.{edge-most, fill-two, list-empty, store_le-joined, store_le-one, touched-first}
 use Rattle.bitvec_segments.proofs.storing.store_le.Goals as goal
 
 pub returns-then-window-eq0-clause-writes : goal.returns-then-window-eq0-clause-writes
@@ -16,74 +15,65 @@ returns-then-window-eq0-clause-writes g c =
     Writes-is _ _ _ _ _ _ _ (Writes-empty _ _ _ _ _ c.requires.window none refl)
     (sym (ap (stored_le _ _ _ _) (list-empty _ _ _ c.args.window none) ∙ stored_le-none _ _ _ _))
 
-pub returns-then-len-window-clause-writes : goal.returns-then-len-window-clause-writes
-returns-then-len-window-clause-writes g c =
+pub returns-then-window-head-clause-writes : goal.returns-then-window-head-clause-writes
+returns-then-window-head-clause-writes g c =
     let window = c.args.window in
     let b = g.C.Elem.BitStore.BITS in
     let some = width_some _ g.met.C.Elem.BitStore.width_law in
     let more : 0 < window.len = let filled = c.if-window-eq0.false in omega arith in
-    let part : c.first_part-first.result ≡ first_part_of b window = c.first_part-first.ensures ∙ ap (λ (n : ℕ). first_part_of n window) c.BITS-bits.ensures in
-    let step = c.len-len.ensures ∙ ap (λ (p : Part). p.to - p.from) part in
-    let all = c.if-len-window.true in
-    store_le-one _ _ _ _ window _ _ some more step c.requires.window _ (omega arith) (rw part at c.store_part_number.ensures.writes)
+    let short = rw c.BITS-bits.ensures at c.if-window-head.true in
+    let len = first-len b window some more in
+    let step : window.len ≡ (first_part_of b window).to - (first_part_of b window).from = omega arith in
+    let part : c.only_part.result ≡ first_part_of b window = c.only_part.ensures ∙ ap (λ (n : ℕ). first_part_of n window) c.BITS-bits.ensures in
+    store_le-one _ _ _ _ window window.len _ some more step c.requires.window _ (omega arith) (rw part at c.store_part_number.ensures.writes)
 
-pub returns-then-len-window-clause-cost : goal.returns-then-len-window-clause-cost
-returns-then-len-window-clause-cost g c =
+pub returns-then-window-head-clause-cost : goal.returns-then-window-head-clause-cost
+returns-then-window-head-clause-cost g c =
     let window = c.args.window in
     let b = g.C.Elem.BitStore.BITS in
     let some = width_some _ g.met.C.Elem.BitStore.width_law in
     let more : 0 < window.len = let filled = c.if-window-eq0.false in omega arith in
-    let part : c.first_part-first.result ≡ first_part_of b window = c.first_part-first.ensures ∙ ap (λ (n : ℕ). first_part_of n window) c.BITS-bits.ensures in
-    let step = c.len-len.ensures ∙ ap (λ (p : Part). p.to - p.from) part in
-    let all = c.if-len-window.true in
-    let none : window.len - c.len-len.result ≡ 0 = omega arith in
-    let each = rw (none, touched-none b (window.start + c.len-len.result)) at (touched-first b window _ some more step) in
+    let each = touched-first b window _ some more refl in
     let filled = fill-two window.len more in
-    let edge = edge-most b c.first_part-first.result in
+    let edge = edge-most b c.only_part.result in
     let cost = c.store_part_number.ensures.cost in
     let loads = cost.loads in
     let stores = cost.stores in
     record { borrow = cost.borrow; loads = omega arith; stores = omega arith }
 
-pub returns-then-len-rest-clause-writes : goal.returns-then-len-rest-clause-writes
-returns-then-len-rest-clause-writes g c =
+pub returns-clause-writes : goal.returns-clause-writes
+returns-clause-writes g c =
     let window = c.args.window in
     let b = g.C.Elem.BitStore.BITS in
     let some = width_some _ g.met.C.Elem.BitStore.width_law in
     let more : 0 < window.len = let filled = c.if-window-eq0.false in omega arith in
-    let part : c.first_part-first.result ≡ first_part_of b window = c.first_part-first.ensures ∙ ap (λ (n : ℕ). first_part_of n window) c.BITS-bits.ensures in
-    let step = c.len-len.ensures ∙ ap (λ (p : Part). p.to - p.from) part in
-    let rest = window_after c.len-len.result window in
-    let left : 0 < rest.len = let short = c.if-len-window.false in let len = first-len b window some more in omega arith in
-    let next_part : c.first_part-second.result ≡ first_part_of b rest = rw c.after-rest.ensures at c.first_part-second.ensures ∙ ap (λ (n : ℕ). first_part_of n rest) c.BITS-bits.ensures in
-    let next = c.len.ensures ∙ ap (λ (p : Part). p.to - p.from) next_part in
-    let ends : c.len.result ≡ rest.len = rw c.after-rest.ensures at c.if-len-rest.true in
-    store_le-two _ _ _ _ window _ _ some more step c.requires.window _ _ c.len.result left next (omega arith)
-    (rw part at c.store_part_number-then-len-rest.ensures.writes) (rw next_part at c.store_part_number-then-len-rest-2.ensures.writes)
+    let long = rw c.BITS-bits.ensures at c.if-window-head.false in
+    let head : ℕ = b - window.start % b in
+    let len = first-len b window some more in
+    let step : head ≡ (first_part_of b window).to - (first_part_of b window).from = omega arith in
+    let part : c.head_part.result ≡ first_part_of b window = c.head_part.ensures ∙ ap (λ (n : ℕ). first_part_of n window) c.BITS-bits.ensures in
+    let after : c.after-rest.result ≡ window_after head window = c.after-rest.ensures ∙ ap (λ (n : ℕ). window_after (n - window.start % n) window) c.BITS-bits.ensures in
+    store_le-joined _ _ _ _ window head c.args.number some more step c.requires.window _ _
+    (rw part at c.store_part_number-2.ensures.writes) (rw (after, c.BITS-bits.ensures) at c.store_few_le.ensures.writes)
 
-pub returns-then-len-rest-clause-cost : goal.returns-then-len-rest-clause-cost
-returns-then-len-rest-clause-cost g c =
+pub returns-clause-cost : goal.returns-clause-cost
+returns-clause-cost g c =
     let window = c.args.window in
     let b = g.C.Elem.BitStore.BITS in
     let some = width_some _ g.met.C.Elem.BitStore.width_law in
     let more : 0 < window.len = let filled = c.if-window-eq0.false in omega arith in
-    let part : c.first_part-first.result ≡ first_part_of b window = c.first_part-first.ensures ∙ ap (λ (n : ℕ). first_part_of n window) c.BITS-bits.ensures in
-    let step = c.len-len.ensures ∙ ap (λ (p : Part). p.to - p.from) part in
-    let rest = window_after c.len-len.result window in
-    let left : 0 < rest.len = let short = c.if-len-window.false in let len = first-len b window some more in omega arith in
-    let next_part : c.first_part-second.result ≡ first_part_of b rest = rw c.after-rest.ensures at c.first_part-second.ensures ∙ ap (λ (n : ℕ). first_part_of n rest) c.BITS-bits.ensures in
-    let next = c.len.ensures ∙ ap (λ (p : Part). p.to - p.from) next_part in
-    let ends : c.len.result ≡ rest.len = rw c.after-rest.ensures at c.if-len-rest.true in
-    let none : rest.len - c.len.result ≡ 0 = omega arith in
-    let whole = touched-first b window _ some more step in
-    let each = rw (none, touched-none b (rest.start + c.len.result)) at (touched-first b rest _ some left next) in
+    let long = rw c.BITS-bits.ensures at c.if-window-head.false in
+    let head : ℕ = b - window.start % b in
+    let len = first-len b window some more in
+    let step : head ≡ (first_part_of b window).to - (first_part_of b window).from = omega arith in
+    let after : c.after-rest.result ≡ window_after head window = c.after-rest.ensures ∙ ap (λ (n : ℕ). window_after (n - window.start % n) window) c.BITS-bits.ensures in
+    let each = touched-first b window head some more step in
     let filled = fill-two window.len more in
-    let edge = edge-most b c.first_part-first.result in
-    let last_edge = edge-most b c.first_part-second.result in
-    let first = c.store_part_number-then-len-rest.ensures.cost in
-    let second = c.store_part_number-then-len-rest-2.ensures.cost in
+    let edge = edge-most b c.head_part.result in
+    let first = c.store_part_number-2.ensures.cost in
+    let later = rw after at c.store_few_le.ensures.cost in
     let first_loads = first.loads in
-    let second_loads = second.loads in
+    let later_loads = later.loads in
     let first_stores = first.stores in
-    let second_stores = second.stores in
-    record { borrow = second.borrow ∙ first.borrow; loads = omega arith; stores = omega arith }
+    let later_stores = later.stores in
+    record { borrow = later.borrow ∙ first.borrow; loads = omega arith; stores = omega arith }

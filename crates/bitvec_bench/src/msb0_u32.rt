@@ -1,0 +1,35 @@
+//! The exports over `u32` elements in `Msb0` order.
+ghost use Rattle.std.specs.Prelude.{◌≡◌, ◌*◌, true};
+ghost use Rattle.bitvec_bench.specs.Bits.{HasBits, Wrote, bits_in, from_most, wrapped_sum};
+ghost use Rattle.bitvec_bench.specs.Fields.{field_numbers, numbered_fields};
+
+use crate::fields;
+use bitvec_base::Msb0;
+
+/// The sum of the numbers of `count` fields of 12 bits that follow one another, as far as a `usize`
+/// holds it.
+#[unsafe(no_mangle)]
+pub extern "C" fn bitvec_bench_load_fields_u32_msb0(
+    elements: &[u32],
+    start: usize,
+    count: usize,
+) -> usize
+    requires { HasBits 32 elements.now start (12 * count) }
+    ensures { result ≡ wrapped_sum (field_numbers true (bits_in 32 from_most elements.now start (12 * count)) count) }
+{
+    fields::sum::<u32, Msb0>(elements, start, count)
+}
+
+/// Stores its index in each of `count` fields of 12 bits that follow one another, without the bits of
+/// the index past the twelfth.
+#[unsafe(no_mangle)]
+pub extern "C" fn bitvec_bench_store_fields_u32_msb0(
+    elements: &mut [u32],
+    start: usize,
+    count: usize,
+)
+    requires { HasBits 32 elements.old start (12 * count) }
+    ensures { Wrote 32 from_most elements.old elements.new start (12 * count) (numbered_fields true count) }
+{
+    fields::number::<u32, Msb0>(elements, start, count);
+}

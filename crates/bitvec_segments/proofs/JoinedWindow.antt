@@ -1,0 +1,157 @@
+-- Whole elements that hold a window, and the number of its bits among theirs.
+use Rattle.std.specs.Prelude.{◌≡◌, ℕ, ◌+◌, ◌-◌, ◌*◌, ◌/◌, ◌%◌, ◌^◌, ◌<◌, ◌≤◌, if◌then◌else◌, Bool, true, false, List, ◌++◌, length, take, drop, slice_index, slice_range, refl}
+use Rattle.std.proofs.Common.{arith, sym, ◌∙◌, ap, length-append, length-drop}
+use Rattle.std.proofs.lemmas.List.{length-take, take-append-drop}
+use Rattle.std.proofs.lemmas.List.Folds.{drop_split}
+use Rattle.std.proofs.lemmas.Nat.{div-add-mod', div-mul-add, mod-mul-add, pow-add}
+use Rattle.std.proofs.Math.Nat.{mod-eq_of_lt, mul-le-mul_left}
+use Rattle.std.proofs.Math.Pow.{pow_mono}
+use Rattle.bitvec_base.specs.declared.window.Window.{Window}
+use Rattle.bitvec_base.specs.Memory.{HasWindow, element_bits, list_in}
+use Rattle.bitvec_base.specs.MemoryLaws.{length-element_bits}
+use Rattle.bitvec_base.specs.Parts.{part_window}
+use Rattle.bitvec_base.specs.SliceLaws.{range-all}
+use Rattle.bitvec_base.specs.WriteLaws.{length-slice_range}
+use Rattle.bitvec_base.specs.WritesLaws.{length-list, list-range}
+use Rattle.bitvec_store.specs.Width.{IsWidth}
+use Rattle.bitvec_store.specs.WidthLaws.{at_each_width}
+use Rattle.bitvec_walk.specs.Cost.{touched}
+use Rattle.bitvec_walk.specs.WalkLaws.{touched-until}
+use Rattle.bitvec_words.specs.Elements.{elements_window}
+use Rattle.bitvec_words.specs.Field.{lowest_bit}
+use Rattle.bitvec_words.specs.FieldLaws.{element_of, list-element, list-part}
+use Rattle.bitvec_segments.specs.LoadLaws.{joined_below}
+use Rattle.bitvec_segments.specs.NumberLaws.{segment_number-below}
+use Rattle.bitvec_segments.specs.PlainLaws.{append-highest, append-lowest}
+use Rattle.bitvec_segments.specs.Segments.{segment_number}
+use Rattle.bitvec_segments.proofs.WalkLemmas.{list-empty}
+
+pub width_most : (b : ℕ) → IsWidth b → b ≤ 64
+width_most b width = at_each_width (λ n. n ≤ 64) (omega arith) (omega arith) (omega arith) (omega arith) b width
+
+-- the part that is a whole element
+pub list-whole : (b : ℕ) (at : ℕ → ℕ → ℕ) (xs : List ℕ) (e w : ℕ) → w ≡ b → e < length xs → list_in b at xs (part_window b (record { element = e; from = 0; to = w })) ≡ element_bits b at (slice_index xs e)
+list-whole b at xs e w is inside =
+    let long = length-element_bits b at (slice_index xs e) in
+    list-part b at xs (record { element = e; from = 0; to = w }) (record { element = inside; order = omega arith; bound = omega arith })
+    ∙ range-all (element_bits b at (slice_index xs e)) w (omega arith)
+
+-- the memory has the elements that a window touches
+pub HasWindow-elements : (b : ℕ) (xs : List ℕ) (window : Window) (count : ℕ) → HasWindow b xs window → 0 < count → (count - 1) * b < window.start % b + window.len → HasWindow b xs (elements_window b (window.start / b) count)
+HasWindow-elements b xs window count has some last =
+    let first : ℕ = window.start / b in
+    let place = div-add-mod' window.start b in
+    let start = has.within.start in
+    let len = has.within.len in
+    let split : (first + (count - 1)) * b ≡ first * b + (count - 1) * b = omega arith in
+    let inside = element_of b (first + (count - 1)) 0 (length xs) (omega arith) in
+    let room = mul-le-mul_left b (let e : first + count ≤ length xs = omega arith in e) in
+    let both : b * (first + count) ≡ first * b + count * b = omega arith in
+    record { fits = has.fits; within = record { start = omega arith; len = omega arith } }
+
+-- ---- their number
+
+-- of one element
+pub number-one : (high : Bool) (b : ℕ) (at : ℕ → ℕ → ℕ) (xs : List ℕ) (first v : ℕ) → 0 < b → HasWindow b xs (elements_window b first 1) → v ≡ segment_number high (element_bits b at (slice_index xs first)) → v ≡ segment_number high (list_in b at xs (elements_window b first 1))
+number-one high b at xs first v some has is =
+    let none = list-empty b at xs (elements_window b first 0) (omega arith) in
+    let here : first + 0 ≡ first = omega arith in
+    let whole = rw (none, here) at (list-element b at xs first 1 0 some has (omega arith)) in
+    is ∙ ap (segment_number high) whole
+
+-- with one more behind them
+pub number-next : (high : Bool) (b : ℕ) (at : ℕ → ℕ → ℕ) (xs : List ℕ) (first count v w : ℕ) → 0 < b → HasWindow b xs (elements_window b first (count + 1))
+    → v ≡ segment_number high (list_in b at xs (elements_window b first count)) → w ≡ segment_number high (element_bits b at (slice_index xs (first + count)))
+    → (if high then v * 2 ^ b + w else w * 2 ^ (count * b) + v) ≡ segment_number high (list_in b at xs (elements_window b first (count + 1)))
+number-next true b at xs first count v w some has before next =
+    let whole = list-element b at xs first (count + 1) count some has (omega arith) in
+    let long = length-element_bits b at (slice_index xs (first + count)) in
+    rw (before, next) (sym (sym (ap (segment_number true) whole) ∙ append-highest (list_in b at xs (elements_window b first count)) (element_bits b at (slice_index xs (first + count))) ∙ rw long refl))
+number-next false b at xs first count v w some has before next =
+    let whole = list-element b at xs first (count + 1) count some has (omega arith) in
+    let start = has.within.start in
+    let len = has.within.len in
+    let long = length-list b at xs (elements_window b first count) (record { fits = has.fits; within = record { start = start; len = omega arith } }) in
+    rw (before, next) (sym (sym (ap (segment_number false) whole) ∙ append-lowest (list_in b at xs (elements_window b first count)) (element_bits b at (slice_index xs (first + count))) ∙ rw long refl))
+
+-- it has as many bits as they
+pub number-below : (high : Bool) (b : ℕ) (at : ℕ → ℕ → ℕ) (xs : List ℕ) (window : Window) (v : ℕ) → HasWindow b xs window → v ≡ segment_number high (list_in b at xs window) → v < 2 ^ window.len
+number-below high b at xs window v has is =
+    let below = rw (length-list b at xs window has) at (segment_number-below high (list_in b at xs window)) in
+    rw is below
+
+-- ---- the number of some bits among others
+
+number-range : (high : Bool) (list : List Bool) (from n : ℕ) → from + n ≤ length list → segment_number high list / 2 ^ lowest_bit high (length list) from n % 2 ^ n ≡ segment_number high (slice_range list from (from + n))
+number-range false list from n inside =
+    let some_bits : List Bool = slice_range list from (from + n) in
+    let behind : List Bool = drop (from + n) list in
+    let before : List Bool = take from list in
+    let long : length before ≡ from = length-take from list ∙ omega arith in
+    let wide : length some_bits ≡ n = length-slice_range list from (from + n) inside ∙ omega arith in
+    let low = rw long at (segment_number-below false before) in
+    let middle = rw wide at (segment_number-below false some_bits) in
+    let whole : segment_number false list ≡ segment_number false (some_bits ++ behind) * 2 ^ from + segment_number false before =
+    ap (segment_number false) (sym (take-append-drop from list) ∙ ap (λ (l : List Bool). before ++ l) (drop_split list from (from + n) (omega arith)))
+    ∙ append-lowest before (some_bits ++ behind) ∙ rw long refl in
+    let rest : segment_number false (some_bits ++ behind) ≡ segment_number false behind * 2 ^ n + segment_number false some_bits = append-lowest some_bits behind ∙ rw wide refl in
+    ap (λ (m : ℕ). m / 2 ^ from % 2 ^ n) whole
+    ∙ ap (λ (m : ℕ). m % 2 ^ n) (div-mul-add _ (2 ^ from) _ low ∙ rest)
+    ∙ mod-mul-add _ (2 ^ n) _ middle
+number-range true list from n inside =
+    let some_bits : List Bool = slice_range list from (from + n) in
+    let behind : List Bool = drop (from + n) list in
+    let before : List Bool = take from list in
+    let d : ℕ = length list - (from + n) in
+    let wide : length some_bits ≡ n = length-slice_range list from (from + n) inside ∙ omega arith in
+    let left : length behind ≡ d = length-drop (from + n) list in
+    let both : length (some_bits ++ behind) ≡ n + d = length-append some_bits behind ∙ omega arith in
+    let low = rw left at (segment_number-below true behind) in
+    let middle = rw wide at (segment_number-below true some_bits) in
+    let rest : segment_number true (some_bits ++ behind) ≡ segment_number true some_bits * 2 ^ d + segment_number true behind = append-highest some_bits behind ∙ rw left refl in
+    let power = pow-add 2 n d in
+    let whole : segment_number true list ≡ segment_number true before * 2 ^ (n + d) + (segment_number true some_bits * 2 ^ d + segment_number true behind) =
+    ap (segment_number true) (sym (take-append-drop from list) ∙ ap (λ (l : List Bool). before ++ l) (drop_split list from (from + n) (omega arith)))
+    ∙ append-highest before (some_bits ++ behind) ∙ rw (both, rest) refl in
+    let split : segment_number true before * 2 ^ (n + d) + (segment_number true some_bits * 2 ^ d + segment_number true behind) ≡ (segment_number true before * 2 ^ n + segment_number true some_bits) * 2 ^ d + segment_number true behind = rw power (omega arith) in
+    ap (λ (m : ℕ). m / 2 ^ d % 2 ^ n) (whole ∙ split)
+    ∙ ap (λ (m : ℕ). m % 2 ^ n) (div-mul-add _ (2 ^ d) _ low)
+    ∙ mod-mul-add _ (2 ^ n) _ middle
+
+-- of the window's bits among those of the elements
+pub number-cut : (high : Bool) (b : ℕ) (at : ℕ → ℕ → ℕ) (xs : List ℕ) (window : Window) (count v : ℕ) → HasWindow b xs (elements_window b (window.start / b) count) → window.start % b + window.len ≤ count * b
+    → v ≡ segment_number high (list_in b at xs (elements_window b (window.start / b) count))
+    → v / 2 ^ lowest_bit high (count * b) (window.start % b) window.len % 2 ^ window.len ≡ segment_number high (list_in b at xs window)
+number-cut high b at xs window count v has inside is =
+    let whole : Window = elements_window b (window.start / b) count in
+    let from : ℕ = window.start % b in
+    let long = length-list b at xs whole has in
+    let part = list-range b at xs whole from (from + window.len) has (omega arith) inside in
+    let place : window.start / b * b + from ≡ window.start = div-add-mod' window.start b in
+    let len : from + window.len - from ≡ window.len = omega arith in
+    let cut = rw long at (number-range high (list_in b at xs whole) from window.len (omega arith)) in
+    rw is cut
+    ∙ ap (segment_number high) (sym part ∙ rw (place, len) refl)
+
+-- the elements that the window touches are so many
+pub touched-elements : (b s n count : ℕ) → 0 < n → 0 < count → (count - 1) * b < s % b + n → s % b + n ≤ count * b → touched b s n ≡ count
+touched-elements b s n count more some last inside =
+    let place = div-add-mod' s b in
+    let until = rw (let e : s + n - s ≡ n = omega arith in e) at (touched-until b s (s + n) (omega arith)) in
+    let r : ℕ = s % b + n - 1 - (count - 1) * b in
+    let one_more : count * b ≡ (count - 1) * b + b = ap (λ (m : ℕ). m * b) (let e : count ≡ count - 1 + 1 = omega arith in e) ∙ omega arith in
+    let below : r < b = omega arith in
+    let split : s + n - 1 ≡ (s / b + (count - 1)) * b + r = omega arith in
+    let quotient : (s + n - 1) / b ≡ s / b + (count - 1) = ap (λ (m : ℕ). m / b) split ∙ div-mul-add (s / b + (count - 1)) b r below in
+    omega arith
+
+-- ---- two numbers in one word
+
+pub joined_fits : (v w j k : ℕ) → v < 2 ^ j → w < 2 ^ k → k + j ≤ 64 → v * 2 ^ k + w < 2 ^ 64
+joined_fits v w j k high low most =
+    let both = joined_below v w j k high low in
+    let order : 2 ^ (k + j) ≤ 2 ^ 64 = pow_mono most in
+    omega arith
+
+pub moved_kept : (v w : ℕ) → v + w < 2 ^ 64 → v % 2 ^ 64 ≡ v
+moved_kept v w fits = mod-eq_of_lt (omega arith)

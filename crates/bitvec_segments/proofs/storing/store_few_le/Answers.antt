@@ -1,0 +1,78 @@
+use Rattle.std.proofs.Common.{◌≡◌, ℕ, ◌+◌, ◌-◌, arith, ap, sym, ◌∙◌, min}
+use Rattle.bitvec_base.specs.declared.part.Part.{Part}
+use Rattle.bitvec_base.specs.Memory.{HasWindow}
+use Rattle.bitvec_base.specs.Parts.{first_part_of}
+use Rattle.bitvec_base.specs.Window.{window_after}
+use Rattle.bitvec_base.specs.WritesLaws.{HasWindow-kept}
+use Rattle.bitvec_store.specs.WidthLaws.{width_some}
+use Rattle.bitvec_segments.proofs.WalkLemmas.{edge-len, edge-most, store_le-joined, store_le-one, touched-first, whole-none}
+use Rattle.bitvec_segments.proofs.storing.store_few_le.Goals as goal
+
+pub returns-then-window-bits-clause-writes : goal.returns-then-window-bits-clause-writes
+returns-then-window-bits-clause-writes g c =
+    let window = c.args.window in
+    let b = g.C.Elem.BitStore.BITS in
+    let some = width_some _ g.met.C.Elem.BitStore.width_law in
+    let short = rw c.BITS-bits.ensures at c.if-window-bits.true in
+    let part : c.edge_part.result ≡ first_part_of b window = c.edge_part.ensures ∙ ap (λ (n : ℕ). first_part_of n window) c.BITS-bits.ensures in
+    let step = edge-len b c.args.element window some c.requires.edge in
+    store_le-one _ _ _ _ window (min window.len b) _ some c.requires.some step c.requires.window _ (omega arith) (rw part at c.store_part_number.ensures.writes)
+
+pub returns-then-window-bits-clause-cost : goal.returns-then-window-bits-clause-cost
+returns-then-window-bits-clause-cost g c =
+    let window = c.args.window in
+    let b = g.C.Elem.BitStore.BITS in
+    let some = width_some _ g.met.C.Elem.BitStore.width_law in
+    let each = touched-first b window (min window.len b) some c.requires.some (edge-len b c.args.element window some c.requires.edge) in
+    let edge = edge-most b c.edge_part.result in
+    let cost = c.store_part_number.ensures.cost in
+    let loads = cost.loads in
+    let stores = cost.stores in
+    record { borrow = cost.borrow; loads = omega arith; stores = omega arith }
+
+pub returns-clause-writes : goal.returns-clause-writes
+returns-clause-writes g c =
+    let window = c.args.window in
+    let b = g.C.Elem.BitStore.BITS in
+    let some = width_some _ g.met.C.Elem.BitStore.width_law in
+    let long = rw c.BITS-bits.ensures at c.if-window-bits.false in
+    let few = c.requires.few in
+    let edge = c.requires.edge in
+    let rest = window_after b window in
+    let after : c.after-rest.result ≡ rest = c.after-rest.ensures ∙ ap (λ (n : ℕ). window_after n window) c.BITS-bits.ensures in
+    let whole : b ≡ min window.len b = omega arith in
+    let step = whole ∙ edge-len b c.args.element window some edge in
+    let part : c.whole_part.result ≡ first_part_of b window = c.whole_part.ensures ∙ ap (λ (n : ℕ). first_part_of n window) c.BITS-bits.ensures in
+    let next : c.edge_part-2.result ≡ first_part_of b rest = rw after at c.edge_part-2.ensures ∙ ap (λ (n : ℕ). first_part_of n rest) c.BITS-bits.ensures in
+    let start = c.requires.window.within.start in
+    let end = c.requires.window.within.len in
+    let has : HasWindow b _ rest = record { fits = c.requires.window.fits; within = record { start = omega arith; len = omega arith } } in
+    let first = rw part at c.store_part_number-2.ensures.writes in
+    let second = rw (next, c.BITS-bits.ensures) at c.store_part_number-3.ensures.writes in
+    let left = edge-len b (c.args.element + 1) rest some (omega arith) in
+    store_le-joined _ _ _ _ window b c.args.number some c.requires.some step c.requires.window _ _ first
+    (store_le-one _ _ _ _ rest (min rest.len b) _ some (omega arith) left (HasWindow-kept _ _ _ rest has first.elements) _ (omega arith) second)
+
+pub returns-clause-cost : goal.returns-clause-cost
+returns-clause-cost g c =
+    let window = c.args.window in
+    let b = g.C.Elem.BitStore.BITS in
+    let some = width_some _ g.met.C.Elem.BitStore.width_law in
+    let long = rw c.BITS-bits.ensures at c.if-window-bits.false in
+    let edge = c.requires.edge in
+    let rest = window_after b window in
+    let whole : b ≡ min window.len b = omega arith in
+    let step = whole ∙ edge-len b c.args.element window some edge in
+    let part : c.whole_part.result ≡ first_part_of b window = c.whole_part.ensures ∙ ap (λ (n : ℕ). first_part_of n window) c.BITS-bits.ensures in
+    let left = edge-len b (c.args.element + 1) rest some (omega arith) in
+    let each = touched-first b window b some c.requires.some step in
+    let last = touched-first b rest (min rest.len b) some (omega arith) left in
+    let none = whole-none b c.whole_part.result (ap (λ (p : Part). p.to - p.from) part ∙ sym step) in
+    let most = edge-most b c.edge_part-2.result in
+    let first = c.store_part_number-2.ensures.cost in
+    let second = c.store_part_number-3.ensures.cost in
+    let first_loads = first.loads in
+    let second_loads = second.loads in
+    let first_stores = first.stores in
+    let second_stores = second.stores in
+    record { borrow = second.borrow ∙ first.borrow; loads = omega arith; stores = omega arith }

@@ -1,0 +1,133 @@
+//! What a caller knows of a view and of a walk once a bit or a piece was lent.
+ghost use Rattle.std.specs.Prelude.{◌≡◌, ◌+◌, ◌-◌, ◌<◌, min};
+ghost use Rattle.bitvec.specs.Cutting.{chunk_count, whole_count};
+ghost use Rattle.bitvec.specs.Kept.{KeepsOutside};
+ghost use Rattle.bitvec.specs.Touched.{end_touched, first_touched};
+ghost use Rattle.bitvec.specs.Views.{name_of, seen_mut};
+
+use bitvec::prelude::*;
+
+/// Sets one bit in its place: the view stays where it is, and so does each element but that of the bit.
+pub fn set_in_place<T: BitStore, O: SliceOrder>(view: &mut BitSliceMut<'_, T, O>, index: usize)
+    requires { index < (seen_mut view.old).window.len }
+    ensures window { (seen_mut view.new).window ≡ (seen_mut view.old).window }
+    ensures elements { let place = (seen_mut view.old).window.start + index in
+        KeepsOutside (first_touched T.BITS place) (end_touched T.BITS (place + 1)) (seen_mut view.old).elements (seen_mut view.new).elements }
+{
+    let mut bit = view.bit_mut(index);
+    bit.set(true);
+}
+
+/// Clears the first chunk, if there is one, and gives how many are left then.
+pub fn clear_first<T: BitStore, O: SliceOrder>(
+    view: &mut BitSliceMut<'_, T, O>,
+    width: usize,
+) -> usize
+    requires { 0 < width }
+    ensures left { result ≡ chunk_count width (seen_mut view.old).window.len - 1 }
+    ensures window { (seen_mut view.new).window ≡ (seen_mut view.old).window }
+    ensures name { name_of view.new ≡ name_of view.old }
+{
+    let mut chunks = view.chunks_mut(width);
+    if chunks.is_empty() {
+        return 0;
+    }
+    {
+        let mut first = chunks.take_mut();
+        first.fill(false);
+    }
+    chunks.len()
+}
+
+/// Clears the last chunk, if there is one, and gives how many are left then.
+pub fn clear_last_chunk<T: BitStore, O: SliceOrder>(
+    view: &mut BitSliceMut<'_, T, O>,
+    width: usize,
+) -> usize
+    requires { 0 < width }
+    ensures left { result ≡ chunk_count width (seen_mut view.old).window.len - 1 }
+    ensures window { (seen_mut view.new).window ≡ (seen_mut view.old).window }
+    ensures name { name_of view.new ≡ name_of view.old }
+{
+    let mut chunks = view.chunks_mut(width);
+    if chunks.is_empty() {
+        return 0;
+    }
+    {
+        let mut last = chunks.take_back_mut();
+        last.fill(false);
+    }
+    chunks.len()
+}
+
+/// Clears the bits that no whole chunk has, and gives how many chunks are left then: all.
+pub fn clear_remainder<T: BitStore, O: SliceOrder>(
+    view: &mut BitSliceMut<'_, T, O>,
+    width: usize,
+) -> usize
+    requires { 0 < width }
+    ensures left { result ≡ whole_count width (seen_mut view.old).window.len }
+    ensures window { (seen_mut view.new).window ≡ (seen_mut view.old).window }
+    ensures name { name_of view.new ≡ name_of view.old }
+{
+    let mut chunks = view.chunks_exact_mut(width);
+    {
+        let mut rest = chunks.take_remainder();
+        rest.fill(false);
+    }
+    chunks.len()
+}
+
+/// How many chunks are left, once `front` were passed from the front, and `back` from the back.
+pub fn left_between<T: BitStore, O: SliceOrder>(
+    view: &mut BitSliceMut<'_, T, O>,
+    width: usize,
+    front: usize,
+    back: usize,
+) -> usize
+    requires { 0 < width }
+    ensures { result ≡ chunk_count width (seen_mut view.old).window.len - front - back }
+{
+    let mut chunks = view.chunks_mut(width);
+    chunks.pass(front);
+    chunks.pass_back(back);
+    chunks.len()
+}
+
+/// Flips the first chunk, and gives how many bits it has; none, where there is no chunk.
+pub fn flip_first<T: BitStore, O: SliceOrder>(
+    view: &mut BitSliceMut<'_, T, O>,
+    width: usize,
+) -> usize
+    requires { 0 < width }
+    ensures { result ≡ min width (seen_mut view.old).window.len }
+{
+    let mut chunks = view.chunks_mut(width);
+    match chunks.next_mut() {
+        Some(mut piece) => {
+            piece.invert();
+            piece.len()
+        }
+        None => 0,
+    }
+}
+
+#[test]
+fn one_bit_is_set(rt: HostRuntime) {
+    let mut cells = [0u8; 3];
+    let mut view = BitSliceMut::<u8, Lsb0>::from_slice_mut(&mut cells);
+    set_in_place(&mut view, 11);
+    assert_eq!(rt; cells, [0, 8, 0]);
+}
+
+#[test]
+fn chunks_are_taken(rt: HostRuntime) {
+    let mut cells = [0xFFu8; 2];
+    let mut view = BitSliceMut::<u8, Lsb0>::from_slice_mut(&mut cells);
+    assert_eq!(rt; clear_first(&mut view, 3), 5);
+    assert_eq!(rt; clear_last_chunk(&mut view, 3), 5);
+    assert_eq!(rt; clear_remainder(&mut view, 6), 2);
+    assert_eq!(rt; left_between(&mut view, 3, 2, 1), 3);
+    assert_eq!(rt; flip_first(&mut view, 5), 5);
+    assert_eq!(rt; cells, [0xE7, 0x0F]);
+}

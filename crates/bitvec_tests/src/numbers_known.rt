@@ -1,0 +1,49 @@
+//! What a caller knows of numbers that it stored in a view, and of those that it loads.
+ghost use Rattle.std.specs.Prelude.{◌≡◌, ◌+◌, ◌%◌, ◌<◌, ◌≤◌};
+ghost use Rattle.bitvec.specs.Integers.{integer_of, remainder_of};
+ghost use Rattle.bitvec.specs.Views.{seen, seen_mut};
+
+use bitvec::prelude::*;
+
+/// Stores a number in the `width` bits from `from` on, and loads it: it is the number modulo
+/// `2^width`, of a signed type less `2^width` where the highest bit is 1.
+#[tactic(auto, using(bitvec::specs::Laws::numbered))]
+pub fn put_and_take<T: BitStore, O: FieldOrder, I: Integral>(
+    view: BitSliceMut<'_, T, O>,
+    from: usize,
+    width: usize,
+    number: I,
+) -> I
+    requires some { 0 < width }
+    requires bound { width ≤ I.BITS }
+    requires inside { from + width ≤ (seen_mut view).window.len }
+    ensures { I.value result ≡ integer_of I.SIGNED width (remainder_of width (I.value number)) }
+{
+    let mut part = view.into_part(from..from + width);
+    let _len = part.len();
+    part.store_le::<I>(number);
+    part.load_le::<I>()
+}
+
+/// Loads a view that lies in one element from both ends: the numbers are one.
+#[tactic(auto, using(bitvec::specs::Laws::numbered))]
+pub fn take_both_ways<T: BitStore, O: FieldOrder, I: Integral>(view: BitSlice<'_, T, O>) -> (I, I)
+    requires some { 0 < (seen view).window.len }
+    requires bound { (seen view).window.len ≤ I.BITS }
+    requires one { (seen view).window.start % T.BITS + (seen view).window.len ≤ T.BITS }
+    ensures { I.value result.0 ≡ I.value result.1 }
+{
+    let _len = view.len();
+    (view.load_le::<I>(), view.load_be::<I>())
+}
+
+#[test]
+fn numbers_are_stored_and_loaded(rt: HostRuntime) {
+    let mut cells = [0u8; 3];
+    let view = BitSliceMut::<u8, Lsb0>::from_slice_mut(&mut cells);
+    assert_eq!(rt; put_and_take(view, 5, 12, 0xFABCu16), 0xABC);
+    assert_eq!(rt; cells, [0x80, 0x57, 0x01]);
+    let byte = [0x5Au8];
+    let view = BitSlice::<u8, Msb0>::from_slice(&byte);
+    assert_eq!(rt; take_both_ways::<u8, Msb0, u16>(view), (0x5A, 0x5A));
+}

@@ -1,0 +1,103 @@
+//! What a caller knows of two halves after a run of commands, and of copies of a view.
+ghost use Rattle.std.specs.Prelude.{◌≡◌, ◌≤◌, [], IfOk, length};
+ghost use Rattle.std.specs.List.{repeat};
+ghost use Rattle.bitvec.specs.Copies.{Holds};
+ghost use Rattle.bitvec.specs.Counts.{ones_of};
+ghost use Rattle.bitvec.specs.Fold.{list_after, replies_of};
+ghost use Rattle.bitvec.specs.Owned.{owned};
+ghost use Rattle.bitvec.specs.Sides.{halves_of, joined, side_lists, side_reply};
+ghost use Rattle.bitvec.specs.Views.{seen, seen_mut};
+
+use bitvec::prelude::*;
+use bitvec::run::{Op, Reply, Side, Step, run_halves};
+use bitvec::vec::RepeatError;
+use std::alloc::{AllocError, Global};
+use std::test::Fail;
+
+/// Runs steps through the bits before `mid` and those from it on: both are what the steps make of
+/// their lists. Conditions: `mid` is at most `len`, and `out` has a place for each reply.
+pub fn run_apart<T: BitStore, O: SliceOrder>(
+    view: &mut BitSliceMut<'_, T, O>,
+    mid: usize,
+    steps: &[(Side, Step)],
+    out: &mut [Reply],
+)
+    requires mid { mid ≤ (seen_mut view.old).window.len }
+    requires room { length steps.now ≡ length out.old }
+    ensures replies { out.new ≡ replies_of (side_reply []) (side_lists []) (halves_of mid (seen_mut view.old).bits) steps.now }
+    ensures bits { (seen_mut view.new).bits ≡ joined (list_after (side_lists []) (halves_of mid (seen_mut view.old).bits) steps.now) }
+{
+    run_halves(view, mid, steps, BitSlice::empty(), out);
+}
+
+/// The bits twice, in memory of their own.
+pub fn twice<T: BitStore, O: SliceOrder>(
+    alloc: Global,
+    view: BitSlice<'_, T, O>,
+) -> Result<BitVec<T, O, Global>, RepeatError>
+    ensures { IfOk result (λ copy. Holds T.BITS (repeat 2 (seen view.entry).bits) 0 (owned copy)) }
+{
+    view.repeat(alloc, 2)
+}
+
+/// Flips a copy of the bits, and gives it with how many were 1: of the copy nothing is known then but
+/// that it is one.
+pub fn flipped_copy<T: BitStore, O: SliceOrder>(
+    alloc: Global,
+    view: BitSlice<'_, T, O>,
+) -> Result<(BitVec<T, O, Global>, usize), AllocError>
+    ensures { IfOk result (λ given. given.1 ≡ ones_of (seen view.entry).bits) }
+{
+    let mut copy = view.to_bitvec(alloc)?;
+    let ones = {
+        let mut bits = copy.as_mut_bitslice();
+        let ones = bits.count_ones();
+        bits.invert();
+        ones
+    };
+    Ok((copy, ones))
+}
+
+#[test]
+fn halves_are_run(rt: HostRuntime) {
+    let mut cells = [0b0101_0110u8];
+    let mut out = [Reply::Done; 2];
+    let steps = [
+        (
+            Side::Left,
+            Step {
+                from: 0,
+                to: 3,
+                op: Op::Fill(true),
+            },
+        ),
+        (
+            Side::Right,
+            Step {
+                from: 0,
+                to: 5,
+                op: Op::CountOnes,
+            },
+        ),
+    ];
+    let mut view = BitSliceMut::<u8, Lsb0>::from_slice_mut(&mut cells);
+    if view.len() == 8 {
+        run_apart(&mut view, 3, &steps, &mut out);
+    }
+    assert_eq!(rt; out, [Reply::Done, Reply::Count(2)]);
+    assert_eq!(rt; cells, [0b0101_0111]);
+}
+
+#[test]
+fn copies_are_made(rt: HostRuntime) -> Result<(), Fail> {
+    let cells = [0x31u8];
+    let view = BitSlice::<u8, Lsb0>::from_slice(&cells);
+    assert_eq!(rt;
+        twice(rt.alloc(), view)?.as_raw_slice(),
+        [0x31, 0x31].as_slice()
+    );
+    let (copy, ones) = flipped_copy(rt.alloc(), view)?;
+    assert_eq!(rt; copy.as_raw_slice(), [0xCE].as_slice());
+    assert_eq!(rt; ones, 3);
+    Ok(())
+}
