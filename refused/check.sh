@@ -1,7 +1,7 @@
 #!/usr/bin/env bash
 # Functions that must not compile: each file here is put behind a module of a tests' crate for the time of a check,
 # which has to refuse it by the error that the file's first line names. Behind the error that line may name the crate,
-# the module and a flag of the check; without them they are `bitvec_lent_tests` and `known`, with no flag.
+# the module and a flag of the check; without them they are `bitvec_iter_tests` and `known`, with no flag.
 set -euo pipefail
 cd "$(dirname "$0")/.."
 kept=$(mktemp)
@@ -12,7 +12,7 @@ restore() {
 trap 'restore; rm -f "$kept"' EXIT
 for file in refused/*.txt; do
   read -r want crate module flag < "$file"
-  crate=${crate:-bitvec_lent_tests}
+  crate=${crate:-bitvec_iter_tests}
   name=$(basename "$file" .txt)
   source="crates/$crate/src/${module:-known}.rt"
   cp "$source" "$kept"

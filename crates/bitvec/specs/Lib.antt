@@ -19,6 +19,8 @@ pub use Rattle.bitvec_field.specs.Integers
 pub use Rattle.bitvec_field.specs.IntegersLaws
 pub use Rattle.bitvec_iter.specs.Left
 pub use Rattle.bitvec_iter.specs.Parts as PieceParts
+pub use Rattle.bitvec_lending.specs.Kept
+pub use Rattle.bitvec_lending.specs.RefillLaws
 pub use Rattle.bitvec_lent.specs.Bits as LentBits
 pub use Rattle.bitvec_lent.specs.Halves
 pub use Rattle.bitvec_lent.specs.Pieces as LentPieces
@@ -38,7 +40,6 @@ pub use Rattle.bitvec_segments.specs.PlainLaws
 pub use Rattle.bitvec_segments.specs.Segments
 pub use Rattle.bitvec_segments.specs.StoreLaws
 pub use Rattle.bitvec_slice.specs.Indices
-pub use Rattle.bitvec_slice.specs.Kept
 pub use Rattle.bitvec_slice.specs.KeptLaws
 pub use Rattle.bitvec_slice.specs.Seen
 pub use Rattle.bitvec_slice.specs.Touched

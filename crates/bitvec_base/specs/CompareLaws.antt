@@ -1,15 +1,16 @@
 -- Two lists of bits, compared bit by bit.
-use Rattle.std.specs.Prelude.{◌≡◌, ◌≢◌, ℕ, ◌+◌, ◌<◌, ◌≤◌, min, Bool, true, false, List, [], ◌∷◌, length, slice_index_or, refl, zero, suc}
+use Rattle.std.specs.Prelude.{◌≡◌, ◌≢◌, ℕ, ◌+◌, ◌-◌, ◌<◌, ◌≤◌, min, Bool, true, false, List, [], ◌∷◌, length, drop, slice_index_or, slice_range, refl, zero, suc}
 use Rattle.std.specs.Bool.{beq}
 use Rattle.std.specs.Cmp.{nat_cmp_is}
 use Rattle.std.specs.Cmp.Lexicographic.{slice_cmp, unequal}
 use Rattle.std.specs.Ordering.{bool_cmp, nat_cmp, ordering_then}
 use Rattle.std.proofs.Common.{arith, sym, ◌∙◌, ap, ⊎_elim, subst, Ordering, Less, Greater}
-use Rattle.std.proofs.lemmas.Bool.{false_from_ne_true, cases_eq}
+use Rattle.std.proofs.lemmas.Bool.{false_from_ne_true, cases_eq, cases_lt}
 use Rattle.std.proofs.lemmas.Bool.Decides.{nat_tests}
 use Rattle.std.proofs.lemmas.List.{same_lists, get_or_default}
 use Rattle.bitvec_base.specs.Lists.{same_bits, differs}
 use Rattle.bitvec_base.specs.ListsLaws.{same_bits-decides}
+use Rattle.bitvec_base.specs.WriteLaws.{get-slice_range}
 
 -- two lists agree below an index
 abbrev pub SameBelow : List Bool → List Bool → ℕ → Type 0
@@ -21,6 +22,19 @@ same-none a b k h = absurd (omega arith)
 pub same-more : (a b : List Bool) (n : ℕ) → SameBelow a b n → slice_index_or a n false ≡ slice_index_or b n false → SameBelow a b (n + 1)
 same-more a b n before here k h =
     ⊎_elim (λ e. subst (λ i. slice_index_or a i false ≡ slice_index_or b i false) (sym e) here) (λ other. before k (omega arith)) (cases_eq k n)
+
+-- an equal stretch more
+pub same-stretch : (a b : List Bool) (n m : ℕ) → SameBelow a b n → same_bits (slice_range a n m) (slice_range b n m) ≡ true → SameBelow a b m
+same-stretch a b n m before told k h =
+    ⊎_elim (λ below. before k below)
+    (λ behind.
+    let same = (same_bits-decides (slice_range a n m) (slice_range b n m)).0 told in
+    let place : n + (k - n) ≡ k = omega arith in
+    subst (λ (i : ℕ). slice_index_or a i false ≡ slice_index_or b i false) place
+    (sym (get-slice_range a n m (k - n) false (omega arith))
+    ∙ ap (λ (l : List Bool). slice_index_or l (k - n) false) same
+    ∙ get-slice_range b n m (k - n) false (omega arith)))
+    (cases_lt k n)
 
 -- what a test of two bits has told
 apart : (x y : Bool) → differs x y ≡ true → x ≢ y
@@ -67,6 +81,13 @@ first_apart (x ∷ a) (y ∷ b) zero left right same differ = first_decides x y 
 first_apart (x ∷ a) (y ∷ b) (suc i) left right same differ =
     first_apart a b i (omega arith) (omega arith) (same-tail x y a b i same) differ
     ∙ sym (same_passes x y _ (same 0 (omega arith)))
+
+-- what is behind equal bits decides
+pub order-behind : (a b : List Bool) (n : ℕ) → n ≤ length a → n ≤ length b → SameBelow a b n → slice_cmp bool_cmp (drop n a) (drop n b) ≡ slice_cmp bool_cmp a b
+order-behind a b zero left right same = refl
+order-behind [] b (suc n) left right same = absurd (omega arith)
+order-behind (x ∷ a) [] (suc n) left right same = absurd (omega arith)
+order-behind (x ∷ a) (y ∷ b) (suc n) left right same = order-behind a b n (omega arith) (omega arith) (same-tail x y a b n same) ∙ sym (same_passes x y _ (same 0 (omega arith)))
 
 -- the first bits that differ decide
 pub order-differ : (a b : List Bool) (i : ℕ) (x y : Bool) → i < length a → i < length b → SameBelow a b i → x ≡ slice_index_or a i false → y ≡ slice_index_or b i false → differs x y ≡ true → bool_cmp x y ≡ slice_cmp bool_cmp a b

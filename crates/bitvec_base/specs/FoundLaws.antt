@@ -1,5 +1,5 @@
 -- The first and the last 1 of an element: bit by bit, and by a count of its zeros.
-use Rattle.std.specs.Prelude.{◌≡◌, ◌≢◌, ℕ, ◌+◌, ◌-◌, ◌*◌, ◌/◌, ◌%◌, ◌^◌, ◌<◌, ◌≤◌, ◌==◌, zero, suc, Bool, true, false, List, length, slice_range, slice_index_or, bit_and, Option, Some, None, refl}
+use Rattle.std.specs.Prelude.{◌≡◌, ◌≢◌, ℕ, ◌+◌, ◌-◌, ◌*◌, ◌/◌, ◌%◌, ◌^◌, ◌<◌, ◌≤◌, ◌==◌, zero, suc, true, false, slice_range, slice_index_or, bit_and, Some, None, refl}
 use Rattle.std.specs.Int.{bit_at, w8, w16, w32, w64}
 use Rattle.std.specs.Int.Count.{count_leading_zeros, count_trailing_zeros, leading_of_zero, trailing_of_zero}
 use Rattle.std.proofs.Common.{arith, sym, ◌∙◌, ap, ⊎_elim}

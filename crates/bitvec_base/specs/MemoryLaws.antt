@@ -2,6 +2,7 @@
 use Rattle.std.specs.Prelude.{◌≡◌, ◌≢◌, ℕ, ◌+◌, ◌-◌, ◌*◌, ◌/◌, ◌%◌, ◌^◌, ◌<◌, ◌≤◌, ◌⊎◌, ◌==◌, Bool, true, false, not, List, length, map, replicate, slice_range, slice_set, slice_index, slice_index_or, bit_and, bit_or, bit_xor, refl, zero, suc}
 use Rattle.std.specs.Int.{bit_at}
 use Rattle.std.proofs.Common.{arith, sym, ◌∙◌, ap, subst, ⊎_elim, inl, inr}
+use Rattle.std.proofs.Math.Nat.{add-mul, mul-add-mod_self_right, mul-le-mul_right}
 use Rattle.std.proofs.lemmas.Bool.{cases_lt, cases_order}
 use Rattle.std.proofs.lemmas.List.{same_lists, get_or-set_same, get_or-set_other, length-set, length-replicate, get_or-replicate, length-map, get_or-map}
 use Rattle.std.proofs.lemmas.Nat.Bits.{bit_at_and, bit_at_or, bit_at_xor, bit_at-lt, and_pow}
@@ -58,6 +59,26 @@ element-range b at xs e h =
     ∙ get-memory_bits b at xs (e * b + k) d (omega arith)
     ∙ place_bit-element b at xs e k below
     ∙ sym (get-element_bits b at (slice_index xs e) k d below))
+
+-- the bits of some elements are a slice of the memory
+pub memory-range : (b : ℕ) (at : ℕ → ℕ → ℕ) (xs : List ℕ) (a e : ℕ) → 0 < b → a ≤ e → e ≤ length xs → memory_bits b at (slice_range xs a e) ≡ slice_range (memory_bits b at xs) (a * b) (e * b)
+unfolding place_bit
+memory-range b at xs a e some order fits =
+    let whole = length-memory_bits b at xs in
+    let inner = length-memory_bits b at (slice_range xs a e) in
+    let count = ap (λ (n : ℕ). b * n) (length-slice_range xs a e fits) in
+    let rows = mul-le-mul_right {m = e} {n = length xs} b fits in
+    let spread = add-mul a (e - a) b in
+    let ends = ap (λ (n : ℕ). n * b) (let sum : a + (e - a) ≡ e = omega arith in sum) in
+    let outer = length-slice_range (memory_bits b at xs) (a * b) (e * b) (omega arith) in
+    same_lists _ _ (omega arith) (λ k d inside.
+    let place = div-add-mod' k b in
+    let index = mod_below k b some in
+    let spread-row = add-mul a (k / b) b in
+    let at-row : (a * b + k) / b ≡ a + k / b = ap (λ (n : ℕ). n / b) (let sum : a * b + k ≡ (a + k / b) * b + k % b = omega arith in sum) ∙ div-mul-add (a + k / b) b (k % b) index in
+    let element = get-slice_range xs a e (k / b) 0 (let row = div_below k b (e - a) some (omega arith) in omega arith) in
+    get-memory_bits b at (slice_range xs a e) k d (omega arith)
+    ∙ sym (get-slice_range (memory_bits b at xs) (a * b) (e * b) k d (omega arith) ∙ get-memory_bits b at xs (a * b + k) d (omega arith) ∙ rw (at-row, mul-add-mod_self_right a b k, sym element) refl))
 
 -- a place after an element was replaced
 set-element_at : (b : ℕ) (at : ℕ → ℕ → ℕ) (xs : List ℕ) (e v : ℕ) → e < length xs → (q r : ℕ) (d : Bool) → r < b → q < length xs → place_bit b at (slice_set xs e v) (q * b + r) ≡ slice_index_or (write_at (memory_bits b at xs) (e * b) (element_bits b at v)) (q * b + r) d

@@ -2,6 +2,7 @@
 use Rattle.std.specs.Prelude.{◌≡◌, ℕ, ◌+◌, ◌-◌, ◌*◌, ◌^◌, ◌<◌, ◌≤◌, ◌==◌, Bool, true, false, not, List, length, map, replicate, count_by, slice_range, slice_set, slice_index, slice_index_or, bit_and, bit_or, bit_xor, count_ones}
 use Rattle.std.specs.List.{range_with_len}
 use Rattle.std.specs.Int.{bit_at}
+use Rattle.std.specs.Int.Bits.{and_zero_l, or_zero_l}
 use Rattle.std.proofs.Common.{arith, sym, ◌∙◌, ap}
 use Rattle.std.proofs.lemmas.List.{same_lists, length-replicate, get_or-replicate, length-map}
 use Rattle.std.proofs.lemmas.List.FromFn.{length-map-range_with_len, get_or-map-range_with_len}
@@ -88,6 +89,13 @@ element-combine b at p v w from to le fits =
     let whole = bit_of_complement b m (at b i) bound (p.below i below) in
     let small = bit_at-lt v (at b i) in
     omega arith)
+
+-- behind a mask are the part's bits, and 0 elsewhere
+pub element-and_mask : (b : ℕ) (at : ℕ → ℕ → ℕ) (p : Permutes b (at b)) (v from to : ℕ) → from ≤ to → to ≤ b → element_bits b at (bit_and v (mask_of (at b) from to)) ≡ write_at (replicate b false) from (slice_range (element_bits b at v) from to)
+element-and_mask b at p v from to order fits =
+    let mask = mask_of (at b) from to in
+    ap (element_bits b at) (sym (ap (λ (n : ℕ). bit_or n (bit_and v mask)) (and_zero_l (2 ^ b - 1 - mask)) ∙ or_zero_l (bit_and v mask)))
+    ∙ element-combine b at p 0 v from to order fits ∙ ap (λ (l : List Bool). write_at l from (slice_range (element_bits b at v) from to)) (element-none b at)
 
 -- the masked writes
 pub part-set : (b : ℕ) (at : ℕ → ℕ → ℕ) (p : Permutes b (at b)) (xs : List ℕ) (e from to : ℕ) → 0 < b → e < length xs → from ≤ to → to ≤ b → memory_bits b at (slice_set xs e (bit_or (slice_index xs e) (mask_of (at b) from to))) ≡ write_at (memory_bits b at xs) (e * b + from) (replicate (to - from) true)

@@ -17,6 +17,10 @@ range-from_start list n e h = same_lists _ _ (search (rules, places)) (λ k d in
 pub range-to_end : {X : Type 0} (list : List X) (a e : ℕ) → length list ≤ e → slice_range list a e ≡ drop a list
 range-to_end list a e h = same_lists _ _ (search (rules, places)) (λ k d inside. grind (arith, places))
 
+-- the rest of a beginning
+pub range-rest : {X : Type 0} (list : List X) (a e : ℕ) → drop a (take e list) ≡ slice_range list a e
+range-rest list a e = same_lists _ _ (grind (arith, places)) (λ k d inside. grind (arith, places))
+
 -- a slice of one value, and with one value more behind or before it
 pub range-one : {X : Type 0} (list : List X) (i : ℕ) (d : X) → i < length list → slice_range list i (i + 1) ≡ slice_index_or list i d ∷ []
 range-one list i d within = same_lists _ _ (search (rules, places)) (λ k e inside. grind (arith, places))

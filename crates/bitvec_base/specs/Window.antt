@@ -15,6 +15,10 @@ pub record IsWithin (window : Window) (n : ℕ) : Type 0 where
   pub start : window.start ≤ n
   pub len : window.len ≤ n - window.start
 
+-- the window of one place
+abbrev pub bit_window : ℕ → Window
+bit_window place = record { start = place; len = 1 }
+
 -- the bits in a window
 unfoldable pub window_of : {X : Type 0} → List X → Window → List X
 window_of bits window = slice_range bits window.start (window.start + window.len)

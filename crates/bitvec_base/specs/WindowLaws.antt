@@ -6,13 +6,16 @@ use Rattle.std.proofs.Math.ListN.{get_or-eq_default}
 use Rattle.std.proofs.lemmas.List.{length-set}
 use Rattle.std.proofs.lemmas.List.Edits.{swap_is}
 use Rattle.bitvec_base.specs.declared.window.Window.{Window}
-use Rattle.bitvec_base.specs.Window.{IsWithin, window_of, write_at, write_window}
+use Rattle.bitvec_base.specs.Window.{IsWithin, bit_window, window_of, write_at, write_window}
 use Rattle.bitvec_base.specs.WriteLaws.{length-slice_range, get-slice_range, get-write_at_above, length-write_at, set-is_write, write_at-next, write_at-same, write_at-inside, write_at-over, range-range, range-write_at}
 
 -- a value of a window
 pub get-window : {X : Type 0} (bits : List X) (window : Window) (i : ℕ) (d : X) → i < window.len → slice_index_or (window_of bits window) i d ≡ slice_index_or bits (window.start + i) d
 unfolding window_of
 get-window bits window i d inside = get-slice_range bits window.start (window.start + window.len) i d (omega arith)
+
+pub get-one : {X : Type 0} (bits : List X) (place : ℕ) (d : X) → slice_index_or (window_of bits (bit_window place)) 0 d ≡ slice_index_or bits place d
+get-one bits place d = get-window bits (bit_window place) 0 d (omega arith) ∙ ap (λ (k : ℕ). slice_index_or bits k d) (omega arith)
 
 pub length-window : {X : Type 0} (bits : List X) (window : Window) → IsWithin window (length bits) → length (window_of bits window) ≡ window.len
 unfolding window_of
@@ -21,6 +24,9 @@ length-window bits window within =
     let len = within.len in
     let long = length-slice_range bits window.start (window.start + window.len) (omega arith) in
     omega arith
+
+-- what stands in a window or a slice, for `using`
+pub ruleset reading = (get-window, get-slice_range)
 
 -- to write back what stands there changes nothing
 pub window-kept : {X : Type 0} (bits : List X) (window : Window) → IsWithin window (length bits) → write_window bits window (window_of bits window) ≡ bits

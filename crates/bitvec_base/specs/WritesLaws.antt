@@ -1,12 +1,12 @@
 -- What a write into a window leaves there and elsewhere; writes one after the other, side by side, and into a part.
-use Rattle.std.specs.Prelude.{◌≡◌, ℕ, ◌+◌, ◌-◌, ◌*◌, ◌≤◌, Bool, List, [], ◌++◌, length, slice_range, refl}
+use Rattle.std.specs.Prelude.{◌≡◌, ℕ, ◌+◌, ◌-◌, ◌*◌, ◌≤◌, Bool, List, [], ◌∷◌, ◌++◌, drop, length, slice_range, slice_set, refl}
 use Rattle.std.proofs.Common.{arith, sym, ◌∙◌, ap, subst, length-append}
 use Rattle.bitvec_base.specs.declared.window.Window.{Window}
-use Rattle.bitvec_base.specs.Window.{IsWithin, window_of, window_range, write_at, write_window}
+use Rattle.bitvec_base.specs.Window.{IsWithin, bit_window, window_after, window_of, window_range, write_at, write_window}
 use Rattle.bitvec_base.specs.Memory.{memory_bits, list_in, HasWindow, Writes}
 use Rattle.bitvec_base.specs.MemoryLaws.{within-bits}
-use Rattle.bitvec_base.specs.SliceLaws.{range-join}
-use Rattle.bitvec_base.specs.WriteLaws.{length-write_at, write_at-next, write_at-nil, range-write_at_after}
+use Rattle.bitvec_base.specs.SliceLaws.{range-join, range-to_end}
+use Rattle.bitvec_base.specs.WriteLaws.{length-write_at, set-is_write, write_at-all, write_at-next, write_at-nil, range-write_at_after}
 use Rattle.bitvec_base.specs.WindowLaws.{length-window, window-kept, window-written, window-rewritten, part-of_window, part-written}
 
 -- ---- windows
@@ -41,6 +41,12 @@ list-range b at xs window from to has order bound =
     part-of_window (memory_bits b at xs) window (window_range window from to) from (within-list b at xs window has) (let e : window.start + from ≡ window.start + from = omega arith in e) (omega arith)
     ∙ ap (λ (e : ℕ). slice_range (list_in b at xs window) from e) end
 
+-- the bits of a window without its first n ones
+pub list-after : (b : ℕ) (at : ℕ → ℕ → ℕ) (xs : List ℕ) (window : Window) (n : ℕ) → HasWindow b xs window → n ≤ window.len → list_in b at xs (window_after n window) ≡ drop n (list_in b at xs window)
+list-after b at xs window n has fits =
+    let long = length-list b at xs window has in
+    list-range b at xs window n window.len has fits (omega arith) ∙ range-to_end (list_in b at xs window) n window.len (omega arith)
+
 -- the bits of two windows side by side
 pub list-join : (b : ℕ) (at : ℕ → ℕ → ℕ) (xs : List ℕ) (first second whole : Window) → HasWindow b xs whole → first.start ≡ whole.start → second.start ≡ first.start + first.len → whole.len ≡ first.len + second.len
     → list_in b at xs first ++ list_in b at xs second ≡ list_in b at xs whole
@@ -58,6 +64,12 @@ list-join b at xs first second whole has start next len =
 -- the same write, where the list is told in another way
 pub Writes-is : (b : ℕ) (at : ℕ → ℕ → ℕ) (old new : List ℕ) (window : Window) (list other : List Bool) → Writes b at old new window list → list ≡ other → Writes b at old new window other
 Writes-is b at old new window list other writes same = subst (λ (l : List Bool). Writes b at old new window l) same writes
+
+-- a bit was set in a window of one
+pub Writes-one : (b : ℕ) (at : ℕ → ℕ → ℕ) (old new : List ℕ) (place : ℕ) (x : Bool) → HasWindow b old (bit_window place) → Writes b at old new (bit_window place) (slice_set (list_in b at old (bit_window place)) 0 x) → Writes b at old new (bit_window place) (x ∷ [])
+Writes-one b at old new place x has wrote =
+    let long = length-list b at old (bit_window place) has in
+    Writes-is b at old new (bit_window place) _ (x ∷ []) wrote (set-is_write _ 0 x (omega arith) ∙ write_at-all _ (x ∷ []) (sym long))
 
 -- nothing was written
 pub Writes-nothing : (b : ℕ) (at : ℕ → ℕ → ℕ) (xs ys : List ℕ) (window : Window) → HasWindow b xs window → ys ≡ xs → Writes b at xs ys window (list_in b at xs window)

@@ -1,12 +1,9 @@
--- Parts of elements: their bits behind a mask, after their element was written, and among some of the elements.
-use Rattle.std.specs.Prelude.{◌≡◌, ℕ, ◌+◌, ◌-◌, ◌^◌, ◌≤◌, Bool, false, List, Option, None, Some, IfSome, bit_and, bit_or, drop, length, replicate, slice_range, take, refl}
-use Rattle.std.specs.Int.Bits.{and_zero_l, or_zero_l}
-use Rattle.std.proofs.Common.{arith, sym, ◌∙◌, ap}
+-- Parts of elements: their bits after their element was written, and among some of the elements.
+use Rattle.std.specs.Prelude.{◌≡◌, ℕ, ◌+◌, ◌-◌, ◌≤◌, Bool, List, Option, None, Some, IfSome, drop, length, take, refl}
+use Rattle.std.proofs.Common.{arith, sym, ap}
 use Rattle.std.proofs.lemmas.List.{drop-map, places, take-map}
 use Rattle.bitvec_base.specs.Memory.{element_bits}
 use Rattle.bitvec_base.specs.MemoryLaws.{length-element_bits}
-use Rattle.bitvec_base.specs.Order.{Permutes, mask_of}
-use Rattle.bitvec_base.specs.PartLaws.{element-combine, element-none}
 use Rattle.bitvec_base.specs.Window.{write_at}
 use Rattle.bitvec_base.specs.WriteLaws.{range-write_at}
 use Rattle.bitvec_store.specs.declared.store.BitStore.{Ghosts as Store}
@@ -15,13 +12,6 @@ use Rattle.bitvec_domain.specs.Cuts.{IsHeadWithin, IsTailWithin, part_if_from}
 use Rattle.bitvec_domain.specs.Domains.{part_in_if}
 use Rattle.bitvec_domain.specs.Parts.{WritesPart, part_at}
 use Rattle.bitvec_domain.specs.declared.part_mut.PartialElementMut.{PartialElementMut}
-
--- behind a mask are the part's bits, and 0 elsewhere
-pub element-and_mask : (b : ℕ) (at : ℕ → ℕ → ℕ) (p : Permutes b (at b)) (v from to : ℕ) → from ≤ to → to ≤ b → element_bits b at (bit_and v (mask_of (at b) from to)) ≡ write_at (replicate b false) from (slice_range (element_bits b at v) from to)
-element-and_mask b at p v from to order fits =
-    let mask = mask_of (at b) from to in
-    ap (element_bits b at) (sym (ap (λ (n : ℕ). bit_or n (bit_and v mask)) (and_zero_l (2 ^ b - 1 - mask)) ∙ or_zero_l (bit_and v mask)))
-    ∙ element-combine b at p 0 v from to order fits ∙ ap (λ (l : List Bool). write_at l from (slice_range (element_bits b at v) from to)) (element-none b at)
 
 pub writes_part : {T O : Type 0} {t : Store T} {o : Order O} (p q : PartialElementMut T O t o) (new : List Bool) → q.head ≡ p.head → q.tail ≡ p.tail → q.element.ghost_name ≡ p.element.ghost_name → length new ≡ p.tail - p.head
     → element_bits t.BITS o.at (t.value q.element.now) ≡ write_at (element_bits t.BITS o.at (t.value p.element.now)) p.head new → WritesPart p q new

@@ -1,48 +1,22 @@
 -- The parts that a window is cut into lie in its memory, and are the window, one after the other.
-use Rattle.std.specs.Prelude.{◌≡◌, ℕ, ◌+◌, ◌-◌, ◌*◌, ◌/◌, ◌%◌, ◌<◌, ◌≤◌, Bool, List, [], ◌++◌, Option, None, Some, IfSome, drop, length, map, slice_range, take, refl}
+use Rattle.std.specs.Prelude.{◌≡◌, ℕ, ◌+◌, ◌-◌, ◌*◌, ◌/◌, ◌%◌, ◌<◌, ◌≤◌, Bool, List, [], ◌++◌, Option, None, Some, IfSome, length, map, slice_range, refl}
 use Rattle.std.proofs.Common.{arith, sym, ◌∙◌, ap, ⊎_elim}
-use Rattle.std.proofs.Math.Nat.{add-mul, lt_of_mul-lt-mul_right, mul-add-mod_self_right, mul-le-mul_right}
+use Rattle.std.proofs.Math.Nat.{add-mul, lt_of_mul-lt-mul_right, mul-le-mul_right}
 use Rattle.std.proofs.lemmas.Bool.Decides.{eqb_tells}
-use Rattle.std.proofs.lemmas.List.{drop-take, same_lists}
-use Rattle.std.proofs.lemmas.Nat.{div-add-mod', div-mul-add, mod_below, div_below}
+use Rattle.std.proofs.lemmas.Nat.{div-add-mod', mod_below, div_below}
 use Rattle.std.proofs.lemmas.Option.{IfSome_then}
 use Rattle.bitvec_base.specs.declared.part.Part.{Part}
 use Rattle.bitvec_base.specs.declared.window.Window.{Window}
-use Rattle.bitvec_base.specs.Memory.{memory_bits, place_bit, list_in, HasWindow}
-use Rattle.bitvec_base.specs.MemoryLaws.{length-memory_bits, get-memory_bits}
+use Rattle.bitvec_base.specs.Memory.{memory_bits, list_in, HasWindow}
+use Rattle.bitvec_base.specs.MemoryLaws.{memory-range, length-memory_bits}
 use Rattle.bitvec_base.specs.PartLaws.{part-range}
 use Rattle.bitvec_base.specs.Parts.{first_part_of, last_part_of, part_window}
 use Rattle.bitvec_base.specs.SliceLaws.{range-join, range-map, range-none, range-same}
 use Rattle.bitvec_base.specs.Window.{window_of}
-use Rattle.bitvec_base.specs.WriteLaws.{length-slice_range, get-slice_range}
 use Rattle.bitvec_domain.specs.Cuts.{cut_of, cut_across, IsCutWithin, IsHeadWithin, IsPartWithin}
 use Rattle.bitvec_domain.specs.Domains.{bits_if, bits_of_pieces, part_in, part_in_if, pieces_in}
 use Rattle.bitvec_domain.specs.declared.cut.Cut.{Cut}
 use Rattle.bitvec_domain.specs.declared.cut.Cut.TheVariants.{Inside, Across}
-
--- the bits of some elements are a slice of the memory
-pub memory-range : (b : ℕ) (at : ℕ → ℕ → ℕ) (xs : List ℕ) (a e : ℕ) → 0 < b → a ≤ e → e ≤ length xs → memory_bits b at (slice_range xs a e) ≡ slice_range (memory_bits b at xs) (a * b) (e * b)
-unfolding place_bit
-memory-range b at xs a e some order fits =
-    let whole = length-memory_bits b at xs in
-    let inner = length-memory_bits b at (slice_range xs a e) in
-    let count = ap (λ (n : ℕ). b * n) (length-slice_range xs a e fits) in
-    let rows = mul-le-mul_right {m = e} {n = length xs} b fits in
-    let spread = add-mul a (e - a) b in
-    let ends = ap (λ (n : ℕ). n * b) (let sum : a + (e - a) ≡ e = omega arith in sum) in
-    let outer = length-slice_range (memory_bits b at xs) (a * b) (e * b) (omega arith) in
-    same_lists _ _ (omega arith) (λ k d inside.
-    let place = div-add-mod' k b in
-    let index = mod_below k b some in
-    let spread-row = add-mul a (k / b) b in
-    let at-row : (a * b + k) / b ≡ a + k / b = ap (λ (n : ℕ). n / b) (let sum : a * b + k ≡ (a + k / b) * b + k % b = omega arith in sum) ∙ div-mul-add (a + k / b) b (k % b) index in
-    let element = get-slice_range xs a e (k / b) 0 (let row = div_below k b (e - a) some (omega arith) in omega arith) in
-    get-memory_bits b at (slice_range xs a e) k d (omega arith)
-    ∙ sym (get-slice_range (memory_bits b at xs) (a * b) (e * b) k d (omega arith) ∙ get-memory_bits b at xs (a * b + k) d (omega arith) ∙ rw (at-row, mul-add-mod_self_right a b k, sym element) refl))
-
--- the elements between two splits
-pub middle : {X : Type 0} (xs : List X) (start end : ℕ) → start ≤ end → drop start (take end xs) ≡ slice_range xs start end
-middle xs start end order = let sum : start + (end - start) ≡ end = omega arith in ap (λ (n : ℕ). drop start (take n xs)) (sym sum) ∙ drop-take start (end - start) xs
 
 -- the bits of the parts of a cut, one part after the other
 abbrev pub part_bits_if : ℕ → (ℕ → ℕ → ℕ) → List ℕ → Option Part → List Bool

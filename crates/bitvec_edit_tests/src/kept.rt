@@ -2,7 +2,7 @@
 ghost use Rattle.std.specs.Prelude.{◌≡◌, ℕ, ◌+◌, ◌*◌, ◌≤◌, ◌⊎◌, length, slice_index};
 ghost use Rattle.bitvec_base.specs.Window.{max_bits};
 ghost use Rattle.bitvec_slice.specs.Indices.{HasRange};
-ghost use Rattle.bitvec_slice.specs.Kept.{KeepsOutside};
+ghost use Rattle.bitvec_lending.specs.Kept.{KeepsOutside};
 ghost use Rattle.bitvec_slice.specs.Touched.{end_touched, first_touched};
 
 use bitvec_base::Lsb0;

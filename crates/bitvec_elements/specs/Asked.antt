@@ -4,19 +4,25 @@ use Rattle.std.specs.Array.{FillsFrom, index_steps}
 use Rattle.std.specs.Fn.{Called, Mut, Takes}
 use Rattle.std.specs.Iterator.{CallableAtEachTurn}
 
-module _ {F : Type 0} (g : Mut F (ℕ × Unit {0}) Bool) where
-  -- calls at 0, 1, 2, .., of f and then each of what the call before left, answered the bits `new`
-  abbrev pub FillsWith : F → List Bool → Type 0
-  FillsWith f new = (last : F) × FillsFrom (λ p i bit q. Called g p (i, tt) bit q) f 0 new last
+module _ {F A : Type 0} (g : Mut F A Bool) (asked : ℕ → A) where
+  -- calls with what is asked at 0, 1, 2, .., of f and then each of what the call before left, answered the bits `new`
+  abbrev pub AnswersTo : F → List Bool → Type 0
+  AnswersTo f new = (last : F) × FillsFrom (λ p i bit q. Called g p (asked i) bit q) f 0 new last
 
   -- such calls may be made at the indices below n, whatever the ones before answered
-  abbrev pub CallableBelow : F → ℕ → Type 0
-  CallableBelow f n = CallableAtEachTurn (index_steps n) (λ p i q. (bit : Bool) × Called g p (i, tt) bit q) (λ p i. Takes g p (i, tt)) 0 f
+  abbrev pub CallableTo : F → ℕ → Type 0
+  CallableTo f n = CallableAtEachTurn (index_steps n) (λ p i q. (bit : Bool) × Called g p (asked i) bit q) (λ p i. Takes g p (asked i)) 0 f
 
-module _ {F : Type 0} (g : Mut F (ℕ × (Bool × Unit {0})) Bool) where
-  -- the same of calls at an index and the bit of `old` there
-  abbrev pub RefillsWith : F → List Bool → List Bool → Type 0
-  RefillsWith f old new = (last : F) × FillsFrom (λ p i bit q. Called g p (i, (slice_index_or old i false, tt)) bit q) f 0 new last
+-- so it is where the index is asked
+abbrev pub FillsWith : {F : Type 0} → Mut F (ℕ × Unit {0}) Bool → F → List Bool → Type 0
+FillsWith g f new = AnswersTo g (λ i. (i, tt)) f new
 
-  abbrev pub CallableOnBits : F → List Bool → Type 0
-  CallableOnBits f old = CallableAtEachTurn (index_steps (length old)) (λ p i q. (bit : Bool) × Called g p (i, (slice_index_or old i false, tt)) bit q) (λ p i. Takes g p (i, (slice_index_or old i false, tt))) 0 f
+abbrev pub CallableBelow : {F : Type 0} → Mut F (ℕ × Unit {0}) Bool → F → ℕ → Type 0
+CallableBelow g f n = CallableTo g (λ i. (i, tt)) f n
+
+-- and where the index is and the bit of `old` there
+abbrev pub RefillsWith : {F : Type 0} → Mut F (ℕ × (Bool × Unit {0})) Bool → F → List Bool → List Bool → Type 0
+RefillsWith g f old new = AnswersTo g (λ i. (i, (slice_index_or old i false, tt))) f new
+
+abbrev pub CallableOnBits : {F : Type 0} → Mut F (ℕ × (Bool × Unit {0})) Bool → F → List Bool → Type 0
+CallableOnBits g f old = CallableTo g (λ i. (i, (slice_index_or old i false, tt))) f (length old)

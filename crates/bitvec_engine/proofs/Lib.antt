@@ -1,4 +1,5 @@
 pub mod CountLemmas
+pub mod FrontLemmas
 pub mod NeedleLemmas
 pub mod ScanLemmas
 pub mod WordScanLemmas

@@ -1,119 +1,160 @@
--- A search of the elements of whole words, a word at a time.
-use Rattle.std.specs.Prelude.{◌≡◌, ◌≢◌, ℕ, ◌+◌, ◌-◌, ◌*◌, ◌/◌, ◌%◌, ◌<◌, ◌≤◌, Bool, List, ◌++◌, length, Some, None, refl}
-use Rattle.std.proofs.Common.{arith, sym, ◌∙◌, ap}
-use Rattle.std.proofs.Math.Nat.{add-mul, mul_assoc}
+-- A search of a window from its front, and of elements some at a time.
+use Rattle.std.specs.Prelude.{◌≡◌, ℕ, ◌+◌, ◌-◌, ◌*◌, ◌/◌, ◌%◌, ◌^◌, ◌<◌, ◌≤◌, if◌then◌else◌, Bool, not, List, ◌++◌, length, slice_range, bit_or, bit_xor, Some, None, refl}
+use Rattle.std.proofs.Common.{arith, sym, ◌∙◌, ap, ⊎_elim, length-append}
+use Rattle.std.proofs.Math.Nat.{add-mul, mul-le-mul_left, mul_assoc}
+use Rattle.std.proofs.lemmas.Bool.{cases_lt}
 use Rattle.std.proofs.lemmas.Nat.{div-add-mod'}
 use Rattle.bitvec_store.specs.Width.{IsWidth}
-use Rattle.bitvec_store.specs.WidthLaws.{width_some}
+use Rattle.bitvec_store.specs.WidthLaws.{at_each_width, width_some}
 use Rattle.bitvec_base.specs.Lists.{first_place}
-use Rattle.bitvec_base.specs.Memory.{HasWindow, list_in}
+use Rattle.bitvec_base.specs.Memory.{HasWindow, element_bits, list_in}
+use Rattle.bitvec_base.specs.MemoryLaws.{length-element_bits}
+use Rattle.bitvec_base.specs.Order.{Permutes}
 use Rattle.bitvec_base.specs.declared.window.Window.{Window}
 use Rattle.bitvec_base.specs.Window.{window_after, window_range}
-use Rattle.bitvec_base.specs.WritesLaws.{length-list, list-join}
+use Rattle.bitvec_base.specs.SliceLaws.{range-from_start}
+use Rattle.bitvec_base.specs.WritesLaws.{HasWindow-range, length-list, list-join}
 use Rattle.bitvec_walk.specs.Cost.{touched}
+use Rattle.bitvec_walk.specs.Walk.{passed}
+use Rattle.bitvec_walk.specs.WalkLaws.{touched-none}
 use Rattle.bitvec_words.specs.Elements.{elements_window}
-use Rattle.bitvec_words.specs.TouchedLaws.{head_edge, touched-after, touched-edge}
+use Rattle.bitvec_words.specs.MovedLaws.{take-field}
+use Rattle.bitvec_words.specs.SameLaws.{or_none, or_none_right}
+use Rattle.bitvec_words.specs.TouchedLaws.{touched-edge, touched-whole}
 use Rattle.bitvec_words.specs.WholeLaws.{HasWindow-part}
-use Rattle.bitvec_exchange.specs.WordLaws.{word_whole}
-use Rattle.bitvec_engine.proofs.ScanLemmas.{first-behind, first-front, first-lacks}
+use Rattle.bitvec_engine.specs.Front.{IsFront}
+use Rattle.bitvec_engine.proofs.ScanLemmas.{first-behind, first-front, first-lacks, first-passed}
 
--- the elements of so many words have 64 times as many bits
-pub words-bits : (b count : ℕ) → IsWidth b → b < 64 → count * (64 / b) * b ≡ count * 64
-words-bits b count width narrow =
-    let whole = word_whole b width narrow in
-    mul_assoc count (64 / b) b ∙ ap (λ (n : ℕ). count * n) whole
+-- ---- what a search has passed of a window, and what is left
 
-module _ (b : ℕ) (at : ℕ → ℕ → ℕ) (xs : List ℕ) (first count step : ℕ) (width : IsWidth b) (narrow : b < 64) (has : HasWindow b xs (elements_window b first (count * (64 / b)))) where
-  -- the elements of the first words
-  pub HasWindow-words : step ≤ count → HasWindow b xs (elements_window b first (step * (64 / b)))
-  HasWindow-words most =
-      let all = words-bits b count width narrow in
-      let passed = words-bits b step width narrow in
-      HasWindow-part b xs (elements_window b first (count * (64 / b))) (elements_window b first (step * (64 / b))) has (omega arith) (omega arith)
+-- the loads of some of its first places, and of those left
+pub touched-cut : (b s t n : ℕ) → 0 < b → t ≤ n → (t < n → (s + t) % b ≡ 0) → touched b s n ≡ touched b s t + touched b (s + t) (n - t)
+touched-cut b s t n some fits edge =
+    ⊎_elim
+    (λ (less : t < n). let all : t + (n - t) ≡ n = omega arith in let both = rw all at (touched-edge b s t (n - t) some (edge less)) in omega arith)
+    (λ (most : n ≤ t).
+    let same : t ≡ n = omega arith in
+    let none : n - t ≡ 0 = omega arith in
+    let nothing = touched-none b (s + t) in
+    rw (none, same) (rw same at (let whole : touched b s t ≡ touched b s t + touched b (s + t) 0 = omega arith in whole)))
+    (cases_lt t n)
 
-  -- those of the word behind them
-  pub HasWindow-word : step < count → HasWindow b xs (elements_window b (first + step * (64 / b)) (64 / b))
-  HasWindow-word more =
-      let whole = word_whole b width narrow in
-      let all = words-bits b count width narrow in
-      let passed = words-bits b step width narrow in
-      let start = add-mul first (step * (64 / b)) b in
-      HasWindow-part b xs (elements_window b first (count * (64 / b))) (elements_window b (first + step * (64 / b)) (64 / b)) has (omega arith) (omega arith)
+module _ (b : ℕ) (at : ℕ → ℕ → ℕ) (xs : List ℕ) (window rest : Window) (want : Bool) (has : HasWindow b xs window) (start : window.start ≤ rest.start) (end : rest.start + rest.len ≡ window.start + window.len) where
+  pub HasWindow-left : HasWindow b xs rest
+  HasWindow-left = HasWindow-part b xs window rest has start (omega arith)
 
-  -- one word more
-  list-word : step < count → list_in b at xs (elements_window b first (step * (64 / b))) ++ list_in b at xs (elements_window b (first + step * (64 / b)) (64 / b)) ≡ list_in b at xs (elements_window b first ((step + 1) * (64 / b)))
-  list-word more =
-      let whole = word_whole b width narrow in
-      let all = words-bits b count width narrow in
-      let passed = words-bits b step width narrow in
-      let next = words-bits b (step + 1) width narrow in
-      let start = add-mul first (step * (64 / b)) b in
-      list-join b at xs (elements_window b first (step * (64 / b))) (elements_window b (first + step * (64 / b)) (64 / b)) (elements_window b first ((step + 1) * (64 / b)))
-      (HasWindow-part b xs (elements_window b first (count * (64 / b))) (elements_window b first ((step + 1) * (64 / b))) has (omega arith) (omega arith))
-      refl (omega arith) (omega arith)
+  module _ (t : ℕ) (fits : t ≤ rest.len) (none : None ≡ first_place want (list_in b at xs (passed window rest))) where
+    pub first-left : (i : ℕ) → Some i ≡ first_place want (list_in b at xs (window_range rest 0 t)) → Some (rest.start - window.start + i) ≡ first_place want (list_in b at xs window)
+    first-left i here =
+        first-behind want _ _ _ (rest.start - window.start) i none
+        (first-front want _ (list_in b at xs (window_after t rest)) _ i here (list-join b at xs (window_range rest 0 t) (window_after t rest) rest HasWindow-left (omega arith) (omega arith) (omega arith)))
+        (sym (length-list b at xs (passed window rest) (HasWindow-part b xs window (passed window rest) has (omega arith) (omega arith))))
+        (list-join b at xs (passed window rest) rest window has refl (omega arith) (omega arith))
 
-  module _ (want : Bool) (more : step < count) (none : None ≡ first_place want (list_in b at xs (elements_window b first (step * (64 / b))))) where
-    -- it lacks the bit too
-    pub first-word_lacks : None ≡ first_place want (list_in b at xs (elements_window b (first + step * (64 / b)) (64 / b))) → None ≡ first_place want (list_in b at xs (elements_window b first ((step + 1) * (64 / b))))
-    first-word_lacks here = first-lacks want _ _ _ none here (list-word more)
+    pub none-left : None ≡ first_place want (list_in b at xs (window_range rest 0 t)) → None ≡ first_place want (list_in b at xs (passed window (window_after t rest)))
+    none-left here =
+        first-lacks want _ _ _ none here
+        (list-join b at xs (passed window rest) (window_range rest 0 t) (passed window (window_after t rest))
+        (HasWindow-part b xs window (passed window (window_after t rest)) has (omega arith) (omega arith)) refl (omega arith) (omega arith))
 
-    -- or has it
-    pub first-word_has : (i : ℕ) → Some i ≡ first_place want (list_in b at xs (elements_window b (first + step * (64 / b)) (64 / b))) → Some (step * 64 + i) ≡ first_place want (list_in b at xs (elements_window b first (count * (64 / b))))
-    first-word_has i here =
-        let all = words-bits b count width narrow in
-        let passed = words-bits b step width narrow in
-        let next = words-bits b (step + 1) width narrow in
-        let rest : Window = record { start = first * b + (step + 1) * 64; len = (count - (step + 1)) * 64 } in
-        first-front want _ (list_in b at xs rest) _ (step * 64 + i)
-        (first-behind want _ _ _ (step * 64) i none here (sym passed ∙ sym (length-list b at xs (elements_window b first (step * (64 / b))) (HasWindow-words (omega arith)))) (list-word more))
-        (list-join b at xs (elements_window b first ((step + 1) * (64 / b))) rest (elements_window b first (count * (64 / b))) has refl (omega arith) (omega arith))
+-- ---- elements, some at a time
 
--- ---- a window that begins where an element does, by the elements of its whole words and what is left
+module _ (b : ℕ) (at : ℕ → ℕ → ℕ) (xs : List ℕ) (first n : ℕ) (has : HasWindow b xs (elements_window b first n)) where
+  pub HasWindow-elements : (place m : ℕ) → first ≤ place → place + m ≤ first + n → HasWindow b xs (elements_window b place m)
+  HasWindow-elements place m low high =
+      let start = mul-le-mul_left b low in
+      let end = mul-le-mul_left b high in
+      HasWindow-part b xs (elements_window b first n) (elements_window b place m) has (omega arith) (omega arith)
 
--- the elements of its whole words
-abbrev pub words_of : ℕ → Window → Window
-words_of b window = elements_window b (window.start / b) (window.len / 64 * (64 / b))
+  pub elements-bound : 0 < b → first + n < 2 ^ 64
+  elements-bound some =
+      let fits = has.fits in
+      let start = has.within.start in
+      let end = has.within.len in
+      let wide = mul-le-mul_left (first + n) (let h : 1 ≤ b = omega arith in h) in
+      omega arith
 
-module _ (b : ℕ) (at : ℕ → ℕ → ℕ) (xs : List ℕ) (window : Window) (width : IsWidth b) (narrow : b < 64) (has : HasWindow b xs window) (edge : window.start % b ≡ 0) where
-  pub HasWindow-words_of : HasWindow b xs (words_of b window)
-  HasWindow-words_of =
-      let all = words-bits b (window.len / 64) width narrow in
-      let place = div-add-mod' window.start b in
-      HasWindow-part b xs window (words_of b window) has (omega arith) (omega arith)
+  -- k elements, and m behind them
+  pub list-elements_join : (place next k m all : ℕ) → first ≤ place → place + all ≤ first + n → next ≡ place + k → all ≡ k + m
+      → list_in b at xs (elements_window b place k) ++ list_in b at xs (elements_window b next m) ≡ list_in b at xs (elements_window b place all)
+  list-elements_join place next k m all low high behind sum =
+      list-join b at xs (elements_window b place k) (elements_window b next m) (elements_window b place all) (HasWindow-elements place all low high)
+      refl (ap (λ (i : ℕ). i * b) behind ∙ add-mul place k b) (ap (λ (i : ℕ). i * b) sum ∙ add-mul k m b)
 
-  pub list-words : list_in b at xs (words_of b window) ++ list_in b at xs (window_after (window.len / 64 * 64) window) ≡ list_in b at xs window
-  list-words =
-      let all = words-bits b (window.len / 64) width narrow in
-      let place = div-add-mod' window.start b in
-      list-join b at xs (words_of b window) (window_after (window.len / 64 * 64) window) window has (omega arith) (omega arith) (omega arith)
+-- ---- four words, which are passed by together
 
-  pub length-words : window.len / 64 * 64 ≡ length (list_in b at xs (words_of b window))
-  length-words = sym (length-list b at xs (words_of b window) HasWindow-words_of ∙ words-bits b (window.len / 64) width narrow)
+module _ (at : ℕ → ℕ → ℕ) (p : Permutes 64 (at 64)) (lacking : ℕ) (want : Bool) (filled : lacking ≡ (if not want then 2 ^ 64 - 1 else 0)) where
+  lacks : (v : ℕ) → bit_xor v lacking ≡ 0 → None ≡ first_place want (element_bits 64 at v)
+  lacks v none = first-passed 64 at p v lacking _ want refl none filled
 
--- what both load
-pub touched-words : (b s n : ℕ) → IsWidth b → b < 64 → s % b ≡ 0 → n / 64 * (64 / b) + touched b (s + n / 64 * 64) (n - n / 64 * 64) ≡ touched b s n
-touched-words b s n width narrow edge =
-    let all = words-bits b (n / 64) width narrow in
-    sym (rw all at (touched-after b s n (n / 64 * (64 / b)) (width_some b width) edge (omega arith)))
+  pub none-of_four : (u v w x : ℕ) → bit_or (bit_or (bit_or (bit_xor u lacking) (bit_xor v lacking)) (bit_xor w lacking)) (bit_xor x lacking) ≡ 0
+      → None ≡ first_place want ((element_bits 64 at u ++ element_bits 64 at v) ++ (element_bits 64 at w ++ element_bits 64 at x))
+  none-of_four u v w x none =
+      let three = or_none _ _ none in
+      let two = or_none _ _ three in
+      first-lacks want _ _ _
+      (first-lacks want _ _ _ (lacks u (or_none _ _ two)) (lacks v (or_none_right _ _ two)) refl)
+      (first-lacks want _ _ _ (lacks w (or_none_right _ _ three)) (lacks x (or_none_right _ _ none)) refl)
+      refl
 
--- ---- a window that begins inside an element, by what that element has of it and what is left
+pub length-two : (at : ℕ → ℕ → ℕ) (v w : ℕ) → 128 ≡ length (element_bits 64 at v ++ element_bits 64 at w)
+length-two at v w =
+    let first = length-element_bits 64 at v in
+    let second = length-element_bits 64 at w in
+    let both = length-append (element_bits 64 at v) (element_bits 64 at w) in
+    omega arith
 
-module _ (b : ℕ) (at : ℕ → ℕ → ℕ) (xs : List ℕ) (window : Window) (some : 0 < b) (has : HasWindow b xs window) (inside : window.start % b ≢ 0) (more : b - window.start % b < window.len) where
-  pub rest-edge : (window.start + (b - window.start % b)) % b ≡ 0
-  rest-edge = head_edge b window.start (b - window.start % b) window.len some (omega arith) (omega arith)
+-- the elements of a block
+pub block_whole : (b : ℕ) → IsWidth b → 256 / b * b ≡ 256
+block_whole b w = at_each_width (λ n. 256 / n * n ≡ 256) refl refl refl refl b w
 
-  pub HasWindow-front : HasWindow b xs (window_range window 0 (b - window.start % b))
-  HasWindow-front = HasWindow-part b xs window (window_range window 0 (b - window.start % b)) has (omega arith) (omega arith)
+pub block_words : (b : ℕ) → IsWidth b → 256 / b ≡ 4 * (64 / b)
+block_words b w = at_each_width (λ n. 256 / n ≡ 4 * (64 / n)) refl refl refl refl b w
 
-  pub list-front : list_in b at xs (window_range window 0 (b - window.start % b)) ++ list_in b at xs (window_after (b - window.start % b) window) ≡ list_in b at xs window
-  list-front = list-join b at xs (window_range window 0 (b - window.start % b)) (window_after (b - window.start % b) window) window has (omega arith) (omega arith) (omega arith)
+pub list-block : (b : ℕ) (at : ℕ → ℕ → ℕ) (xs : List ℕ) (first : ℕ) → IsWidth b → HasWindow b xs (elements_window b first (256 / b))
+    → (list_in b at xs (elements_window b first (64 / b)) ++ list_in b at xs (elements_window b (first + 64 / b) (64 / b)))
+    ++ (list_in b at xs (elements_window b (first + 2 * (64 / b)) (64 / b)) ++ list_in b at xs (elements_window b (first + 3 * (64 / b)) (64 / b)))
+    ≡ list_in b at xs (elements_window b first (256 / b))
+list-block b at xs first width has =
+    let e : ℕ = 64 / b in
+    let all = block_words b width in
+    let join = list-elements_join b at xs first (256 / b) has in
+    let high : ℕ = first + 2 * e in
+    rw (join first (first + e) e e (2 * e) (omega arith) (omega arith) refl (omega arith), join high (first + 3 * e) e e (2 * e) (omega arith) (omega arith) (omega arith) (omega arith))
+    (join first high (2 * e) (2 * e) (256 / b) (omega arith) (omega arith) refl (omega arith))
 
-  pub length-front : b - window.start % b ≡ length (list_in b at xs (window_range window 0 (b - window.start % b)))
-  length-front = let long = length-list b at xs (window_range window 0 (b - window.start % b)) HasWindow-front in omega arith
+-- ---- blocks
 
-  pub touched-front : touched b (window.start + 0) (b - window.start % b - 0) + touched b (window.start + (b - window.start % b)) (window.len - (b - window.start % b)) ≡ touched b window.start window.len
-  touched-front =
-      let start : window.start + 0 ≡ window.start = omega arith in
-      let len : b - window.start % b - 0 ≡ b - window.start % b = omega arith in
-      let all : b - window.start % b + (window.len - (b - window.start % b)) ≡ window.len = omega arith in
-      rw (start, len) (sym (rw all at (touched-edge b window.start (b - window.start % b) (window.len - (b - window.start % b)) some rest-edge)))
+module _ (b : ℕ) (at : ℕ → ℕ → ℕ) (xs : List ℕ) (first count step : ℕ) (width : IsWidth b) (has : HasWindow b xs (elements_window b first (count * (256 / b)))) (want : Bool) (more : step < count)
+    (none : None ≡ first_place want (list_in b at xs (elements_window b first (step * (256 / b))))) where
+  below : (step + 1) * (256 / b) ≤ count * (256 / b)
+  below = let order = mul-le-mul_left (256 / b) more in omega arith
+
+  next : list_in b at xs (elements_window b first (step * (256 / b))) ++ list_in b at xs (elements_window b (first + step * (256 / b)) (256 / b)) ≡ list_in b at xs (elements_window b first ((step + 1) * (256 / b)))
+  next = let bound = below in list-elements_join b at xs first (count * (256 / b)) has first (first + step * (256 / b)) (step * (256 / b)) (256 / b) ((step + 1) * (256 / b)) (omega arith) (omega arith) refl (omega arith)
+
+  pub first-block_lacks : None ≡ first_place want (list_in b at xs (elements_window b (first + step * (256 / b)) (256 / b))) → None ≡ first_place want (list_in b at xs (elements_window b first ((step + 1) * (256 / b))))
+  first-block_lacks here = first-lacks want _ _ _ none here next
+
+  pub first-block_has : (i : ℕ) → Some i ≡ first_place want (list_in b at xs (elements_window b (first + step * (256 / b)) (256 / b))) → Some (step * 256 + i) ≡ first_place want (list_in b at xs (elements_window b first (count * (256 / b))))
+  first-block_has i here =
+      let e : ℕ = 256 / b in
+      let bound = below in
+      let whole = block_whole b width in
+      let long = length-list b at xs (elements_window b first (step * e)) (HasWindow-elements b at xs first (count * e) has first (step * e) (omega arith) (omega arith)) in
+      first-front want _ _ _ (step * 256 + i)
+      (first-behind want _ _ _ (step * 256) i none here (sym (long ∙ mul_assoc step e b ∙ ap (λ (n : ℕ). step * n) whole)) next)
+      (list-elements_join b at xs first (count * e) has first (first + (step + 1) * e) ((step + 1) * e) (count * e - (step + 1) * e) (count * e) (omega arith) (omega arith) refl (omega arith))
+
+-- what they load, and the bits of a front
+pub touched-blocks : (b s count : ℕ) → IsWidth b → s % b ≡ 0 → touched b s (count * 256) ≡ count * (256 / b)
+touched-blocks b s count width edge =
+    let place = div-add-mod' s b in
+    let start : s / b * b ≡ s = omega arith in
+    let bits : count * (256 / b) * b ≡ count * 256 = mul_assoc count (256 / b) b ∙ ap (λ (n : ℕ). count * n) (block_whole b width) in
+    rw (start, bits) at (touched-whole b (s / b) (count * (256 / b)) (width_some b width))
+
+pub front-bits : (b : ℕ) (at : ℕ → ℕ → ℕ) (xs : List ℕ) (window : Window) (word count : ℕ) → HasWindow b xs window → IsFront b at xs window word count → slice_range (element_bits 64 at word) 0 count ≡ list_in b at xs (window_range window 0 count)
+front-bits b at xs window word count has front =
+    let long = length-list b at xs (window_range window 0 count) (HasWindow-range b xs window 0 count has (omega arith) front.within) in
+    range-from_start (element_bits 64 at word) count count refl ∙ take-field 64 count _ _ front.bits (omega arith)

@@ -3,6 +3,7 @@
 
 ghost use Rattle.std.specs.Prelude.{refl, true};
 
+use crate::fronts::words_load_front;
 use crate::scanning_words::words_scan_first;
 use crate::slice_order::{ByWords, SliceOrder};
 use bitvec_base::{Msb0, Window};
@@ -11,7 +12,7 @@ use bitvec_combine::combine;
 use bitvec_compare::equal;
 use bitvec_copy::{copy, copy_within};
 use bitvec_exchange::{reverse, swap};
-use bitvec_words::BitOp;
+use bitvec_words::{BitOp, reversed};
 
 impl SliceOrder for Msb0 {
     ghost WORDS = { true };
@@ -73,6 +74,16 @@ impl SliceOrder for Msb0 {
 
     fn search_first<C: CellsRead>(cells: &mut C, window: Window, want: bool) -> Option<usize> {
         words_scan_first::<Self, C>(cells, window, want)
+    }
+
+    #[inline(always)]
+    fn load_front<C: CellsRead>(cells: &mut C, window: Window) -> (u64, usize) {
+        words_load_front::<Self, C>(cells, window)
+    }
+
+    #[inline(always)]
+    fn lowest_first(word: u64) -> u64 {
+        reversed::<Self, u64>(word)
     }
 }
 

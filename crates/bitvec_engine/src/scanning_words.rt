@@ -1,22 +1,27 @@
-//! Searches of a window whose elements are narrower than a word, by words gathered from them.
-ghost use Rattle.std.specs.Prelude.{◌≡◌, ◌*◌, ◌/◌, ◌%◌, ◌<◌};
+//! Searches of a window by blocks of words.
+ghost use Rattle.std.specs.Prelude.{◌≡◌, ◌+◌, ◌*◌, ◌/◌, ◌%◌, ◌<◌, ◌≤◌, ◌++◌};
 ghost use Rattle.bitvec_base.specs.Lists.{first_place};
-ghost use Rattle.bitvec_base.specs.Memory.{HasWindow, list_in};
-ghost use Rattle.bitvec_cells.specs.Access.{OnlyReadsAtMost};
+ghost use Rattle.bitvec_base.specs.Memory.{HasWindow, element_bits, list_in};
+ghost use Rattle.bitvec_base.specs.Window.{window_range};
+ghost use Rattle.bitvec_cells.specs.Access.{OnlyReads, OnlyReadsAtMost};
 ghost use Rattle.bitvec_walk.specs.Cost.{touched};
 ghost use Rattle.bitvec_words.specs.Elements.{elements_window};
 
+use crate::fronts::words_load_front;
 use crate::scanning::bits_scan_first;
-use bitvec_base::{Part, Window};
+use bitvec_base::{BitOrder, Part, Window};
 use bitvec_cells::CellsRead;
 use bitvec_exchange::load_elements;
 use bitvec_store::BitStore;
 use bitvec_walk::{filled, first_in_element};
 use bitvec_words::{WORD_BITS, WordOrder};
 
+/// The bits of a block, which is four words.
+const BLOCK_BITS: usize = 4 * WORD_BITS;
+
 /// The index of a window's first bit that is `want`, if there is one. Condition: the memory has at
 /// most `MAX_BITS` bits, and the window lies in it. It loads each element that the window touches at
-/// most once, and where elements are narrower than a word those of a word together.
+/// most once, those of a block together.
 pub(crate) fn words_scan_first<O: WordOrder, C: CellsRead>(
     cells: &mut C,
     window: Window,
@@ -26,71 +31,136 @@ pub(crate) fn words_scan_first<O: WordOrder, C: CellsRead>(
     ensures value { result ≡ first_place want (list_in C.Elem.BITS O.at (C.numbers cells.old) window) }
     ensures reads { OnlyReadsAtMost C.CellsRead cells.old cells.new (touched C.Elem.BITS window.start window.len) }
 {
-    let bits = C::Elem::BITS as usize;
-    let inside = window.start % bits;
-    if bits == WORD_BITS || window.len <= bits - inside {
-        return bits_scan_first::<O, C>(cells, window, want);
+    let mut rest = window;
+    while rest.len > 0 {
+        let (found, count) = first_in_front::<O, C>(cells, rest, want);
+        if let Some(place) = found {
+            return Some(rest.start - window.start + place);
+        }
+        rest = rest.after(count);
     }
-    if inside == 0 {
-        return first_aligned::<O, C>(cells, window, want);
-    }
-    let passed = bits - inside;
-    if let Some(found) = bits_scan_first::<O, C>(cells, window.range(0, passed), want) {
-        return Some(found);
-    }
-    let found = first_aligned::<O, C>(cells, window.after(passed), want)?;
-    Some(passed + found)
+    None
 }
 
-/// The first of a window that begins where an element does.
-fn first_aligned<O: WordOrder, C: CellsRead>(
+/// The first of the first bits of a window, and how many these are: where it begins inside an
+/// element, those of that; else those of all blocks, of one word of narrower elements, or all.
+/// Condition: the window isn't empty.
+#[inline(always)]
+fn first_in_front<O: WordOrder, C: CellsRead>(
     cells: &mut C,
     window: Window,
     want: bool,
-) -> Option<usize>
+) -> (Option<usize>, usize)
     requires window { HasWindow C.Elem.BITS (C.numbers cells.old) window }
-    requires edge { window.start % C.Elem.BITS ≡ 0 }
-    requires narrow { C.Elem.BITS < 64 }
-    ensures value { result ≡ first_place want (list_in C.Elem.BITS O.at (C.numbers cells.old) window) }
-    ensures reads { OnlyReadsAtMost C.CellsRead cells.old cells.new (touched C.Elem.BITS window.start window.len) }
+    requires more { 0 < window.len }
+    ensures value { result.0 ≡ first_place want (list_in C.Elem.BITS O.at (C.numbers cells.old) (window_range window 0 result.1)) }
+    ensures some { 0 < result.1 }
+    ensures within { result.1 ≤ window.len }
+    ensures edge { result.1 < window.len → (window.start + result.1) % C.Elem.BITS ≡ 0 }
+    ensures reads { OnlyReadsAtMost C.CellsRead cells.old cells.new (touched C.Elem.BITS window.start result.1) }
 {
-    let first = window.start / C::Elem::BITS as usize;
-    let count = window.len / WORD_BITS;
-    if let Some(found) = first_in_words::<O, C>(cells, first, count, want) {
-        return Some(found);
+    let bits = C::Elem::BITS as usize;
+    let inside = window.start % bits;
+    let blocks = window.len / BLOCK_BITS;
+    if inside > 0 || window.len < WORD_BITS || bits == WORD_BITS && blocks == 0 {
+        let count = if inside > 0 {
+            window.len.min(bits - inside)
+        } else {
+            window.len
+        };
+        let found = bits_scan_first::<O, C>(cells, window.range(0, count), want);
+        return (found, count);
     }
-    let passed = count * WORD_BITS;
-    let found = bits_scan_first::<O, C>(cells, window.after(passed), want)?;
-    Some(passed + found)
+    if blocks > 0 {
+        let found = first_in_blocks::<O, C>(cells, window.start / bits, blocks, want);
+        return (found, blocks * BLOCK_BITS);
+    }
+    let (word, count) = words_load_front::<O, C>(cells, window);
+    let part = Part {
+        element: 0,
+        from: 0,
+        to: count,
+    };
+    (first_in_element::<O, u64>(word, part, want), count)
 }
 
-/// The first of the elements of `count` words, each of which is passed by one comparison if it
-/// lacks the bit.
-fn first_in_words<O: WordOrder, C: CellsRead>(
+/// The first of the elements of `count` blocks.
+#[inline(always)]
+fn first_in_blocks<O: WordOrder, C: CellsRead>(
     cells: &mut C,
     first: usize,
     count: usize,
     want: bool,
 ) -> Option<usize>
-    requires window { HasWindow C.Elem.BITS (C.numbers cells.old) (elements_window C.Elem.BITS first (count * (64 / C.Elem.BITS))) }
-    requires narrow { C.Elem.BITS < 64 }
+    requires { HasWindow C.Elem.BITS (C.numbers cells.old) (elements_window C.Elem.BITS first (count * (256 / C.Elem.BITS))) }
     ensures value { result ≡ first_place want
-        (list_in C.Elem.BITS O.at (C.numbers cells.old) (elements_window C.Elem.BITS first (count * (64 / C.Elem.BITS)))) }
-    ensures reads { OnlyReadsAtMost C.CellsRead cells.old cells.new (count * (64 / C.Elem.BITS)) }
+        (list_in C.Elem.BITS O.at (C.numbers cells.old) (elements_window C.Elem.BITS first (count * (256 / C.Elem.BITS)))) }
+    ensures reads { OnlyReadsAtMost C.CellsRead cells.old cells.new (count * (256 / C.Elem.BITS)) }
 {
-    let elements = WORD_BITS / C::Elem::BITS as usize;
-    let lacking = filled::<u64>(!want);
+    let elements = BLOCK_BITS / C::Elem::BITS as usize;
     for step in 0..count {
-        let word = load_elements::<O, C>(cells, first + step * elements);
-        if word ^ lacking != 0 {
-            let part = Part {
-                element: 0,
-                from: 0,
-                to: WORD_BITS,
-            };
-            let found = first_in_element::<O, u64>(word, part, want)?;
-            return Some(step * WORD_BITS + found);
+        if let Some(found) = first_in_block::<O, C>(cells, first + step * elements, want) {
+            return Some(step * BLOCK_BITS + found);
         }
     }
     None
+}
+
+/// The first of the elements of a block.
+#[inline(always)]
+fn first_in_block<O: WordOrder, C: CellsRead>(
+    cells: &mut C,
+    first: usize,
+    want: bool,
+) -> Option<usize>
+    requires { HasWindow C.Elem.BITS (C.numbers cells.old) (elements_window C.Elem.BITS first (256 / C.Elem.BITS)) }
+    ensures value { result ≡ first_place want
+        (list_in C.Elem.BITS O.at (C.numbers cells.old) (elements_window C.Elem.BITS first (256 / C.Elem.BITS))) }
+    ensures reads { OnlyReads C.CellsRead cells.old cells.new (256 / C.Elem.BITS) }
+{
+    let elements = WORD_BITS / C::Elem::BITS as usize;
+    let one = load_elements::<O, C>(cells, first);
+    let two = load_elements::<O, C>(cells, first + elements);
+    let three = load_elements::<O, C>(cells, first + 2 * elements);
+    let four = load_elements::<O, C>(cells, first + 3 * elements);
+    first_in_words::<O>(one, two, three, four, want)
+}
+
+/// The first of four words, which are passed by one comparison if they lack the bit.
+#[inline(always)]
+fn first_in_words<O: BitOrder>(
+    one: u64,
+    two: u64,
+    three: u64,
+    four: u64,
+    want: bool,
+) -> Option<usize>
+    ensures { result ≡ first_place want
+        ((element_bits 64 O.at one ++ element_bits 64 O.at two) ++ (element_bits 64 O.at three ++ element_bits 64 O.at four)) }
+{
+    let lacking = filled::<u64>(!want);
+    if (one ^ lacking) | (two ^ lacking) | (three ^ lacking) | (four ^ lacking) == 0 {
+        return None;
+    }
+    if let Some(found) = first_of_two::<O>(one, two, want) {
+        return Some(found);
+    }
+    let found = first_of_two::<O>(three, four, want)?;
+    Some(2 * WORD_BITS + found)
+}
+
+/// The first of two words.
+fn first_of_two<O: BitOrder>(one: u64, two: u64, want: bool) -> Option<usize>
+    ensures { result ≡ first_place want (element_bits 64 O.at one ++ element_bits 64 O.at two) }
+{
+    let word = Part {
+        element: 0,
+        from: 0,
+        to: WORD_BITS,
+    };
+    if let Some(found) = first_in_element::<O, u64>(one, word, want) {
+        return Some(found);
+    }
+    let found = first_in_element::<O, u64>(two, word, want)?;
+    Some(WORD_BITS + found)
 }

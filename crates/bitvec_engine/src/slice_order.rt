@@ -1,11 +1,13 @@
 //! How an order works on whole windows.
-ghost use Rattle.std.specs.Prelude.{◌≡◌, ◌-◌, Bool, reverse, true};
+ghost use Rattle.std.specs.Prelude.{◌≡◌, ◌-◌, ◌<◌, Bool, reverse, true};
 ghost use Rattle.bitvec_base.specs.Lists.{FitsWithin, combined, copied_within, first_place, last_place, same_bits};
-ghost use Rattle.bitvec_base.specs.Memory.{Edits, HasWindow, Writes, list_in};
-ghost use Rattle.bitvec_cells.specs.Access.{CostsAtMost, OnlyReadsAtMost};
+ghost use Rattle.bitvec_base.specs.Memory.{Edits, HasWindow, Writes, element_bits, list_in};
+ghost use Rattle.bitvec_cells.specs.Access.{CostsAtMost, OnlyReads, OnlyReadsAtMost};
+ghost use Rattle.bitvec_engine.specs.Front.{IsFront};
 ghost use Rattle.bitvec_words.specs.Operator.{operator};
 ghost use Rattle.bitvec_walk.specs.Cost.{edit_loads, equal_loads, first_loads, last_loads, read_loads, reverse_loads, reverse_stores, touched, write_loads, write_stores};
 
+use crate::fronts::{bits_load_front, bits_lowest_first};
 use crate::scanning::{bits_scan_first, bits_scan_last};
 use bitvec_base::{BitOrder, Window};
 use bitvec_cells::{Cells, CellsRead};
@@ -134,6 +136,27 @@ pub trait SliceOrder: BitOrder {
         ensures reads { OnlyReadsAtMost C.CellsRead cells.old cells.new (last_loads C.Elem.BITS window result) }
     {
         bits_scan_last::<Self, C>(cells, window, want)
+    }
+
+    /// The first bits of a window as the first bits of a word, and how many they are: those of the
+    /// first element that it touches or, where it begins with one and has 64 bits, perhaps those of
+    /// 64. The word's other bits are 0. Condition: the window isn't empty. It loads each element
+    /// that these bits touch once.
+    fn load_front<C: CellsRead>(cells: &mut C, window: Window) -> (u64, usize)
+        requires window { HasWindow C.Elem.BITS (C.numbers cells.old) window }
+        requires some { 0 < window.len }
+        ensures value { IsFront C.Elem.BITS Self.at (C.numbers cells.old) window result.0 result.1 }
+        ensures reads { OnlyReads C.CellsRead cells.old cells.new (touched C.Elem.BITS window.start result.1) }
+    {
+        bits_load_front::<Self, C>(cells, window)
+    }
+
+    /// The word whose bit number `i`, from the least significant one, is the bit at index `i` of
+    /// the order.
+    fn lowest_first(word: u64) -> u64
+        ensures { element_bits 64 (λ b i. i) result ≡ element_bits 64 Self.at word }
+    {
+        bits_lowest_first::<Self>(word)
     }
 }
 

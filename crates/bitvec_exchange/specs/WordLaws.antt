@@ -1,4 +1,4 @@
--- Words of 64 bits of a memory whose elements, of b bits, are narrower.
+-- Words of 64 bits of a memory of elements of b bits.
 use Rattle.std.specs.Prelude.{◌≡◌, ℕ, ◌+◌, ◌-◌, ◌*◌, ◌/◌, ◌<◌, ◌≤◌, true, Bool, false, List, [], ◌++◌, length, take, drop, replicate, slice_index, slice_range, refl}
 use Rattle.std.proofs.Common.{arith, rules, sym, ◌∙◌, ap}
 use Rattle.std.proofs.lemmas.List.{same_lists, places}
@@ -22,8 +22,8 @@ use Rattle.bitvec_words.specs.Field.{padded}
 -- ---- numbers
 
 -- a word is whole elements
-pub word_whole : (b : ℕ) → IsWidth b → b < 64 → 64 / b * b ≡ 64
-word_whole b w narrow = at_each_width (λ n. n < 64 → 64 / n * n ≡ 64) (λ h. refl) (λ h. refl) (λ h. refl) (λ h. absurd (omega arith)) b w narrow
+pub word_whole : (b : ℕ) → IsWidth b → 64 / b * b ≡ 64
+word_whole b w = at_each_width (λ n. 64 / n * n ≡ 64) refl refl refl refl b w
 
 pub word_span : (b : ℕ) → 0 < b → 64 / b + 1 ≤ step_span b true
 unfolding step_span

@@ -1,4 +1,4 @@
-//! Words of 64 bits of a memory whose elements are narrower.
+//! Words of 64 bits of a memory.
 ghost use Rattle.std.specs.Prelude.{◌≡◌, ℕ, ◌/◌, ◌<◌, true};
 ghost use Rattle.bitvec_base.specs.Memory.{HasWindow, Writes, element_bits, list_in};
 ghost use Rattle.bitvec_cells.specs.Access.{Costs, CostsAtMost, OnlyReads, OnlyReadsAtMost};
@@ -31,11 +31,11 @@ pub(crate) fn load_word<O: WordOrder, C: CellsRead>(cells: &mut C, window: Windo
     joined::<O, u64>(word, behind, skip)
 }
 
-/// The bits of the elements of one word from the element `first` on. Condition: the elements are
-/// narrower than a word, and lie in a memory of at most `MAX_BITS` bits. It loads each of them once.
+/// The bits of the elements of one word from the element `first` on. Condition: they lie in a memory
+/// of at most `MAX_BITS` bits. It loads each of them once.
+#[inline(always)]
 pub fn load_elements<O: WordOrder, C: CellsRead>(cells: &mut C, first: usize) -> u64
     requires window { HasWindow C.Elem.BITS (C.numbers cells.old) (elements_window C.Elem.BITS first (64 / C.Elem.BITS)) }
-    requires narrow { C.Elem.BITS < 64 }
     ensures value { element_bits 64 O.at result
         ≡ list_in C.Elem.BITS O.at (C.numbers cells.old) (elements_window C.Elem.BITS first (64 / C.Elem.BITS)) }
     ensures reads { OnlyReads C.CellsRead cells.old cells.new (64 / C.Elem.BITS) }
@@ -78,10 +78,10 @@ pub(crate) fn store_word<O: WordOrder, C: Cells>(cells: &mut C, window: Window, 
     store_part::<O, C>(cells, tail, end);
 }
 
-/// Stores the elements of one word from the element `first` on. Condition: as of [`load_word`].
+/// Stores the elements of one word from the element `first` on. Condition: as of
+/// [`load_elements`].
 fn store_elements<O: WordOrder, C: Cells>(cells: &mut C, first: usize, word: u64)
     requires window { HasWindow C.Elem.BITS (C.numbers cells.old) (elements_window C.Elem.BITS first (64 / C.Elem.BITS)) }
-    requires narrow { C.Elem.BITS < 64 }
     ensures writes { Writes C.Elem.BITS O.at (C.numbers cells.old) (C.numbers cells.new) (elements_window C.Elem.BITS first (64 / C.Elem.BITS))
         (element_bits 64 O.at word) }
     ensures cost { Costs C.CellsRead cells.old cells.new 0 (64 / C.Elem.BITS) }

@@ -6,7 +6,7 @@ use Rattle.std.specs.declared.ops.Range.{Range}
 use Rattle.bitvec_base.specs.Memory.{memory_bits}
 use Rattle.bitvec_base.specs.SliceLaws.{range-map}
 use Rattle.bitvec_cutting.specs.Cutting.{LiesIn}
-use Rattle.bitvec_domain.specs.CutLaws.{memory-range}
+use Rattle.bitvec_base.specs.MemoryLaws.{memory-range}
 use Rattle.bitvec_store.specs.declared.store.BitStore.{Ghosts as Store}
 use Rattle.bitvec_base.specs.declared.order.BitOrder.{Ghosts as Order}
 use Rattle.bitvec_slice.specs.Seen.{IsRangeOf, Seen}

@@ -1,4 +1,5 @@
-//! Callers of the walks over views, and what no clause of the walks says.
+//! Callers of the walks over views, and of pieces of writable views that are lent one at a time:
+//! what they know afterwards, and what no clause says.
 #![tactic(auto)]
 
 #[cfg(test)]
@@ -6,9 +7,20 @@ mod bits;
 #[cfg(test)]
 mod callers;
 #[cfg(test)]
+mod chunks;
+#[cfg(test)]
+mod halves;
+pub mod known;
+#[cfg(test)]
+mod lent_bits;
+#[cfg(test)]
 mod pieces;
 #[cfg(test)]
 mod reading;
+#[cfg(test)]
+mod remainders;
+#[cfg(test)]
+mod runs;
 #[cfg(test)]
 mod widths;
 

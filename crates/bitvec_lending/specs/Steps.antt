@@ -7,3 +7,7 @@ pub use denote.Ref.{NamedLft}
 pub use denote.Param.{layout, bounded, copied, param}
 pub use denote.Param.Laws.{copied_copy, copied_laws, copy_told, param_laws}
 pub use borrow.Struct.Apart.{part_apart}
+pub use Rattle.bitvec_lending.specs.Arity.{of_two}
+pub use Rattle.bitvec_lending.specs.Through.{tail}
+pub use Rattle.bitvec_lending.specs.Lender.{behind_ty, behind, lends_first}
+pub use Rattle.bitvec_lending.specs.PartLender.{lends_range}

@@ -1,188 +1,161 @@
--- What is kept of an element: at first nothing, then what is loaded, and after each turn what it leaves.
-use Rattle.std.specs.Prelude.{◌≡◌, ◌≢◌, ℕ, ◌+◌, ◌-◌, ◌*◌, ◌/◌, ◌%◌, ◌<◌, ◌≤◌, Bool, true, false, Some, None, List, [], ◌∷◌, length, replicate, slice_index, slice_index_or}
+-- What is kept: what is loaded, and after each turn what it leaves.
+use Rattle.std.specs.Prelude.{◌≡◌, ◌≢◌, ℕ, ◌+◌, ◌-◌, ◌^◌, ◌<◌, ◌≤◌, min, Bool, true, false, List, [], ◌∷◌, slice_index_or, bit_and}
+use Rattle.std.specs.Int.{bit_at, trailing_zeros, w64}
 use Rattle.std.proofs.Common.{arith, sym, ◌∙◌, ap, ⊎_elim}
 use Rattle.std.proofs.lemmas.Bool.{cases_lt}
-use Rattle.std.proofs.lemmas.List.{get_or-replicate}
-use Rattle.std.proofs.lemmas.Nat.{div-add-mod', mod-mul-add, mod_below}
+use Rattle.std.proofs.lemmas.List.{places}
+use Rattle.std.proofs.lemmas.Nat.Bits.{bit_at-trailing_zeros, bit_at-zero}
 use Rattle.bitvec_base.specs.declared.window.Window.{Window}
-use Rattle.bitvec_base.specs.Lists.{first_place}
-use Rattle.bitvec_base.specs.Memory.{HasWindow, element_bits, list_in, memory_bits, place_bit}
-use Rattle.bitvec_base.specs.MemoryLaws.{get-element_bits, get-memory_bits, place_bit-element}
-use Rattle.bitvec_base.specs.PartLaws.{element-none}
-use Rattle.bitvec_base.specs.PlacesLaws.{first_place-absent, first_place-before, first_place-below, first_place-bit}
-use Rattle.bitvec_base.specs.WindowLaws.{get-window}
-use Rattle.bitvec_base.specs.WritesLaws.{length-list}
+use Rattle.bitvec_base.specs.FoundLaws.{bit-set, set-bit}
+use Rattle.bitvec_base.specs.Memory.{HasWindow, element_bits, list_in, memory_bits}
+use Rattle.bitvec_base.specs.Window.{window_range}
+use Rattle.bitvec_base.specs.WindowLaws.{get-window, window-past}
+use Rattle.bitvec_base.specs.WritesLaws.{HasWindow-range, within-list}
+use Rattle.bitvec_engine.specs.Front.{IsFront}
+use Rattle.bitvec_turns.specs.declared.rest.Rest.{Rest}
 use Rattle.bitvec_turns.specs.Places.{places_in}
 use Rattle.bitvec_turns.specs.PlacesLaws.{places-next, places-none}
 use Rattle.bitvec_walk.specs.Sought.{Shows}
+use Rattle.bitvec_words.specs.Field.{padded}
 use Rattle.bitvec_ones.specs.Kept.{Keeps}
+use Rattle.bitvec_ones.specs.declared.kept.Kept.{Kept}
+use Rattle.bitvec_ones.proofs.LowestLemmas.{lowest-cleared, lowest-others}
 
--- nothing is kept of no bits
-pub nothing-kept : (b : ℕ) (at : ℕ → ℕ → ℕ) (start : ℕ) (want : Bool) (list : List Bool) (v : ℕ) → length list ≡ 0 → v ≡ 0 → Keeps b start want list 0 0 (element_bits b at v)
-nothing-kept b at start want list v short none =
-    let clear : element_bits b at v ≡ replicate b false = ap (element_bits b at) none ∙ element-none b at in
-    let lacks : (i : ℕ) → i < b → slice_index_or (element_bits b at v) i false ≡ false = λ i below. ap (λ (l : List Bool). slice_index_or l i false) clear ∙ get_or-replicate b i false false below in
-    record {
-      aligned = λ more. absurd (omega arith);
-      order = omega arith;
-      bound = omega arith;
-      has = λ k low high. absurd (omega arith);
-      low = λ i below set. let unset = lacks i below in absurd cc;
-      bit = λ i below set inside. let unset = lacks i below in absurd cc;
-    }
+-- ---- a loaded word
 
--- ---- a loaded element
+get-padded : (b : ℕ) (list : List Bool) (i : ℕ) → i < b → slice_index_or (padded b list) i false ≡ slice_index_or list i false
+unfolding padded
+get-padded b list i below = grind (arith, places)
 
-module _ (b : ℕ) (at : ℕ → ℕ → ℕ) (xs : List ℕ) (window : Window) (index v m from : ℕ) (want : Bool) (some : 0 < b) (has : HasWindow b xs window) (inside : index < window.len)
-    (is : v ≡ slice_index xs ((window.start + index) / b)) (begins : from ≡ (window.start + index) % b) (shows : Shows b at v m from b want) where
-  -- a bit of the window in the element
-  in_element : (k : ℕ) → index ≤ k → from + (k - index) < b → k < window.len → slice_index_or (list_in b at xs window) k false ≡ slice_index_or (element_bits b at v) (from + (k - index)) false
-  in_element k low fits below =
-      let e : ℕ = (window.start + index) / b in
-      let place = div-add-mod' (window.start + index) b in
-      let start = has.within.start in
-      let len = has.within.len in
-      let moved : window.start + k ≡ e * b + (from + (k - index)) = omega arith in
-      get-window (memory_bits b at xs) window k false below
-      ∙ get-memory_bits b at xs (window.start + k) false (omega arith)
-      ∙ ap (place_bit b at xs) moved
-      ∙ place_bit-element b at xs e (from + (k - index)) fits
-      ∙ sym (ap (λ (n : ℕ). slice_index_or (element_bits b at n) (from + (k - index)) false) is ∙ get-element_bits b at (slice_index xs e) (from + (k - index)) false fits)
+module _ (b : ℕ) (at : ℕ → ℕ → ℕ) (xs : List ℕ) (window : Window) (rest : Rest) (word seen count : ℕ) (has : HasWindow b xs window) (some : rest.front < rest.back) (bound : rest.back ≤ window.len)
+    (front : IsFront b at xs (window_range window rest.front rest.back) word count) (first : element_bits 64 (λ b i. i) seen ≡ element_bits 64 at word) where
+  abbrev part : Window
+  part = window_range (window_range window rest.front rest.back) 0 count
 
-  pub kept-loaded : Keeps b window.start want (list_in b at xs window) index (index + (b - from)) (element_bits b at m)
-  kept-loaded =
-      let long = length-list b at xs window has in
-      let within = mod_below (window.start + index) b some in
-      let place = div-add-mod' (window.start + index) b in
+  bit_seen : (i : ℕ) → i < 64 → slice_index_or (element_bits 64 (λ b i. i) seen) i false ≡ slice_index_or (list_in b at xs part) i false
+  bit_seen i below = ap (λ (l : List Bool). slice_index_or l i false) (first ∙ front.bits) ∙ get-padded 64 (list_in b at xs part) i below
+
+  there : (i : ℕ) → i < count → slice_index_or (element_bits 64 (λ b i. i) seen) i false ≡ slice_index_or (list_in b at xs window) (rest.front + i) false
+  there i below =
+      let most = front.most in
+      let within = front.within in
+      let place : window.start + rest.front + 0 + i ≡ window.start + (rest.front + i) = omega arith in
+      bit_seen i (omega arith)
+      ∙ get-window (memory_bits b at xs) part i false (omega arith)
+      ∙ ap (λ (n : ℕ). slice_index_or (memory_bits b at xs) n false) place
+      ∙ sym (get-window (memory_bits b at xs) window (rest.front + i) false (omega arith))
+
+  past : (i : ℕ) → count ≤ i → i < 64 → slice_index_or (element_bits 64 (λ b i. i) seen) i false ≡ false
+  past i behind below =
+      let held = HasWindow-range b xs (window_range window rest.front rest.back) 0 count (HasWindow-range b xs window rest.front rest.back has (omega arith) bound) (omega arith) front.within in
+      bit_seen i below ∙ window-past (memory_bits b at xs) part i false (within-list b at xs part held) (omega arith)
+
+  -- where the ones are wanted
+  pub shows-ones : Shows 64 (λ b i. i) seen seen 0 count true
+  shows-ones =
       record {
-        aligned = λ more.
-            let next : window.start + (index + (b - from)) ≡ ((window.start + index) / b + 1) * b + 0 = omega arith in
-            rw next (mod-mul-add ((window.start + index) / b + 1) b 0 some);
+        has = λ i low high bit. bit;
+        low = λ i below set. omega arith;
+        high = λ i below set. ⊎_elim (λ (h : i < count). h) (λ (behind : count ≤ i). let clear = past i behind below in absurd cc) (cases_lt i count);
+        bit = λ i below set. set;
+      }
+
+  pub kept-loaded : (want : Bool) (m : ℕ) → Shows 64 (λ b i. i) seen m 0 count want → Keeps want (list_in b at xs window) rest (record { ones = m; base = rest.front; edge = rest.front + count })
+  kept-loaded want m shows =
+      let most = front.most in
+      let within = front.within in
+      record {
         order = omega arith;
-        bound = omega arith;
+        width = omega arith;
         has = λ k low high below bit.
-            let place : k + b - (index + (b - from)) ≡ from + (k - index) = omega arith in
-            (omega arith, rw place (shows.has (from + (k - index)) (omega arith) (omega arith) (sym (in_element k low (omega arith) (omega arith)) ∙ bit)));
-        low = λ i below set. let behind = shows.low i below set in omega arith;
-        bit = λ i below set least.
-            let behind = shows.low i below set in
-            let place : from + (index + (b - from) + i - b - index) ≡ i = omega arith in
-            in_element (index + (b - from) + i - b) (omega arith) (omega arith) (omega arith) ∙ ap (λ (n : ℕ). slice_index_or (element_bits b at v) n false) place ∙ shows.bit i below set;
+            let place : rest.front + (k - rest.front) ≡ k = omega arith in
+            (low, set-bit 64 (λ b i. i) m (k - rest.front) (omega arith) (shows.has (k - rest.front) (omega arith) (omega arith) (there (k - rest.front) (omega arith) ∙ ap (λ (n : ℕ). slice_index_or (list_in b at xs window) n false) place ∙ bit)));
+        inside = λ i below set. let h = shows.high i below (bit-set 64 (λ b i. i) m i below set) in (omega arith, omega arith, omega arith);
+        bit = λ i below set. let on = bit-set 64 (λ b i. i) m i below set in sym (there i (shows.high i below on)) ∙ shows.bit i below on;
       }
 
 -- ---- turns
 
-module _ (b start : ℕ) (want : Bool) (list : List Bool) (front edge : ℕ) (kept : List Bool) (long : length kept ≡ b) (keeps : Keeps b start want list front edge kept) where
-  none-set : None ≡ first_place true kept → (i : ℕ) → i < b → slice_index_or kept i false ≢ true
-  none-set none i below = first_place-absent true kept (sym none) i (omega arith)
+no_ones : (n i : ℕ) → n ≡ 0 → bit_at n i ≢ 1
+no_ones n i none set = let clear = ap (λ (m : ℕ). bit_at m i) none ∙ bit_at-zero i in omega arith
 
-  -- the next element, where nothing is left of this one
-  pub kept-passed : None ≡ first_place true kept → (next : ℕ) (other : List Bool) → Keeps b start want list edge next other → Keeps b start want list front next other
-  kept-passed none next other later =
+module _ (want : Bool) (list : List Bool) (rest : Rest) (kept : Kept) (keeps : Keeps want list rest kept) where
+  -- the next word, where nothing is left of this one
+  pub kept-passed : kept.ones ≡ 0 → (next : Kept) → Keeps want list (record { front = kept.edge; back = rest.back }) next → Keeps want list rest next
+  kept-passed none next later =
       let order = keeps.order in
       let further = later.order in
       record {
-        aligned = later.aligned;
         order = omega arith;
-        bound = later.bound;
+        width = later.width;
         has = λ k low high below bit.
-            ⊎_elim (λ (passed : k < edge). let here = keeps.has k low passed below bit in let after = here.0 in absurd (none-set none (k + b - edge) (omega arith) here.1))
-            (λ (on : edge ≤ k). later.has k on high below bit) (cases_lt k edge);
-        low = λ i below set. let behind = later.low i below set in omega arith;
+            ⊎_elim (λ (passed : k < kept.edge). let here = keeps.has k low high passed bit in absurd (no_ones kept.ones (k - kept.base) none here.1))
+            (λ (on : kept.edge ≤ k). later.has k on high below bit) (cases_lt k kept.edge);
+        inside = λ i below set. let on = later.inside i below set in (omega arith, on.1, on.2);
         bit = later.bit;
       }
 
-  module _ (back : ℕ) (from : front ≤ back) (within : back ≤ length list) (to : back ≤ edge) (behind : (i : ℕ) → i < b → slice_index_or kept i false ≡ true → back + b ≤ edge + i) where
-    -- none is left before the end of the rest
-    ended-none : places_in want list front back ≡ []
-    ended-none = places-none want list front back (λ k h bit.
-        let here = keeps.has (front + k) (omega arith) (omega arith) (omega arith) bit in
-        let after = here.0 in
-        let late = behind (front + k + b - edge) (omega arith) here.1 in
-        absurd (omega arith))
+  -- none is left
+  pub none-left : kept.ones ≡ 0 → rest.back ≤ kept.edge → places_in want list rest.front rest.back ≡ []
+  none-left none past =
+      places-none want list rest.front rest.back (λ k h bit. let here = keeps.has (rest.front + k) (omega arith) (omega arith) (omega arith) bit in no_ones kept.ones (rest.front + k - kept.base) none here.1)
 
-    ended-keeps : Keeps b start want list back edge kept
-    ended-keeps =
-        record {
-          aligned = keeps.aligned;
-          order = to;
-          bound = keeps.bound;
-          has = λ k low high below bit. keeps.has k (omega arith) high below bit;
-          low = behind;
-          bit = keeps.bit;
-        }
+  -- the ones in a part of the rest
+  kept-part : (left : Rest) (m : ℕ) → rest.front ≤ left.front → left.front ≤ kept.edge → left.back ≤ rest.back
+      → ((i : ℕ) → i < 64 → bit_at m i ≡ 1 → (bit_at kept.ones i ≡ 1) × (left.front ≤ kept.base + i) × (kept.base + i < left.back))
+      → ((i : ℕ) → i < 64 → bit_at kept.ones i ≡ 1 → left.front ≤ kept.base + i → kept.base + i < left.back → bit_at m i ≡ 1)
+      → Keeps want list left (record kept { ones = m })
+  kept-part left m low order high were stay =
+      let width = keeps.width in
+      record {
+        order = order;
+        width = width;
+        has = λ k from to below bit. let here = keeps.has k (omega arith) (omega arith) below bit in let after = here.0 in (here.0, stay (k - kept.base) (omega arith) here.1 (omega arith) (omega arith));
+        inside = λ i below set. let was = were i below set in (was.1, was.2, (keeps.inside i below was.0).2);
+        bit = λ i below set. keeps.bit i below (were i below set).0;
+      }
 
-  module _ (back : ℕ) (from : front ≤ back) (within : back ≤ length list) (none : None ≡ first_place true kept) (to : back ≤ edge) where
-    pub none-left : places_in want list front back ≡ []
-    none-left = ended-none back from within to (λ i below set. absurd (none-set none i below set))
+  -- the first that is kept is the first that is left
+  module _ (some : kept.ones ≢ 0) (fits : kept.ones < 2 ^ 64) where
+    abbrev pub found : ℕ
+    found = trailing_zeros w64 kept.ones
 
-    pub kept-none : Keeps b start want list back edge kept
-    kept-none = ended-keeps back from within to (λ i below set. absurd (none-set none i below set))
+    lowest : (found < 64) × (bit_at kept.ones found ≡ 1) × ((i : ℕ) → i < found → bit_at kept.ones i ≡ 0)
+    lowest = bit_at-trailing_zeros w64 kept.ones (omega arith) fits
 
-  module _ (found : ℕ) (is : Some found ≡ first_place true kept) where
-    pub found-below : found < b
-    found-below = let below = first_place-below true kept found (sym is) in omega arith
+    pub found-inside : (rest.front ≤ kept.base + found) × (kept.base + found < rest.back) × (kept.base + found < kept.edge)
+    found-inside = keeps.inside found lowest.0 lowest.1
 
-    found-set : slice_index_or kept found false ≡ true
-    found-set = first_place-bit true kept found (sym is)
+    pub found-taken : places_in want list rest.front rest.back ≡ (kept.base + found) ∷ places_in want list (kept.base + found + 1) rest.back
+    found-taken =
+        let at = found-inside in
+        places-next want list rest.front (kept.base + found) rest.back at.0 at.1
+        (λ k h bit. let here = keeps.has (rest.front + k) (omega arith) (omega arith) (omega arith) bit in let after = here.0 in let clear = lowest.2 (rest.front + k - kept.base) (omega arith) in omega arith)
+        (keeps.bit found lowest.0 lowest.1)
 
-    pub found-behind : front + b ≤ edge + found
-    found-behind = keeps.low found found-below found-set
+    pub kept-taken : Keeps want list (record { front = kept.base + found + 1; back = rest.back }) (record kept { ones = bit_and kept.ones (kept.ones - 1) })
+    kept-taken =
+        let at = found-inside in
+        let clear = lowest-cleared kept.ones found lowest.1 lowest.2 in
+        let others = lowest-others kept.ones found lowest.1 lowest.2 in
+        kept-part (record { front = kept.base + found + 1; back = rest.back }) _ (omega arith) (omega arith) (omega arith)
+        (λ i below left.
+        let apart : i ≢ found = λ same. let gone = ap (bit_at (bit_and kept.ones (kept.ones - 1))) same in omega arith in
+        let was = sym (others i apart) ∙ left in
+        let behind = keeps.inside i below was in
+        let none = λ (h : i < found). lowest.2 i h in
+        (was, ⊎_elim (λ (h : i < found). let off = none h in absurd (omega arith)) (λ (h : found ≤ i). omega arith) (cases_lt i found), behind.1))
+        (λ i below set low high. others i (omega arith) ∙ set)
 
-    -- none of the kept bits comes before it
-    found-first : (i : ℕ) → slice_index_or kept i false ≡ true → found ≤ i
-    found-first i set = ⊎_elim (λ (before : i < found). absurd (first_place-before true kept found i (sym is) before set)) (λ (h : found ≤ i). h) (cases_lt i found)
-
-    module _ (back : ℕ) (from : front ≤ back) (within : back ≤ length list) (late : back ≤ edge + found - b) where
-      to : back ≤ edge
-      to = let below = found-below in omega arith
-
-      behind : (i : ℕ) → i < b → slice_index_or kept i false ≡ true → back + b ≤ edge + i
-      behind i below set = let first = found-first i set in let reaches = found-behind in omega arith
-
-      pub late-left : places_in want list front back ≡ []
-      late-left = ended-none back from within to behind
-
-      pub kept-late : Keeps b start want list back edge kept
-      kept-late = ended-keeps back from within to behind
-
-    -- it is the first that is left
-    pub found-taken : (back : ℕ) → back ≤ length list → edge + found - b < back → places_in want list front back ≡ (edge + found - b) ∷ places_in want list (edge + found - b + 1) back
-    found-taken back within early =
-        let below = found-below in
-        let reaches = found-behind in
-        places-next want list front (edge + found - b) back (omega arith) early
-        (λ k h bit.
-        let here = keeps.has (front + k) (omega arith) (omega arith) (omega arith) bit in
-        let after = here.0 in
-        let first = found-first (front + k + b - edge) here.1 in
-        absurd (omega arith))
-        (keeps.bit found below found-set (omega arith))
-
-    -- and what is kept behind it
-    module _ (left : List Bool) (clear : slice_index_or left found false ≡ false) (others : (i : ℕ) → i < b → i ≢ found → slice_index_or left i false ≡ slice_index_or kept i false) where
-      other : (i : ℕ) → slice_index_or left i false ≡ true → i ≢ found
-      other i set same = let here = ap (λ (n : ℕ). slice_index_or left n false) same in absurd cc
-
-      was-set : (i : ℕ) → i < b → slice_index_or left i false ≡ true → slice_index_or kept i false ≡ true
-      was-set i below set = sym (others i below (other i set)) ∙ set
-
-      pub kept-taken : Keeps b start want list (edge + found - b + 1) edge left
-      kept-taken =
-          let inside = found-below in
-          let reaches = found-behind in
-          record {
-            aligned = keeps.aligned;
-            order = omega arith;
-            bound = keeps.bound;
-            has = λ k low high below bit.
-                let here = keeps.has k (omega arith) high below bit in
-                let after = here.0 in
-                let apart : k + b - edge ≢ found = omega arith in
-                (after, others (k + b - edge) (omega arith) apart ∙ here.1);
-            low = λ i below set.
-                let first = found-first i (was-set i below set) in
-                let apart = other i set in
-                omega arith;
-            bit = λ i below set least. keeps.bit i below (was-set i below set) least;
-          }
+  -- what is left of it where the rest ends earlier
+  pub kept-ended : (left : Rest) (m : ℕ) → left.front ≡ rest.front → left.back ≤ rest.back → Shows 64 (λ b i. i) kept.ones m 0 (min (left.back - kept.base) 64) true → Keeps want list left (record kept { ones = m })
+  kept-ended left m front back shows =
+      let order = keeps.order in
+      kept-part left m (omega arith) (omega arith) back
+      (λ i below set.
+      let on = bit-set 64 (λ b i. i) m i below set in
+      let was = set-bit 64 (λ b i. i) kept.ones i below (shows.bit i below on) in
+      let high = shows.high i below on in
+      let from = keeps.inside i below was in
+      (was, omega arith, omega arith))
+      (λ i below set low high. set-bit 64 (λ b i. i) m i below (shows.has i (omega arith) (omega arith) (bit-set 64 (λ b i. i) kept.ones i below set)))

@@ -1,1 +1,2 @@
 mod KeptLemmas
+mod LowestLemmas

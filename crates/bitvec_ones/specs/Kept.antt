@@ -1,13 +1,14 @@
--- What a walk from the front keeps of the element that it loaded last.
-use Rattle.std.specs.Prelude.{◌≡◌, ℕ, ◌+◌, ◌-◌, ◌%◌, ◌<◌, ◌≤◌, Bool, true, false, List, length, slice_index_or}
+-- What a walk from the front keeps of the elements that it loaded last.
+use Rattle.std.specs.Prelude.{◌≡◌, ℕ, ◌+◌, ◌-◌, ◌<◌, ◌≤◌, Bool, false, List, slice_index_or}
+use Rattle.std.specs.Int.{bit_at}
+use Rattle.bitvec_turns.specs.declared.rest.Rest.{Rest}
+use Rattle.bitvec_ones.specs.declared.kept.Kept.{Kept}
 
--- The list is that of a window from the place `start` on. The kept bits are those of an element of b bits that ends
--- at the list's index `edge`. Those that are 1 stand where the list has wanted bits, from the index `front` on: at all
--- such indices before the edge, and, but for indices behind the list, at no others.
-pub record Keeps (b start : ℕ) (want : Bool) (list : List Bool) (front edge : ℕ) (kept : List Bool) : Type 0 where
-  pub aligned : edge < length list → (start + edge) % b ≡ 0
-  pub order : front ≤ edge
-  pub bound : edge ≤ length list + b
-  pub has : (k : ℕ) → front ≤ k → k < edge → k < length list → slice_index_or list k false ≡ want → (edge ≤ k + b) × (slice_index_or kept (k + b - edge) false ≡ true)
-  pub low : (i : ℕ) → i < b → slice_index_or kept i false ≡ true → front + b ≤ edge + i
-  pub bit : (i : ℕ) → i < b → slice_index_or kept i false ≡ true → edge + i - b < length list → slice_index_or list (edge + i - b) false ≡ want
+-- The list is that of a window. Of the indices of the rest at which it has the wanted bit, those below the edge are
+-- exactly base + i for the ones i of the kept word.
+pub record Keeps (want : Bool) (list : List Bool) (rest : Rest) (kept : Kept) : Type 0 where
+  pub order : rest.front ≤ kept.edge
+  pub width : kept.edge ≤ kept.base + 64
+  pub has : (k : ℕ) → rest.front ≤ k → k < rest.back → k < kept.edge → slice_index_or list k false ≡ want → (kept.base ≤ k) × (bit_at kept.ones (k - kept.base) ≡ 1)
+  pub inside : (i : ℕ) → i < 64 → bit_at kept.ones i ≡ 1 → (rest.front ≤ kept.base + i) × (kept.base + i < rest.back) × (kept.base + i < kept.edge)
+  pub bit : (i : ℕ) → i < 64 → bit_at kept.ones i ≡ 1 → slice_index_or list (kept.base + i) false ≡ want

@@ -1,11 +1,10 @@
 //! The indices of the bits of a view that are 1, or 0, from both ends.
 ghost use Rattle.std.specs.Prelude.{◌≡◌, ⊤};
-ghost use Rattle.bitvec_base.specs.Memory.{element_bits};
 ghost use Rattle.bitvec_slice.specs.Views.{seen};
 ghost use Rattle.bitvec_turns.specs.Places.{IsRestOf};
 ghost use Rattle.bitvec_ones.specs.Kept.{Keeps};
 
-use crate::kept::{keep_first, take_kept};
+use crate::kept::{Kept, sought_first, take_kept};
 use crate::wanted::{Ones, Wanted, Zeros};
 use bitvec_base::BitOrder;
 use bitvec_cells::Shared;
@@ -20,18 +19,18 @@ use std::marker::PhantomData;
 /// The indices of the bits of a view that `W` names, ascending from the front and descending from
 /// the back.
 ///
-/// A walk from the front loads each element once, and keeps its bits until their indices are given;
-/// the first element is loaded when the walk is made. Each call of `next_back` is a search of the
-/// bits that are left from the back, so that it loads an element once more for each index given. How
-/// many indices are left is counted at each call of `len` or `size_hint`.
+/// A walk from the front loads each element once, narrow ones by as many as make a word of 64 bits,
+/// and keeps a word's bits until their indices are given; nothing is loaded when the walk is made.
+/// Each call of `next_back` is a search of the bits that are left from the back, so that it loads an
+/// element once more for each index given. How many indices are left is counted at each call of
+/// `len` or `size_hint`.
 pub struct Places<'a, T: BitStore, O: BitOrder, W: Wanted> {
     view: BitSlice<'a, T, O>,
     rest: Rest,
-    ones: T,
-    edge: usize,
+    kept: Kept,
     wanted: PhantomData<W>,
     ghost inside: { IsRestOf rest (seen view).window.len },
-    ghost keeps: { Keeps T.BITS (seen view).window.start W.BIT (seen view).bits rest.front edge (element_bits T.BITS O.at (T.value ones)) },
+    ghost keeps: { Keeps W.BIT (seen view).bits rest kept },
 }
 
 /// The indices of the bits of a view that are 1.
@@ -51,8 +50,7 @@ impl<'a, T: BitStore, O: BitOrder, W: Wanted> Clone for Places<'a, T, O, W> {
         Ok(Places {
             view: self.view,
             rest: self.rest,
-            ones: self.ones,
-            edge: self.edge,
+            kept: self.kept,
             wanted: PhantomData,
         })
     }
@@ -72,15 +70,17 @@ impl<'a, T: BitStore, O: BitOrder, W: Wanted> Places<'a, T, O, W> {
         ensures runs { RunsInOrder result }
         ensures runs_back { RunsInReverse result }
     {
-        let kept = keep_first::<T, O>(view.elements(), view.window(), W::BIT);
         Places {
             view,
             rest: Rest {
                 front: 0,
                 back: view.len(),
             },
-            ones: kept.ones,
-            edge: kept.edge,
+            kept: Kept {
+                ones: 0,
+                base: 0,
+                edge: 0,
+            },
             wanted: PhantomData,
         }
     }
@@ -114,19 +114,16 @@ impl<'a, T: BitStore, O: SliceOrder, W: Wanted> Iterator for Places<'a, T, O, W>
     #[tactic(auto, unfolding(crate::specs::Indices::indices_left))]
     fn next(&mut self) -> Option<usize> {
         let mut rest = self.rest;
-        let mut ones = self.ones;
-        let mut edge = self.edge;
+        let mut kept = self.kept;
         let index = take_kept::<T, O>(
             self.view.elements(),
             self.view.window(),
             W::BIT,
             &mut rest,
-            &mut ones,
-            &mut edge,
+            &mut kept,
         );
         self.rest = rest;
-        self.ones = ones;
-        self.edge = edge;
+        self.kept = kept;
         index
     }
 
@@ -152,6 +149,9 @@ impl<'a, T: BitStore, O: SliceOrder, W: Wanted> DoubleEndedIterator for Places<'
         let mut rest = self.rest;
         let index = take_last::<O, Shared<T>>(&mut cells, self.view.window(), W::BIT, &mut rest);
         self.rest = rest;
+        // only indices before the end stay kept
+        let count = rest.back.saturating_sub(self.kept.base).min(64);
+        self.kept.ones = sought_first(self.kept.ones, count, true);
         index
     }
 }

@@ -4,6 +4,8 @@
 #[cfg(test)]
 mod callers;
 #[cfg(test)]
+mod meetings;
+#[cfg(test)]
 mod turns;
 #[cfg(test)]
 mod walks;

@@ -40,6 +40,7 @@ pub trait BitQueries<T: BitStore, O: SliceOrder> {
     }
 
     /// How many bits are 0.
+    #[tactic(auto, using(bitvec_base::specs::CountLaws::ones_and_zeros))]
     fn count_zeros(&self) -> usize
         ensures { result ≡ count_by not (shows self.now).bits }
     {

@@ -1,7 +1,7 @@
 //! One bit of a memory that is borrowed for writing.
 ghost use Rattle.std.specs.Prelude.{◌≡◌, [], ◌∷◌, false, map, slice_index_or};
 ghost use Rattle.bitvec_base.specs.Memory.{HasWindow, Writes, memory_bits};
-ghost use Rattle.bitvec_reference.specs.Places.{bit_window};
+ghost use Rattle.bitvec_base.specs.Window.{bit_window};
 
 use bitvec_base::{BitOrder, Window};
 use bitvec_elements::{bit_in, replace_in, set_in};

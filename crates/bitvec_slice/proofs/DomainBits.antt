@@ -4,27 +4,22 @@ use Rattle.std.proofs.Common.{arith, rules, ◌∙◌, ap}
 use Rattle.std.proofs.lemmas.List.{places, same_lists}
 use Rattle.std.proofs.lemmas.Option.{IfSome_then}
 use Rattle.bitvec_base.specs.Memory.{list_in, memory_bits}
-use Rattle.bitvec_base.specs.MemoryLaws.{element_fits, length-memory_bits}
+use Rattle.bitvec_base.specs.MemoryLaws.{element_fits, length-memory_bits, memory-range}
 use Rattle.bitvec_base.specs.Parts.{part_window}
 use Rattle.bitvec_base.specs.SliceLaws.{range-all, range-map, range-none, range-same}
 use Rattle.bitvec_base.specs.Window.{max_bits, window_of}
 use Rattle.bitvec_base.specs.WriteLaws.{length-slice_range, range-range}
 use Rattle.bitvec_base.specs.declared.part.Part.{Part}
-use Rattle.bitvec_domain.specs.CutLaws.{cut_bits, cut_is, memory-range, part_bits_if, pieces-bits}
+use Rattle.bitvec_domain.specs.CutLaws.{cut_bits, cut_is, part_bits_if, pieces-bits}
 use Rattle.bitvec_domain.specs.Cuts.{IsCutWithin, IsHeadWithin, IsPartWithin, IsTailWithin, cut_of, part_if_from}
 use Rattle.bitvec_domain.specs.Domains.{Pieces, bits_of_pieces, pieces_in}
 use Rattle.bitvec_domain.specs.declared.cut.Cut.{Cut}
 use Rattle.bitvec_domain.specs.declared.cut.Cut.TheVariants.{Inside, Across}
-use Rattle.bitvec_slice.specs.Domains.{IsBitDomain, IsDomain, Views, bits_of_views, region, view_in, view_in_if, views_in}
-use Rattle.bitvec_slice.specs.Seen.{Seen, shown}
+use Rattle.bitvec_store.specs.Width.{IsWidth}
+use Rattle.bitvec_store.specs.WidthLaws.{width_some}
+use Rattle.bitvec_slice.specs.Domains.{IsBitDomain, IsDomain, Views, bits_of_views, view_in, view_in_if, views_in}
+use Rattle.bitvec_slice.specs.Seen.{shown}
 use Rattle.bitvec_slice.specs.SeenLaws.{has_window}
-
--- views that are as long, of the same elements, show the same; so do three views that show the same each
-pub shown-same : {T : Type 0} (b : ℕ) (at : ℕ → ℕ → ℕ) (value : T → ℕ) (xs ys : List T) (s t n m : ℕ) → xs ≡ ys → s ≡ t → n ≡ m → shown b at value xs s n ≡ shown b at value ys t m
-shown-same b at value xs ys s t n m elements start len = rw (elements, start, len) refl
-
-pub region-same : {T : Type 0} (a b c x y z : Seen T) → a ≡ x → b ≡ y → c ≡ z → region a b c ≡ region x y z
-region-same a b c x y z head body tail = rw (head, body, tail) refl
 
 module _ {T : Type 0} (b : ℕ) (at : ℕ → ℕ → ℕ) (value : T → ℕ) (cells : List T) where
   -- the bits of a part, among those of its element
@@ -62,16 +57,16 @@ module _ {T : Type 0} (b : ℕ) (at : ℕ → ℕ → ℕ) (value : T → ℕ) (
       rw (view_if-bits before some (IfSome_then before within.0 (λ part is. is.within)), body-bits start end within.2, view_if-bits after some (IfSome_then after within.3 (λ part is. is.within))) refl
 
   -- what a view is cut into, as views and as pieces of elements
-  module _ (start len : ℕ) (some : 0 < b) (inside : start + len ≤ b * length cells) (bounded : b * length cells ≤ max_bits) where
+  module _ (start len : ℕ) (wide : IsWidth b) (inside : start + len ≤ b * length cells) (bounded : b * length cells ≤ max_bits) where
     pub bit_domain_shown : (views : Views T) → views ≡ views_in b at value cells (cut_of b (shown b at value cells start len).window) → IsBitDomain b at value (shown b at value cells start len) views
     bit_domain_shown views is =
         let window = (shown b at value cells start len).window in
-        let cut = cut_is b at (map value cells) window some (has_window b at value cells start len inside bounded) in
-        record { parts = is; bits = ap bits_of_views is ∙ views-bits (cut_of b window) some cut.within ∙ cut.bits }
+        let cut = cut_is b at (map value cells) window (width_some b wide) (has_window b at value cells start len inside bounded) in
+        record { parts = is; bits = ap bits_of_views is ∙ views-bits (cut_of b window) (width_some b wide) cut.within ∙ cut.bits }
 
     pub domain_shown : (pieces : Pieces T) → pieces ≡ pieces_in b at value cells (cut_of b (shown b at value cells start len).window) → IsDomain b at value (shown b at value cells start len) pieces
     domain_shown pieces is =
-        record { parts = is; bits = ap (bits_of_pieces b at value) is ∙ pieces-bits b at value cells (shown b at value cells start len).window some (has_window b at value cells start len inside bounded) }
+        record { parts = is; bits = ap (bits_of_pieces b at value) is ∙ pieces-bits b at value cells (shown b at value cells start len).window (width_some b wide) (has_window b at value cells start len inside bounded) }
 
   -- the head among the elements before the whole ones, the elements between, and the tail among those behind them
   pub head_view : (start end : ℕ) (part : Option Part) → start ≤ end → end ≤ length cells → IfSome part (IsHeadWithin b (length cells) start)

@@ -1,2 +1,1 @@
 pub mod DomainBits
-pub mod OneBit

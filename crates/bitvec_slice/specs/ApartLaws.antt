@@ -1,17 +1,14 @@
 -- The two halves of a view that is cut at an element's edge.
-use Rattle.std.specs.Prelude.{◌≡◌, ℕ, ◌+◌, ◌-◌, ◌*◌, ◌/◌, ◌%◌, ◌<◌, ◌≤◌, List, drop, length, min, slice_range, take}
+use Rattle.std.specs.Prelude.{◌≡◌, ℕ, ◌+◌, ◌-◌, ◌*◌, ◌/◌, ◌%◌, ◌≤◌, List, drop, length, min, slice_range, take}
 use Rattle.std.proofs.Common.{arith, sym, ◌∙◌, ap}
-use Rattle.std.proofs.lemmas.List.{places, same_lists}
+use Rattle.bitvec_base.specs.SliceLaws.{range-rest, range-to_end}
+use Rattle.bitvec_store.specs.Width.{IsWidth}
 use Rattle.bitvec_slice.specs.Seen.{IsRangeOf, Seen, shown}
 use Rattle.bitvec_slice.specs.SeenLaws.{part_view}
 use Rattle.bitvec_slice.specs.Touched.{end_touched, first_touched, touched}
 
--- what stands from a place on in the front of a list
-front-rest : {X : Type 0} (xs : List X) (a e : ℕ) → slice_range (take e xs) a (length (take e xs)) ≡ slice_range xs a e
-front-rest xs a e = same_lists _ _ (grind (arith, places)) (λ k d inside. grind (arith, places))
-
 module _ {T : Type 0} (b : ℕ) (at : ℕ → ℕ → ℕ) (value : T → ℕ) (cells : List T) (start len : ℕ) (inside : start + len ≤ b * length cells)
-    (part : Seen T) (mid : ℕ) (some : 0 < b) (bound : mid ≤ len) (edge : (start + mid) % b ≡ 0) where
+    (part : Seen T) (mid : ℕ) (wide : IsWidth b) (bound : mid ≤ len) (edge : (start + mid) % b ≡ 0) where
   -- the elements before the one that the index `mid` begins
   abbrev front_of : List T
   front_of = take ((start + mid) / b) cells
@@ -21,13 +18,13 @@ module _ {T : Type 0} (b : ℕ) (at : ℕ → ℕ → ℕ) (value : T → ℕ) (
       let first : start ≡ start + 0 = omega arith in
       let all : mid ≡ mid - 0 = omega arith in
       let last : (start + mid) / b ≡ end_touched b (start + mid) = omega (arith, ap (λ (r : ℕ). min 1 r) edge) in
-      part_view b at value cells start len inside part 0 mid some (omega arith) bound (
-      is ∙ ap (λ (xs : List T). shown b at value xs (start % b) mid) (front-rest cells (start / b) ((start + mid) / b))
+      part_view b at value cells start len inside part 0 mid wide (omega arith) bound (
+      is ∙ ap (λ (xs : List T). shown b at value xs (start % b) mid) (range-to_end front_of (start / b) (length front_of) (omega arith) ∙ range-rest cells (start / b) ((start + mid) / b))
       ∙ ap (λ (s : ℕ). shown b at value (slice_range cells (first_touched b s) ((start + mid) / b)) (s % b) mid) first
       ∙ ap (λ (e : ℕ). shown b at value (slice_range cells (first_touched b (start + 0)) e) ((start + 0) % b) mid) last
       ∙ ap (λ (n : ℕ). shown b at value (touched b cells (start + 0) (start + mid)) ((start + 0) % b) n) all)
 
   pub rest-half : part ≡ shown b at value (take (end_touched b (start + len) - (start + mid) / b) (drop ((start + mid) / b) cells)) 0 (len - mid)
       → IsRangeOf b (shown b at value cells start len) mid len part
-  rest-half is = part_view b at value cells start len inside part mid len some bound (omega arith) (
+  rest-half is = part_view b at value cells start len inside part mid len wide bound (omega arith) (
       is ∙ ap (λ (s : ℕ). shown b at value (touched b cells (start + mid) (start + len)) s (len - mid)) (sym edge))

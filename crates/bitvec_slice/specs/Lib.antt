@@ -2,7 +2,6 @@ pub mod Apart
 pub mod ApartLaws
 pub mod Domains
 pub mod Indices
-pub mod Kept
 pub mod KeptLaws
 pub mod Lending
 pub mod Seen

@@ -1,7 +1,7 @@
 -- The bits that a view shows, of all of a memory, and of a part of a view.
-use Rattle.std.specs.Prelude.{◌≡◌, ℕ, ◌+◌, ◌-◌, ◌*◌, ◌%◌, ◌<◌, ◌≤◌, Bool, cond, List, [], ◌++◌, count_by, drop, length, map, slice_range, take, refl}
+use Rattle.std.specs.Prelude.{◌≡◌, ℕ, ◌+◌, ◌-◌, ◌*◌, ◌%◌, ◌≤◌, Bool, cond, List, [], count_by, length, map, slice_range, refl}
 use Rattle.std.proofs.Common.{arith, sym, ◌∙◌, ap}
-use Rattle.std.proofs.lemmas.List.{length-map, nil_from_length, take-append-drop}
+use Rattle.std.proofs.lemmas.List.{length-map, nil_from_length}
 use Rattle.std.proofs.lemmas.List.Sums.{sum_by-take-drop}
 use Rattle.bitvec_base.specs.Memory.{HasWindow, memory_bits}
 use Rattle.bitvec_base.specs.MemoryLaws.{length-memory_bits}
@@ -9,25 +9,16 @@ use Rattle.bitvec_base.specs.SliceLaws.{range-all, range-from_start, range-map, 
 use Rattle.bitvec_base.specs.Window.{IsWithin, max_bits, window_of}
 use Rattle.bitvec_base.specs.WindowLaws.{length-window}
 use Rattle.bitvec_base.specs.WriteLaws.{range-range}
+use Rattle.bitvec_store.specs.Width.{IsWidth}
+use Rattle.bitvec_store.specs.WidthLaws.{width_some}
 use Rattle.bitvec_slice.specs.Seen.{AreHalves, CoversElements, IsEmpty, IsRangeOf, IsWhole, Seen, shown}
 use Rattle.bitvec_slice.specs.Touched.{touched}
 use Rattle.bitvec_slice.specs.TouchedLaws.{touched-bits}
 
--- a range of a view's bits that begins with the first, and one that ends with the last
-module _ {T : Type 0} {b : ℕ} (view part : Seen T) (n : ℕ) where
-  pub front-bits : IsRangeOf b view 0 n part → part.bits ≡ take n view.bits
-  front-bits is = is.bits ∙ range-from_start view.bits n n refl
-
-  pub rest-bits : (to : ℕ) → length view.bits ≤ to → IsRangeOf b view n to part → part.bits ≡ drop n view.bits
-  rest-bits to whole is = is.bits ∙ range-to_end view.bits n to whole
-
--- two halves of a view: their bits, one after the other, are the view's, and so what of them meets p adds up
-module _ {T : Type 0} {b : ℕ} (view left right : Seen T) (mid : ℕ) (all : length view.bits ≤ view.window.len) (are : AreHalves b view mid left right) where
-  pub halves-bits : left.bits ++ right.bits ≡ view.bits
-  halves-bits = rw (front-bits view left mid are.front, rest-bits view right mid view.window.len all are.rest) (take-append-drop mid view.bits)
-
-  pub halves-count : (p : Bool → Bool) → count_by p left.bits + count_by p right.bits ≡ count_by p view.bits
-  halves-count p = rw (front-bits view left mid are.front, rest-bits view right mid view.window.len all are.rest) (sum_by-take-drop (λ (bit : Bool). cond (p bit) 1 0) view.bits mid)
+-- what of two halves of a view meets p adds up
+pub halves-count : {T : Type 0} {b : ℕ} (view left right : Seen T) (mid : ℕ) → length view.bits ≤ view.window.len → AreHalves b view mid left right → (p : Bool → Bool) → count_by p left.bits + count_by p right.bits ≡ count_by p view.bits
+halves-count view left right mid all are p =
+    rw (are.front.bits, range-from_start view.bits mid mid refl, are.rest.bits, range-to_end view.bits mid view.window.len all) (sum_by-take-drop (λ (bit : Bool). cond (p bit) 1 0) view.bits mid)
 
 module _ {T : Type 0} (b : ℕ) (at : ℕ → ℕ → ℕ) (value : T → ℕ) where
   pub length-memory : (cells : List T) → length (memory_bits b at (map value cells)) ≡ b * length cells
@@ -67,16 +58,16 @@ module _ {T : Type 0} (b : ℕ) (at : ℕ → ℕ → ℕ) (value : T → ℕ) w
     length_bits = length-window (memory_bits b at (map value cells)) (shown b at value cells start len).window within_memory
 
     -- a view of the elements that a range of the bits touches
-    pub part_view : (part : Seen T) (from to : ℕ) → 0 < b → from ≤ to → to ≤ len
+    pub part_view : (part : Seen T) (from to : ℕ) → IsWidth b → from ≤ to → to ≤ len
         → part ≡ shown b at value (touched b cells (start + from) (start + to)) ((start + from) % b) (to - from) → IsRangeOf b (shown b at value cells start len) from to part
     unfolding window_of
-    part_view part from to some order bound is =
+    part_view part from to wide order bound is =
         let xs = map value cells in
         let product = ap (λ (n : ℕ). b * n) (length-map cells value) in
         let long = length-memory cells in
         rw is (record {
           bits = ap (λ (ys : List ℕ). slice_range (memory_bits b at ys) ((start + from) % b) ((start + from) % b + (to - from))) (range-map value cells _ _)
-              ∙ touched-bits b at xs (start + from) (start + to) (to - from) some (omega arith) (omega arith)
+              ∙ touched-bits b at xs (start + from) (start + to) (to - from) (width_some b wide) (omega arith) (omega arith)
               ∙ sym (range-range (memory_bits b at xs) start (start + len) from to (omega arith) (omega arith));
           elements = refl;
           start = refl;

@@ -120,6 +120,7 @@ impl<'a, T: BitStore, O: BitOrder> BitSliceMut<'a, T, O> {
 
     /// The bit at an index for writing, as `get_mut(index)` gives it, for as long as the view was
     /// borrowed. Condition: the index is below `len`. The crate has no such call.
+    #[tactic(auto, using(bitvec_base::specs::WindowLaws::reading))]
     pub fn into_bit(self, index: usize) -> BitRefMut<'a, T, O>
         requires { index < (seen_mut self).window.len }
         ensures { WritesBitOf (seen_mut self.entry) index result }
@@ -130,6 +131,7 @@ impl<'a, T: BitStore, O: BitOrder> BitSliceMut<'a, T, O> {
     /// The bit of a view that has just one, for a call of a crate above. Condition: it has one. The crate
     /// has no such call.
     #[doc(hidden)]
+    #[tactic(auto, using(bitvec_base::specs::WindowLaws::reading))]
     pub fn into_reference(self) -> BitRefMut<'a, T, O>
         requires { (seen_mut self).window.len ≡ 1 }
         ensures bit { bit_of_ref_mut result ≡ slice_index_or (seen_mut self.entry).bits 0 false }

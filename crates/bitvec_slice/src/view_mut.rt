@@ -83,6 +83,7 @@ impl<'a, T: BitStore, O: BitOrder> BitSliceMut<'a, T, O> {
 
     /// Ends a view of all bits of its elements, and gives these back. Condition: it has all of them,
     /// as a view that was made of a slice has, also after edits. The crate has no such call.
+    #[tactic(auto, using(crate::specs::SeenLaws::covered_bits))]
     pub fn into_slice(self) -> &'a mut [T]
         requires { CoversElements T.BITS (seen_mut self) }
         ensures elements { result.now ≡ (seen_mut self.entry).elements }

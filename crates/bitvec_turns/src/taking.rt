@@ -1,5 +1,5 @@
 //! The first and the last place of a bit that a walk has still to come to.
-ghost use Rattle.std.specs.Prelude.{◌≡◌, length};
+ghost use Rattle.std.specs.Prelude.{◌≡◌, ◌≤◌, length};
 ghost use Rattle.std.specs.Iterator.{YieldsFirst, YieldsLast};
 ghost use Rattle.bitvec_base.specs.Memory.{HasWindow, list_in};
 ghost use Rattle.bitvec_turns.specs.Loads.{LoadsPassed};
@@ -53,6 +53,7 @@ pub fn take_last<O: SliceOrder, C: CellsRead>(
     requires inside { IsRestOf rest.old window.len }
     ensures inside { IsRestOf rest.new window.len }
     ensures front { rest.new.front ≡ rest.old.front }
+    ensures back { rest.new.back ≤ rest.old.back }
     ensures gives { YieldsLast (places_left want (list_in C.Elem.BITS O.at (C.numbers cells.old) window)) rest.old result rest.new }
     ensures reads { LoadsPassed C.CellsRead C.Elem.BITS window rest.old rest.new result cells.old cells.new }
 {

@@ -51,7 +51,7 @@ same-then a b c d whole other long left right same =
 
 -- ---- numbers
 
-or_none : (a c : ℕ) → bit_or a c ≡ 0 → a ≡ 0
+pub or_none : (a c : ℕ) → bit_or a c ≡ 0 → a ≡ 0
 or_none a c none =
     same_from_bits a 0 (λ i.
     let either = bit_at_or a c i in
@@ -59,7 +59,7 @@ or_none a c none =
     let zero_bit = bit_at-zero i in
     omega arith)
 
-or_none_right : (a c : ℕ) → bit_or a c ≡ 0 → c ≡ 0
+pub or_none_right : (a c : ℕ) → bit_or a c ≡ 0 → c ≡ 0
 or_none_right a c none =
     same_from_bits c 0 (λ i.
     let either = bit_at_or a c i in

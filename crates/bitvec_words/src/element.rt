@@ -68,6 +68,7 @@ pub fn merged<O: BitOrder, T: BitStore>(old: T, new: T, from: usize, to: usize) 
 
 /// The element with its bits in the reverse order. Cost: for each time that the width can be
 /// halved, one exchange of blocks of its bits.
+#[inline(always)]
 pub fn reversed<O: WordOrder, T: BitStore>(element: T) -> T
     ensures { element_bits T.BITS O.at (T.value result)
         ≡ reverse (element_bits T.BITS O.at (T.value element)) }
@@ -86,6 +87,7 @@ pub fn reversed<O: WordOrder, T: BitStore>(element: T) -> T
 
 /// The element with each bit of `lower` exchanged with the bit `by` places above it. Condition:
 /// `by` is below the width.
+#[inline(always)]
 fn exchanged<T: BitStore>(element: T, lower: T, by: u32) -> T
     requires { by < T.BITS }
     ensures { T.value result ≡ exchanged_bits T.BITS by (T.value lower) (T.value element) }

@@ -18,6 +18,7 @@ pub const WORD_BITS: usize = 64;
 
 /// The number of the lowest of the bits at `len` indices of an element from `from` on. Condition:
 /// the indices are below the width.
+#[inline(always)]
 fn lowest<O: WordOrder, T: BitStore>(from: usize, len: usize) -> usize
     requires { from + len ≤ T.BITS }
     ensures { result ≡ lowest_bit O.HIGH T.BITS from len }
@@ -32,6 +33,7 @@ fn lowest<O: WordOrder, T: BitStore>(from: usize, len: usize) -> usize
 /// The element of the type `U` that has the `len` bits of `element` from index `from` on at its
 /// indices from `to` on, and 0 elsewhere. Condition: the indices are below the widths. Cost: three
 /// shifts.
+#[inline(always)]
 pub fn moved<O: WordOrder, T: BitStore, U: BitStore>(
     element: T,
     from: usize,

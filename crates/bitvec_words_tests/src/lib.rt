@@ -8,6 +8,8 @@ mod commands;
 #[cfg(test)]
 mod costs;
 #[cfg(test)]
+mod fronts;
+#[cfg(test)]
 mod searches;
 #[cfg(test)]
 mod sweeps;

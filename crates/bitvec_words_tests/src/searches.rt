@@ -18,7 +18,7 @@ fn flip<T: BitStore, O: BitOrder>(elements: &mut [T], place: usize) {
 }
 
 /// How many elements a window touches.
-fn touched<T: BitStore>(window: Window) -> u64
+pub(crate) fn touched<T: BitStore>(window: Window) -> u64
     requires start { window.start < 2 ^ 32 }
     requires len { window.len < 2 ^ 32 }
 {

@@ -1,4 +1,4 @@
-use Rattle.bitvec_domain.specs.CutLaws.{middle}
+use Rattle.bitvec_base.specs.SliceLaws.{range-rest}
 use Rattle.bitvec_domain.proofs.Parts.{head_part, tail_part}
 use Rattle.bitvec_domain.proofs.domain_mut.region.Goals as goal
 
@@ -11,6 +11,6 @@ returns g c =
     let front = c.split_at_mut-front.ensures in
     let before = c.split_at_mut-before.ensures in
     let head = head_part b at value xs c.args.start c.args.end c.args.head c.requires.order c.requires.bound c.requires.head in
-    let body = middle xs c.args.start c.args.end c.requires.order in
+    let body = range-rest xs c.args.start c.args.end in
     let tail = tail_part b at value xs c.args.end c.args.tail c.requires.tail in
     rw (c.part_if-head.ensures, c.part_if-tail.ensures, before.front, before.back, front.front, front.back, head, body, tail)

@@ -1,12 +1,12 @@
 use Rattle.std.proofs.Common.{sym, subst, ap, ◌∙◌}
 use Rattle.std.specs.Prelude.{length}
 use Rattle.bitvec_elements.specs.Asked.{FillsWith}
-use Rattle.bitvec_elements.specs.AskedLaws.{callable_below-always}
+use Rattle.bitvec_elements.specs.AskedLaws.{callable-always}
 use Rattle.bitvec_slice.specs.WriteLaws.{whole-written}
 use Rattle.bitvec_edit_tests.proofs.laws.filled_by.Goals as goal
 
 pub fill_with-requires : goal.fill_with-requires
-fill_with-requires g c = callable_below-always _ _ _ c.requires.callable
+fill_with-requires g c = callable-always _ _ _ _ c.requires.callable
 
 pub returns : goal.returns
 returns g c =

@@ -3,7 +3,7 @@ use Rattle.std.specs.List.{range_with_len}
 use Rattle.std.proofs.Common.{arith, rules, sym, ap, ◌∙◌}
 use Rattle.std.proofs.lemmas.List.{length-append}
 use Rattle.std.proofs.lemmas.List.FromFn.{map-range_with_len_more}
-use Rattle.bitvec_elements.specs.AskedLaws.{callable_below-by, filled-keeps}
+use Rattle.bitvec_elements.specs.AskedLaws.{answers-keep, callable-by}
 use Rattle.bitvec_slice.specs.WriteLaws.{whole-written}
 use Rattle.bitvec_edit_tests.specs.contracts.laws.fn.filled_by_count.fill_with as closure
 use Rattle.bitvec_edit_tests.proofs.laws.filled_by_count.Goals as goal
@@ -31,7 +31,7 @@ counted-more done before after bit held counts says =
 pub fill_with-requires : goal.fill_with-requires
 fill_with-requires g c =
     let len = c.from_slice_mut-view.ensures.whole.len in
-    callable_below-by _ (λ done f. Counted (closure.captures f).calls done) (λ done p bit q held call. counted-more done _ _ bit held (search rules) (search rules)) _ _ (record { many = refl; answers = refl })
+    callable-by _ (λ i. (i, tt)) (λ done f. Counted (closure.captures f).calls done) (λ done p bit q held call. counted-more done _ _ bit held (search rules) (search rules)) _ _ (record { many = refl; answers = refl })
     (λ done p held below. omega (arith, held.many, below, len, c.requires))
 
 pub returns : goal.returns
@@ -39,6 +39,6 @@ returns g c =
     let view = c.from_slice_mut-view.ensures.whole in
     let wrote = c.fill_with.ensures in
     let long = wrote.len ∙ view.len in
-    let counted = filled-keeps _ (λ done f. Counted (closure.captures f).calls done) (λ done p bit q held call. counted-more done _ _ bit held (search rules) (search rules)) _ _ (record { many = refl; answers = refl }) wrote.answers in
+    let counted = answers-keep _ (λ i. (i, tt)) (λ done f. Counted (closure.captures f).calls done) (λ done p bit q held call. counted-more done _ _ bit held (search rules) (search rules)) _ _ (record { many = refl; answers = refl }) wrote.answers in
     c.into_slice.ensures.memory ∙ whole-written _ _ _ _ wrote.bits view long
     ∙ counted.1.answers ∙ ap (λ (n : ℕ). map third (range_with_len 0 n)) long

@@ -1,7 +1,7 @@
 use Rattle.std.specs.Prelude.{ℕ, ◌%◌, ◌==◌, Bool, map}
 use Rattle.std.specs.List.{range_with_len}
 use Rattle.std.proofs.Common.{rules, ap, ◌∙◌}
-use Rattle.bitvec_elements.specs.AskedLaws.{filled-by}
+use Rattle.bitvec_elements.specs.AskedLaws.{answers-by}
 use Rattle.bitvec_slice.specs.WriteLaws.{whole-written}
 use Rattle.bitvec_edit_tests.proofs.laws.filled_with_even.Goals as goal
 
@@ -12,4 +12,4 @@ returns g c =
     let long = wrote.len ∙ view.len in
     let even : ℕ → Bool = λ (i : ℕ). i % 2 == 0 in
     c.into_slice.ensures.memory ∙ whole-written _ _ _ _ wrote.bits view long
-    ∙ filled-by _ _ even _ (λ i bit q call. search rules) wrote.answers ∙ ap (λ (n : ℕ). map even (range_with_len 0 n)) long
+    ∙ answers-by _ _ _ even _ (λ i bit q call. search rules) wrote.answers ∙ ap (λ (n : ℕ). map even (range_with_len 0 n)) long

@@ -1,12 +1,12 @@
 use Rattle.std.proofs.Common.{sym, subst, ap, ◌∙◌}
 use Rattle.std.specs.Prelude.{length}
 use Rattle.bitvec_elements.specs.Asked.{RefillsWith}
-use Rattle.bitvec_elements.specs.AskedLaws.{callable_on_bits-always}
+use Rattle.bitvec_elements.specs.AskedLaws.{callable-always}
 use Rattle.bitvec_slice.specs.WriteLaws.{whole-written}
 use Rattle.bitvec_edit_tests.proofs.laws.refilled_by.Goals as goal
 
 pub for_each-requires : goal.for_each-requires
-for_each-requires g c = callable_on_bits-always _ _ _ c.requires.callable
+for_each-requires g c = callable-always _ _ _ _ c.requires.callable
 
 pub returns : goal.returns
 returns g c =

@@ -1,93 +1,64 @@
-use Rattle.std.proofs.Common.{◌-◌, ◌%◌, arith, rules}
+use Rattle.std.proofs.Common.{arith, refl, sym, ◌∙◌, ap}
+use Rattle.bitvec_base.specs.Lists.{first_place}
+use Rattle.bitvec_base.specs.PlacesLaws.{first_place-nil}
 use Rattle.bitvec_store.specs.WidthLaws.{width_some}
-use Rattle.bitvec_walk.specs.WalkLaws.{first_loads-most}
-use Rattle.bitvec_engine.proofs.ScanLemmas.{HasWindow-after, first-behind, first-front, first-inside, first-lacks}
-use Rattle.bitvec_engine.proofs.WordScanLemmas.{HasWindow-front, length-front, list-front, touched-front}
+use Rattle.bitvec_walk.specs.WalkLaws.{passed-none}
+use Rattle.bitvec_engine.proofs.ScanLemmas.{first-inside}
+use Rattle.bitvec_engine.proofs.WordScanLemmas.{first-left, none-left, touched-cut}
 use Rattle.bitvec_engine.proofs.scanning_words.words_scan_first.Goals as goal
 
-pub returns-then-bits-eq-WORD_BITS-clause-reads : goal.returns-then-bits-eq-WORD_BITS-clause-reads
-returns-then-bits-eq-WORD_BITS-clause-reads g c =
+pub loop-rest-init : goal.loop-rest-init
+loop-rest-init g c = record {
+  start = omega arith;
+  end = refl;
+  none = sym (ap (first_place c.args.want) (passed-none g.C.Elem.BitStore.BITS g.O.BitOrder.at _ c.args.window) ∙ first_place-nil c.args.want);
+  numbers = refl;
+  borrow = refl;
+  loads = omega arith;
+  stores = refl;
+}
+
+pub loop-rest-preserved : goal.loop-rest-preserved
+loop-rest-preserved g c =
     let b = g.C.Elem.BitStore.BITS in
-    let most = first_loads-most b g.O.BitOrder.at _ _ c.args.want (width_some b g.met.C.Elem.BitStore.width_law) c.requires in
-    let reads = rw c.bits_scan_first.ensures.value at c.bits_scan_first.ensures.reads in
-    record { numbers = search rules; borrow = search rules; loads = omega arith; stores = search rules }
+    let inv = c.loop-rest.invariant in
+    let front = rw inv.numbers at c.first_in_front-found.ensures in
+    let within = front.within in
+    let start = inv.start in
+    let end = inv.end in
+    let cut = touched-cut b c.loop-rest.rest.start _ c.loop-rest.rest.len (width_some b g.met.C.Elem.BitStore.width_law) within front.edge in
+    rw c.after-rest.ensures (record {
+      start = omega arith;
+      end = omega arith;
+      none = none-left b g.O.BitOrder.at _ c.args.window c.loop-rest.rest c.args.want c.requires start end _ within inv.none (sym c.in_default.is ∙ front.value);
+      numbers = front.reads.numbers ∙ inv.numbers;
+      borrow = front.reads.borrow ∙ inv.borrow;
+      loads = omega arith;
+      stores = front.reads.stores ∙ inv.stores;
+    })
 
 pub returns-in-Some-clause-value : goal.returns-in-Some-clause-value
 returns-in-Some-clause-value g c =
-    let b = g.C.Elem.BitStore.BITS in
-    let some = width_some b g.met.C.Elem.BitStore.width_law in
-    let inside = rw c.BITS-bits.ensures at c.if-inside-eq0.false in
-    let more = rw c.BITS-bits.ensures at c.if-window-bits.false in
-    first-front c.args.want _ _ _ _ (rw (c.range.ensures, c.BITS-bits.ensures) at c.in-Some.ensures.value)
-    (list-front b g.O.BitOrder.at _ _ some c.requires inside (omega arith))
+    let inv = c.loop-rest.invariant in
+    let front = rw inv.numbers at c.first_in_front-found.ensures in
+    first-left g.C.Elem.BitStore.BITS g.O.BitOrder.at _ c.args.window c.loop-rest.rest c.args.want c.requires inv.start inv.end _ front.within inv.none _ (sym c.in-Some.is ∙ front.value)
 
 pub returns-in-Some-clause-reads : goal.returns-in-Some-clause-reads
 returns-in-Some-clause-reads g c =
     let b = g.C.Elem.BitStore.BITS in
-    let at = g.O.BitOrder.at in
-    let some = width_some b g.met.C.Elem.BitStore.width_law in
-    let inside = rw c.BITS-bits.ensures at c.if-inside-eq0.false in
-    let more = rw c.BITS-bits.ensures at c.if-window-bits.false in
-    let all = touched-front b at _ _ some c.requires inside (omega arith) in
-    let most = first_loads-most b at _ _ c.args.want some (HasWindow-front b at _ _ some c.requires inside (omega arith)) in
-    let scan = rw (c.range.ensures, c.BITS-bits.ensures) at c.bits_scan_first-2.ensures in
-    let reads = rw scan.value at scan.reads in
-    record { numbers = search rules; borrow = search rules; loads = omega arith; stores = search rules }
-
-pub returns-in_err-found-clause-value : goal.returns-in_err-found-clause-value
-returns-in_err-found-clause-value g c =
-    let b = g.C.Elem.BitStore.BITS in
-    let some = width_some b g.met.C.Elem.BitStore.width_law in
-    let inside = rw c.BITS-bits.ensures at c.if-inside-eq0.false in
-    let more = rw c.BITS-bits.ensures at c.if-window-bits.false in
-    let none = rw (c.range.ensures, c.BITS-bits.ensures) at c.in_default.ensures in
-    let rest = rw (c.after.ensures, c.BITS-bits.ensures, none.reads.numbers) at c.in_err-found.ensures in
-    rw c.from_residual.ensures (first-lacks c.args.want _ _ _ none.value rest.value (list-front b g.O.BitOrder.at _ _ some c.requires inside (omega arith)))
-
-pub returns-in_err-found-clause-reads : goal.returns-in_err-found-clause-reads
-returns-in_err-found-clause-reads g c =
-    let b = g.C.Elem.BitStore.BITS in
-    let some = width_some b g.met.C.Elem.BitStore.width_law in
-    let inside = rw c.BITS-bits.ensures at c.if-inside-eq0.false in
-    let more = rw c.BITS-bits.ensures at c.if-window-bits.false in
-    let all = touched-front b g.O.BitOrder.at _ _ some c.requires inside (omega arith) in
-    let none = rw (c.range.ensures, c.BITS-bits.ensures) at c.in_default.ensures in
-    let first = none.reads in
-    let rest = rw (c.after.ensures, c.BITS-bits.ensures, first.numbers) at c.in_err-found.ensures in
-    let second = rest.reads in
-    record { numbers = search rules; borrow = search rules; loads = omega arith; stores = search rules }
+    let inv = c.loop-rest.invariant in
+    let front = c.first_in_front-found.ensures in
+    let cut = touched-cut b c.loop-rest.rest.start _ c.loop-rest.rest.len (width_some b g.met.C.Elem.BitStore.width_law) front.within front.edge in
+    record { numbers = front.reads.numbers ∙ inv.numbers; borrow = front.reads.borrow ∙ inv.borrow; loads = omega arith; stores = front.reads.stores ∙ inv.stores }
 
 pub overflow_add-result : goal.overflow_add-result
 overflow_add-result g c =
     let b = g.C.Elem.BitStore.BITS in
-    let more = rw c.BITS-bits.ensures at c.if-window-bits.false in
-    let none = rw (c.range.ensures, c.BITS-bits.ensures) at c.in_default.ensures in
-    let rest = rw (c.after.ensures, c.BITS-bits.ensures, none.reads.numbers) at c.in_ok-found.ensures in
-    let below = first-inside b g.O.BitOrder.at _ _ c.args.want _ (HasWindow-after b _ c.args.window (b - c.args.window.start % b) c.requires (omega arith)) rest.value in
+    let at = g.O.BitOrder.at in
+    let inv = c.loop-rest.invariant in
+    let front = rw inv.numbers at c.first_in_front-found.ensures in
+    let found = first-left b at _ c.args.window c.loop-rest.rest c.args.want c.requires inv.start inv.end _ front.within inv.none _ (sym c.in-Some.is ∙ front.value) in
+    let below = first-inside b at _ c.args.window c.args.want _ c.requires found in
     let fits = c.requires.fits in
     let bound = c.requires.within.len in
-    rw c.BITS-bits.ensures (omega arith)
-
-pub returns-clause-value : goal.returns-clause-value
-returns-clause-value g c =
-    let b = g.C.Elem.BitStore.BITS in
-    let at = g.O.BitOrder.at in
-    let some = width_some b g.met.C.Elem.BitStore.width_law in
-    let inside = rw c.BITS-bits.ensures at c.if-inside-eq0.false in
-    let more = rw c.BITS-bits.ensures at c.if-window-bits.false in
-    let none = rw (c.range.ensures, c.BITS-bits.ensures) at c.in_default.ensures in
-    let rest = rw (c.after.ensures, c.BITS-bits.ensures, none.reads.numbers) at c.in_ok-found.ensures in
-    rw c.BITS-bits.ensures (first-behind c.args.want _ _ _ _ _ none.value rest.value (length-front b at _ _ some c.requires inside (omega arith)) (list-front b at _ _ some c.requires inside (omega arith)))
-
-pub returns-clause-reads : goal.returns-clause-reads
-returns-clause-reads g c =
-    let b = g.C.Elem.BitStore.BITS in
-    let some = width_some b g.met.C.Elem.BitStore.width_law in
-    let inside = rw c.BITS-bits.ensures at c.if-inside-eq0.false in
-    let more = rw c.BITS-bits.ensures at c.if-window-bits.false in
-    let all = touched-front b g.O.BitOrder.at _ _ some c.requires inside (omega arith) in
-    let none = rw (c.range.ensures, c.BITS-bits.ensures) at c.in_default.ensures in
-    let first = none.reads in
-    let rest = rw (c.after.ensures, c.BITS-bits.ensures, first.numbers) at c.in_ok-found.ensures in
-    let second = rest.reads in
-    record { numbers = search rules; borrow = search rules; loads = omega arith; stores = search rules }
+    omega arith

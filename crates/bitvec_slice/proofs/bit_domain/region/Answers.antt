@@ -1,7 +1,7 @@
 use Rattle.std.specs.Prelude.{◌≡◌, ℕ, ◌-◌, ◌*◌, drop, length, take}
 use Rattle.std.proofs.Common.{arith, ◌∙◌, ap, length-drop, length-take}
-use Rattle.bitvec_domain.specs.CutLaws.{middle}
-use Rattle.bitvec_slice.proofs.DomainBits.{head_view, region-same, shown-same, tail_view}
+use Rattle.bitvec_base.specs.SliceLaws.{range-rest}
+use Rattle.bitvec_slice.proofs.DomainBits.{head_view, tail_view}
 use Rattle.bitvec_slice.proofs.bit_domain.region.Goals as goal
 
 pub returns : goal.returns
@@ -19,7 +19,8 @@ returns g c =
     let order = cut.1 in
     let bound = cut.2 in
     let long : length (drop start (take end cells)) ≡ end - start = omega (arith, length-drop start (take end cells), length-take end cells) in
-    region-same _ _ _ _ _ _
-    ((rw (before.front, front.front) at c.part_view_if_mut-head.ensures) ∙ head_view b at value cells start end c.args.head order bound cut.0)
-    (shown-same b at value _ _ _ _ _ _ (whole.elements ∙ middle cells start end order) whole.start (whole.len ∙ ap (λ (n : ℕ). b * n) long))
-    ((rw front.back at c.part_view_if_mut-tail.ensures) ∙ tail_view b at value cells end c.args.tail cut.3)
+    let size = ap (λ (n : ℕ). b * n) long in
+    let elements = whole.elements ∙ range-rest cells start end in
+    let first = (rw (before.front, front.front) at c.part_view_if_mut-head.ensures) ∙ head_view b at value cells start end c.args.head order bound cut.0 in
+    let last = (rw front.back at c.part_view_if_mut-tail.ensures) ∙ tail_view b at value cells end c.args.tail cut.3 in
+    cc

@@ -23,6 +23,7 @@ returns-in-Some g c =
     record {
       inside = record { order = omega arith; bound = search rules };
       front = search rules;
+      back = omega arith;
       gives = last-taken b g.O.BitOrder.at _ c.args.window c.args.rest.now c.args.want c.requires.window c.requires.inside _ found;
       reads = record { numbers = search rules; borrow = search rules; loads = omega arith; stores = search rules };
     }

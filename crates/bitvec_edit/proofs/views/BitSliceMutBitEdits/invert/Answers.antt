@@ -1,6 +1,5 @@
-use Rattle.std.proofs.Common.{rules}
 use Rattle.bitvec_slice.specs.WriteLaws.{written}
 use Rattle.bitvec_edit.proofs.views.BitSliceMutBitEdits.invert.Goals as goal
 
 pub returns : goal.returns
-returns g c = written _ _ _ _ _ _ c.invert_in.ensures.writes c.elements_mut.ensures.elements c.window-window.ensures.value (search rules)
+returns g c = written _ _ _ _ _ _ c.invert_in.ensures.writes c.elements_mut.ensures.elements c.window-window.ensures.value (cc)

@@ -1,5 +1,4 @@
 use Rattle.std.proofs.Common.{refl, rules}
-use Rattle.bitvec_store.specs.WidthLaws.{width_some}
 use Rattle.bitvec_slice.specs.SeenLaws.{part_view}
 use Rattle.bitvec_slice.proofs.view_mut.BitSliceMut.part_mut.Goals as goal
 
@@ -9,7 +8,7 @@ returns g c =
       (search rules, λ w. rw (c.touched-cells.ensures.first, c.touched-cells.ensures.end, c.window.ensures.value, c.window-2.ensures.value) refl),
       record {
         writes_back = tt;
-        part = part_view _ _ _ v.elements.now v.head v.len v.inside _ c.args.range.start c.args.range.end (width_some _ g.met.T.BitStore.width_law) c.requires.0 c.requires.1
+        part = part_view _ _ _ v.elements.now v.head v.len v.inside _ c.args.range.start c.args.range.end g.met.T.BitStore.width_law c.requires.0 c.requires.1
             (rw (c.elements_part_mut-elements.ensures.elements, c.touched-cells.ensures.first, c.touched-cells.ensures.end, c.window.ensures.value, c.window-2.ensures.value, c.BITS.ensures) at c.from_parts.ensures.view);
       },
     )

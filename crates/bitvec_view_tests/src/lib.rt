@@ -1,0 +1,33 @@
+//! Questions to views, their order, hash and texts, copies and repeats, and splits: callers, and
+//! what no clause says.
+#![tactic(auto)]
+
+#[cfg(test)]
+mod asked;
+#[cfg(test)]
+mod callers;
+#[cfg(test)]
+mod comparing;
+#[cfg(test)]
+mod copies;
+#[cfg(test)]
+mod hashing;
+#[cfg(test)]
+mod laws;
+#[cfg(test)]
+mod lent;
+#[cfg(test)]
+mod needles;
+#[cfg(test)]
+mod pieces;
+#[cfg(test)]
+mod refusals;
+#[cfg(test)]
+mod repeats;
+#[cfg(test)]
+mod scans;
+#[cfg(test)]
+mod texts;
+
+#[cfg(test)]
+pub use callers::before_one;
