@@ -4,22 +4,22 @@
 
 use bitdo_work::work;
 use std::env;
-use std::io::{self, ErrorKind};
+use std::io::{self, BufWriter, ErrorKind, Input};
 use std::process::ExitCode;
 use std::rt::Env;
 
-/// The words after the program's name.
-fn words<R: Env + AllocGlobal>(rt: &R) -> io::Result<Vec<String>> {
-    Ok(env::args(rt)?.skip(1).collect(rt.alloc())?)
+/// The status of the work on the words after the program's name and the standard streams. A reply
+/// is written in parts, so what is written is gathered.
+fn status<R: Env + Input + Print + AllocGlobal>(rt: &R) -> io::Result<u8> {
+    let words: Vec<String> = env::args(rt)?.skip(1).collect(rt.alloc())?;
+    let mut input = rt.reader();
+    let mut output = BufWriter::new(rt.alloc(), io::writer(rt))?;
+    Ok(work(rt.alloc(), words.as_slice(), &mut input, &mut output))
 }
 
 fn main(rt: HostRuntime) -> ExitCode {
-    let (line, status) = match words(&rt) {
-        Ok(words) => {
-            let mut input = rt.reader();
-            let mut output = io::writer(&rt);
-            return ExitCode::from(work(rt.alloc(), words.as_slice(), &mut input, &mut output));
-        }
+    let (line, status) = match status(&rt) {
+        Ok(status) => return ExitCode::from(status),
         Err(error) if error.kind() == ErrorKind::OutOfMemory => ("run error: memory", 3),
         Err(_) => ("bad arguments", 2),
     };

@@ -1,6 +1,5 @@
 //! What each command answers and leaves.
-use crate::support::expect;
-use std::process::Abort;
+use crate::support::{expect, expect_run};
 use std::test::Fail;
 
 #[test]
@@ -38,26 +37,6 @@ fn commands_work_on_their_own_bits(rt: HostRuntime) -> Result<(), Fail> {
     Ok(())
 }
 
-/// Asserts that the lines of one run are answered so, and that it leaves this memory.
-fn expect_run<R: Abort + AllocGlobal>(
-    rt: &R,
-    args: &str,
-    lines: &[(&str, &str)],
-    memory: &str,
-) -> Result<(), Fail> {
-    let mut input = String::new(rt.alloc());
-    let mut printed = String::new(rt.alloc());
-    for (line, reply) in lines {
-        input.push_str(line)?;
-        input.push('\n')?;
-        printed.push_str(reply)?;
-        printed.push('\n')?;
-    }
-    printed.push_str(memory)?;
-    printed.push('\n')?;
-    expect(rt, args, input.as_str(), 0, printed.as_str())
-}
-
 #[test]
 fn commands_ask_beside_a_right_window(rt: HostRuntime) -> Result<(), Fail> {
     let lines = [
@@ -90,6 +69,12 @@ fn commands_change_by_a_right_window(rt: HostRuntime) -> Result<(), Fail> {
         ("0 8 rotate_left 3", "done"),
     ];
     expect_run(&rt, "8 msb0 F0 A0 0 8", &lines, "= 80")?;
+    for (commands, printed) in [
+        ("0 3 copy_from 0 3", "done\n= B0\n"),
+        ("0 3 copy_from 0 3\n0 8 xor 0 3", "done\ndone\n= 10\n"),
+    ] {
+        expect(&rt, "8 msb0 F0 A0 0 8", commands, 0, printed)?;
+    }
     for (command, printed) in [
         ("0 4 and 0 2", "done\n= 03\n"),
         ("0 4 or 1 3", "done\n= 0B\n"),

@@ -74,13 +74,27 @@ fn an_input_is_text_before_its_first_line(rt: HostRuntime) -> Result<(), Fail> {
         b"\xFF".as_slice(),
         b"no line\n\xC3".as_slice(),
         b"0 8 get 0\n\xED\xA0\x80\n".as_slice(),
+        b"0 8 get 0\n\xE2\x82".as_slice(),
+        b"0 8 get 0\n\xF0\x9F\x98".as_slice(),
     ] {
-        let mut input = given;
+        let mut input = OneByteReader::new(given);
         let mut output = Vec::new(rt.alloc());
         let ended = status(rt.alloc(), args.as_slice(), &mut input, &mut output);
         assert_eq!(rt; output.as_slice(), b"bad input\n".as_slice());
         assert_eq!(rt; ended, 2);
     }
+    Ok(())
+}
+
+/// A character of the input may come in several reads.
+#[test]
+fn a_character_may_be_cut_by_reads(rt: HostRuntime) -> Result<(), Fail> {
+    let args = words(rt.alloc(), ARGS)?;
+    let mut input = OneByteReader::new(b"0 8 get 0\n\xE2\x82\xAC\n");
+    let mut output = Vec::new(rt.alloc());
+    let ended = status(rt.alloc(), args.as_slice(), &mut input, &mut output);
+    assert_eq!(rt; output.as_slice(), b"bad line 2\n".as_slice());
+    assert_eq!(rt; ended, 2);
     Ok(())
 }
 

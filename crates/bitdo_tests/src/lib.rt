@@ -8,6 +8,8 @@ mod commands;
 #[cfg(test)]
 mod faults;
 #[cfg(test)]
+mod growth;
+#[cfg(test)]
 mod lines;
 #[cfg(test)]
 mod refusals;

@@ -1,6 +1,6 @@
 //! When a step is refused, with numbers up to the greatest of a line, which is 18446744073709551615:
 //! with 1 more its sum would be 0, if it wrapped.
-use crate::support::expect;
+use crate::support::{expect, expect_run};
 use std::process::Abort;
 use std::test::Fail;
 
@@ -143,4 +143,24 @@ fn the_last_that_fits_is_not_refused(rt: HostRuntime) -> Result<(), Fail> {
         expect(&rt, ARGS, line, 0, printed)?;
     }
     Ok(())
+}
+
+#[test]
+fn refused_lines_leave_the_memory_alone_and_together(rt: HostRuntime) -> Result<(), Fail> {
+    let args = "8 lsb0 5A 00 0 8";
+    let lines = [
+        ("5 3 invert", "refused range"),
+        ("0 18446744073709551615 fill 1", "refused range"),
+        ("0 8 get 18446744073709551615", "refused index"),
+        ("0 8 copy_within 0 4 18446744073709551615", "refused dest"),
+        ("0 8 copy_within 4 2 0", "refused source"),
+        ("0 8 or 18446744073709551615 1", "refused right"),
+        ("0 8 copy_from 1 18446744073709551615", "refused right"),
+        ("0 8 rotate_right 9", "refused amount"),
+        ("8 8 shift_end 0", "done"),
+    ];
+    for line in lines {
+        expect_run(&rt, args, &[line], "= 5A")?;
+    }
+    expect_run(&rt, args, &lines, "= 5A")
 }

@@ -84,6 +84,9 @@ fn a_run_that_is_not_made_prints_no_reply(rt: HostRuntime) -> Result<(), Fail> {
         "8 lsb0 00 - 8 1",
         "8 lsb0 00 - 9 0",
         "8 lsb0 - - 0 1",
+        "8 lsb0 00 - 18446744073709551615 0",
+        "8 lsb0 00 - 18446744073709551615 1",
+        "8 lsb0 00 - 1 18446744073709551615",
         "8 lsb0 00 - 18446744073709551615 18446744073709551615",
     ] {
         expect(&rt, args, "", 3, "run error: window\n")?;

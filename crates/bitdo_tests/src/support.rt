@@ -41,3 +41,23 @@ pub(crate) fn expect<R: Abort + AllocGlobal>(
     assert_eq!(rt; got, ended, "on {input:?}");
     Ok(())
 }
+
+/// Asserts that the lines of one run are answered so, and that it leaves this memory.
+pub(crate) fn expect_run<R: Abort + AllocGlobal>(
+    rt: &R,
+    args: &str,
+    lines: &[(&str, &str)],
+    memory: &str,
+) -> Result<(), Fail> {
+    let mut input = String::new(rt.alloc());
+    let mut printed = String::new(rt.alloc());
+    for (line, reply) in lines {
+        input.push_str(line)?;
+        input.push('\n')?;
+        printed.push_str(reply)?;
+        printed.push('\n')?;
+    }
+    printed.push_str(memory)?;
+    printed.push('\n')?;
+    expect(rt, args, input.as_str(), 0, printed.as_str())
+}

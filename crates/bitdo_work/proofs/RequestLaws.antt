@@ -1,6 +1,6 @@
 -- What is asked for, by the texts of the memories, and the faults that follow.
 use Rattle.std.proofs.Common.{◌≡◌, ℕ, ◌&&◌, List, Option, Some, None, is_some, IsSome, ◌⊎◌, inl, inr, refl, ap}
-use Rattle.bitvec_base.specs.declared.window.Window.{Window}
+use Rattle.bitvec_run.specs.base.declared.window.Window.{Window}
 use Rattle.bitvec_run.specs.declared.command.Reply.{Reply}
 use Rattle.bitvec_run.specs.declared.command.RunError.{RunError}
 use Rattle.bitvec_run.specs.declared.command.Step.{Step}

@@ -3,7 +3,7 @@ ghost use Rattle.std.specs.Prelude.{◌≡◌, ◌∷◌, [], map, string_bytes,
 ghost use Rattle.bitdo_work.specs.Arguments.{own_request, request_of};
 
 use crate::words::parse_number;
-use bitvec_base::Window;
+use bitvec_run::base::Window;
 
 /// The six arguments. All but the window are still words: the width and the order choose what runs,
 /// and the memories are read by the width.

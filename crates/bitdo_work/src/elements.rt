@@ -6,7 +6,7 @@ ghost use Rattle.std.specs.Option.{option_map};
 ghost use Rattle.bitdo_work.specs.Elements.{hexadecimal_of, element_of, elements_of};
 
 use crate::fault::Fault;
-use bitvec_store::BitStore;
+use bitvec_run::store::BitStore;
 use std::alloc::Allocator;
 
 /// Whether each byte is a hexadecimal digit, in either case.

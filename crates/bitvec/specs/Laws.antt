@@ -1,22 +1,22 @@
 -- What callers name by `using`: a set of laws for each kind of call.
 use Rattle.std.proofs.lemmas.Grind.{get_or-set_at}
 use Rattle.std.proofs.lemmas.List.{get_or-replicate, get_or-set_other, length-set, reverse-reverse}
-use Rattle.bitvec_base.specs.CountLaws.{ones_and_zeros}
-use Rattle.bitvec_base.specs.CountedLaws.{ones-all, ones-fewer, ones-flipped, ones-front, ones-more, ones-none, ones-rest, ones-reversed, ones-rotated_left, ones-rotated_right, ones-whole, zeros-all, zeros-fewer, zeros-flipped, zeros-more, zeros-none, zeros-reversed, zeros-rotated_left, zeros-rotated_right}
-use Rattle.bitvec_base.specs.FillLaws.{flip-undoes}
-use Rattle.bitvec_base.specs.FilledLaws.{all-filled, any-filled, bits-zeros, equal-same, first-filled, first-of_filled, last-filled, same-equal}
-use Rattle.bitvec_base.specs.PlacesLaws.{first_place-absent, first_place-before, first_place-below, first_place-bit, last_place-absent, last_place-after, last_place-below, last_place-bit}
-use Rattle.bitvec_base.specs.RotationLaws.{rotated_left-undoes, rotated_right-undoes}
-use Rattle.bitvec_walk.specs.CostLaws.{enough}
+use Rattle.bitvec_owned.specs.edit.base.CountLaws.{ones_and_zeros}
+use Rattle.bitvec_owned.specs.edit.base.CountedLaws.{ones-all, ones-fewer, ones-flipped, ones-front, ones-more, ones-none, ones-rest, ones-reversed, ones-rotated_left, ones-rotated_right, ones-whole, zeros-all, zeros-fewer, zeros-flipped, zeros-more, zeros-none, zeros-reversed, zeros-rotated_left, zeros-rotated_right}
+use Rattle.bitvec_owned.specs.edit.base.FillLaws.{flip-undoes}
+use Rattle.bitvec_owned.specs.edit.base.FilledLaws.{all-filled, any-filled, bits-zeros, equal-same, first-filled, first-of_filled, last-filled, same-equal}
+use Rattle.bitvec_owned.specs.edit.base.PlacesLaws.{first_place-absent, first_place-before, first_place-below, first_place-bit, last_place-absent, last_place-after, last_place-below, last_place-bit}
+use Rattle.bitvec_owned.specs.edit.base.RotationLaws.{rotated_left-undoes, rotated_right-undoes}
+use Rattle.bitvec_owned.specs.edit.walk.CostLaws.{enough}
 use Rattle.bitvec_field.specs.IntegersLaws.{remainder-narrow}
 use Rattle.bitvec_iter.specs.JoinLaws.{joining as chunks}
 use Rattle.bitvec_iter.specs.Laws.{walked as walks}
-use Rattle.bitvec_segments.specs.LoadLaws.{loaded-one}
-use Rattle.bitvec_segments.specs.StoreLaws.{loaded_be-stores, loaded_le-stores, stored_be-loads, stored_le-loads}
-use Rattle.bitvec_slice.specs.SeenLaws.{length_bits}
-use Rattle.bitvec_store.specs.WidthLaws.{width_some}
-use Rattle.bitvec_traits.specs.FeedingLaws.{fed_same}
-use Rattle.bitvec_traits.specs.OrderLaws.{ordered as orders}
+use Rattle.bitvec_field.specs.segments.LoadLaws.{loaded-one}
+use Rattle.bitvec_field.specs.segments.StoreLaws.{loaded_be-stores, loaded_le-stores, stored_be-loads, stored_le-loads}
+use Rattle.bitvec_owned.specs.edit.slice.SeenLaws.{length_bits}
+use Rattle.bitvec_owned.specs.edit.store.WidthLaws.{width_some}
+use Rattle.bitvec_owned.specs.edit.traits.FeedingLaws.{fed_same}
+use Rattle.bitvec_owned.specs.edit.traits.OrderLaws.{ordered as orders}
 
 -- a view has as many bits as its window
 pub ruleset lengths = (length_bits)

@@ -1,5 +1,5 @@
 //! The elements that a view touches, and a view cut at their edges.
-pub use bitvec_domain::{
+pub use bitvec_owned::edit::domain::{
     Cut, Domain, DomainMut, PartialElement, PartialElementMut, domain_mut_of, domain_of,
 };
-pub use bitvec_slice::{BitDomain, BitDomainMut};
+pub use bitvec_owned::edit::slice::{BitDomain, BitDomainMut};

@@ -1,17 +1,17 @@
 //! What most programs use.
-pub use bitvec_base::{BitOrder, HiLo, Lsb0, Msb0};
-pub use bitvec_edit::BitEdits;
-pub use bitvec_engine::SliceOrder;
 pub use bitvec_field::{BitField, BitFieldMut, FieldOrder, Integral};
 pub use bitvec_iter::IterCalls;
 pub use bitvec_lent::PieceCallsMut;
 pub use bitvec_ones::OnesCalls;
-pub use bitvec_owned::{BitVec, ToBitVec};
-pub use bitvec_pieces::EditParts;
-pub use bitvec_query::BitQueries;
-pub use bitvec_slice::{
+pub use bitvec_ones::query::BitQueries;
+pub use bitvec_owned::edit::BitEdits;
+pub use bitvec_owned::edit::base::{BitOrder, HiLo, Lsb0, Msb0};
+pub use bitvec_owned::edit::engine::SliceOrder;
+pub use bitvec_owned::edit::slice::{
     BitDomain, BitDomainMut, BitRef, BitRefMut, BitSlice, BitSliceIndex, BitSliceMut, Domain,
     DomainMut,
 };
+pub use bitvec_owned::edit::store::BitStore;
+pub use bitvec_owned::{BitVec, ToBitVec};
+pub use bitvec_pieces::EditParts;
 pub use bitvec_split::{SplitCalls, SplitCallsMut};
-pub use bitvec_store::BitStore;

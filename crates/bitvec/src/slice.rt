@@ -1,5 +1,4 @@
 //! Views of bits, their indices, their walks and pieces, and the traits of their questions and edits.
-pub use bitvec_edit::BitEdits;
 pub use bitvec_iter::{
     Chunks, ChunksExact, Cutting, ExactCutting, InChunks, InChunksFromEnd, InExactChunks,
     InExactChunksFromEnd, InWindows, IterCalls, Pieces, RChunks, RChunksExact, Windows,
@@ -8,14 +7,15 @@ pub use bitvec_lent::{
     ChunksExactMut, ChunksMut, HalvesMut, IterMut, PieceCallsMut, PiecesMut, RChunksExactMut,
     RChunksMut,
 };
+pub use bitvec_ones::query::BitQueries;
 pub use bitvec_ones::{IterOnes, IterZeros, Ones, OnesCalls, Places, Wanted, Zeros};
 pub use bitvec_owned::ToBitVec;
-pub use bitvec_pieces::EditParts;
-pub use bitvec_query::BitQueries;
-pub use bitvec_slice::{
+pub use bitvec_owned::edit::BitEdits;
+pub use bitvec_owned::edit::slice::{
     BitRefIter, BitSlice, BitSliceIndex, BitSliceMut, BitValIter, Iter, Viewed, ViewedMut,
     from_mut, from_ref,
 };
+pub use bitvec_pieces::EditParts;
 pub use bitvec_split::{
     Forward, Inclusive, RSplit, RSplitMut, RSplitN, RSplitNMut, Reversed, Split, SplitCalls,
     SplitCallsMut, SplitInclusive, SplitInclusiveMut, SplitMut, SplitN, SplitNMut, Splits,

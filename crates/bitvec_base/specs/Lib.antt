@@ -31,3 +31,4 @@ pub mod Window
 pub mod WindowLaws
 pub mod WriteLaws
 pub mod WritesLaws
+pub use Rattle.bitvec_store.specs as store

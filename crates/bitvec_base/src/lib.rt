@@ -10,6 +10,11 @@ mod part;
 mod span_error;
 mod window;
 
+/// What crates above name of `bitvec_store`.
+pub mod store {
+    pub use bitvec_store::BitStore;
+}
+
 pub use hi_lo::HiLo;
 pub use lsb0::Lsb0;
 pub use msb0::Msb0;

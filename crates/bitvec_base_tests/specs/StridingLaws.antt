@@ -1,9 +1,9 @@
 -- Why the tests' order is lawful.
 use Rattle.std.specs.Prelude.{ℕ}
 use Rattle.std.proofs.Common.{arith}
-use Rattle.bitvec_base.specs.Order.{Permutes}
-use Rattle.bitvec_store.specs.Width.{IsWidth}
-use Rattle.bitvec_store.specs.WidthLaws.{at_each_width}
+use Rattle.bitvec_test_support.specs.base.Order.{Permutes}
+use Rattle.bitvec_test_support.specs.store.Width.{IsWidth}
+use Rattle.bitvec_test_support.specs.store.WidthLaws.{at_each_width}
 use Rattle.bitvec_base_tests.specs.Striding.{striding}
 
 pub striding_permutes : (b : ℕ) → IsWidth b → Permutes b (striding b)

@@ -1,9 +1,9 @@
 //! What a caller knows of its slices after a call through accessors.
 ghost use Rattle.std.specs.Prelude.{◌≡◌, ◌+◌, ◌<◌, ◌≤◌, length, map, slice_index, slice_set};
 
-use bitvec_cells::{Cells, CellsRead, Exclusive, Shared};
-use bitvec_store::BitStore;
 use bitvec_test_support::Counted;
+use bitvec_test_support::cells::{Cells, CellsRead, Exclusive, Shared};
+use bitvec_test_support::store::BitStore;
 
 fn copy_first<C: Cells>(cells: &mut C, index: usize)
     requires { index < length (C.numbers cells.old) }

@@ -1,7 +1,7 @@
 //! The operations of `BitStore` by value, at each width.
 ghost use Rattle.std.specs.Prelude.{◌<◌};
 
-use bitvec_store::BitStore;
+use bitvec_test_support::store::BitStore;
 use std::process::Abort;
 
 /// What the operations are to give of two elements and a number of bits to move by.

@@ -1,12 +1,12 @@
 //! What a caller knows of the elements that a write of bits left out.
 ghost use Rattle.std.specs.Prelude.{◌≡◌, ℕ, ◌<◌, length, map, slice_index};
-ghost use Rattle.bitvec_base.specs.Memory.{memory_bits, element_bits};
-ghost use Rattle.bitvec_store.specs.Width.{FitWidth};
-ghost use Rattle.bitvec_base.specs.Window.{write_at};
+ghost use Rattle.bitvec_test_support.specs.base.Memory.{memory_bits, element_bits};
+ghost use Rattle.bitvec_test_support.specs.store.Width.{FitWidth};
+ghost use Rattle.bitvec_test_support.specs.base.Window.{write_at};
 
 use crate::accessors::set_first_to;
-use bitvec_base::{BitOrder, HiLo};
-use bitvec_store::BitStore;
+use bitvec_test_support::base::{BitOrder, HiLo};
+use bitvec_test_support::store::BitStore;
 
 /// Stores an element, and says so by bits alone.
 fn store_first<T: BitStore, O: BitOrder>(cells: &mut [T], element: T)

@@ -1,7 +1,7 @@
 //! The bit orders by value: `at`, `select` and `mask` at several widths.
 use crate::striding::Striding;
-use bitvec_base::{BitOrder, HiLo, Lsb0, Msb0};
-use bitvec_store::BitStore;
+use bitvec_test_support::base::{BitOrder, HiLo, Lsb0, Msb0};
+use bitvec_test_support::store::BitStore;
 use std::process::Abort;
 
 /// The number of the bit at an index, and the number of the element that has it alone.

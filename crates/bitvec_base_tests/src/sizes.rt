@@ -1,5 +1,5 @@
 //! The counts of an accessor take no bytes.
-use bitvec_cells::{Exclusive, Shared};
+use bitvec_test_support::cells::{Exclusive, Shared};
 use std::mem::size_of;
 
 #[test]

@@ -2,8 +2,8 @@
 ghost use Rattle.bitvec_base_tests.specs.Striding.{striding};
 ghost use Rattle.bitvec_base_tests.specs.StridingLaws.{striding_permutes};
 
-use bitvec_base::BitOrder;
-use bitvec_store::BitStore;
+use bitvec_test_support::base::BitOrder;
+use bitvec_test_support::store::BitStore;
 
 /// The order in which index `i` is bit `(3 * i + 1) % BITS`.
 pub struct Striding;

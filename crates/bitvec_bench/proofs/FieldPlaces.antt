@@ -5,13 +5,13 @@ use Rattle.std.proofs.Common.{add-one, arith, sym, ◌∙◌, ap, length-append}
 use Rattle.std.proofs.lemmas.List.FromFn.{map-range_with_len_more}
 use Rattle.std.proofs.lemmas.List.Sums.{fold-append}
 use Rattle.std.proofs.Math.Nat.{mod-eq_of_lt}
-use Rattle.bitvec_base.specs.Memory.{HasWindow, list_in, memory_bits}
-use Rattle.bitvec_base.specs.Window.{write_at}
-use Rattle.bitvec_base.specs.WriteLaws.{write_at-next, write_at-nil}
-use Rattle.bitvec_base.specs.WritesLaws.{list-range}
-use Rattle.bitvec_segments.specs.PlainLaws.{loaded_be-plain, loaded_le-plain, stored_be-plain, stored_le-plain}
-use Rattle.bitvec_segments.specs.Segments.{loaded_be, loaded_le, segment_bits, segment_number, stored_be, stored_le}
-use Rattle.bitvec_segments.specs.StoreLaws.{length-segment_bits}
+use Rattle.bitvec_field.specs.base.Memory.{HasWindow, list_in, memory_bits}
+use Rattle.bitvec_field.specs.base.Window.{write_at}
+use Rattle.bitvec_field.specs.base.WriteLaws.{write_at-next, write_at-nil}
+use Rattle.bitvec_field.specs.base.WritesLaws.{list-range}
+use Rattle.bitvec_field.specs.segments.PlainLaws.{loaded_be-plain, loaded_le-plain, stored_be-plain, stored_le-plain}
+use Rattle.bitvec_field.specs.segments.Segments.{loaded_be, loaded_le, segment_bits, segment_number, stored_be, stored_le}
+use Rattle.bitvec_field.specs.segments.StoreLaws.{length-segment_bits}
 use Rattle.bitvec_bench.specs.Bits.{place, wrapped_sum}
 use Rattle.bitvec_bench.specs.Fields.{field_numbers, numbered_fields}
 use Rattle.bitvec_bench.proofs.Places.{part_bits}

@@ -2,9 +2,9 @@
 use Rattle.std.specs.Prelude.{◌≡◌, ℕ, ◌+◌, ◌-◌, ◌*◌, ◌≤◌, Bool, List, map, slice_range}
 use Rattle.std.proofs.Common.{arith, ◌∙◌, ap}
 use Rattle.std.proofs.lemmas.List.{length-map}
-use Rattle.bitvec_base.specs.Lists.{FitsWithin}
-use Rattle.bitvec_base.specs.Memory.{HasWindow, list_in, memory_bits}
-use Rattle.bitvec_base.specs.Window.{window_of}
+use Rattle.bitvec_field.specs.base.Lists.{FitsWithin}
+use Rattle.bitvec_field.specs.base.Memory.{HasWindow, list_in, memory_bits}
+use Rattle.bitvec_field.specs.base.Window.{window_of}
 use Rattle.bitvec_bench.specs.Bits.{HasBits, place}
 
 pub has_window : {X : Type 0} (b : ℕ) (f : X → ℕ) (elements : List X) (start len : ℕ) → HasBits b elements start len → HasWindow b (map f elements) (place start len)

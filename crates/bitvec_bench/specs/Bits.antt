@@ -1,9 +1,9 @@
 -- What a call of the benchmark needs of the slices that it is handed, and the bits that it takes of them.
 use Rattle.std.specs.Prelude.{ℕ, ◌+◌, ◌-◌, ◌*◌, ◌%◌, ◌^◌, ◌≤◌, Bool, List, length, map}
 use Rattle.std.specs.List.{fold}
-use Rattle.bitvec_base.specs.Memory.{Writes, list_in}
-use Rattle.bitvec_base.specs.Window.{max_bits}
-use Rattle.bitvec_base.specs.declared.window.Window.{Window}
+use Rattle.bitvec_field.specs.base.Memory.{Writes, list_in}
+use Rattle.bitvec_field.specs.base.Window.{max_bits}
+use Rattle.bitvec_field.specs.base.declared.window.Window.{Window}
 
 -- the elements, of b bits each, have at most `max_bits` bits, and `len` of these from `start` on
 abbrev pub HasBits : {X : Type 0} → ℕ → List X → ℕ → ℕ → Type 0

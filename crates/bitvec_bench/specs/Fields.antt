@@ -1,7 +1,7 @@
 -- Fields of 12 bits that follow one another. Under an order that is `high` the first bit of a field is its highest, and else its lowest.
 use Rattle.std.specs.Prelude.{ℕ, ◌+◌, ◌*◌, Bool, List, [], ◌++◌, map, slice_range, suc, zero}
 use Rattle.std.specs.List.{range_with_len}
-use Rattle.bitvec_segments.specs.Segments.{segment_bits, segment_number}
+use Rattle.bitvec_field.specs.segments.Segments.{segment_bits, segment_number}
 
 -- the numbers of so many of them
 abbrev pub field_numbers : Bool → List Bool → ℕ → List ℕ

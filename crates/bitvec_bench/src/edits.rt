@@ -2,16 +2,16 @@
 #![tactic(auto, using(crate::proofs::Places::has_window, crate::proofs::Places::moves_on))]
 
 ghost use Rattle.std.specs.Prelude.{◌-◌, ◌≤◌, map, not, replicate, reverse};
-ghost use Rattle.bitvec_base.specs.Lists.{copied_within, rotated_left, shifted_start};
-ghost use Rattle.bitvec_base.specs.Memory.{Edits, Writes};
+ghost use Rattle.bitvec_field.specs.base.Lists.{copied_within, rotated_left, shifted_start};
+ghost use Rattle.bitvec_field.specs.base.Memory.{Edits, Writes};
 ghost use Rattle.bitvec_bench.specs.Bits.{HasBits, place};
 
-use bitvec_base::Window;
-use bitvec_elements::{
+use bitvec_field::base::Window;
+use bitvec_field::elements::{
     copy_within_in, fill_in, invert_in, reverse_in, rotate_left_in, shift_start_in,
 };
-use bitvec_engine::SliceOrder;
-use bitvec_store::BitStore;
+use bitvec_field::engine::SliceOrder;
+use bitvec_field::store::BitStore;
 
 /// Copies all but the last `by` of `len` bits to `by` places further on.
 pub fn copy_within<T: BitStore, O: SliceOrder>(

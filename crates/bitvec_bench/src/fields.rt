@@ -4,18 +4,18 @@
 #![tactic(auto)]
 
 ghost use Rattle.std.specs.Prelude.{◌≡◌, ◌+◌, ◌*◌, ◌<◌, ◌≤◌, map};
-ghost use Rattle.bitvec_base.specs.Memory.{Writes, list_in};
-ghost use Rattle.bitvec_base.specs.Window.{write_at};
-ghost use Rattle.bitvec_segments.specs.Segments.{segment_bits, segment_number};
-ghost use Rattle.bitvec_slice.specs.Views.{seen, seen_mut};
-ghost use Rattle.bitvec_slice.specs.Writes.{WritesBits};
+ghost use Rattle.bitvec_field.specs.base.Memory.{Writes, list_in};
+ghost use Rattle.bitvec_field.specs.base.Window.{write_at};
+ghost use Rattle.bitvec_field.specs.segments.Segments.{segment_bits, segment_number};
+ghost use Rattle.bitvec_field.specs.slice.Views.{seen, seen_mut};
+ghost use Rattle.bitvec_field.specs.slice.Writes.{WritesBits};
 ghost use Rattle.bitvec_bench.specs.Bits.{HasBits, place, wrapped_sum};
 ghost use Rattle.bitvec_bench.specs.Fields.{field_numbers, numbered_fields};
 
+use bitvec_field::slice::{BitSlice, BitSliceMut};
+use bitvec_field::store::BitStore;
 use bitvec_field::{BitField, BitFieldMut, FieldOrder};
 use bitvec_pieces::EditParts;
-use bitvec_slice::{BitSlice, BitSliceMut};
-use bitvec_store::BitStore;
 
 /// How many bits a field has.
 const FIELD_BITS: usize = 12;

@@ -4,7 +4,7 @@ ghost use Rattle.bitvec_bench.specs.Bits.{HasBits, Wrote, bits_in, from_least, w
 ghost use Rattle.bitvec_bench.specs.Fields.{field_numbers, numbered_fields};
 
 use crate::fields;
-use bitvec_base::Lsb0;
+use bitvec_field::base::Lsb0;
 
 /// The sum of the numbers of `count` fields of 12 bits that follow one another, as far as a `usize`
 /// holds it.

@@ -1,14 +1,14 @@
 //! The exports over `u8` elements in `Msb0` order.
 ghost use Rattle.std.specs.Prelude.{◌≡◌, ◌-◌, ◌*◌, ◌≤◌, count_by, map, not, replicate, reverse, true};
 ghost use Rattle.std.specs.Option.{unwrap_or};
-ghost use Rattle.bitvec_base.specs.Lists.{combined, copied_within, first_place, places_of, rotated_left, same_bits, shifted_start};
-ghost use Rattle.bitvec_words.specs.Operator.{operator};
-ghost use Rattle.bitvec_words.specs.declared.operator.BitOp.TheVariants.{Or};
+ghost use Rattle.bitvec_field.specs.base.Lists.{combined, copied_within, first_place, places_of, rotated_left, same_bits, shifted_start};
+ghost use Rattle.bitvec_field.specs.words.Operator.{operator};
+ghost use Rattle.bitvec_field.specs.words.declared.operator.BitOp.TheVariants.{Or};
 ghost use Rattle.bitvec_bench.specs.Bits.{HasBits, Wrote, bits_in, from_most, wrapped_sum};
 ghost use Rattle.bitvec_bench.specs.Fields.{field_numbers, numbered_fields};
 
 use crate::{edits, fields, questions, transfers};
-use bitvec_base::Msb0;
+use bitvec_field::base::Msb0;
 
 /// Copies `len` bits.
 #[unsafe(no_mangle)]

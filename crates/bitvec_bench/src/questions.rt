@@ -2,16 +2,16 @@
 #![tactic(auto, using(crate::proofs::Places::has_window))]
 
 ghost use Rattle.std.specs.Prelude.{◌≡◌, count_by, map, true};
-ghost use Rattle.bitvec_base.specs.Lists.{first_place, places_of, same_bits};
-ghost use Rattle.bitvec_base.specs.Memory.{list_in};
+ghost use Rattle.bitvec_field.specs.base.Lists.{first_place, places_of, same_bits};
+ghost use Rattle.bitvec_field.specs.base.Memory.{list_in};
 ghost use Rattle.bitvec_bench.specs.Bits.{HasBits, place, wrapped_sum};
 
-use bitvec_base::Window;
-use bitvec_elements::{count_in, eq_block_in, first_in};
-use bitvec_engine::SliceOrder;
+use bitvec_field::base::Window;
+use bitvec_field::elements::{count_in, eq_block_in, first_in};
+use bitvec_field::engine::SliceOrder;
+use bitvec_field::slice::BitSlice;
+use bitvec_field::store::BitStore;
 use bitvec_ones::OnesCalls;
-use bitvec_slice::BitSlice;
-use bitvec_store::BitStore;
 
 /// Whether `len` bits of two slices are the same, as the order compares them.
 pub fn equal<T: BitStore, O: SliceOrder>(

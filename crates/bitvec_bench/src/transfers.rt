@@ -2,16 +2,16 @@
 #![tactic(auto, using(crate::proofs::Places::has_window))]
 
 ghost use Rattle.std.specs.Prelude.{map};
-ghost use Rattle.bitvec_base.specs.Lists.{combined};
-ghost use Rattle.bitvec_base.specs.Memory.{Writes, list_in};
-ghost use Rattle.bitvec_words.specs.Operator.{operator};
-ghost use Rattle.bitvec_words.specs.declared.operator.BitOp.TheVariants.{Or};
+ghost use Rattle.bitvec_field.specs.base.Lists.{combined};
+ghost use Rattle.bitvec_field.specs.base.Memory.{Writes, list_in};
+ghost use Rattle.bitvec_field.specs.words.Operator.{operator};
+ghost use Rattle.bitvec_field.specs.words.declared.operator.BitOp.TheVariants.{Or};
 ghost use Rattle.bitvec_bench.specs.Bits.{HasBits, place};
 
-use bitvec_base::Window;
-use bitvec_elements::{combine_block_in, copy_from_block_in, swap_with_block_in};
-use bitvec_engine::{BitOp, SliceOrder};
-use bitvec_store::BitStore;
+use bitvec_field::base::Window;
+use bitvec_field::elements::{combine_block_in, copy_from_block_in, swap_with_block_in};
+use bitvec_field::engine::{BitOp, SliceOrder};
+use bitvec_field::store::BitStore;
 
 /// Copies `len` bits.
 pub fn copy<T: BitStore, O: SliceOrder>(

@@ -2,8 +2,8 @@
 ghost use Rattle.std.specs.Prelude.{◌≡◌, ℕ, ◌+◌, ◌*◌, ◌^◌, ◌<◌, ◌≤◌, ◌↔◌, List, length, slice_index, slice_set, IsTrue};
 ghost use Rattle.bitvec_base.specs.Memory.{FitsMaxBits, HasWindow};
 
+use bitvec_base::store::BitStore;
 use bitvec_base::{MAX_BITS, Window};
-use bitvec_store::BitStore;
 
 /// A memory that can be read, an element at a time.
 ///

@@ -4,7 +4,7 @@ ghost use Rattle.bitvec_cells.specs.Accessors.{exclusive_numbers, exclusive_borr
 
 use crate::counts::Counts;
 use crate::{Cells, CellsRead};
-use bitvec_store::BitStore;
+use bitvec_base::store::BitStore;
 
 /// The accessor of an exclusive slice, which holds the accessor's list once it ends. It is as
 /// large as the slice's reference, since its counts take no bytes.

@@ -4,7 +4,7 @@ ghost use Rattle.bitvec_cells.specs.Accessors.{shared_numbers, shared_borrow, sh
 
 use crate::CellsRead;
 use crate::counts::Counts;
-use bitvec_store::BitStore;
+use bitvec_base::store::BitStore;
 
 /// The accessor of a shared slice. It is as large as the slice's reference, since its counts take
 /// no bytes.

@@ -1,16 +1,16 @@
 //! Windows compared that begin at the same index of an element: elements as they are.
 ghost use Rattle.std.specs.Prelude.{◌≡◌, ℕ, ◌*◌, ◌/◌, ◌%◌, ◌<◌, ◌==◌, length};
-ghost use Rattle.bitvec_base.specs.Lists.{same_bits};
-ghost use Rattle.bitvec_base.specs.Memory.{HasWindow, list_in};
-ghost use Rattle.bitvec_base.specs.Parts.{HasPart, part_window};
-ghost use Rattle.bitvec_cells.specs.Access.{OnlyReads, OnlyReadsAtMost};
-ghost use Rattle.bitvec_walk.specs.Cost.{touched};
+ghost use Rattle.bitvec_words.specs.base.Lists.{same_bits};
+ghost use Rattle.bitvec_words.specs.base.Memory.{HasWindow, list_in};
+ghost use Rattle.bitvec_words.specs.base.Parts.{HasPart, part_window};
+ghost use Rattle.bitvec_words.specs.cells.Access.{OnlyReads, OnlyReadsAtMost};
+ghost use Rattle.bitvec_words.specs.walk.Cost.{touched};
 ghost use Rattle.bitvec_words.specs.Elements.{elements_window};
 
-use bitvec_base::{BitOrder, Part, Window, first_part};
-use bitvec_cells::CellsRead;
-use bitvec_store::BitStore;
+use bitvec_words::base::{BitOrder, Part, Window, first_part};
+use bitvec_words::cells::CellsRead;
 use bitvec_words::same_between;
+use bitvec_words::store::BitStore;
 
 /// How many elements are compared before each test. A test after each single one would keep the
 /// loop from vector instructions.

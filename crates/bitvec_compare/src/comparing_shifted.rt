@@ -1,17 +1,17 @@
 //! Windows compared that begin at different indices of an element: each element on the left with
 //! one that is joined of two on the right.
 ghost use Rattle.std.specs.Prelude.{◌≡◌, ◌≢◌, ℕ, ◌+◌, ◌-◌, ◌*◌, ◌/◌, ◌%◌, ◌<◌, ◌≤◌, ◌==◌, length, slice_index};
-ghost use Rattle.bitvec_base.specs.Lists.{same_bits};
-ghost use Rattle.bitvec_base.specs.Memory.{HasWindow, list_in};
-ghost use Rattle.bitvec_base.specs.Parts.{HasPart, part_window};
-ghost use Rattle.bitvec_cells.specs.Access.{OnlyReads, OnlyReadsAtMost};
-ghost use Rattle.bitvec_walk.specs.Cost.{touched};
+ghost use Rattle.bitvec_words.specs.base.Lists.{same_bits};
+ghost use Rattle.bitvec_words.specs.base.Memory.{HasWindow, list_in};
+ghost use Rattle.bitvec_words.specs.base.Parts.{HasPart, part_window};
+ghost use Rattle.bitvec_words.specs.cells.Access.{OnlyReads, OnlyReadsAtMost};
+ghost use Rattle.bitvec_words.specs.walk.Cost.{touched};
 ghost use Rattle.bitvec_words.specs.Elements.{elements_window, elements_window_from};
 
 use crate::comparing_equal::ELEMENTS_PER_TEST;
-use bitvec_base::{BitOrder, Part, Window, first_part};
-use bitvec_cells::CellsRead;
-use bitvec_store::BitStore;
+use bitvec_words::base::{BitOrder, Part, Window, first_part};
+use bitvec_words::cells::CellsRead;
+use bitvec_words::store::BitStore;
 use bitvec_words::{WordOrder, field, field_after, joined, same_between, toward_end};
 
 /// Whether a window has the bits of one whose first bit has another index in its element.

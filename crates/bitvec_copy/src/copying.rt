@@ -1,21 +1,21 @@
 //! Bits copied from one window to another.
 ghost use Rattle.std.specs.Prelude.{◌≡◌, true};
-ghost use Rattle.bitvec_base.specs.Memory.{HasWindow, Writes, list_in};
-ghost use Rattle.bitvec_cells.specs.Access.{CostsAtMost, OnlyReadsAtMost};
-ghost use Rattle.bitvec_walk.specs.Cost.{read_loads, write_loads, write_stores};
+ghost use Rattle.bitvec_words.specs.base.Memory.{HasWindow, Writes, list_in};
+ghost use Rattle.bitvec_words.specs.cells.Access.{CostsAtMost, OnlyReadsAtMost};
+ghost use Rattle.bitvec_words.specs.walk.Cost.{read_loads, write_loads, write_stores};
 
 use crate::copying_equal::copy_equal;
 use crate::copying_shifted::copy_shifted;
-use bitvec_base::{BitOrder, Window};
-use bitvec_cells::{Cells, CellsRead};
-use bitvec_store::BitStore;
 use bitvec_words::WordOrder;
+use bitvec_words::base::{BitOrder, Window};
+use bitvec_words::cells::{Cells, CellsRead};
+use bitvec_words::store::BitStore;
 
 /// Copies the bits of a window of another memory of the same elements. Condition: each memory has
 /// at most `MAX_BITS` bits, each window lies in its memory, and the windows are as long. On the left
 /// it stores each element that the window touches once, and loads at most the first and the last;
 /// on the right it loads each element that the window touches once.
-#[tactic(auto, using(bitvec_walk::specs::CostLaws::in_steps, bitvec_store::specs::WidthLaws::width_some))]
+#[tactic(auto, using(bitvec_words::specs::Cited::in_steps, bitvec_words::specs::Cited::width_some))]
 pub fn copy<O: WordOrder, C: Cells, D: CellsRead<Elem = C::Elem>>(
     left: &mut C,
     to: Window,

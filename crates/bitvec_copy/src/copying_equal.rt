@@ -1,14 +1,14 @@
 //! Bits copied between windows that begin at the same index of an element: elements as they are.
 ghost use Rattle.std.specs.Prelude.{◌≡◌, ℕ, ◌*◌, ◌/◌, ◌%◌, ◌<◌, length};
-ghost use Rattle.bitvec_base.specs.Memory.{HasWindow, Writes, list_in};
-ghost use Rattle.bitvec_base.specs.Parts.{HasPart, part_window};
-ghost use Rattle.bitvec_cells.specs.Access.{Costs, CostsAtMost, OnlyReads};
-ghost use Rattle.bitvec_walk.specs.Cost.{part_loads, touched};
+ghost use Rattle.bitvec_words.specs.base.Memory.{HasWindow, Writes, list_in};
+ghost use Rattle.bitvec_words.specs.base.Parts.{HasPart, part_window};
+ghost use Rattle.bitvec_words.specs.cells.Access.{Costs, CostsAtMost, OnlyReads};
+ghost use Rattle.bitvec_words.specs.walk.Cost.{part_loads, touched};
 ghost use Rattle.bitvec_words.specs.Elements.{elements_window};
 
-use bitvec_base::{BitOrder, Part, Window, first_part};
-use bitvec_cells::{Cells, CellsRead};
-use bitvec_store::BitStore;
+use bitvec_words::base::{BitOrder, Part, Window, first_part};
+use bitvec_words::cells::{Cells, CellsRead};
+use bitvec_words::store::BitStore;
 use bitvec_words::store_part;
 
 /// Copies a window whose first bit has the same index in its element as that of the other window.

@@ -1,15 +1,15 @@
 //! Bits copied between windows that begin at different indices of an element: each stored element
 //! is joined of two that were loaded.
 ghost use Rattle.std.specs.Prelude.{◌≡◌, ◌≢◌, ℕ, ◌+◌, ◌-◌, ◌*◌, ◌/◌, ◌%◌, ◌<◌, ◌≤◌, length, slice_index};
-ghost use Rattle.bitvec_base.specs.Memory.{HasWindow, Writes, list_in};
-ghost use Rattle.bitvec_base.specs.Parts.{HasPart, part_window};
-ghost use Rattle.bitvec_cells.specs.Access.{Costs, CostsAtMost, OnlyReads};
-ghost use Rattle.bitvec_walk.specs.Cost.{part_loads, touched};
+ghost use Rattle.bitvec_words.specs.base.Memory.{HasWindow, Writes, list_in};
+ghost use Rattle.bitvec_words.specs.base.Parts.{HasPart, part_window};
+ghost use Rattle.bitvec_words.specs.cells.Access.{Costs, CostsAtMost, OnlyReads};
+ghost use Rattle.bitvec_words.specs.walk.Cost.{part_loads, touched};
 ghost use Rattle.bitvec_words.specs.Elements.{elements_window, elements_window_from};
 
-use bitvec_base::{BitOrder, Part, Window, first_part};
-use bitvec_cells::{Cells, CellsRead};
-use bitvec_store::BitStore;
+use bitvec_words::base::{BitOrder, Part, Window, first_part};
+use bitvec_words::cells::{Cells, CellsRead};
+use bitvec_words::store::BitStore;
 use bitvec_words::{WordOrder, field, field_after, joined, store_part, toward_end};
 
 /// Copies a window whose first bit has another index in its element than that of the other window.

@@ -3,15 +3,15 @@
 //! the accessor, since a loop that has only a reference to it reads the slice's address again after
 //! each store.
 ghost use Rattle.std.specs.Prelude.{◌≡◌, ◌-◌, true};
-ghost use Rattle.bitvec_base.specs.Lists.{FitsWithin, copied_within};
-ghost use Rattle.bitvec_base.specs.Memory.{Edits, HasWindow, Writes, list_in};
-ghost use Rattle.bitvec_cells.specs.Access.{CostsAtMost};
-ghost use Rattle.bitvec_walk.specs.Cost.{edit_loads, write_stores};
+ghost use Rattle.bitvec_words.specs.base.Lists.{FitsWithin, copied_within};
+ghost use Rattle.bitvec_words.specs.base.Memory.{Edits, HasWindow, Writes, list_in};
+ghost use Rattle.bitvec_words.specs.cells.Access.{CostsAtMost};
+ghost use Rattle.bitvec_words.specs.walk.Cost.{edit_loads, write_stores};
 
 use crate::moving_to_end::move_to_end;
 use crate::moving_to_start::move_to_start;
-use bitvec_base::Window;
-use bitvec_cells::Cells;
+use bitvec_words::base::Window;
+use bitvec_words::cells::Cells;
 use bitvec_words::{WORD_BITS, WordOrder, load_field, store_field};
 
 /// Copies the bits `from..to` of a window to `dest` on, also where they overlap; all other bits of
@@ -39,7 +39,7 @@ pub fn copy_within<O: WordOrder, C: Cells>(
 
 /// Moves the bits of a window to another of the same memory and of the same length, also where they
 /// overlap: at most 64 bits as one field, more by whole elements.
-#[tactic(auto, using(bitvec_walk::specs::CostLaws::in_steps, crate::specs::WithinLaws::edges_enough, bitvec_store::specs::WidthLaws::width_some))]
+#[tactic(auto, using(bitvec_words::specs::Cited::in_steps, crate::specs::WithinLaws::edges_enough, bitvec_words::specs::Cited::width_some))]
 #[inline(always)]
 fn move_window<O: WordOrder, C: Cells>(cells: &mut C, to: Window, from: Window)
     requires window { HasWindow C.Elem.BITS (C.numbers cells.old) to }

@@ -1,13 +1,13 @@
 //! Bits moved within one memory to places of one element: the edges of a window that is moved by
 //! whole elements.
 ghost use Rattle.std.specs.Prelude.{◌≡◌, ℕ, ◌+◌, ◌%◌, ◌≤◌};
-ghost use Rattle.bitvec_base.specs.Memory.{HasWindow, Writes, list_in};
-ghost use Rattle.bitvec_cells.specs.Access.{CostsAtMost};
-ghost use Rattle.bitvec_walk.specs.Cost.{touched};
+ghost use Rattle.bitvec_words.specs.base.Memory.{HasWindow, Writes, list_in};
+ghost use Rattle.bitvec_words.specs.cells.Access.{CostsAtMost};
+ghost use Rattle.bitvec_words.specs.walk.Cost.{touched};
 
-use bitvec_base::{Window, first_part};
-use bitvec_cells::Cells;
-use bitvec_store::BitStore;
+use bitvec_words::base::{Window, first_part};
+use bitvec_words::cells::Cells;
+use bitvec_words::store::BitStore;
 use bitvec_words::{WordOrder, field, store_part, toward_end};
 
 /// Moves the bits of a window to another, of the same length, that lies in one element or is empty:

@@ -1,15 +1,15 @@
 //! Bits moved to a place of the same memory that is no earlier: the last elements first, so that
 //! none is written over before it is read.
 ghost use Rattle.std.specs.Prelude.{◌≡◌, ℕ, ◌+◌, ◌*◌, ◌/◌, ◌%◌, ◌<◌, ◌≤◌};
-ghost use Rattle.bitvec_base.specs.Memory.{HasWindow, Writes, list_in};
-ghost use Rattle.bitvec_cells.specs.Access.{Costs, CostsAtMost};
-ghost use Rattle.bitvec_walk.specs.Cost.{touched};
+ghost use Rattle.bitvec_words.specs.base.Memory.{HasWindow, Writes, list_in};
+ghost use Rattle.bitvec_words.specs.cells.Access.{Costs, CostsAtMost};
+ghost use Rattle.bitvec_words.specs.walk.Cost.{touched};
 ghost use Rattle.bitvec_words.specs.Elements.{elements_window, elements_window_from};
 
 use crate::moving_edge::move_edge;
-use bitvec_base::{BitOrder, Window, first_part};
-use bitvec_cells::Cells;
-use bitvec_store::BitStore;
+use bitvec_words::base::{BitOrder, Window, first_part};
+use bitvec_words::cells::Cells;
+use bitvec_words::store::BitStore;
 use bitvec_words::{WordOrder, joined};
 
 /// Moves the bits of a window to another, of the same length, that begins no earlier. Condition:

@@ -6,7 +6,7 @@ use Rattle.bitvec_base.specs.Memory.{element_bits}
 use Rattle.bitvec_base.specs.MemoryLaws.{length-element_bits}
 use Rattle.bitvec_base.specs.Window.{write_at}
 use Rattle.bitvec_base.specs.WriteLaws.{range-write_at}
-use Rattle.bitvec_store.specs.declared.store.BitStore.{Ghosts as Store}
+use Rattle.bitvec_base.specs.store.declared.store.BitStore.{Ghosts as Store}
 use Rattle.bitvec_base.specs.declared.order.BitOrder.{Ghosts as Order}
 use Rattle.bitvec_domain.specs.Cuts.{IsHeadWithin, IsTailWithin, part_if_from}
 use Rattle.bitvec_domain.specs.Domains.{part_in_if}

@@ -3,8 +3,8 @@ ghost use Rattle.std.specs.Prelude.{◌≡◌, ◌+◌, ◌^◌, ◌<◌, length
 ghost use Rattle.bitvec_base.specs.Memory.{HasWindow};
 ghost use Rattle.bitvec_domain.specs.Cuts.{IsCutWithin, cut_across, cut_of};
 
+use bitvec_base::store::BitStore;
 use bitvec_base::{Part, Window, first_part, last_part};
-use bitvec_store::BitStore;
 
 /// A window of a memory, cut at the edges of its elements.
 #[derive(Clone, Copy)]

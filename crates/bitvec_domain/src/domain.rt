@@ -7,8 +7,8 @@ ghost use Rattle.bitvec_domain.specs.Parts.{seen_part};
 
 use crate::PartialElement;
 use crate::cut::Cut;
+use bitvec_base::store::BitStore;
 use bitvec_base::{BitOrder, Part, Window};
-use bitvec_store::BitStore;
 
 /// The elements that a view touches, in their order: the crate's `Domain` over shared elements.
 #[derive(Drop)]

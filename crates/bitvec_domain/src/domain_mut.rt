@@ -8,8 +8,8 @@ ghost use Rattle.bitvec_domain.specs.declared.cut.Cut.TheVariants.{Across};
 
 use crate::PartialElementMut;
 use crate::cut::Cut;
+use bitvec_base::store::BitStore;
 use bitvec_base::{BitOrder, Part, Window};
-use bitvec_store::BitStore;
 
 /// The elements that a writable view touches, in their order: the crate's `Domain` over exclusive
 /// elements.

@@ -5,7 +5,7 @@ ghost use Rattle.bitvec_base.specs.Order.{mask_of};
 ghost use Rattle.bitvec_base.specs.Window.{write_at};
 
 use bitvec_base::BitOrder;
-use bitvec_store::BitStore;
+use bitvec_base::store::BitStore;
 use std::marker::PhantomData;
 
 /// Bits of one element that is borrowed for reading: the crate's `PartialElement` over a shared

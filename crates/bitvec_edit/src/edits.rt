@@ -1,16 +1,16 @@
 //! Edits of writable views.
 ghost use Rattle.std.specs.Prelude.{◌≡◌, ◌<◌, ◌≤◌, Bool, List, false, length, map, not, replicate, reverse, slice_index_or, slice_set};
 ghost use Rattle.std.specs.List.{swap};
-ghost use Rattle.bitvec_base.specs.Lists.{FitsWithin, combined, copied_within, rotated_left, rotated_right, shifted_end, shifted_start};
-ghost use Rattle.bitvec_elements.specs.Asked.{CallableBelow, CallableOnBits, FillsWith, RefillsWith};
-ghost use Rattle.bitvec_words.specs.Operator.{operator};
-ghost use Rattle.bitvec_words.specs.declared.operator.BitOp.TheVariants.{And, Or, Xor};
+ghost use Rattle.bitvec_slice.specs.base.Lists.{FitsWithin, combined, copied_within, rotated_left, rotated_right, shifted_end, shifted_start};
+ghost use Rattle.bitvec_slice.specs.elements.Asked.{CallableBelow, CallableOnBits, FillsWith, RefillsWith};
+ghost use Rattle.bitvec_slice.specs.words.Operator.{operator};
+ghost use Rattle.bitvec_slice.specs.words.declared.operator.BitOp.TheVariants.{And, Or, Xor};
 ghost use Rattle.bitvec_slice.specs.Views.{seen, seen_mut};
 ghost use Rattle.bitvec_slice.specs.Writes.{WritesBits};
 
-use bitvec_base::BitOrder;
+use bitvec_slice::base::BitOrder;
+use bitvec_slice::store::BitStore;
 use bitvec_slice::{BitSlice, BitSliceMut};
-use bitvec_store::BitStore;
 use std::ops::Range;
 
 /// The crate's edits of a `&mut BitSlice`: those of single bits and of all, those that move its bits,
@@ -27,6 +27,12 @@ pub trait BitEdits<T> {
     ghost writes: { Self → Self → List Bool → Type 0 };
 
     /// Makes the bit at an index `bit`. Condition: the index is below `len`.
+    ///
+    /// ```
+    /// let mut view = BitSliceMut::<u16, Lsb0>::from_slice_unchecked_mut(&mut cells);
+    /// view.set(17, true);
+    /// assert_eq!(rt; view.into_slice()[1], 2);
+    /// ```
     fn set(&mut self, index: usize, bit: bool)
         requires { index < (shows self.old).window.len }
         ensures { writes self.old self.new (slice_set (shows self.old).bits index bit) };
@@ -38,47 +44,95 @@ pub trait BitEdits<T> {
         ensures bits { writes self.old self.new (slice_set (shows self.old).bits index bit) };
 
     /// Exchanges the bits at two indices, which may be one. Condition: both are below `len`.
+    ///
+    /// ```
+    /// let last = view.len() - 1;
+    /// view.swap(0, last);
+    /// ```
     fn swap(&mut self, first: usize, second: usize)
         requires first { first < (shows self.old).window.len }
         requires second { second < (shows self.old).window.len }
         ensures { writes self.old self.new (swap (shows self.old).bits first second) };
 
     /// Makes each bit `bit`.
+    ///
+    /// ```
+    /// let mut cells = [0u8];
+    /// let mut slots = BitSliceMut::<u8, Lsb0>::from_slice_mut(&mut cells);
+    /// slots.fill(true);
+    /// ```
     fn fill(&mut self, bit: bool)
         ensures { writes self.old self.new (replicate (shows self.old).window.len bit) };
 
     /// Flips each bit: what `!` does of the crate.
+    ///
+    /// ```
+    /// let mut view = BitSliceMut::<T, O>::from_slice_mut(elements);
+    /// view.invert();
+    /// let view = !view;
+    /// ```
     fn invert(&mut self)
         ensures { writes self.old self.new (map not (shows self.old).bits) };
 
     /// Puts the bits in the opposite order.
+    ///
+    /// ```
+    /// part.reverse();
+    /// assert_eq!(rt; cells, [0xC7, 0x18]);
+    /// ```
     fn reverse(&mut self)
         ensures { writes self.old self.new (reverse (shows self.old).bits) };
 
     /// Rotates the bits so that the one at `by` comes first. Condition: `by` is at most `len`.
+    ///
+    /// ```
+    /// let mut view = BitSliceMut::<T, O>::from_slice_mut(elements);
+    /// view.rotate_left(by);
+    /// view.rotate_right(by);
+    /// ```
     fn rotate_left(&mut self, by: usize)
         requires { by ≤ (shows self.old).window.len }
         ensures { writes self.old self.new (rotated_left by (shows self.old).bits) };
 
     /// Rotates the bits so that the last `by` come first. Condition: `by` is at most `len`.
+    ///
+    /// ```
+    /// let mut view = BitSliceMut::<T, O>::from_slice_mut(elements);
+    /// view.rotate_left(by);
+    /// view.rotate_right(by);
+    /// ```
     fn rotate_right(&mut self, by: usize)
         requires { by ≤ (shows self.old).window.len }
         ensures { writes self.old self.new (rotated_right by (shows self.old).bits) };
 
     /// Shifts the bits by `by` places towards the start: the first `by` are lost, and as many zeros
     /// follow the others. Condition: `by` is at most `len`.
+    ///
+    /// ```
+    /// view.shift_start(1);
+    /// view.set(view.len() - 1, bit);
+    /// ```
     fn shift_start(&mut self, by: usize)
         requires { by ≤ (shows self.old).window.len }
         ensures { writes self.old self.new (shifted_start by (shows self.old).bits) };
 
     /// Shifts the bits by `by` places towards the end: the last `by` are lost, and as many zeros
     /// stand before the others. Condition: `by` is at most `len`.
+    ///
+    /// ```
+    /// view.shift_end(1);
+    /// view.set(0, bit);
+    /// ```
     fn shift_end(&mut self, by: usize)
         requires { by ≤ (shows self.old).window.len }
         ensures { writes self.old self.new (shifted_end by (shows self.old).bits) };
 
     /// Copies the bits of a range to `dest` on, also where they overlap. Condition:
     /// `start <= end <= len`, and `dest + (end - start) <= len`.
+    ///
+    /// ```
+    /// view.copy_within(0..width, width);
+    /// ```
     fn copy_within(&mut self, src: Range<usize>, dest: usize)
         requires { FitsWithin src.start src.end dest (shows self.old).window.len }
         ensures { writes self.old self.new (copied_within src.start src.end dest (shows self.old).bits) };
@@ -145,6 +199,11 @@ pub trait BitEdits<T> {
     }
 
     /// Copies the bits of a view of any element type and order. Condition: the views are as long.
+    ///
+    /// ```
+    /// let mut view = BitSliceMut::<u32, Lsb0>::from_slice_mut(words);
+    /// view.clone_from_bitslice(BitSlice::<u8, Msb0>::from_slice(bytes));
+    /// ```
     fn clone_from_bitslice<U: BitStore, P: BitOrder>(&mut self, src: BitSlice<'_, U, P>)
         requires { (shows self.old).window.len ≡ (seen src).window.len }
         ensures { writes self.old self.new (seen src.entry).bits };
@@ -161,11 +220,19 @@ pub trait BitEdits<T> {
 
     /// Makes each bit 1 if it and the one at its index in `src`, which counts as 0 past its end,
     /// differ: `^=` for any element type and order.
+    ///
+    /// ```
+    /// view.xor_bits(mask);
+    /// ```
     fn xor_bits<U: BitStore, P: BitOrder>(&mut self, src: BitSlice<'_, U, P>)
         ensures { writes self.old self.new (combined (operator Xor) (shows self.old).bits (seen src.entry).bits) };
 
     /// Exchanges the bits with those of a view of any element type and order. Condition: the views
     /// are as long.
+    ///
+    /// ```
+    /// view.swap_with_bits(other);
+    /// ```
     fn swap_with_bits<U: BitStore, P: BitOrder>(&mut self, other: &mut BitSliceMut<'_, U, P>)
         requires { (shows self.old).window.len ≡ (seen_mut other.old).window.len }
         ensures bits { writes self.old self.new (seen_mut other.old).bits }
@@ -175,6 +242,11 @@ pub trait BitEdits<T> {
     /// ascending order from 0 on, and what it keeps goes from each call to the next. Condition:
     /// `f` may be called for each index below `len`, once the calls for those before it are done,
     /// whatever they answered.
+    ///
+    /// ```
+    /// let mut view = BitSliceMut::<T, O>::from_slice_mut(elements);
+    /// view.fill_with(|index| index % 2 == 0);
+    /// ```
     fn fill_with<F: FnMut(usize) -> bool>(&mut self, f: F)
         requires { CallableBelow F.FnMut f (shows self.old).window.len }
         ensures answers { FillsWith F.FnMut f (shows self.new).bits }
@@ -185,6 +257,10 @@ pub trait BitEdits<T> {
     /// once for each index, in ascending order from 0 on, and what it keeps goes from each call to
     /// the next. Condition: `f` may be called for each index and the bit there, once the calls for
     /// those before it are done, whatever they answered.
+    ///
+    /// ```
+    /// five.for_each(|index, bit| bit != (index == 0));
+    /// ```
     fn for_each<F: FnMut(usize, bool) -> bool>(&mut self, f: F)
         requires { CallableOnBits F.FnMut f (shows self.old).bits }
         ensures answers { RefillsWith F.FnMut f (shows self.old).bits (shows self.new).bits }

@@ -1,19 +1,19 @@
 //! Writable views are edited.
-ghost use Rattle.bitvec_base.specs.Lists.{combined};
-ghost use Rattle.bitvec_words.specs.Operator.{operator};
+ghost use Rattle.bitvec_slice.specs.base.Lists.{combined};
+ghost use Rattle.bitvec_slice.specs.words.Operator.{operator};
 ghost use Rattle.bitvec_slice.specs.Views.{seen, seen_mut};
 ghost use Rattle.bitvec_slice.specs.Writes.{WritesBits};
 
 use crate::BitEdits;
-use bitvec_base::BitOrder;
-use bitvec_elements::{
+use bitvec_slice::base::BitOrder;
+use bitvec_slice::elements::{
     combine_in, copy_from_in, copy_within_in, fill_in, fill_with_in, for_each_in, invert_in,
     replace_in, reverse_in, rotate_left_in, rotate_right_in, set_in, shift_end_in, shift_start_in,
     swap_in, swap_with_in,
 };
-use bitvec_engine::{BitOp, SliceOrder};
-use bitvec_slice::{BitSlice, BitSliceMut};
-use bitvec_store::BitStore;
+use bitvec_slice::engine::{BitOp, SliceOrder};
+use bitvec_slice::store::BitStore;
+use bitvec_slice::{BitSlice, BitSliceMut, RawElements};
 use std::ops::Range;
 
 impl<'a, T: BitStore, O: SliceOrder> BitEdits<T> for BitSliceMut<'a, T, O> {

@@ -1,17 +1,17 @@
 //! Edits of views whose bits a closure answers, with closures that keep a state among them: what
 //! the user's elements are afterwards, the bits outside the view too.
 ghost use Rattle.std.specs.Prelude.{◌*◌, ◌≤◌, length};
-ghost use Rattle.bitvec_base.specs.Window.{max_bits};
+ghost use Rattle.bitvec_edit.specs.base.Window.{max_bits};
 
 use crate::laws::{
     filled_by, filled_by_count, filled_with_even, inverted_twice, refilled_by, reversed_twice,
     rotated_back,
 };
-use bitvec_base::{HiLo, Lsb0, Msb0};
 use bitvec_edit::BitEdits;
-use bitvec_engine::SliceOrder;
-use bitvec_slice::BitSliceMut;
-use bitvec_store::BitStore;
+use bitvec_edit::base::{HiLo, Lsb0, Msb0};
+use bitvec_edit::engine::SliceOrder;
+use bitvec_edit::slice::BitSliceMut;
+use bitvec_edit::store::BitStore;
 
 /// Gives the first five bits, if there are as many, the bit that differs from whether the index is
 /// 0.

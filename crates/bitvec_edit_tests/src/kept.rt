@@ -1,15 +1,15 @@
 //! What a caller knows of the elements that an edit of a view left out.
 ghost use Rattle.std.specs.Prelude.{◌≡◌, ℕ, ◌+◌, ◌*◌, ◌≤◌, ◌⊎◌, length, slice_index};
-ghost use Rattle.bitvec_base.specs.Window.{max_bits};
-ghost use Rattle.bitvec_slice.specs.Indices.{HasRange};
-ghost use Rattle.bitvec_lending.specs.Kept.{KeepsOutside};
-ghost use Rattle.bitvec_slice.specs.Touched.{end_touched, first_touched};
+ghost use Rattle.bitvec_edit.specs.base.Window.{max_bits};
+ghost use Rattle.bitvec_edit.specs.slice.Indices.{HasRange};
+ghost use Rattle.bitvec_edit.specs.lends.Kept.{KeepsOutside};
+ghost use Rattle.bitvec_edit.specs.slice.Touched.{end_touched, first_touched};
 
-use bitvec_base::Lsb0;
 use bitvec_edit::BitEdits;
-use bitvec_engine::SliceOrder;
-use bitvec_slice::BitSliceMut;
-use bitvec_store::BitStore;
+use bitvec_edit::base::Lsb0;
+use bitvec_edit::engine::SliceOrder;
+use bitvec_edit::slice::BitSliceMut;
+use bitvec_edit::store::BitStore;
 use std::ops::Range;
 
 /// Fills the bits of a range, through a view of them, and gives the elements back: those that have

@@ -1,14 +1,14 @@
 //! What edits of a view that undo one another come to, and what closures fill it with.
 ghost use Rattle.std.specs.Prelude.{◌≡◌, ℕ, ◌+◌, ◌*◌, ◌%◌, ◌^◌, ◌<◌, ◌≤◌, ◌==◌, length, map};
 ghost use Rattle.std.specs.List.{range_with_len};
-ghost use Rattle.bitvec_base.specs.Memory.{memory_bits};
-ghost use Rattle.bitvec_base.specs.Window.{max_bits};
-ghost use Rattle.bitvec_elements.specs.Asked.{FillsWith, RefillsWith};
+ghost use Rattle.bitvec_edit.specs.base.Memory.{memory_bits};
+ghost use Rattle.bitvec_edit.specs.base.Window.{max_bits};
+ghost use Rattle.bitvec_edit.specs.elements.Asked.{FillsWith, RefillsWith};
 
 use bitvec_edit::BitEdits;
-use bitvec_engine::SliceOrder;
-use bitvec_slice::BitSliceMut;
-use bitvec_store::BitStore;
+use bitvec_edit::engine::SliceOrder;
+use bitvec_edit::slice::BitSliceMut;
+use bitvec_edit::store::BitStore;
 
 /// Reverses all bits of the elements twice: they are as before.
 pub fn reversed_twice<T: BitStore, O: SliceOrder>(elements: &mut [T]) -> &mut [T]

@@ -4,6 +4,8 @@
 #[cfg(test)]
 mod asked;
 #[cfg(test)]
+mod counted;
+#[cfg(test)]
 mod kept;
 #[cfg(test)]
 mod laws;

@@ -1,13 +1,13 @@
 //! Edits that move the bits of a view: what the user's elements are afterwards, the bits outside
 //! the view among them.
 ghost use Rattle.std.specs.Prelude.{◌*◌, ◌≤◌, length};
-ghost use Rattle.bitvec_base.specs.Window.{max_bits};
+ghost use Rattle.bitvec_edit.specs.base.Window.{max_bits};
 
-use bitvec_base::{Lsb0, Msb0};
 use bitvec_edit::BitEdits;
-use bitvec_engine::SliceOrder;
-use bitvec_slice::BitSliceMut;
-use bitvec_store::BitStore;
+use bitvec_edit::base::{Lsb0, Msb0};
+use bitvec_edit::engine::SliceOrder;
+use bitvec_edit::slice::BitSliceMut;
+use bitvec_edit::store::BitStore;
 
 /// Rotates the first five bits, if there are as many, by two places to the left, and by as many to
 /// the right if `back`.

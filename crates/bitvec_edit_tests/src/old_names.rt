@@ -1,8 +1,8 @@
 //! The old names of calls.
 
-use bitvec_base::{Lsb0, Msb0};
 use bitvec_edit::BitEdits;
-use bitvec_slice::{BitSlice, BitSliceMut};
+use bitvec_edit::base::{Lsb0, Msb0};
+use bitvec_edit::slice::{BitSlice, BitSliceMut};
 
 #[test]
 fn old_shifts(rt: HostRuntime) {

@@ -1,18 +1,18 @@
 //! Edits of parts of a view by closures: what a caller knows of the view afterwards.
 ghost use Rattle.std.specs.Prelude.{◌≡◌, ℕ, ◌+◌, ◌*◌, ◌%◌, ◌<◌, ◌≤◌, ◌==◌, ◌++◌, length, map, not, replicate, reverse, slice_range, slice_set, true};
-ghost use Rattle.bitvec_base.specs.Lists.{rotated_left};
-ghost use Rattle.bitvec_base.specs.Memory.{memory_bits};
-ghost use Rattle.bitvec_base.specs.Window.{max_bits, write_at};
-ghost use Rattle.bitvec_cutting.specs.Cutting.{back_chunk, chunk_count, cut, whole_chunk, whole_count};
-ghost use Rattle.bitvec_slice.specs.Views.{seen_mut};
-ghost use Rattle.bitvec_slice.specs.Writes.{WritesBits};
+ghost use Rattle.bitvec_edit.specs.base.Lists.{rotated_left};
+ghost use Rattle.bitvec_edit.specs.base.Memory.{memory_bits};
+ghost use Rattle.bitvec_edit.specs.base.Window.{max_bits, write_at};
+ghost use Rattle.bitvec_pieces.specs.cutting.Cutting.{back_chunk, chunk_count, cut, whole_chunk, whole_count};
+ghost use Rattle.bitvec_edit.specs.slice.Views.{seen_mut};
+ghost use Rattle.bitvec_edit.specs.slice.Writes.{WritesBits};
 
-use bitvec_base::Lsb0;
 use bitvec_edit::BitEdits;
-use bitvec_engine::SliceOrder;
+use bitvec_edit::base::Lsb0;
+use bitvec_edit::engine::SliceOrder;
+use bitvec_edit::slice::BitSliceMut;
+use bitvec_edit::store::BitStore;
 use bitvec_pieces::EditParts;
-use bitvec_slice::BitSliceMut;
-use bitvec_store::BitStore;
 
 /// Makes the bits 2 up to 5 ones.
 pub fn fill_three<T: BitStore, O: SliceOrder>(view: &mut BitSliceMut<'_, T, O>)

@@ -1,12 +1,12 @@
 //! Edits of a view by another: what the user's elements are afterwards.
 ghost use Rattle.std.specs.Prelude.{◌*◌, ◌≤◌, length};
-ghost use Rattle.bitvec_base.specs.Window.{max_bits};
+ghost use Rattle.bitvec_edit.specs.base.Window.{max_bits};
 
-use bitvec_base::{BitOrder, HiLo, Lsb0, Msb0};
 use bitvec_edit::BitEdits;
-use bitvec_engine::SliceOrder;
-use bitvec_slice::{BitSlice, BitSliceMut};
-use bitvec_store::BitStore;
+use bitvec_edit::base::{BitOrder, HiLo, Lsb0, Msb0};
+use bitvec_edit::engine::SliceOrder;
+use bitvec_edit::slice::{BitSlice, BitSliceMut};
+use bitvec_edit::store::BitStore;
 use std::process::Abort;
 
 /// Exchanges the bits 3 to 9 of the one with the bits 0 to 6 of the other.

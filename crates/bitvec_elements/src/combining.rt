@@ -1,13 +1,13 @@
 //! Each bit of a window of a slice of elements with the one at its index in another.
 ghost use Rattle.std.specs.Prelude.{map};
-ghost use Rattle.bitvec_base.specs.Lists.{combined};
-ghost use Rattle.bitvec_base.specs.Memory.{HasWindow, Writes, list_in};
-ghost use Rattle.bitvec_words.specs.Operator.{operator};
+ghost use Rattle.bitvec_engine.specs.base.Lists.{combined};
+ghost use Rattle.bitvec_engine.specs.base.Memory.{HasWindow, Writes, list_in};
+ghost use Rattle.bitvec_engine.specs.words.Operator.{operator};
 
-use bitvec_base::{BitOrder, Window};
-use bitvec_cells::{Exclusive, Shared};
+use bitvec_engine::base::{BitOrder, Window};
+use bitvec_engine::cells::{Exclusive, Shared};
+use bitvec_engine::store::BitStore;
 use bitvec_engine::{BitOp, SliceOrder, bits_op};
-use bitvec_store::BitStore;
 
 /// Replaces each bit of the left window by what the operator makes of it and the one at its index in
 /// the right window, of elements of any type and order, which counts as 0 past that window's end.

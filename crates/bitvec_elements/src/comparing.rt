@@ -2,13 +2,13 @@
 ghost use Rattle.std.specs.Prelude.{◌≡◌, map};
 ghost use Rattle.std.specs.Cmp.Lexicographic.{slice_cmp};
 ghost use Rattle.std.specs.Ordering.{bool_cmp};
-ghost use Rattle.bitvec_base.specs.Lists.{same_bits};
-ghost use Rattle.bitvec_base.specs.Memory.{HasWindow, list_in};
+ghost use Rattle.bitvec_engine.specs.base.Lists.{same_bits};
+ghost use Rattle.bitvec_engine.specs.base.Memory.{HasWindow, list_in};
 
-use bitvec_base::{BitOrder, Window};
-use bitvec_cells::Shared;
+use bitvec_engine::base::{BitOrder, Window};
+use bitvec_engine::cells::Shared;
+use bitvec_engine::store::BitStore;
 use bitvec_engine::{SliceOrder, bits_eq, compare};
-use bitvec_store::BitStore;
 use std::cmp::Ordering;
 
 /// How many bits [`compare_block_in`] passes at a time where they are equal.

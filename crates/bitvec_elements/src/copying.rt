@@ -1,11 +1,11 @@
 //! Bits copied from a window of one slice of elements to a window of another.
 ghost use Rattle.std.specs.Prelude.{◌≡◌, map};
-ghost use Rattle.bitvec_base.specs.Memory.{HasWindow, Writes, list_in};
+ghost use Rattle.bitvec_engine.specs.base.Memory.{HasWindow, Writes, list_in};
 
-use bitvec_base::{BitOrder, Window};
-use bitvec_cells::{Exclusive, Shared};
+use bitvec_engine::base::{BitOrder, Window};
+use bitvec_engine::cells::{Exclusive, Shared};
+use bitvec_engine::store::BitStore;
 use bitvec_engine::{SliceOrder, bits_copy};
-use bitvec_store::BitStore;
 
 /// Copies the bits of the right window, of elements of any type and order. Condition: each memory
 /// has at most `MAX_BITS` bits, each window lies in its memory, and the windows are as long.

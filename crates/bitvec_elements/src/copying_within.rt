@@ -1,12 +1,12 @@
 //! The bits of a window of a slice of elements copied to another place of it.
 ghost use Rattle.std.specs.Prelude.{map};
-ghost use Rattle.bitvec_base.specs.Lists.{FitsWithin, copied_within};
-ghost use Rattle.bitvec_base.specs.Memory.{Edits, HasWindow};
+ghost use Rattle.bitvec_engine.specs.base.Lists.{FitsWithin, copied_within};
+ghost use Rattle.bitvec_engine.specs.base.Memory.{Edits, HasWindow};
 
-use bitvec_base::Window;
-use bitvec_cells::Exclusive;
 use bitvec_engine::SliceOrder;
-use bitvec_store::BitStore;
+use bitvec_engine::base::Window;
+use bitvec_engine::cells::Exclusive;
+use bitvec_engine::store::BitStore;
 use std::ops::Range;
 
 /// Copies the bits of a range of a window to `dest` on, also where they overlap. Condition: the

@@ -1,11 +1,11 @@
 //! How many bits of a window of a slice of elements are 1.
 ghost use Rattle.std.specs.Prelude.{◌≡◌, count_by, map};
-ghost use Rattle.bitvec_base.specs.Memory.{HasWindow, list_in};
+ghost use Rattle.bitvec_engine.specs.base.Memory.{HasWindow, list_in};
 
-use bitvec_base::{BitOrder, Window};
-use bitvec_cells::Shared;
+use bitvec_engine::base::{BitOrder, Window};
+use bitvec_engine::cells::Shared;
 use bitvec_engine::count;
-use bitvec_store::BitStore;
+use bitvec_engine::store::BitStore;
 
 /// How many bits of a window are 1. Condition: the memory has at most `MAX_BITS` bits, and the
 /// window lies in it.

@@ -1,12 +1,12 @@
 //! Whether the bits of one window of a slice of elements stand in those of another.
 ghost use Rattle.std.specs.Prelude.{◌≡◌, map};
-ghost use Rattle.bitvec_base.specs.Lists.{is_prefix, is_suffix, stands_in};
-ghost use Rattle.bitvec_base.specs.Memory.{HasWindow, list_in};
+ghost use Rattle.bitvec_engine.specs.base.Lists.{is_prefix, is_suffix, stands_in};
+ghost use Rattle.bitvec_engine.specs.base.Memory.{HasWindow, list_in};
 
-use bitvec_base::{BitOrder, Window};
-use bitvec_cells::Shared;
+use bitvec_engine::base::{BitOrder, Window};
+use bitvec_engine::cells::Shared;
+use bitvec_engine::store::BitStore;
 use bitvec_engine::{bits_contains, bits_ends_with, bits_starts_with};
-use bitvec_store::BitStore;
 
 /// Whether the bits of the right window begin those of the left one. Condition: each memory has at
 /// most `MAX_BITS` bits, and each window lies in its memory.

@@ -1,11 +1,11 @@
 //! The bits of a window of a slice of elements in the opposite order.
 ghost use Rattle.std.specs.Prelude.{map, reverse as reversed};
-ghost use Rattle.bitvec_base.specs.Memory.{Edits, HasWindow};
+ghost use Rattle.bitvec_engine.specs.base.Memory.{Edits, HasWindow};
 
-use bitvec_base::Window;
-use bitvec_cells::Exclusive;
+use bitvec_engine::base::Window;
+use bitvec_engine::cells::Exclusive;
+use bitvec_engine::store::BitStore;
 use bitvec_engine::{SliceOrder, reverse};
-use bitvec_store::BitStore;
 
 /// Reverses the bits of a window, as the order does it. Condition: the memory has at most
 /// `MAX_BITS` bits, and the window lies in it.

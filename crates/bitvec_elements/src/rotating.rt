@@ -1,12 +1,12 @@
 //! The bits of a window of a slice of elements rotated.
 ghost use Rattle.std.specs.Prelude.{◌≤◌, map};
-ghost use Rattle.bitvec_base.specs.Lists.{rotated_left, rotated_right};
-ghost use Rattle.bitvec_base.specs.Memory.{Edits, HasWindow};
+ghost use Rattle.bitvec_engine.specs.base.Lists.{rotated_left, rotated_right};
+ghost use Rattle.bitvec_engine.specs.base.Memory.{Edits, HasWindow};
 
-use bitvec_base::Window;
-use bitvec_cells::Exclusive;
+use bitvec_engine::base::Window;
+use bitvec_engine::cells::Exclusive;
+use bitvec_engine::store::BitStore;
 use bitvec_engine::{SliceOrder, rotate_left, rotate_right};
-use bitvec_store::BitStore;
 
 /// Rotates the bits of a window so that the bit at `by` comes first. Condition: the memory has at
 /// most `MAX_BITS` bits, the window lies in it, and `by` is at most the window's length.

@@ -1,12 +1,12 @@
 //! The bits of a window of a slice of elements shifted towards one of its ends.
 ghost use Rattle.std.specs.Prelude.{◌≤◌, map};
-ghost use Rattle.bitvec_base.specs.Lists.{shifted_end, shifted_start};
-ghost use Rattle.bitvec_base.specs.Memory.{Edits, HasWindow};
+ghost use Rattle.bitvec_engine.specs.base.Lists.{shifted_end, shifted_start};
+ghost use Rattle.bitvec_engine.specs.base.Memory.{Edits, HasWindow};
 
-use bitvec_base::Window;
-use bitvec_cells::Exclusive;
+use bitvec_engine::base::Window;
+use bitvec_engine::cells::Exclusive;
+use bitvec_engine::store::BitStore;
 use bitvec_engine::{SliceOrder, shift_end, shift_start};
-use bitvec_store::BitStore;
 
 /// Shifts the bits of a window towards its start: as many zeros as were lost follow the others.
 /// Condition: the memory has at most `MAX_BITS` bits, the window lies in it, and `by` is at most

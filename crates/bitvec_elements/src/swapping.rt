@@ -1,11 +1,11 @@
 //! The bits of two windows of slices of elements, exchanged.
 ghost use Rattle.std.specs.Prelude.{◌≡◌, map};
-ghost use Rattle.bitvec_base.specs.Memory.{HasWindow, Writes, list_in};
+ghost use Rattle.bitvec_engine.specs.base.Memory.{HasWindow, Writes, list_in};
 
-use bitvec_base::{BitOrder, Window};
-use bitvec_cells::Exclusive;
+use bitvec_engine::base::{BitOrder, Window};
+use bitvec_engine::cells::Exclusive;
+use bitvec_engine::store::BitStore;
 use bitvec_engine::{SliceOrder, bits_swap};
-use bitvec_store::BitStore;
 
 /// Exchanges the bits of two windows, of elements of any types and orders. Condition: each memory
 /// has at most `MAX_BITS` bits, each window lies in its memory, and the windows are as long.

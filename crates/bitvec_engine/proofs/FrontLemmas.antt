@@ -5,27 +5,27 @@ use Rattle.std.proofs.Common.{arith, rules, sym, ◌∙◌, ap}
 use Rattle.std.proofs.lemmas.List.{get_or-reverse, length-reverse, places, reverse-reverse, same_lists}
 use Rattle.std.proofs.lemmas.Nat.{div-add-mod', pow_pos}
 use Rattle.std.proofs.lemmas.Nat.Bits.{and_pow, bit_at-lt}
-use Rattle.bitvec_base.specs.declared.window.Window.{Window}
-use Rattle.bitvec_base.specs.Memory.{HasWindow, element_bits, list_in}
-use Rattle.bitvec_base.specs.MemoryLaws.{element-or_mask, get-element_bits, length-element_bits}
-use Rattle.bitvec_base.specs.Order.{Permutes}
-use Rattle.bitvec_base.specs.PartLaws.{length-part}
-use Rattle.bitvec_base.specs.SliceLaws.{range-push}
-use Rattle.bitvec_walk.specs.ElementLaws.{single_mask}
-use Rattle.bitvec_base.specs.Parts.{first_part_of, part_window}
-use Rattle.bitvec_base.specs.Window.{window_of, window_range, write_at}
-use Rattle.bitvec_store.specs.Width.{IsWidth}
-use Rattle.bitvec_store.specs.WidthLaws.{at_each_width, width_most, width_some}
-use Rattle.bitvec_base.specs.WritesLaws.{length-list}
+use Rattle.bitvec_copy.specs.base.declared.window.Window.{Window}
+use Rattle.bitvec_copy.specs.base.Memory.{HasWindow, element_bits, list_in}
+use Rattle.bitvec_copy.specs.base.MemoryLaws.{element-or_mask, get-element_bits, length-element_bits}
+use Rattle.bitvec_copy.specs.base.Order.{Permutes}
+use Rattle.bitvec_copy.specs.base.PartLaws.{length-part}
+use Rattle.bitvec_copy.specs.base.SliceLaws.{range-push}
+use Rattle.bitvec_copy.specs.walk.ElementLaws.{single_mask}
+use Rattle.bitvec_copy.specs.base.Parts.{first_part_of, part_window}
+use Rattle.bitvec_copy.specs.base.Window.{window_of, window_range, write_at}
+use Rattle.bitvec_copy.specs.store.Width.{IsWidth}
+use Rattle.bitvec_copy.specs.store.WidthLaws.{at_each_width, width_most, width_some}
+use Rattle.bitvec_copy.specs.base.WritesLaws.{length-list}
 use Rattle.bitvec_exchange.specs.WordLaws.{padded-all, word_whole}
-use Rattle.bitvec_walk.specs.WalkLaws.{Walked-start, first-len, first-place}
-use Rattle.bitvec_words.specs.Elements.{elements_window}
-use Rattle.bitvec_words.specs.Field.{padded}
-use Rattle.bitvec_words.specs.FieldLaws.{list-part}
-use Rattle.bitvec_words.specs.FieldWalkLaws.{HasPart-first}
-use Rattle.bitvec_words.specs.TouchedLaws.{head_edge, touched-full, touched-head}
-use Rattle.bitvec_words.specs.WholeLaws.{HasWindow-part, behind-mod}
-use Rattle.bitvec_walk.specs.Cost.{touched}
+use Rattle.bitvec_copy.specs.walk.WalkLaws.{Walked-start, first-len, first-place}
+use Rattle.bitvec_copy.specs.words.Elements.{elements_window}
+use Rattle.bitvec_copy.specs.words.Field.{padded}
+use Rattle.bitvec_copy.specs.words.FieldLaws.{list-part}
+use Rattle.bitvec_copy.specs.words.FieldWalkLaws.{HasPart-first}
+use Rattle.bitvec_copy.specs.words.TouchedLaws.{head_edge, touched-full, touched-head}
+use Rattle.bitvec_copy.specs.words.WholeLaws.{HasWindow-part, behind-mod}
+use Rattle.bitvec_copy.specs.walk.Cost.{touched}
 use Rattle.bitvec_engine.specs.Front.{IsFront}
 
 -- the same places, told in another way

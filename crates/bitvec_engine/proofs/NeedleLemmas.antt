@@ -1,14 +1,14 @@
 -- A needle that is looked for at one index after the other.
-use Rattle.std.specs.Prelude.{◌≡◌, ℕ, ◌+◌, ◌*◌, ◌≤◌, Bool, List}
+use Rattle.std.specs.Prelude.{◌≡◌, ◌==◌, ℕ, ◌+◌, ◌*◌, ◌≤◌, if◌then◌else◌, Bool, List}
 use Rattle.std.proofs.Common.{arith, sym}
 use Rattle.std.proofs.lemmas.Bool.Decides.{nat_tests}
-use Rattle.bitvec_base.specs.declared.window.Window.{Window}
-use Rattle.bitvec_base.specs.Lists.{same_bits, stands_at}
-use Rattle.bitvec_base.specs.Memory.{list_in, HasWindow}
-use Rattle.bitvec_base.specs.NeedleLaws.{stands-part}
-use Rattle.bitvec_base.specs.Window.{window_range}
-use Rattle.bitvec_base.specs.WritesLaws.{length-list, within-list}
-use Rattle.bitvec_walk.specs.Cost.{read_loads, equal_loads}
+use Rattle.bitvec_copy.specs.base.declared.window.Window.{Window}
+use Rattle.bitvec_copy.specs.base.Lists.{same_bits, stands_at}
+use Rattle.bitvec_copy.specs.base.Memory.{list_in, HasWindow}
+use Rattle.bitvec_copy.specs.base.NeedleLaws.{stands-part}
+use Rattle.bitvec_copy.specs.base.Window.{window_range}
+use Rattle.bitvec_copy.specs.base.WritesLaws.{length-list, within-list}
+use Rattle.bitvec_copy.specs.walk.Cost.{read_loads, equal_loads}
 
 -- whether it stands at an index, by the equality of that part, where both memories are as at first
 pub stands-found : {b r : ℕ} (at other_at : ℕ → ℕ → ℕ) {xs now ys right : List ℕ} {window needle part : Window} {found : Bool} (from : ℕ) → HasWindow b xs window → HasWindow r ys needle → from + needle.len ≤ window.len
@@ -21,3 +21,7 @@ stands-found {b} {r} at other_at {xs} {now} {ys} {right} {window} {needle} {part
 -- one index more, at the cost of one equality
 pub cost-more : (b : ℕ) (words : Bool) (old before after i m n : ℕ) → m ≡ n → before ≤ old + i * read_loads b words n → after ≤ before + equal_loads b words m n → after ≤ old + (i + 1) * read_loads b words n
 cost-more b words old before after i m n same so_far next = grind (arith, nat_tests)
+
+-- the same bit by bit
+pub bit-cost-more : (old before after i m n : ℕ) → m ≡ n → before ≤ old + i * n → after ≤ before + (if m == n then m else 0) → after ≤ old + (i + 1) * n
+bit-cost-more old before after i m n same so_far next = grind (arith, nat_tests)

@@ -1,9 +1,9 @@
 -- The first bits of a window, as the first bits of a word.
 use Rattle.std.specs.Prelude.{◌≡◌, ℕ, ◌+◌, ◌%◌, ◌<◌, ◌≤◌, List}
-use Rattle.bitvec_base.specs.declared.window.Window.{Window}
-use Rattle.bitvec_base.specs.Memory.{element_bits, list_in}
-use Rattle.bitvec_base.specs.Window.{window_range}
-use Rattle.bitvec_words.specs.Field.{padded}
+use Rattle.bitvec_copy.specs.base.declared.window.Window.{Window}
+use Rattle.bitvec_copy.specs.base.Memory.{element_bits, list_in}
+use Rattle.bitvec_copy.specs.base.Window.{window_range}
+use Rattle.bitvec_copy.specs.words.Field.{padded}
 
 -- the first `count` bits of the window are those of the word, whose others are 0; where more are left, an element begins behind them
 pub record IsFront (b : ℕ) (at : ℕ → ℕ → ℕ) (xs : List ℕ) (window : Window) (word count : ℕ) : Type 0 where

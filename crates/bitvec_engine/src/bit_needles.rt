@@ -1,15 +1,16 @@
-//! The same of two windows of any element widths and orders, bit by bit. The contracts name the
-//! lists alone.
-ghost use Rattle.std.specs.Prelude.{◌≡◌};
-ghost use Rattle.bitvec_base.specs.Lists.{is_prefix, is_suffix, stands_in};
-ghost use Rattle.bitvec_base.specs.Memory.{HasWindow, list_in};
+//! The same of two windows of any element widths and orders, bit by bit.
+ghost use Rattle.std.specs.Prelude.{◌≡◌, ◌+◌, ◌*◌, ◌-◌};
+ghost use Rattle.bitvec_copy.specs.base.Lists.{is_prefix, is_suffix, stands_in};
+ghost use Rattle.bitvec_copy.specs.base.Memory.{HasWindow, list_in};
+ghost use Rattle.bitvec_copy.specs.cells.Access.{OnlyReadsAtMost};
 
 use crate::comparing::bits_eq;
-use bitvec_base::{BitOrder, Window};
-use bitvec_cells::CellsRead;
-use bitvec_store::BitStore;
+use bitvec_copy::base::{BitOrder, Window};
+use bitvec_copy::cells::CellsRead;
+use bitvec_copy::store::BitStore;
 
-/// Whether the needle's bits begin those of the window. Condition: as of [`starts_with`].
+/// Whether the needle's bits begin those of the window. Condition: as of [`starts_with`]. It loads at
+/// most once a bit of the needle and side.
 ///
 /// [`starts_with`]: crate::starts_with
 pub fn bits_starts_with<O: BitOrder, P: BitOrder, C: CellsRead, D: CellsRead>(
@@ -20,8 +21,10 @@ pub fn bits_starts_with<O: BitOrder, P: BitOrder, C: CellsRead, D: CellsRead>(
 ) -> bool
     requires window { HasWindow C.Elem.BITS (C.numbers cells.old) window }
     requires right_window { HasWindow D.Elem.BITS (D.numbers right.old) needle }
-    ensures { result ≡ is_prefix (list_in D.Elem.BITS P.at (D.numbers right.old) needle)
+    ensures value { result ≡ is_prefix (list_in D.Elem.BITS P.at (D.numbers right.old) needle)
         (list_in C.Elem.BITS O.at (C.numbers cells.old) window) }
+    ensures reads { OnlyReadsAtMost C.CellsRead cells.old cells.new needle.len }
+    ensures right { OnlyReadsAtMost D.CellsRead right.old right.new needle.len }
 {
     if needle.len > window.len {
         return false;
@@ -29,7 +32,8 @@ pub fn bits_starts_with<O: BitOrder, P: BitOrder, C: CellsRead, D: CellsRead>(
     bits_eq::<O, P, C, D>(cells, window.range(0, needle.len), right, needle)
 }
 
-/// Whether the needle's bits end those of the window. Condition: as of [`bits_starts_with`].
+/// Whether the needle's bits end those of the window. Condition and loads: as of
+/// [`bits_starts_with`].
 pub fn bits_ends_with<O: BitOrder, P: BitOrder, C: CellsRead, D: CellsRead>(
     cells: &mut C,
     window: Window,
@@ -38,8 +42,10 @@ pub fn bits_ends_with<O: BitOrder, P: BitOrder, C: CellsRead, D: CellsRead>(
 ) -> bool
     requires window { HasWindow C.Elem.BITS (C.numbers cells.old) window }
     requires right_window { HasWindow D.Elem.BITS (D.numbers right.old) needle }
-    ensures { result ≡ is_suffix (list_in D.Elem.BITS P.at (D.numbers right.old) needle)
+    ensures value { result ≡ is_suffix (list_in D.Elem.BITS P.at (D.numbers right.old) needle)
         (list_in C.Elem.BITS O.at (C.numbers cells.old) window) }
+    ensures reads { OnlyReadsAtMost C.CellsRead cells.old cells.new needle.len }
+    ensures right { OnlyReadsAtMost D.CellsRead right.old right.new needle.len }
 {
     if needle.len > window.len {
         return false;
@@ -49,7 +55,8 @@ pub fn bits_ends_with<O: BitOrder, P: BitOrder, C: CellsRead, D: CellsRead>(
 }
 
 /// Whether the needle's bits stand in those of the window, from some index on. Condition: as of
-/// [`bits_starts_with`].
+/// [`bits_starts_with`]. It loads at most once a bit of the needle and side at each index where they
+/// may stand.
 pub fn bits_contains<O: BitOrder, P: BitOrder, C: CellsRead, D: CellsRead>(
     cells: &mut C,
     window: Window,
@@ -58,8 +65,10 @@ pub fn bits_contains<O: BitOrder, P: BitOrder, C: CellsRead, D: CellsRead>(
 ) -> bool
     requires window { HasWindow C.Elem.BITS (C.numbers cells.old) window }
     requires right_window { HasWindow D.Elem.BITS (D.numbers right.old) needle }
-    ensures { result ≡ stands_in (list_in D.Elem.BITS P.at (D.numbers right.old) needle)
+    ensures value { result ≡ stands_in (list_in D.Elem.BITS P.at (D.numbers right.old) needle)
         (list_in C.Elem.BITS O.at (C.numbers cells.old) window) }
+    ensures reads { OnlyReadsAtMost C.CellsRead cells.old cells.new ((window.len - needle.len + 1) * needle.len) }
+    ensures right { OnlyReadsAtMost D.CellsRead right.old right.new ((window.len - needle.len + 1) * needle.len) }
 {
     if needle.len > window.len {
         return false;

@@ -1,15 +1,15 @@
 //! Each bit of a window with the one at its index in another.
 ghost use Rattle.std.specs.Prelude.{◌≡◌, ◌*◌, false, min, slice_index_or, nat_lt, if◌then◌else◌};
-ghost use Rattle.bitvec_base.specs.Lists.{combined};
-ghost use Rattle.bitvec_base.specs.Memory.{HasWindow, Writes, list_in};
-ghost use Rattle.bitvec_cells.specs.Access.{Costs, OnlyReads};
-ghost use Rattle.bitvec_words.specs.Operator.{operator};
+ghost use Rattle.bitvec_copy.specs.base.Lists.{combined};
+ghost use Rattle.bitvec_copy.specs.base.Memory.{HasWindow, Writes, list_in};
+ghost use Rattle.bitvec_copy.specs.cells.Access.{Costs, OnlyReads};
+ghost use Rattle.bitvec_copy.specs.words.Operator.{operator};
 
-use bitvec_base::{BitOrder, Window};
-use bitvec_cells::{Cells, CellsRead};
-use bitvec_store::BitStore;
-use bitvec_walk::{get_bit, replace_bit};
-use bitvec_words::BitOp;
+use bitvec_copy::base::{BitOrder, Window};
+use bitvec_copy::cells::{Cells, CellsRead};
+use bitvec_copy::store::BitStore;
+use bitvec_copy::walk::{get_bit, replace_bit};
+use bitvec_copy::words::BitOp;
 
 /// Replaces each bit of a window by what the operator makes of it and the one at its index in a
 /// window of another memory, of any element width and order, which counts as 0 past that window's

@@ -20,9 +20,62 @@ mod shifting;
 mod slice_order;
 mod swapping;
 
+/// What crates above name of `bitvec_base`.
+pub mod base {
+    pub use bitvec_copy::base::{
+        BitOrder, BitSpanError, HiLo, Lsb0, MAX_BITS, Msb0, Part, Window, first_part, last_part,
+    };
+}
+
+/// What crates above name of `bitvec_cells`.
+pub mod cells {
+    pub use bitvec_copy::cells::{Cells, CellsRead, Exclusive, Shared, fits_max_bits, has_window};
+}
+
+/// What crates above name of `bitvec_combine`.
+pub mod combine {
+    pub use bitvec_combine::combine;
+}
+
+/// What crates above name of `bitvec_compare`.
+pub mod comparisons {
+    pub use bitvec_compare::equal;
+}
+
+/// What crates above name of `bitvec_copy`.
+pub mod copy {
+    pub use bitvec_copy::{copy, copy_within};
+}
+
+/// What crates above name of `bitvec_exchange`.
+pub mod exchange {
+    pub use bitvec_exchange::{reverse, swap};
+}
+
+/// What crates above name of `bitvec_store`.
+pub mod store {
+    pub use bitvec_copy::store::BitStore;
+}
+
+/// What crates above name of `bitvec_walk`.
+pub mod walk {
+    pub use bitvec_copy::walk::{
+        count_part, fill_part, filled, first_in_element, first_in_part, invert_part,
+        last_in_element, last_in_part, sought,
+    };
+}
+
+/// What crates above name of `bitvec_words`.
+pub mod words {
+    pub use bitvec_copy::words::{
+        WORD_BITS, WordOrder, field, field_after, joined, load_field, merged, moved, reversed,
+        same_between, store_field, store_part, toward_end, toward_start,
+    };
+}
+
 pub use bit_needles::{bits_contains, bits_ends_with, bits_starts_with};
-pub use bitvec_walk::{get_bit, replace_bit, swap_bits};
-pub use bitvec_words::{BitOp, fill, invert};
+pub use bitvec_copy::walk::{get_bit, replace_bit, swap_bits};
+pub use bitvec_copy::words::{BitOp, fill, invert};
 pub use combining::bits_op;
 pub use comparing::{bits_eq, compare};
 pub use copying::bits_copy;

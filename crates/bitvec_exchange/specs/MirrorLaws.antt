@@ -2,7 +2,7 @@
 use Rattle.std.specs.Prelude.{◌≡◌, ℕ, ◌+◌, ◌-◌, ◌≤◌, List, length, reverse, slice_range}
 use Rattle.std.proofs.Common.{arith, rules}
 use Rattle.std.proofs.lemmas.List.{same_lists, places, get_or-reverse, length-reverse}
-use Rattle.bitvec_base.specs.Window.{write_at}
+use Rattle.bitvec_words.specs.base.Window.{write_at}
 use Rattle.bitvec_exchange.specs.Ends.{ends_exchanged}
 
 -- the ends of what is left are exchanged

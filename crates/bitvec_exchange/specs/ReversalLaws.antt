@@ -5,14 +5,14 @@ use Rattle.std.proofs.lemmas.Bool.{cases_lt}
 use Rattle.std.proofs.lemmas.List.{same_lists, places, get_or-reverse, length-reverse}
 use Rattle.std.proofs.lemmas.Nat.{le-div}
 use Rattle.std.proofs.Math.Nat.{mul-le-mul_left}
-use Rattle.bitvec_base.specs.declared.window.Window.{Window}
-use Rattle.bitvec_base.specs.Lists.{shifted_start}
-use Rattle.bitvec_base.specs.Memory.{Edits, HasWindow, Writes, list_in}
-use Rattle.bitvec_base.specs.ReversalLaws.{mirror-all, mirror-none}
-use Rattle.bitvec_base.specs.Window.{window_range, write_at}
-use Rattle.bitvec_base.specs.WritesLaws.{HasWindow-kept, Writes-is, Writes-next, Writes-range, length-list, list-range}
-use Rattle.bitvec_walk.specs.Cost.{reverse_loads, reverse_stores, step_span, touched, work_steps}
-use Rattle.bitvec_walk.specs.CostLaws.{touched_enough}
+use Rattle.bitvec_words.specs.base.declared.window.Window.{Window}
+use Rattle.bitvec_words.specs.base.Lists.{shifted_start}
+use Rattle.bitvec_words.specs.base.Memory.{Edits, HasWindow, Writes, list_in}
+use Rattle.bitvec_words.specs.base.ReversalLaws.{mirror-all, mirror-none}
+use Rattle.bitvec_words.specs.base.Window.{window_range, write_at}
+use Rattle.bitvec_words.specs.base.WritesLaws.{HasWindow-kept, Writes-is, Writes-next, Writes-range, length-list, list-range}
+use Rattle.bitvec_words.specs.walk.Cost.{reverse_loads, reverse_stores, step_span, touched, work_steps}
+use Rattle.bitvec_words.specs.walk.CostLaws.{touched_enough}
 use Rattle.bitvec_exchange.specs.MirrorLaws.{mirror-exchange, mirror-middle}
 use Rattle.bitvec_exchange.specs.Ends.{ends_exchanged}
 use Rattle.bitvec_words.specs.TouchedLaws.{touched-one, touched-two}

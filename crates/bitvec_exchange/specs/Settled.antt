@@ -1,6 +1,6 @@
 -- Lists that get their values from both ends.
 use Rattle.std.specs.Prelude.{ℕ, List, reverse, slice_range, take}
-use Rattle.bitvec_base.specs.Window.{write_at}
+use Rattle.bitvec_words.specs.base.Window.{write_at}
 
 -- the values of `target`, but from `low` up to `high` those of `list`
 unfoldable pub settled : {X : Type 0} → ℕ → ℕ → List X → List X → List X

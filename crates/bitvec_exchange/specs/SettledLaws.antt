@@ -3,15 +3,15 @@ use Rattle.std.specs.Prelude.{◌≡◌, ℕ, ◌+◌, ◌-◌, ◌*◌, ◌<◌
 use Rattle.std.proofs.Common.{arith, rules, sym, ◌∙◌, ap}
 use Rattle.std.proofs.lemmas.List.{same_lists, places, get_or-reverse, length-reverse, length-set}
 use Rattle.std.proofs.Math.Nat.{mul-le-mul_left}
-use Rattle.bitvec_base.specs.declared.window.Window.{Window}
-use Rattle.bitvec_base.specs.Lists.{shifted_start}
-use Rattle.bitvec_base.specs.Memory.{Edits, HasWindow, Writes, element_bits, list_in, memory_bits}
-use Rattle.bitvec_base.specs.MemoryLaws.{length-element_bits, set-element}
-use Rattle.bitvec_base.specs.SliceLaws.{range-from_start}
-use Rattle.bitvec_base.specs.Window.{window_of, write_at}
-use Rattle.bitvec_base.specs.WindowLaws.{part-of_window, part-written}
-use Rattle.bitvec_base.specs.WriteLaws.{length-write_at}
-use Rattle.bitvec_base.specs.WritesLaws.{HasWindow-kept, Writes-holds, Writes-is, Writes-next, Writes-start, length-list, within-list}
+use Rattle.bitvec_words.specs.base.declared.window.Window.{Window}
+use Rattle.bitvec_words.specs.base.Lists.{shifted_start}
+use Rattle.bitvec_words.specs.base.Memory.{Edits, HasWindow, Writes, element_bits, list_in, memory_bits}
+use Rattle.bitvec_words.specs.base.MemoryLaws.{length-element_bits, set-element}
+use Rattle.bitvec_words.specs.base.SliceLaws.{range-from_start}
+use Rattle.bitvec_words.specs.base.Window.{window_of, write_at}
+use Rattle.bitvec_words.specs.base.WindowLaws.{part-of_window, part-written}
+use Rattle.bitvec_words.specs.base.WriteLaws.{length-write_at}
+use Rattle.bitvec_words.specs.base.WritesLaws.{HasWindow-kept, Writes-holds, Writes-is, Writes-next, Writes-start, length-list, within-list}
 use Rattle.bitvec_words.specs.Elements.{elements_window}
 use Rattle.bitvec_words.specs.FieldLaws.{element_of, list-whole}
 use Rattle.bitvec_exchange.specs.Settled.{front_reversed, settled}

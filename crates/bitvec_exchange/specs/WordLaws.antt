@@ -4,18 +4,18 @@ use Rattle.std.proofs.Common.{arith, rules, sym, ◌∙◌, ap}
 use Rattle.std.proofs.lemmas.List.{same_lists, places}
 use Rattle.std.proofs.lemmas.Nat.{le-div}
 use Rattle.std.proofs.Math.Nat.{mul-le-mul_left}
-use Rattle.bitvec_base.specs.declared.window.Window.{Window}
-use Rattle.bitvec_base.specs.Lists.{shifted_end}
-use Rattle.bitvec_base.specs.Memory.{HasWindow, Writes, element_bits, list_in, memory_bits}
-use Rattle.bitvec_base.specs.MemoryLaws.{element-range, length-memory_bits}
-use Rattle.bitvec_base.specs.SliceLaws.{range-none}
-use Rattle.bitvec_base.specs.Window.{window_of, write_at}
-use Rattle.bitvec_base.specs.WindowLaws.{part-written}
-use Rattle.bitvec_base.specs.WritesLaws.{Writes-empty, Writes-is, length-list, within-list}
-use Rattle.bitvec_store.specs.Width.{IsWidth}
-use Rattle.bitvec_store.specs.WidthLaws.{at_each_width}
-use Rattle.bitvec_walk.specs.Cost.{reverse_loads, reverse_stores, step_span, work_steps}
-use Rattle.bitvec_walk.specs.WalkLaws.{div-order}
+use Rattle.bitvec_words.specs.base.declared.window.Window.{Window}
+use Rattle.bitvec_words.specs.base.Lists.{shifted_end}
+use Rattle.bitvec_words.specs.base.Memory.{HasWindow, Writes, element_bits, list_in, memory_bits}
+use Rattle.bitvec_words.specs.base.MemoryLaws.{element-range, length-memory_bits}
+use Rattle.bitvec_words.specs.base.SliceLaws.{range-none}
+use Rattle.bitvec_words.specs.base.Window.{window_of, write_at}
+use Rattle.bitvec_words.specs.base.WindowLaws.{part-written}
+use Rattle.bitvec_words.specs.base.WritesLaws.{Writes-empty, Writes-is, length-list, within-list}
+use Rattle.bitvec_words.specs.store.Width.{IsWidth}
+use Rattle.bitvec_words.specs.store.WidthLaws.{at_each_width}
+use Rattle.bitvec_words.specs.walk.Cost.{reverse_loads, reverse_stores, step_span, work_steps}
+use Rattle.bitvec_words.specs.walk.WalkLaws.{div-order}
 use Rattle.bitvec_words.specs.Elements.{elements_window}
 use Rattle.bitvec_words.specs.Field.{padded}
 

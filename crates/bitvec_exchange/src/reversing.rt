@@ -1,15 +1,15 @@
 //! The bits of a window in the opposite order, by whole elements from both ends.
 ghost use Rattle.std.specs.Prelude.{◌≡◌, ℕ, ◌+◌, ◌*◌, ◌%◌, ◌<◌, ◌≤◌, reverse as reversal, take, true};
-ghost use Rattle.bitvec_base.specs.Memory.{Edits, HasWindow, Writes, element_bits};
-ghost use Rattle.bitvec_cells.specs.Access.{CostsAtMost};
-ghost use Rattle.bitvec_walk.specs.Cost.{reverse_loads, reverse_stores};
+ghost use Rattle.bitvec_words.specs.base.Memory.{Edits, HasWindow, Writes, element_bits};
+ghost use Rattle.bitvec_words.specs.cells.Access.{CostsAtMost};
+ghost use Rattle.bitvec_words.specs.walk.Cost.{reverse_loads, reverse_stores};
 ghost use Rattle.bitvec_exchange.specs.Ends.{ends_exchanged};
 
 use crate::reversing_elements::reverse_elements;
 use crate::reversing_words::reverse_words;
-use bitvec_base::{Part, Window, first_part};
-use bitvec_cells::{Cells, CellsRead};
-use bitvec_store::BitStore;
+use bitvec_words::base::{Part, Window, first_part};
+use bitvec_words::cells::{Cells, CellsRead};
+use bitvec_words::store::BitStore;
 use bitvec_words::{
     WORD_BITS, WordOrder, field, merged, reversed, store_part, toward_end, toward_start,
 };

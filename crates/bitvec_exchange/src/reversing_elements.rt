@@ -1,15 +1,15 @@
 //! The elements of a window that begins where an element does, reversed from both ends: each is
 //! loaded once and stored once.
 ghost use Rattle.std.specs.Prelude.{◌≡◌, ℕ, ◌+◌, ◌-◌, ◌*◌, ◌/◌, ◌%◌, ◌<◌, ◌≤◌, reverse};
-ghost use Rattle.bitvec_base.specs.Memory.{Edits, HasWindow};
-ghost use Rattle.bitvec_cells.specs.Access.{Costs, CostsAtMost};
-ghost use Rattle.bitvec_walk.specs.Cost.{touched};
+ghost use Rattle.bitvec_words.specs.base.Memory.{Edits, HasWindow};
+ghost use Rattle.bitvec_words.specs.cells.Access.{Costs, CostsAtMost};
+ghost use Rattle.bitvec_words.specs.walk.Cost.{touched};
 ghost use Rattle.bitvec_words.specs.Elements.{elements_window};
 ghost use Rattle.bitvec_exchange.specs.Settled.{front_reversed};
 
-use bitvec_base::Window;
-use bitvec_cells::{Cells, CellsRead};
-use bitvec_store::BitStore;
+use bitvec_words::base::Window;
+use bitvec_words::cells::{Cells, CellsRead};
+use bitvec_words::store::BitStore;
 use bitvec_words::{WordOrder, joined, reversed, toward_start};
 
 /// Reverses the bits of a window that begins where an element does. Condition: the memory has at

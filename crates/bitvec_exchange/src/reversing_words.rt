@@ -1,14 +1,14 @@
 //! The bits of a window over narrow elements, reversed from both ends by words of 64 bits.
 ghost use Rattle.std.specs.Prelude.{◌≡◌, ℕ, ◌+◌, ◌-◌, ◌*◌, ◌%◌, ◌<◌, ◌≤◌, reverse, true};
-ghost use Rattle.bitvec_base.specs.Memory.{Edits, HasWindow};
-ghost use Rattle.bitvec_cells.specs.Access.{CostsAtMost};
-ghost use Rattle.bitvec_walk.specs.Cost.{step_span, work_steps};
+ghost use Rattle.bitvec_words.specs.base.Memory.{Edits, HasWindow};
+ghost use Rattle.bitvec_words.specs.cells.Access.{CostsAtMost};
+ghost use Rattle.bitvec_words.specs.walk.Cost.{step_span, work_steps};
 ghost use Rattle.bitvec_exchange.specs.Ends.{ends_exchanged};
 
 use crate::reversing_elements::reverse_elements;
 use crate::words::{load_word, store_word};
-use bitvec_base::Window;
-use bitvec_cells::Cells;
+use bitvec_words::base::Window;
+use bitvec_words::cells::Cells;
 use bitvec_words::{WORD_BITS, WordOrder, reversed};
 
 /// Reverses the bits of a window that begins where an element does. Condition: the memory has at

@@ -1,20 +1,20 @@
 //! The bits of two windows of one element width and order, exchanged.
 ghost use Rattle.std.specs.Prelude.{◌≡◌, true};
-ghost use Rattle.bitvec_base.specs.Memory.{HasWindow, Writes, list_in};
-ghost use Rattle.bitvec_cells.specs.Access.{CostsAtMost};
-ghost use Rattle.bitvec_walk.specs.Cost.{edit_loads, write_stores};
+ghost use Rattle.bitvec_words.specs.base.Memory.{HasWindow, Writes, list_in};
+ghost use Rattle.bitvec_words.specs.cells.Access.{CostsAtMost};
+ghost use Rattle.bitvec_words.specs.walk.Cost.{edit_loads, write_stores};
 
 use crate::swapping_equal::swap_equal;
 use crate::swapping_shifted::swap_shifted;
-use bitvec_base::{BitOrder, Window};
-use bitvec_cells::{Cells, CellsRead};
-use bitvec_store::BitStore;
 use bitvec_words::WordOrder;
+use bitvec_words::base::{BitOrder, Window};
+use bitvec_words::cells::{Cells, CellsRead};
+use bitvec_words::store::BitStore;
 
 /// Exchanges the bits of two windows of two memories of the same elements. Condition: each memory
 /// has at most `MAX_BITS` bits, each window lies in its memory, and the windows are as long. On both
 /// sides it loads and stores each element that the window touches once.
-#[tactic(auto, using(bitvec_walk::specs::CostLaws::in_steps, bitvec_store::specs::WidthLaws::width_some))]
+#[tactic(auto, using(bitvec_words::specs::Cited::in_steps, bitvec_words::specs::Cited::width_some))]
 pub fn swap<O: WordOrder, C: Cells, D: Cells + CellsRead<Elem = C::Elem>>(
     left: &mut C,
     left_window: Window,

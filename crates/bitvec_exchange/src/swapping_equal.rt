@@ -1,15 +1,15 @@
 //! Bits exchanged between windows that begin at the same index of an element: elements as they are.
 ghost use Rattle.std.specs.Prelude.{◌≡◌, ℕ, ◌*◌, ◌/◌, ◌%◌, ◌<◌, length};
-ghost use Rattle.bitvec_base.specs.Memory.{HasWindow, Writes, list_in};
-ghost use Rattle.bitvec_base.specs.Parts.{HasPart, part_window};
-ghost use Rattle.bitvec_cells.specs.Access.{Costs};
-ghost use Rattle.bitvec_walk.specs.Cost.{touched};
+ghost use Rattle.bitvec_words.specs.base.Memory.{HasWindow, Writes, list_in};
+ghost use Rattle.bitvec_words.specs.base.Parts.{HasPart, part_window};
+ghost use Rattle.bitvec_words.specs.cells.Access.{Costs};
+ghost use Rattle.bitvec_words.specs.walk.Cost.{touched};
 ghost use Rattle.bitvec_words.specs.Elements.{elements_window};
 
-use bitvec_base::{BitOrder, Part, Window, first_part};
-use bitvec_cells::{Cells, CellsRead};
-use bitvec_store::BitStore;
+use bitvec_words::base::{BitOrder, Part, Window, first_part};
+use bitvec_words::cells::{Cells, CellsRead};
 use bitvec_words::merged;
+use bitvec_words::store::BitStore;
 
 /// Exchanges two windows whose first bits have the same index in their elements. Condition: as of
 /// [`crate::swap`], and the windows aren't empty.

@@ -1,13 +1,13 @@
 //! Words of 64 bits of a memory.
 ghost use Rattle.std.specs.Prelude.{◌≡◌, ℕ, ◌/◌, ◌<◌, true};
-ghost use Rattle.bitvec_base.specs.Memory.{HasWindow, Writes, element_bits, list_in};
-ghost use Rattle.bitvec_cells.specs.Access.{Costs, CostsAtMost, OnlyReads, OnlyReadsAtMost};
-ghost use Rattle.bitvec_walk.specs.Cost.{step_span};
+ghost use Rattle.bitvec_words.specs.base.Memory.{HasWindow, Writes, element_bits, list_in};
+ghost use Rattle.bitvec_words.specs.cells.Access.{Costs, CostsAtMost, OnlyReads, OnlyReadsAtMost};
+ghost use Rattle.bitvec_words.specs.walk.Cost.{step_span};
 ghost use Rattle.bitvec_words.specs.Elements.{elements_window};
 
-use bitvec_base::{Part, Window};
-use bitvec_cells::{Cells, CellsRead};
-use bitvec_store::BitStore;
+use bitvec_words::base::{Part, Window};
+use bitvec_words::cells::{Cells, CellsRead};
+use bitvec_words::store::BitStore;
 use bitvec_words::{WORD_BITS, WordOrder, joined, merged, moved, store_part, toward_end};
 
 /// The bits of a window of 64 bits as a word. Condition: the elements are narrower than a word, and

@@ -19,18 +19,34 @@ pub trait BitField {
     ghost be: { Self → ℕ };
 
     /// The integer of the bits, the first segment lowest.
+    ///
+    /// ```
+    /// let number = view.load_le::<u128>();
+    /// view.store_le::<u128>(number);
+    /// ```
     fn load_le<I: Integral>(&self) -> I
         requires some { 0 < len self.now }
         requires bound { len self.now ≤ I.BITS }
         ensures { I.value result ≡ integer_of I.SIGNED (len self.now) (le self.now) };
 
     /// The integer of the bits, the first segment highest.
+    ///
+    /// ```
+    /// let number = view.load_be::<u128>();
+    /// view.store_be::<u128>(number);
+    /// ```
     fn load_be<I: Integral>(&self) -> I
         requires some { 0 < len self.now }
         requires bound { len self.now ≤ I.BITS }
         ensures { I.value result ≡ integer_of I.SIGNED (len self.now) (be self.now) };
 
     /// The same as [`BitField::load_le`]. The crate takes the target's byte order.
+    ///
+    /// ```
+    /// let mut view = BitSliceMut::<u16, Lsb0>::from_slice_mut(&mut cells);
+    /// view.store::<u32>(0x0123_4567);
+    /// assert!(rt; view.load::<u32>() == 0x0123_4567);
+    /// ```
     fn load<I: Integral>(&self) -> I
         requires some { 0 < len self.now }
         requires bound { len self.now ≤ I.BITS }
@@ -50,6 +66,12 @@ pub trait BitFieldMut: BitField {
     ghost writes_be: { Self → Self → ℕ → Type 0 };
 
     /// Stores a value, the first segment lowest.
+    ///
+    /// ```
+    /// let mut part = view.into_part(from..from + width);
+    /// let _len = part.len();
+    /// part.store_le::<I>(number);
+    /// ```
     fn store_le<I: Integral>(&mut self, value: I)
         requires some { 0 < Self.len self.old }
         requires bound { Self.len self.old ≤ I.BITS }
@@ -62,6 +84,12 @@ pub trait BitFieldMut: BitField {
         ensures { writes_be self.old self.new (remainder_of I.BITS (I.value value)) };
 
     /// The same as [`BitFieldMut::store_le`]. The crate takes the target's byte order.
+    ///
+    /// ```
+    /// let mut view = BitSliceMut::<u16, Lsb0>::from_slice_mut(&mut cells);
+    /// view.store::<u32>(0x0123_4567);
+    /// assert!(rt; view.load::<u32>() == 0x0123_4567);
+    /// ```
     fn store<I: Integral>(&mut self, value: I)
         requires some { 0 < Self.len self.old }
         requires bound { Self.len self.old ≤ I.BITS }

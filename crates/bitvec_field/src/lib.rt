@@ -8,6 +8,39 @@ mod slices;
 mod unsigned;
 mod views;
 
+/// What crates above name of `bitvec_base`.
+pub mod base {
+    pub use bitvec_slice::base::{Lsb0, Msb0, Window};
+}
+
+/// What crates above name of `bitvec_cells`.
+pub mod cells {
+    pub use bitvec_slice::cells::{Exclusive, Shared};
+}
+
+/// What crates above name of `bitvec_elements`.
+pub mod elements {
+    pub use bitvec_slice::elements::{
+        combine_block_in, copy_from_block_in, copy_within_in, count_in, eq_block_in, fill_in,
+        first_in, invert_in, reverse_in, rotate_left_in, shift_start_in, swap_with_block_in,
+    };
+}
+
+/// What crates above name of `bitvec_engine`.
+pub mod engine {
+    pub use bitvec_slice::engine::{BitOp, SliceOrder};
+}
+
+/// What crates above name of `bitvec_slice`.
+pub mod slice {
+    pub use bitvec_slice::{BitSlice, BitSliceMut};
+}
+
+/// What crates above name of `bitvec_store`.
+pub mod store {
+    pub use bitvec_slice::store::BitStore;
+}
+
 pub use bit_field::{BitField, BitFieldMut};
 pub use bitvec_segments::FieldOrder;
 pub use integral::Integral;

@@ -5,8 +5,8 @@ ghost use Rattle.bitvec_slice.specs.Views.{seen, seen_mut};
 use crate::slices::{load_be_in, load_le_in, store_be_in, store_le_in};
 use crate::{BitField, BitFieldMut, Integral};
 use bitvec_segments::FieldOrder;
-use bitvec_slice::{BitSlice, BitSliceMut};
-use bitvec_store::BitStore;
+use bitvec_slice::store::BitStore;
+use bitvec_slice::{BitSlice, BitSliceMut, RawElements};
 
 impl<'a, T: BitStore, O: FieldOrder> BitField for BitSlice<'a, T, O> {
     ghost len = { λ view. (seen view).window.len };

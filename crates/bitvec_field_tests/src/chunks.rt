@@ -1,8 +1,8 @@
 //! Numbers in the chunks of a view, which are lent one at a time.
-use bitvec_base::Msb0;
+use bitvec_field::base::Msb0;
+use bitvec_field::slice::BitSliceMut;
 use bitvec_field::{BitField, BitFieldMut};
 use bitvec_lent::PieceCallsMut;
-use bitvec_slice::BitSliceMut;
 
 /// Stores 0, 4, 8 and so on in the chunks of five bits, the first segment highest; how many there were.
 fn store_fours(cells: &mut [u8; 5]) -> usize {

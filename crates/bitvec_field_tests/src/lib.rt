@@ -6,6 +6,8 @@ mod chunks;
 #[cfg(test)]
 mod costs;
 #[cfg(test)]
+mod growth;
+#[cfg(test)]
 mod laws;
 #[cfg(test)]
 mod parts;

@@ -1,10 +1,10 @@
 //! A number in a part of borrowed elements.
 ghost use Rattle.std.specs.Prelude.{◌*◌, ◌≤◌, length};
-ghost use Rattle.bitvec_base.specs.Window.{max_bits};
+ghost use Rattle.bitvec_field.specs.base.Window.{max_bits};
 
+use bitvec_field::slice::{BitSlice, BitSliceMut};
+use bitvec_field::store::BitStore;
 use bitvec_field::{BitField, BitFieldMut, FieldOrder, Integral};
-use bitvec_slice::{BitSlice, BitSliceMut};
-use bitvec_store::BitStore;
 use std::ops::Range;
 
 /// Stores an integer in the bits of a range, `le` or else `be`; false where the elements haven't these

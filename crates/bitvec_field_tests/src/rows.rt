@@ -1,6 +1,6 @@
 //! Worked rows of loads and stores of views.
 use crate::{load_at, store_at};
-use bitvec_base::{Lsb0, Msb0};
+use bitvec_field::base::{Lsb0, Msb0};
 
 #[test]
 fn a_field_over_two_elements_is_read_from_either_end(rt: HostRuntime) {

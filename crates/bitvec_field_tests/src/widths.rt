@@ -5,9 +5,9 @@ use crate::{
     loaded_then_stored_be, loaded_then_stored_le, same_in_one_element, stored_then_loaded_be,
     stored_then_loaded_le,
 };
-use bitvec_base::{Lsb0, Msb0};
+use bitvec_field::base::{Lsb0, Msb0};
+use bitvec_field::slice::{BitSlice, BitSliceMut};
 use bitvec_field::{BitField, BitFieldMut, FieldOrder, Integral};
-use bitvec_slice::{BitSlice, BitSliceMut};
 
 /// Stores an integer in seven bits, the first of them the last of an element, and loads it, both ways.
 fn through_seven_bits<O: FieldOrder, I: Integral>(value: I) -> (I, I)

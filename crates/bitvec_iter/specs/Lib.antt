@@ -1,3 +1,4 @@
+pub mod cutting
 pub mod JoinLaws
 pub mod Laws
 pub mod Left

@@ -2,9 +2,9 @@
 ghost use Rattle.bitvec_slice.specs.Views.{seen, seen_mut};
 
 use crate::IterCalls;
-use bitvec_base::BitOrder;
+use bitvec_slice::base::BitOrder;
+use bitvec_slice::store::BitStore;
 use bitvec_slice::{BitSlice, BitSliceMut};
-use bitvec_store::BitStore;
 
 impl<'a, T: BitStore, O: BitOrder> IterCalls<T, O> for BitSlice<'a, T, O> {
     ghost shows = { seen };

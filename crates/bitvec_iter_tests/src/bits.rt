@@ -5,8 +5,8 @@ use crate::{
     as_bools, backwards, bit_before, bit_behind, differences, first_bits, joined, mixed_pairs,
     numbered, ones_by_chunks, ones_by_loop, ones_of_chunks, parity, parity_by_fold,
 };
-use bitvec_base::Msb0;
-use bitvec_slice::{BitSlice, BitSliceMut};
+use bitvec_query::base::Msb0;
+use bitvec_query::slice::{BitSlice, BitSliceMut};
 use std::test::Fail;
 
 #[test]

@@ -1,16 +1,16 @@
 //! Walks over bits with the adapters of std.
 ghost use Rattle.std.specs.Prelude.{◌≡◌, ◌-◌, ◌%◌, ◌&&◌, ◌<◌, ◌≤◌, ◌==◌, IfOk, MatchOption, cond, count_by, false, fold, length, map, not, reverse, slice_index_or, take, zip};
 ghost use Rattle.std.specs.List.{enumerate_from, list_all, list_any};
-ghost use Rattle.bitvec_cutting.specs.Cutting.{chunk, chunk_count, window, window_count};
+ghost use Rattle.bitvec_iter.specs.cutting.Cutting.{chunk, chunk_count, window, window_count};
 ghost use Rattle.bitvec_iter.specs.Parts.{parts_of};
-ghost use Rattle.bitvec_slice.specs.Views.{seen};
+ghost use Rattle.bitvec_query.specs.slice.Views.{seen};
 
-use bitvec_base::BitOrder;
-use bitvec_engine::SliceOrder;
 use bitvec_iter::IterCalls;
 use bitvec_query::BitQueries;
-use bitvec_slice::BitSlice;
-use bitvec_store::BitStore;
+use bitvec_query::base::BitOrder;
+use bitvec_query::engine::SliceOrder;
+use bitvec_query::slice::BitSlice;
+use bitvec_query::store::BitStore;
 use std::alloc::{AllocError, Global};
 
 /// Whether an odd number of bits is 1.

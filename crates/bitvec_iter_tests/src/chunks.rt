@@ -1,8 +1,8 @@
 //! Chunks of a view, from both ends.
-use bitvec_base::{Lsb0, Msb0};
 use bitvec_edit::BitEdits;
 use bitvec_lent::PieceCallsMut;
-use bitvec_slice::BitSliceMut;
+use bitvec_query::base::{Lsb0, Msb0};
+use bitvec_query::slice::BitSliceMut;
 
 /// Sets the second of the two chunks of four bits.
 fn set_second(bytes: &mut [u8; 1]) {

@@ -1,11 +1,13 @@
 //! Halves of a view.
 ghost use Rattle.std.specs.Prelude.{◌≤◌};
 
-use bitvec_base::{Lsb0, Msb0};
 use bitvec_edit::BitEdits;
-use bitvec_engine::SliceOrder;
 use bitvec_lent::PieceCallsMut;
-use bitvec_slice::BitSliceMut;
+use bitvec_query::base::{Lsb0, Msb0, Window};
+use bitvec_query::engine::SliceOrder;
+use bitvec_query::slice::BitSliceMut;
+use std::process::Abort;
+use test_bits::{MEMORIES, bits_of, flipped};
 
 /// Sets the bits before `mid`, and clears those from it on.
 fn paint<O: SliceOrder>(bytes: &mut [u8; 1], mid: usize)
@@ -94,4 +96,57 @@ fn a_cut_at_the_end_leaves_nothing_on_the_right(rt: HostRuntime) {
     let mut bytes = [0x00u8];
     let mut view = BitSliceMut::from_slice_mut(&mut bytes);
     assert_eq!(rt; right_of_all(&mut view), 0);
+}
+
+/// What is flipped of the halves that a cut at an end gives.
+#[derive(Clone, Copy)]
+enum End {
+    First,
+    BehindFirst,
+    BeforeLast,
+    Last,
+}
+
+/// Flips one of the halves at an end of the bits 3 up to 21, and says where these stand then.
+fn flip_at_end(bytes: &mut [u8; 3], end: End) -> Window {
+    let mut view = BitSliceMut::<u8, Lsb0>::from_slice_mut(bytes).into_part(3..21);
+    flip_half(&mut view, end);
+    view.window()
+}
+
+/// Flips one of the halves at an end of a view, if it has any bit.
+fn flip_half(view: &mut BitSliceMut<'_, u8, Lsb0>, end: End) {
+    let halves = match end {
+        End::First | End::BehindFirst => view.split_first_mut(),
+        End::BeforeLast | End::Last => view.split_last_mut(),
+    };
+    if let Some(mut halves) = halves {
+        let mut half = match end {
+            End::First | End::BeforeLast => halves.left_mut(),
+            End::BehindFirst | End::Last => halves.right_mut(),
+        };
+        half.invert();
+    }
+}
+
+/// Asserts that a half at an end has the bits from one place up to another, and leaves all else.
+fn has_half<R: Abort>(rt: &R, end: End, from: usize, to: usize) {
+    for bytes in MEMORIES {
+        let mut after = bytes;
+        let window = flip_at_end(&mut after, end);
+        assert_eq!(rt; bits_of(after), flipped(bytes, from, to));
+        assert_eq!(rt; window, Window { start: 3, len: 18 });
+    }
+}
+
+#[test]
+fn split_first_mut_lends_both_halves(rt: HostRuntime) {
+    has_half(&rt, End::First, 3, 4);
+    has_half(&rt, End::BehindFirst, 4, 21);
+}
+
+#[test]
+fn split_last_mut_lends_both_halves(rt: HostRuntime) {
+    has_half(&rt, End::BeforeLast, 3, 20);
+    has_half(&rt, End::Last, 20, 21);
 }

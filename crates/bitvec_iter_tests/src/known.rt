@@ -1,12 +1,12 @@
 //! What a caller knows of a view once pieces of it were lent.
 ghost use Rattle.std.specs.Prelude.{◌≡◌, ◌≤◌, length};
-ghost use Rattle.bitvec_slice.specs.Views.{name_of, seen_mut};
+ghost use Rattle.bitvec_query.specs.slice.Views.{name_of, seen_mut};
 
 use bitvec_edit::BitEdits;
-use bitvec_engine::SliceOrder;
 use bitvec_lent::PieceCallsMut;
-use bitvec_slice::BitSliceMut;
-use bitvec_store::BitStore;
+use bitvec_query::engine::SliceOrder;
+use bitvec_query::slice::BitSliceMut;
+use bitvec_query::store::BitStore;
 
 /// Sets the bits before `mid` in place: the view stays where it is.
 pub fn fill_left<T: BitStore, O: SliceOrder>(view: &mut BitSliceMut<'_, T, O>, mid: usize)

@@ -1,7 +1,7 @@
 //! Single bits of a view.
-use bitvec_base::Lsb0;
 use bitvec_lent::PieceCallsMut;
-use bitvec_slice::BitSliceMut;
+use bitvec_query::base::Lsb0;
+use bitvec_query::slice::BitSliceMut;
 
 /// Sets the first bit, the last, and the third of the others.
 fn set_three(bytes: &mut [u8; 1]) -> usize {

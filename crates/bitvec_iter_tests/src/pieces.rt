@@ -1,9 +1,9 @@
 //! Walks over the pieces of 0, 0, 0, 1, 0, 1, 1, 1, of which no two of one length above 2 are the same.
 
 use crate::reading::read;
-use bitvec_base::Msb0;
 use bitvec_iter::IterCalls;
-use bitvec_slice::{BitSlice, BitSliceMut};
+use bitvec_query::base::Msb0;
+use bitvec_query::slice::{BitSlice, BitSliceMut};
 use std::test::Fail;
 
 #[test]

@@ -1,7 +1,7 @@
 //! What a test reads of a piece.
 
-use bitvec_base::Msb0;
-use bitvec_slice::BitSlice;
+use bitvec_query::base::Msb0;
+use bitvec_query::slice::BitSlice;
 
 /// How many bits the piece has, and the number that they write, the first bit highest.
 pub(crate) fn read(piece: Option<BitSlice<'_, u8, Msb0>>) -> Option<(usize, u32)> {

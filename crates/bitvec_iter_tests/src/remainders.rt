@@ -1,8 +1,8 @@
 //! What no exact chunk has.
-use bitvec_base::Lsb0;
 use bitvec_edit::BitEdits;
 use bitvec_lent::PieceCallsMut;
-use bitvec_slice::BitSliceMut;
+use bitvec_query::base::Lsb0;
+use bitvec_query::slice::BitSliceMut;
 
 /// Sets the remainder of the chunks of three bits, twice.
 fn set_remainder(bytes: &mut [u8; 1]) -> (usize, usize) {
@@ -28,17 +28,24 @@ fn a_remainder_is_taken_once(rt: HostRuntime) {
     assert_eq!(rt; bytes, [0xC0]);
 }
 
-/// Takes the remainder, sets the first chunk, and gives how many were there.
-fn set_first(view: &mut BitSliceMut<'_, u8, Lsb0>) -> usize {
+/// Takes the remainder, sets the first bit of each chunk that comes at three calls, and gives how many
+/// were there, and how many came.
+fn set_first_bits(view: &mut BitSliceMut<'_, u8, Lsb0>) -> (usize, usize) {
     let mut chunks = view.chunks_exact_mut(3);
     let count = chunks.len();
     {
         let _rest = chunks.take_remainder();
     }
-    if let Some(mut chunk) = chunks.next_mut() {
-        chunk.fill(true);
+    let mut came = 0usize;
+    for _ in 0..3 {
+        if let Some(mut chunk) = chunks.next_mut() {
+            came = came.wrapping_add(1);
+            if !chunk.is_empty() {
+                chunk.set(0, true);
+            }
+        }
     }
-    count
+    (count, came)
 }
 
 /// How long the remainder is at the end, where it was taken before.
@@ -55,9 +62,9 @@ fn left_at_the_end(view: &mut BitSliceMut<'_, u8, Lsb0>) -> usize {
 fn the_chunks_still_come(rt: HostRuntime) {
     let mut bytes = [0x00u8];
     let mut view = BitSliceMut::from_slice_mut(&mut bytes);
-    assert_eq!(rt; set_first(&mut view), 2);
+    assert_eq!(rt; set_first_bits(&mut view), (2, 2));
     assert_eq!(rt; left_at_the_end(&mut view), 0);
-    assert_eq!(rt; bytes, [0x07]);
+    assert_eq!(rt; bytes, [0x09]);
 }
 
 /// Sets what is left before the chunks from the end.

@@ -1,7 +1,7 @@
 //! Commands through two halves.
-use bitvec_base::{Lsb0, Msb0};
+use bitvec_query::base::{Lsb0, Msb0};
+use bitvec_query::slice::{BitSlice, BitSliceMut};
 use bitvec_run_halves::{Op, Refusal, Reply, Side, Step, run_halves};
-use bitvec_slice::{BitSlice, BitSliceMut};
 
 #[test]
 fn halves_of_a_byte(rt: HostRuntime) {

@@ -1,9 +1,10 @@
 //! The greatest widths, the greatest numbers, and views without bits.
 
 use crate::reading::read;
-use bitvec_base::Msb0;
 use bitvec_iter::IterCalls;
-use bitvec_slice::BitSlice;
+use bitvec_query::base::Msb0;
+use bitvec_query::slice::BitSlice;
+use test_bits::stays_ended_at_both;
 
 /// Whether the walk gives nothing behind its end, and nothing ever after.
 fn ends<I: Iterator>(mut walk: I) -> bool
@@ -14,13 +15,27 @@ where
     walk.nth(usize::MAX).is_none() && walk.next().is_none() && walk.nth(0).is_none()
 }
 
+/// Whether two walks, of which one is called from the front first and one from the back, give nothing at
+/// ten calls past their ends, and have nothing left.
+fn stay_ended<I: DoubleEndedIterator + ExactSizeIterator>(mut first: I, mut second: I) -> bool
+where
+    I::Item: Drop,
+    requires front { (state : I) → I.can_next state }
+    requires back { (state : I) → I.can_next_back state }
+{
+    stays_ended_at_both(&mut first, &mut second) && first.len() == 0 && second.len() == 0
+}
+
 #[test]
 fn nothing_comes_behind_the_end(rt: HostRuntime) {
-    let cells = [0x17u8];
-    let view = BitSlice::<u8, Msb0>::from_slice(&cells);
+    let cells = [0x17u8, 0x2C, 0x91];
+    let view = BitSlice::<u8, Msb0>::from_slice(&cells).into_part(3..21);
     assert!(rt; ends(view.iter()));
     assert!(rt; ends(view.iter().by_refs()));
     assert!(rt; ends(view.iter().by_vals()));
+    assert!(rt; stay_ended(view.iter(), view.iter()));
+    assert!(rt; stay_ended(view.iter().by_refs(), view.iter().by_refs()));
+    assert!(rt; stay_ended(view.iter().by_vals(), view.iter().by_vals()));
 }
 
 #[test]
@@ -32,6 +47,17 @@ fn no_piece_comes_behind_the_end(rt: HostRuntime) {
     assert!(rt; ends(view.chunks_exact(2)));
     assert!(rt; ends(view.rchunks(2)));
     assert!(rt; ends(view.rchunks_exact(2)));
+}
+
+#[test]
+fn no_piece_comes_at_ten_calls_behind_the_end(rt: HostRuntime) {
+    let cells = [0x17u8, 0x2C, 0x91];
+    let view = BitSlice::<u8, Msb0>::from_slice(&cells).into_part(3..21);
+    assert!(rt; stay_ended(view.windows(4), view.windows(4)));
+    assert!(rt; stay_ended(view.chunks(4), view.chunks(4)));
+    assert!(rt; stay_ended(view.chunks_exact(4), view.chunks_exact(4)));
+    assert!(rt; stay_ended(view.rchunks(4), view.rchunks(4)));
+    assert!(rt; stay_ended(view.rchunks_exact(4), view.rchunks_exact(4)));
 }
 
 #[test]

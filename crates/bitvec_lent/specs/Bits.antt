@@ -1,8 +1,8 @@
 -- A writable walk over single bits, as contracts see it.
 use Rattle.std.specs.Prelude.{◌≡◌, ℕ, ◌+◌, ◌-◌, min}
 use Rattle.std.specs.Borrow.{GName}
-use Rattle.bitvec_store.specs.declared.store.BitStore.{Ghosts as Store}
-use Rattle.bitvec_base.specs.declared.order.BitOrder.{Ghosts as Order}
+use Rattle.bitvec_slice.specs.store.declared.store.BitStore.{Ghosts as Store}
+use Rattle.bitvec_slice.specs.base.declared.order.BitOrder.{Ghosts as Order}
 use Rattle.bitvec_slice.specs.Seen.{Seen, shown}
 use Rattle.bitvec_lent.specs.declared.bits.IterMut.{IterMut}
 

@@ -1,10 +1,10 @@
 //! The bits of a writable view, lent one at a time.
 ghost use Rattle.std.specs.Prelude.{◌≡◌, ◌+◌, ◌-◌, ◌*◌, ◌<◌, ◌≤◌, length, nat_le, slice_range};
-ghost use Rattle.bitvec_base.specs.Window.{max_bits};
+ghost use Rattle.bitvec_slice.specs.base.Window.{max_bits};
 
-use bitvec_base::{BitOrder, Window};
-use bitvec_slice::{BitRefMut, BitSlice, BitSliceMut, touched};
-use bitvec_store::BitStore;
+use bitvec_slice::base::{BitOrder, Window};
+use bitvec_slice::store::BitStore;
+use bitvec_slice::{BitRefMut, BitSlice, BitSliceMut, RawElements, touched};
 use std::marker::PhantomData;
 
 /// The bits of a writable view, which are lent one at a time, from both ends: `iter_mut` makes it.
@@ -26,7 +26,7 @@ pub struct IterMut<'a, T: BitStore, O: BitOrder> {
 
 impl<'a, T: BitStore, O: BitOrder> IterMut<'a, T, O> {
     ghost use Rattle.std.specs.Borrow.{sem};
-    ghost use Rattle.bitvec_reference.specs.References.{name_of_ref_mut};
+    ghost use Rattle.bitvec_slice.specs.reference.References.{name_of_ref_mut};
     ghost use Rattle.bitvec_slice.specs.Indices.{WritesBitOf};
     ghost use Rattle.bitvec_slice.specs.Lending.{lends};
     ghost use Rattle.bitvec_slice.specs.Seen.{IsGiven, IsRangeOf, shown};

@@ -6,10 +6,10 @@ ghost use Rattle.bitvec_cutting.specs.Cutting.{chunk_count, whole_count};
 use crate::{
     ChunksExactMut, ChunksMut, HalvesMut, IterMut, PiecesMut, RChunksExactMut, RChunksMut,
 };
-use bitvec_base::BitOrder;
 use bitvec_cutting::{InChunks, InChunksFromEnd, InExactChunks, InExactChunksFromEnd};
 use bitvec_slice::BitSliceMut;
-use bitvec_store::BitStore;
+use bitvec_slice::base::BitOrder;
+use bitvec_slice::store::BitStore;
 
 /// The crate's calls on a `&mut BitSlice` that give pieces of it for writing, lent one at a time.
 /// Indices and widths are in bits.
@@ -27,11 +27,21 @@ pub trait PieceCallsMut<T: BitStore, O: BitOrder> {
     ghost with_elements: { Self → List T → Self };
 
     /// The bits.
+    ///
+    /// ```
+    /// let mut view = BitSliceMut::<u8, Lsb0>::from_slice_mut(bytes);
+    /// let mut bits = view.iter_mut();
+    /// ```
     fn iter_mut(&mut self) -> IterMut<'_, T, O>
         ensures* writes_back { sem 𝓛 (follows Self.row (Array T.row 0) self.entry.ghost_name (name_of_bits result) (with_elements self.old)) }
         ensures walk { IsAllOf (shows self.old) (bits_left result) };
 
     /// The bits before the index `mid`, and those from it on. Condition: `mid` is at most `len`.
+    ///
+    /// ```
+    /// let mut view = BitSliceMut::<u8, O>::from_slice_mut(bytes);
+    /// let mut halves = view.split_at_mut(mid);
+    /// ```
     fn split_at_mut(&mut self, mid: usize) -> HalvesMut<'_, T, O>
         requires { mid ≤ (shows self.old).window.len }
         ensures* writes_back { sem 𝓛 (follows Self.row (Array T.row 0) self.entry.ghost_name (name_of_halves result) (with_elements self.old)) }
@@ -54,6 +64,11 @@ pub trait PieceCallsMut<T: BitStore, O: BitOrder> {
 
     /// The chunks of `width` bits from the first bit on: the last may be shorter. Condition: `width` is
     /// not 0.
+    ///
+    /// ```
+    /// let mut view = BitSliceMut::<u8, Lsb0>::from_slice_mut(bytes);
+    /// let mut chunks = view.chunks_mut(3);
+    /// ```
     fn chunks_mut(&mut self, width: usize) -> ChunksMut<'_, T, O>
         requires { 0 < width }
         ensures* writes_back { sem 𝓛 (follows Self.row (Array T.row 0) self.entry.ghost_name (name_of_pieces result) (with_elements self.old)) }
@@ -62,6 +77,11 @@ pub trait PieceCallsMut<T: BitStore, O: BitOrder> {
 
     /// The whole chunks of `width` bits from the first bit on: the others are the remainder. Condition:
     /// `width` is not 0.
+    ///
+    /// ```
+    /// let mut view = BitSliceMut::<u8, Msb0>::from_slice_mut(bytes);
+    /// let mut chunks = view.chunks_exact_mut(4);
+    /// ```
     fn chunks_exact_mut(&mut self, width: usize) -> ChunksExactMut<'_, T, O>
         requires { 0 < width }
         ensures* writes_back { sem 𝓛 (follows Self.row (Array T.row 0) self.entry.ghost_name (name_of_pieces result) (with_elements self.old)) }
@@ -70,6 +90,11 @@ pub trait PieceCallsMut<T: BitStore, O: BitOrder> {
 
     /// The chunks of `width` bits from the last bit on: the last, which begins the view, may be shorter.
     /// Condition: `width` is not 0.
+    ///
+    /// ```
+    /// let mut view = BitSliceMut::<u8, Lsb0>::from_slice_mut(bytes);
+    /// let mut chunks = view.rchunks_mut(3);
+    /// ```
     fn rchunks_mut(&mut self, width: usize) -> RChunksMut<'_, T, O>
         requires { 0 < width }
         ensures* writes_back { sem 𝓛 (follows Self.row (Array T.row 0) self.entry.ghost_name (name_of_pieces result) (with_elements self.old)) }
@@ -78,6 +103,12 @@ pub trait PieceCallsMut<T: BitStore, O: BitOrder> {
 
     /// The whole chunks of `width` bits from the last bit on: the others are the remainder. Condition:
     /// `width` is not 0.
+    ///
+    /// ```
+    /// let chunks = view.rchunks_exact_mut(3);
+    /// let mut rest = chunks.into_remainder();
+    /// rest.fill(true);
+    /// ```
     fn rchunks_exact_mut(&mut self, width: usize) -> RChunksExactMut<'_, T, O>
         requires { 0 < width }
         ensures* writes_back { sem 𝓛 (follows Self.row (Array T.row 0) self.entry.ghost_name (name_of_pieces result) (with_elements self.old)) }

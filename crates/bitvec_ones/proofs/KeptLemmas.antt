@@ -5,18 +5,18 @@ use Rattle.std.proofs.Common.{arith, sym, ◌∙◌, ap, ⊎_elim}
 use Rattle.std.proofs.lemmas.Bool.{cases_lt}
 use Rattle.std.proofs.lemmas.List.{places}
 use Rattle.std.proofs.lemmas.Nat.Bits.{bit_at-trailing_zeros, bit_at-zero}
-use Rattle.bitvec_base.specs.declared.window.Window.{Window}
-use Rattle.bitvec_base.specs.FoundLaws.{bit-set, set-bit}
-use Rattle.bitvec_base.specs.Memory.{HasWindow, element_bits, list_in, memory_bits}
-use Rattle.bitvec_base.specs.Window.{window_range}
-use Rattle.bitvec_base.specs.WindowLaws.{get-window, window-past}
-use Rattle.bitvec_base.specs.WritesLaws.{HasWindow-range, within-list}
-use Rattle.bitvec_engine.specs.Front.{IsFront}
+use Rattle.bitvec_query.specs.base.declared.window.Window.{Window}
+use Rattle.bitvec_query.specs.base.FoundLaws.{bit-set, set-bit}
+use Rattle.bitvec_query.specs.base.Memory.{HasWindow, element_bits, list_in, memory_bits}
+use Rattle.bitvec_query.specs.base.Window.{window_range}
+use Rattle.bitvec_query.specs.base.WindowLaws.{get-window, window-past}
+use Rattle.bitvec_query.specs.base.WritesLaws.{HasWindow-range, within-list}
+use Rattle.bitvec_query.specs.engine.Front.{IsFront}
 use Rattle.bitvec_turns.specs.declared.rest.Rest.{Rest}
 use Rattle.bitvec_turns.specs.Places.{places_in}
 use Rattle.bitvec_turns.specs.PlacesLaws.{places-next, places-none}
-use Rattle.bitvec_walk.specs.Sought.{Shows}
-use Rattle.bitvec_words.specs.Field.{padded}
+use Rattle.bitvec_query.specs.walk.Sought.{Shows}
+use Rattle.bitvec_query.specs.words.Field.{padded}
 use Rattle.bitvec_ones.specs.Kept.{Keeps}
 use Rattle.bitvec_ones.specs.declared.kept.Kept.{Kept}
 use Rattle.bitvec_ones.proofs.LowestLemmas.{lowest-cleared, lowest-others}

@@ -1,3 +1,6 @@
+pub mod base
+pub mod slice
+pub mod turns
 pub mod Indices
 pub mod IndicesLaws
 pub mod Kept

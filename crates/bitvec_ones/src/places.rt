@@ -1,16 +1,16 @@
 //! The indices of the bits of a view that are 1, or 0, from both ends.
 ghost use Rattle.std.specs.Prelude.{◌≡◌, ⊤};
-ghost use Rattle.bitvec_slice.specs.Views.{seen};
+ghost use Rattle.bitvec_query.specs.slice.Views.{seen};
 ghost use Rattle.bitvec_turns.specs.Places.{IsRestOf};
 ghost use Rattle.bitvec_ones.specs.Kept.{Keeps};
 
 use crate::kept::{Kept, sought_first, take_kept};
 use crate::wanted::{Ones, Wanted, Zeros};
-use bitvec_base::BitOrder;
-use bitvec_cells::Shared;
-use bitvec_engine::SliceOrder;
-use bitvec_slice::BitSlice;
-use bitvec_store::BitStore;
+use bitvec_query::base::BitOrder;
+use bitvec_query::cells::Shared;
+use bitvec_query::engine::SliceOrder;
+use bitvec_query::slice::BitSlice;
+use bitvec_query::store::BitStore;
 use bitvec_turns::{Rest, count_left, take_last};
 use std::alloc::AllocError;
 use std::iter::FusedIterator;
@@ -58,8 +58,8 @@ impl<'a, T: BitStore, O: BitOrder, W: Wanted> Clone for Places<'a, T, O, W> {
 
 impl<'a, T: BitStore, O: BitOrder, W: Wanted> Places<'a, T, O, W> {
     ghost use Rattle.std.specs.Prelude.{◌≤◌, length};
-    ghost use Rattle.bitvec_base.specs.Lists.{places_of};
-    ghost use Rattle.bitvec_base.specs.Window.{max_bits};
+    ghost use Rattle.bitvec_query.specs.base.Lists.{places_of};
+    ghost use Rattle.bitvec_query.specs.base.Window.{max_bits};
     ghost use Rattle.bitvec_ones.specs.Indices.{RunsInOrder, RunsInReverse, indices_left};
 
     /// The indices of all bits of the view that `W` names. The crate has no such call.

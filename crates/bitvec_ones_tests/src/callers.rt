@@ -1,12 +1,12 @@
 //! What callers know of the indices that walks give them.
 ghost use Rattle.std.specs.Prelude.{◌≡◌, ◌≤◌, IfOk, false, length, reverse, sum, true};
-ghost use Rattle.bitvec_base.specs.Lists.{places_of};
-ghost use Rattle.bitvec_slice.specs.Views.{seen, seen_mut};
+ghost use Rattle.bitvec_ones.specs.base.Lists.{places_of};
+ghost use Rattle.bitvec_ones.specs.slice.Views.{seen, seen_mut};
 
-use bitvec_engine::SliceOrder;
 use bitvec_ones::OnesCalls;
-use bitvec_slice::{BitSlice, BitSliceMut};
-use bitvec_store::BitStore;
+use bitvec_ones::engine::SliceOrder;
+use bitvec_ones::slice::{BitSlice, BitSliceMut};
+use bitvec_ones::store::BitStore;
 use std::alloc::{AllocError, Allocator};
 
 /// The indices of all ones, collected.

@@ -1,9 +1,9 @@
 //! Walks from both ends that meet.
-use bitvec_base::{Lsb0, Msb0};
-use bitvec_engine::SliceOrder;
+use bitvec_ones::base::{Lsb0, Msb0};
+use bitvec_ones::engine::SliceOrder;
+use bitvec_ones::slice::BitSlice;
+use bitvec_ones::store::BitStore;
 use bitvec_ones::{OnesCalls, Places, Wanted};
-use bitvec_slice::BitSlice;
-use bitvec_store::BitStore;
 use std::alloc::{AllocError, Allocator};
 use std::test::Fail;
 

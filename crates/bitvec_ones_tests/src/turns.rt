@@ -1,13 +1,13 @@
 //! Turns of a walk from both ends, and the loads that they take.
 ghost use Rattle.std.specs.Prelude.{◌≡◌, length};
-ghost use Rattle.bitvec_base.specs.Memory.{HasWindow};
+ghost use Rattle.bitvec_ones.specs.base.Memory.{HasWindow};
 
-use bitvec_base::{HiLo, Lsb0, Window};
-use bitvec_cells::Shared;
-use bitvec_engine::SliceOrder;
+use bitvec_ones::base::{HiLo, Lsb0, Window};
+use bitvec_ones::cells::Shared;
+use bitvec_ones::engine::SliceOrder;
+use bitvec_ones::turns::End::{Back, Front};
+use bitvec_ones::turns::{End, scan_turns};
 use bitvec_test_support::Counted;
-use bitvec_turns::End::{Back, Front};
-use bitvec_turns::{End, scan_turns};
 
 /// What the turns give of a window of some bytes, in `out`, and how many loads they take.
 fn walk<O: SliceOrder>(

@@ -1,9 +1,10 @@
 //! Walks over the ones and the zeros of views.
 use crate::callers::{number_of_ones, ones_in_turn, ones_of, zeros_from_the_back};
-use bitvec_base::{HiLo, Lsb0, Msb0};
+use bitvec_ones::base::{HiLo, Lsb0, Msb0};
+use bitvec_ones::slice::{BitSlice, BitSliceMut};
 use bitvec_ones::{IterOnes, IterZeros, OnesCalls};
-use bitvec_slice::{BitSlice, BitSliceMut};
 use std::test::Fail;
+use test_bits::stays_ended_at_both;
 
 #[test]
 fn ones_from_both_ends(rt: HostRuntime) {
@@ -42,6 +43,18 @@ fn an_index_far_behind(rt: HostRuntime) {
         (zeros.nth(usize::MAX), zeros.next(), zeros.next_back()),
         (None, None, None)
     );
+}
+
+#[test]
+fn nothing_comes_at_ten_calls_behind_the_end(rt: HostRuntime) {
+    let cells = [0xA6u8, 0x3C, 0x59];
+    let view = BitSlice::<u8, Msb0>::from_slice(&cells).into_part(3..21);
+    let (mut first, mut second) = (view.iter_ones(), view.iter_ones());
+    assert!(rt; stays_ended_at_both(&mut first, &mut second));
+    assert_eq!(rt; (first.len(), second.len()), (0, 0));
+    let (mut first, mut second) = (view.iter_zeros(), view.iter_zeros());
+    assert!(rt; stays_ended_at_both(&mut first, &mut second));
+    assert_eq!(rt; (first.len(), second.len()), (0, 0));
 }
 
 #[test]

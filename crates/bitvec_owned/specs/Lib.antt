@@ -1,2 +1,6 @@
+pub mod edit
+pub mod query
+pub mod Cited
 pub mod Copies
 pub mod Owned
+pub mod Writes

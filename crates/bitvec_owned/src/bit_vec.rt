@@ -1,23 +1,24 @@
 //! An owned sequence of bits.
-ghost use Rattle.std.specs.Prelude.{◌≡◌, ◌+◌, ◌*◌, ◌<◌, ◌≤◌, vec_len};
+ghost use Rattle.std.specs.Prelude.{◌≡◌, ◌+◌, ◌*◌, ◌<◌, ◌≤◌, ◌==◌, length, map, vec_len};
 ghost use Rattle.std.specs.Int.{div_ceil};
-ghost use Rattle.bitvec_base.specs.Window.{max_bits};
+ghost use Rattle.bitvec_edit.specs.base.Window.{max_bits};
 
-use bitvec_base::BitOrder;
-use bitvec_slice::{BitSlice, BitSliceMut};
-use bitvec_store::BitStore;
+use bitvec_edit::base::{BitOrder, Window};
+use bitvec_edit::slice::{BitSlice, BitSliceMut};
+use bitvec_edit::store::BitStore;
 use std::alloc::Allocator;
 use std::marker::PhantomData;
 
 /// A sequence of bits in memory of its own.
 ///
 /// It has just the elements that its bits touch, and the index in the first of them at which it begins.
-/// Contracts see it as they see a view of its bits.
+/// Contracts see it as they see a view of its bits. It has as many bits as it was made with: the crate's
+/// calls that add or take bits are not here.
 #[derive(Drop)]
 pub struct BitVec<T: BitStore, O: BitOrder, A: Allocator> {
-    elements: Vec<T, A>,
-    head: usize,
-    len: usize,
+    pub(crate) elements: Vec<T, A>,
+    pub(crate) head: usize,
+    pub(crate) len: usize,
     order: PhantomData<O>,
     ghost begins: { head < T.BITS },
     ghost touched: { vec_len elements ≡ div_ceil (head + len) T.BITS },
@@ -25,8 +26,9 @@ pub struct BitVec<T: BitStore, O: BitOrder, A: Allocator> {
 }
 
 impl<T: BitStore, O: BitOrder, A: Allocator> BitVec<T, O, A> {
-    ghost use Rattle.bitvec_slice.specs.Seen.{shown};
-    ghost use Rattle.bitvec_slice.specs.Views.{seen, seen_mut};
+    ghost use Rattle.bitvec_edit.specs.base.Memory.{HasWindow};
+    ghost use Rattle.bitvec_edit.specs.slice.Seen.{shown};
+    ghost use Rattle.bitvec_edit.specs.slice.Views.{seen, seen_mut};
     ghost use Rattle.bitvec_owned.specs.Owned.{owned};
 
     pub(crate) fn from_parts(elements: Vec<T, A>, head: usize, len: usize) -> Self
@@ -47,7 +49,7 @@ impl<T: BitStore, O: BitOrder, A: Allocator> BitVec<T, O, A> {
     pub fn as_bitslice(&self) -> BitSlice<'_, T, O>
         ensures { seen result ≡ owned self.now }
     {
-        BitSlice::from_slice(self.elements.as_slice()).into_part(self.head..self.head + self.len)
+        BitSlice::from_parts(self.elements.as_slice(), self.head, self.len)
     }
 
     /// A view that writes the bits.
@@ -55,15 +57,24 @@ impl<T: BitStore, O: BitOrder, A: Allocator> BitVec<T, O, A> {
         ensures { seen_mut result ≡ owned self.old }
     {
         let head = self.head;
-        let end = head + self.len;
-        BitSliceMut::from_slice_mut(self.elements.as_mut_slice()).into_part(head..end)
+        let len = self.len;
+        BitSliceMut::from_parts(self.elements.as_mut_slice(), head, len)
     }
 
     /// How many bits there are.
     pub fn len(&self) -> usize
-        ensures { result ≡ (owned self.now).window.len }
+        ensures value { result ≡ length (owned self.now).bits }
+        ensures window { result ≡ (owned self.now).window.len }
+        ensures bound { result ≤ max_bits }
     {
-        self.len
+        self.as_bitslice().len()
+    }
+
+    /// Whether there is no bit.
+    pub fn is_empty(&self) -> bool
+        ensures { result ≡ ((owned self.now).window.len == 0) }
+    {
+        self.len == 0
     }
 
     /// The elements: just those that the bits touch.
@@ -71,5 +82,26 @@ impl<T: BitStore, O: BitOrder, A: Allocator> BitVec<T, O, A> {
         ensures { result.now ≡ (owned self.now).elements }
     {
         self.elements.as_slice()
+    }
+
+    /// Ends the sequence, and gives its elements: `into_vec` of the crate.
+    pub fn into_elements(self) -> Vec<T, A>
+        ensures { result.items ≡ (owned self).elements }
+    {
+        let BitVec {
+            elements,
+            head: _,
+            len: _,
+            order: _,
+        } = self;
+        elements
+    }
+
+    /// Where the bits stand among the elements. The crate has no such call.
+    pub fn window(&self) -> Window
+        ensures value { result ≡ (owned self.now).window }
+        ensures inside { HasWindow T.BITS (map T.value (owned self.now).elements) result }
+    {
+        self.as_bitslice().window()
     }
 }

@@ -1,23 +1,24 @@
-//! Views are copied and repeated.
+//! Views, and owned sequences, are copied and repeated.
 ghost use Rattle.std.specs.Prelude.{◌≡◌, ◌*◌, ◌<◌, ◌↔◌, IfOk, IsErrOf, IsOk};
 ghost use Rattle.std.specs.List.{repeat};
-ghost use Rattle.bitvec_base.specs.Window.{max_bits};
+ghost use Rattle.bitvec_edit.specs.base.Window.{max_bits};
 ghost use Rattle.bitvec_owned.specs.Copies.{Holds, copy_start};
 ghost use Rattle.bitvec_owned.specs.Owned.{owned};
 ghost use Rattle.bitvec_owned.specs.declared.repeating.RepeatError.TheVariants.{TooLong};
-ghost use Rattle.bitvec_slice.specs.Views.{seen, seen_mut};
+ghost use Rattle.bitvec_edit.specs.slice.Views.{seen, seen_mut};
 
 use crate::copying::copy_of;
 use crate::repeating::repeat_of;
 use crate::{BitVec, RepeatError};
-use bitvec_engine::SliceOrder;
-use bitvec_slice::{BitSlice, BitSliceMut};
-use bitvec_store::BitStore;
+use bitvec_edit::engine::SliceOrder;
+use bitvec_edit::slice::{BitSlice, BitSliceMut};
+use bitvec_edit::store::BitStore;
 use std::alloc::{AllocError, Allocator};
 
-/// The calls of the crate's `BitSlice` that make an owned sequence, for both view types.
+/// The calls of the crate's `BitSlice` that make an owned sequence, for both view types and for owned
+/// sequences.
 pub trait ToBitVec<T: BitStore, O: SliceOrder> {
-    ghost use Rattle.bitvec_slice.specs.Seen.{Seen};
+    ghost use Rattle.bitvec_edit.specs.slice.Seen.{Seen};
 
     // What contracts see of the view.
     ghost shows: { Self → Seen T };
@@ -75,5 +76,13 @@ impl<'a, T: BitStore, O: SliceOrder> ToBitVec<T, O> for BitSliceMut<'a, T, O> {
 
     fn to_copy(&self) -> BitSlice<'_, T, O> {
         self.as_ref()
+    }
+}
+
+impl<T: BitStore, O: SliceOrder, B: Allocator> ToBitVec<T, O> for BitVec<T, O, B> {
+    ghost shows = { owned };
+
+    fn to_copy(&self) -> BitSlice<'_, T, O> {
+        self.as_bitslice()
     }
 }

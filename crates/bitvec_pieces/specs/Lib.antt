@@ -1,3 +1,4 @@
+pub mod cutting
 pub mod LeftLaws
 pub mod NumberedLaws
 pub mod Pieces

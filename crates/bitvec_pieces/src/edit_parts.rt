@@ -1,12 +1,13 @@
 //! Edits of parts of a view by closures.
 ghost use Rattle.std.specs.Prelude.{◌≡◌, ℕ, ◌<◌, ◌≤◌, Bool, List, length};
-ghost use Rattle.bitvec_base.specs.Window.{IsWithin, write_at};
+ghost use Rattle.bitvec_slice.specs.base.Window.{IsWithin, write_at};
 ghost use Rattle.bitvec_slice.specs.Indices.{HasRange};
 ghost use Rattle.bitvec_pieces.specs.Shown.{Shown, StandsAt, WritesShown};
 ghost use Rattle.bitvec_pieces.specs.Pieces.{EditsHalves, EditsPiece, EditsPieces, IsApart, IsPieceOf, MayEdit, MayEditEach, Narrows, way_of, in_back_chunks, in_chunks, in_whole_back_chunks, in_whole_chunks, range_of};
 
-use bitvec_base::Window;
+use crate::Inside;
 use bitvec_cutting::{Cutting, InChunks, InChunksFromEnd, InExactChunks, InExactChunksFromEnd};
+use bitvec_slice::base::Window;
 use std::ops::Range;
 
 /// Edits of parts of a writable view by closures, which take the view itself, narrowed to the part
@@ -31,9 +32,9 @@ pub trait EditParts: Sized {
         ensures { result ≡ (shows self.now).window };
 
     /// Moves the view to another window of its elements, which it owes to leave. Condition: these
-    /// have the window.
+    /// have the window. Only crates that the library is made of have an `Inside` to call it with.
     #[doc(hidden)]
-    fn stand_at(&mut self, window: Window)
+    fn stand_at(&mut self, window: Window, by: Inside)
         requires { IsWithin window (length (shows self.old).memory) }
         ensures { StandsAt (shows self.old) window (shows self.new) };
 
@@ -48,10 +49,13 @@ pub trait EditParts: Sized {
         ensures { Narrows (shows self.old) range result (shows self.new) }
     {
         let window = self.place();
-        self.stand_at(Window {
-            start: window.start + range.start,
-            len: range.end - range.start,
-        });
+        self.stand_at(
+            Window {
+                start: window.start + range.start,
+                len: range.end - range.start,
+            },
+            Inside,
+        );
         window
     }
 
@@ -65,7 +69,7 @@ pub trait EditParts: Sized {
     {
         let window = self.narrow(range);
         let result = edit(self);
-        self.stand_at(window);
+        self.stand_at(window, Inside);
         result
     }
 
@@ -116,7 +120,7 @@ pub trait EditParts: Sized {
         for number in 0..cutting.count(len) {
             let window = self.narrow(cutting.piece(len, number));
             edit(number, self);
-            self.stand_at(window);
+            self.stand_at(window, Inside);
         }
     }
 

@@ -2,6 +2,9 @@
 #![tactic(auto)]
 
 mod edit_parts;
+mod inside;
 mod views;
 
 pub use edit_parts::EditParts;
+#[doc(hidden)]
+pub use inside::Inside;

@@ -2,10 +2,10 @@
 ghost use Rattle.bitvec_pieces.specs.ViewShown.{shown_by, written_so};
 ghost use Rattle.bitvec_slice.specs.Writes.{WritesBits};
 
-use crate::EditParts;
-use bitvec_base::{BitOrder, Window};
-use bitvec_slice::BitSliceMut;
-use bitvec_store::BitStore;
+use crate::{EditParts, Inside};
+use bitvec_slice::base::{BitOrder, Window};
+use bitvec_slice::store::BitStore;
+use bitvec_slice::{BitSliceMut, RawElements};
 
 impl<'a, T: BitStore, O: BitOrder> EditParts for BitSliceMut<'a, T, O> {
     ghost shows = { shown_by };
@@ -18,7 +18,7 @@ impl<'a, T: BitStore, O: BitOrder> EditParts for BitSliceMut<'a, T, O> {
         self.window()
     }
 
-    fn stand_at(&mut self, window: Window) {
-        BitSliceMut::stand_at(self, window);
+    fn stand_at(&mut self, window: Window, _by: Inside) {
+        RawElements::stand_at(self, window);
     }
 }

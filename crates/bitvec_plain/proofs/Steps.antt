@@ -3,20 +3,20 @@ use Rattle.std.proofs.Common.{◌≡◌, ℕ, ◌-◌, ◌<◌, ◌≤◌, ◌�
 use Rattle.std.proofs.lemmas.List.{drop-drop}
 use Rattle.std.proofs.lemmas.Bool.{le-leb, lt-leb, and_from, and_left, and_right}
 use borrow.Rule.Slice.PartMut.{put_mid}
-use Rattle.bitvec_base.specs.Window.{write_at}
-use Rattle.bitvec_base.specs.WriteLaws.{length-slice_range, write_at-same}
-use Rattle.bitvec_run.specs.declared.command.Step.{Step}
-use Rattle.bitvec_run.specs.declared.command.Refusal.{Refusal}
-use Rattle.bitvec_run.specs.declared.command.Refusal.TheVariants.{Range}
-use Rattle.bitvec_run.specs.Commands.{op_row}
-use Rattle.bitvec_run.specs.Rows.{Row, on_range, outcome, range_lies, refused, unless_refused}
-use Rattle.bitvec_run.specs.Runs.{step_list, step_outcome, step_reply}
-use Rattle.bitvec_run.specs.RunsLaws.{step_row-inside, step_row-outside}
+use Rattle.bitvec_run_fields.specs.commands.base.Window.{write_at}
+use Rattle.bitvec_run_fields.specs.commands.base.WriteLaws.{length-slice_range, write_at-same}
+use Rattle.bitvec_run_fields.specs.commands.declared.command.Step.{Step}
+use Rattle.bitvec_run_fields.specs.commands.declared.command.Refusal.{Refusal}
+use Rattle.bitvec_run_fields.specs.commands.declared.command.Refusal.TheVariants.{Range}
+use Rattle.bitvec_run_fields.specs.commands.Commands.{op_row}
+use Rattle.bitvec_run_fields.specs.commands.Rows.{Row, on_range, outcome, range_lies, refused, unless_refused}
+use Rattle.bitvec_run_fields.specs.commands.Runs.{step_list, step_outcome, step_reply}
+use Rattle.bitvec_run_fields.specs.commands.RunsLaws.{step_row-inside, step_row-outside}
 use Rattle.bitvec_plain.specs.Command.{command_reply, command_list}
 
 -- whether the range lies in a window of n bits, by its two tests
-pub out_of_range : (n : ℕ) (step : Step) → (step.to < step.from) ⊎ (n < step.to) → range_lies n step.from step.to ≡ false
-out_of_range n step out = ⊎_elim (λ l. and_left _ _ (lt-leb _ _ l)) (λ g. and_right _ _ (lt-leb _ _ g)) out
+pub out_of_range : (n from to : ℕ) → (to < from) ⊎ (n < to) → range_lies n from to ≡ false
+out_of_range n from to out = ⊎_elim (λ l. and_left _ _ (lt-leb _ _ l)) (λ g. and_right _ _ (lt-leb _ _ g)) out
 
 -- out of range
 pub step-out : (right : List Bool) (n : ℕ) (step : Step) → range_lies n step.from step.to ≡ false → step_outcome right n step ≡ refused Range
@@ -26,12 +26,12 @@ step-out right n step out = ap outcome (step_row-outside right n step out)
 step-in : (right : List Bool) (n : ℕ) (step : Step) → step.from ≤ step.to → step.to ≤ n → step_outcome right n step ≡ outcome (on_range step.from step.to (op_row right (step.to - step.from) step.op))
 step-in right n step low high = ap outcome (step_row-inside right n step (and_from _ _ (le-leb _ _ low) (le-leb _ _ high)))
 
-range-reply : (refusal : Option Refusal) (row : Row) (list : List Bool) (from to : ℕ) → (unless_refused refusal (on_range from to row)).reply list ≡ (unless_refused refusal row).reply (slice_range list from to)
+pub range-reply : (refusal : Option Refusal) (row : Row) (list : List Bool) (from to : ℕ) → (unless_refused refusal (on_range from to row)).reply list ≡ (unless_refused refusal row).reply (slice_range list from to)
 range-reply None row list from to = refl
 range-reply (Some refusal) row list from to = refl
 
 -- what stood there is written back where the command is refused
-range-list : (refusal : Option Refusal) (row : Row) (list : List Bool) (from to : ℕ) → from ≤ to → to ≤ length list → (unless_refused refusal (on_range from to row)).list list ≡ write_at list from ((unless_refused refusal row).list (slice_range list from to))
+pub range-list : (refusal : Option Refusal) (row : Row) (list : List Bool) (from to : ℕ) → from ≤ to → to ≤ length list → (unless_refused refusal (on_range from to row)).list list ≡ write_at list from ((unless_refused refusal row).list (slice_range list from to))
 range-list None row list from to low high = refl
 range-list (Some refusal) row list from to low high = sym (write_at-same list from to low high)
 

@@ -4,7 +4,44 @@
 
 mod bits;
 mod command;
+mod field_run;
+mod fields;
 mod run;
 
+/// What crates above name of `bitvec_base`.
+pub mod base {
+    pub use bitvec_run_fields::base::{BitOrder, HiLo, Lsb0, MAX_BITS, Msb0};
+}
+
+/// What crates above name of `bitvec_cells`.
+pub mod cells {
+    pub use bitvec_run_fields::cells::{Cells, CellsRead, Exclusive, Shared};
+}
+
+/// What crates above name of `bitvec_run`.
+pub mod commands {
+    pub use bitvec_run_fields::commands::{Op, Refusal, Reply, RunError, Step, Window, run};
+}
+
+/// What crates above name of `bitvec_engine`.
+pub mod engine {
+    pub use bitvec_run_fields::engine::{
+        BitOp, SliceOrder, bits_copy, bits_copy_within, bits_eq, bits_op, bits_reverse, bits_swap,
+    };
+}
+
+/// What crates above name of `bitvec_run_fields`.
+pub mod field_runs {
+    pub use bitvec_run_fields::segments::FieldOrder;
+    pub use bitvec_run_fields::{FieldOp, FieldStep, run_fields};
+}
+
+/// What crates above name of `bitvec_store`.
+pub mod store {
+    pub use bitvec_run_fields::store::BitStore;
+}
+
 pub use bits::{bits_of_elements, same_bits};
+pub use field_run::plain_run_fields;
+pub use fields::Layout;
 pub use run::{PlainRun, plain_run};

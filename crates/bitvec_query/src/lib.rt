@@ -5,4 +5,37 @@ mod queries;
 mod runs;
 mod views;
 
+/// What crates above name of `bitvec_base`.
+pub mod base {
+    pub use bitvec_slice::base::{BitOrder, HiLo, Lsb0, Msb0, Part, Window};
+}
+
+/// What crates above name of `bitvec_cells`.
+pub mod cells {
+    pub use bitvec_slice::cells::Shared;
+}
+
+/// What crates above name of `bitvec_engine`.
+pub mod engine {
+    pub use bitvec_slice::engine::SliceOrder;
+}
+
+/// What crates above name of `bitvec_slice`.
+pub mod slice {
+    pub use bitvec_slice::{
+        BitDomain, BitDomainMut, BitRef, BitSlice, BitSliceIndex, BitSliceMut, Domain, DomainMut,
+        Viewed, ViewedMut, from_mut, from_ref,
+    };
+}
+
+/// What crates above name of `bitvec_store`.
+pub mod store {
+    pub use bitvec_slice::store::BitStore;
+}
+
+/// What crates above name of `bitvec_walk`.
+pub mod walk {
+    pub use bitvec_slice::walk::sought;
+}
+
 pub use queries::BitQueries;

@@ -3,18 +3,18 @@ ghost use Rattle.std.specs.Prelude.{◌≡◌, ◌&&◌, count_by, false, not, t
 ghost use Rattle.std.specs.Cmp.Lexicographic.{slice_cmp};
 ghost use Rattle.std.specs.List.{list_all, list_any, prefix_len, suffix_len};
 ghost use Rattle.std.specs.Ordering.{bool_cmp};
-ghost use Rattle.bitvec_base.specs.Lists.{first_place, is_prefix, is_suffix, last_place, same_bits, stands_in};
+ghost use Rattle.bitvec_slice.specs.base.Lists.{first_place, is_prefix, is_suffix, last_place, same_bits, stands_in};
 ghost use Rattle.bitvec_slice.specs.Views.{seen};
 
 use crate::runs::{before_first, behind_last};
-use bitvec_base::BitOrder;
-use bitvec_elements::{
+use bitvec_slice::BitSlice;
+use bitvec_slice::base::BitOrder;
+use bitvec_slice::elements::{
     all_in, any_in, compare_in, contains_in, count_in, ends_with_in, eq_in, first_in, last_in,
     starts_with_in,
 };
-use bitvec_engine::SliceOrder;
-use bitvec_slice::BitSlice;
-use bitvec_store::BitStore;
+use bitvec_slice::engine::SliceOrder;
+use bitvec_slice::store::BitStore;
 use std::cmp::Ordering;
 
 /// The questions that the crate's `BitSlice` answers about its bits, for both view types. A needle,
@@ -32,6 +32,12 @@ pub trait BitQueries<T: BitStore, O: SliceOrder> {
         ensures bits { (seen result).bits ≡ (shows self.now).bits };
 
     /// How many bits are 1.
+    ///
+    /// ```
+    /// assert_eq!(rt; cells, [0xFFFF_0000, 0xFF00_00FF, 0x0000_FFFF]);
+    /// let view = BitSlice::<u32, Lsb0>::from_slice(&cells);
+    /// assert_eq!(rt; (view.count_ones(), view.count_zeros()), (48, 48));
+    /// ```
     fn count_ones(&self) -> usize
         ensures { result ≡ count_by (λ bit. bit) (shows self.now).bits }
     {
@@ -40,7 +46,12 @@ pub trait BitQueries<T: BitStore, O: SliceOrder> {
     }
 
     /// How many bits are 0.
-    #[tactic(auto, using(bitvec_base::specs::CountLaws::ones_and_zeros))]
+    ///
+    /// ```
+    /// let view = BitSlice::<u32, Lsb0>::from_slice(&cells);
+    /// assert_eq!(rt; (view.count_ones(), view.count_zeros()), (48, 48));
+    /// ```
+    #[tactic(auto, using(bitvec_slice::specs::Cited::ones_and_zeros))]
     fn count_zeros(&self) -> usize
         ensures { result ≡ count_by not (shows self.now).bits }
     {
@@ -48,6 +59,11 @@ pub trait BitQueries<T: BitStore, O: SliceOrder> {
     }
 
     /// The index of the first bit that is 1, if there is one.
+    ///
+    /// ```
+    /// let view = from_ref::<u32, Lsb0>(&0x8000_0000);
+    /// assert_eq!(rt; (view.len(), view.first_one()), (32, Some(31)));
+    /// ```
     fn first_one(&self) -> Option<usize>
         ensures { result ≡ first_place true (shows self.now).bits }
     {
@@ -56,6 +72,12 @@ pub trait BitQueries<T: BitStore, O: SliceOrder> {
     }
 
     /// The index of the first bit that is 0, if there is one.
+    ///
+    /// ```
+    /// let seat = seats.first_zero()?;
+    /// seats.set(seat, true);
+    /// Some(seat)
+    /// ```
     fn first_zero(&self) -> Option<usize>
         ensures { result ≡ first_place false (shows self.now).bits }
     {
@@ -64,6 +86,11 @@ pub trait BitQueries<T: BitStore, O: SliceOrder> {
     }
 
     /// The index of the last bit that is 1, if there is one.
+    ///
+    /// ```
+    /// let index = view.last_one()?;
+    /// view.set(index, false);
+    /// ```
     fn last_one(&self) -> Option<usize>
         ensures { result ≡ last_place true (shows self.now).bits }
     {
@@ -116,6 +143,12 @@ pub trait BitQueries<T: BitStore, O: SliceOrder> {
     }
 
     /// Whether every bit is 1; an empty view's are.
+    ///
+    /// ```
+    /// let view = BitSliceMut::<u8, Lsb0>::from_slice_mut(&mut cells);
+    /// let (left, right) = view.split_at(4);
+    /// assert!(rt; left.not_any() && right.all());
+    /// ```
     fn all(&self) -> bool
         ensures { result ≡ list_all (λ bit. bit) (shows self.now).bits }
     {
@@ -124,6 +157,12 @@ pub trait BitQueries<T: BitStore, O: SliceOrder> {
     }
 
     /// Whether no bit is 1; none of an empty view's is.
+    ///
+    /// ```
+    /// let view = BitSliceMut::<u8, Lsb0>::from_slice_mut(&mut cells);
+    /// let (left, right) = view.split_at(4);
+    /// assert!(rt; left.not_any() && right.all());
+    /// ```
     fn not_any(&self) -> bool
         ensures { result ≡ not (list_any (λ bit. bit) (shows self.now).bits) }
     {
@@ -138,6 +177,10 @@ pub trait BitQueries<T: BitStore, O: SliceOrder> {
     }
 
     /// Whether a bit is 1 and a bit is 0.
+    ///
+    /// ```
+    /// bits.windows(2).filter(|pair| pair.some()).count()
+    /// ```
     fn some(&self) -> bool
         ensures { result ≡ (list_any (λ bit. bit) (shows self.now).bits && not (list_all (λ bit. bit) (shows self.now).bits)) }
     {
@@ -145,6 +188,12 @@ pub trait BitQueries<T: BitStore, O: SliceOrder> {
     }
 
     /// Whether the other view has the same bits: `==` of the crate, which compares views of any types.
+    ///
+    /// ```
+    /// let high = [0x84u8];
+    /// let view = BitSlice::<u8, Lsb0>::from_slice(&low);
+    /// assert!(rt; view.eq_bits(BitSlice::<u8, Msb0>::from_slice(&high)));
+    /// ```
     fn eq_bits<'b, U: BitStore, P: BitOrder>(&self, other: BitSlice<'b, U, P>) -> bool
         ensures { result ≡ same_bits (shows self.now).bits (seen other.entry).bits }
     {

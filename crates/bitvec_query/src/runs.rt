@@ -1,16 +1,16 @@
 //! Runs of one bit at the ends of a view.
 ghost use Rattle.std.specs.Prelude.{◌≡◌};
 ghost use Rattle.std.specs.List.{prefix_len, suffix_len};
-ghost use Rattle.bitvec_base.specs.LeadingLaws.{is_other};
+ghost use Rattle.bitvec_slice.specs.base.LeadingLaws.{is_other};
 ghost use Rattle.bitvec_slice.specs.Views.{seen};
 
-use bitvec_elements::{first_in, last_in};
-use bitvec_engine::SliceOrder;
 use bitvec_slice::BitSlice;
-use bitvec_store::BitStore;
+use bitvec_slice::elements::{first_in, last_in};
+use bitvec_slice::engine::SliceOrder;
+use bitvec_slice::store::BitStore;
 
 /// How many bits stand before the first that is `end`, or in all if none is.
-#[tactic(auto, using(bitvec_base::specs::LeadingLaws::first_run))]
+#[tactic(auto, using(bitvec_slice::specs::Cited::first_run))]
 pub(crate) fn before_first<T: BitStore, O: SliceOrder>(view: BitSlice<'_, T, O>, end: bool) -> usize
     ensures { result ≡ prefix_len (is_other end) (seen view.entry).bits }
 {
@@ -18,7 +18,7 @@ pub(crate) fn before_first<T: BitStore, O: SliceOrder>(view: BitSlice<'_, T, O>,
 }
 
 /// How many bits stand behind the last that is `end`, or in all if none is.
-#[tactic(auto, using(bitvec_base::specs::LeadingLaws::last_run))]
+#[tactic(auto, using(bitvec_slice::specs::Cited::last_run))]
 pub(crate) fn behind_last<T: BitStore, O: SliceOrder>(view: BitSlice<'_, T, O>, end: bool) -> usize
     ensures { result ≡ suffix_len (is_other end) (seen view.entry).bits }
 {

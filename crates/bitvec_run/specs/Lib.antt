@@ -1,3 +1,4 @@
+pub mod Cited
 pub mod Commands
 pub mod CommandsLaws
 pub mod Costs
@@ -10,3 +11,7 @@ pub mod RanLaws
 pub mod Rows
 pub mod Runs
 pub mod RunsLaws
+pub use Rattle.bitvec_engine.specs.base as base
+pub use Rattle.bitvec_engine.specs.cells as cells
+pub use Rattle.bitvec_engine.specs.store as store
+pub use Rattle.bitvec_engine.specs.walk as walk

@@ -2,8 +2,8 @@
 --
 -- `right` is the right list, and `list` the window's, of n bits.
 use Rattle.std.specs.Prelude.{ℕ, ◌+◌, ◌-◌, ◌*◌, ◌≤◌, Bool, if◌then◌else◌, List, length}
-use Rattle.bitvec_base.specs.declared.window.Window.{Window}
-use Rattle.bitvec_base.specs.Memory.{FitsMaxBits, HasWindow}
+use Rattle.bitvec_engine.specs.base.declared.window.Window.{Window}
+use Rattle.bitvec_engine.specs.base.Memory.{FitsMaxBits, HasWindow}
 use Rattle.bitvec_run.specs.declared.command.Refusal.{Refusal}
 use Rattle.bitvec_run.specs.declared.command.Reply.{Reply}
 use Rattle.bitvec_run.specs.declared.command.Step.{Step}

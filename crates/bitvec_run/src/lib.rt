@@ -9,7 +9,31 @@ mod right;
 mod runner;
 mod step;
 
-pub use bitvec_base::Window;
+/// What crates above name of `bitvec_base`.
+pub mod base {
+    pub use bitvec_engine::base::{BitOrder, HiLo, Lsb0, MAX_BITS, Msb0, Window};
+}
+
+/// What crates above name of `bitvec_cells`.
+pub mod cells {
+    pub use bitvec_engine::cells::{
+        Cells, CellsRead, Exclusive, Shared, fits_max_bits, has_window,
+    };
+}
+
+/// What crates above name of `bitvec_engine`.
+pub mod engine {
+    pub use bitvec_engine::{
+        BitOp, SliceOrder, bits_copy, bits_copy_within, bits_eq, bits_op, bits_reverse, bits_swap,
+    };
+}
+
+/// What crates above name of `bitvec_store`.
+pub mod store {
+    pub use bitvec_engine::store::BitStore;
+}
+
+pub use bitvec_engine::base::Window;
 pub use command::{Op, Refusal, Reply, RunError, Step};
 pub use runner::{run, whole};
 pub use step::carry_out;

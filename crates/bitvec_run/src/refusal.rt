@@ -5,7 +5,7 @@ ghost use Rattle.bitvec_run.specs.Rows.{unless};
 ghost use Rattle.bitvec_run.specs.Runs.{StepFits, step_row};
 
 use crate::{Op, Refusal, Step};
-use bitvec_base::Window;
+use bitvec_engine::base::Window;
 
 /// The first condition of a step that fails, if one does, on a window of `len` bits beside a right
 /// list of `source_len`.

@@ -1,17 +1,17 @@
 //! Runs of whole lists of commands.
 ghost use Rattle.std.specs.Prelude.{◌≡◌, ℕ, ◌*◌, ◌<◌, ◌≤◌, ◌↔◌, length, IfOk, OnOk, OnErr, IsOk, Err};
-ghost use Rattle.bitvec_base.specs.Memory.{FitsMaxBits, HasWindow, Writes, list_in, memory_bits};
-ghost use Rattle.bitvec_cells.specs.Access.{CostsAtMost, OnlyReads, OnlyReadsAtMost};
+ghost use Rattle.bitvec_engine.specs.base.Memory.{FitsMaxBits, HasWindow, Writes, list_in, memory_bits};
+ghost use Rattle.bitvec_engine.specs.cells.Access.{CostsAtMost, OnlyReads, OnlyReadsAtMost};
 ghost use Rattle.bitvec_run.specs.Costs.{place_of};
 ghost use Rattle.bitvec_run.specs.Fold.{cost_of, list_after, replies_of};
 ghost use Rattle.bitvec_run.specs.Runs.{CanRun, step_cost, step_list, step_reply, whole_window};
 
 use crate::step::carry_out;
 use crate::{Reply, RunError, Step};
-use bitvec_base::Window;
-use bitvec_cells::{Cells, CellsRead, fits_max_bits, has_window};
 use bitvec_engine::SliceOrder;
-use bitvec_store::BitStore;
+use bitvec_engine::base::Window;
+use bitvec_engine::cells::{Cells, CellsRead, fits_max_bits, has_window};
+use bitvec_engine::store::BitStore;
 use std::alloc::Allocator;
 
 /// Runs commands through a window of a memory.

@@ -1,7 +1,7 @@
 //! Runs of whole lists of commands, those with numbers among them.
 ghost use Rattle.std.specs.Prelude.{◌≡◌, ℕ, ◌*◌, ◌<◌, ◌≤◌, ◌↔◌, length, IfOk, OnOk, OnErr, IsOk, Err};
-ghost use Rattle.bitvec_base.specs.Memory.{FitsMaxBits, HasWindow, Writes, list_in, memory_bits};
-ghost use Rattle.bitvec_cells.specs.Access.{CostsAtMost, OnlyReads, OnlyReadsAtMost};
+ghost use Rattle.bitvec_run.specs.base.Memory.{FitsMaxBits, HasWindow, Writes, list_in, memory_bits};
+ghost use Rattle.bitvec_run.specs.cells.Access.{CostsAtMost, OnlyReads, OnlyReadsAtMost};
 ghost use Rattle.bitvec_run.specs.Costs.{place_of};
 ghost use Rattle.bitvec_run.specs.Fold.{cost_of, list_after, replies_of};
 ghost use Rattle.bitvec_run.specs.Runs.{CanRun};
@@ -9,12 +9,12 @@ ghost use Rattle.bitvec_run_fields.specs.FieldRows.{field_cost, field_list, fiel
 
 use crate::FieldStep;
 use crate::stepping::field_step;
-use bitvec_base::Window;
-use bitvec_cells::{Cells, CellsRead, fits_max_bits, has_window};
-use bitvec_engine::SliceOrder;
+use bitvec_run::base::Window;
+use bitvec_run::cells::{Cells, CellsRead, fits_max_bits, has_window};
+use bitvec_run::engine::SliceOrder;
+use bitvec_run::store::BitStore;
 use bitvec_run::{Reply, RunError, whole};
 use bitvec_segments::FieldOrder;
-use bitvec_store::BitStore;
 use std::alloc::Allocator;
 
 /// Runs commands through a window of a memory, loads and stores of numbers among them: `run` of

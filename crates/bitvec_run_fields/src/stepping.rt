@@ -1,18 +1,18 @@
 //! One step of a run with numbers.
 ghost use Rattle.std.specs.Prelude.{◌≡◌, ◌-◌, ◌≤◌, Bool, List, IfNone};
-ghost use Rattle.bitvec_base.specs.Memory.{HasWindow, list_in};
+ghost use Rattle.bitvec_run.specs.base.Memory.{HasWindow, list_in};
 ghost use Rattle.bitvec_run.specs.Follows.{Follows, FollowsBoth};
 ghost use Rattle.bitvec_run.specs.Rows.{or_else, range_lies, unless};
 ghost use Rattle.bitvec_run.specs.declared.command.Refusal.{Refusal};
 ghost use Rattle.bitvec_run_fields.specs.FieldRows.{FitsTransfer, IsTransfer, field_outcome, field_row, width_refusal};
 
 use crate::{FieldOp, FieldStep};
-use bitvec_base::Window;
-use bitvec_cells::{Cells, CellsRead};
-use bitvec_engine::SliceOrder;
+use bitvec_run::base::Window;
+use bitvec_run::cells::{Cells, CellsRead};
+use bitvec_run::engine::SliceOrder;
+use bitvec_run::store::BitStore;
 use bitvec_run::{Refusal, Reply, Step, carry_out};
 use bitvec_segments::FieldOrder;
-use bitvec_store::BitStore;
 
 /// One step of a run in a window, whose right list is the one that `source` holds: it replies, and
 /// leaves in the window the list after it. Condition: each memory has at most `MAX_BITS` bits, and

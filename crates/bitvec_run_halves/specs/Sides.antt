@@ -1,7 +1,7 @@
 -- Two lists, of which a step is made on one.
 use Rattle.std.specs.Prelude.{ℕ, Bool, List, ◌++◌, drop, take}
-use Rattle.bitvec_base.specs.declared.window.Window.{Window}
-use Rattle.bitvec_base.specs.Window.{window_range}
+use Rattle.bitvec_slice.specs.base.declared.window.Window.{Window}
+use Rattle.bitvec_slice.specs.base.Window.{window_range}
 use Rattle.bitvec_run.specs.declared.command.Reply.{Reply}
 use Rattle.bitvec_run.specs.declared.command.Step.{Step}
 use Rattle.bitvec_run.specs.Runs.{step_list, step_reply}

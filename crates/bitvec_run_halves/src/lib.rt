@@ -4,6 +4,11 @@
 mod halves;
 mod runner;
 
+/// What crates above name of `bitvec_run`.
+pub mod commands {
+    pub use bitvec_run::{Op, Refusal, Reply, RunError, Step, run};
+}
+
 pub use bitvec_run::{Op, Refusal, Reply, Step};
 pub use halves::Side;
 pub use runner::run_halves;

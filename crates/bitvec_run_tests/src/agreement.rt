@@ -2,11 +2,11 @@
 use crate::own_order::Scattered;
 use crate::slices::answer;
 use crate::steps::{edits, moves, queries, right_commands};
-use bitvec_base::{HiLo, Lsb0, Msb0};
-use bitvec_engine::SliceOrder;
+use bitvec_plain::base::{HiLo, Lsb0, Msb0};
+use bitvec_plain::commands::{Reply, Step, Window};
+use bitvec_plain::engine::SliceOrder;
+use bitvec_plain::store::BitStore;
 use bitvec_plain::{bits_of_elements, plain_run, same_bits};
-use bitvec_run::{Reply, Step, Window};
-use bitvec_store::BitStore;
 use bitvec_test_support::mixed_elements;
 use std::alloc::Global;
 use std::process::Abort;

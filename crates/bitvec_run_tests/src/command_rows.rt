@@ -1,8 +1,8 @@
 //! Worked rows of one command or a few.
 use crate::rows::{Row, check};
 use crate::slices::step;
-use bitvec_base::{HiLo, Lsb0, Msb0};
-use bitvec_run::{Op, Refusal, Reply, Window};
+use bitvec_plain::base::{HiLo, Lsb0, Msb0};
+use bitvec_plain::commands::{Op, Refusal, Reply, Window};
 use std::test::Fail;
 
 #[test]

@@ -1,9 +1,9 @@
 //! How many loads and stores a run makes.
 use crate::slices::step;
-use bitvec_base::{Lsb0, Msb0};
-use bitvec_cells::{Exclusive, Shared};
-use bitvec_engine::SliceOrder;
-use bitvec_run::{Op, RunError, Step, Window, run};
+use bitvec_plain::base::{Lsb0, Msb0};
+use bitvec_plain::cells::{Exclusive, Shared};
+use bitvec_plain::commands::{Op, RunError, Step, Window, run};
+use bitvec_plain::engine::SliceOrder;
 use bitvec_test_support::Counted;
 use std::alloc::Allocator;
 use std::process::Abort;

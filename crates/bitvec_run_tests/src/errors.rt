@@ -2,9 +2,9 @@
 ghost use Rattle.std.specs.Prelude.{replicate};
 
 use crate::slices::{answer, four_nibbles};
-use bitvec_base::{Lsb0, MAX_BITS};
-use bitvec_cells::{Cells, CellsRead};
-use bitvec_run::{RunError, Step, Window, run};
+use bitvec_plain::base::{Lsb0, MAX_BITS};
+use bitvec_plain::cells::{Cells, CellsRead};
+use bitvec_plain::commands::{RunError, Step, Window, run};
 use std::process::Abort;
 use std::test::Fail;
 

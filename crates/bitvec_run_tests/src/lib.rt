@@ -9,7 +9,11 @@ mod command_rows;
 #[cfg(test)]
 mod cost;
 #[cfg(test)]
+mod drawn_steps;
+#[cfg(test)]
 mod errors;
+#[cfg(test)]
+mod field_agreement;
 #[cfg(test)]
 mod own_order;
 #[cfg(test)]

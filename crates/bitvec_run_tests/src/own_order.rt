@@ -1,17 +1,17 @@
 //! A bit order of the tests' own.
-#![tactic(auto, using(bitvec_walk::specs::CostLaws::enough))]
+#![tactic(auto, using(bitvec_plain::specs::Cited::enough))]
 
 ghost use Rattle.std.specs.Prelude.{Bool, false};
 ghost use Rattle.bitvec_run_tests.specs.Scattered.{scattered};
 ghost use Rattle.bitvec_run_tests.specs.ScatteredLaws.{scattered_permutes};
 
-use bitvec_base::BitOrder;
-use bitvec_cells::{Cells, CellsRead};
-use bitvec_engine::{
+use bitvec_plain::base::BitOrder;
+use bitvec_plain::cells::{Cells, CellsRead};
+use bitvec_plain::commands::Window;
+use bitvec_plain::engine::{
     BitOp, SliceOrder, bits_copy, bits_copy_within, bits_eq, bits_op, bits_reverse, bits_swap,
 };
-use bitvec_run::Window;
-use bitvec_store::BitStore;
+use bitvec_plain::store::BitStore;
 
 /// The order in which index `i` is bit `(5 * i + 3) % BITS`.
 pub(crate) struct Scattered;

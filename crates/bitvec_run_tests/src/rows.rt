@@ -1,10 +1,10 @@
 //! Worked rows: what a run replies, and the memory that it leaves.
 use crate::own_order::Scattered;
 use crate::slices::{FOUR_NIBBLES_REPLIES, answer, four_nibbles, step};
-use bitvec_base::{HiLo, Lsb0};
-use bitvec_engine::SliceOrder;
-use bitvec_run::{Op, Refusal, Reply, Step, Window};
-use bitvec_store::BitStore;
+use bitvec_plain::base::{HiLo, Lsb0};
+use bitvec_plain::commands::{Op, Refusal, Reply, Step, Window};
+use bitvec_plain::engine::SliceOrder;
+use bitvec_plain::store::BitStore;
 use std::process::Abort;
 use std::test::Fail;
 

@@ -1,13 +1,13 @@
 //! A run on slices, and the row that several tests share.
 ghost use Rattle.std.specs.Prelude.{◌≡◌, IfOk, OnOk, OnErr, map};
-ghost use Rattle.bitvec_base.specs.Memory.{Writes, list_in, memory_bits};
-ghost use Rattle.bitvec_run.specs.Fold.{list_after, replies_of};
-ghost use Rattle.bitvec_run.specs.Runs.{step_list, step_reply};
+ghost use Rattle.bitvec_plain.specs.base.Memory.{Writes, list_in, memory_bits};
+ghost use Rattle.bitvec_plain.specs.commands.Fold.{list_after, replies_of};
+ghost use Rattle.bitvec_plain.specs.commands.Runs.{step_list, step_reply};
 
-use bitvec_cells::{Exclusive, Shared};
-use bitvec_engine::SliceOrder;
-use bitvec_run::{Op, Reply, RunError, Step, Window, run};
-use bitvec_store::BitStore;
+use bitvec_plain::cells::{Exclusive, Shared};
+use bitvec_plain::commands::{Op, Reply, RunError, Step, Window, run};
+use bitvec_plain::engine::SliceOrder;
+use bitvec_plain::store::BitStore;
 use std::alloc::Allocator;
 
 /// A bit set in each of four nibbles, and their count.

@@ -2,7 +2,7 @@
 ghost use Rattle.std.specs.Prelude.{◌^◌, ◌<◌};
 
 use crate::slices::step;
-use bitvec_run::{Op, Step, Window};
+use bitvec_plain::commands::{Op, Step, Window};
 
 /// Commands that only read, in a window of that many bits; then fills, and what is left to find.
 pub(crate) fn queries(len: usize) -> [Step; 21]

@@ -1,7 +1,7 @@
 //! A run for whose replies there is no room.
 use crate::slices::{FOUR_NIBBLES_REPLIES, answer, four_nibbles};
-use bitvec_base::Lsb0;
-use bitvec_run::{RunError, Window};
+use bitvec_plain::base::Lsb0;
+use bitvec_plain::commands::{RunError, Window};
 use test_streams::Refusing;
 
 const WINDOW: Window = Window { start: 0, len: 16 };

@@ -1,10 +1,10 @@
 //! Worked rows of what goes by words: the memory afterwards, within so many loads and stores.
 use crate::slices::step;
-use bitvec_base::{Lsb0, Msb0};
-use bitvec_cells::{Exclusive, Shared};
-use bitvec_engine::SliceOrder;
-use bitvec_run::{Op, Reply, RunError, Step, Window, run};
-use bitvec_store::BitStore;
+use bitvec_plain::base::{Lsb0, Msb0};
+use bitvec_plain::cells::{Exclusive, Shared};
+use bitvec_plain::commands::{Op, Reply, RunError, Step, Window, run};
+use bitvec_plain::engine::SliceOrder;
+use bitvec_plain::store::BitStore;
 use bitvec_test_support::Counted;
 use std::alloc::Allocator;
 use std::process::Abort;

@@ -6,17 +6,17 @@ use Rattle.std.proofs.lemmas.List.Folds.{drop_split}
 use Rattle.std.proofs.lemmas.Nat.{div-add-mod', div-mul-add, mod-mul-add, pow-add}
 use Rattle.std.proofs.Math.Nat.{mod-eq_of_lt, mul-le-mul_left}
 use Rattle.std.proofs.Math.Pow.{pow_mono}
-use Rattle.bitvec_base.specs.declared.window.Window.{Window}
-use Rattle.bitvec_base.specs.Memory.{HasWindow, element_bits, list_in}
-use Rattle.bitvec_base.specs.MemoryLaws.{length-element_bits}
-use Rattle.bitvec_base.specs.Parts.{part_window}
-use Rattle.bitvec_base.specs.SliceLaws.{range-all}
-use Rattle.bitvec_base.specs.WriteLaws.{length-slice_range}
-use Rattle.bitvec_base.specs.WritesLaws.{length-list, list-range}
-use Rattle.bitvec_store.specs.Width.{IsWidth}
-use Rattle.bitvec_store.specs.WidthLaws.{at_each_width}
-use Rattle.bitvec_walk.specs.Cost.{touched}
-use Rattle.bitvec_walk.specs.WalkLaws.{touched-until}
+use Rattle.bitvec_words.specs.base.declared.window.Window.{Window}
+use Rattle.bitvec_words.specs.base.Memory.{HasWindow, element_bits, list_in}
+use Rattle.bitvec_words.specs.base.MemoryLaws.{length-element_bits}
+use Rattle.bitvec_words.specs.base.Parts.{part_window}
+use Rattle.bitvec_words.specs.base.SliceLaws.{range-all}
+use Rattle.bitvec_words.specs.base.WriteLaws.{length-slice_range}
+use Rattle.bitvec_words.specs.base.WritesLaws.{length-list, list-range}
+use Rattle.bitvec_words.specs.store.Width.{IsWidth}
+use Rattle.bitvec_words.specs.store.WidthLaws.{at_each_width}
+use Rattle.bitvec_words.specs.walk.Cost.{touched}
+use Rattle.bitvec_words.specs.walk.WalkLaws.{touched-until}
 use Rattle.bitvec_words.specs.Elements.{elements_window}
 use Rattle.bitvec_words.specs.Field.{lowest_bit}
 use Rattle.bitvec_words.specs.FieldLaws.{element_of, list-element, list-part}

@@ -7,16 +7,16 @@ use Rattle.std.proofs.lemmas.List.{drop-drop, take_all}
 use Rattle.std.proofs.Math.Nat.{mod-eq_of_lt}
 use Rattle.std.proofs.Math.Pow.{pow_mono}
 use Rattle.std.proofs.Math.Seq.{take-add}
-use Rattle.bitvec_base.specs.declared.part.Part.{Part}
-use Rattle.bitvec_base.specs.declared.window.Window.{Window}
-use Rattle.bitvec_base.specs.Memory.{Edits, HasWindow, Writes, list_in, memory_bits}
-use Rattle.bitvec_base.specs.Parts.{first_part_of, part_window}
-use Rattle.bitvec_base.specs.SliceLaws.{range-none}
-use Rattle.bitvec_base.specs.Window.{window_after, window_of}
-use Rattle.bitvec_base.specs.WritesLaws.{Writes-is, Writes-join, length-list, list-behind, list-join}
-use Rattle.bitvec_walk.specs.Cost.{fill_loads, part_loads, touched}
-use Rattle.bitvec_walk.specs.Walk.{Walked, passed}
-use Rattle.bitvec_walk.specs.WalkLaws.{Walked-next, Walked-start, Writes-next_part, Writes-none_passed, div-order, first-len, first-place, touched-none, touched-until}
+use Rattle.bitvec_words.specs.base.declared.part.Part.{Part}
+use Rattle.bitvec_words.specs.base.declared.window.Window.{Window}
+use Rattle.bitvec_words.specs.base.Memory.{Edits, HasWindow, Writes, list_in, memory_bits}
+use Rattle.bitvec_words.specs.base.Parts.{first_part_of, part_window}
+use Rattle.bitvec_words.specs.base.SliceLaws.{range-none}
+use Rattle.bitvec_words.specs.base.Window.{window_after, window_of}
+use Rattle.bitvec_words.specs.base.WritesLaws.{Writes-is, Writes-join, length-list, list-behind, list-join}
+use Rattle.bitvec_words.specs.walk.Cost.{fill_loads, part_loads, touched}
+use Rattle.bitvec_words.specs.walk.Walk.{Walked, passed}
+use Rattle.bitvec_words.specs.walk.WalkLaws.{Walked-next, Walked-start, Writes-next_part, Writes-none_passed, div-order, first-len, first-place, touched-none, touched-until}
 use Rattle.bitvec_segments.specs.LoadLaws.{loaded_be-below, loaded_be-first, loaded_be-none, loaded_le-below, loaded_le-first, loaded_le-none}
 use Rattle.bitvec_segments.specs.Segments.{loaded_be, loaded_le, segment_bits, segment_number, stored_be, stored_le}
 use Rattle.bitvec_segments.specs.SegmentsLaws.{first_len}

@@ -1,9 +1,9 @@
 //! The first part of a window where it is known how far the window reaches, so that the machine code has
 //! no minimum and no division.
 ghost use Rattle.std.specs.Prelude.{◌≡◌, ◌+◌, ◌*◌, ◌%◌, ◌<◌, ◌≤◌};
-ghost use Rattle.bitvec_base.specs.Parts.{first_part_of};
+ghost use Rattle.bitvec_words.specs.base.Parts.{first_part_of};
 
-use bitvec_base::{Part, Window};
+use bitvec_words::base::{Part, Window};
 
 /// The first part of a window of one element.
 #[inline(always)]

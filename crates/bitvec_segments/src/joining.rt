@@ -1,15 +1,15 @@
 //! Whole elements joined to one word, of which a number is cut out.
 ghost use Rattle.std.specs.Prelude.{◌≡◌, ◌+◌, ◌-◌, ◌*◌, ◌/◌, ◌%◌, ◌^◌, ◌<◌, ◌≤◌, if◌then◌else◌, length, slice_index, true};
-ghost use Rattle.bitvec_base.specs.Memory.{HasWindow, element_bits, list_in};
-ghost use Rattle.bitvec_cells.specs.Access.{OnlyReads};
+ghost use Rattle.bitvec_words.specs.base.Memory.{HasWindow, element_bits, list_in};
+ghost use Rattle.bitvec_words.specs.cells.Access.{OnlyReads};
 ghost use Rattle.bitvec_segments.specs.Segments.{segment_number};
-ghost use Rattle.bitvec_walk.specs.Cost.{touched};
+ghost use Rattle.bitvec_words.specs.walk.Cost.{touched};
 ghost use Rattle.bitvec_words.specs.Field.{lowest_bit};
 
 use crate::part::part_number;
-use bitvec_base::{Part, Window};
-use bitvec_cells::CellsRead;
-use bitvec_store::BitStore;
+use bitvec_words::base::{Part, Window};
+use bitvec_words::cells::CellsRead;
+use bitvec_words::store::BitStore;
 use bitvec_words::{WORD_BITS, WordOrder};
 
 /// Whether a window isn't empty, and the elements that it touches have no more bits than a word.

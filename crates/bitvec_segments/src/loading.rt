@@ -1,16 +1,16 @@
 //! The number of the bits of a window.
 ghost use Rattle.std.specs.Prelude.{◌≡◌, ◌<◌, ◌≤◌};
-ghost use Rattle.bitvec_base.specs.Memory.{HasWindow, list_in};
-ghost use Rattle.bitvec_cells.specs.Access.{OnlyReads};
+ghost use Rattle.bitvec_words.specs.base.Memory.{HasWindow, list_in};
+ghost use Rattle.bitvec_words.specs.cells.Access.{OnlyReads};
 ghost use Rattle.bitvec_segments.specs.Segments.{loaded_be, loaded_le};
-ghost use Rattle.bitvec_walk.specs.Cost.{touched};
+ghost use Rattle.bitvec_words.specs.walk.Cost.{touched};
 
 use crate::joining::{fits_word, joined_number};
 use crate::part::part_number;
-use bitvec_base::{Window, first_part};
-use bitvec_cells::CellsRead;
-use bitvec_store::BitStore;
 use bitvec_words::WordOrder;
+use bitvec_words::base::{Window, first_part};
+use bitvec_words::cells::CellsRead;
+use bitvec_words::store::BitStore;
 
 /// The number of a window's segments, the first of them lowest. Condition: the window has at most
 /// 128 bits, and lies in a memory of at most `MAX_BITS` bits. It loads each element that the window

@@ -1,15 +1,15 @@
 //! The number of the bits of one part of an element.
 ghost use Rattle.std.specs.Prelude.{◌≡◌, ◌-◌, ◌<◌, ◌≤◌};
-ghost use Rattle.bitvec_base.specs.Memory.{Writes, list_in};
-ghost use Rattle.bitvec_base.specs.Parts.{HasPart, part_window};
-ghost use Rattle.bitvec_cells.specs.Access.{Costs, OnlyReads};
+ghost use Rattle.bitvec_words.specs.base.Memory.{Writes, list_in};
+ghost use Rattle.bitvec_words.specs.base.Parts.{HasPart, part_window};
+ghost use Rattle.bitvec_words.specs.cells.Access.{Costs, OnlyReads};
 ghost use Rattle.bitvec_segments.specs.Segments.{segment_bits, segment_number};
-ghost use Rattle.bitvec_walk.specs.Cost.{part_loads};
+ghost use Rattle.bitvec_words.specs.walk.Cost.{part_loads};
 ghost use Rattle.bitvec_words.specs.Field.{lowest_bit};
 
-use bitvec_base::Part;
-use bitvec_cells::{Cells, CellsRead};
-use bitvec_store::BitStore;
+use bitvec_words::base::Part;
+use bitvec_words::cells::{Cells, CellsRead};
+use bitvec_words::store::BitStore;
 use bitvec_words::{WordOrder, store_part};
 
 /// How many bits of an element are less significant than all bits of a part. Condition: the part is

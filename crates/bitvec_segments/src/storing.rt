@@ -1,16 +1,16 @@
 //! A number put into the bits of a window.
 ghost use Rattle.std.specs.Prelude.{◌≡◌, ◌*◌, ◌<◌, ◌≤◌};
-ghost use Rattle.bitvec_base.specs.Memory.{Edits, HasWindow};
-ghost use Rattle.bitvec_cells.specs.Access.{CostsAtMost};
+ghost use Rattle.bitvec_words.specs.base.Memory.{Edits, HasWindow};
+ghost use Rattle.bitvec_words.specs.cells.Access.{CostsAtMost};
 ghost use Rattle.bitvec_segments.specs.Segments.{stored_be, stored_le};
-ghost use Rattle.bitvec_walk.specs.Cost.{fill_loads, touched};
+ghost use Rattle.bitvec_words.specs.walk.Cost.{fill_loads, touched};
 
 use crate::cutting::{edge_part, head_part, only_part, whole_part};
 use crate::part::store_part_number;
-use bitvec_base::{Window, first_part};
-use bitvec_cells::Cells;
-use bitvec_store::BitStore;
 use bitvec_words::WordOrder;
+use bitvec_words::base::{Window, first_part};
+use bitvec_words::cells::Cells;
+use bitvec_words::store::BitStore;
 
 /// Gives a window the bits for which `load_le` gives the number, without those of
 /// its bits for which the window is too short. Condition: as of `load_le`. It stores each element

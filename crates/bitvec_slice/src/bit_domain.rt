@@ -1,16 +1,16 @@
 //! A view, cut at the edges of elements.
 ghost use Rattle.std.specs.Prelude.{◌≡◌, ◌+◌, ◌*◌, ◌≤◌, IfSome, length, map};
-ghost use Rattle.bitvec_base.specs.Memory.{HasWindow};
-ghost use Rattle.bitvec_base.specs.Window.{max_bits};
+ghost use Rattle.bitvec_traits.specs.base.Memory.{HasWindow};
+ghost use Rattle.bitvec_traits.specs.base.Window.{max_bits};
 ghost use Rattle.bitvec_domain.specs.Cuts.{IsCutWithin, IsPartWithin, cut_of, part_from, part_if_from};
 ghost use Rattle.bitvec_domain.specs.declared.cut.Cut.TheVariants.{Across};
 ghost use Rattle.bitvec_slice.specs.Domains.{view_in, view_in_if, views_in, views_of, views_of_mut};
 ghost use Rattle.bitvec_slice.specs.Views.{seen, seen_mut};
 
 use crate::{BitSlice, BitSliceMut};
-use bitvec_base::{BitOrder, Part, Window};
 use bitvec_domain::Cut;
-use bitvec_store::BitStore;
+use bitvec_traits::base::{BitOrder, Part, Window};
+use bitvec_traits::store::BitStore;
 
 /// A view, cut at the edges of elements: the crate's `BitDomain` over shared elements.
 #[derive(Drop)]

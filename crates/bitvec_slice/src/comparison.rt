@@ -8,9 +8,9 @@ ghost use Rattle.bitvec_slice.specs.Views.{seen};
 ghost use Rattle.bitvec_traits.specs.OrderLaws.{same_bits-ties};
 
 use crate::BitSlice;
-use bitvec_elements::compare_block_in;
-use bitvec_engine::SliceOrder;
-use bitvec_store::BitStore;
+use bitvec_traits::elements::compare_block_in;
+use bitvec_traits::engine::SliceOrder;
+use bitvec_traits::store::BitStore;
 use std::cmp::Ordering;
 
 impl<'a, T: BitStore, O: SliceOrder> PartialOrd for BitSlice<'a, T, O> {

@@ -1,11 +1,11 @@
 //! Views of no element, of one, and of a slice that may be too long.
 ghost use Rattle.std.specs.Prelude.{◌≡◌, ◌-◌, ◌*◌, ◌^◌, ◌≤◌, ◌↔◌, [], ◌∷◌, IfErr, IfOk, IsOk, length, min, slice_index_or};
-ghost use Rattle.bitvec_base.specs.Window.{max_bits};
-ghost use Rattle.bitvec_base.specs.declared.span_error.BitSpanError.TheVariants.{TooLong};
+ghost use Rattle.bitvec_traits.specs.base.Window.{max_bits};
+ghost use Rattle.bitvec_traits.specs.base.declared.span_error.BitSpanError.TheVariants.{TooLong};
 
 use crate::{BitSlice, BitSliceMut};
-use bitvec_base::{BitOrder, BitSpanError, MAX_BITS};
-use bitvec_store::BitStore;
+use bitvec_traits::base::{BitOrder, BitSpanError, MAX_BITS};
+use bitvec_traits::store::BitStore;
 
 /// How many bits the elements have, or `usize::MAX` where a `usize` can't hold the number.
 pub(crate) fn bits_in<T: BitStore>(elements: &[T]) -> usize
@@ -26,6 +26,10 @@ impl<'a, T: BitStore, O: BitOrder> BitSlice<'a, T, O> {
     }
 
     /// A view of all bits of one element.
+    ///
+    /// ```
+    /// let view = BitSlice::<u8, Lsb0>::from_element(&0xF1);
+    /// ```
     pub fn from_element(element: &'a T) -> Self
         ensures { IsWhole T.BITS O.at T.value (element.now ∷ []) (seen result) }
     {
@@ -43,6 +47,12 @@ impl<'a, T: BitStore, O: BitOrder> BitSlice<'a, T, O> {
 
     /// A view of all bits of the elements; `Err(TooLong(bits))` exactly where they are more than
     /// `MAX_BITS` bits: so many, or `usize::MAX` where they are more than that.
+    ///
+    /// ```
+    /// let cells = [0x0Fu8, 0x01];
+    /// let view = BitSlice::<u8, Lsb0>::try_from_slice(&cells);
+    /// assert_eq!(rt; found(view), Some((16, Some(8))));
+    /// ```
     pub fn try_from_slice(elements: &'a [T]) -> Result<Self, BitSpanError>
         ensures made { IsOk result ↔ (T.BITS * length elements.now ≤ max_bits) }
         ensures error { IfErr result

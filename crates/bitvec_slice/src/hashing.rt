@@ -4,9 +4,9 @@ ghost use Rattle.bitvec_traits.specs.Feeding.{bits_fed};
 ghost use Rattle.bitvec_traits.specs.FeedingLaws.{fed_same};
 
 use crate::BitSlice;
-use bitvec_engine::SliceOrder;
-use bitvec_store::BitStore;
+use bitvec_traits::engine::SliceOrder;
 use bitvec_traits::hash_in;
+use bitvec_traits::store::BitStore;
 use std::hash::{Hash, Hasher};
 
 impl<'a, T: BitStore, O: SliceOrder> Hash for BitSlice<'a, T, O> {

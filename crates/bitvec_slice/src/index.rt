@@ -2,8 +2,8 @@
 ghost use Rattle.std.specs.Prelude.{◌≡◌, ℕ, ◌<◌, ◌↔◌, IsTrue};
 
 use crate::{BitRef, BitRefMut, BitSlice, BitSliceMut};
-use bitvec_base::BitOrder;
-use bitvec_store::BitStore;
+use bitvec_traits::base::BitOrder;
+use bitvec_traits::store::BitStore;
 
 /// A shared view, as an index meets it.
 #[doc(hidden)]

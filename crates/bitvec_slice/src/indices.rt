@@ -3,9 +3,9 @@ ghost use Rattle.std.specs.Prelude.{◌≡◌, ◌+◌, ◌<◌, false, slice_in
 
 use crate::touching::touched;
 use crate::{BitRef, BitRefMut, BitSlice, BitSliceIndex, BitSliceMut};
-use bitvec_base::BitOrder;
-use bitvec_elements::bit_in;
-use bitvec_store::BitStore;
+use bitvec_traits::base::BitOrder;
+use bitvec_traits::elements::bit_in;
+use bitvec_traits::store::BitStore;
 use std::ops::{Index, Range};
 
 impl<'a, T: BitStore, O: BitOrder> BitSlice<'a, T, O> {
@@ -14,6 +14,12 @@ impl<'a, T: BitStore, O: BitOrder> BitSlice<'a, T, O> {
     ghost use Rattle.bitvec_slice.specs.Views.{seen};
 
     /// What stands at an index or at a range of indices, if the view has it.
+    ///
+    /// ```
+    /// let all = BitSlice::<u16, Lsb0>::from_slice(&cells);
+    /// let view = all.get(3..30).ok_or("no such bits")?;
+    /// assert_eq!(rt; number_of_ones(view), 3);
+    /// ```
     pub fn get<I: BitSliceIndex<Self>>(self, index: I) -> Option<I::Immut>
         ensures { IsGiven (I.fits index (seen self.entry).window.len) (I.gives index (seen self.entry)) result }
     {
@@ -50,7 +56,7 @@ impl<'a, T: BitStore, O: BitOrder> BitSliceMut<'a, T, O> {
     ghost use Rattle.bitvec_slice.specs.Indices.{HasRange, WritesBitOf};
     ghost use Rattle.bitvec_slice.specs.Seen.{IsGiven, IsRangeOf};
     ghost use Rattle.bitvec_slice.specs.Lending.{lends_bits};
-    ghost use Rattle.bitvec_reference.specs.References.{bit_of_ref_mut, elements_of_ref_mut, name_of_ref_mut, place_of_ref_mut};
+    ghost use Rattle.bitvec_traits.specs.reference.References.{bit_of_ref_mut, elements_of_ref_mut, name_of_ref_mut, place_of_ref_mut};
     ghost use Rattle.bitvec_slice.specs.Views.{name_of, seen_mut};
 
     /// What stands at an index or at a range of indices, if the view has it.
@@ -92,6 +98,11 @@ impl<'a, T: BitStore, O: BitOrder> BitSliceMut<'a, T, O> {
     /// The bits of a range for writing, as `get_mut(range)` gives them. Condition:
     /// `start <= end <= len`. The crate has no such call: with it a caller knows that the view's window
     /// stays, and its elements that the range doesn't touch.
+    ///
+    /// ```
+    /// let mut front = view.part_mut(0..index);
+    /// front.fill(true);
+    /// ```
     pub fn part_mut(&mut self, range: Range<usize>) -> BitSliceMut<'_, T, O>
         requires { HasRange range (seen_mut self.old).window.len }
         ensures* writes_back { sem 𝓛 (lends_bits T.row O.row self.entry range.start range.end (name_of result)) }
@@ -110,6 +121,11 @@ impl<'a, T: BitStore, O: BitOrder> BitSliceMut<'a, T, O> {
     /// The bit at an index for writing, as `get_mut(index)` gives it. Condition: the index is below
     /// `len`. The crate has no such call: with it a caller knows that the view's window stays, and each
     /// element but the bit's.
+    ///
+    /// ```
+    /// let mut bit = view.bit_mut(index);
+    /// bit.set(true);
+    /// ```
     pub fn bit_mut(&mut self, index: usize) -> BitRefMut<'_, T, O>
         requires { index < (seen_mut self.old).window.len }
         ensures* writes_back { sem 𝓛 (lends_bits T.row O.row self.entry index (index + 1) (name_of_ref_mut result)) }
@@ -120,7 +136,7 @@ impl<'a, T: BitStore, O: BitOrder> BitSliceMut<'a, T, O> {
 
     /// The bit at an index for writing, as `get_mut(index)` gives it, for as long as the view was
     /// borrowed. Condition: the index is below `len`. The crate has no such call.
-    #[tactic(auto, using(bitvec_base::specs::WindowLaws::reading))]
+    #[tactic(auto, using(bitvec_traits::specs::Cited::reading))]
     pub fn into_bit(self, index: usize) -> BitRefMut<'a, T, O>
         requires { index < (seen_mut self).window.len }
         ensures { WritesBitOf (seen_mut self.entry) index result }
@@ -131,7 +147,7 @@ impl<'a, T: BitStore, O: BitOrder> BitSliceMut<'a, T, O> {
     /// The bit of a view that has just one, for a call of a crate above. Condition: it has one. The crate
     /// has no such call.
     #[doc(hidden)]
-    #[tactic(auto, using(bitvec_base::specs::WindowLaws::reading))]
+    #[tactic(auto, using(bitvec_traits::specs::Cited::reading))]
     pub fn into_reference(self) -> BitRefMut<'a, T, O>
         requires { (seen_mut self).window.len ≡ 1 }
         ensures bit { bit_of_ref_mut result ≡ slice_index_or (seen_mut self.entry).bits 0 false }

@@ -2,13 +2,13 @@
 ghost use Rattle.std.specs.Prelude.{◌≡◌, Some, IfSome, ⊤, length};
 ghost use Rattle.std.specs.Iterator.{UpTo, YieldsFirstBy, YieldsLastBy, at_most, item_count};
 ghost use Rattle.std.specs.Iterator.SizeHint.{IsWithinCount};
-ghost use Rattle.bitvec_reference.specs.References.{bit_of_ref};
+ghost use Rattle.bitvec_traits.specs.reference.References.{bit_of_ref};
 ghost use Rattle.bitvec_slice.specs.Indices.{HasRange};
 ghost use Rattle.bitvec_slice.specs.Views.{seen};
 
 use crate::{BitRef, BitRefIter, BitSlice, BitValIter};
-use bitvec_base::BitOrder;
-use bitvec_store::BitStore;
+use bitvec_traits::base::BitOrder;
+use bitvec_traits::store::BitStore;
 use std::alloc::AllocError;
 use std::iter::FusedIterator;
 use std::ops::Range;
@@ -62,6 +62,10 @@ impl<'a, T: BitStore, O: BitOrder> Iter<'a, T, O> {
     }
 
     /// The bits that are still to come, as `bool`.
+    ///
+    /// ```
+    /// bits.iter().by_vals().filter(|bit| *bit).count() % 2 == 1
+    /// ```
     pub fn by_vals(self) -> BitValIter<'a, T, O>
         ensures bits { vals_left result ≡ bits_left self.entry }
         ensures runs { YieldsVals result }

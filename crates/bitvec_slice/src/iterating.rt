@@ -1,16 +1,20 @@
 //! Walks over the bits of both types of views.
 ghost use Rattle.std.specs.Prelude.{◌≡◌, ◌≤◌, length};
-ghost use Rattle.bitvec_base.specs.Window.{max_bits};
+ghost use Rattle.bitvec_traits.specs.base.Window.{max_bits};
 
 use crate::{BitRef, BitSlice, BitSliceMut, Iter};
-use bitvec_base::BitOrder;
-use bitvec_store::BitStore;
+use bitvec_traits::base::BitOrder;
+use bitvec_traits::store::BitStore;
 
 impl<'a, T: BitStore, O: BitOrder> BitSlice<'a, T, O> {
     ghost use Rattle.bitvec_slice.specs.Views.{seen};
     ghost use Rattle.bitvec_slice.specs.Walks.{YieldsBits, bits_left, walked};
 
     /// The bits, one by one.
+    ///
+    /// ```
+    /// bits.iter().by_vals().filter(|bit| *bit).count() % 2 == 1
+    /// ```
     #[tactic(auto, unfolding(crate::specs::Walks::bits_left))]
     pub fn iter(self) -> Iter<'a, T, O>
         ensures bits { bits_left result ≡ (seen self.entry).bits }

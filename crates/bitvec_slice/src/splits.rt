@@ -2,14 +2,20 @@
 ghost use Rattle.std.specs.Prelude.{◌≤◌};
 
 use crate::{BitSlice, BitSliceMut};
-use bitvec_base::BitOrder;
-use bitvec_store::BitStore;
+use bitvec_traits::base::BitOrder;
+use bitvec_traits::store::BitStore;
 
 impl<'a, T: BitStore, O: BitOrder> BitSlice<'a, T, O> {
     ghost use Rattle.bitvec_slice.specs.Seen.{AreHalves};
     ghost use Rattle.bitvec_slice.specs.Views.{seen};
 
     /// The bits before the index `mid`, and those from it on. Condition: `mid` is at most `len`.
+    ///
+    /// ```
+    /// let cells = [0xF0u8];
+    /// let view = BitSlice::<u8, Lsb0>::from_slice(&cells);
+    /// assert_eq!(rt; counts(view.split_at(4)), [(4, 0), (4, 4)]);
+    /// ```
     pub fn split_at(self, mid: usize) -> (BitSlice<'a, T, O>, BitSlice<'a, T, O>)
         requires { mid ≤ (seen self).window.len }
         ensures { AreHalves T.BITS (seen self.entry) mid (seen result.0) (seen result.1) }

@@ -1,17 +1,23 @@
 //! A view without the bits that begin or end it.
 ghost use Rattle.std.specs.Prelude.{◌≡◌, ◌-◌, true};
-ghost use Rattle.bitvec_base.specs.Lists.{is_prefix, is_suffix};
+ghost use Rattle.bitvec_traits.specs.base.Lists.{is_prefix, is_suffix};
 
 use crate::{BitSlice, BitSliceMut};
-use bitvec_base::BitOrder;
-use bitvec_elements::{ends_with_in, starts_with_in};
-use bitvec_store::BitStore;
+use bitvec_traits::base::BitOrder;
+use bitvec_traits::elements::{ends_with_in, starts_with_in};
+use bitvec_traits::store::BitStore;
 
 impl<'a, T: BitStore, O: BitOrder> BitSlice<'a, T, O> {
     ghost use Rattle.bitvec_slice.specs.Seen.{IsGiven, IsRangeOf};
     ghost use Rattle.bitvec_slice.specs.Views.{seen};
 
     /// The bits behind the needle's, if those begin the view: `None` exactly where they don't.
+    ///
+    /// ```
+    /// let zero_one = part(&[0x02], 0, 2).ok_or("no such bits")?;
+    /// let rest = view.strip_prefix(zero_one);
+    /// assert_eq!(rt; is_left(rest, part(&[0x04], 0, 6)), Some(true));
+    /// ```
     pub fn strip_prefix<'b, U: BitStore, P: BitOrder>(
         self,
         needle: BitSlice<'b, U, P>,

@@ -4,8 +4,8 @@ ghost use Rattle.bitvec_slice.specs.Views.{seen};
 ghost use Rattle.bitvec_traits.specs.Listing.{bits_text};
 
 use crate::BitSlice;
-use bitvec_base::BitOrder;
-use bitvec_store::BitStore;
+use bitvec_traits::base::BitOrder;
+use bitvec_traits::store::BitStore;
 use bitvec_traits::write_bits_in;
 use std::fmt;
 

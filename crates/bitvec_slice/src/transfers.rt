@@ -3,15 +3,21 @@
 ghost use Rattle.std.specs.Prelude.{◌≡◌};
 
 use crate::{BitSlice, BitSliceMut};
-use bitvec_elements::{copy_from_block_in, swap_with_block_in};
-use bitvec_engine::SliceOrder;
-use bitvec_store::BitStore;
+use bitvec_traits::elements::{copy_from_block_in, swap_with_block_in};
+use bitvec_traits::engine::SliceOrder;
+use bitvec_traits::store::BitStore;
 
 impl<'a, T: BitStore, O: SliceOrder> BitSliceMut<'a, T, O> {
     ghost use Rattle.bitvec_slice.specs.Views.{seen, seen_mut};
     ghost use Rattle.bitvec_slice.specs.Writes.{WritesBits};
 
     /// Copies the bits of a view of the same type. Condition: the views are as long.
+    ///
+    /// ```
+    /// if let Some(from) = BitSlice::<u8, Msb0>::from_slice(source).get(..5) {
+    ///     part.copy_from_bitslice(from);
+    /// }
+    /// ```
     pub fn copy_from_bitslice(&mut self, src: BitSlice<'_, T, O>)
         requires { (seen_mut self.old).window.len ≡ (seen src).window.len }
         ensures { WritesBits self.old self.new (seen src.entry).bits }
@@ -22,6 +28,10 @@ impl<'a, T: BitStore, O: SliceOrder> BitSliceMut<'a, T, O> {
     }
 
     /// Exchanges the bits with those of a view of the same type. Condition: the views are as long.
+    ///
+    /// ```
+    /// view.swap_with_bitslice(other);
+    /// ```
     pub fn swap_with_bitslice(&mut self, other: &mut BitSliceMut<'_, T, O>)
         requires { (seen_mut self.old).window.len ≡ (seen_mut other.old).window.len }
         ensures bits { WritesBits self.old self.new (seen_mut other.old).bits }

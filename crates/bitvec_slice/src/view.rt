@@ -1,13 +1,13 @@
 //! A shared view of bits.
 ghost use Rattle.std.specs.Prelude.{◌≡◌, ◌+◌, ◌*◌, ◌≤◌, ◌==◌, ⊤, length, map};
-ghost use Rattle.bitvec_base.specs.Window.{max_bits};
+ghost use Rattle.bitvec_traits.specs.base.Window.{max_bits};
 
 use crate::bit_domain::bit_domain_of;
 use crate::touching::touched;
 use crate::{BitDomain, Domain};
-use bitvec_base::{BitOrder, MAX_BITS, Window};
 use bitvec_domain::domain_of;
-use bitvec_store::BitStore;
+use bitvec_traits::base::{BitOrder, MAX_BITS, Window};
+use bitvec_traits::store::BitStore;
 use std::alloc::AllocError;
 use std::marker::PhantomData;
 use std::ops::Range;
@@ -41,7 +41,7 @@ impl<'a, T: BitStore, O: BitOrder> Clone for BitSlice<'a, T, O> {
 }
 
 impl<'a, T: BitStore, O: BitOrder> BitSlice<'a, T, O> {
-    ghost use Rattle.bitvec_base.specs.Memory.{HasWindow};
+    ghost use Rattle.bitvec_traits.specs.base.Memory.{HasWindow};
     ghost use Rattle.bitvec_domain.specs.Domains.{pieces_of};
     ghost use Rattle.bitvec_slice.specs.Domains.{IsBitDomain, IsDomain, views_of};
     ghost use Rattle.bitvec_slice.specs.Indices.{HasRange};
@@ -56,6 +56,11 @@ impl<'a, T: BitStore, O: BitOrder> BitSlice<'a, T, O> {
     pub const MAX_ELTS: usize = (MAX_BITS + T::BITS as usize - 1) / (T::BITS as usize) + 1;
 
     /// A view of all bits of the elements. Condition: they are at most `MAX_BITS` bits.
+    ///
+    /// ```
+    /// let header = [0x1Au8, 0xBC];
+    /// assert_eq!(rt; train_number(BitSlice::from_slice(&header)), 0xABC);
+    /// ```
     #[tactic(auto, using(crate::specs::SeenLaws::whole_view))]
     pub fn from_slice(elements: &'a [T]) -> Self
         requires { T.BITS * length elements.now ≤ max_bits }
@@ -107,6 +112,11 @@ impl<'a, T: BitStore, O: BitOrder> BitSlice<'a, T, O> {
     }
 
     /// How many bits there are.
+    ///
+    /// ```
+    /// let view = from_ref::<u32, Lsb0>(&0x8000_0000);
+    /// assert_eq!(rt; (view.len(), view.first_one()), (32, Some(31)));
+    /// ```
     #[tactic(auto, using(crate::specs::SeenLaws::length_bits))]
     pub fn len(&self) -> usize
         ensures value { result ≡ length (seen self.now).bits }
@@ -117,6 +127,10 @@ impl<'a, T: BitStore, O: BitOrder> BitSlice<'a, T, O> {
     }
 
     /// Whether there is no bit.
+    ///
+    /// ```
+    /// assert!(rt; BitSlice::<u8, Lsb0>::empty().is_empty());
+    /// ```
     pub fn is_empty(&self) -> bool
         ensures { result ≡ ((seen self.now).window.len == 0) }
     {
@@ -124,6 +138,12 @@ impl<'a, T: BitStore, O: BitOrder> BitSlice<'a, T, O> {
     }
 
     /// The elements that the view touches, in their order.
+    ///
+    /// ```
+    /// let mut cells = [0u8, 0xFF, 0];
+    /// let view = BitSliceMut::<u8, Msb0>::from_slice_mut(&mut cells);
+    /// let body = whole_elements(view.domain()).ok_or("parts of elements")?;
+    /// ```
     pub fn domain(self) -> Domain<'a, T, O>
         ensures { IsDomain T.BITS O.at T.value (seen self.entry) (pieces_of result) }
     {
@@ -139,6 +159,12 @@ impl<'a, T: BitStore, O: BitOrder> BitSlice<'a, T, O> {
 
     /// The bits of a range, as `get(range)` gives them. Condition: `start <= end <= len`. The crate has
     /// no such call.
+    ///
+    /// ```
+    /// let view = BitSlice::<u8, Lsb0>::from_slice(&cells).into_part(4..12);
+    /// let copy = view.clone()?;
+    /// assert!(rt; view == copy);
+    /// ```
     pub fn into_part(self, range: Range<usize>) -> Self
         requires { HasRange range (seen self).window.len }
         ensures { IsRangeOf T.BITS (seen self.entry) range.start range.end (seen result) }

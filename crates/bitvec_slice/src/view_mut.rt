@@ -1,13 +1,13 @@
 //! A writable view of bits.
 ghost use Rattle.std.specs.Prelude.{◌≡◌, ◌+◌, ◌*◌, ◌≤◌, ◌==◌, length, map, slice_range};
-ghost use Rattle.bitvec_base.specs.Window.{max_bits};
+ghost use Rattle.bitvec_traits.specs.base.Window.{max_bits};
 
 use crate::bit_domain::bit_domain_mut_of;
 use crate::touching::touched;
 use crate::{BitDomain, BitDomainMut, BitSlice, Domain, DomainMut};
-use bitvec_base::{BitOrder, Window};
 use bitvec_domain::domain_mut_of;
-use bitvec_store::BitStore;
+use bitvec_traits::base::{BitOrder, Window};
+use bitvec_traits::store::BitStore;
 use std::marker::PhantomData;
 use std::ops::Range;
 
@@ -27,12 +27,12 @@ use std::ops::Range;
 /// which a closure gets moved to a part of it, and owes to leave there (`EditParts` of
 /// `bitvec_pieces`).
 ///
-/// A part holds the elements that its bits touch and no other, and no call that these pages show writes a
-/// bit of these outside the part: what an edit leaves says `WritesBits` of a view, `WritesBit` of a
-/// reference, `WritesPart` of a part of an element. Whole elements are given out by `domain_mut`, which
-/// covers them, and by `into_slice`, which asks for a view of all their bits. Three calls that this page
-/// hides, `elements_mut`, `elements_part_mut` and `stand_at`, reach the other bits of the elements for
-/// crates above, whose edits owe that bits outside the view stay.
+/// A part holds the elements that its bits touch and no other, and no call of it writes a bit of these
+/// outside the part: what an edit leaves says `WritesBits` of a view, `WritesBit` of a reference,
+/// `WritesPart` of a part of an element. Whole elements are given out by `domain_mut`, which covers
+/// them, and by `into_slice`, which asks for a view of all their bits. The other bits of the elements
+/// are reached by `RawElements` alone, a trait for the crates that the library is made of, which
+/// `bitvec` does not pass on.
 #[derive(Drop)]
 pub struct BitSliceMut<'a, T: BitStore, O: BitOrder> {
     elements: &'a mut [T],
@@ -45,8 +45,8 @@ pub struct BitSliceMut<'a, T: BitStore, O: BitOrder> {
 
 impl<'a, T: BitStore, O: BitOrder> BitSliceMut<'a, T, O> {
     ghost use Rattle.std.specs.Borrow.{sem};
-    ghost use Rattle.bitvec_base.specs.Memory.{HasWindow, memory_bits};
-    ghost use Rattle.bitvec_base.specs.Window.{IsWithin};
+    ghost use Rattle.bitvec_traits.specs.base.Memory.{HasWindow, memory_bits};
+    ghost use Rattle.bitvec_traits.specs.base.Window.{IsWithin};
     ghost use Rattle.bitvec_domain.specs.Domains.{pieces_of, pieces_of_mut};
     ghost use Rattle.bitvec_slice.specs.Domains.{IsBitDomain, IsDomain, views_of, views_of_mut};
     ghost use Rattle.bitvec_slice.specs.Indices.{HasRange};
@@ -55,6 +55,12 @@ impl<'a, T: BitStore, O: BitOrder> BitSliceMut<'a, T, O> {
     ghost use Rattle.bitvec_slice.specs.Views.{IsWholeOf, name_of, seen, seen_mut};
 
     /// A view of all bits of the elements. Condition: they are at most `MAX_BITS` bits.
+    ///
+    /// ```
+    /// let mut cells = [0u8];
+    /// let mut slots = BitSliceMut::<u8, Lsb0>::from_slice_mut(&mut cells);
+    /// slots.fill(true);
+    /// ```
     #[tactic(auto, using(crate::specs::SeenLaws::whole_view))]
     pub fn from_slice_mut(elements: &'a mut [T]) -> Self
         requires { T.BITS * length elements.old ≤ max_bits }
@@ -83,6 +89,12 @@ impl<'a, T: BitStore, O: BitOrder> BitSliceMut<'a, T, O> {
 
     /// Ends a view of all bits of its elements, and gives these back. Condition: it has all of them,
     /// as a view that was made of a slice has, also after edits. The crate has no such call.
+    ///
+    /// ```
+    /// let mut view = BitSliceMut::<u16, Lsb0>::from_slice_unchecked_mut(&mut cells);
+    /// view.set(17, true);
+    /// assert_eq!(rt; view.into_slice()[1], 2);
+    /// ```
     #[tactic(auto, using(crate::specs::SeenLaws::covered_bits))]
     pub fn into_slice(self) -> &'a mut [T]
         requires { CoversElements T.BITS (seen_mut self) }
@@ -108,6 +120,11 @@ impl<'a, T: BitStore, O: BitOrder> BitSliceMut<'a, T, O> {
     }
 
     /// A shared view of the same bits: `&*bits` of the crate.
+    ///
+    /// ```
+    /// let other = BitSlice::<u16, Msb0>::from_slice(&words);
+    /// assert!(rt; same(view.as_ref(), other));
+    /// ```
     pub fn as_ref(&self) -> BitSlice<'_, T, O>
         ensures { seen result ≡ seen_mut self.now }
     {
@@ -115,6 +132,11 @@ impl<'a, T: BitStore, O: BitOrder> BitSliceMut<'a, T, O> {
     }
 
     /// A view of the same bits for a shorter time: `&mut *bits` of the crate.
+    ///
+    /// ```
+    /// inner.invert();
+    /// inner.as_mut().set(0, true);
+    /// ```
     pub fn as_mut(&mut self) -> BitSliceMut<'_, T, O>
         ensures* writes_back { sem 𝓛 (lends T.row O.row self.entry (name_of result)) }
         ensures view { seen_mut result ≡ seen_mut self.old }
@@ -194,6 +216,12 @@ impl<'a, T: BitStore, O: BitOrder> BitSliceMut<'a, T, O> {
     }
 
     /// Where the view stands among the elements that it touches. The crate has no such call.
+    ///
+    /// ```
+    /// let mut cells = [0u8; 3];
+    /// let view = BitSliceMut::<u8, Lsb0>::from_slice_mut(&mut cells);
+    /// assert_eq!(rt; view.window(), Window { start: 0, len: 24 });
+    /// ```
     #[tactic(auto, using(crate::specs::SeenLaws::has_window))]
     pub fn window(&self) -> Window
         ensures value { result ≡ (seen_mut self.now).window }
@@ -205,10 +233,8 @@ impl<'a, T: BitStore, O: BitOrder> BitSliceMut<'a, T, O> {
         }
     }
 
-    /// The elements, lent to an edit of a crate above, which owes that the bits outside the view stay:
-    /// its contract says so by `WritesBits`.
-    #[doc(hidden)]
-    pub fn elements_mut(&mut self) -> &mut [T]
+    /// The elements, lent as `RawElements` lends them to crates above.
+    pub(crate) fn elements_mut(&mut self) -> &mut [T]
         ensures* writes_back { sem 𝓛 (lends T.row O.row self.entry result.ghost_name) }
         ensures elements { result.now ≡ (seen_mut self.old).elements }
     {
@@ -217,8 +243,7 @@ impl<'a, T: BitStore, O: BitOrder> BitSliceMut<'a, T, O> {
 
     /// Some of the elements, lent as [`BitSliceMut::elements_mut`] lends all: those outside stay.
     /// Condition: `start <= end`, and there are at least `end` elements.
-    #[doc(hidden)]
-    pub fn elements_part_mut(&mut self, start: usize, end: usize) -> &mut [T]
+    pub(crate) fn elements_part_mut(&mut self, start: usize, end: usize) -> &mut [T]
         requires order { start ≤ end }
         requires bound { end ≤ length (seen_mut self.old).elements }
         ensures* writes_back { sem 𝓛 (lends_part T.row O.row self.entry start end result.ghost_name) }
@@ -227,10 +252,8 @@ impl<'a, T: BitStore, O: BitOrder> BitSliceMut<'a, T, O> {
         &mut self.elements[start..end]
     }
 
-    /// Moves the view to a window of the elements that it keeps, for a call of a crate above, which
-    /// owes that the view comes back. Condition: the elements have the window.
-    #[doc(hidden)]
-    pub fn stand_at(&mut self, window: Window)
+    /// Moves the view to a window of the elements that it keeps. Condition: the elements have the window.
+    pub(crate) fn stand_at(&mut self, window: Window)
         requires { IsWithin window (T.BITS * length (seen_mut self.old).elements) }
         ensures window { (seen_mut self.new).window ≡ window }
         ensures elements { (seen_mut self.new).elements ≡ (seen_mut self.old).elements }

@@ -1,14 +1,14 @@
 //! Bit domains: a view, cut at the edges of elements.
 ghost use Rattle.std.specs.Prelude.{◌*◌, ◌≤◌, length};
-ghost use Rattle.bitvec_base.specs.Window.{max_bits};
+ghost use Rattle.bitvec_query.specs.base.Window.{max_bits};
 
 use crate::parts::Parts;
-use bitvec_base::{BitOrder, Lsb0, Msb0};
 use bitvec_edit::BitEdits;
-use bitvec_engine::SliceOrder;
 use bitvec_query::BitQueries;
-use bitvec_slice::{BitDomain, BitDomainMut, BitSlice, BitSliceMut};
-use bitvec_store::BitStore;
+use bitvec_query::base::{BitOrder, Lsb0, Msb0};
+use bitvec_query::engine::SliceOrder;
+use bitvec_query::slice::{BitDomain, BitDomainMut, BitSlice, BitSliceMut};
+use bitvec_query::store::BitStore;
 
 /// The parts of a range of the elements' bits.
 fn parts_of<T: BitStore, O: BitOrder>(elements: &[T], from: usize, to: usize) -> Parts

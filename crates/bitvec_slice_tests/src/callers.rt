@@ -1,13 +1,13 @@
 //! What a caller's contract can say by those of the calls that it makes.
 ghost use Rattle.std.specs.Prelude.{◌≡◌, ◌<◌, ◌≤◌, ◌↔◌, IfSome, IsSome, count_by, false, slice_index_or, slice_range};
-ghost use Rattle.bitvec_slice.specs.Views.{seen, seen_mut};
+ghost use Rattle.bitvec_query.specs.slice.Views.{seen, seen_mut};
 
-use bitvec_base::BitOrder;
 use bitvec_edit::BitEdits;
-use bitvec_engine::SliceOrder;
 use bitvec_query::BitQueries;
-use bitvec_slice::{BitSlice, BitSliceMut};
-use bitvec_store::BitStore;
+use bitvec_query::base::BitOrder;
+use bitvec_query::engine::SliceOrder;
+use bitvec_query::slice::{BitSlice, BitSliceMut};
+use bitvec_query::store::BitStore;
 
 /// How many of the bits before an index are 1, if the view has such.
 pub fn ones_before<T: BitStore, O: SliceOrder>(

@@ -1,13 +1,13 @@
 //! Views that are made of no element, of one, and of slices of any length.
-ghost use Rattle.bitvec_slice.specs.Seen.{CoversElements};
-ghost use Rattle.bitvec_slice.specs.Views.{seen, seen_mut};
+ghost use Rattle.bitvec_query.specs.slice.Seen.{CoversElements};
+ghost use Rattle.bitvec_query.specs.slice.Views.{seen, seen_mut};
 
-use bitvec_base::{BitOrder, HiLo, Lsb0, Msb0};
 use bitvec_edit::BitEdits;
-use bitvec_engine::SliceOrder;
 use bitvec_query::BitQueries;
-use bitvec_slice::{BitSlice, BitSliceMut, from_mut, from_ref};
-use bitvec_store::BitStore;
+use bitvec_query::base::{BitOrder, HiLo, Lsb0, Msb0};
+use bitvec_query::engine::SliceOrder;
+use bitvec_query::slice::{BitSlice, BitSliceMut, from_mut, from_ref};
+use bitvec_query::store::BitStore;
 
 /// How many bits a view has, and how many elements.
 fn sizes<T: BitStore, O: BitOrder>(view: BitSlice<'_, T, O>) -> (usize, usize)

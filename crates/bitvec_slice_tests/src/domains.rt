@@ -1,11 +1,11 @@
 //! Domains: the elements that a view touches.
 ghost use Rattle.std.specs.Prelude.{◌*◌, ◌≤◌, length};
-ghost use Rattle.bitvec_base.specs.Window.{max_bits};
+ghost use Rattle.bitvec_query.specs.base.Window.{max_bits};
 
 use crate::parts::Parts;
-use bitvec_base::{BitOrder, Lsb0, Msb0};
-use bitvec_slice::{BitSlice, BitSliceMut, Domain, DomainMut};
-use bitvec_store::BitStore;
+use bitvec_query::base::{BitOrder, Lsb0, Msb0};
+use bitvec_query::slice::{BitSlice, BitSliceMut, Domain, DomainMut};
+use bitvec_query::store::BitStore;
 use std::test::Fail;
 
 /// How many elements each part of a range of the elements' bits touches.

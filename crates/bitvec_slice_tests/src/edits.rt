@@ -1,13 +1,13 @@
 //! Edits of views: what a user does, and what the user's elements are afterwards.
 ghost use Rattle.std.specs.Prelude.{◌*◌, ◌≤◌, length};
-ghost use Rattle.bitvec_base.specs.Window.{max_bits};
+ghost use Rattle.bitvec_query.specs.base.Window.{max_bits};
 
-use bitvec_base::{HiLo, Lsb0, Msb0};
 use bitvec_edit::BitEdits;
-use bitvec_engine::SliceOrder;
 use bitvec_query::BitQueries;
-use bitvec_slice::{BitSlice, BitSliceMut};
-use bitvec_store::BitStore;
+use bitvec_query::base::{HiLo, Lsb0, Msb0};
+use bitvec_query::engine::SliceOrder;
+use bitvec_query::slice::{BitSlice, BitSliceMut};
+use bitvec_query::store::BitStore;
 
 /// Makes the bits `from` up to `to` all `bit`, if the elements have them.
 pub fn fill_range<T: BitStore, O: SliceOrder>(

@@ -1,12 +1,12 @@
 //! `==` of views of one type.
 ghost use Rattle.std.specs.Prelude.{◌≡◌};
-ghost use Rattle.bitvec_base.specs.Lists.{same_bits};
-ghost use Rattle.bitvec_slice.specs.Views.{seen};
+ghost use Rattle.bitvec_query.specs.base.Lists.{same_bits};
+ghost use Rattle.bitvec_query.specs.slice.Views.{seen};
 
-use bitvec_base::{Lsb0, Msb0};
-use bitvec_engine::SliceOrder;
-use bitvec_slice::BitSlice;
-use bitvec_store::BitStore;
+use bitvec_query::base::{Lsb0, Msb0};
+use bitvec_query::engine::SliceOrder;
+use bitvec_query::slice::BitSlice;
+use bitvec_query::store::BitStore;
 use std::test::Fail;
 
 /// Whether two views have the same bits, whatever lifetimes they have.

@@ -18,6 +18,10 @@ mod equality;
 #[cfg(test)]
 mod indices;
 #[cfg(test)]
+mod lends;
+#[cfg(test)]
+mod lent_domains;
+#[cfg(test)]
 mod parts;
 #[cfg(test)]
 mod ranges;

@@ -1,10 +1,10 @@
 //! Each kind of range of a view: whether it is there, and what bits it has.
 use crate::indices::counts;
-use bitvec_base::Lsb0;
-use bitvec_engine::SliceOrder;
 use bitvec_query::BitQueries;
-use bitvec_slice::{BitSlice, BitSliceIndex};
-use bitvec_store::BitStore;
+use bitvec_query::base::Lsb0;
+use bitvec_query::engine::SliceOrder;
+use bitvec_query::slice::{BitSlice, BitSliceIndex};
+use bitvec_query::store::BitStore;
 use std::test::Fail;
 
 /// The view 0, 1, 0, 0, 1 of a byte.

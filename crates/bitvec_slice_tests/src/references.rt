@@ -1,10 +1,10 @@
 //! References to one bit: what they read, and what they write.
 ghost use Rattle.std.specs.Prelude.{◌*◌, ◌≤◌, length};
-ghost use Rattle.bitvec_base.specs.Window.{max_bits};
+ghost use Rattle.bitvec_query.specs.base.Window.{max_bits};
 
-use bitvec_base::{BitOrder, Lsb0, Msb0};
-use bitvec_slice::{BitRef, BitSlice, BitSliceMut};
-use bitvec_store::BitStore;
+use bitvec_query::base::{BitOrder, Lsb0, Msb0};
+use bitvec_query::slice::{BitRef, BitSlice, BitSliceMut};
+use bitvec_query::store::BitStore;
 use std::test::Fail;
 
 /// Writes the bit at an index to 1, to 0 and to 1 again, if the elements have it: gives the bit

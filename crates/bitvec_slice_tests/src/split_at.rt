@@ -1,9 +1,9 @@
 //! Views, cut in two.
-use bitvec_base::{Lsb0, Msb0};
-use bitvec_engine::SliceOrder;
 use bitvec_query::BitQueries;
-use bitvec_slice::{BitSlice, BitSliceMut};
-use bitvec_store::BitStore;
+use bitvec_query::base::{Lsb0, Msb0};
+use bitvec_query::engine::SliceOrder;
+use bitvec_query::slice::{BitSlice, BitSliceMut};
+use bitvec_query::store::BitStore;
 
 /// How many bits two views have each, and how many of these are 1.
 fn counts<T: BitStore, O: SliceOrder>(

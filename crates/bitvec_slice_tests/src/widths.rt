@@ -1,12 +1,12 @@
 //! Make, edit, lend, edit again and read back, over every element type and order.
 ghost use Rattle.std.specs.Prelude.{◌*◌, ◌≤◌, length};
-ghost use Rattle.bitvec_base.specs.Window.{max_bits};
+ghost use Rattle.bitvec_query.specs.base.Window.{max_bits};
 
-use bitvec_base::{HiLo, Lsb0, Msb0};
 use bitvec_edit::BitEdits;
-use bitvec_engine::SliceOrder;
-use bitvec_slice::BitSliceMut;
-use bitvec_store::BitStore;
+use bitvec_query::base::{HiLo, Lsb0, Msb0};
+use bitvec_query::engine::SliceOrder;
+use bitvec_query::slice::BitSliceMut;
+use bitvec_query::store::BitStore;
 
 /// Fills three elements' bits from 5 on but the last 3; in what it lends of that, sets the first
 /// bit and inverts the second element; and clears bit 6 of all. Of other lengths it touches none.

@@ -24,8 +24,8 @@ pub record CountedIn (T P : Type 0) : Type 0 where
   pub count : ℕ
 
 module _ {T P : Type 0} where
-  abbrev pub unsplit_in : Seen T → P → LeftIn T P
-  unsplit_in view pred = record { view = view; from = 0; to = view.window.len; finished = false; pred = pred }
+  abbrev pub unsplit_in : Bool → Seen T → P → LeftIn T P
+  unsplit_in inclusive view pred = record { view = view; from = 0; to = view.window.len; finished = inclusive && (view.window.len == 0); pred = pred }
 
   -- how many pieces come at least, and how many at most
   abbrev pub least_in : LeftIn T P → ℕ

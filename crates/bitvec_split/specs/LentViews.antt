@@ -1,8 +1,8 @@
 -- What contracts see of the splits that lend.
 use Rattle.std.specs.Prelude.{min}
 use Rattle.std.specs.Borrow.{GName}
-use Rattle.bitvec_store.specs.declared.store.BitStore.{Ghosts as Store}
-use Rattle.bitvec_base.specs.declared.order.BitOrder.{Ghosts as Order}
+use Rattle.bitvec_slice.specs.store.declared.store.BitStore.{Ghosts as Store}
+use Rattle.bitvec_slice.specs.base.declared.order.BitOrder.{Ghosts as Order}
 use Rattle.bitvec_slice.specs.Views.{name_of, seen_mut}
 use Rattle.bitvec_split.specs.Lent.{CountedIn, LeftIn}
 use Rattle.bitvec_split.specs.declared.lending.SplitsMut.{SplitsMut}

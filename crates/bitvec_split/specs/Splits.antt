@@ -18,9 +18,9 @@ pub record Counted (T P : Type 0) : Type 0 where
   pub count : ℕ
 
 module _ {T P : Type 0} where
-  -- a split of all bits of a view
-  abbrev pub unsplit : Seen T → P → Left T P
-  unsplit view pred = record { rest = view; finished = false; pred = pred }
+  -- a split of all bits of a view, which is finished if it is inclusive and the view is empty
+  abbrev pub unsplit : Bool → Seen T → P → Left T P
+  unsplit inclusive view pred = record { rest = view; finished = inclusive && (view.window.len == 0); pred = pred }
 
   -- how many pieces come at least, and how many at most
   abbrev pub least : Left T P → ℕ

@@ -2,9 +2,9 @@
 ghost use Rattle.std.specs.Prelude.{◌≡◌, Some, min, option_map};
 
 use crate::{Forward, Reversed, SplitsMut, Way};
-use bitvec_base::BitOrder;
 use bitvec_slice::BitSliceMut;
-use bitvec_store::BitStore;
+use bitvec_slice::base::BitOrder;
+use bitvec_slice::store::BitStore;
 use std::ops::Range;
 
 /// The pieces of a writable view as `SplitsN` gives them of a shared one, lent one at a time.
@@ -42,7 +42,7 @@ impl<'a, T: BitStore, O: BitOrder, P: FnMut(usize, &bool) -> bool, W: Way> Split
         pred: P,
     ) -> SplitsNMut<'s, T, O, P, W>
         ensures* writes_back { sem 𝓛 (lends T.row O.row bits.entry (name_of_counted result)) }
-        ensures left { counted_in result ≡ record { left = unsplit_in (seen_mut bits.old) pred; count = count } }
+        ensures left { counted_in result ≡ record { left = unsplit_in W.INCLUSIVE (seen_mut bits.old) pred; count = count } }
     {
         SplitsNMut::of(SplitsMut::new(bits, pred), count)
     }

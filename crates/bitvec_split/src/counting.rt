@@ -4,9 +4,9 @@ ghost use Rattle.std.specs.Iterator.{UpTo, at_most};
 ghost use Rattle.std.specs.Iterator.SizeHint.{IsWithinCount};
 
 use crate::{Forward, Reversed, Splits, Way};
-use bitvec_base::BitOrder;
 use bitvec_slice::BitSlice;
-use bitvec_store::BitStore;
+use bitvec_slice::base::BitOrder;
+use bitvec_slice::store::BitStore;
 
 /// The pieces of a split up to a number of them. The last that this number permits is all that is left,
 /// about which the predicate isn't asked.
@@ -29,7 +29,7 @@ impl<'a, T: BitStore, O: BitOrder, P: FnMut(usize, &bool) -> bool, W: Way> Split
 
     /// The pieces of a view, which last as long as what it borrows. The crate has no such call.
     pub fn new(bits: BitSlice<'a, T, O>, count: usize, pred: P) -> Self
-        ensures { counted_of result ≡ record { left = unsplit (seen bits.entry) pred; count = count } }
+        ensures { counted_of result ≡ record { left = unsplit W.INCLUSIVE (seen bits.entry) pred; count = count } }
     {
         SplitsN {
             parts: Splits::new(bits, pred),

@@ -4,9 +4,9 @@ ghost use Rattle.std.specs.Prelude.{◌≡◌, ◌+◌, ◌-◌, ◌<◌, ◌≤
 use crate::asking::{ask_down, ask_up};
 use crate::ways::{asked_behind, end_of};
 use crate::{Forward, Inclusive, Reversed, Way};
-use bitvec_base::BitOrder;
+use bitvec_slice::base::BitOrder;
+use bitvec_slice::store::BitStore;
 use bitvec_slice::{BitSlice, BitSliceMut};
-use bitvec_store::BitStore;
 use std::marker::PhantomData;
 use std::ops::Range;
 
@@ -196,13 +196,13 @@ impl<'a, T: BitStore, O: BitOrder, P: FnMut(usize, &bool) -> bool, W: Way> Split
     #[doc(hidden)]
     pub fn new<'s>(bits: &'s mut BitSliceMut<'a, T, O>, pred: P) -> SplitsMut<'s, T, O, P, W>
         ensures* writes_back { sem 𝓛 (lends T.row O.row bits.entry (name_of_splits result)) }
-        ensures left { left_in result ≡ unsplit_in (seen_mut bits.old) pred }
+        ensures left { left_in result ≡ unsplit_in W.INCLUSIVE (seen_mut bits.old) pred }
     {
         SplitsMut::of(bits.as_mut(), pred)
     }
 
     fn of(bits: BitSliceMut<'a, T, O>, pred: P) -> Self
-        ensures left { left_in result ≡ unsplit_in (seen_mut bits.entry) pred }
+        ensures left { left_in result ≡ unsplit_in W.INCLUSIVE (seen_mut bits.entry) pred }
         ensures name { name_of_splits result ≡ name_of bits.entry }
     {
         let to = bits.len();
@@ -210,7 +210,7 @@ impl<'a, T: BitStore, O: BitOrder, P: FnMut(usize, &bool) -> bool, W: Way> Split
             bits,
             from: 0,
             to,
-            finished: false,
+            finished: W::INCLUSIVE && to == 0,
             pred,
             way: PhantomData,
         }

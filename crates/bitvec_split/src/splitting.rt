@@ -6,9 +6,9 @@ ghost use Rattle.std.specs.Iterator.SizeHint.{IsWithinCount};
 use crate::asking::{ask_down, ask_up};
 use crate::ways::{asked_behind, end_of};
 use crate::{Forward, Inclusive, Reversed, Way};
-use bitvec_base::BitOrder;
 use bitvec_slice::BitSlice;
-use bitvec_store::BitStore;
+use bitvec_slice::base::BitOrder;
+use bitvec_slice::store::BitStore;
 use std::marker::PhantomData;
 
 /// The pieces of a view between the bits at which a predicate says yes, from both ends.
@@ -41,11 +41,11 @@ impl<'a, T: BitStore, O: BitOrder, P: FnMut(usize, &bool) -> bool, W: Way> Split
 
     /// The pieces of a view, which last as long as what it borrows. The crate has no such call.
     pub fn new(bits: BitSlice<'a, T, O>, pred: P) -> Self
-        ensures { left_of result ≡ unsplit (seen bits.entry) pred }
+        ensures { left_of result ≡ unsplit W.INCLUSIVE (seen bits.entry) pred }
     {
         Splits {
             rest: bits,
-            finished: false,
+            finished: W::INCLUSIVE && bits.is_empty(),
             pred,
             way: PhantomData,
         }

@@ -1,1 +1,3 @@
 pub mod Counted
+pub use Rattle.bitvec_cells.specs.base as base
+pub use Rattle.bitvec_cells.specs.store as store

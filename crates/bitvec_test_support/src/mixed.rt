@@ -1,5 +1,5 @@
 //! Elements for tests.
-use bitvec_store::BitStore;
+use bitvec_cells::store::BitStore;
 use std::alloc::{AllocError, Allocator};
 
 /// So many elements with no pattern, other ones for another seed. Err: out of memory.

@@ -2,9 +2,9 @@
 ghost use Rattle.std.specs.Prelude.{Some, false, true};
 
 use crate::segments::write_radix;
-use bitvec_base::BitOrder;
 use bitvec_slice::BitSlice;
-use bitvec_store::BitStore;
+use bitvec_slice::base::BitOrder;
+use bitvec_slice::store::BitStore;
 use std::fmt;
 
 /// A view that prints a digit for each bit, as `[0100, 0010]`: `{:b}` of the crate. There is a text for

@@ -2,12 +2,12 @@
 ghost use Rattle.std.specs.Prelude.{◌≡◌, ◌++◌, map};
 ghost use Rattle.std.specs.Fmt.{WritesOnOk};
 ghost use Rattle.std.specs.List.{join_by};
-ghost use Rattle.bitvec_base.specs.Memory.{HasWindow, list_in};
+ghost use Rattle.bitvec_reference.specs.base.Memory.{HasWindow, list_in};
 ghost use Rattle.bitvec_traits.specs.Listing.{bit_text, bits_text, comma, separator};
 
-use bitvec_base::{BitOrder, Window};
-use bitvec_elements::bit_in;
-use bitvec_store::BitStore;
+use bitvec_reference::base::{BitOrder, Window};
+use bitvec_reference::elements::bit_in;
+use bitvec_reference::store::BitStore;
 use std::fmt;
 
 /// Writes the bits of a window as `[0, 1, 0]`. Condition: the memory has at most `MAX_BITS` bits, and

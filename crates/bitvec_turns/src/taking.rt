@@ -1,15 +1,17 @@
 //! The first and the last place of a bit that a walk has still to come to.
-ghost use Rattle.std.specs.Prelude.{◌≡◌, ◌≤◌, length};
+ghost use Rattle.std.specs.Prelude.{◌≡◌, ◌+◌, ◌-◌, ◌≤◌, length};
 ghost use Rattle.std.specs.Iterator.{YieldsFirst, YieldsLast};
-ghost use Rattle.bitvec_base.specs.Memory.{HasWindow, list_in};
+ghost use Rattle.bitvec_engine.specs.base.Memory.{HasWindow, list_in};
+ghost use Rattle.bitvec_engine.specs.cells.Access.{OnlyReads};
+ghost use Rattle.bitvec_engine.specs.walk.Cost.{touched};
 ghost use Rattle.bitvec_turns.specs.Loads.{LoadsPassed};
 ghost use Rattle.bitvec_turns.specs.Places.{IsRestOf, places_left};
 
 use crate::rest::Rest;
-use bitvec_base::{BitOrder, Window};
-use bitvec_cells::CellsRead;
+use bitvec_engine::base::{BitOrder, Window};
+use bitvec_engine::cells::CellsRead;
+use bitvec_engine::store::BitStore;
 use bitvec_engine::{SliceOrder, count, count_zeros};
-use bitvec_store::BitStore;
 
 /// The first index of the rest whose bit is `want`, if there is one; the rest then begins behind
 /// it, or is empty. Condition: the memory has at most `MAX_BITS` bits, the window lies in it, and
@@ -71,7 +73,8 @@ pub fn take_last<O: SliceOrder, C: CellsRead>(
     }
 }
 
-/// How many bits of the rest are `want`. Condition: as of [`take_first`].
+/// How many bits of the rest are `want`. Condition: as of [`take_first`]. It loads each element that
+/// the rest touches once.
 pub fn count_left<O: BitOrder, C: CellsRead>(
     cells: &mut C,
     window: Window,
@@ -80,7 +83,8 @@ pub fn count_left<O: BitOrder, C: CellsRead>(
 ) -> usize
     requires window { HasWindow C.Elem.BITS (C.numbers cells.old) window }
     requires inside { IsRestOf rest window.len }
-    ensures { result ≡ length (places_left want (list_in C.Elem.BITS O.at (C.numbers cells.old) window) rest) }
+    ensures value { result ≡ length (places_left want (list_in C.Elem.BITS O.at (C.numbers cells.old) window) rest) }
+    ensures reads { OnlyReads C.CellsRead cells.old cells.new (touched C.Elem.BITS (window.start + rest.front) (rest.back - rest.front)) }
 {
     let left = window.range(rest.front, rest.back);
     if want {

@@ -1,9 +1,9 @@
 //! Which indices a predicate is asked about, by predicates that keep a state.
 
-use bitvec_base::{BitOrder, Lsb0, Msb0};
-use bitvec_slice::BitSlice;
+use bitvec_owned::query::base::{BitOrder, Lsb0, Msb0};
+use bitvec_owned::query::slice::BitSlice;
+use bitvec_owned::query::store::BitStore;
 use bitvec_split::SplitCalls;
-use bitvec_store::BitStore;
 use std::test::Fail;
 
 /// Appends the digit above an index.
@@ -73,4 +73,46 @@ fn neither_the_last_bit_nor_the_last_piece_is_asked(rt: HostRuntime) -> Result<(
     assert_eq!(rt; asked_behind(view, 9), 4321);
     assert_eq!(rt; asked_in_two(view), 5);
     Ok(())
+}
+
+/// Where a piece stands in the element that it touches, and how many bits it has.
+fn place<T: BitStore, O: BitOrder>(piece: Option<BitSlice<'_, T, O>>) -> Option<(usize, usize)> {
+    let window = piece?.window();
+    Some((window.start, window.len))
+}
+
+// The predicate is asked through its own states: of six zeros it says yes at each second asking.
+#[test]
+fn each_second_asking_from_the_front(rt: HostRuntime) {
+    let zeros = [0u8];
+    let view = BitSlice::<u8, Lsb0>::from_slice(&zeros).into_part(0..6);
+    let mut asked = 0u32;
+    let mut pieces = view.split(|_index, _bit| {
+        asked = asked.wrapping_add(1);
+        asked % 2 == 0
+    });
+    assert_eq!(rt; place(pieces.next()), Some((0, 1)));
+    assert_eq!(rt; place(pieces.next()), Some((2, 1)));
+    assert_eq!(rt; place(pieces.next()), Some((4, 1)));
+    assert_eq!(rt; place(pieces.next()), Some((6, 0)));
+    assert_eq!(rt; (place(pieces.next()), place(pieces.next())), (None, None));
+}
+
+#[test]
+fn each_second_asking_from_both_ends(rt: HostRuntime) {
+    let zeros = [0u8];
+    let view = BitSlice::<u8, Lsb0>::from_slice(&zeros).into_part(0..6);
+    let mut asked = 0u32;
+    let mut pieces = view.split(|_index, _bit| {
+        asked = asked.wrapping_add(1);
+        asked % 2 == 0
+    });
+    assert_eq!(rt; place(pieces.next()), Some((0, 1)));
+    assert_eq!(rt; place(pieces.next_back()), Some((5, 1)));
+    assert_eq!(rt; place(pieces.next()), Some((2, 1)));
+    assert_eq!(rt; place(pieces.next_back()), Some((4, 0)));
+    assert_eq!(rt;
+        (place(pieces.next()), place(pieces.next_back())),
+        (None, None)
+    );
 }

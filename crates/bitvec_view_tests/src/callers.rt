@@ -1,12 +1,19 @@
-//! A caller of a split, with a contract of its own.
-ghost use Rattle.std.specs.Prelude.{◌≡◌, false, find, slice_index_or, unwrap_or};
-ghost use Rattle.bitvec_slice.specs.Views.{seen};
+//! Callers of a split and of owned sequences, with contracts of their own.
+ghost use Rattle.std.specs.Prelude.{◌≡◌, IfOk, count_by, false, find, map, not, reverse, slice_index_or, unwrap_or};
+ghost use Rattle.bitvec_owned.specs.query.slice.Views.{seen};
+ghost use Rattle.bitvec_owned.specs.Copies.{Holds, copy_start};
+ghost use Rattle.bitvec_owned.specs.Owned.{owned};
 ghost use Rattle.bitvec_split.specs.Asked.{upward};
 
-use bitvec_base::BitOrder;
-use bitvec_slice::BitSlice;
+use bitvec_owned::edit::BitEdits;
+use bitvec_owned::query::BitQueries;
+use bitvec_owned::query::base::BitOrder;
+use bitvec_owned::query::engine::SliceOrder;
+use bitvec_owned::query::slice::BitSlice;
+use bitvec_owned::query::store::BitStore;
+use bitvec_owned::{BitVec, ToBitVec};
 use bitvec_split::SplitCalls;
-use bitvec_store::BitStore;
+use std::alloc::{AllocError, Global};
 
 /// How many bits stand before the first one: as many as there are, if none is.
 pub fn before_one<T: BitStore, O: BitOrder>(view: BitSlice<'_, T, O>) -> usize
@@ -18,16 +25,56 @@ pub fn before_one<T: BitStore, O: BitOrder>(view: BitSlice<'_, T, O>) -> usize
     }
 }
 
+/// A copy of the bits, each of them flipped, and how many of them were 1.
+pub fn flipped<T: BitStore, O: SliceOrder>(
+    alloc: Global,
+    view: BitSlice<'_, T, O>,
+) -> Result<(BitVec<T, O, Global>, usize), AllocError>
+    ensures holds { IfOk result (λ given. Holds T.BITS (map not (seen view.entry).bits)
+        (copy_start T.BITS (seen view.entry).window) (owned given.0)) }
+    ensures ones { IfOk result (λ given. given.1 ≡ count_by (λ bit. bit) (seen view.entry).bits) }
+{
+    let mut copy = view.to_bitvec(alloc)?;
+    let ones = copy.count_ones();
+    copy.invert();
+    Ok((copy, ones))
+}
+
+/// A copy of the bits in the opposite order.
+pub fn backwards<T: BitStore, O: SliceOrder>(
+    alloc: Global,
+    view: BitSlice<'_, T, O>,
+) -> Result<BitVec<T, O, Global>, AllocError>
+    ensures { IfOk result (λ copy. (owned copy).bits ≡ reverse (seen view.entry).bits) }
+{
+    let mut copy = view.to_bitvec(alloc)?;
+    copy.reverse();
+    Ok(copy)
+}
+
 #[cfg(test)]
 mod tests {
-    use super::before_one;
-    use bitvec_base::Lsb0;
-    use bitvec_slice::BitSlice;
+    use super::{backwards, before_one, flipped};
+    use bitvec_owned::query::base::Lsb0;
+    use bitvec_owned::query::slice::BitSlice;
+    use std::test::Fail;
 
     #[test]
     fn bits_before_the_first_one(rt: HostRuntime) {
         let cells = [0x48u8];
         assert_eq!(rt; before_one(BitSlice::<u8, Lsb0>::from_slice(&cells)), 3);
         assert_eq!(rt; before_one(BitSlice::<u8, Lsb0>::from_slice(&[0])), 8);
+    }
+
+    #[test]
+    fn copies_are_edited(rt: HostRuntime) -> Result<(), Fail> {
+        let cells = [0x48u8, 0x01];
+        let view = BitSlice::<u8, Lsb0>::from_slice(&cells).into_part(3..9);
+        let (copy, ones) = flipped(rt.alloc(), view)?;
+        assert_eq!(rt; copy.as_raw_slice(), [0xB0u8, 0x00].as_slice());
+        assert_eq!(rt; ones, 3);
+        let copy = backwards(rt.alloc(), view)?;
+        assert_eq!(rt; copy.as_raw_slice(), [0x28u8, 0x01].as_slice());
+        Ok(())
     }
 }

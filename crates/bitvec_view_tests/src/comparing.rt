@@ -1,8 +1,8 @@
 //! Views of one type, compared.
 
 use crate::laws::{compare_both_ways, order_agrees};
-use bitvec_base::{Lsb0, Msb0};
-use bitvec_slice::BitSlice;
+use bitvec_owned::query::base::{Lsb0, Msb0};
+use bitvec_owned::query::slice::BitSlice;
 use std::cmp::Ordering;
 use std::test::Fail;
 

@@ -1,8 +1,8 @@
 //! Hashes of views.
 
 use crate::laws::{equal_views_hash_alike, hash_of};
-use bitvec_base::Lsb0;
-use bitvec_slice::BitSlice;
+use bitvec_owned::query::base::Lsb0;
+use bitvec_owned::query::slice::BitSlice;
 use std::hash::{DefaultHasher, Hash, Hasher};
 use std::test::Fail;
 

@@ -4,17 +4,17 @@ ghost use Rattle.std.specs.Cmp.Lexicographic.{slice_cmp};
 ghost use Rattle.std.specs.Hash.DefaultHasher as sip;
 ghost use Rattle.std.specs.Ordering.{bool_cmp, ordering_reverse};
 ghost use Rattle.std.proofs.Common.{Less};
-ghost use Rattle.bitvec_slice.specs.Views.{seen};
-ghost use Rattle.bitvec_traits.specs.Feeding.{bits_fed};
+ghost use Rattle.bitvec_owned.specs.query.slice.Views.{seen};
+ghost use Rattle.bitvec_owned.specs.query.traits.Feeding.{bits_fed};
 
-use bitvec_engine::SliceOrder;
-use bitvec_slice::BitSlice;
-use bitvec_store::BitStore;
+use bitvec_owned::query::engine::SliceOrder;
+use bitvec_owned::query::slice::BitSlice;
+use bitvec_owned::query::store::BitStore;
 use std::cmp::Ordering;
 use std::hash::{DefaultHasher, Hash, Hasher};
 
 /// How two views compare, both ways: each is the other reversed.
-#[tactic(auto, using(bitvec_traits::specs::OrderLaws::ordered))]
+#[tactic(auto, using(bitvec_owned::specs::Cited::ordered))]
 pub fn compare_both_ways<T: BitStore, O: SliceOrder>(
     view: BitSlice<'_, T, O>,
     other: BitSlice<'_, T, O>,
@@ -26,7 +26,7 @@ pub fn compare_both_ways<T: BitStore, O: SliceOrder>(
 
 /// How a view compares with a third one, where it is less than a second, and that less than the third:
 /// it is less.
-#[tactic(auto, using(bitvec_traits::specs::OrderLaws::ordered))]
+#[tactic(auto, using(bitvec_owned::specs::Cited::ordered))]
 pub fn compare_across<T: BitStore, O: SliceOrder>(
     view: BitSlice<'_, T, O>,
     second: BitSlice<'_, T, O>,
@@ -41,7 +41,7 @@ pub fn compare_across<T: BitStore, O: SliceOrder>(
 }
 
 /// Whether equality and order agree on two views: they do.
-#[tactic(auto, using(bitvec_traits::specs::OrderLaws::ordered))]
+#[tactic(auto, using(bitvec_owned::specs::Cited::ordered))]
 pub fn order_agrees<T: BitStore, O: SliceOrder>(
     view: BitSlice<'_, T, O>,
     other: BitSlice<'_, T, O>,
@@ -61,7 +61,7 @@ pub fn hash_of<T: BitStore, O: SliceOrder>(view: BitSlice<'_, T, O>) -> u64
 }
 
 /// Whether two views differ or have the same hash: they do.
-#[tactic(auto, using(bitvec_traits::specs::FeedingLaws::fed_same))]
+#[tactic(auto, using(bitvec_owned::specs::Cited::fed_same))]
 pub fn equal_views_hash_alike<T: BitStore, O: SliceOrder>(
     view: BitSlice<'_, T, O>,
     other: BitSlice<'_, T, O>,

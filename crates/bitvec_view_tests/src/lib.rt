@@ -1,5 +1,5 @@
-//! Questions to views, their order, hash and texts, copies and repeats, and splits: callers, and
-//! what no clause says.
+//! Questions to views, their order, hash and texts, copies and repeats, owned sequences, and splits:
+//! callers, and what no clause says.
 #![tactic(auto)]
 
 #[cfg(test)]
@@ -17,7 +17,11 @@ mod laws;
 #[cfg(test)]
 mod lent;
 #[cfg(test)]
+mod lent_splits;
+#[cfg(test)]
 mod needles;
+#[cfg(test)]
+mod owned;
 #[cfg(test)]
 mod pieces;
 #[cfg(test)]
@@ -30,4 +34,4 @@ mod scans;
 mod texts;
 
 #[cfg(test)]
-pub use callers::before_one;
+pub use callers::{backwards, before_one, flipped};

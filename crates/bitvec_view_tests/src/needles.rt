@@ -1,10 +1,10 @@
 //! A table of needles in all pairs of three orders and two widths, against lists of truth values.
 
-use bitvec_base::{BitOrder, HiLo, Lsb0, Msb0};
-use bitvec_engine::SliceOrder;
-use bitvec_query::BitQueries;
-use bitvec_slice::BitSlice;
-use bitvec_store::BitStore;
+use bitvec_owned::query::BitQueries;
+use bitvec_owned::query::base::{BitOrder, HiLo, Lsb0, Msb0};
+use bitvec_owned::query::engine::SliceOrder;
+use bitvec_owned::query::slice::BitSlice;
+use bitvec_owned::query::store::BitStore;
 use std::alloc::{AllocError, Allocator};
 use std::process::Abort;
 use std::test::Fail;

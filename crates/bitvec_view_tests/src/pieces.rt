@@ -1,11 +1,12 @@
 //! The pieces of views, from both ends, and how many may come.
 ghost use Rattle.std.specs.Iterator.{IsFinite};
 
-use bitvec_base::{BitOrder, Lsb0, Msb0};
-use bitvec_slice::{BitSlice, BitSliceMut};
+use bitvec_owned::query::base::{BitOrder, Lsb0, Msb0};
+use bitvec_owned::query::slice::{BitSlice, BitSliceMut};
+use bitvec_owned::query::store::BitStore;
 use bitvec_split::SplitCalls;
-use bitvec_store::BitStore;
 use std::test::Fail;
+use test_bits::{stays_ended, stays_ended_at_both};
 
 /// A view's bits as digits behind a 1, read as a number.
 fn number<T: BitStore, O: BitOrder>(piece: BitSlice<'_, T, O>) -> u32 {
@@ -61,10 +62,16 @@ fn inclusive_splits_at_ones(rt: HostRuntime) -> Result<(), Fail> {
     let pieces = view.split_inclusive(|_, bit| *bit);
     assert_eq!(rt; numbers(pieces.rev()), [0b1_001, 0b1_01, 0, 0]);
     let none = BitSlice::<u16, Lsb0>::from_slice(&[]);
-    assert_eq!(rt;
-        numbers(none.split_inclusive(|_, bit| *bit)),
-        [0b1, 0, 0, 0]
-    );
+    let mut asked = 0usize;
+    let mut pieces = none.split_inclusive(|_, bit| {
+        asked = asked.wrapping_add(1);
+        *bit
+    });
+    assert_eq!(rt; pieces.size_hint(), (0, Some(0)));
+    assert!(rt; pieces.next().is_none());
+    assert!(rt; pieces.next_back().is_none());
+    drop(pieces);
+    assert_eq!(rt; asked, 0);
     Ok(())
 }
 
@@ -108,4 +115,25 @@ fn an_ended_split_stays_ended(rt: HostRuntime) {
     assert!(rt; pieces.next().is_none());
     assert!(rt; pieces.next_back().is_none());
     assert_eq!(rt; pieces.size_hint(), (0, Some(0)));
+}
+
+/// Says yes at ones.
+fn is_one(_index: usize, bit: &bool) -> bool {
+    *bit
+}
+
+#[test]
+fn no_piece_comes_at_ten_calls_behind_the_end(rt: HostRuntime) {
+    let cells = [0x17u8, 0x2C, 0x91];
+    let view = BitSlice::<u8, Msb0>::from_slice(&cells).into_part(3..21);
+    assert!(rt; stays_ended_at_both(&mut view.split(is_one), &mut view.split(is_one)));
+    assert!(rt;
+        stays_ended_at_both(
+            &mut view.split_inclusive(is_one),
+            &mut view.split_inclusive(is_one)
+        )
+    );
+    assert!(rt; stays_ended_at_both(&mut view.rsplit(is_one), &mut view.rsplit(is_one)));
+    assert!(rt; stays_ended(&mut view.splitn(4, is_one)));
+    assert!(rt; stays_ended(&mut view.rsplitn(4, is_one)));
 }

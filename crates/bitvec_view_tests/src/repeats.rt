@@ -1,9 +1,9 @@
 //! What repeats hold.
 
-use bitvec_base::{Lsb0, Msb0};
-use bitvec_engine::SliceOrder;
+use bitvec_owned::query::base::{Lsb0, Msb0};
+use bitvec_owned::query::engine::SliceOrder;
+use bitvec_owned::query::slice::BitSlice;
 use bitvec_owned::{BitVec, RepeatError, ToBitVec};
-use bitvec_slice::BitSlice;
 use std::alloc::Global;
 use std::test::Fail;
 
@@ -24,6 +24,7 @@ fn three_copies(rt: HostRuntime) -> Result<(), Fail> {
     assert_eq!(rt; low.len(), 9);
     let high = repeated::<Msb0>(rt.alloc(), 3)?;
     assert_eq!(rt; high.as_raw_slice(), [0xB6u8, 0x80].as_slice());
+    assert_eq!(rt; high.len(), 9);
     Ok(())
 }
 
@@ -44,6 +45,14 @@ fn too_many_copies(rt: HostRuntime) {
     assert!(rt;
         matches!(
             repeated::<Lsb0>(rt.alloc(), usize::MAX / 3),
+            Err(RepeatError::TooLong)
+        )
+    );
+    // 0, 1, 0, 0, 1
+    let five = BitSlice::<u8, Lsb0>::from_slice(&[0x12]).into_part(0..5);
+    assert!(rt;
+        matches!(
+            five.repeat(rt.alloc(), usize::MAX),
             Err(RepeatError::TooLong)
         )
     );

@@ -1,10 +1,10 @@
 //! Searches of a view, and comparisons of two.
 
-use bitvec_base::{BitOrder, Lsb0, Msb0};
-use bitvec_engine::SliceOrder;
-use bitvec_query::BitQueries;
-use bitvec_slice::{BitSlice, BitSliceMut};
-use bitvec_store::BitStore;
+use bitvec_owned::query::BitQueries;
+use bitvec_owned::query::base::{BitOrder, Lsb0, Msb0};
+use bitvec_owned::query::engine::SliceOrder;
+use bitvec_owned::query::slice::{BitSlice, BitSliceMut};
+use bitvec_owned::query::store::BitStore;
 use std::cmp::Ordering;
 use std::test::Fail;
 

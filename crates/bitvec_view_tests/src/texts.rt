@@ -1,7 +1,7 @@
 //! What views print.
 
-use bitvec_base::{Lsb0, Msb0};
-use bitvec_slice::BitSlice;
+use bitvec_owned::query::base::{Lsb0, Msb0};
+use bitvec_owned::query::slice::BitSlice;
 use bitvec_text::{Binary, LowerHex, Octal, UpperHex};
 use std::test::Fail;
 

@@ -5,3 +5,6 @@ pub mod ElementLaws
 pub mod Sought
 pub mod Walk
 pub mod WalkLaws
+pub use Rattle.bitvec_cells.specs.base as base
+pub use Rattle.bitvec_cells.specs as cells
+pub use Rattle.bitvec_cells.specs.store as store

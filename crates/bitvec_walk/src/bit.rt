@@ -1,12 +1,12 @@
 //! One bit of a window, read or replaced.
 ghost use Rattle.std.specs.Prelude.{◌≡◌, ℕ, ◌+◌, ◌-◌, ◌*◌, ◌/◌, ◌%◌, ◌<◌, ◌≤◌, List, length, slice_index_or, slice_set, false};
-ghost use Rattle.bitvec_base.specs.Memory.{Edits, HasWindow, list_in};
+ghost use Rattle.bitvec_cells.specs.base.Memory.{Edits, HasWindow, list_in};
 ghost use Rattle.bitvec_cells.specs.Access.{Costs, OnlyReads};
 
 use crate::part::put;
-use bitvec_base::{BitOrder, Window};
+use bitvec_cells::base::{BitOrder, Window};
+use bitvec_cells::store::BitStore;
 use bitvec_cells::{Cells, CellsRead};
-use bitvec_store::BitStore;
 
 /// The bit at an index of a window. Condition: the memory has at most `MAX_BITS` bits, the window
 /// lies in it, and the index is below the window's length. It takes one load.

@@ -3,16 +3,16 @@ use Rattle.std.specs.Prelude.{◌≡◌, ℕ, ◌+◌, ◌-◌, ◌<◌, ◌≤�
 use Rattle.std.proofs.Common.{arith, rules, sym, ◌∙◌, ap, append-nil, min, ⊎_elim, length-append}
 use Rattle.std.proofs.lemmas.Bool.{cases_lt}
 use Rattle.std.proofs.lemmas.List.{same_lists, places, length-replicate, get_or-replicate, get_or_past}
-use Rattle.bitvec_base.specs.Lists.{combined, differs}
-use Rattle.bitvec_base.specs.ListsLaws.{combined-is, get-combined, length-combined}
-use Rattle.bitvec_base.specs.declared.window.Window.{Window}
-use Rattle.bitvec_base.specs.Memory.{HasWindow, Writes, element_bits, list_in}
-use Rattle.bitvec_base.specs.declared.part.Part.{Part}
-use Rattle.bitvec_base.specs.MemoryLaws.{length-element_bits}
-use Rattle.bitvec_base.specs.Parts.{HasPart, first_part_of, part_window}
-use Rattle.bitvec_base.specs.Window.{window_after, window_until, write_at}
-use Rattle.bitvec_base.specs.WriteLaws.{length-slice_range}
-use Rattle.bitvec_base.specs.WritesLaws.{Writes-is, Writes-join, length-list, list-behind, list-join}
+use Rattle.bitvec_walk.specs.base.Lists.{combined, differs}
+use Rattle.bitvec_walk.specs.base.ListsLaws.{combined-is, get-combined, length-combined}
+use Rattle.bitvec_walk.specs.base.declared.window.Window.{Window}
+use Rattle.bitvec_walk.specs.base.Memory.{HasWindow, Writes, element_bits, list_in}
+use Rattle.bitvec_walk.specs.base.declared.part.Part.{Part}
+use Rattle.bitvec_walk.specs.base.MemoryLaws.{length-element_bits}
+use Rattle.bitvec_walk.specs.base.Parts.{HasPart, first_part_of, part_window}
+use Rattle.bitvec_walk.specs.base.Window.{window_after, window_until, write_at}
+use Rattle.bitvec_walk.specs.base.WriteLaws.{length-slice_range}
+use Rattle.bitvec_walk.specs.base.WritesLaws.{Writes-is, Writes-join, length-list, list-behind, list-join}
 use Rattle.std.proofs.Math.Nat.{mul-le-mul_left}
 use Rattle.std.proofs.lemmas.Nat.{div-add-mod'}
 use Rattle.bitvec_words.specs.Elements.{elements_window}

@@ -4,12 +4,12 @@ use Rattle.std.proofs.Common.{arith, sym, ◌∙◌, ap}
 use Rattle.std.proofs.lemmas.Bool.{cond-false, ne_eqb}
 use Rattle.std.proofs.lemmas.List.{map-append, replicate-append-replicate}
 use Rattle.std.proofs.lemmas.Nat.{div-add-mod'}
-use Rattle.bitvec_base.specs.declared.window.Window.{Window}
-use Rattle.bitvec_base.specs.Memory.{HasWindow, Writes, element_bits, list_in}
-use Rattle.bitvec_base.specs.Order.{Permutes}
-use Rattle.bitvec_base.specs.Parts.{first_part_of, part_window}
-use Rattle.bitvec_base.specs.Window.{window_after}
-use Rattle.bitvec_base.specs.WritesLaws.{Writes-empty, Writes-is, list-behind}
+use Rattle.bitvec_walk.specs.base.declared.window.Window.{Window}
+use Rattle.bitvec_walk.specs.base.Memory.{HasWindow, Writes, element_bits, list_in}
+use Rattle.bitvec_walk.specs.base.Order.{Permutes}
+use Rattle.bitvec_walk.specs.base.Parts.{first_part_of, part_window}
+use Rattle.bitvec_walk.specs.base.Window.{window_after}
+use Rattle.bitvec_walk.specs.base.WritesLaws.{Writes-empty, Writes-is, list-behind}
 use Rattle.bitvec_walk.specs.Cost.{fill_loads}
 use Rattle.bitvec_walk.specs.ElementLaws.{element-filled, element-flipped}
 use Rattle.bitvec_walk.specs.WalkLaws.{first-len, first-place}

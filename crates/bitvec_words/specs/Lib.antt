@@ -1,3 +1,4 @@
+pub mod Cited
 pub mod CombinedLaws
 pub mod ElementLaws
 pub mod Elements
@@ -14,3 +15,7 @@ pub mod ShiftedLaws
 pub mod TouchedLaws
 pub mod Turn
 pub mod WholeLaws
+pub use Rattle.bitvec_walk.specs.base as base
+pub use Rattle.bitvec_walk.specs.cells as cells
+pub use Rattle.bitvec_walk.specs.store as store
+pub use Rattle.bitvec_walk.specs as walk

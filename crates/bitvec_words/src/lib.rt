@@ -9,6 +9,31 @@ mod operator;
 mod part;
 mod word_order;
 
+/// What crates above name of `bitvec_base`.
+pub mod base {
+    pub use bitvec_walk::base::{
+        BitOrder, BitSpanError, HiLo, Lsb0, MAX_BITS, Msb0, Part, Window, first_part, last_part,
+    };
+}
+
+/// What crates above name of `bitvec_cells`.
+pub mod cells {
+    pub use bitvec_walk::cells::{Cells, CellsRead, Exclusive, Shared, fits_max_bits, has_window};
+}
+
+/// What crates above name of `bitvec_store`.
+pub mod store {
+    pub use bitvec_walk::store::BitStore;
+}
+
+/// What crates above name of `bitvec_walk`.
+pub mod walk {
+    pub use bitvec_walk::{
+        count_part, fill_part, filled, first_in_element, first_in_part, get_bit, invert_part,
+        last_in_element, last_in_part, replace_bit, sought, swap_bits,
+    };
+}
+
 pub use element::{joined, merged, reversed, same_between, toward_end, toward_start};
 pub use fields::{WORD_BITS, load_field, moved, store_field};
 pub use filling::{fill, invert};

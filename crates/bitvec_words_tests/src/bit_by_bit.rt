@@ -1,14 +1,14 @@
 //! An order whose block functions go bit by bit.
-#![tactic(auto, using(bitvec_walk::specs::CostLaws::enough))]
+#![tactic(auto, using(bitvec_engine::specs::Cited::enough))]
 
 ghost use Rattle.std.specs.Prelude.{false};
 
-use bitvec_base::{BitOrder, Window};
-use bitvec_cells::{Cells, CellsRead};
+use bitvec_engine::base::{BitOrder, Window};
+use bitvec_engine::cells::{Cells, CellsRead};
+use bitvec_engine::store::BitStore;
 use bitvec_engine::{
     BitOp, SliceOrder, bits_copy, bits_copy_within, bits_eq, bits_op, bits_reverse, bits_swap,
 };
-use bitvec_store::BitStore;
 use std::marker::PhantomData;
 
 /// The order `O`, which goes bit by bit on windows.

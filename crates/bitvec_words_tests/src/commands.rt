@@ -1,6 +1,6 @@
 //! The commands on windows, carried out by an order's block functions.
-use bitvec_base::Window;
-use bitvec_cells::{Cells, CellsRead, has_window};
+use bitvec_engine::base::Window;
+use bitvec_engine::cells::{Cells, CellsRead, has_window};
 use bitvec_engine::{BitOp, SliceOrder};
 use std::process::Abort;
 

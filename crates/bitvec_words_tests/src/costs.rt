@@ -1,12 +1,12 @@
 //! What a caller knows of the cost of a copy under any order that works by words.
 ghost use Rattle.std.specs.Prelude.{◌≡◌, true};
-ghost use Rattle.bitvec_base.specs.Memory.{HasWindow};
-ghost use Rattle.bitvec_cells.specs.Access.{CostsAtMost, OnlyReadsAtMost};
-ghost use Rattle.bitvec_walk.specs.Cost.{read_loads, write_loads, write_stores};
+ghost use Rattle.bitvec_engine.specs.base.Memory.{HasWindow};
+ghost use Rattle.bitvec_engine.specs.cells.Access.{CostsAtMost, OnlyReadsAtMost};
+ghost use Rattle.bitvec_engine.specs.walk.Cost.{read_loads, write_loads, write_stores};
 
-use bitvec_base::{Lsb0, Msb0, Window};
-use bitvec_cells::{Cells, CellsRead, Exclusive, Shared};
 use bitvec_engine::ByWords;
+use bitvec_engine::base::{Lsb0, Msb0, Window};
+use bitvec_engine::cells::{Cells, CellsRead, Exclusive, Shared};
 use bitvec_test_support::Counted;
 use std::process::Abort;
 

@@ -2,10 +2,10 @@
 ghost use Rattle.std.specs.Prelude.{◌^◌, ◌<◌};
 
 use crate::searches::touched;
-use bitvec_base::{BitOrder, HiLo, Lsb0, Msb0, Window};
-use bitvec_cells::{Shared, has_window};
 use bitvec_engine::SliceOrder;
-use bitvec_store::BitStore;
+use bitvec_engine::base::{BitOrder, HiLo, Lsb0, Msb0, Window};
+use bitvec_engine::cells::{Shared, has_window};
+use bitvec_engine::store::BitStore;
 use bitvec_test_support::Counted;
 use std::process::Abort;
 

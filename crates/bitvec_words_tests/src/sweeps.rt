@@ -4,10 +4,10 @@ ghost use Rattle.std.specs.Prelude.{◌^◌, ◌<◌};
 
 use crate::bit_by_bit::BitByBit;
 use crate::commands::{Command, carry_out};
-use bitvec_base::{BitOrder, Lsb0, Msb0, Window};
-use bitvec_cells::{Exclusive, Shared, has_window};
+use bitvec_engine::base::{BitOrder, Lsb0, Msb0, Window};
+use bitvec_engine::cells::{Exclusive, Shared, has_window};
+use bitvec_engine::store::BitStore;
 use bitvec_engine::{BitOp, SliceOrder};
-use bitvec_store::BitStore;
 use bitvec_test_support::mixed_elements;
 use std::process::Abort;
 use std::test::Fail;

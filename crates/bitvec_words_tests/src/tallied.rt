@@ -4,10 +4,10 @@ ghost use Rattle.std.specs.Prelude.{◌≡◌};
 use crate::bit_by_bit::BitByBit;
 use crate::commands::{Command, carry_out};
 use crate::tally::Tally;
-use bitvec_base::{Lsb0, Msb0, Window};
-use bitvec_cells::{Cells, CellsRead, Exclusive};
+use bitvec_engine::base::{Lsb0, Msb0, Window};
+use bitvec_engine::cells::{Cells, CellsRead, Exclusive};
+use bitvec_engine::store::BitStore;
 use bitvec_engine::{BitOp, SliceOrder};
-use bitvec_store::BitStore;
 use std::process::Abort;
 use std::test::Fail;
 

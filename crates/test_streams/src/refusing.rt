@@ -2,10 +2,11 @@
 use std::alloc::{AllocError, Allocator};
 use std::cell::Cell;
 
-/// How many requests are still granted, and how many were refused.
+/// How many requests are still granted, how many were, and how many were refused.
 #[derive(Drop)]
 struct Allowance {
     left: Cell<u64>,
+    granted: Cell<u64>,
     refused: Cell<u64>,
 }
 
@@ -18,6 +19,7 @@ impl Allowance {
             return false;
         }
         self.left.set(left - 1);
+        self.granted.set(self.granted.get().saturating_add(1));
         true
     }
 }
@@ -40,9 +42,15 @@ impl<B: Allocator> Refusing<B> {
     pub fn new(inner: B, granted: u64) -> Self {
         let allowance = Allowance {
             left: Cell::new(granted),
+            granted: Cell::new(0),
             refused: Cell::new(0),
         };
         Refusing { inner, allowance }
+    }
+
+    /// How many requests were granted so far. It stops at `u64::MAX`.
+    pub fn granted(&self) -> u64 {
+        self.allowance.granted.get()
     }
 
     /// How many requests were refused so far. It stops at `u64::MAX`.

@@ -30,6 +30,18 @@ fn every_want_of_memory_is_met(rt: HostRuntime) {
 }
 
 #[test]
+fn requests_are_counted(rt: HostRuntime) -> Result<(), Fail> {
+    let refusing = Refusing::new(rt.alloc(), 2);
+    let mut wide = Vec::with_capacity(&refusing, 3)?;
+    wide.push(7u32)?;
+    let mut bytes = Vec::with_capacity(&refusing, 5)?;
+    bytes.push(9u8)?;
+    assert!(rt; bytes.reserve(9).is_err());
+    assert_eq!(rt; (refusing.granted(), refusing.refused()), (2, 1));
+    Ok(())
+}
+
+#[test]
 fn a_block_given_back_grants_nothing(rt: HostRuntime) -> Result<(), Fail> {
     let refusing = Refusing::new(rt.alloc(), 1);
     assert!(rt; refusing.granted_all());

@@ -1,9 +1,9 @@
 use Rattle.std.proofs.Common.{◌≡◌, ℕ, ◌*◌, map, arith, ap, ◌∙◌}
 use Rattle.std.proofs.lemmas.List.{length-map}
-use Rattle.bitvec_base.specs.Memory.{memory_bits, element_bits}
-use Rattle.bitvec_base.specs.MemoryLaws.{set-element}
-use Rattle.bitvec_store.specs.WidthLaws.{width_some}
-use Rattle.bitvec_base.specs.Window.{write_at}
+use Rattle.bitvec_test_support.specs.base.Memory.{memory_bits, element_bits}
+use Rattle.bitvec_test_support.specs.base.MemoryLaws.{set-element}
+use Rattle.bitvec_test_support.specs.store.WidthLaws.{width_some}
+use Rattle.bitvec_test_support.specs.base.Window.{write_at}
 use Rattle.bitvec_base_tests.proofs.kept.store_first.Goals as goal
 
 pub returns : goal.returns

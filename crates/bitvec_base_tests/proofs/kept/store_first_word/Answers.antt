@@ -1,8 +1,8 @@
 use Rattle.std.proofs.Common.{arith, inr, lit<, rules}
 use Rattle.std.proofs.lemmas.List.{map-id}
-use Rattle.bitvec_base.specs.BitsFixMemory.{write_at-keeps}
-use Rattle.bitvec_base.specs.HiLoLaws.{hilo_permutes}
-use Rattle.bitvec_base.specs.MemoryLaws.{length-element_bits}
+use Rattle.bitvec_test_support.specs.base.BitsFixMemory.{write_at-keeps}
+use Rattle.bitvec_test_support.specs.base.HiLoLaws.{hilo_permutes}
+use Rattle.bitvec_test_support.specs.base.MemoryLaws.{length-element_bits}
 use Rattle.bitvec_base_tests.proofs.kept.store_first_word.Goals as goal
 
 pub returns : goal.returns

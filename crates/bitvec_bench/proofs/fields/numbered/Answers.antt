@@ -1,6 +1,6 @@
 use Rattle.std.proofs.lemmas.List.{length-map}
 use Rattle.std.proofs.Common.{◌≡◌, arith, refl, sym, ap, ◌∙◌, length}
-use Rattle.bitvec_slice.specs.SeenLaws.{length_bits}
+use Rattle.bitvec_field.specs.slice.SeenLaws.{length_bits}
 use Rattle.bitvec_bench.proofs.FieldPlaces.{length-numbered, numbered-next, numbered-none}
 use Rattle.bitvec_bench.proofs.fields.numbered.Goals as goal
 

@@ -1,6 +1,6 @@
 use Rattle.std.proofs.Common.{◌≡◌, length}
-use Rattle.bitvec_base.specs.Window.{write_at}
-use Rattle.bitvec_slice.specs.Views.{name_of, seen_mut}
+use Rattle.bitvec_field.specs.base.Window.{write_at}
+use Rattle.bitvec_field.specs.slice.Views.{name_of, seen_mut}
 use Rattle.bitvec_bench.specs.Fields.{numbered_fields}
 use Rattle.bitvec_bench.proofs.fields.numbered.Given as goal
 

@@ -1,7 +1,7 @@
 use Rattle.std.proofs.Common.{sym, ◌∙◌, subst}
 use Rattle.std.specs.Prelude.{Bool, List}
-use Rattle.bitvec_slice.specs.Writes.{WritesBits}
-use Rattle.bitvec_store.specs.WidthLaws.{width_some}
+use Rattle.bitvec_field.specs.slice.Writes.{WritesBits}
+use Rattle.bitvec_field.specs.store.WidthLaws.{width_some}
 use Rattle.bitvec_bench.proofs.FieldPlaces.{stored_be-field, stored_le-field}
 use Rattle.bitvec_bench.proofs.fields.store.Goals as goal
 

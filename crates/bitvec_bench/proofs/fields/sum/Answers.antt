@@ -1,6 +1,6 @@
 use Rattle.std.proofs.Common.{◌*◌, ap, map, ◌∙◌}
-use Rattle.bitvec_base.specs.Memory.{list_in}
-use Rattle.bitvec_segments.specs.Segments.{segment_number}
+use Rattle.bitvec_field.specs.base.Memory.{list_in}
+use Rattle.bitvec_field.specs.segments.Segments.{segment_number}
 use Rattle.bitvec_bench.specs.Bits.{place}
 use Rattle.bitvec_bench.proofs.FieldPlaces.{field_bits, sum-next}
 use Rattle.bitvec_bench.proofs.Places.{has_window}

@@ -1,5 +1,5 @@
 use Rattle.std.proofs.Common.{◌≡◌, ◌*◌, map}
-use Rattle.bitvec_base.specs.Memory.{list_in}
+use Rattle.bitvec_field.specs.base.Memory.{list_in}
 use Rattle.bitvec_bench.specs.Bits.{place, wrapped_sum}
 use Rattle.bitvec_bench.specs.Fields.{field_numbers}
 use Rattle.bitvec_bench.proofs.fields.sum.Given as goal

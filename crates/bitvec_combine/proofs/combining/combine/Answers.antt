@@ -1,11 +1,11 @@
 use Rattle.std.proofs.Common.{◌≡◌, ℕ, ◌<◌, ◌≤◌, ◌+◌, ◌-◌, min, ◌∙◌, arith, rules, ap, length, []}
-use Rattle.bitvec_base.specs.Lists.{combined}
-use Rattle.bitvec_base.specs.Memory.{list_in}
-use Rattle.bitvec_base.specs.Window.{window_after, window_until}
-use Rattle.bitvec_base.specs.WritesLaws.{Writes-is, length-list}
-use Rattle.bitvec_store.specs.WidthLaws.{width_some}
-use Rattle.bitvec_walk.specs.CostLaws.{touched_read}
-use Rattle.bitvec_walk.specs.WalkLaws.{touched-less}
+use Rattle.bitvec_words.specs.base.Lists.{combined}
+use Rattle.bitvec_words.specs.base.Memory.{list_in}
+use Rattle.bitvec_words.specs.base.Window.{window_after, window_until}
+use Rattle.bitvec_words.specs.base.WritesLaws.{Writes-is, length-list}
+use Rattle.bitvec_words.specs.store.WidthLaws.{width_some}
+use Rattle.bitvec_words.specs.walk.CostLaws.{touched_read}
+use Rattle.bitvec_words.specs.walk.WalkLaws.{touched-less}
 use Rattle.bitvec_words.specs.CombinedLaws.{combined-enough}
 use Rattle.bitvec_words.specs.FieldLaws.{list-parted}
 use Rattle.bitvec_words.specs.Operator.{operator}

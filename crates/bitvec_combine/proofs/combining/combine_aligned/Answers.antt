@@ -1,6 +1,6 @@
 use Rattle.std.proofs.Common.{◌≡◌, ◌≤◌, ◌*◌, ◌/◌, arith, rules}
 use Rattle.std.proofs.lemmas.Nat.{div-add-mod'}
-use Rattle.bitvec_store.specs.WidthLaws.{width_some}
+use Rattle.bitvec_words.specs.store.WidthLaws.{width_some}
 use Rattle.bitvec_words.specs.CombinedLaws.{Writes-all_met, Writes-some_met}
 use Rattle.bitvec_words.specs.Operator.{operator}
 use Rattle.bitvec_words.specs.TouchedLaws.{touched-after, touched-full}

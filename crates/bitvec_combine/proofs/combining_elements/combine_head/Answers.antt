@@ -1,9 +1,9 @@
 use Rattle.std.proofs.Common.{◌≡◌, ◌≤◌, ◌+◌, ◌-◌, ◌∙◌, ap, arith, Bool, List, length}
-use Rattle.bitvec_base.specs.Lists.{combined}
-use Rattle.bitvec_base.specs.Memory.{element_bits, list_in}
-use Rattle.bitvec_base.specs.MemoryLaws.{length-element_bits}
-use Rattle.bitvec_base.specs.Parts.{part_window}
-use Rattle.bitvec_base.specs.WritesLaws.{Writes-is}
+use Rattle.bitvec_words.specs.base.Lists.{combined}
+use Rattle.bitvec_words.specs.base.Memory.{element_bits, list_in}
+use Rattle.bitvec_words.specs.base.MemoryLaws.{length-element_bits}
+use Rattle.bitvec_words.specs.base.Parts.{part_window}
+use Rattle.bitvec_words.specs.base.WritesLaws.{Writes-is}
 use Rattle.bitvec_words.specs.CombinedLaws.{combined-cut, combined-padded, length-part_list}
 use Rattle.bitvec_words.specs.FieldLaws.{range-shifted}
 use Rattle.bitvec_words.specs.Operator.{operator}

@@ -1,9 +1,9 @@
 use Rattle.std.proofs.Common.{◌≤◌, ◌∙◌, ap, arith, List, Bool, sym, slice_range, length, slice_index}
-use Rattle.bitvec_base.specs.Lists.{combined}
-use Rattle.bitvec_base.specs.Memory.{element_bits}
-use Rattle.bitvec_base.specs.MemoryLaws.{length-element_bits}
-use Rattle.bitvec_base.specs.WritesLaws.{Writes-is}
-use Rattle.bitvec_store.specs.WidthLaws.{width_some}
+use Rattle.bitvec_words.specs.base.Lists.{combined}
+use Rattle.bitvec_words.specs.base.Memory.{element_bits}
+use Rattle.bitvec_words.specs.base.MemoryLaws.{length-element_bits}
+use Rattle.bitvec_words.specs.base.WritesLaws.{Writes-is}
+use Rattle.bitvec_words.specs.store.WidthLaws.{width_some}
 use Rattle.bitvec_words.specs.CombinedLaws.{combined-range}
 use Rattle.bitvec_words.specs.FieldLaws.{list-part, part-stored}
 use Rattle.bitvec_words.specs.Operator.{operator}

@@ -1,6 +1,6 @@
-use Rattle.bitvec_base.specs.Lists.{combined}
-use Rattle.bitvec_base.specs.Memory.{Writes, list_in}
-use Rattle.bitvec_cells.specs.Access.{Costs, OnlyReads}
+use Rattle.bitvec_words.specs.base.Lists.{combined}
+use Rattle.bitvec_words.specs.base.Memory.{Writes, list_in}
+use Rattle.bitvec_words.specs.cells.Access.{Costs, OnlyReads}
 use Rattle.bitvec_words.specs.Elements.{elements_window}
 use Rattle.bitvec_words.specs.Operator.{operator}
 use Rattle.bitvec_combine.proofs.combining_elements.combine_whole.Given as goal

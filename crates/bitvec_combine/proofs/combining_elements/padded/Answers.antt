@@ -1,5 +1,5 @@
-use Rattle.bitvec_base.specs.MemoryLaws.{length-element_bits}
-use Rattle.bitvec_base.specs.PartLaws.{element-none}
+use Rattle.bitvec_words.specs.base.MemoryLaws.{length-element_bits}
+use Rattle.bitvec_words.specs.base.PartLaws.{element-none}
 use Rattle.bitvec_words.specs.CombinedLaws.{padded-bits}
 use Rattle.bitvec_combine.proofs.combining_elements.padded.Goals as goal
 

@@ -1,6 +1,6 @@
 use Rattle.std.proofs.Common.{sym, ◌∙◌}
-use Rattle.bitvec_base.specs.CompareLaws.{same-unequal}
-use Rattle.bitvec_base.specs.WritesLaws.{length-list}
+use Rattle.bitvec_words.specs.base.CompareLaws.{same-unequal}
+use Rattle.bitvec_words.specs.base.WritesLaws.{length-list}
 use Rattle.bitvec_words.specs.WholeLaws.{same-empty}
 use Rattle.bitvec_compare.proofs.comparing.equal.Goals as goal
 

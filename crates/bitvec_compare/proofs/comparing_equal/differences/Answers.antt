@@ -1,6 +1,6 @@
 use Rattle.std.proofs.Common.{◌==◌, ℕ, ◌++◌, arith, rules, ◌∙◌, ap}
-use Rattle.bitvec_store.specs.WidthLaws.{width_some}
-use Rattle.bitvec_base.specs.Memory.{element_bits, list_in}
+use Rattle.bitvec_words.specs.store.WidthLaws.{width_some}
+use Rattle.bitvec_words.specs.base.Memory.{element_bits, list_in}
 use Rattle.bitvec_words.specs.Elements.{elements_window}
 use Rattle.bitvec_words.specs.FieldLaws.{list-element}
 use Rattle.bitvec_words.specs.SameLaws.{same-element}

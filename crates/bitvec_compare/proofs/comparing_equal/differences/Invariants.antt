@@ -1,7 +1,7 @@
 use Rattle.std.specs.Prelude.{◌≡◌, ◌==◌}
-use Rattle.bitvec_base.specs.Lists.{same_bits}
-use Rattle.bitvec_base.specs.Memory.{list_in}
-use Rattle.bitvec_cells.specs.Access.{OnlyReads}
+use Rattle.bitvec_words.specs.base.Lists.{same_bits}
+use Rattle.bitvec_words.specs.base.Memory.{list_in}
+use Rattle.bitvec_words.specs.cells.Access.{OnlyReads}
 use Rattle.bitvec_words.specs.Elements.{elements_window}
 use Rattle.bitvec_compare.proofs.comparing_equal.differences.Given as goal
 

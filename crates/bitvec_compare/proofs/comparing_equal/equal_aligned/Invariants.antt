@@ -1,8 +1,8 @@
 use Rattle.std.specs.Prelude.{◌≡◌, ◌*◌}
-use Rattle.bitvec_base.specs.Lists.{same_bits}
-use Rattle.bitvec_base.specs.Memory.{list_in}
-use Rattle.bitvec_base.specs.Window.{window_after}
-use Rattle.bitvec_cells.specs.Access.{OnlyReads}
+use Rattle.bitvec_words.specs.base.Lists.{same_bits}
+use Rattle.bitvec_words.specs.base.Memory.{list_in}
+use Rattle.bitvec_words.specs.base.Window.{window_after}
+use Rattle.bitvec_words.specs.cells.Access.{OnlyReads}
 use Rattle.bitvec_compare.proofs.comparing_equal.equal_aligned.Given as goal
 
 abbrev pub invariant-loop-test : goal.invariant-loop-test

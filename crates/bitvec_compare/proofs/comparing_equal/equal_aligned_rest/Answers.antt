@@ -1,5 +1,5 @@
 use Rattle.std.proofs.Common.{◌/◌, arith, rules, refl, ◌∙◌}
-use Rattle.bitvec_store.specs.WidthLaws.{width_some}
+use Rattle.bitvec_words.specs.store.WidthLaws.{width_some}
 use Rattle.bitvec_words.specs.FieldLaws.{list-tail}
 use Rattle.bitvec_words.specs.SameLaws.{found-none, found-some, same-apart, same-then}
 use Rattle.bitvec_words.specs.TouchedLaws.{touched-after, touched-more}

@@ -1,5 +1,5 @@
 use Rattle.std.proofs.Common.{◌≡◌, ◌≤◌, ℕ, ◌+◌, ◌*◌, ◌/◌, arith, rules, ◌∙◌, ap, slice_index}
-use Rattle.bitvec_store.specs.WidthLaws.{width_some}
+use Rattle.bitvec_words.specs.store.WidthLaws.{width_some}
 use Rattle.bitvec_words.specs.SameLaws.{found-none, found-some, same-apart, same-then}
 use Rattle.bitvec_words.specs.TouchedLaws.{touched-after}
 use Rattle.bitvec_words.specs.WholeLaws.{list-elements, list-elements_from, long-elements_from, touched-behind_from, whole_fits}

@@ -1,9 +1,9 @@
 use Rattle.std.proofs.Common.{◌≡◌, ◌≤◌, ℕ, ◌+◌, ◌-◌, ◌/◌, arith, rules, sym, refl, ◌∙◌, ap, slice_index}
 use Rattle.std.proofs.lemmas.Nat.{mod_below}
-use Rattle.bitvec_base.specs.declared.part.Part.{Part}
-use Rattle.bitvec_base.specs.Parts.{first_part_of}
-use Rattle.bitvec_store.specs.WidthLaws.{width_some}
-use Rattle.bitvec_walk.specs.WalkLaws.{touched-less}
+use Rattle.bitvec_words.specs.base.declared.part.Part.{Part}
+use Rattle.bitvec_words.specs.base.Parts.{first_part_of}
+use Rattle.bitvec_words.specs.store.WidthLaws.{width_some}
+use Rattle.bitvec_words.specs.walk.WalkLaws.{touched-less}
 use Rattle.bitvec_words.specs.FieldLaws.{first_part-long, list-head, list-parted}
 use Rattle.bitvec_words.specs.SameLaws.{same-apart, same-then}
 use Rattle.bitvec_words.specs.TouchedLaws.{apart_edge, inside_element, touched-first, touched-inside, touched-rest}

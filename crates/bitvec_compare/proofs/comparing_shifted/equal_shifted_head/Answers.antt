@@ -1,6 +1,6 @@
 use Rattle.std.proofs.Common.{◌≤◌, ◌∙◌, sym, arith, length}
-use Rattle.bitvec_base.specs.Memory.{element_bits}
-use Rattle.bitvec_base.specs.MemoryLaws.{length-element_bits}
+use Rattle.bitvec_words.specs.base.Memory.{element_bits}
+use Rattle.bitvec_words.specs.base.MemoryLaws.{length-element_bits}
 use Rattle.bitvec_words.specs.FieldLaws.{list-part, range-shifted}
 use Rattle.bitvec_words.specs.SameLaws.{same-lists}
 use Rattle.bitvec_compare.proofs.comparing_shifted.equal_shifted_head.Goals as goal

@@ -1,6 +1,6 @@
 use Rattle.std.proofs.Common.{◌/◌, ◌+◌, ◌%◌, arith, rules}
-use Rattle.bitvec_store.specs.WidthLaws.{width_some}
-use Rattle.bitvec_base.specs.WritesLaws.{Writes-is}
+use Rattle.bitvec_words.specs.store.WidthLaws.{width_some}
+use Rattle.bitvec_words.specs.base.WritesLaws.{Writes-is}
 use Rattle.bitvec_words.specs.FieldLaws.{Writes-tail, list-tail}
 use Rattle.bitvec_words.specs.TouchedLaws.{part_loads-most, touched-full, touched-more}
 use Rattle.bitvec_copy.proofs.copying_equal.copy_aligned.Goals as goal

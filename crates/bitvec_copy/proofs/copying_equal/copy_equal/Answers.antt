@@ -1,9 +1,9 @@
 use Rattle.std.proofs.Common.{◌≡◌, ◌≢◌, ℕ, ◌-◌, ◌%◌, min, arith, rules, ◌∙◌, ap}
-use Rattle.bitvec_base.specs.declared.part.Part.{Part}
-use Rattle.bitvec_base.specs.Parts.{first_part_of}
-use Rattle.bitvec_base.specs.WritesLaws.{Writes-is}
-use Rattle.bitvec_store.specs.WidthLaws.{width_some}
-use Rattle.bitvec_walk.specs.Cost.{touched}
+use Rattle.bitvec_words.specs.base.declared.part.Part.{Part}
+use Rattle.bitvec_words.specs.base.Parts.{first_part_of}
+use Rattle.bitvec_words.specs.base.WritesLaws.{Writes-is}
+use Rattle.bitvec_words.specs.store.WidthLaws.{width_some}
+use Rattle.bitvec_words.specs.walk.Cost.{touched}
 use Rattle.bitvec_words.specs.FieldLaws.{Writes-head, first_part-long, list-head}
 use Rattle.bitvec_words.specs.TouchedLaws.{part_loads-most, touched-head, touched-rest}
 use Rattle.bitvec_copy.proofs.copying_equal.copy_equal.Goals as goal

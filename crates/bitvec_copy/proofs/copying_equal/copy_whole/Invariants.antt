@@ -1,5 +1,5 @@
-use Rattle.bitvec_base.specs.Memory.{Writes, list_in}
-use Rattle.bitvec_cells.specs.Access.{Costs, OnlyReads}
+use Rattle.bitvec_words.specs.base.Memory.{Writes, list_in}
+use Rattle.bitvec_words.specs.cells.Access.{Costs, OnlyReads}
 use Rattle.bitvec_words.specs.Elements.{elements_window}
 use Rattle.bitvec_copy.proofs.copying_equal.copy_whole.Given as goal
 

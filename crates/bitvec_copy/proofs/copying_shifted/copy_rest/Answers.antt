@@ -1,7 +1,7 @@
 use Rattle.std.proofs.Common.{◌≡◌, ◌+◌, ◌-◌, ◌*◌, ◌/◌, ◌%◌, arith, rules}
 use Rattle.std.proofs.lemmas.Nat.{div-add-mod'}
-use Rattle.bitvec_base.specs.WritesLaws.{Writes-is}
-use Rattle.bitvec_store.specs.WidthLaws.{width_some}
+use Rattle.bitvec_words.specs.base.WritesLaws.{Writes-is}
+use Rattle.bitvec_words.specs.store.WidthLaws.{width_some}
 use Rattle.bitvec_words.specs.FieldLaws.{Writes-tail, list-rest}
 use Rattle.bitvec_words.specs.TouchedLaws.{touched-from_full, touched-from_more, touched-full, touched-more}
 use Rattle.bitvec_copy.proofs.copying_shifted.copy_rest.Goals as goal

@@ -1,10 +1,10 @@
 use Rattle.std.proofs.Common.{◌≡◌, ◌≤◌, ◌+◌, ℕ, ◌-◌, ◌/◌, arith, rules, ◌∙◌, ap, slice_index}
 use Rattle.std.proofs.lemmas.Nat.{mod_below}
-use Rattle.bitvec_base.specs.declared.part.Part.{Part}
-use Rattle.bitvec_base.specs.Parts.{first_part_of}
-use Rattle.bitvec_base.specs.WritesLaws.{Writes-is}
-use Rattle.bitvec_store.specs.WidthLaws.{width_some}
-use Rattle.bitvec_walk.specs.Cost.{touched}
+use Rattle.bitvec_words.specs.base.declared.part.Part.{Part}
+use Rattle.bitvec_words.specs.base.Parts.{first_part_of}
+use Rattle.bitvec_words.specs.base.WritesLaws.{Writes-is}
+use Rattle.bitvec_words.specs.store.WidthLaws.{width_some}
+use Rattle.bitvec_words.specs.walk.Cost.{touched}
 use Rattle.bitvec_words.specs.FieldLaws.{Writes-head, first_part-long, list-parted}
 use Rattle.bitvec_words.specs.TouchedLaws.{apart_edge, inside_element, part_loads-most, touched-first, touched-head, touched-inside, touched-rest}
 use Rattle.bitvec_copy.proofs.copying_shifted.copy_shifted.Goals as goal

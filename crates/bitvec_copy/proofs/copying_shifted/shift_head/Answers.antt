@@ -1,7 +1,7 @@
 use Rattle.std.proofs.Common.{◌≤◌, ◌∙◌, arith, length}
-use Rattle.bitvec_base.specs.Memory.{element_bits}
-use Rattle.bitvec_base.specs.MemoryLaws.{length-element_bits}
-use Rattle.bitvec_base.specs.WritesLaws.{Writes-is}
+use Rattle.bitvec_words.specs.base.Memory.{element_bits}
+use Rattle.bitvec_words.specs.base.MemoryLaws.{length-element_bits}
+use Rattle.bitvec_words.specs.base.WritesLaws.{Writes-is}
 use Rattle.bitvec_words.specs.FieldLaws.{range-shifted}
 use Rattle.bitvec_copy.proofs.copying_shifted.shift_head.Goals as goal
 

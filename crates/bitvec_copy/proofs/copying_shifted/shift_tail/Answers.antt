@@ -1,6 +1,6 @@
 use Rattle.std.proofs.Common.{◌∙◌, refl}
-use Rattle.bitvec_base.specs.SliceLaws.{range-from_start}
-use Rattle.bitvec_base.specs.WritesLaws.{Writes-is}
+use Rattle.bitvec_words.specs.base.SliceLaws.{range-from_start}
+use Rattle.bitvec_words.specs.base.WritesLaws.{Writes-is}
 use Rattle.bitvec_copy.proofs.copying_shifted.shift_tail.Goals as goal
 
 pub returns-clause-writes : goal.returns-clause-writes

@@ -1,6 +1,6 @@
 use Rattle.std.proofs.Common.{◌≡◌, ◌+◌, slice_index}
-use Rattle.bitvec_base.specs.Memory.{Writes, list_in}
-use Rattle.bitvec_cells.specs.Access.{Costs, OnlyReads}
+use Rattle.bitvec_words.specs.base.Memory.{Writes, list_in}
+use Rattle.bitvec_words.specs.cells.Access.{Costs, OnlyReads}
 use Rattle.bitvec_words.specs.Elements.{elements_window, elements_window_from}
 use Rattle.bitvec_copy.proofs.copying_shifted.shift_whole.Given as goal
 

@@ -1,5 +1,5 @@
 use Rattle.std.proofs.Common.{◌∙◌, sym}
-use Rattle.bitvec_base.specs.WritesLaws.{Writes-is, length-list}
+use Rattle.bitvec_words.specs.base.WritesLaws.{Writes-is, length-list}
 use Rattle.bitvec_words.specs.MovedLaws.{take-field}
 use Rattle.bitvec_copy.proofs.copying_within.move_window.Goals as goal
 

@@ -1,5 +1,5 @@
 use Rattle.std.proofs.Common.{◌≡◌, ◌-◌, arith, rules, refl}
-use Rattle.bitvec_store.specs.WidthLaws.{width_some}
+use Rattle.bitvec_words.specs.store.WidthLaws.{width_some}
 use Rattle.bitvec_words.specs.FieldLaws.{first_part-long}
 use Rattle.bitvec_words.specs.TouchedLaws.{touched-head, touched-parts}
 use Rattle.bitvec_copy.specs.WithinLaws.{Writes-move_back, touched-split}

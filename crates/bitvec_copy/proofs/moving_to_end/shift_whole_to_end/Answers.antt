@@ -1,6 +1,6 @@
 use Rattle.std.proofs.Common.{◌≡◌, ◌<◌, ◌+◌, ◌-◌, arith, rules, refl}
-use Rattle.bitvec_store.specs.WidthLaws.{width_some}
-use Rattle.bitvec_base.specs.WritesLaws.{Writes-is}
+use Rattle.bitvec_words.specs.store.WidthLaws.{width_some}
+use Rattle.bitvec_words.specs.base.WritesLaws.{Writes-is}
 use Rattle.bitvec_copy.specs.WithinLaws.{Writes-element_ahead, Writes-no_element_ahead, element-left_ahead, list-joined_ahead}
 use Rattle.bitvec_copy.proofs.moving_to_end.shift_whole_to_end.Goals as goal
 

@@ -1,6 +1,6 @@
 use Rattle.std.proofs.Common.{◌≡◌, ◌+◌, ◌-◌, slice_index}
-use Rattle.bitvec_base.specs.Memory.{Writes, element_bits, list_in}
-use Rattle.bitvec_cells.specs.Access.{Costs}
+use Rattle.bitvec_words.specs.base.Memory.{Writes, element_bits, list_in}
+use Rattle.bitvec_words.specs.cells.Access.{Costs}
 use Rattle.bitvec_words.specs.Elements.{elements_window, elements_window_from}
 use Rattle.bitvec_copy.proofs.moving_to_end.shift_whole_to_end.Given as goal
 

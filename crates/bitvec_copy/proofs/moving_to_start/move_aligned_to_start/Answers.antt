@@ -1,6 +1,6 @@
 use Rattle.std.proofs.Common.{◌≤◌, ◌*◌, ◌/◌, arith, rules, refl}
 use Rattle.std.proofs.lemmas.Nat.{div-add-mod'}
-use Rattle.bitvec_store.specs.WidthLaws.{width_some}
+use Rattle.bitvec_words.specs.store.WidthLaws.{width_some}
 use Rattle.bitvec_copy.specs.WithinLaws.{Writes-move_next, touched-split_whole}
 use Rattle.bitvec_copy.proofs.moving_to_start.move_aligned_to_start.Goals as goal
 use Rattle.bitvec_words.specs.TouchedLaws.{touched-after}

@@ -1,7 +1,7 @@
 use Rattle.std.proofs.Common.{ℕ, ◌+◌, arith, rules, ap, slice_index}
-use Rattle.bitvec_store.specs.WidthLaws.{width_some}
-use Rattle.bitvec_base.specs.Memory.{element_bits}
-use Rattle.bitvec_base.specs.WritesLaws.{Writes-is}
+use Rattle.bitvec_words.specs.store.WidthLaws.{width_some}
+use Rattle.bitvec_words.specs.base.Memory.{element_bits}
+use Rattle.bitvec_words.specs.base.WritesLaws.{Writes-is}
 use Rattle.bitvec_words.specs.FieldLaws.{Writes-element, Writes-no_element, list-joined}
 use Rattle.bitvec_copy.specs.WithinLaws.{element-left}
 use Rattle.bitvec_copy.proofs.moving_to_start.shift_whole_to_start.Goals as goal

@@ -1,6 +1,6 @@
 use Rattle.std.proofs.Common.{lit<}
-use Rattle.bitvec_lending.specs.RefillLaws.{kept-at}
-use Rattle.bitvec_slice.specs.KeptLaws.{untouched}
+use Rattle.bitvec_edit.specs.lends.RefillLaws.{kept-at}
+use Rattle.bitvec_edit.specs.slice.KeptLaws.{untouched}
 use Rattle.bitvec_edit_tests.proofs.kept.fill_range.Goals as goal
 
 pub returns : goal.returns

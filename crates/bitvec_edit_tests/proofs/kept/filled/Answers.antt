@@ -1,6 +1,6 @@
 use Rattle.std.proofs.Common.{arith, rules, sym}
-use Rattle.bitvec_store.specs.WidthLaws.{width_some}
-use Rattle.bitvec_slice.specs.KeptLaws.{lent_bits-keep}
+use Rattle.bitvec_edit.specs.store.WidthLaws.{width_some}
+use Rattle.bitvec_edit.specs.slice.KeptLaws.{lent_bits-keep}
 use Rattle.bitvec_edit_tests.proofs.kept.filled.Goals as goal
 
 pub returns : goal.returns

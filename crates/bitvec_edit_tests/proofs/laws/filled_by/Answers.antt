@@ -1,8 +1,8 @@
 use Rattle.std.proofs.Common.{sym, subst, ap, ◌∙◌}
 use Rattle.std.specs.Prelude.{length}
-use Rattle.bitvec_elements.specs.Asked.{FillsWith}
-use Rattle.bitvec_elements.specs.AskedLaws.{callable-always}
-use Rattle.bitvec_slice.specs.WriteLaws.{whole-written}
+use Rattle.bitvec_edit.specs.elements.Asked.{FillsWith}
+use Rattle.bitvec_edit.specs.elements.AskedLaws.{callable-always}
+use Rattle.bitvec_edit.specs.slice.WriteLaws.{whole-written}
 use Rattle.bitvec_edit_tests.proofs.laws.filled_by.Goals as goal
 
 pub fill_with-requires : goal.fill_with-requires

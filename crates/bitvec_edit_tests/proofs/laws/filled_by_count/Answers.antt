@@ -3,8 +3,8 @@ use Rattle.std.specs.List.{range_with_len}
 use Rattle.std.proofs.Common.{arith, rules, sym, ap, ◌∙◌}
 use Rattle.std.proofs.lemmas.List.{length-append}
 use Rattle.std.proofs.lemmas.List.FromFn.{map-range_with_len_more}
-use Rattle.bitvec_elements.specs.AskedLaws.{answers-keep, callable-by}
-use Rattle.bitvec_slice.specs.WriteLaws.{whole-written}
+use Rattle.bitvec_edit.specs.elements.AskedLaws.{answers-keep, callable-by}
+use Rattle.bitvec_edit.specs.slice.WriteLaws.{whole-written}
 use Rattle.bitvec_edit_tests.specs.contracts.laws.fn.filled_by_count.fill_with as closure
 use Rattle.bitvec_edit_tests.proofs.laws.filled_by_count.Goals as goal
 

@@ -1,8 +1,8 @@
 use Rattle.std.proofs.Common.{sym, subst, ap, ◌∙◌}
 use Rattle.std.specs.Prelude.{length}
-use Rattle.bitvec_elements.specs.Asked.{RefillsWith}
-use Rattle.bitvec_elements.specs.AskedLaws.{callable-always}
-use Rattle.bitvec_slice.specs.WriteLaws.{whole-written}
+use Rattle.bitvec_edit.specs.elements.Asked.{RefillsWith}
+use Rattle.bitvec_edit.specs.elements.AskedLaws.{callable-always}
+use Rattle.bitvec_edit.specs.slice.WriteLaws.{whole-written}
 use Rattle.bitvec_edit_tests.proofs.laws.refilled_by.Goals as goal
 
 pub for_each-requires : goal.for_each-requires

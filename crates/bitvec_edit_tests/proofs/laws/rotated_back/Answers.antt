@@ -1,7 +1,7 @@
 use Rattle.std.specs.Prelude.{◌≤◌}
 use Rattle.std.proofs.Common.{sym, subst, ◌∙◌}
 use Rattle.bitvec_edit.specs.UndoLaws.{rotated-back}
-use Rattle.bitvec_slice.specs.SeenLaws.{length_bits}
+use Rattle.bitvec_edit.specs.slice.SeenLaws.{length_bits}
 use Rattle.bitvec_edit_tests.proofs.laws.rotated_back.Goals as goal
 
 pub returns : goal.returns

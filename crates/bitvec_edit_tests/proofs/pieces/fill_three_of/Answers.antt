@@ -1,9 +1,9 @@
 use Rattle.std.proofs.Common.{List, Bool, arith, ap, replicate, true, ◌∙◌}
-use Rattle.bitvec_base.specs.Window.{write_at}
-use Rattle.bitvec_base.specs.WriteLaws.{length-write_at}
-use Rattle.bitvec_slice.specs.SeenLaws.{length_bits}
-use Rattle.bitvec_slice.specs.Views.{seen_mut}
-use Rattle.bitvec_slice.specs.WriteLaws.{whole-written}
+use Rattle.bitvec_edit.specs.base.Window.{write_at}
+use Rattle.bitvec_edit.specs.base.WriteLaws.{length-write_at}
+use Rattle.bitvec_edit.specs.slice.SeenLaws.{length_bits}
+use Rattle.bitvec_edit.specs.slice.Views.{seen_mut}
+use Rattle.bitvec_edit.specs.slice.WriteLaws.{whole-written}
 use Rattle.bitvec_edit_tests.proofs.pieces.fill_three_of.Goals as goal
 
 pub returns : goal.returns

@@ -1,12 +1,12 @@
 use Rattle.std.proofs.Common.{◌≡◌, ap, arith, map, not, rules, subst, ◌∙◌}
 use Rattle.std.proofs.lemmas.List.{length-map}
-use Rattle.bitvec_base.specs.SliceLaws.{range-map}
-use Rattle.bitvec_cutting.specs.RangeLaws.{same_by_chunks}
+use Rattle.bitvec_edit.specs.base.SliceLaws.{range-map}
+use Rattle.bitvec_pieces.specs.cutting.RangeLaws.{same_by_chunks}
 use Rattle.bitvec_pieces.specs.LeftLaws.{chunk_left}
 use Rattle.bitvec_pieces.specs.ShownLaws.{length-shown}
 use Rattle.bitvec_pieces.specs.ViewShown.{shown_by}
-use Rattle.bitvec_slice.specs.Views.{seen_mut}
-use Rattle.bitvec_slice.specs.Writes.{WritesBits}
+use Rattle.bitvec_edit.specs.slice.Views.{seen_mut}
+use Rattle.bitvec_edit.specs.slice.Writes.{WritesBits}
 use Rattle.bitvec_edit_tests.proofs.pieces.invert_by_chunks.Goals as goal
 
 pub returns : goal.returns

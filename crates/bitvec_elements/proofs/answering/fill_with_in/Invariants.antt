@@ -1,6 +1,6 @@
 use Rattle.std.proofs.Common.{◌≡◌, map}
 use Rattle.std.specs.Fn.{Called, Takes}
-use Rattle.bitvec_cells.specs.Accessors.{exclusive_borrow, exclusive_numbers}
+use Rattle.bitvec_engine.specs.cells.Accessors.{exclusive_borrow, exclusive_numbers}
 use Rattle.bitvec_elements.proofs.Answered.{Answered, MayGoOn}
 use Rattle.bitvec_elements.proofs.answering.fill_with_in.Given as goal
 

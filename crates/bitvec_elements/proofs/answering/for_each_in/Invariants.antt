@@ -1,7 +1,7 @@
 use Rattle.std.proofs.Common.{◌≡◌, false, length, map, slice_index_or}
 use Rattle.std.specs.Fn.{Called, Takes}
-use Rattle.bitvec_base.specs.Memory.{list_in}
-use Rattle.bitvec_cells.specs.Accessors.{exclusive_borrow, exclusive_numbers}
+use Rattle.bitvec_engine.specs.base.Memory.{list_in}
+use Rattle.bitvec_engine.specs.cells.Accessors.{exclusive_borrow, exclusive_numbers}
 use Rattle.bitvec_elements.proofs.Answered.{Answered, MayGoOn}
 use Rattle.bitvec_elements.proofs.answering.for_each_in.Given as goal
 

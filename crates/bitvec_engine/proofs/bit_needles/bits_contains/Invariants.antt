@@ -1,6 +1,7 @@
-use Rattle.std.proofs.Common.{◌≡◌, ℕ, ◌<◌, false}
-use Rattle.bitvec_base.specs.Lists.{stands_at}
-use Rattle.bitvec_base.specs.Memory.{list_in}
+use Rattle.std.proofs.Common.{◌≡◌, ℕ, ◌*◌, ◌<◌, false}
+use Rattle.bitvec_copy.specs.base.Lists.{stands_at}
+use Rattle.bitvec_copy.specs.base.Memory.{list_in}
+use Rattle.bitvec_copy.specs.cells.Access.{OnlyReadsAtMost}
 use Rattle.bitvec_engine.proofs.bit_needles.bits_contains.Given as goal
 
 abbrev pub invariant-loop-from : goal.invariant-loop-from
@@ -9,6 +10,6 @@ invariant-loop-from g l =
     let part = list_in g.D.Elem.BitStore.BITS g.P.BitOrder.at (g.D.CellsRead.numbers l.fn.right) l.needle in
     record {
       absent : (k : ℕ) → k < l.from → stands_at part list k ≡ false;
-      numbers : g.C.CellsRead.numbers l.cells ≡ g.C.CellsRead.numbers l.fn.cells;
-      right_numbers : g.D.CellsRead.numbers l.right ≡ g.D.CellsRead.numbers l.fn.right;
+      reads : OnlyReadsAtMost g.C.CellsRead l.fn.cells l.cells (l.from * l.needle.len);
+      right : OnlyReadsAtMost g.D.CellsRead l.fn.right l.right (l.from * l.needle.len);
     }

@@ -1,5 +1,5 @@
 use Rattle.std.proofs.Common.{◌≡◌, ℕ, rules, ap, ◌∙◌}
-use Rattle.bitvec_base.specs.Parts.{first_part_of}
+use Rattle.bitvec_copy.specs.base.Parts.{first_part_of}
 use Rattle.bitvec_engine.proofs.FrontLemmas.{part-front, touched-part}
 use Rattle.bitvec_engine.proofs.fronts.bits_load_front.Goals as goal
 

@@ -1,9 +1,9 @@
 use Rattle.std.proofs.Common.{◌≡◌, ℕ, ◌+◌, ◌-◌, arith, rules, ap, ◌∙◌, slice_range}
-use Rattle.bitvec_base.specs.Memory.{element_bits}
-use Rattle.bitvec_base.specs.PartLaws.{length-part}
-use Rattle.bitvec_base.specs.Parts.{first_part_of}
-use Rattle.bitvec_store.specs.WidthLaws.{width_most, width_some}
-use Rattle.bitvec_walk.specs.WalkLaws.{first-len}
+use Rattle.bitvec_copy.specs.base.Memory.{element_bits}
+use Rattle.bitvec_copy.specs.base.PartLaws.{length-part}
+use Rattle.bitvec_copy.specs.base.Parts.{first_part_of}
+use Rattle.bitvec_copy.specs.store.WidthLaws.{width_most, width_some}
+use Rattle.bitvec_copy.specs.walk.WalkLaws.{first-len}
 use Rattle.bitvec_engine.proofs.FrontLemmas.{part-front, touched-part, touched-word, word-front, written-padded}
 use Rattle.bitvec_engine.proofs.fronts.words_load_front.Goals as goal
 

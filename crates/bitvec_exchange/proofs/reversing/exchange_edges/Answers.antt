@@ -1,12 +1,12 @@
 use Rattle.std.proofs.Common.{◌≡◌, ℕ, ◌+◌, ◌-◌, ◌/◌, ◌%◌, arith, rules, ap, sym, ◌∙◌, reverse, slice_range, take, length, List, Bool}
 use Rattle.std.proofs.lemmas.Nat.{div-add-mod', div_below}
-use Rattle.bitvec_store.specs.WidthLaws.{width_some}
-use Rattle.bitvec_base.specs.declared.part.Part.{Part}
-use Rattle.bitvec_base.specs.Memory.{element_bits, list_in}
-use Rattle.bitvec_base.specs.MemoryLaws.{length-element_bits}
-use Rattle.bitvec_base.specs.Parts.{HasPart, part_window}
-use Rattle.bitvec_base.specs.Window.{window_range}
-use Rattle.bitvec_base.specs.WritesLaws.{list-range}
+use Rattle.bitvec_words.specs.store.WidthLaws.{width_some}
+use Rattle.bitvec_words.specs.base.declared.part.Part.{Part}
+use Rattle.bitvec_words.specs.base.Memory.{element_bits, list_in}
+use Rattle.bitvec_words.specs.base.MemoryLaws.{length-element_bits}
+use Rattle.bitvec_words.specs.base.Parts.{HasPart, part_window}
+use Rattle.bitvec_words.specs.base.Window.{window_range}
+use Rattle.bitvec_words.specs.base.WritesLaws.{list-range}
 use Rattle.bitvec_words.specs.FieldLaws.{list-part, part-stored}
 use Rattle.bitvec_exchange.specs.ReversalLaws.{Writes-ends, touched-most, turned-front, turned-part}
 use Rattle.bitvec_exchange.specs.SettledLaws.{Writes-same, list-same}

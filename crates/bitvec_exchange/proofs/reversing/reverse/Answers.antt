@@ -1,10 +1,10 @@
 use Rattle.std.proofs.Common.{◌+◌, ◌-◌, arith, sym, ◌∙◌}
 use Rattle.std.proofs.lemmas.Nat.{mod_below}
-use Rattle.bitvec_store.specs.WidthLaws.{width_some}
-use Rattle.bitvec_base.specs.Memory.{list_in}
-use Rattle.bitvec_base.specs.ReversalLaws.{mirror-all}
-use Rattle.bitvec_base.specs.WritesLaws.{Writes-is, Writes-start, length-list}
-use Rattle.bitvec_walk.specs.WalkLaws.{touched-less}
+use Rattle.bitvec_words.specs.store.WidthLaws.{width_some}
+use Rattle.bitvec_words.specs.base.Memory.{list_in}
+use Rattle.bitvec_words.specs.base.ReversalLaws.{mirror-all}
+use Rattle.bitvec_words.specs.base.WritesLaws.{Writes-is, Writes-start, length-list}
+use Rattle.bitvec_words.specs.walk.WalkLaws.{touched-less}
 use Rattle.bitvec_exchange.specs.ReversalLaws.{Edits-middle, mirror-edges, reverse-edges, reverse-enough, reverse-short}
 use Rattle.bitvec_words.specs.TouchedLaws.{touched-parts}
 use Rattle.bitvec_exchange.specs.WordLaws.{words-enough}

@@ -1,11 +1,11 @@
 use Rattle.std.proofs.Common.{◌≡◌, ℕ, ◌+◌, ◌-◌, ◌/◌, ◌%◌, min, arith, ap, ◌∙◌}
 use Rattle.std.proofs.lemmas.Nat.{div-add-mod', mod_below}
-use Rattle.bitvec_store.specs.WidthLaws.{width_some}
-use Rattle.bitvec_base.specs.declared.part.Part.{Part}
-use Rattle.bitvec_base.specs.Parts.{first_part_of, part_window}
-use Rattle.bitvec_base.specs.Window.{window_after}
-use Rattle.bitvec_base.specs.MemoryLaws.{length-element_bits}
-use Rattle.bitvec_base.specs.WritesLaws.{Writes-is}
+use Rattle.bitvec_words.specs.store.WidthLaws.{width_some}
+use Rattle.bitvec_words.specs.base.declared.part.Part.{Part}
+use Rattle.bitvec_words.specs.base.Parts.{first_part_of, part_window}
+use Rattle.bitvec_words.specs.base.Window.{window_after}
+use Rattle.bitvec_words.specs.base.MemoryLaws.{length-element_bits}
+use Rattle.bitvec_words.specs.base.WritesLaws.{Writes-is}
 use Rattle.bitvec_words.specs.FieldLaws.{Writes-head, first_part-long, range-shifted}
 use Rattle.bitvec_exchange.specs.ReversalLaws.{take-parted}
 use Rattle.bitvec_exchange.specs.SettledLaws.{Writes-same}

@@ -1,9 +1,9 @@
 use Rattle.std.proofs.Common.{◌≡◌, ℕ, ◌+◌, ◌-◌, ◌*◌, ◌/◌, ◌<◌, ◌≤◌, arith, rules, ap, ◌∙◌}
 use Rattle.std.proofs.Math.Nat.{mul-le-mul_left}
-use Rattle.bitvec_store.specs.WidthLaws.{width_some}
-use Rattle.bitvec_base.specs.Memory.{element_bits, list_in}
-use Rattle.bitvec_base.specs.SliceLaws.{range-same}
-use Rattle.bitvec_base.specs.WritesLaws.{length-list}
+use Rattle.bitvec_words.specs.store.WidthLaws.{width_some}
+use Rattle.bitvec_words.specs.base.Memory.{element_bits, list_in}
+use Rattle.bitvec_words.specs.base.SliceLaws.{range-same}
+use Rattle.bitvec_words.specs.base.WritesLaws.{length-list}
 use Rattle.bitvec_words.specs.Elements.{elements_window}
 use Rattle.bitvec_exchange.specs.Settled.{front_reversed}
 use Rattle.bitvec_exchange.specs.SettledLaws.{Settled-left, Settled-pair, Settled-rest, Settled-start, element-before, element-inside, length-front_reversed, reversed-behind, reversed-first, reversed-last, reversed-start, settled-all}

@@ -1,9 +1,9 @@
 use Rattle.std.proofs.Common.{◌≡◌, ℕ, ◌+◌, ◌-◌, ◌*◌, ◌/◌, ◌<◌, ◌≤◌, arith, rules, ap, ◌∙◌, reverse}
 use Rattle.std.proofs.lemmas.List.{length-reverse}
 use Rattle.std.proofs.Math.Nat.{mul-le-mul_left}
-use Rattle.bitvec_store.specs.WidthLaws.{width_some}
-use Rattle.bitvec_base.specs.Memory.{list_in}
-use Rattle.bitvec_base.specs.WritesLaws.{length-list}
+use Rattle.bitvec_words.specs.store.WidthLaws.{width_some}
+use Rattle.bitvec_words.specs.base.Memory.{list_in}
+use Rattle.bitvec_words.specs.base.WritesLaws.{length-list}
 use Rattle.bitvec_words.specs.Elements.{elements_window}
 use Rattle.bitvec_exchange.specs.SettledLaws.{Settled-left, Settled-pair, Settled-rest, Settled-start, element-before, range-reversed, settled-all}
 use Rattle.bitvec_exchange.proofs.reversing_elements.reverse_whole.Goals as goal

@@ -1,6 +1,6 @@
 use Rattle.std.proofs.Common.{◌-◌, ◌*◌, reverse}
-use Rattle.bitvec_base.specs.Memory.{Writes, list_in}
-use Rattle.bitvec_cells.specs.Access.{Costs}
+use Rattle.bitvec_words.specs.base.Memory.{Writes, list_in}
+use Rattle.bitvec_words.specs.cells.Access.{Costs}
 use Rattle.bitvec_words.specs.Elements.{elements_window}
 use Rattle.bitvec_exchange.specs.Settled.{settled}
 use Rattle.bitvec_exchange.proofs.reversing_elements.reverse_whole.Given as goal

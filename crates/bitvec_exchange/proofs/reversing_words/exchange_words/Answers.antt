@@ -1,5 +1,5 @@
 use Rattle.std.proofs.Common.{◌+◌, ◌-◌, ◌∙◌, arith, ap, reverse}
-use Rattle.bitvec_base.specs.WritesLaws.{list-range}
+use Rattle.bitvec_words.specs.base.WritesLaws.{list-range}
 use Rattle.bitvec_exchange.specs.ReversalLaws.{Writes-ends}
 use Rattle.bitvec_exchange.proofs.reversing_words.exchange_words.Goals as goal
 

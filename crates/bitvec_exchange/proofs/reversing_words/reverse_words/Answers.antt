@@ -1,10 +1,10 @@
 use Rattle.std.proofs.Common.{◌≡◌, ℕ, ◌+◌, ◌-◌, ◌*◌, ◌/◌, ◌≤◌, arith, rules, ◌∙◌, subst, true}
-use Rattle.bitvec_store.specs.WidthLaws.{width_some}
-use Rattle.bitvec_base.specs.Memory.{list_in}
-use Rattle.bitvec_base.specs.ReversalLaws.{mirror-all, mirror-none}
-use Rattle.bitvec_base.specs.WritesLaws.{Writes-is, Writes-next, Writes-start, length-list}
-use Rattle.bitvec_walk.specs.Cost.{step_span, touched, work_steps}
-use Rattle.bitvec_walk.specs.CostLaws.{touched_enough}
+use Rattle.bitvec_words.specs.store.WidthLaws.{width_some}
+use Rattle.bitvec_words.specs.base.Memory.{list_in}
+use Rattle.bitvec_words.specs.base.ReversalLaws.{mirror-all, mirror-none}
+use Rattle.bitvec_words.specs.base.WritesLaws.{Writes-is, Writes-next, Writes-start, length-list}
+use Rattle.bitvec_words.specs.walk.Cost.{step_span, touched, work_steps}
+use Rattle.bitvec_words.specs.walk.CostLaws.{touched_enough}
 use Rattle.bitvec_exchange.specs.MirrorLaws.{mirror-exchange}
 use Rattle.bitvec_exchange.specs.ReversalLaws.{Edits-middle, steps-some}
 use Rattle.bitvec_exchange.specs.Ends.{ends_exchanged}

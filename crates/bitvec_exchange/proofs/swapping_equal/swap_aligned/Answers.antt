@@ -1,5 +1,5 @@
 use Rattle.std.proofs.Common.{arith, rules, refl}
-use Rattle.bitvec_store.specs.WidthLaws.{width_some}
+use Rattle.bitvec_words.specs.store.WidthLaws.{width_some}
 use Rattle.bitvec_exchange.specs.SwapLaws.{Writes-exchanged, beside-tail}
 use Rattle.bitvec_words.specs.TouchedLaws.{touched-full, touched-more}
 use Rattle.bitvec_exchange.proofs.swapping_equal.swap_aligned.Goals as goal

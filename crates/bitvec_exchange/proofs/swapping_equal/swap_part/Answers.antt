@@ -1,5 +1,5 @@
 use Rattle.std.proofs.Common.{refl}
-use Rattle.bitvec_store.specs.WidthLaws.{width_some}
+use Rattle.bitvec_words.specs.store.WidthLaws.{width_some}
 use Rattle.bitvec_exchange.specs.SwapLaws.{Writes-exchanged_part}
 use Rattle.bitvec_exchange.proofs.swapping_equal.swap_part.Goals as goal
 

@@ -1,5 +1,5 @@
 use Rattle.std.proofs.Common.{arith, rules}
-use Rattle.bitvec_store.specs.WidthLaws.{width_some}
+use Rattle.bitvec_words.specs.store.WidthLaws.{width_some}
 use Rattle.bitvec_words.specs.FieldLaws.{Writes-no_element}
 use Rattle.bitvec_exchange.specs.SwapLaws.{Writes-exchanged_element, next_element}
 use Rattle.bitvec_exchange.proofs.swapping_equal.swap_whole.Goals as goal

@@ -1,12 +1,12 @@
 use Rattle.std.proofs.Common.{◌≡◌, ℕ, ◌+◌, ◌*◌, ◌/◌, arith, rules, ap, sym, ◌∙◌, false, replicate, slice_index}
 use Rattle.std.proofs.Math.Nat.{mul-le-mul_left}
-use Rattle.bitvec_store.specs.WidthLaws.{width_some}
-use Rattle.bitvec_base.specs.Memory.{element_bits, list_in}
-use Rattle.bitvec_base.specs.MemoryLaws.{length-element_bits}
-use Rattle.bitvec_base.specs.PartLaws.{element-none}
-use Rattle.bitvec_base.specs.SliceLaws.{range-all}
-use Rattle.bitvec_base.specs.Window.{write_at}
-use Rattle.bitvec_base.specs.WritesLaws.{length-list}
+use Rattle.bitvec_words.specs.store.WidthLaws.{width_some}
+use Rattle.bitvec_words.specs.base.Memory.{element_bits, list_in}
+use Rattle.bitvec_words.specs.base.MemoryLaws.{length-element_bits}
+use Rattle.bitvec_words.specs.base.PartLaws.{element-none}
+use Rattle.bitvec_words.specs.base.SliceLaws.{range-all}
+use Rattle.bitvec_words.specs.base.Window.{write_at}
+use Rattle.bitvec_words.specs.base.WritesLaws.{length-list}
 use Rattle.bitvec_words.specs.CombinedLaws.{length-elements}
 use Rattle.bitvec_words.specs.Elements.{elements_window}
 use Rattle.bitvec_words.specs.Field.{padded}

@@ -1,9 +1,9 @@
 use Rattle.std.proofs.Common.{◌≡◌, ℕ, ◌+◌, ◌-◌, ◌*◌, ◌/◌, ◌%◌, ◌<◌, ◌≤◌, arith, ap, sym, ◌∙◌, length, slice_range}
 use Rattle.std.proofs.lemmas.Nat.{div-add-mod', mod_below}
-use Rattle.bitvec_store.specs.WidthLaws.{width_some}
-use Rattle.bitvec_base.specs.Memory.{element_bits, memory_bits}
-use Rattle.bitvec_base.specs.MemoryLaws.{element-range, element_fits, length-memory_bits}
-use Rattle.bitvec_base.specs.Window.{window_of}
+use Rattle.bitvec_words.specs.store.WidthLaws.{width_some}
+use Rattle.bitvec_words.specs.base.Memory.{element_bits, memory_bits}
+use Rattle.bitvec_words.specs.base.MemoryLaws.{element-range, element_fits, length-memory_bits}
+use Rattle.bitvec_words.specs.base.Window.{window_of}
 use Rattle.bitvec_words.specs.FieldLaws.{element_of}
 use Rattle.bitvec_exchange.specs.WordLaws.{word-across, word_span, word_whole}
 use Rattle.bitvec_exchange.proofs.words.load_word.Goals as goal

@@ -1,6 +1,6 @@
 use Rattle.std.proofs.Common.{◌*◌, take}
-use Rattle.bitvec_base.specs.Memory.{Writes, element_bits}
-use Rattle.bitvec_cells.specs.Access.{Costs}
+use Rattle.bitvec_words.specs.base.Memory.{Writes, element_bits}
+use Rattle.bitvec_words.specs.cells.Access.{Costs}
 use Rattle.bitvec_words.specs.Elements.{elements_window}
 use Rattle.bitvec_exchange.proofs.words.store_elements.Given as goal
 

@@ -1,8 +1,8 @@
 use Rattle.std.proofs.Common.{◌≡◌, length, ap, sym, ◌∙◌, arith}
 use Rattle.bitvec_field.specs.Integers.{integer_of}
-use Rattle.bitvec_segments.specs.LoadLaws.{loaded-one}
-use Rattle.bitvec_slice.specs.Views.{seen}
-use Rattle.bitvec_store.specs.WidthLaws.{width_some}
+use Rattle.bitvec_field.specs.segments.LoadLaws.{loaded-one}
+use Rattle.bitvec_field.specs.slice.Views.{seen}
+use Rattle.bitvec_field.specs.store.WidthLaws.{width_some}
 use Rattle.bitvec_field_tests.proofs.laws.same_in_one_element.Goals as goal
 
 pub returns : goal.returns

@@ -1,6 +1,6 @@
 use Rattle.std.proofs.Common.{◌≡◌, ◌⊎◌, Bool, List, [], ◌∷◌, ap, arith, cond, count_by, inl, inr, length, not, refl, zip}
 use Rattle.std.specs.Iterator.Adapters.{zip_first, zip_second}
-use Rattle.bitvec_slice.specs.Walks.{vals_left}
+use Rattle.bitvec_query.specs.slice.Walks.{vals_left}
 use Rattle.bitvec_iter_tests.proofs.callers.differences.Goals as goal
 
 -- where one of two lists has no value, there are no pairs

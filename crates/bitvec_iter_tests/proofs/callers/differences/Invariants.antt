@@ -1,8 +1,8 @@
 use Rattle.std.proofs.Common.{◌≡◌, ◌+◌, ◌≤◌, cond, count_by, length, not, zip}
 use Rattle.std.specs.Iterator.Adapters.{zip_first, zip_second}
-use Rattle.bitvec_base.specs.Window.{max_bits}
-use Rattle.bitvec_slice.specs.Views.{seen}
-use Rattle.bitvec_slice.specs.Walks.{vals_left}
+use Rattle.bitvec_query.specs.base.Window.{max_bits}
+use Rattle.bitvec_query.specs.slice.Views.{seen}
+use Rattle.bitvec_query.specs.slice.Walks.{vals_left}
 use Rattle.bitvec_iter_tests.proofs.callers.differences.Given as goal
 
 abbrev pub invariant-loop-pair : goal.invariant-loop-pair

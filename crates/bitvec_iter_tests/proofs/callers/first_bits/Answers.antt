@@ -1,7 +1,7 @@
 use Rattle.std.proofs.Common.{◌∙◌}
 use Rattle.std.proofs.lemmas.Iterator.{items_from_collect, YieldsList-from_take}
 use Rattle.std.proofs.lemmas.Iterator.Consumers.{YieldsList-at, YieldsList-from_first}
-use Rattle.bitvec_slice.specs.Walks.{vals_left}
+use Rattle.bitvec_query.specs.slice.Walks.{vals_left}
 use Rattle.bitvec_iter_tests.proofs.callers.first_bits.Goals as goal
 
 pub returns : goal.returns

@@ -1,7 +1,7 @@
 use Rattle.std.proofs.Common.{◌≡◌, ◌++◌}
 use Rattle.std.specs.List.{flat_map}
-use Rattle.bitvec_slice.specs.Views.{seen}
-use Rattle.bitvec_slice.specs.Walks.{vals_left}
+use Rattle.bitvec_query.specs.slice.Views.{seen}
+use Rattle.bitvec_query.specs.slice.Walks.{vals_left}
 use Rattle.bitvec_iter.specs.Left.{pieces_left}
 use Rattle.bitvec_iter_tests.proofs.callers.joined.Given as goal
 

@@ -1,6 +1,6 @@
 use Rattle.std.proofs.Common.{◌≡◌, ◌+◌, ◌≤◌, count_by, sum_by}
-use Rattle.bitvec_base.specs.Window.{max_bits}
-use Rattle.bitvec_slice.specs.Views.{seen}
+use Rattle.bitvec_query.specs.base.Window.{max_bits}
+use Rattle.bitvec_query.specs.slice.Views.{seen}
 use Rattle.bitvec_iter.specs.Left.{pieces_left}
 use Rattle.bitvec_iter_tests.proofs.callers.ones_by_chunks.Given as goal
 

@@ -1,7 +1,7 @@
 use Rattle.std.proofs.Common.{◌≡◌, ◌+◌, ◌≤◌, count_by, length}
-use Rattle.bitvec_base.specs.Window.{max_bits}
-use Rattle.bitvec_slice.specs.Views.{seen}
-use Rattle.bitvec_slice.specs.Walks.{bits_left}
+use Rattle.bitvec_query.specs.base.Window.{max_bits}
+use Rattle.bitvec_query.specs.slice.Views.{seen}
+use Rattle.bitvec_query.specs.slice.Walks.{bits_left}
 use Rattle.bitvec_iter_tests.proofs.callers.ones_by_loop.Given as goal
 
 abbrev pub invariant-loop-bit : goal.invariant-loop-bit

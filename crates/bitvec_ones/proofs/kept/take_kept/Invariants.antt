@@ -1,5 +1,5 @@
 use Rattle.std.proofs.Common.{◌-◌, map}
-use Rattle.bitvec_base.specs.Memory.{list_in}
+use Rattle.bitvec_query.specs.base.Memory.{list_in}
 use Rattle.bitvec_ones.specs.Kept.{Keeps}
 use Rattle.bitvec_ones.proofs.kept.take_kept.Given as goal
 

@@ -1,7 +1,7 @@
 use Rattle.std.proofs.Common.{◌≡◌, ◌∙◌, length, sym}
-use Rattle.bitvec_store.specs.WidthLaws.{width_some}
-use Rattle.bitvec_slice.specs.SeenLaws.{length_bits}
-use Rattle.bitvec_slice.specs.Views.{seen}
+use Rattle.bitvec_edit.specs.store.WidthLaws.{width_some}
+use Rattle.bitvec_edit.specs.slice.SeenLaws.{length_bits}
+use Rattle.bitvec_edit.specs.slice.Views.{seen}
 use Rattle.bitvec_owned.proofs.Held.{held, refilled, same_length}
 use Rattle.bitvec_owned.proofs.copying.copy_of.Goals as goal
 

@@ -1,6 +1,6 @@
 use Rattle.std.proofs.Common.{◌≡◌, length, inl, inr, sym, false, ◌∙◌, ap}
-use Rattle.bitvec_base.specs.Window.{write_at}
-use Rattle.bitvec_run.specs.Rows.{Row, range_lies}
+use Rattle.bitvec_run_fields.specs.commands.base.Window.{write_at}
+use Rattle.bitvec_run_fields.specs.commands.Rows.{Row, range_lies}
 use Rattle.bitvec_plain.proofs.Steps.{out_of_range, step-out, step_reply-in, step_list-in, put_mid-write_at}
 use Rattle.bitvec_plain.proofs.run.apply_step.Goals as goal
 use Rattle.bitvec_plain.proofs.run.apply_step.Goals.{Joined-then-step, then-step-via-then-step, then-step-via-else-step+then-step-list}
@@ -8,7 +8,7 @@ use Rattle.bitvec_plain.proofs.run.apply_step.Goals.{Joined-then-step, then-step
 -- one of the two tests failed
 out : (c : Joined-then-step) → range_lies (length c.args.list.now) c.args.step.from c.args.step.to ≡ false
 out c =
-    elim c.then-step.branch [ then-step-via-then-step w ↦ out_of_range _ c.args.step (inl w.if-step.true) | then-step-via-else-step+then-step-list w ↦ out_of_range _ c.args.step (inr w.if-step-list.true) ]
+    elim c.then-step.branch [ then-step-via-then-step w ↦ out_of_range _ c.args.step.from c.args.step.to (inl w.if-step.true) | then-step-via-else-step+then-step-list w ↦ out_of_range _ c.args.step.from c.args.step.to (inr w.if-step-list.true) ]
 
 pub returns-then-step-clause-reply : goal.returns-then-step-clause-reply
 returns-then-step-clause-reply c = ap (λ (r : Row). r.reply c.args.list.now) (sym (step-out c.args.right.now _ c.args.step (out c)))

@@ -1,5 +1,5 @@
 use Rattle.std.proofs.Common.{rules}
-use Rattle.bitvec_base.specs.WritesLaws.{Writes-nothing}
+use Rattle.bitvec_engine.specs.base.WritesLaws.{Writes-nothing}
 use Rattle.bitvec_run.specs.FollowsLaws.{list-inside}
 use Rattle.bitvec_run.proofs.right.compare.Goals as goal
 

@@ -1,6 +1,6 @@
 use Rattle.std.proofs.Common.{◌≡◌, ◌≤◌, length, take, vec_len, vec_capacity}
-use Rattle.bitvec_base.specs.Memory.{list_in, memory_bits}
-use Rattle.bitvec_cells.specs.Access.{CostsAtMost, OnlyReadsAtMost}
+use Rattle.bitvec_engine.specs.base.Memory.{list_in, memory_bits}
+use Rattle.bitvec_engine.specs.cells.Access.{CostsAtMost, OnlyReadsAtMost}
 use Rattle.bitvec_run.specs.Costs.{place_of}
 use Rattle.bitvec_run.specs.Fold.{cost_of}
 use Rattle.bitvec_run.specs.RanLaws.{Ran}

@@ -1,6 +1,6 @@
 use Rattle.std.proofs.Common.{rules, sym, ◌∙◌, Some}
-use Rattle.bitvec_base.specs.Memory.{list_in}
-use Rattle.bitvec_base.specs.WritesLaws.{Writes-nothing, length-list}
+use Rattle.bitvec_engine.specs.base.Memory.{list_in}
+use Rattle.bitvec_engine.specs.base.WritesLaws.{Writes-nothing, length-list}
 use Rattle.bitvec_run.specs.FollowsLaws.{Follows-range}
 use Rattle.bitvec_run.specs.RunsLaws.{outcome-is, step-does}
 use Rattle.bitvec_run.specs.Runs.{step_row}

@@ -1,6 +1,6 @@
 use Rattle.std.proofs.Common.{rules, refl}
-use Rattle.bitvec_base.specs.Memory.{list_in, memory_bits}
-use Rattle.bitvec_base.specs.WritesLaws.{Writes-nothing}
+use Rattle.bitvec_run.specs.base.Memory.{list_in, memory_bits}
+use Rattle.bitvec_run.specs.base.WritesLaws.{Writes-nothing}
 use Rattle.bitvec_run.specs.Costs.{place_of}
 use Rattle.bitvec_run.specs.FoldLaws.{costs-next, reads-next}
 use Rattle.bitvec_run_fields.specs.FieldRows.{field_cost, field_outcome}

@@ -1,6 +1,6 @@
 use Rattle.std.proofs.Common.{rules, sym}
-use Rattle.bitvec_base.specs.Memory.{list_in}
-use Rattle.bitvec_base.specs.WritesLaws.{Writes-nothing}
+use Rattle.bitvec_run.specs.base.Memory.{list_in}
+use Rattle.bitvec_run.specs.base.WritesLaws.{Writes-nothing}
 use Rattle.bitvec_run.specs.FollowsLaws.{Follows-range}
 use Rattle.bitvec_run_fields.specs.FieldRowsLaws.{is-transfer, plain-is, transfer-does, transfer-refused}
 use Rattle.bitvec_run_fields.proofs.stepping.field_step.Goals as goal

@@ -1,8 +1,8 @@
 use Rattle.std.proofs.Common.{◌≤◌, ◌^◌, arith, ap, ◌∙◌}
 use Rattle.std.specs.Prelude.{slice_index}
 use Rattle.std.proofs.Math.Pow.{pow_mono}
-use Rattle.bitvec_base.specs.Memory.{element_bits}
-use Rattle.bitvec_base.specs.MemoryLaws.{length-element_bits}
+use Rattle.bitvec_words.specs.base.Memory.{element_bits}
+use Rattle.bitvec_words.specs.base.MemoryLaws.{length-element_bits}
 use Rattle.bitvec_segments.specs.NumberLaws.{segment_number-below}
 use Rattle.bitvec_segments.specs.Segments.{segment_number}
 use Rattle.bitvec_segments.proofs.JoinedWindow.{list-whole, width_most}

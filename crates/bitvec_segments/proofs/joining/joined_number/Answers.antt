@@ -1,5 +1,5 @@
 use Rattle.std.proofs.Common.{◌≡◌, ◌+◌, ◌-◌, arith, ◌∙◌}
-use Rattle.bitvec_store.specs.WidthLaws.{width_some}
+use Rattle.bitvec_words.specs.store.WidthLaws.{width_some}
 use Rattle.bitvec_segments.proofs.JoinedWindow.{HasWindow-elements, number-below, number-cut, number-next, number-one, touched-elements}
 use Rattle.bitvec_segments.proofs.joining.joined_number.Goals as goal
 

@@ -1,8 +1,8 @@
 use Rattle.std.proofs.Common.{◌≡◌, ℕ, ◌+◌, ◌-◌, arith, ap, ◌∙◌}
-use Rattle.bitvec_base.specs.declared.part.Part.{Part}
-use Rattle.bitvec_base.specs.Parts.{first_part_of}
-use Rattle.bitvec_store.specs.WidthLaws.{width_some}
-use Rattle.bitvec_walk.specs.WalkLaws.{touched-none}
+use Rattle.bitvec_words.specs.base.declared.part.Part.{Part}
+use Rattle.bitvec_words.specs.base.Parts.{first_part_of}
+use Rattle.bitvec_words.specs.store.WidthLaws.{width_some}
+use Rattle.bitvec_words.specs.walk.WalkLaws.{touched-none}
 use Rattle.bitvec_segments.proofs.WalkLemmas.{be-only, touched-first}
 use Rattle.bitvec_segments.proofs.loading.load_few_be.Goals as goal
 

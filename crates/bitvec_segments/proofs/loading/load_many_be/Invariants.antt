@@ -1,6 +1,6 @@
-use Rattle.bitvec_cells.specs.Access.{OnlyReads}
-use Rattle.bitvec_walk.specs.Cost.{touched}
-use Rattle.bitvec_walk.specs.Walk.{Walked, passed}
+use Rattle.bitvec_words.specs.cells.Access.{OnlyReads}
+use Rattle.bitvec_words.specs.walk.Cost.{touched}
+use Rattle.bitvec_words.specs.walk.Walk.{Walked, passed}
 use Rattle.bitvec_segments.proofs.WalkLemmas.{LoadedBe}
 use Rattle.bitvec_segments.proofs.loading.load_many_be.Given as goal
 

@@ -1,8 +1,8 @@
 use Rattle.std.proofs.Common.{◌≡◌, ◌<◌, ℕ, ◌+◌, ◌-◌, arith, ap, sym, refl, ◌∙◌}
-use Rattle.bitvec_base.specs.declared.part.Part.{Part}
-use Rattle.bitvec_base.specs.Parts.{first_part_of}
-use Rattle.bitvec_store.specs.WidthLaws.{width_some}
-use Rattle.bitvec_walk.specs.WalkLaws.{touched-none}
+use Rattle.bitvec_words.specs.base.declared.part.Part.{Part}
+use Rattle.bitvec_words.specs.base.Parts.{first_part_of}
+use Rattle.bitvec_words.specs.store.WidthLaws.{width_some}
+use Rattle.bitvec_words.specs.walk.WalkLaws.{touched-none}
 use Rattle.bitvec_segments.specs.LoadLaws.{loaded_be-none}
 use Rattle.bitvec_segments.specs.Segments.{loaded_be}
 use Rattle.bitvec_segments.proofs.WalkLemmas.{be-fits, be-joined, be-only, list-empty, part_kept, touched-first}

@@ -1,9 +1,9 @@
 use Rattle.std.proofs.Common.{◌≡◌, ◌<◌, ℕ, ◌-◌, ◌%◌, arith, ap, sym, refl, ◌∙◌}
-use Rattle.bitvec_base.specs.Parts.{first_part_of}
-use Rattle.bitvec_base.specs.Window.{window_after}
-use Rattle.bitvec_base.specs.WritesLaws.{Writes-empty, Writes-is}
-use Rattle.bitvec_store.specs.WidthLaws.{width_some}
-use Rattle.bitvec_walk.specs.WalkLaws.{first-len}
+use Rattle.bitvec_words.specs.base.Parts.{first_part_of}
+use Rattle.bitvec_words.specs.base.Window.{window_after}
+use Rattle.bitvec_words.specs.base.WritesLaws.{Writes-empty, Writes-is}
+use Rattle.bitvec_words.specs.store.WidthLaws.{width_some}
+use Rattle.bitvec_words.specs.walk.WalkLaws.{first-len}
 use Rattle.bitvec_segments.specs.Segments.{stored_be}
 use Rattle.bitvec_segments.specs.StoreLaws.{stored_be-none}
 use Rattle.bitvec_segments.proofs.WalkLemmas.{edge-most, fill-two, list-empty, store_be-joined, store_be-one, touched-first}

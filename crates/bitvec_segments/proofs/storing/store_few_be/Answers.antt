@@ -1,10 +1,10 @@
 use Rattle.std.proofs.Common.{◌≡◌, ℕ, ◌+◌, ◌-◌, arith, ap, sym, ◌∙◌, min}
-use Rattle.bitvec_base.specs.declared.part.Part.{Part}
-use Rattle.bitvec_base.specs.Memory.{HasWindow}
-use Rattle.bitvec_base.specs.Parts.{first_part_of}
-use Rattle.bitvec_base.specs.Window.{window_after}
-use Rattle.bitvec_base.specs.WritesLaws.{HasWindow-kept}
-use Rattle.bitvec_store.specs.WidthLaws.{width_some}
+use Rattle.bitvec_words.specs.base.declared.part.Part.{Part}
+use Rattle.bitvec_words.specs.base.Memory.{HasWindow}
+use Rattle.bitvec_words.specs.base.Parts.{first_part_of}
+use Rattle.bitvec_words.specs.base.Window.{window_after}
+use Rattle.bitvec_words.specs.base.WritesLaws.{HasWindow-kept}
+use Rattle.bitvec_words.specs.store.WidthLaws.{width_some}
 use Rattle.bitvec_segments.proofs.WalkLemmas.{edge-len, edge-most, store_be-joined, store_be-one, touched-first, whole-none}
 use Rattle.bitvec_segments.proofs.storing.store_few_be.Goals as goal
 

@@ -1,12 +1,12 @@
 use Rattle.std.proofs.Common.{◌≡◌, ℕ, ◌-◌, arith, rules, ap, sym, ◌∙◌, take}
-use Rattle.bitvec_base.specs.declared.part.Part.{Part}
-use Rattle.bitvec_base.specs.Memory.{list_in}
-use Rattle.bitvec_base.specs.Parts.{first_part_of}
-use Rattle.bitvec_base.specs.WritesLaws.{Writes-is, length-list}
+use Rattle.bitvec_words.specs.base.declared.part.Part.{Part}
+use Rattle.bitvec_words.specs.base.Memory.{list_in}
+use Rattle.bitvec_words.specs.base.Parts.{first_part_of}
+use Rattle.bitvec_words.specs.base.WritesLaws.{Writes-is, length-list}
 use Rattle.bitvec_segments.specs.Segments.{stored_be}
 use Rattle.bitvec_segments.specs.StoreLaws.{length-stored_be}
-use Rattle.bitvec_store.specs.WidthLaws.{width_some}
-use Rattle.bitvec_walk.specs.WalkLaws.{Walked-start, Walked-next, Writes-none_passed, edge_loads-next, first-len, touched-next, touched-none}
+use Rattle.bitvec_words.specs.store.WidthLaws.{width_some}
+use Rattle.bitvec_words.specs.walk.WalkLaws.{Walked-start, Walked-next, Writes-none_passed, edge_loads-next, first-len, touched-next, touched-none}
 use Rattle.bitvec_segments.proofs.WalkLemmas.{LeftBe-next, LeftBe-start, Writes-all, Writes-next_be}
 use Rattle.bitvec_segments.proofs.storing.store_many_be.Goals as goal
 

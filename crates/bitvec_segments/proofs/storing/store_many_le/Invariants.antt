@@ -1,9 +1,9 @@
 use Rattle.std.proofs.Common.{take}
-use Rattle.bitvec_base.specs.Memory.{Writes, list_in}
-use Rattle.bitvec_cells.specs.Access.{CostsAtMost}
+use Rattle.bitvec_words.specs.base.Memory.{Writes, list_in}
+use Rattle.bitvec_words.specs.cells.Access.{CostsAtMost}
 use Rattle.bitvec_segments.specs.Segments.{stored_le}
-use Rattle.bitvec_walk.specs.Cost.{touched}
-use Rattle.bitvec_walk.specs.Walk.{Walked, edge_loads, passed}
+use Rattle.bitvec_words.specs.walk.Cost.{touched}
+use Rattle.bitvec_words.specs.walk.Walk.{Walked, edge_loads, passed}
 use Rattle.bitvec_segments.proofs.WalkLemmas.{LeftLe}
 use Rattle.bitvec_segments.proofs.storing.store_many_le.Given as goal
 

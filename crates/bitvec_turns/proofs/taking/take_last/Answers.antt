@@ -1,7 +1,7 @@
 use Rattle.std.proofs.Common.{◌+◌, arith, rules}
 use Rattle.std.proofs.Math.Nat.{sub_self}
-use Rattle.bitvec_store.specs.WidthLaws.{width_some}
-use Rattle.bitvec_walk.specs.WalkLaws.{touched-none}
+use Rattle.bitvec_engine.specs.store.WidthLaws.{width_some}
+use Rattle.bitvec_engine.specs.walk.WalkLaws.{touched-none}
 use Rattle.bitvec_turns.specs.LoadsLaws.{touched-passed_back}
 use Rattle.bitvec_turns.specs.PlacesLaws.{places-empty}
 use Rattle.bitvec_turns.proofs.TakingLemmas.{last-below, last-taken, none-left_back}

@@ -1,7 +1,7 @@
 use Rattle.std.proofs.Common.{◌≡◌, ◌+◌, ◌≤◌, ◌++◌, drop, take}
-use Rattle.bitvec_base.specs.Lists.{places_of}
-use Rattle.bitvec_base.specs.Memory.{list_in}
-use Rattle.bitvec_walk.specs.Cost.{touched}
+use Rattle.bitvec_engine.specs.base.Lists.{places_of}
+use Rattle.bitvec_engine.specs.base.Memory.{list_in}
+use Rattle.bitvec_engine.specs.walk.Cost.{touched}
 use Rattle.bitvec_turns.specs.Loads.{rest_loads}
 use Rattle.bitvec_turns.specs.Places.{IsRestOf, places_left}
 use Rattle.bitvec_turns.specs.Turns.{count_given, turns_give}

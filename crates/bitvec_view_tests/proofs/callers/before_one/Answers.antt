@@ -1,6 +1,6 @@
 use Rattle.std.proofs.Common.{◌≡◌, ◌∙◌, ap, false, find, rules, slice_index_or, subst, unwrap_or}
-use Rattle.bitvec_slice.specs.Seen.{Seen}
-use Rattle.bitvec_slice.specs.Views.{seen}
+use Rattle.bitvec_owned.specs.query.slice.Seen.{Seen}
+use Rattle.bitvec_owned.specs.query.slice.Views.{seen}
 use Rattle.bitvec_split.specs.Asked.{upward}
 use Rattle.bitvec_split.specs.SplitLaws.{first-piece}
 use Rattle.bitvec_split.specs.Views.{left_of}

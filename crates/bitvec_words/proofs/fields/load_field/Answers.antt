@@ -1,8 +1,8 @@
 use Rattle.std.proofs.Common.{◌≡◌, ℕ, ◌-◌, arith, ap, refl, sym, ◌∙◌}
-use Rattle.bitvec_base.specs.declared.part.Part.{Part}
-use Rattle.bitvec_base.specs.PartLaws.{element-none}
-use Rattle.bitvec_base.specs.Parts.{first_part_of}
-use Rattle.bitvec_store.specs.WidthLaws.{width_some}
+use Rattle.bitvec_walk.specs.base.declared.part.Part.{Part}
+use Rattle.bitvec_walk.specs.base.PartLaws.{element-none}
+use Rattle.bitvec_walk.specs.base.Parts.{first_part_of}
+use Rattle.bitvec_walk.specs.store.WidthLaws.{width_some}
 use Rattle.bitvec_walk.specs.WalkLaws.{Walked-start, Walked-next, first-len, passed-none, touched-next, touched-none}
 use Rattle.bitvec_words.specs.Field.{padded}
 use Rattle.bitvec_words.specs.MovedLaws.{padded-none}

@@ -1,8 +1,8 @@
 use Rattle.std.proofs.Common.{◌≡◌, ◌<◌, ℕ, ◌-◌, arith, rules, refl, sym, ◌∙◌, ap}
-use Rattle.bitvec_base.specs.declared.part.Part.{Part}
-use Rattle.bitvec_base.specs.Parts.{first_part_of}
-use Rattle.bitvec_base.specs.WritesLaws.{Writes-empty, Writes-is}
-use Rattle.bitvec_store.specs.WidthLaws.{width_some}
+use Rattle.bitvec_walk.specs.base.declared.part.Part.{Part}
+use Rattle.bitvec_walk.specs.base.Parts.{first_part_of}
+use Rattle.bitvec_walk.specs.base.WritesLaws.{Writes-empty, Writes-is}
+use Rattle.bitvec_walk.specs.store.WidthLaws.{width_some}
 use Rattle.bitvec_walk.specs.Cost.{touched}
 use Rattle.bitvec_walk.specs.WalkLaws.{first-len, touched-none}
 use Rattle.bitvec_words.specs.FieldLaws.{Writes-head, first_part-long}

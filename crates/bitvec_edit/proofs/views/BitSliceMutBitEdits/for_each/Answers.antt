@@ -1,5 +1,5 @@
 use Rattle.std.proofs.Common.{length, ap, subst, sym, ◌∙◌}
-use Rattle.bitvec_elements.specs.Asked.{RefillsWith}
+use Rattle.bitvec_slice.specs.elements.Asked.{RefillsWith}
 use Rattle.bitvec_slice.specs.Lending.{with_elements}
 use Rattle.bitvec_slice.specs.Writes.{WritesBits}
 use Rattle.bitvec_slice.specs.WriteLaws.{writes_bits}

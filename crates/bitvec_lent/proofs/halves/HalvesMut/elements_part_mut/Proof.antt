@@ -1,5 +1,5 @@
 -- `elements_part_mut` of `HalvesMut` lends a range of what its first field points at, and the halves follow it. Assumes `Logic`.
-use Rattle.bitvec_lending.specs.Steps.{refl, [], ◌∷◌, full_share, a_type, dcons, dnil, erased, NamedLft, layout, bounded, copied, param, copied_laws, param_laws, part_apart, of_two, tail, behind_ty, behind, lends_range}
+use Rattle.bitvec_slice.specs.lends.Steps.{refl, [], ◌∷◌, full_share, a_type, dcons, dnil, erased, NamedLft, layout, bounded, copied, param, copied_laws, param_laws, part_apart, of_two, tail, behind_ty, behind, lends_range}
 use Rattle.bitvec_lent.specs.HalvesLending.{with_elements}
 use Rattle.bitvec_lent.specs.contracts.halves.HalvesMut.{struct, the_type, the_row}
 use Rattle.bitvec_lent.specs.contracts.halves.HalvesMut.elements_part_mut.Key.{name as #self}

@@ -1,6 +1,6 @@
 -- `elements_part_mut` of `PiecesMut` lends a range of what its first field points at, and the walk follows it. Assumes `Logic`.
-use Rattle.bitvec_lending.specs.Steps.{refl, [], ◌∷◌, full_share, a_type, dcons, dnil, erased, NamedLft, layout, bounded, copied, param, copied_copy, copied_laws, copy_told, param_laws, part_apart, tail, behind_ty, behind, lends_range}
-use Rattle.bitvec_lending.specs.Arity.{of_three}
+use Rattle.bitvec_slice.specs.lends.Steps.{refl, [], ◌∷◌, full_share, a_type, dcons, dnil, erased, NamedLft, layout, bounded, copied, param, copied_copy, copied_laws, copy_told, param_laws, part_apart, tail, behind_ty, behind, lends_range}
+use Rattle.bitvec_slice.specs.lends.Arity.{of_three}
 use Rattle.bitvec_lent.specs.PiecesLending.{with_elements}
 use Rattle.bitvec_lent.specs.contracts.pieces.PiecesMut.{struct, the_type, the_row}
 use Rattle.bitvec_lent.specs.contracts.pieces.PiecesMut.elements_part_mut.Key.{name as #self}

@@ -1,6 +1,6 @@
 use Rattle.std.specs.Prelude.{refl}
 use Rattle.std.proofs.Common.{◌∙◌}
-use Rattle.bitvec_base.specs.WindowLaws.{get-one}
+use Rattle.bitvec_elements.specs.base.WindowLaws.{get-one}
 use Rattle.bitvec_reference.specs.References.{bit_of_ref_mut, memory_of_ref_mut}
 use Rattle.bitvec_reference.proofs.References.{writes_bit}
 use Rattle.bitvec_reference.proofs.reference_mut.BitRefMut.replace.Goals as goal

@@ -1,0 +1,4 @@
+-- What crates above name of `bitvec_domain`.
+pub use Rattle.bitvec_slice.specs.domain.Cuts
+pub use Rattle.bitvec_slice.specs.domain.Domains
+pub use Rattle.bitvec_slice.specs.domain.Parts

@@ -1,0 +1,5 @@
+-- What crates above name of `bitvec_traits`.
+pub use Rattle.bitvec_slice.specs.traits.Feeding
+pub use Rattle.bitvec_slice.specs.traits.FeedingLaws
+pub use Rattle.bitvec_slice.specs.traits.Listing
+pub use Rattle.bitvec_slice.specs.traits.OrderLaws

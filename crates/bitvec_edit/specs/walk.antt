@@ -1,0 +1,3 @@
+-- What crates above name of `bitvec_walk`.
+pub use Rattle.bitvec_slice.specs.walk.CostLaws
+pub use Rattle.bitvec_slice.specs.walk.Sought

@@ -1,0 +1,119 @@
+//! Calls on chunks by closures go from chunk 0 on: a closure that counts its calls writes the count into
+//! each chunk of the bits 3 up to 21 of three bytes.
+
+use bitvec_edit::BitEdits;
+use bitvec_edit::base::Lsb0;
+use bitvec_edit::slice::BitSliceMut;
+use bitvec_pieces::EditParts;
+use test_bits::{MEMORIES, bits_of};
+
+/// The bit of a number at an index: those of the lowest three, and behind them zeros.
+fn digit(number: usize, index: usize) -> bool {
+    match index {
+        0 => number % 2 == 1,
+        1 => number / 2 % 2 == 1,
+        2 => number / 4 % 2 == 1,
+        _ => false,
+    }
+}
+
+/// Writes into each chunk of four bits its number among the calls, from 1 on.
+fn count_chunks(bytes: &mut [u8; 3]) {
+    let mut view = BitSliceMut::<u8, Lsb0>::from_slice_mut(bytes).into_part(3..21);
+    let mut calls = 0usize;
+    view.for_each_chunk_mut(4, |_index, chunk| {
+        calls = calls.wrapping_add(1);
+        let number = calls;
+        chunk.fill_with(|index| digit(number, index));
+    });
+}
+
+/// The same of the chunks from the end.
+fn count_back_chunks(bytes: &mut [u8; 3]) {
+    let mut view = BitSliceMut::<u8, Lsb0>::from_slice_mut(bytes).into_part(3..21);
+    let mut calls = 0usize;
+    view.for_each_rchunk_mut(4, |_index, chunk| {
+        calls = calls.wrapping_add(1);
+        let number = calls;
+        chunk.fill_with(|index| digit(number, index));
+    });
+}
+
+/// The same of the whole chunks.
+fn count_whole_chunks(bytes: &mut [u8; 3]) {
+    let mut view = BitSliceMut::<u8, Lsb0>::from_slice_mut(bytes).into_part(3..21);
+    let mut calls = 0usize;
+    view.for_each_chunk_exact_mut(4, |_index, chunk| {
+        calls = calls.wrapping_add(1);
+        let number = calls;
+        chunk.fill_with(|index| digit(number, index));
+    });
+}
+
+/// The same of the whole chunks from the end.
+fn count_whole_back_chunks(bytes: &mut [u8; 3]) {
+    let mut view = BitSliceMut::<u8, Lsb0>::from_slice_mut(bytes).into_part(3..21);
+    let mut calls = 0usize;
+    view.for_each_rchunk_exact_mut(4, |_index, chunk| {
+        calls = calls.wrapping_add(1);
+        let number = calls;
+        chunk.fill_with(|index| digit(number, index));
+    });
+}
+
+/// The bits, with 1, 2, 3 and so on at these places in turn.
+fn counted(bytes: [u8; 3], places: &[(usize, usize)]) -> [bool; 24] {
+    let mut bits = bits_of(bytes);
+    for (index, (from, to)) in places.iter().enumerate() {
+        if let Some(part) = bits.get_mut(*from..*to) {
+            for (place, bit) in part.iter_mut().enumerate() {
+                *bit = digit(index.wrapping_add(1), place);
+            }
+        }
+    }
+    bits
+}
+
+const CHUNKS: [(usize, usize); 5] = [(3, 7), (7, 11), (11, 15), (15, 19), (19, 21)];
+
+const WHOLE_CHUNKS: [(usize, usize); 4] = [(3, 7), (7, 11), (11, 15), (15, 19)];
+
+const BACK_CHUNKS: [(usize, usize); 5] = [(17, 21), (13, 17), (9, 13), (5, 9), (3, 5)];
+
+const WHOLE_BACK_CHUNKS: [(usize, usize); 4] = [(17, 21), (13, 17), (9, 13), (5, 9)];
+
+#[test]
+fn chunks_in_ascending_order(rt: HostRuntime) {
+    for bytes in MEMORIES {
+        let mut after = bytes;
+        count_chunks(&mut after);
+        assert_eq!(rt; bits_of(after), counted(bytes, &CHUNKS));
+    }
+}
+
+#[test]
+fn back_chunks_in_ascending_order(rt: HostRuntime) {
+    for bytes in MEMORIES {
+        let mut after = bytes;
+        count_back_chunks(&mut after);
+        assert_eq!(rt; bits_of(after), counted(bytes, &BACK_CHUNKS));
+    }
+}
+
+#[test]
+fn whole_chunks_in_ascending_order(rt: HostRuntime) {
+    for bytes in MEMORIES {
+        let mut after = bytes;
+        count_whole_chunks(&mut after);
+        assert_eq!(rt; bits_of(after), counted(bytes, &WHOLE_CHUNKS));
+    }
+}
+
+#[test]
+fn whole_back_chunks_in_ascending_order(rt: HostRuntime) {
+    for bytes in MEMORIES {
+        let mut after = bytes;
+        count_whole_back_chunks(&mut after);
+        assert_eq!(rt; bits_of(after), counted(bytes, &WHOLE_BACK_CHUNKS));
+    }
+}

@@ -1,0 +1,4 @@
+-- What crates above name of `bitvec_slice`.
+pub use Rattle.bitvec_slice.specs.SeenLaws
+pub use Rattle.bitvec_slice.specs.Views
+pub use Rattle.bitvec_slice.specs.Writes

@@ -1,0 +1,3 @@
+-- What crates above name of `bitvec_base`.
+pub use Rattle.bitvec_query.specs.base.Lists
+pub use Rattle.bitvec_query.specs.base.Memory

@@ -1,0 +1,2 @@
+-- What crates above name of `bitvec_slice`.
+pub use Rattle.bitvec_query.specs.slice.Views

@@ -1,0 +1,4 @@
+-- What crates above name of `bitvec_cutting`.
+pub use Rattle.bitvec_cutting.specs.Cutting
+pub use Rattle.bitvec_cutting.specs.RangeLaws
+pub use Rattle.bitvec_cutting.specs.Walks

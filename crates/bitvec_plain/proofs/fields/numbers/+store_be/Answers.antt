@@ -1,0 +1,13 @@
+use Rattle.bitvec_plain.proofs.Joined.{some-bits}
+use Rattle.bitvec_plain.proofs.Stored.{be-stores_nothing, be-written}
+use Rattle.bitvec_plain.proofs.fields.numbers.+store_be.Goals as goal
+
+pub returns-then-is_empty : goal.returns-then-is_empty
+returns-then-is_empty t c = be-stores_nothing c.args.layout.high c.args.layout.bits c.args.place c.args.value c.args.list.now c.if-is_empty.ensures
+
+pub returns : goal.returns
+returns t c =
+    let layout = c.args.layout in
+    let list = c.args.list.now in
+    let more = some-bits list c.if-is_empty.ensures in
+    be-written layout.high layout.bits c.args.place c.args.value list _ _ _ layout.some more c.first_len-len.ensures c.give_number.ensures c.store_be.ensures

@@ -1,0 +1,5 @@
+-- What crates above name of `bitvec_slice`.
+pub use Rattle.bitvec_slice.specs.Apart
+pub use Rattle.bitvec_slice.specs.Seen
+pub use Rattle.bitvec_slice.specs.Views
+pub use Rattle.bitvec_slice.specs.Walks

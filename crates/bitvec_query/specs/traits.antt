@@ -1,0 +1,2 @@
+-- What crates above name of `bitvec_traits`.
+pub use Rattle.bitvec_slice.specs.traits.Feeding

@@ -1,0 +1,2 @@
+-- What crates above name of `bitvec_walk`.
+pub use Rattle.bitvec_slice.specs.walk.Sought

@@ -1,0 +1,2 @@
+-- What crates above name of `bitvec_words`.
+pub use Rattle.bitvec_slice.specs.words.Field

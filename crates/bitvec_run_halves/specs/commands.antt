@@ -1,0 +1,3 @@
+-- What crates above name of `bitvec_run`.
+pub use Rattle.bitvec_run.specs.Fold
+pub use Rattle.bitvec_run.specs.Runs

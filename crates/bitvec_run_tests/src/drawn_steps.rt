@@ -1,0 +1,74 @@
+//! Steps with numbers, drawn with no pattern from a seed.
+ghost use Rattle.std.specs.Prelude.{◌<◌, ◌^◌};
+
+use bitvec_plain::commands::{Op, Window};
+use bitvec_plain::field_runs::{FieldOp, FieldStep};
+use std::alloc::{AllocError, Global};
+
+/// How many steps are drawn for a window.
+const COUNT: usize = 60;
+
+/// A stream of numbers with no pattern.
+#[derive(Drop)]
+pub(crate) struct Draws {
+    state: u64,
+}
+
+impl Draws {
+    pub(crate) fn new(seed: u64) -> Self {
+        Draws { state: seed }
+    }
+
+    /// The next number.
+    fn number(&mut self) -> u64 {
+        self.state = self
+            .state
+            .wrapping_mul(0x5851_F42D_4C95_7F2D)
+            .wrapping_add(0x1405_7B7E_F767_814F);
+        self.state ^ self.state >> 29
+    }
+
+    /// The next number, below a bound.
+    fn below(&mut self, bound: usize) -> usize
+        requires { 0 < bound }
+        ensures { result < bound }
+    {
+        (self.number() >> 8) as usize % bound
+    }
+
+    /// The next number of 128 bits.
+    fn wide(&mut self) -> u128 {
+        let high = self.number() as u128;
+        high << 64 | self.number() as u128
+    }
+
+    /// The next command.
+    fn op(&mut self) -> FieldOp {
+        match self.below(8) {
+            0 | 1 => FieldOp::LoadLe,
+            2 | 3 => FieldOp::LoadBe,
+            4 => FieldOp::StoreLe(self.wide()),
+            5 => FieldOp::StoreBe(self.wide()),
+            6 => FieldOp::Plain(Op::Xor(Window { start: 3, len: 40 })),
+            _ => FieldOp::Plain(Op::CountOnes),
+        }
+    }
+}
+
+/// Steps in a window of that many bits: sub-ranges of any length, some of which reach past its end.
+pub(crate) fn draw_steps(
+    alloc: Global,
+    draws: &mut Draws,
+    len: usize,
+) -> Result<Vec<FieldStep>, AllocError>
+    requires { len < 2 ^ 32 }
+{
+    let mut steps = Vec::new(alloc);
+    for _ in 0..COUNT {
+        let from = draws.below(len + 1);
+        let to = from + draws.below(len + 2 - from);
+        let op = draws.op();
+        steps.push(FieldStep { from, to, op })?;
+    }
+    Ok(steps)
+}

@@ -1,0 +1,20 @@
+-- What crates above name of `bitvec_base`.
+pub use Rattle.bitvec_traits.specs.base.CountLaws
+pub use Rattle.bitvec_traits.specs.base.CountedLaws
+pub use Rattle.bitvec_traits.specs.base.Counts
+pub use Rattle.bitvec_traits.specs.base.FillLaws
+pub use Rattle.bitvec_traits.specs.base.FilledLaws
+pub use Rattle.bitvec_traits.specs.base.FoundLaws
+pub use Rattle.bitvec_traits.specs.base.LeadingLaws
+pub use Rattle.bitvec_traits.specs.base.Lists
+pub use Rattle.bitvec_traits.specs.base.Memory
+pub use Rattle.bitvec_traits.specs.base.MemoryLaws
+pub use Rattle.bitvec_traits.specs.base.Order
+pub use Rattle.bitvec_traits.specs.base.PlacesLaws
+pub use Rattle.bitvec_traits.specs.base.RotationLaws
+pub use Rattle.bitvec_traits.specs.base.SliceLaws
+pub use Rattle.bitvec_traits.specs.base.Window
+pub use Rattle.bitvec_traits.specs.base.WindowLaws
+pub use Rattle.bitvec_traits.specs.base.WriteLaws
+pub use Rattle.bitvec_traits.specs.base.WritesLaws
+pub use Rattle.bitvec_traits.specs.base.declared

@@ -1,0 +1,4 @@
+-- What crates above name of `bitvec_domain`.
+pub use Rattle.bitvec_domain.specs.Cuts
+pub use Rattle.bitvec_domain.specs.Domains
+pub use Rattle.bitvec_domain.specs.Parts

@@ -1,0 +1,6 @@
+-- What crates above name of `bitvec_lending`.
+pub use Rattle.bitvec_lending.specs.Arity
+pub use Rattle.bitvec_lending.specs.Kept
+pub use Rattle.bitvec_lending.specs.Refill
+pub use Rattle.bitvec_lending.specs.RefillLaws
+pub use Rattle.bitvec_lending.specs.Steps
