@@ -1,25 +1,80 @@
 #!/usr/bin/env bash
-# Functions that must not compile: each file here is put behind a module of a tests' crate for the time of a check,
-# which has to refuse it by the error that the file's first line names. Behind the error that line may name the crate,
-# the module and a flag of the check; without them they are `bitvec_iter_tests` and `known`, with no flag.
+# Functions that must not compile, of a caller who depends on `bitvec` alone. Each file here is a module whose first line
+# is the error that its function, named as the file, has to be refused by: `CALL-requires` by the prover, since what CALL
+# requires isn't given, any other by the compiler, which looks at borrows once names and types are well. All modules of a
+# kind are one crate, which is checked over the libraries as sources: nothing has to be proved before, and nothing is
+# left behind. `refused/check.sh` takes the compiler's, in seconds; `refused/check.sh all` the prover's too, in minutes,
+# since it proves what those functions call.
 set -euo pipefail
 cd "$(dirname "$0")/.."
-kept=$(mktemp)
-place=
-restore() {
-  if [ -n "$place" ]; then cp "$kept" "$place"; place=; fi
+top=$PWD
+all=${1:-}
+tools=$(dirname "$(readlink -f "$(command -v rt)")")
+kit=$(dirname "$tools")
+room=$(mktemp -d)
+trap 'rm -rf "$room"' EXIT
+
+# the libraries, lowest first, each with those that it names
+declare -A below seen
+while IFS=: read -r name names; do below[$name]=$names; done < <(grep -E '^[a-z_0-9]+:' crates.txt)
+libraries=(--extern "core=$kit/rlibs/core.rlib" --extern "std=$kit/rlibs/std.rlib" -L "dependency=$kit/rlibs")
+visit() {
+  local name on=core,std
+  [ -z "${seen[$1]:-}" ] || return 0
+  seen[$1]=1
+  if [ -z "${below[$1]+here}" ]; then
+    libraries+=(--extern "$1=$kit/rlibs/$1.rlib")
+    return 0
+  fi
+  for name in ${below[$1]}; do visit "$name"; on+=,$name; done
+  libraries+=(--lib "$1:$on=$top/crates/$1/src/lib.rt")
 }
-trap 'restore; rm -f "$kept"' EXIT
+visit bitvec
+
+# Checks the modules of one kind, the functions PATH.. alone: check KIND PATH..
+check() {
+  local kind=$1 only=() path
+  shift
+  for path in "$@"; do only+=(--only "$path"); done
+  cd "$room/$kind"
+  "$tools/rattle" check --crate-name refused src/lib.rt "${libraries[@]}" \
+    --antt-project "$kit/rattle/logic/antt-project.json" --logic-built "$kit/logic_built" --jobs 1 "${only[@]}" 2>&1
+}
+
+mkdir -p "$room"/{types,borrows,prover}/src
+asked=()
 for file in refused/*.txt; do
-  read -r want crate module flag < "$file"
-  crate=${crate:-bitvec_iter_tests}
+  read -r want < "$file"
   name=$(basename "$file" .txt)
-  source="crates/$crate/src/${module:-known}.rt"
-  cp "$source" "$kept"
-  place=$source
-  { cat "$kept"; tail -n +2 "$file"; } > "$place"
-  said=$(cd "crates/$crate" && rt check ${flag:+"$flag"} --only "$name" 2>&1) && { echo "$name: compiled"; exit 1; }
-  restore
-  grep -q -e "$want" <<< "$said" || { echo "$name: refused otherwise"; echo "$said"; exit 1; }
-  echo "$name: $(grep -o -e "$want[a-z0-9]*" <<< "$said" | head -1)"
+  case $want in
+    *-requires) [ -n "$all" ] || continue; kind=prover; asked+=("$name") ;;
+    borrow-*) kind=borrows ;;
+    *) kind=types ;;
+  esac
+  tail -n +2 "$file" > "$room/$kind/src/$name.rt"
+  echo "pub mod $name;" >> "$room/$kind/mods"
 done
+for kind in types borrows ${all:+prover}; do
+  { echo '#![tactic(auto)]'; cat "$room/$kind/mods"; } > "$room/$kind/src/lib.rt"
+done
+(check types '' > "$room/types/said") || true
+(check borrows '' > "$room/borrows/said") || true
+if [ -n "$all" ]; then (check prover "${asked[@]}" > "$room/prover/said") || true; fi
+
+failed=0
+for file in refused/*.txt; do
+  read -r want < "$file"
+  name=$(basename "$file" .txt)
+  case $want in
+    *-requires) [ -n "$all" ] || continue; said=$room/prover/said; line="^note: src/$name.rt:[0-9:]* it is not proved that what .*(\`$want\`)\|^fn refused::$name::$name: no proof: .*\`$want\`" ;;
+    *) said=$room/*/said; line="^src/$name.rt:[0-9:]* error\[$want\]" ;;
+  esac
+  if grep -qs -e "$line" $said; then
+    echo "$name: $want"
+  else
+    echo "$name: not refused by $want"
+    failed=1
+  fi
+done
+if [ "$failed" = 1 ]; then cat "$room"/*/said; fi
+exit "$failed"
