@@ -9,7 +9,7 @@ use Rattle.std.proofs.Math.Nat.{mul-le-mul_left}
 use Rattle.std.proofs.lemmas.Nat.{pow-add}
 use Rattle.bitvec_segments.specs.NumberLaws.{segment_number-below}
 use Rattle.bitvec_segments.specs.Segments.{be_number, in_first, le_number, loaded_be, loaded_le, segment_number, segments}
-use Rattle.bitvec_segments.specs.SegmentsLaws.{first_len, segments-first}
+use Rattle.bitvec_segments.specs.SegmentsLaws.{first_len, segments-first, segments-phase}
 
 -- ---- all bits are in segments
 
@@ -116,3 +116,12 @@ pub loaded-one : (high : Bool) (b s : ℕ) (list : List Bool) → 0 < b → s % 
 loaded-one high b s [] some inside = loaded_le-none high b s ∙ sym (loaded_be-none high b s)
 loaded-one high b s (bit ∷ list) some inside =
     loaded_le-one high b s (bit ∷ list) some (omega arith) inside ∙ sym (loaded_be-one high b s (bit ∷ list) some (omega arith) inside)
+
+-- the place of the first bit counts as far as its index in its element does
+pub loaded_le-phase : (high : Bool) (b s t : ℕ) (list : List Bool) → s % b ≡ t % b → loaded_le high b s list ≡ loaded_le high b t list
+unfolding loaded_le
+loaded_le-phase high b s t list same = ap (le_number high) (segments-phase b s t list same)
+
+pub loaded_be-phase : (high : Bool) (b s t : ℕ) (list : List Bool) → s % b ≡ t % b → loaded_be high b s list ≡ loaded_be high b t list
+unfolding loaded_be
+loaded_be-phase high b s t list same = ap (be_number high) (segments-phase b s t list same)

@@ -1,8 +1,9 @@
 -- How a list is cut into segments: its first one, and those of the rest.
-use Rattle.std.specs.Prelude.{◌≡◌, ℕ, ◌+◌, ◌-◌, ◌*◌, ◌/◌, ◌%◌, ◌<◌, ◌≤◌, min, ◌==◌, Bool, true, false, List, [], ◌∷◌, length, take, drop, refl, suc}
+use Rattle.std.specs.Prelude.{◌≡◌, ℕ, ◌+◌, ◌-◌, ◌*◌, ◌/◌, ◌%◌, ◌<◌, ◌≤◌, min, ◌==◌, if◌then◌else◌, Bool, true, false, List, [], ◌∷◌, length, take, drop, refl, suc}
 use Rattle.std.proofs.Common.{arith, sym, ◌∙◌, ap, ⊎_elim}
 use Rattle.std.proofs.lemmas.Bool.{cases_Bool, cases_lt, cond-true, cond-false, eq-eqb, ne_eqb}
 use Rattle.std.proofs.lemmas.Nat.{div-add-mod', mod_below, mod-mul-add}
+use Rattle.std.proofs.Math.Nat.{mod-add-mod}
 use Rattle.bitvec_segments.specs.Segments.{in_first, segments}
 
 -- the bits of a list that stand in the element in which it begins
@@ -61,3 +62,16 @@ segments-first b s (bit ∷ (second ∷ list)) k some more is =
     let one : k ≡ 1 = omega arith in
     rw one (segments-edge b s bit (second ∷ list) (next_edge b s some (omega arith))))
     (cases_lt (s % b + 1) b)
+
+-- ---- where a list begins in its first element is all that its cuts depend on
+
+next-phase : (b s t : ℕ) → s % b ≡ t % b → (s + 1) % b ≡ (t + 1) % b
+next-phase b s t same = sym (mod-add-mod s b 1) ∙ ap (λ (n : ℕ). (n + 1) % b) same ∙ mod-add-mod t b 1
+
+pub segments-phase : (b s t : ℕ) (list : List Bool) → s % b ≡ t % b → segments b s list ≡ segments b t list
+unfolding segments
+segments-phase b s t [] same = refl
+segments-phase b s t (bit ∷ list) same =
+    let next = next-phase b s t same in
+    ap (λ (n : ℕ). if n == 0 then (bit ∷ []) ∷ segments b (s + 1) list else in_first bit (segments b (s + 1) list)) next
+    ∙ ap (λ (l : List (List Bool)). if (t + 1) % b == 0 then (bit ∷ []) ∷ l else in_first bit l) (segments-phase b (s + 1) (t + 1) list next)

@@ -218,3 +218,49 @@ loaded_le-stores high b s list some = le-stored-most (length list) high b s list
 
 pub loaded_be-stores : (high : Bool) (b s : ℕ) (list : List Bool) → 0 < b → stored_be high b s (loaded_be high b s list) list ≡ list
 loaded_be-stores high b s list some = be-stored-most (length list) high b s list some (omega arith)
+
+-- ---- of the list that was there a store keeps the length alone
+
+le-same-most : (n : ℕ) (high : Bool) (b s v : ℕ) (x y : List Bool) → 0 < b → length x ≡ length y → length x ≤ n → stored_le high b s v x ≡ stored_le high b s v y
+le-same-most n high b s v [] [] some long most = refl
+le-same-most n high b s v [] (bit ∷ y) some long most = absurd (omega arith)
+le-same-most n high b s v (bit ∷ x) [] some long most = absurd (omega arith)
+le-same-most zero high b s v (bit ∷ x) (other ∷ y) some long most = absurd (omega arith)
+le-same-most (suc n) high b s v (bit ∷ x) (other ∷ y) some long most =
+    let k : ℕ = first_len b s (length (bit ∷ x)) in
+    let taken = first-some b s (length (bit ∷ x)) some (omega arith) in
+    let left = length-drop k (bit ∷ x) in
+    let also = length-drop k (other ∷ y) in
+    stored_le-first high b s v (bit ∷ x) k some (omega arith) refl
+    ∙ ap (λ (l : List Bool). segment_bits high k v ++ l) (le-same-most n high b (s + k) (v / 2 ^ k) (drop k (bit ∷ x)) (drop k (other ∷ y)) some (omega arith) (omega arith))
+    ∙ sym (stored_le-first high b s v (other ∷ y) k some (omega arith) (ap (first_len b s) long))
+
+be-same-most : (n : ℕ) (high : Bool) (b s v : ℕ) (x y : List Bool) → 0 < b → length x ≡ length y → length x ≤ n → stored_be high b s v x ≡ stored_be high b s v y
+be-same-most n high b s v [] [] some long most = refl
+be-same-most n high b s v [] (bit ∷ y) some long most = absurd (omega arith)
+be-same-most n high b s v (bit ∷ x) [] some long most = absurd (omega arith)
+be-same-most zero high b s v (bit ∷ x) (other ∷ y) some long most = absurd (omega arith)
+be-same-most (suc n) high b s v (bit ∷ x) (other ∷ y) some long most =
+    let k : ℕ = first_len b s (length (bit ∷ x)) in
+    let taken = first-some b s (length (bit ∷ x)) some (omega arith) in
+    let left = length-drop k (bit ∷ x) in
+    let also = length-drop k (other ∷ y) in
+    stored_be-first high b s v (bit ∷ x) k some (omega arith) refl
+    ∙ ap (λ (m : ℕ). segment_bits high k (v / 2 ^ (m - k)) ++ stored_be high b (s + k) v (drop k (bit ∷ x))) long
+    ∙ ap (λ (l : List Bool). segment_bits high k (v / 2 ^ (length (other ∷ y) - k)) ++ l) (be-same-most n high b (s + k) v (drop k (bit ∷ x)) (drop k (other ∷ y)) some (omega arith) (omega arith))
+    ∙ sym (stored_be-first high b s v (other ∷ y) k some (omega arith) (ap (first_len b s) long))
+
+-- so lists of one length with one number are one list
+pub loaded_le-determines : (high : Bool) (b s : ℕ) (x y : List Bool) → 0 < b → length x ≡ length y → loaded_le high b s x ≡ loaded_le high b s y → x ≡ y
+loaded_le-determines high b s x y some long same =
+    sym (loaded_le-stores high b s x some)
+    ∙ ap (λ (v : ℕ). stored_le high b s v x) same
+    ∙ le-same-most (length x) high b s (loaded_le high b s y) x y some long (omega arith)
+    ∙ loaded_le-stores high b s y some
+
+pub loaded_be-determines : (high : Bool) (b s : ℕ) (x y : List Bool) → 0 < b → length x ≡ length y → loaded_be high b s x ≡ loaded_be high b s y → x ≡ y
+loaded_be-determines high b s x y some long same =
+    sym (loaded_be-stores high b s x some)
+    ∙ ap (λ (v : ℕ). stored_be high b s v x) same
+    ∙ be-same-most (length x) high b s (loaded_be high b s y) x y some long (omega arith)
+    ∙ loaded_be-stores high b s y some
