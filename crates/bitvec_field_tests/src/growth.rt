@@ -4,6 +4,7 @@ use bitvec_field::cells::{Exclusive, Shared};
 use bitvec_run_fields::commands::{Reply, RunError, Window};
 use bitvec_run_fields::{FieldOp, FieldStep, run_fields};
 use std::alloc::Global;
+use std::mem::size_of;
 use test_streams::Refusing;
 
 const WINDOW: Window = Window { start: 0, len: 16 };
@@ -51,6 +52,7 @@ fn a_run_asks_once_and_changes_nothing_where_it_is_refused(rt: HostRuntime) {
                 );
                 assert_eq!(rt; cells, [0xB0, 0x0E]);
                 assert_eq!(rt; refusing.granted(), 1);
+                assert_eq!(rt; refusing.bytes(), 2 * size_of::<Reply>() as u64);
                 needed = needed.or(Some(granted));
             }
             Err(error) => {

@@ -1,5 +1,6 @@
 //! An owned sequence of bits.
 ghost use Rattle.std.specs.Prelude.{◌≡◌, ◌+◌, ◌*◌, ◌<◌, ◌≤◌, ◌==◌, length, map, vec_len};
+ghost use Rattle.std.specs.Borrow.{sem};
 ghost use Rattle.std.specs.Int.{div_ceil};
 ghost use Rattle.bitvec_edit.specs.base.Window.{max_bits};
 
@@ -28,7 +29,8 @@ pub struct BitVec<T: BitStore, O: BitOrder, A: Allocator> {
 impl<T: BitStore, O: BitOrder, A: Allocator> BitVec<T, O, A> {
     ghost use Rattle.bitvec_edit.specs.base.Memory.{HasWindow};
     ghost use Rattle.bitvec_edit.specs.slice.Seen.{shown};
-    ghost use Rattle.bitvec_edit.specs.slice.Views.{seen, seen_mut};
+    ghost use Rattle.bitvec_edit.specs.slice.Views.{name_of, seen, seen_mut};
+    ghost use Rattle.bitvec_owned.specs.Lending.{lends};
     ghost use Rattle.bitvec_owned.specs.Owned.{owned};
 
     pub(crate) fn from_parts(elements: Vec<T, A>, head: usize, len: usize) -> Self
@@ -54,11 +56,19 @@ impl<T: BitStore, O: BitOrder, A: Allocator> BitVec<T, O, A> {
 
     /// A view that writes the bits.
     pub fn as_mut_bitslice(&mut self) -> BitSliceMut<'_, T, O>
-        ensures { seen_mut result ≡ owned self.old }
+        ensures* writes_back { sem 𝓛 (lends T.row O.row A.row A.Allocator self.entry (name_of result)) }
+        ensures view { seen_mut result ≡ owned self.old }
     {
         let head = self.head;
         let len = self.len;
-        BitSliceMut::from_parts(self.elements.as_mut_slice(), head, len)
+        BitSliceMut::from_parts(self.elements_mut(), head, len)
+    }
+
+    fn elements_mut(&mut self) -> &mut [T]
+        ensures* writes_back { sem 𝓛 (lends T.row O.row A.row A.Allocator self.entry result.ghost_name) }
+        ensures elements { result.now ≡ (owned self.old).elements }
+    {
+        self.elements.as_mut_slice()
     }
 
     /// How many bits there are.

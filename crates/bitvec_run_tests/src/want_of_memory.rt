@@ -2,6 +2,7 @@
 use crate::slices::{FOUR_NIBBLES_REPLIES, answer, four_nibbles};
 use bitvec_plain::base::Lsb0;
 use bitvec_plain::commands::{RunError, Window};
+use std::mem::size_of_val;
 use test_streams::Refusing;
 
 const WINDOW: Window = Window { start: 0, len: 16 };
@@ -20,6 +21,7 @@ fn a_run_asks_once_and_changes_nothing_where_it_is_refused(rt: HostRuntime) {
             Ok(replies) => {
                 assert_eq!(rt; replies.as_slice(), FOUR_NIBBLES_REPLIES.as_slice());
                 assert_eq!(rt; cells, [0x21, 0x84]);
+                assert_eq!(rt; refusing.bytes(), size_of_val(&FOUR_NIBBLES_REPLIES) as u64);
                 needed = needed.or(Some(granted));
             }
             Err(error) => {

@@ -40,13 +40,14 @@ pub fn twice<T: BitStore, O: SliceOrder>(
     view.repeat(alloc, 2)
 }
 
-/// Flips a copy of the bits, and gives it with how many were 1: of the copy nothing is known then but
-/// that it is one.
+/// Flips a copy of the bits through a view of it, and gives it with how many were 1: of the copy it is known
+/// that it has as many bits as before.
 pub fn flipped_copy<T: BitStore, O: SliceOrder>(
     alloc: Global,
     view: BitSlice<'_, T, O>,
 ) -> Result<(BitVec<T, O, Global>, usize), AllocError>
-    ensures { IfOk result (λ given. given.1 ≡ ones_of (seen view.entry).bits) }
+    ensures ones { IfOk result (λ given. given.1 ≡ ones_of (seen view.entry).bits) }
+    ensures len { IfOk result (λ given. (owned given.0).window.len ≡ length (seen view.entry).bits) }
 {
     let mut copy = view.to_bitvec(alloc)?;
     let ones = {

@@ -19,9 +19,9 @@ const THREE_COPIES: [u8; 45] = [0x4B; 45];
 
 type Refused<'a> = BitVec<u8, Lsb0, &'a Refusing<Global>>;
 
-/// One request, and none refused.
-fn asked_once(refusing: &Refusing<Global>) -> bool {
-    refusing.granted() == 1 && refusing.granted_all()
+/// One request, for so many bytes, and none refused.
+fn asked_once(refusing: &Refusing<Global>, bytes: u64) -> bool {
+    refusing.granted() == 1 && refusing.bytes() == bytes && refusing.granted_all()
 }
 
 #[test]
@@ -34,7 +34,7 @@ fn a_copy_asks_once(rt: HostRuntime) {
         match view.to_bitvec(&refusing) {
             Ok(copy) => {
                 assert_eq!(rt; copy.as_raw_slice(), COPY.as_slice());
-                assert!(rt; asked_once(&refusing));
+                assert!(rt; asked_once(&refusing, 16));
                 needed = needed.or(Some(granted));
             }
             Err(AllocError) => assert!(rt; !refusing.granted_all()),
@@ -54,7 +54,7 @@ fn the_old_name_of_a_copy_asks_once(rt: HostRuntime) {
         match view.to_vec(&refusing) {
             Ok(copy) => {
                 assert_eq!(rt; copy.as_raw_slice(), COPY.as_slice());
-                assert!(rt; asked_once(&refusing));
+                assert!(rt; asked_once(&refusing, 16));
                 needed = needed.or(Some(granted));
             }
             Err(AllocError) => assert!(rt; !refusing.granted_all()),
@@ -74,7 +74,7 @@ fn a_repeat_asks_once(rt: HostRuntime) {
         match view.repeat(&refusing, 3) {
             Ok(copies) => {
                 assert_eq!(rt; copies.as_raw_slice(), THREE_COPIES.as_slice());
-                assert!(rt; asked_once(&refusing));
+                assert!(rt; asked_once(&refusing, 45));
                 needed = needed.or(Some(granted));
             }
             Err(error) => {
@@ -105,7 +105,7 @@ fn a_clone_asks_once(rt: HostRuntime) {
         match clone_of(&refusing) {
             Ok(holds) => {
                 assert!(rt; holds);
-                assert_eq!(rt; refusing.granted(), 2);
+                assert_eq!(rt; (refusing.granted(), refusing.bytes()), (2, 2 * 16));
                 needed = needed.or(Some(granted));
             }
             Err(AllocError) => assert_eq!(rt; refusing.refused(), 1),

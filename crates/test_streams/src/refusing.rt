@@ -2,17 +2,18 @@
 use std::alloc::{AllocError, Allocator};
 use std::cell::Cell;
 
-/// How many requests are still granted, how many were, and how many were refused.
+/// How many requests are still granted, how many were and of how many bytes, and how many were refused.
 #[derive(Drop)]
 struct Allowance {
     left: Cell<u64>,
     granted: Cell<u64>,
+    bytes: Cell<u64>,
     refused: Cell<u64>,
 }
 
 impl Allowance {
-    /// Spends one request. The answer is whether there was one left to spend.
-    fn spend(&self) -> bool {
+    /// Spends one request for so many bytes. The answer is whether there was one left to spend.
+    fn spend(&self, bytes: usize) -> bool {
         let left = self.left.get();
         if left == 0 {
             self.refused.set(self.refused.get().saturating_add(1));
@@ -20,6 +21,7 @@ impl Allowance {
         }
         self.left.set(left - 1);
         self.granted.set(self.granted.get().saturating_add(1));
+        self.bytes.set(self.bytes.get().saturating_add(bytes as u64));
         true
     }
 }
@@ -43,6 +45,7 @@ impl<B: Allocator> Refusing<B> {
         let allowance = Allowance {
             left: Cell::new(granted),
             granted: Cell::new(0),
+            bytes: Cell::new(0),
             refused: Cell::new(0),
         };
         Refusing { inner, allowance }
@@ -51,6 +54,12 @@ impl<B: Allocator> Refusing<B> {
     /// How many requests were granted so far. It stops at `u64::MAX`.
     pub fn granted(&self) -> u64 {
         self.allowance.granted.get()
+    }
+
+    /// Of how many bytes the requests were that were granted so far, all together. It stops at
+    /// `u64::MAX`.
+    pub fn bytes(&self) -> u64 {
+        self.allowance.bytes.get()
     }
 
     /// How many requests were refused so far. It stops at `u64::MAX`.
@@ -68,7 +77,7 @@ unsafe impl<B: Allocator> Allocator for Refusing<B> {
     ghost dealloc_token = { λ heap ty ptr. B.dealloc_token heap.inner ty ptr };
 
     fn allocate(&self, size: usize, align: usize) -> Result<*mut u8, AllocError> {
-        if !self.allowance.spend() {
+        if !self.allowance.spend(size) {
             return Err(AllocError);
         }
         self.inner.allocate(size, align)

@@ -38,6 +38,7 @@ fn requests_are_counted(rt: HostRuntime) -> Result<(), Fail> {
     bytes.push(9u8)?;
     assert!(rt; bytes.reserve(9).is_err());
     assert_eq!(rt; (refusing.granted(), refusing.refused()), (2, 1));
+    assert_eq!(rt; refusing.bytes(), 3 * 4 + 5);
     Ok(())
 }
 

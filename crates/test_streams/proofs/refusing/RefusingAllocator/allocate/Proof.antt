@@ -99,9 +99,9 @@ module _ (Z : Al) {M : Type 1} {𝓤 : Ura M} (𝓛 : Logic 𝓤) (at_mem : Memo
         split ! $ split ! $ move ! (2 ∷ []) $ fsplit ! $ fsplit ! $ move ! (1 ∷ []) $ unhide ! $ fsplit ! $ fsplit ! $ use1 𝓛 (‵ (seen Z κ₁ p h)) (id⊢ 𝓤 _) $ move ! (1 ∷ []) $ fsplit ! $ keep ! (0 ∷ 6 ∷ 2 ∷ 7 ∷ []) $
         enter ! 𝓣.C 𝓣.Λ (here Z) vs _ $ alloc_all ! (λ l. pass_all ! refl ((tt, tt), ((tt, record { fits = fn }), ((tt, record { fits = fa }), tt))) $
         sets ! (addr ! (through ! refl (fld ! refl (stop !)))) refl (tt, tt) $
-        use2 𝓛 (raw ((Spends 𝓛 at_mem run).pre (at_spend 𝓛 at_mem run κ₁ q₁ c w))) (Spends-goes 𝓛 at_mem run κ₁ q₁ c w) $
-        calls_at ! (fm_of 𝓤 H 𝓛.laws 𝓣) (Spends 𝓛 at_mem run) kn (at_spend 𝓛 at_mem run κ₁ q₁ c w) (and_then ! (get ! refl) (no_more !)) (λ u.
-        use1 𝓛 (later (some (λ (z : Bool). given (u ≡ vbool z) (‵ (flft κ₁ q₁))))) (Spends-gives 𝓛 at_mem run κ₁ q₁ c w u) $ await ! tt $ pick ! (λ z. learn ! (λ eu. lands_as ! eu refl (tt, tt) $
+        use2 𝓛 (raw ((Spends 𝓛 at_mem run).pre (at_spend 𝓛 at_mem run κ₁ q₁ c w n))) (Spends-goes 𝓛 at_mem run κ₁ q₁ c w n fn) $
+        calls_at ! (fm_of 𝓤 H 𝓛.laws 𝓣) (Spends 𝓛 at_mem run) kn (at_spend 𝓛 at_mem run κ₁ q₁ c w n) (and_then ! (get ! refl) (and_then ! (get ! refl) (no_more !))) (λ u.
+        use1 𝓛 (later (some (λ (z : Bool). given (u ≡ vbool z) (‵ (flft κ₁ q₁))))) (Spends-gives 𝓛 at_mem run κ₁ q₁ c w n u) $ await ! tt $ pick ! (λ z. learn ! (λ eu. lands_as ! eu refl (tt, tt) $
         sets ! (un ! (get ! refl) tt) refl (tt, tt) $ first ! $ branches ! (get ! refl)
         (λ spent. sets ! (agg ! (no_more !)) refl (tt, tt) $ sets ! (agg ! (and_then ! (lit ! tt) (and_then ! (get ! refl) (no_more !)))) refl (Answer-typed false 0 0) $
         returns_within ! Post refl (look_at ! 0 refl) $ free_all ! refl $ keep ! (0 ∷ 2 ∷ []) $ nothing ! $
