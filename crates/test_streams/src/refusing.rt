@@ -21,7 +21,8 @@ impl Allowance {
         }
         self.left.set(left - 1);
         self.granted.set(self.granted.get().saturating_add(1));
-        self.bytes.set(self.bytes.get().saturating_add(bytes as u64));
+        self.bytes
+            .set(self.bytes.get().saturating_add(bytes as u64));
         true
     }
 }
