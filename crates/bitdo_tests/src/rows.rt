@@ -71,10 +71,29 @@ fn each_width_has_each_order(rt: HostRuntime) -> Result<(), Fail> {
             "64 hilo 0000000000000000 - 0 8",
             "done\n= 0000000000000010\n",
         ),
+        (
+            "128 lsb0 00000000000000000000000000000000 - 0 8",
+            "done\n= 00000000000000000000000000000001\n",
+        ),
+        (
+            "128 msb0 00000000000000000000000000000000 - 0 8",
+            "done\n= 80000000000000000000000000000000\n",
+        ),
+        (
+            "128 hilo 00000000000000000000000000000000 - 0 8",
+            "done\n= 00000000000000000000000000000010\n",
+        ),
     ] {
         expect(&rt, args, "0 8 set 0 1", 0, printed)?;
     }
     Ok(())
+}
+
+#[test]
+fn an_element_of_two_words_is_filled_from_its_high_end(rt: HostRuntime) -> Result<(), Fail> {
+    let filled = "done\n= F0000000000000000000000000000000\n";
+    let args = "128 msb0 00000000000000000000000000000000 - 0 128";
+    expect(&rt, args, "0 4 fill 1", 0, filled)
 }
 
 #[test]

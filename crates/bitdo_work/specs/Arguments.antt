@@ -13,6 +13,7 @@ width_of word =
     else if bytes_eq word (codes "16") then Some 16
     else if bytes_eq word (codes "32") then Some 32
     else if bytes_eq word (codes "64") then Some 64
+    else if bytes_eq word (codes "128") then Some 128
     else None
 
 -- which bit of an element an index means, in an element of so many bits

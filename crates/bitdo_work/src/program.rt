@@ -152,6 +152,7 @@ fn run_given<A: Allocator, R: Read, W: Write>(
         "16" => run_ordered::<u16, _, _, _>(alloc, arguments, input, output),
         "32" => run_ordered::<u32, _, _, _>(alloc, arguments, input, output),
         "64" => run_ordered::<u64, _, _, _>(alloc, arguments, input, output),
+        "128" => run_ordered::<u128, _, _, _>(alloc, arguments, input, output),
         _ => report(output, &Fault::Arguments),
     }
 }

@@ -7,12 +7,15 @@ use Rattle.bitvec_owned.specs.edit.base.FillLaws.{flip-undoes}
 use Rattle.bitvec_owned.specs.edit.base.FilledLaws.{all-filled, any-filled, bits-zeros, equal-same, first-filled, first-of_filled, last-filled, same-equal}
 use Rattle.bitvec_owned.specs.edit.base.PlacesLaws.{first_place-absent, first_place-before, first_place-below, first_place-bit, last_place-absent, last_place-after, last_place-below, last_place-bit}
 use Rattle.bitvec_owned.specs.edit.base.RotationLaws.{rotated_left-undoes, rotated_right-undoes}
+use Rattle.bitvec_owned.specs.edit.base.WindowLaws.{get-window, length-window}
+use Rattle.bitvec_owned.specs.edit.base.WriteLaws.{get-slice_range, get-write_at_above, get-write_at_below, get-write_at_inside, length-slice_range, length-write_at, range-write_at, range-write_at_after, range-write_at_before}
 use Rattle.bitvec_owned.specs.edit.walk.CostLaws.{enough}
 use Rattle.bitvec_field.specs.IntegersLaws.{remainder-narrow}
 use Rattle.bitvec_iter.specs.JoinLaws.{joining as chunks}
 use Rattle.bitvec_iter.specs.Laws.{walked as walks}
-use Rattle.bitvec_field.specs.segments.LoadLaws.{loaded-one}
-use Rattle.bitvec_field.specs.segments.StoreLaws.{loaded_be-stores, loaded_le-stores, stored_be-loads, stored_le-loads}
+use Rattle.bitvec_field.specs.segments.LoadLaws.{loaded-one, loaded_be-phase, loaded_le-phase}
+use Rattle.bitvec_field.specs.segments.StoreLaws.{loaded_be-determines, loaded_be-stores, loaded_le-determines, loaded_le-stores, stored_be-loads, stored_le-loads}
+use Rattle.bitvec_pieces.specs.WritesLaws.{written-around, written-none, written-then}
 use Rattle.bitvec_owned.specs.edit.slice.SeenLaws.{length_bits}
 use Rattle.bitvec_owned.specs.edit.store.WidthLaws.{width_some}
 use Rattle.bitvec_owned.specs.edit.traits.FeedingLaws.{fed_same}
@@ -27,6 +30,12 @@ pub ruleset found = (lengths, first_place-below, first_place-bit, first_place-be
 
 -- after `set`: what `get` and `bits[i]` give at the index and at another
 pub ruleset written = (lengths, get_or-set_at, get_or-set_other, length-set)
+
+-- after `edit_with`: what stands before the part, in it and behind it
+pub ruleset edited = (lengths, get-window, get-slice_range, get-write_at_below, get-write_at_inside, get-write_at_above, length-slice_range, length-window, length-write_at, range-write_at, range-write_at_before, range-write_at_after)
+
+-- edits of one view, one after the other, as one edit
+pub ruleset composed = (written-none, written-then, written-around)
 
 -- `count_ones` and `count_zeros`: both make the length; after `set`; after calls that move bits or flip them
 pub ruleset counted = (lengths, ones_and_zeros, ones-more, ones-fewer, zeros-more, zeros-fewer, ones-flipped, zeros-flipped)
@@ -55,8 +64,11 @@ pub ruleset joining = (chunks)
 pub ruleset undone = (lengths, reverse-reverse, flip-undoes, rotated_left-undoes, rotated_right-undoes)
 
 -- after `store` and `load`, in either order: the number is that which was stored, the bits are those that were loaded, and
--- in one element both ends give one number
-pub ruleset numbered = (lengths, width_some, stored_le-loads, stored_be-loads, loaded_le-stores, loaded_be-stores, loaded-one, remainder-narrow)
+-- in one element both ends give one number; the place of the first bit counts as far as its index in its element does
+pub ruleset numbered = (lengths, loaded_le-phase, loaded_be-phase, width_some, stored_le-loads, stored_be-loads, loaded_le-stores, loaded_be-stores, loaded-one, remainder-narrow)
+
+-- lists of one length with one number are one list
+pub ruleset determined = (lengths, width_some, loaded_le-determines, loaded_be-determines)
 
 -- arrays of zeros
 pub ruleset zeroed = (bits-zeros)

@@ -4,10 +4,14 @@ pub mod Laws
 pub mod Operators
 pub mod Types
 pub use Rattle.bitvec_owned.specs.edit.base.Counts
+pub use Rattle.bitvec_owned.specs.edit.base.FilledLaws
 pub use Rattle.bitvec_owned.specs.edit.base.Lists
 pub use Rattle.bitvec_owned.specs.edit.base.Memory
 pub use Rattle.bitvec_owned.specs.edit.base.Order
+pub use Rattle.bitvec_owned.specs.edit.base.PlacesLaws
 pub use Rattle.bitvec_owned.specs.edit.base.Window
+pub use Rattle.bitvec_owned.specs.edit.base.WindowLaws
+pub use Rattle.bitvec_owned.specs.edit.base.WriteLaws
 pub use Rattle.bitvec_pieces.specs.cutting.Cutting
 pub use Rattle.bitvec_pieces.specs.cutting.Walks as PieceWalks
 pub use Rattle.bitvec_owned.specs.edit.domain.Cuts
@@ -32,6 +36,7 @@ pub use Rattle.bitvec_owned.specs.Writes as OwnedWrites
 pub use Rattle.bitvec_pieces.specs.LeftLaws
 pub use Rattle.bitvec_pieces.specs.Pieces
 pub use Rattle.bitvec_pieces.specs.Shown
+pub use Rattle.bitvec_pieces.specs.WritesLaws
 pub use Rattle.bitvec_owned.specs.edit.reference.References
 pub use Rattle.bitvec_run_halves.specs.commands.Fold
 pub use Rattle.bitvec_run_halves.specs.commands.Runs
@@ -43,6 +48,7 @@ pub use Rattle.bitvec_field.specs.segments.StoreLaws
 pub use Rattle.bitvec_owned.specs.edit.slice.Indices
 pub use Rattle.bitvec_owned.specs.edit.slice.KeptLaws
 pub use Rattle.bitvec_owned.specs.edit.slice.Seen
+pub use Rattle.bitvec_owned.specs.edit.slice.SeenLaws
 pub use Rattle.bitvec_owned.specs.edit.slice.Touched
 pub use Rattle.bitvec_owned.specs.edit.slice.Views
 pub use Rattle.bitvec_owned.specs.edit.slice.Walks as BitWalks

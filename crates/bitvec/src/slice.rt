@@ -1,14 +1,14 @@
 //! Views of bits, their indices, their walks and pieces, and the traits of their questions and edits.
 pub use bitvec_iter::{
     Chunks, ChunksExact, Cutting, ExactCutting, InChunks, InChunksFromEnd, InExactChunks,
-    InExactChunksFromEnd, InWindows, IterCalls, Pieces, RChunks, RChunksExact, Windows,
+    InExactChunksFromEnd, InWindows, IterCalls, PieceWalk, Pieces, RChunks, RChunksExact, Windows,
 };
 pub use bitvec_lent::{
     ChunksExactMut, ChunksMut, HalvesMut, IterMut, PieceCallsMut, PiecesMut, RChunksExactMut,
     RChunksMut,
 };
 pub use bitvec_ones::query::BitQueries;
-pub use bitvec_ones::{IterOnes, IterZeros, Ones, OnesCalls, Places, Wanted, Zeros};
+pub use bitvec_ones::{IndexWalk, IterOnes, IterZeros, Ones, OnesCalls, Places, Wanted, Zeros};
 pub use bitvec_owned::ToBitVec;
 pub use bitvec_owned::edit::BitEdits;
 pub use bitvec_owned::edit::slice::{
@@ -17,8 +17,8 @@ pub use bitvec_owned::edit::slice::{
 };
 pub use bitvec_pieces::EditParts;
 pub use bitvec_split::{
-    Forward, Inclusive, RSplit, RSplitMut, RSplitN, RSplitNMut, Reversed, Split, SplitCalls,
-    SplitCallsMut, SplitInclusive, SplitInclusiveMut, SplitMut, SplitN, SplitNMut, Splits,
-    SplitsMut, SplitsN, SplitsNMut, Way,
+    CountedSplitWalk, Forward, Inclusive, RSplit, RSplitMut, RSplitN, RSplitNMut, Reversed, Split,
+    SplitCalls, SplitCallsMut, SplitInclusive, SplitInclusiveMut, SplitMut, SplitN, SplitNMut,
+    SplitWalk, Splits, SplitsMut, SplitsN, SplitsNMut, Way,
 };
 pub use bitvec_text::{Binary, LowerHex, Octal, UpperHex};

@@ -1,6 +1,6 @@
 -- The first and the last 1 of an element: bit by bit, and by a count of its zeros.
 use Rattle.std.specs.Prelude.{◌≡◌, ◌≢◌, ℕ, ◌+◌, ◌-◌, ◌*◌, ◌/◌, ◌%◌, ◌^◌, ◌<◌, ◌≤◌, ◌==◌, zero, suc, true, false, slice_range, slice_index_or, bit_and, Some, None, refl}
-use Rattle.std.specs.Int.{bit_at, w8, w16, w32, w64}
+use Rattle.std.specs.Int.{bit_at, w8, w16, w32, w64, w128}
 use Rattle.std.specs.Int.Count.{count_leading_zeros, count_trailing_zeros, leading_of_zero, trailing_of_zero}
 use Rattle.std.proofs.Common.{arith, sym, ◌∙◌, ap, ⊎_elim}
 use Rattle.std.proofs.Math.Nat.{pow-suc}
@@ -94,7 +94,7 @@ abbrev IsLowest : ℕ → ℕ → ℕ → Type 0
 IsLowest b n k = (k < b) × (bit_at n k ≡ 1) × ((i : ℕ) → i < k → bit_at n i ≡ 0)
 
 lowest_one : (b : ℕ) → IsWidth b → (n : ℕ) → 0 < n → n < 2 ^ b → IsLowest b n (count_trailing_zeros b n)
-lowest_one = at_each_width (λ (b : ℕ). (n : ℕ) → 0 < n → n < 2 ^ b → IsLowest b n (count_trailing_zeros b n)) (bit_at-trailing_zeros w8) (bit_at-trailing_zeros w16) (bit_at-trailing_zeros w32) (bit_at-trailing_zeros w64)
+lowest_one = at_each_width (λ (b : ℕ). (n : ℕ) → 0 < n → n < 2 ^ b → IsLowest b n (count_trailing_zeros b n)) (bit_at-trailing_zeros w8) (bit_at-trailing_zeros w16) (bit_at-trailing_zeros w32) (bit_at-trailing_zeros w64) (bit_at-trailing_zeros w128)
 
 all_clear : (b n i : ℕ) → n ≡ 0 → i < b → slice_index_or (element_bits b (λ b i. i) n) i false ≢ true
 all_clear b n i none below = clear_apart b (λ b i. i) n i below (ap (λ (m : ℕ). bit_at m i) none ∙ bit_at-zero i)

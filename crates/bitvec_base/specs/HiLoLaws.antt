@@ -39,7 +39,7 @@ all_flipped b (suc n) = is_flipped b n && all_flipped b n
 flipped : (b : ℕ) → IsWidth b → (i : ℕ) → i < b → IsFlipped b i
 flipped b w =
     (Decides-below_and (is_flipped b) (IsFlipped b) (all_flipped b) (is_flipped-Decides b) refl (λ _. refl) b).0
-    (at_each_width (λ n. all_flipped n n ≡ true) refl refl refl refl b w)
+    (at_each_width (λ n. all_flipped n n ≡ true) refl refl refl refl refl b w)
 
 pub flip_below : (b : ℕ) → IsWidth b → (i : ℕ) → i < b → bit_xor i 4 < b
 flip_below b w i h = (flipped b w i h).0

@@ -13,4 +13,5 @@ striding_permutes b w =
     (record { below = λ i h. omega arith; apart = λ i j h k e. omega arith })
     (record { below = λ i h. omega arith; apart = λ i j h k e. omega arith })
     (record { below = λ i h. omega arith; apart = λ i j h k e. omega arith })
+    (record { below = λ i h. omega arith; apart = λ i j h k e. omega arith })
     b w

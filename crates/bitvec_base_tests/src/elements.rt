@@ -85,6 +85,7 @@ fn the_constants_are_those_of_the_width(rt: HostRuntime) {
     has_constants::<u16, _>(&rt, 16, 0xFFFF);
     has_constants::<u32, _>(&rt, 32, 0xFFFF_FFFF);
     has_constants::<u64, _>(&rt, 64, 0xFFFF_FFFF_FFFF_FFFF);
+    has_constants::<u128, _>(&rt, 128, u128::MAX);
     has_constants::<usize, _>(&rt, 64, 0xFFFF_FFFF_FFFF_FFFF);
 }
 
@@ -222,5 +223,56 @@ fn wider_elements_are_operated_on(rt: HostRuntime) {
             leading: 0,
             trailing: 0,
         }],
+    );
+}
+
+#[test]
+fn two_words_are_operated_on_as_one_element(rt: HostRuntime) {
+    give::<u128, _>(
+        &rt,
+        &[
+            Row {
+                left: 0x0001_8000_0000_0000_0000,
+                right: 0x0100_0000_0000_0003_0000_0000_0000_0000,
+                by: 64,
+                and: 0x0001_0000_0000_0000_0000,
+                or: 0x0100_0000_0000_0003_8000_0000_0000_0000,
+                xor: 0x0100_0000_0000_0002_8000_0000_0000_0000,
+                not: 0xFFFF_FFFF_FFFF_FFFE_7FFF_FFFF_FFFF_FFFF,
+                shl: 0x8000_0000_0000_0000_0000_0000_0000_0000,
+                shr: 1,
+                ones: 2,
+                leading: 63,
+                trailing: 63,
+            },
+            Row {
+                left: 0xF000_0000_0000_0040_0000_0000_0000_0200,
+                right: 0x0FFF_FFFF_FFFF_FFFF_FFFF_FFFF_FFFF_FFFF,
+                by: 127,
+                and: 0x0040_0000_0000_0000_0200,
+                or: 0xFFFF_FFFF_FFFF_FFFF_FFFF_FFFF_FFFF_FFFF,
+                xor: 0xFFFF_FFFF_FFFF_FFBF_FFFF_FFFF_FFFF_FDFF,
+                not: 0x0FFF_FFFF_FFFF_FFBF_FFFF_FFFF_FFFF_FDFF,
+                shl: 0,
+                shr: 1,
+                ones: 6,
+                leading: 0,
+                trailing: 9,
+            },
+            Row {
+                left: 0,
+                right: 0xFFFF_FFFF_FFFF_FFFF_FFFF_FFFF_FFFF_FFFF,
+                by: 65,
+                and: 0,
+                or: 0xFFFF_FFFF_FFFF_FFFF_FFFF_FFFF_FFFF_FFFF,
+                xor: 0xFFFF_FFFF_FFFF_FFFF_FFFF_FFFF_FFFF_FFFF,
+                not: 0xFFFF_FFFF_FFFF_FFFF_FFFF_FFFF_FFFF_FFFF,
+                shl: 0,
+                shr: 0,
+                ones: 0,
+                leading: 128,
+                trailing: 128,
+            },
+        ],
     );
 }

@@ -19,6 +19,15 @@ pub data Pieces (T : Type 0) : Type 0 where
   enclave : SeenPart → Pieces T
   region : Option SeenPart → List T → Option SeenPart → Pieces T
 
+-- the one part, or the three pieces of a region, where the domain is that
+abbrev pub enclave_of : {T : Type 0} → Pieces T → Option SeenPart
+enclave_of (enclave part) = Some part
+enclave_of (region head body tail) = None
+
+abbrev pub region_of : {T : Type 0} → Pieces T → Option (Option SeenPart × (List T × Option SeenPart))
+region_of (enclave part) = None
+region_of (region head body tail) = Some (head, (body, tail))
+
 module _ {T O : Type 0} {t : Store T} {o : Order O} where
   abbrev pub seen_part_if : Option (PartialElement T O t o) → Option SeenPart
   seen_part_if None = None

@@ -1,8 +1,9 @@
 //! The elements that a view touches.
 ghost use Rattle.std.specs.Prelude.{◌≡◌, IfSome, length, map};
+ghost use Rattle.std.specs.Option.{option_map};
 ghost use Rattle.bitvec_base.specs.Memory.{HasWindow};
 ghost use Rattle.bitvec_domain.specs.Cuts.{IsPartWithin, cut_of};
-ghost use Rattle.bitvec_domain.specs.Domains.{part_in, part_in_if, pieces_in, pieces_of, seen_part_if};
+ghost use Rattle.bitvec_domain.specs.Domains.{enclave_of, part_in, part_in_if, pieces_in, pieces_of, region_of, seen_part_if};
 ghost use Rattle.bitvec_domain.specs.Parts.{seen_part};
 
 use crate::PartialElement;
@@ -24,6 +25,42 @@ pub enum Domain<'a, T: BitStore, O: BitOrder> {
         /// The bits of the last element, if the view ends inside it.
         tail: Option<PartialElement<'a, T, O>>,
     },
+}
+
+/// What a [`Domain`] has where it isn't within one element: the part before the whole elements, if there is
+/// one, these, and the part behind them.
+pub type Region<'a, T, O> = (
+    Option<PartialElement<'a, T, O>>,
+    &'a [T],
+    Option<PartialElement<'a, T, O>>,
+);
+
+impl<'a, T: BitStore, O: BitOrder> Domain<'a, T, O> {
+    /// The part of an element, where the view touches neither edge of the one element that it lies in:
+    /// `enclave` of bitvec.
+    pub fn enclave(self) -> Option<PartialElement<'a, T, O>>
+        ensures { seen_part_if result ≡ enclave_of (pieces_of self.entry) }
+    {
+        match self {
+            Domain::Enclave(part) => Some(part),
+            Domain::Region {
+                head: _,
+                body: _,
+                tail: _,
+            } => None,
+        }
+    }
+
+    /// The part before the whole elements, these, and the part behind them, where the view isn't within one
+    /// element: `region` of bitvec.
+    pub fn region(self) -> Option<Region<'a, T, O>>
+        ensures { option_map (λ given. (seen_part_if given.0, (given.1.now, seen_part_if given.2))) result ≡ region_of (pieces_of self.entry) }
+    {
+        match self {
+            Domain::Enclave(_) => None,
+            Domain::Region { head, body, tail } => Some((head, body, tail)),
+        }
+    }
 }
 
 /// The elements that a window touches. Condition: the memory has at most `MAX_BITS` bits, and the

@@ -1,8 +1,9 @@
 //! The elements that a writable view touches.
 ghost use Rattle.std.specs.Prelude.{◌≡◌, ℕ, ◌+◌, ◌-◌, ◌≤◌, IfSome, length, map};
+ghost use Rattle.std.specs.Option.{option_map};
 ghost use Rattle.bitvec_base.specs.Memory.{HasWindow};
 ghost use Rattle.bitvec_domain.specs.Cuts.{IsHeadWithin, IsPartWithin, IsTailWithin, cut_of, part_from, part_if_from};
-ghost use Rattle.bitvec_domain.specs.Domains.{part_in, part_in_if, pieces_in, pieces_of_mut, seen_part_if_mut};
+ghost use Rattle.bitvec_domain.specs.Domains.{enclave_of, part_in, part_in_if, pieces_in, pieces_of_mut, region_of, seen_part_if_mut};
 ghost use Rattle.bitvec_domain.specs.Parts.{seen_part_mut};
 ghost use Rattle.bitvec_domain.specs.declared.cut.Cut.TheVariants.{Across};
 
@@ -26,6 +27,42 @@ pub enum DomainMut<'a, T: BitStore, O: BitOrder> {
         /// The bits of the last element, if the view ends inside it.
         tail: Option<PartialElementMut<'a, T, O>>,
     },
+}
+
+/// What a [`DomainMut`] has where it isn't within one element: the part before the whole elements, if there is
+/// one, these, and the part behind them.
+pub type RegionMut<'a, T, O> = (
+    Option<PartialElementMut<'a, T, O>>,
+    &'a mut [T],
+    Option<PartialElementMut<'a, T, O>>,
+);
+
+impl<'a, T: BitStore, O: BitOrder> DomainMut<'a, T, O> {
+    /// The part of an element, where the view touches neither edge of the one element that it lies in:
+    /// `enclave` of bitvec.
+    pub fn enclave(self) -> Option<PartialElementMut<'a, T, O>>
+        ensures { seen_part_if_mut result ≡ enclave_of (pieces_of_mut self.entry) }
+    {
+        match self {
+            DomainMut::Enclave(part) => Some(part),
+            DomainMut::Region {
+                head: _,
+                body: _,
+                tail: _,
+            } => None,
+        }
+    }
+
+    /// The part before the whole elements, these, and the part behind them, where the view isn't within one
+    /// element: `region` of bitvec.
+    pub fn region(self) -> Option<RegionMut<'a, T, O>>
+        ensures { option_map (λ given. (seen_part_if_mut given.0, (given.1.now, seen_part_if_mut given.2))) result ≡ region_of (pieces_of_mut self.entry) }
+    {
+        match self {
+            DomainMut::Enclave(_) => None,
+            DomainMut::Region { head, body, tail } => Some((head, body, tail)),
+        }
+    }
 }
 
 /// The elements that a window touches. Condition: the memory has at most `MAX_BITS` bits, and the

@@ -8,7 +8,7 @@ mod part;
 mod part_mut;
 
 pub use cut::Cut;
-pub use domain::{Domain, domain_of};
-pub use domain_mut::{DomainMut, domain_mut_of};
+pub use domain::{Domain, Region, domain_of};
+pub use domain_mut::{DomainMut, RegionMut, domain_mut_of};
 pub use part::PartialElement;
 pub use part_mut::PartialElementMut;

@@ -15,7 +15,7 @@ use Rattle.bitvec_copy.specs.walk.ElementLaws.{single_mask}
 use Rattle.bitvec_copy.specs.base.Parts.{first_part_of, part_window}
 use Rattle.bitvec_copy.specs.base.Window.{window_of, window_range, write_at}
 use Rattle.bitvec_copy.specs.store.Width.{IsWidth}
-use Rattle.bitvec_copy.specs.store.WidthLaws.{at_each_width, width_most, width_some}
+use Rattle.bitvec_copy.specs.store.WidthLaws.{at_each_width, width_some}
 use Rattle.bitvec_copy.specs.base.WritesLaws.{length-list}
 use Rattle.bitvec_exchange.specs.WordLaws.{padded-all, word_whole}
 use Rattle.bitvec_copy.specs.walk.WalkLaws.{Walked-start, first-len, first-place}
@@ -26,15 +26,17 @@ use Rattle.bitvec_copy.specs.words.FieldWalkLaws.{HasPart-first}
 use Rattle.bitvec_copy.specs.words.TouchedLaws.{head_edge, touched-full, touched-head}
 use Rattle.bitvec_copy.specs.words.WholeLaws.{HasWindow-part, behind-mod}
 use Rattle.bitvec_copy.specs.walk.Cost.{touched}
-use Rattle.bitvec_engine.specs.Front.{IsFront}
+use Rattle.bitvec_engine.specs.Front.{IsFront, front_window}
 
 -- the same places, told in another way
 pub list-same : (b : ℕ) (at : ℕ → ℕ → ℕ) (xs : List ℕ) (window other : Window) → window.start ≡ other.start → window.len ≡ other.len → list_in b at xs window ≡ list_in b at xs other
 unfolding window_of
 list-same b at xs window other start len = rw (start, len) refl
 
-pub touched-word : (b s : ℕ) → IsWidth b → s % b ≡ 0 → touched b s 64 ≡ 64 / b
-touched-word b s width edge = touched-full b s 64 (width_some b width) edge (at_each_width (λ n. 64 % n ≡ 0) refl refl refl refl b width)
+pub touched-word : (b s : ℕ) → IsWidth b → b ≤ 64 → s % b ≡ 0 → touched b s 64 ≡ 64 / b
+touched-word b s width narrow edge =
+    touched-full b s 64 (width_some b width) edge
+    (at_each_width (λ n. n ≤ 64 → 64 % n ≡ 0) (λ _. refl) (λ _. refl) (λ _. refl) (λ _. refl) (λ few. absurd (omega arith)) b width narrow)
 
 pub touched-part : (b : ℕ) (window : Window) → IsWidth b → 0 < window.len → touched b window.start ((first_part_of b window).to - (first_part_of b window).from) ≡ 1
 touched-part b window width some =
@@ -44,9 +46,9 @@ touched-part b window width some =
 
 module _ (b : ℕ) (at : ℕ → ℕ → ℕ) (xs : List ℕ) (window : Window) (word : ℕ) (width : IsWidth b) where
   -- the elements of a word
-  pub word-front : 64 ≤ window.len → window.start % b ≡ 0 → HasWindow b xs window → element_bits 64 at word ≡ list_in b at xs (elements_window b (window.start / b) (64 / b)) → IsFront b at xs window word 64
-  word-front long edge has bits =
-      let whole = word_whole b width in
+  pub word-front : b ≤ 64 → 64 ≤ window.len → window.start % b ≡ 0 → HasWindow b xs window → element_bits 64 at word ≡ list_in b at xs (elements_window b (window.start / b) (64 / b)) → IsFront b at xs window word 64
+  word-front narrow long edge has bits =
+      let whole = word_whole b width narrow in
       let place = div-add-mod' window.start b in
       let elements = elements_window b (window.start / b) (64 / b) in
       let len = length-list b at xs elements (HasWindow-part b xs window elements has (omega arith) (omega arith)) in
@@ -54,27 +56,29 @@ module _ (b : ℕ) (at : ℕ → ℕ → ℕ) (xs : List ℕ) (window : Window) 
         some = omega arith;
         most = omega arith;
         within = long;
-        edge = λ more. ap (λ (n : ℕ). (window.start + n) % b) (sym whole) ∙ behind-mod b window.start (64 / b) (width_some b width) ∙ edge;
+        edge = λ few more. ap (λ (n : ℕ). (window.start + n) % b) (sym whole) ∙ behind-mod b window.start (64 / b) (width_some b width) ∙ edge;
         bits = bits ∙ sym (padded-all 64 _ (len ∙ whole)) ∙ ap (padded 64) (list-same b at xs elements (window_range window 0 64) (omega arith) (omega arith));
       }
 
-  -- the part of the first element
-  pub part-front : 0 < window.len → HasWindow b xs window → (v : ℕ) → v ≡ slice_index xs (first_part_of b window).element
-      → element_bits 64 at word ≡ padded 64 (slice_range (element_bits b at v) (first_part_of b window).from (first_part_of b window).to)
-      → IsFront b at xs window word ((first_part_of b window).to - (first_part_of b window).from)
+  -- the part of the first element, up to 64 bits of it
+  pub part-front : 0 < window.len → HasWindow b xs window → (v : ℕ) → let part = first_part_of b (front_window window) in v ≡ slice_index xs part.element
+      → element_bits 64 at word ≡ padded 64 (slice_range (element_bits b at v) part.from part.to) → IsFront b at xs window word (part.to - part.from)
   part-front some has v loaded bits =
       let wide = width_some b width in
-      let most = width_most b width in
-      let part = first_part_of b window in
-      let len = first-len b window wide some in
-      let place = first-place b window in
+      let front = front_window window in
+      let part = first_part_of b front in
+      let len = first-len b front wide (omega arith) in
+      let place = first-place b front in
+      let start = has.within.start in
+      let end = has.within.len in
+      let has_front : HasWindow b xs front = record { fits = has.fits; within = record { start = start; len = omega arith } } in
       let same = list-same b at xs (part_window b part) (window_range window 0 (part.to - part.from)) (omega arith) (omega arith) in
-      let holds = list-part b at xs part (HasPart-first b xs window window wide some has (Walked-start b window)) in
+      let holds = list-part b at xs part (HasPart-first b xs front front wide (omega arith) has_front (Walked-start b front)) in
       record {
         some = omega arith;
         most = omega arith;
         within = omega arith;
-        edge = λ more. head_edge b window.start (part.to - part.from) window.len wide (omega arith) (omega arith);
+        edge = λ narrow more. head_edge b window.start (part.to - part.from) window.len wide (omega arith) (omega arith);
         bits = bits ∙ ap (λ (n : ℕ). padded 64 (slice_range (element_bits b at n) part.from part.to)) loaded ∙ ap (padded 64) (sym holds ∙ same);
       }
 
@@ -120,7 +124,7 @@ none_padded : (b : ℕ) (list : List Bool) → length list < b → padded b list
 unfolding padded
 none_padded b list below = same_lists _ _ (search (rules, places)) (λ k d inside. grind (arith, places))
 
-module _ (b c : ℕ) (at to : ℕ → ℕ → ℕ) (v word from i n : ℕ) (order : from ≤ i) (below : i < b) (fits : b ≤ c) (is : n ≡ bit_and v (2 ^ at b i)) (held : element_bits c to word ≡ padded c (slice_range (element_bits b at v) from i)) where
+module _ (b c : ℕ) (at to : ℕ → ℕ → ℕ) (v word from i n : ℕ) (order : from ≤ i) (below : i < b) (fits : i < from + c) (is : n ≡ bit_and v (2 ^ at b i)) (held : element_bits c to word ≡ padded c (slice_range (element_bits b at v) from i)) where
   long : length (slice_range (element_bits b at v) from i) ≡ i - from
   long = length-part b at v from i (omega arith)
 

@@ -106,18 +106,19 @@ length-two at v w =
 
 -- the elements of a block
 pub block_whole : (b : ℕ) → IsWidth b → 256 / b * b ≡ 256
-block_whole b w = at_each_width (λ n. 256 / n * n ≡ 256) refl refl refl refl b w
+block_whole b w = at_each_width (λ n. 256 / n * n ≡ 256) refl refl refl refl refl b w
 
-pub block_words : (b : ℕ) → IsWidth b → 256 / b ≡ 4 * (64 / b)
-block_words b w = at_each_width (λ n. 256 / n ≡ 4 * (64 / n)) refl refl refl refl b w
+-- are those of four words, if they are not wider than a word
+pub block_words : (b : ℕ) → IsWidth b → b ≤ 64 → 256 / b ≡ 4 * (64 / b)
+block_words b w = at_each_width (λ n. n ≤ 64 → 256 / n ≡ 4 * (64 / n)) (λ _. refl) (λ _. refl) (λ _. refl) (λ _. refl) (λ narrow. absurd (omega arith)) b w
 
-pub list-block : (b : ℕ) (at : ℕ → ℕ → ℕ) (xs : List ℕ) (first : ℕ) → IsWidth b → HasWindow b xs (elements_window b first (256 / b))
+pub list-block : (b : ℕ) (at : ℕ → ℕ → ℕ) (xs : List ℕ) (first : ℕ) → IsWidth b → b ≤ 64 → HasWindow b xs (elements_window b first (256 / b))
     → (list_in b at xs (elements_window b first (64 / b)) ++ list_in b at xs (elements_window b (first + 64 / b) (64 / b)))
     ++ (list_in b at xs (elements_window b (first + 2 * (64 / b)) (64 / b)) ++ list_in b at xs (elements_window b (first + 3 * (64 / b)) (64 / b)))
     ≡ list_in b at xs (elements_window b first (256 / b))
-list-block b at xs first width has =
+list-block b at xs first width narrow has =
     let e : ℕ = 64 / b in
-    let all = block_words b width in
+    let all = block_words b width narrow in
     let join = list-elements_join b at xs first (256 / b) has in
     let high : ℕ = first + 2 * e in
     rw (join first (first + e) e e (2 * e) (omega arith) (omega arith) refl (omega arith), join high (first + 3 * e) e e (2 * e) (omega arith) (omega arith) (omega arith) (omega arith))

@@ -1,8 +1,8 @@
 //! The first bits of a window as a word.
-ghost use Rattle.std.specs.Prelude.{◌≡◌, ◌<◌, ◌≤◌, slice_range};
+ghost use Rattle.std.specs.Prelude.{◌≡◌, ◌+◌, ◌<◌, ◌≤◌, slice_range};
 ghost use Rattle.bitvec_copy.specs.base.Memory.{HasWindow, element_bits, list_in};
 ghost use Rattle.bitvec_copy.specs.cells.Access.{OnlyReads};
-ghost use Rattle.bitvec_engine.specs.Front.{IsFront};
+ghost use Rattle.bitvec_engine.specs.Front.{IsFront, front_window};
 ghost use Rattle.bitvec_copy.specs.walk.Cost.{touched};
 ghost use Rattle.bitvec_copy.specs.words.Field.{padded};
 
@@ -13,9 +13,9 @@ use bitvec_copy::words::{WORD_BITS, WordOrder, moved};
 use bitvec_exchange::load_elements;
 
 /// The first bits of a window as the first bits of a word, and how many they are: 64 where it begins
-/// with an element and has so many, else those of the first element. Condition: the window isn't
-/// empty, and lies in a memory of at most `MAX_BITS` bits. It loads each element that these bits
-/// touch once.
+/// with an element that isn't wider and has so many, else those of the first element, up to 64.
+/// Condition: the window isn't empty, and lies in a memory of at most `MAX_BITS` bits. It loads each
+/// element that these bits touch once.
 #[inline(always)]
 pub(crate) fn words_load_front<O: WordOrder, C: CellsRead>(
     cells: &mut C,
@@ -27,28 +27,39 @@ pub(crate) fn words_load_front<O: WordOrder, C: CellsRead>(
     ensures reads { OnlyReads C.CellsRead cells.old cells.new (touched C.Elem.BITS window.start result.1) }
 {
     let bits = C::Elem::BITS as usize;
-    if window.len >= WORD_BITS && window.start % bits == 0 {
+    if bits <= WORD_BITS && window.len >= WORD_BITS && window.start % bits == 0 {
         let word = load_elements::<O, C>(cells, window.start / bits);
         return (word, WORD_BITS);
     }
-    let part = first_part(bits, window);
+    let part = first_part(bits, front_window(window));
     let count = part.len();
     let element = cells.load(part.element);
     let word = moved::<O, C::Elem, u64>(element, part.from, count, 0);
     (word, count)
 }
 
-/// The same under any order: the first bits are those of the first element.
+/// The same under any order: the first bits are those of the first element, up to 64.
 pub fn bits_load_front<O: BitOrder, C: CellsRead>(cells: &mut C, window: Window) -> (u64, usize)
     requires window { HasWindow C.Elem.BITS (C.numbers cells.old) window }
     requires some { 0 < window.len }
     ensures value { IsFront C.Elem.BITS O.at (C.numbers cells.old) window result.0 result.1 }
     ensures reads { OnlyReads C.CellsRead cells.old cells.new (touched C.Elem.BITS window.start result.1) }
 {
-    let part = first_part(C::Elem::BITS as usize, window);
+    let part = first_part(C::Elem::BITS as usize, front_window(window));
     let element = cells.load(part.element);
     let word = gathered::<O, O, C::Elem>(element, part);
     (word, part.len())
+}
+
+/// The first bits of a window, at most those of a word.
+#[inline(always)]
+fn front_window(window: Window) -> Window
+    ensures { result ≡ front_window window }
+{
+    Window {
+        start: window.start,
+        len: window.len.min(WORD_BITS),
+    }
 }
 
 /// The word whose bit number `i`, from the least significant one, is the bit at index `i` of the
@@ -65,10 +76,12 @@ pub fn bits_lowest_first<O: BitOrder>(word: u64) -> u64
 }
 
 /// The bits of a part of an element under one order as the first bits of a word under another; the
-/// word's other bits are 0. Condition: `from <= to`, and `to` is at most the width.
+/// word's other bits are 0. Condition: `from <= to`, `to` is at most the width, and the part has at
+/// most 64 bits.
 fn gathered<O: BitOrder, P: BitOrder, T: BitStore>(element: T, part: Part) -> u64
     requires order { part.from ≤ part.to }
     requires bound { part.to ≤ T.BITS }
+    requires fits { part.to ≤ part.from + 64 }
     ensures { element_bits 64 P.at result
         ≡ padded 64 (slice_range (element_bits T.BITS O.at (T.value element)) part.from part.to) }
 {

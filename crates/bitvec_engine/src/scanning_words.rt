@@ -43,8 +43,8 @@ pub(crate) fn words_scan_first<O: WordOrder, C: CellsRead>(
 }
 
 /// The first of the first bits of a window, and how many these are: where it begins inside an
-/// element, those of that; else those of all blocks, of one word of narrower elements, or all.
-/// Condition: the window isn't empty.
+/// element, those of that; else those of all blocks, of one word of narrower elements, or all, as of
+/// elements wider than a word. Condition: the window isn't empty.
 #[inline(always)]
 fn first_in_front<O: WordOrder, C: CellsRead>(
     cells: &mut C,
@@ -62,7 +62,11 @@ fn first_in_front<O: WordOrder, C: CellsRead>(
     let bits = C::Elem::BITS as usize;
     let inside = window.start % bits;
     let blocks = window.len / BLOCK_BITS;
-    if inside > 0 || window.len < WORD_BITS || bits == WORD_BITS && blocks == 0 {
+    if inside > 0
+        || window.len < WORD_BITS
+        || bits > WORD_BITS
+        || bits == WORD_BITS && blocks == 0
+    {
         let count = if inside > 0 {
             window.len.min(bits - inside)
         } else {
@@ -84,7 +88,7 @@ fn first_in_front<O: WordOrder, C: CellsRead>(
     (first_in_element::<O, u64>(word, part, want), count)
 }
 
-/// The first of the elements of `count` blocks.
+/// The first of the elements of `count` blocks. Condition: they are not wider than a word.
 #[inline(always)]
 fn first_in_blocks<O: WordOrder, C: CellsRead>(
     cells: &mut C,
@@ -92,7 +96,8 @@ fn first_in_blocks<O: WordOrder, C: CellsRead>(
     count: usize,
     want: bool,
 ) -> Option<usize>
-    requires { HasWindow C.Elem.BITS (C.numbers cells.old) (elements_window C.Elem.BITS first (count * (256 / C.Elem.BITS))) }
+    requires window { HasWindow C.Elem.BITS (C.numbers cells.old) (elements_window C.Elem.BITS first (count * (256 / C.Elem.BITS))) }
+    requires narrow { C.Elem.BITS ≤ 64 }
     ensures value { result ≡ first_place want
         (list_in C.Elem.BITS O.at (C.numbers cells.old) (elements_window C.Elem.BITS first (count * (256 / C.Elem.BITS)))) }
     ensures reads { OnlyReadsAtMost C.CellsRead cells.old cells.new (count * (256 / C.Elem.BITS)) }
@@ -106,14 +111,15 @@ fn first_in_blocks<O: WordOrder, C: CellsRead>(
     None
 }
 
-/// The first of the elements of a block.
+/// The first of the elements of a block. Condition: they are not wider than a word.
 #[inline(always)]
 fn first_in_block<O: WordOrder, C: CellsRead>(
     cells: &mut C,
     first: usize,
     want: bool,
 ) -> Option<usize>
-    requires { HasWindow C.Elem.BITS (C.numbers cells.old) (elements_window C.Elem.BITS first (256 / C.Elem.BITS)) }
+    requires window { HasWindow C.Elem.BITS (C.numbers cells.old) (elements_window C.Elem.BITS first (256 / C.Elem.BITS)) }
+    requires narrow { C.Elem.BITS ≤ 64 }
     ensures value { result ≡ first_place want
         (list_in C.Elem.BITS O.at (C.numbers cells.old) (elements_window C.Elem.BITS first (256 / C.Elem.BITS))) }
     ensures reads { OnlyReads C.CellsRead cells.old cells.new (256 / C.Elem.BITS) }

@@ -139,9 +139,9 @@ pub trait SliceOrder: BitOrder {
     }
 
     /// The first bits of a window as the first bits of a word, and how many they are: those of the
-    /// first element that it touches or, where it begins with one and has 64 bits, perhaps those of
-    /// 64. The word's other bits are 0. Condition: the window isn't empty. It loads each element
-    /// that these bits touch once.
+    /// first element that it touches, at most 64, or, where it begins with one and has 64 bits,
+    /// perhaps 64. The word's other bits are 0. Condition: the window isn't empty. It loads each
+    /// element that these bits touch once.
     fn load_front<C: CellsRead>(cells: &mut C, window: Window) -> (u64, usize)
         requires window { HasWindow C.Elem.BITS (C.numbers cells.old) window }
         requires some { 0 < window.len }

@@ -21,9 +21,9 @@ use Rattle.bitvec_words.specs.Field.{padded}
 
 -- ---- numbers
 
--- a word is whole elements
-pub word_whole : (b : ℕ) → IsWidth b → 64 / b * b ≡ 64
-word_whole b w = at_each_width (λ n. 64 / n * n ≡ 64) refl refl refl refl b w
+-- a word is whole elements that are not wider
+pub word_whole : (b : ℕ) → IsWidth b → b ≤ 64 → 64 / b * b ≡ 64
+word_whole b w = at_each_width (λ n. n ≤ 64 → 64 / n * n ≡ 64) (λ _. refl) (λ _. refl) (λ _. refl) (λ _. refl) (λ narrow. absurd (omega arith)) b w
 
 pub word_span : (b : ℕ) → 0 < b → 64 / b + 1 ≤ step_span b true
 unfolding step_span

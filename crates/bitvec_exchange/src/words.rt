@@ -1,5 +1,5 @@
 //! Words of 64 bits of a memory.
-ghost use Rattle.std.specs.Prelude.{◌≡◌, ℕ, ◌/◌, ◌<◌, true};
+ghost use Rattle.std.specs.Prelude.{◌≡◌, ℕ, ◌/◌, ◌<◌, ◌≤◌, true};
 ghost use Rattle.bitvec_words.specs.base.Memory.{HasWindow, Writes, element_bits, list_in};
 ghost use Rattle.bitvec_words.specs.cells.Access.{Costs, CostsAtMost, OnlyReads, OnlyReadsAtMost};
 ghost use Rattle.bitvec_words.specs.walk.Cost.{step_span};
@@ -31,11 +31,12 @@ pub(crate) fn load_word<O: WordOrder, C: CellsRead>(cells: &mut C, window: Windo
     joined::<O, u64>(word, behind, skip)
 }
 
-/// The bits of the elements of one word from the element `first` on. Condition: they lie in a memory
-/// of at most `MAX_BITS` bits. It loads each of them once.
+/// The bits of the elements of one word from the element `first` on. Condition: they are not wider than
+/// a word, and lie in a memory of at most `MAX_BITS` bits. It loads each of them once.
 #[inline(always)]
 pub fn load_elements<O: WordOrder, C: CellsRead>(cells: &mut C, first: usize) -> u64
     requires window { HasWindow C.Elem.BITS (C.numbers cells.old) (elements_window C.Elem.BITS first (64 / C.Elem.BITS)) }
+    requires narrow { C.Elem.BITS ≤ 64 }
     ensures value { element_bits 64 O.at result
         ≡ list_in C.Elem.BITS O.at (C.numbers cells.old) (elements_window C.Elem.BITS first (64 / C.Elem.BITS)) }
     ensures reads { OnlyReads C.CellsRead cells.old cells.new (64 / C.Elem.BITS) }
@@ -82,6 +83,7 @@ pub(crate) fn store_word<O: WordOrder, C: Cells>(cells: &mut C, window: Window, 
 /// [`load_elements`].
 fn store_elements<O: WordOrder, C: Cells>(cells: &mut C, first: usize, word: u64)
     requires window { HasWindow C.Elem.BITS (C.numbers cells.old) (elements_window C.Elem.BITS first (64 / C.Elem.BITS)) }
+    requires narrow { C.Elem.BITS ≤ 64 }
     ensures writes { Writes C.Elem.BITS O.at (C.numbers cells.old) (C.numbers cells.new) (elements_window C.Elem.BITS first (64 / C.Elem.BITS))
         (element_bits 64 O.at word) }
     ensures cost { Costs C.CellsRead cells.old cells.new 0 (64 / C.Elem.BITS) }

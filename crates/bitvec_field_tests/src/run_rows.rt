@@ -58,3 +58,22 @@ fn a_field_has_at_most_128_bits(rt: HostRuntime) -> Result<(), Fail> {
     );
     Ok(())
 }
+
+#[test]
+fn a_number_across_two_wide_elements(rt: HostRuntime) -> Result<(), Fail> {
+    let mut cells = [0u128; 2];
+    let steps = [
+        step(64, 192, FieldOp::StoreBe(1)),
+        step(64, 192, FieldOp::LoadLe),
+    ];
+    let mut memory = Exclusive::new(&mut cells);
+    let mut right = Shared::new(&[]);
+    let window = Window { start: 0, len: 256 };
+    let replies = run_fields::<Lsb0, _, _, _>(rt.alloc(), &mut memory, window, &mut right, &steps)?;
+    assert_eq!(rt;
+        replies.as_slice(),
+        [Reply::Done, Reply::Number(18_446_744_073_709_551_616)].as_slice()
+    );
+    assert_eq!(rt; cells, [0, 1]);
+    Ok(())
+}

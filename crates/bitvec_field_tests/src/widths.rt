@@ -83,3 +83,18 @@ fn load_and_store_are_the_lower_end_first(rt: HostRuntime) {
     assert!(rt; view.load::<u32>() == 0x0123_4567);
     assert_eq!(rt; cells, [0x4567, 0x0123]);
 }
+
+#[test]
+fn a_wide_integer_is_stored_at_any_start(rt: HostRuntime) {
+    for start in 0..129 {
+        let mut cells = [u128::MAX; 2];
+        let mut part = BitSliceMut::<u128, Lsb0>::from_slice_mut(&mut cells).into_part(
+            start..start + 128,
+        );
+        assert!(rt; stored_then_loaded_le::<u128, Lsb0, i128>(&mut part, -5) == -5);
+        let mut part = BitSliceMut::<u128, Msb0>::from_slice_mut(&mut cells).into_part(
+            start..start + 128,
+        );
+        assert!(rt; stored_then_loaded_be::<u128, Msb0, i128>(&mut part, i128::MIN) == i128::MIN);
+    }
+}

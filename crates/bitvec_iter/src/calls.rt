@@ -2,27 +2,34 @@
 ghost use Rattle.std.specs.Prelude.{◌≡◌, ◌<◌, ◌≤◌, length};
 ghost use Rattle.bitvec_slice.specs.base.Window.{max_bits};
 ghost use Rattle.bitvec_cutting.specs.Cutting.{back_chunk, chunk, chunk_count, whole_chunk, whole_count, window, window_count};
-ghost use Rattle.bitvec_iter.specs.Left.{YieldsPieces, cut_by, pieces_left, walked};
 ghost use Rattle.bitvec_iter.specs.Parts.{parts_of};
-ghost use Rattle.bitvec_slice.specs.Views.{seen};
 
-use crate::{Chunks, ChunksExact, Pieces, RChunks, RChunksExact, Windows};
+use crate::PieceWalk;
 use bitvec_cutting::{InChunks, InChunksFromEnd, InExactChunks, InExactChunksFromEnd, InWindows};
-use bitvec_slice::BitSlice;
-use bitvec_slice::base::BitOrder;
 use bitvec_slice::store::BitStore;
 
-/// The walks of the crate's `BitSlice` over its parts, for both view types. Widths are in bits.
-pub trait IterCalls<T: BitStore, O: BitOrder> {
+/// The walks of the crate's `BitSlice` over its parts, for both view types: of a `BitSlice` they live as
+/// long as its elements, of a `&BitSliceMut` as long as that borrow. Widths are in bits.
+pub trait IterCalls<T: BitStore> {
     ghost use Rattle.bitvec_slice.specs.Seen.{Seen};
+
+    /// What `windows` makes.
+    type Windows: PieceWalk<T, InWindows>;
+
+    /// What `chunks` makes.
+    type Chunks: PieceWalk<T, InChunks>;
+
+    /// What `chunks_exact` makes.
+    type ChunksExact: PieceWalk<T, InExactChunks>;
+
+    /// What `rchunks` makes.
+    type RChunks: PieceWalk<T, InChunksFromEnd>;
+
+    /// What `rchunks_exact` makes.
+    type RChunksExact: PieceWalk<T, InExactChunksFromEnd>;
 
     // What contracts see of the view.
     ghost shows: { Self → Seen T };
-
-    /// A shared view of the same bits.
-    #[doc(hidden)]
-    fn shared(&self) -> BitSlice<'_, T, O>
-        ensures { seen result ≡ shows self.now };
 
     /// Windows of that many bits, each one bit behind the one before it. Condition: the width is above
     /// 0.
@@ -30,16 +37,13 @@ pub trait IterCalls<T: BitStore, O: BitOrder> {
     /// ```
     /// bits.windows(2).filter(|pair| pair.some()).count()
     /// ```
-    fn windows(&self, width: usize) -> Windows<'_, T, O>
+    fn windows(self, width: usize) -> Self::Windows
         requires { 0 < width }
-        ensures pieces { pieces_left result ≡ parts_of T.BITS (shows self.now) (window_count width) (window width) }
-        ensures view { walked result ≡ shows self.now }
-        ensures width { (cut_by result).width ≡ width }
-        ensures bound { length (pieces_left result) ≤ max_bits }
-        ensures runs { YieldsPieces result }
-    {
-        Pieces::new(self.shared(), InWindows { width })
-    }
+        ensures pieces { Self.Windows.left result ≡ parts_of T.BITS (shows self) (window_count width) (window width) }
+        ensures view { Self.Windows.walked result ≡ shows self }
+        ensures width { (Self.Windows.cut_by result).width ≡ width }
+        ensures bound { length (Self.Windows.left result) ≤ max_bits }
+        ensures runs { Self.Windows.Yields result };
 
     /// Chunks of that many bits from the first bit on, of which the last may be shorter. Condition: the
     /// width is above 0.
@@ -49,16 +53,13 @@ pub trait IterCalls<T: BitStore, O: BitOrder> {
     /// let view = BitSlice::<u8, Msb0>::from_slice(&cells);
     /// assert_eq!(rt; read(view.chunks(usize::MAX).next_back()), Some((8, 0x17)));
     /// ```
-    fn chunks(&self, width: usize) -> Chunks<'_, T, O>
+    fn chunks(self, width: usize) -> Self::Chunks
         requires { 0 < width }
-        ensures pieces { pieces_left result ≡ parts_of T.BITS (shows self.now) (chunk_count width) (chunk width) }
-        ensures view { walked result ≡ shows self.now }
-        ensures width { (cut_by result).width ≡ width }
-        ensures bound { length (pieces_left result) ≤ max_bits }
-        ensures runs { YieldsPieces result }
-    {
-        Pieces::new(self.shared(), InChunks { width })
-    }
+        ensures pieces { Self.Chunks.left result ≡ parts_of T.BITS (shows self) (chunk_count width) (chunk width) }
+        ensures view { Self.Chunks.walked result ≡ shows self }
+        ensures width { (Self.Chunks.cut_by result).width ≡ width }
+        ensures bound { length (Self.Chunks.left result) ≤ max_bits }
+        ensures runs { Self.Chunks.Yields result };
 
     /// Chunks of that many bits from the first bit on; `remainder` has the bits behind them. Condition:
     /// the width is above 0.
@@ -68,16 +69,13 @@ pub trait IterCalls<T: BitStore, O: BitOrder> {
     /// let mut front = view.chunks_exact(3);
     /// assert_eq!(rt; (read(front.next_back()), front.len()), (Some((3, 5)), 1));
     /// ```
-    fn chunks_exact(&self, width: usize) -> ChunksExact<'_, T, O>
+    fn chunks_exact(self, width: usize) -> Self::ChunksExact
         requires { 0 < width }
-        ensures pieces { pieces_left result ≡ parts_of T.BITS (shows self.now) (whole_count width) (whole_chunk width) }
-        ensures view { walked result ≡ shows self.now }
-        ensures width { (cut_by result).width ≡ width }
-        ensures bound { length (pieces_left result) ≤ max_bits }
-        ensures runs { YieldsPieces result }
-    {
-        Pieces::new(self.shared(), InExactChunks { width })
-    }
+        ensures pieces { Self.ChunksExact.left result ≡ parts_of T.BITS (shows self) (whole_count width) (whole_chunk width) }
+        ensures view { Self.ChunksExact.walked result ≡ shows self }
+        ensures width { (Self.ChunksExact.cut_by result).width ≡ width }
+        ensures bound { length (Self.ChunksExact.left result) ≤ max_bits }
+        ensures runs { Self.ChunksExact.Yields result };
 
     /// Chunks of that many bits from the last bit on, of which the last, at the start, may be shorter.
     /// Condition: the width is above 0.
@@ -87,16 +85,13 @@ pub trait IterCalls<T: BitStore, O: BitOrder> {
     /// let mut chunks = view.rchunks(3);
     /// assert_eq!(rt; read(chunks.next()), Some((3, 7)));
     /// ```
-    fn rchunks(&self, width: usize) -> RChunks<'_, T, O>
+    fn rchunks(self, width: usize) -> Self::RChunks
         requires { 0 < width }
-        ensures pieces { pieces_left result ≡ parts_of T.BITS (shows self.now) (chunk_count width) (back_chunk width) }
-        ensures view { walked result ≡ shows self.now }
-        ensures width { (cut_by result).width ≡ width }
-        ensures bound { length (pieces_left result) ≤ max_bits }
-        ensures runs { YieldsPieces result }
-    {
-        Pieces::new(self.shared(), InChunksFromEnd { width })
-    }
+        ensures pieces { Self.RChunks.left result ≡ parts_of T.BITS (shows self) (chunk_count width) (back_chunk width) }
+        ensures view { Self.RChunks.walked result ≡ shows self }
+        ensures width { (Self.RChunks.cut_by result).width ≡ width }
+        ensures bound { length (Self.RChunks.left result) ≤ max_bits }
+        ensures runs { Self.RChunks.Yields result };
 
     /// Chunks of that many bits from the last bit on; `remainder` has the bits before them. Condition:
     /// the width is above 0.
@@ -106,14 +101,11 @@ pub trait IterCalls<T: BitStore, O: BitOrder> {
     /// let mut chunks = view.rchunks_exact(3);
     /// assert_eq!(rt; read(chunks.nth_back(1)), Some((3, 7)));
     /// ```
-    fn rchunks_exact(&self, width: usize) -> RChunksExact<'_, T, O>
+    fn rchunks_exact(self, width: usize) -> Self::RChunksExact
         requires { 0 < width }
-        ensures pieces { pieces_left result ≡ parts_of T.BITS (shows self.now) (whole_count width) (back_chunk width) }
-        ensures view { walked result ≡ shows self.now }
-        ensures width { (cut_by result).width ≡ width }
-        ensures bound { length (pieces_left result) ≤ max_bits }
-        ensures runs { YieldsPieces result }
-    {
-        Pieces::new(self.shared(), InExactChunksFromEnd { width })
-    }
+        ensures pieces { Self.RChunksExact.left result ≡ parts_of T.BITS (shows self) (whole_count width) (back_chunk width) }
+        ensures view { Self.RChunksExact.walked result ≡ shows self }
+        ensures width { (Self.RChunksExact.cut_by result).width ≡ width }
+        ensures bound { length (Self.RChunksExact.left result) ≤ max_bits }
+        ensures runs { Self.RChunksExact.Yields result };
 }

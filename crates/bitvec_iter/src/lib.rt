@@ -3,6 +3,7 @@
 
 mod calls;
 mod parts;
+mod piece_walk;
 mod pieces;
 mod views;
 
@@ -11,4 +12,5 @@ pub use bitvec_cutting::{
     InWindows,
 };
 pub use calls::IterCalls;
+pub use piece_walk::PieceWalk;
 pub use pieces::{Chunks, ChunksExact, Pieces, RChunks, RChunksExact, Windows};

@@ -6,6 +6,7 @@ ghost use Rattle.bitvec_slice.specs.base.Window.{max_bits};
 ghost use Rattle.bitvec_slice.specs.Views.{seen};
 ghost use Rattle.bitvec_iter.specs.Parts.{part_at};
 
+use crate::PieceWalk;
 use crate::parts::part_of;
 use bitvec_cutting::{
     Cutting, ExactCutting, InChunks, InChunksFromEnd, InExactChunks, InExactChunksFromEnd,
@@ -73,6 +74,18 @@ impl<'a, T: BitStore, O: BitOrder, C: Cutting> Pieces<'a, T, O, C> {
     {
         part_of(self.view, self.cutting.piece(self.view.len(), number))
     }
+}
+
+impl<'a, T: BitStore, O: BitOrder, C: Cutting> PieceWalk<T, C> for Pieces<'a, T, O, C> {
+    ghost use Rattle.bitvec_iter.specs.Left.{YieldsPieces, cut_by, pieces_left, walked};
+
+    ghost left = { λ it. pieces_left it };
+
+    ghost walked = { λ it. walked it };
+
+    ghost cut_by = { λ it. cut_by it };
+
+    ghost Yields = { λ it. YieldsPieces it };
 }
 
 impl<'a, T: BitStore, O: BitOrder, C: ExactCutting> Pieces<'a, T, O, C> {

@@ -25,6 +25,20 @@ fn paint<O: SliceOrder>(bytes: &mut [u8; 1], mid: usize)
     }
 }
 
+/// How many bits a view's halves have, and how many of them the left one.
+fn lens_of_halves<O: SliceOrder>(bytes: &mut [u8; 2], mid: usize) -> (usize, usize)
+    requires { mid ≤ 16 }
+{
+    let mut view = BitSliceMut::<u8, O>::from_slice_mut(bytes);
+    let halves = view.split_at_mut(mid);
+    (halves.len(), halves.mid())
+}
+
+#[test]
+fn halves_tell_where_they_meet(rt: HostRuntime) {
+    assert_eq!(rt; lens_of_halves::<Lsb0>(&mut [0, 0], 5), (16, 5));
+}
+
 #[test]
 fn left_is_filled_and_right_cleared(rt: HostRuntime) {
     let mut bytes = [0xF0];

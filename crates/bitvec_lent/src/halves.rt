@@ -63,6 +63,20 @@ impl<'a, T: BitStore, O: BitOrder> HalvesMut<'a, T, O> {
         }
     }
 
+    /// How many bits both halves have.
+    pub fn len(&self) -> usize
+        ensures { result ≡ (seen_halves self.now).window.len }
+    {
+        self.len
+    }
+
+    /// The index at which the halves meet: how many bits the left one has.
+    pub fn mid(&self) -> usize
+        ensures { result ≡ mid_of self.now }
+    {
+        self.mid
+    }
+
     /// The bits before the cut.
     pub fn left_mut(&mut self) -> BitSliceMut<'_, T, O>
         ensures* writes_back { sem 𝓛 (lends_bits T.row O.row self.entry 0 (mid_of self.old) (name_of result)) }

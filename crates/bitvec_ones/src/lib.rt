@@ -1,6 +1,7 @@
 //! Walks over the indices of the bits of a view that are 1, and of those that are 0.
 #![tactic(auto)]
 
+mod index_walk;
 mod kept;
 mod ones_calls;
 mod places;
@@ -42,6 +43,7 @@ pub mod turns {
     pub use bitvec_turns::{End, Rest, count_left, scan_turns, take_first, take_last};
 }
 
+pub use index_walk::IndexWalk;
 pub use ones_calls::OnesCalls;
 pub use places::{IterOnes, IterZeros, Places};
 pub use wanted::{Ones, Wanted, Zeros};

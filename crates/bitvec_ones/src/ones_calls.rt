@@ -2,15 +2,23 @@
 ghost use Rattle.std.specs.Prelude.{◌≡◌, ◌≤◌, false, length, true};
 ghost use Rattle.bitvec_query.specs.base.Lists.{places_of};
 ghost use Rattle.bitvec_query.specs.base.Window.{max_bits};
-ghost use Rattle.bitvec_ones.specs.Indices.{RunsInOrder, RunsInReverse, indices_left};
 
-use crate::places::{IterOnes, IterZeros, Places};
-use bitvec_query::BitQueries;
-use bitvec_query::engine::SliceOrder;
-use bitvec_query::store::BitStore;
+use crate::IndexWalk;
 
-/// Walks over the indices of the bits of a view that are 1, or 0, for both view types.
-pub trait OnesCalls<T: BitStore, O: SliceOrder>: BitQueries<T, O> {
+/// Walks over the indices of the bits of a view that are 1, or 0, for both view types: of a `BitSlice`
+/// they live as long as its elements, of a `&BitSliceMut` as long as that borrow.
+pub trait OnesCalls<T> {
+    ghost use Rattle.bitvec_query.specs.slice.Seen.{Seen};
+
+    /// What `iter_ones` makes.
+    type Ones: IndexWalk;
+
+    /// What `iter_zeros` makes.
+    type Zeros: IndexWalk;
+
+    // What contracts see of the view.
+    ghost shows: { Self → Seen T };
+
     /// The indices of the bits that are 1, ascending.
     ///
     /// ```
@@ -18,14 +26,11 @@ pub trait OnesCalls<T: BitStore, O: SliceOrder>: BitQueries<T, O> {
     /// let mut ones = view.iter_ones();
     /// assert_eq!(rt; (ones.next(), ones.next_back()), (Some(0), Some(5)));
     /// ```
-    fn iter_ones(&self) -> IterOnes<'_, T, O>
-        ensures indices { indices_left result ≡ places_of true (Self.shows self.now).bits }
-        ensures few { length (indices_left result) ≤ max_bits }
-        ensures runs { RunsInOrder result }
-        ensures runs_back { RunsInReverse result }
-    {
-        Places::new(self.as_bitslice())
-    }
+    fn iter_ones(self) -> Self::Ones
+        ensures indices { Self.Ones.left result ≡ places_of true (shows self).bits }
+        ensures few { length (Self.Ones.left result) ≤ max_bits }
+        ensures runs { Self.Ones.Ascends result }
+        ensures runs_back { Self.Ones.Descends result };
 
     /// The indices of the bits that are 0, ascending.
     ///
@@ -34,12 +39,9 @@ pub trait OnesCalls<T: BitStore, O: SliceOrder>: BitQueries<T, O> {
     /// let mut zeros = view.iter_zeros();
     /// assert_eq!(rt; (zeros.next_back(), zeros.next()), (Some(15), Some(4)));
     /// ```
-    fn iter_zeros(&self) -> IterZeros<'_, T, O>
-        ensures indices { indices_left result ≡ places_of false (Self.shows self.now).bits }
-        ensures few { length (indices_left result) ≤ max_bits }
-        ensures runs { RunsInOrder result }
-        ensures runs_back { RunsInReverse result }
-    {
-        Places::new(self.as_bitslice())
-    }
+    fn iter_zeros(self) -> Self::Zeros
+        ensures indices { Self.Zeros.left result ≡ places_of false (shows self).bits }
+        ensures few { length (Self.Zeros.left result) ≤ max_bits }
+        ensures runs { Self.Zeros.Ascends result }
+        ensures runs_back { Self.Zeros.Descends result };
 }

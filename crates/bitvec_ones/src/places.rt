@@ -4,6 +4,7 @@ ghost use Rattle.bitvec_query.specs.slice.Views.{seen};
 ghost use Rattle.bitvec_turns.specs.Places.{IsRestOf};
 ghost use Rattle.bitvec_ones.specs.Kept.{Keeps};
 
+use crate::IndexWalk;
 use crate::kept::{Kept, sought_first, take_kept};
 use crate::wanted::{Ones, Wanted, Zeros};
 use bitvec_query::base::BitOrder;
@@ -19,8 +20,9 @@ use std::marker::PhantomData;
 /// The indices of the bits of a view that `W` names, ascending from the front and descending from
 /// the back.
 ///
-/// A walk from the front loads each element once, narrow ones by as many as make a word of 64 bits,
-/// and keeps a word's bits until their indices are given; nothing is loaded when the walk is made.
+/// A walk from the front loads each element once, narrow ones by as many as make a word of 64 bits, and
+/// one that is wider once for each 64 of its bits. It keeps a word's bits until their indices are
+/// given; nothing is loaded when the walk is made.
 /// Each call of `next_back` is a search of the bits that are left from the back, so that it loads an
 /// element once more for each index given. How many indices are left is counted at each call of
 /// `len` or `size_hint`.
@@ -84,6 +86,16 @@ impl<'a, T: BitStore, O: BitOrder, W: Wanted> Places<'a, T, O, W> {
             wanted: PhantomData,
         }
     }
+}
+
+impl<'a, T: BitStore, O: SliceOrder, W: Wanted> IndexWalk for Places<'a, T, O, W> {
+    ghost use Rattle.bitvec_ones.specs.Indices.{RunsInOrder, RunsInReverse, indices_left};
+
+    ghost left = { λ it. indices_left it };
+
+    ghost Ascends = { λ it. RunsInOrder it };
+
+    ghost Descends = { λ it. RunsInReverse it };
 }
 
 /// A walk over no bits.

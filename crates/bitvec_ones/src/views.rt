@@ -1,9 +1,39 @@
 //! The two view types are walked.
-use crate::OnesCalls;
+ghost use Rattle.bitvec_query.specs.slice.Views.{seen, seen_mut};
+
+use crate::{IterOnes, IterZeros, OnesCalls, Places};
 use bitvec_query::engine::SliceOrder;
 use bitvec_query::slice::{BitSlice, BitSliceMut};
 use bitvec_query::store::BitStore;
 
-impl<'a, T: BitStore, O: SliceOrder> OnesCalls<T, O> for BitSlice<'a, T, O> {}
+impl<'a, T: BitStore, O: SliceOrder> OnesCalls<T> for BitSlice<'a, T, O> {
+    type Ones = IterOnes<'a, T, O>;
 
-impl<'a, T: BitStore, O: SliceOrder> OnesCalls<T, O> for BitSliceMut<'a, T, O> {}
+    type Zeros = IterZeros<'a, T, O>;
+
+    ghost shows = { seen };
+
+    fn iter_ones(self) -> IterOnes<'a, T, O> {
+        Places::new(self)
+    }
+
+    fn iter_zeros(self) -> IterZeros<'a, T, O> {
+        Places::new(self)
+    }
+}
+
+impl<'a, 'v, T: BitStore, O: SliceOrder> OnesCalls<T> for &'v BitSliceMut<'a, T, O> {
+    type Ones = IterOnes<'v, T, O>;
+
+    type Zeros = IterZeros<'v, T, O>;
+
+    ghost shows = { λ view. seen_mut view.now };
+
+    fn iter_ones(self) -> IterOnes<'v, T, O> {
+        self.as_ref().iter_ones()
+    }
+
+    fn iter_zeros(self) -> IterZeros<'v, T, O> {
+        self.as_ref().iter_zeros()
+    }
+}

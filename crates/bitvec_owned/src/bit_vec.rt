@@ -61,14 +61,7 @@ impl<T: BitStore, O: BitOrder, A: Allocator> BitVec<T, O, A> {
     {
         let head = self.head;
         let len = self.len;
-        BitSliceMut::from_parts(self.elements_mut(), head, len)
-    }
-
-    fn elements_mut(&mut self) -> &mut [T]
-        ensures* writes_back { sem 𝓛 (lends T.row O.row A.row A.Allocator self.entry result.ghost_name) }
-        ensures elements { result.now ≡ (owned self.old).elements }
-    {
-        self.elements.as_mut_slice()
+        BitSliceMut::from_parts(self.as_raw_mut_slice(), head, len)
     }
 
     /// How many bits there are.
@@ -92,6 +85,17 @@ impl<T: BitStore, O: BitOrder, A: Allocator> BitVec<T, O, A> {
         ensures { result.now ≡ (owned self.now).elements }
     {
         self.elements.as_slice()
+    }
+
+    /// The elements: just those that the bits touch. Once the slice has ended, the sequence has what was left in it,
+    /// and its window is as before; so whoever passes the slice on to a function whose contract says what it
+    /// leaves there knows every bit.
+    pub fn as_raw_mut_slice(&mut self) -> &mut [T]
+        ensures* writes_back { sem 𝓛 (lends T.row O.row A.row A.Allocator self.entry result.ghost_name) }
+        ensures elements { result.now ≡ (owned self.old).elements }
+        ensures fits { T.BITS * length result.now ≤ max_bits }
+    {
+        self.elements.as_mut_slice()
     }
 
     /// Ends the sequence, and gives its elements: `into_vec` of the crate.

@@ -5,3 +5,4 @@ pub mod Pieces
 pub mod Shown
 pub mod ShownLaws
 pub mod ViewShown
+pub mod WritesLaws

@@ -1,7 +1,7 @@
 -- The number of a list, of that of its first segment and that of the rest.
-use Rattle.std.proofs.Common.{◌≡◌, ℕ, ◌+◌, ◌-◌, ◌*◌, ◌%◌, ◌^◌, ◌<◌, ◌≤◌, ◌==◌, Bool, true, false, List, [], ◌∷◌, length, take, drop, sym, arith}
+use Rattle.std.proofs.Common.{◌≡◌, ℕ, ◌+◌, ◌-◌, ◌*◌, ◌%◌, ◌^◌, ◌<◌, ◌≤◌, ◌==◌, Bool, true, false, List, [], ◌∷◌, length, take, drop, sym, ◌∙◌, arith}
 use Rattle.std.proofs.lemmas.Bool.Decides.{nat_tests}
-use Rattle.std.proofs.lemmas.List.{take_rest}
+use Rattle.std.proofs.lemmas.List.{drop_all, take_rest}
 use Rattle.std.proofs.Math.Nat.{mod-eq_of_lt}
 use Rattle.bitvec_run_fields.specs.segments.LoadLaws.{loaded_be-below, loaded_be-first, loaded_be-none, loaded_le-below, loaded_le-first, loaded_le-none}
 use Rattle.bitvec_run_fields.specs.segments.Segments.{loaded_be, loaded_le, segment_number}
@@ -34,6 +34,13 @@ module _ (high : Bool) (b s : ℕ) (list : List Bool) (k first rest : ℕ) (some
 
   pub le-joined : rest ≡ loaded_le high b (s + k) (take (length list - k) (drop k list)) → rest * 2 ^ k % 2 ^ 128 + first ≡ loaded_le high b s list
   le-joined later = kept first (rest * 2 ^ k) (loaded_le high b s list) (rw (front, later, take_rest list k) (sym (loaded_le-first high b s list k some more is))) le-fits
+
+  -- where the first segment is all of them
+  pub le-whole : k ≡ length list → first ≡ loaded_le high b s list
+  le-whole all =
+      let none : drop k list ≡ [] = drop_all k list (omega arith) in
+      let nothing = loaded_le-none high b (s + k) in
+      front ∙ sym (loaded_le-first high b s list k some more is ∙ rw (none, nothing) (omega arith))
 
   pub be-joined : rest ≡ loaded_be high b (s + k) (take (length list - k) (drop k list)) → first * 2 ^ (length list - k) % 2 ^ 128 + rest ≡ loaded_be high b s list
   be-joined later = kept rest (first * 2 ^ (length list - k)) (loaded_be high b s list) (rw (front, later, take_rest list k) (sym (loaded_be-first high b s list k some more is))) be-fits

@@ -1,5 +1,5 @@
 -- The list that a store leaves: its first segment, and the rest.
-use Rattle.std.proofs.Common.{◌≡◌, ℕ, ◌+◌, ◌-◌, ◌/◌, ◌^◌, ◌<◌, ◌==◌, Bool, true, List, [], ◌∷◌, ◌++◌, length, take, drop, refl, sym, ap, ◌∙◌, arith, length-append}
+use Rattle.std.proofs.Common.{◌≡◌, ℕ, ◌+◌, ◌-◌, ◌/◌, ◌^◌, ◌<◌, ◌==◌, Bool, true, List, [], ◌∷◌, ◌++◌, length, take, drop, refl, sym, ap, ◌∙◌, arith, length-append, length-drop}
 use Rattle.std.proofs.lemmas.Bool.Decides.{nat_tests}
 use Rattle.std.proofs.lemmas.List.{append-nil, drop_all, length-take, take_rest}
 use borrow.Rule.Slice.PartMut.{put_mid}
@@ -42,6 +42,19 @@ module _ (high : Bool) (b s v : ℕ) (list first rest : List Bool) (k : ℕ) (so
       let behind = rw (still_behind first (drop k list) rest k long) at later in
       both-written first (drop k list) rest k long
       ∙ rw (segment, behind) (sym (stored_le-first high b s v list k some more is))
+
+  -- where the first segment is all of it
+  pub le-written_whole : k ≡ length (first ++ drop k list) → first ≡ segment_bits high (length (take k list)) v → first ++ drop k list ≡ stored_le high b s v list
+  le-written_whole all front =
+      let segment = rw taken_len at front in
+      let long : length first ≡ k = ap length segment ∙ length-segment_bits high k v in
+      let both = length-append first (drop k list) in
+      let left = length-drop k list in
+      let none : drop k list ≡ [] = drop_all k list (omega arith) in
+      let nothing : stored_le high b (s + k) (v / 2 ^ k) (drop k list) ≡ [] = rw none (stored_le-none high b (s + k) (v / 2 ^ k)) in
+      ap (λ (l : List Bool). l ++ drop k list) segment
+      ∙ ap (λ (l : List Bool). segment_bits high k v ++ l) (none ∙ sym nothing)
+      ∙ sym (stored_le-first high b s v list k some more is)
 
   pub be-written : first ≡ segment_bits high (length (take k list)) (v / 2 ^ (length list - k))
       → rest ≡ stored_be high b (s + k) v (take (length (first ++ drop k list) - k) (drop k (first ++ drop k list)))

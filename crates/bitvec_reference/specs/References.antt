@@ -1,5 +1,5 @@
 -- What contracts see of one bit of a view, and what a call that writes it leaves.
-use Rattle.std.specs.Prelude.{◌≡◌, ℕ, Bool, List, [], ◌∷◌, false, map, slice_index_or}
+use Rattle.std.specs.Prelude.{◌≡◌, ℕ, Bool, codes, if◌then◌else◌, List, [], ◌∷◌, false, map, slice_index_or}
 use Rattle.std.specs.Borrow.{GName, MutBor}
 use Rattle.bitvec_elements.specs.base.Memory.{memory_bits, Writes}
 use Rattle.bitvec_elements.specs.base.Window.{bit_window}
@@ -47,3 +47,7 @@ module _ {T O : Type 0} {t : Store T} {o : Order O} where
 -- the elements of the memory that it leaves, where it ends at a call
 abbrev pub elements_left : {T X : Type 0} → MutBor (List T) × X → List T
 elements_left (elements, rest) = elements.now
+
+-- a bit's text
+abbrev pub truth_text : Bool → List ℕ
+truth_text bit = if bit then codes "true" else codes "false"

@@ -1,8 +1,10 @@
 //! References to one bit: read, or written at once.
 #![tactic(auto)]
 
+mod equality;
 mod reference;
 mod reference_mut;
+mod texts;
 
 /// What crates above name of `bitvec_base`.
 pub mod base {

@@ -14,3 +14,4 @@ scattered_permutes =
     (record { below = λ i h. omega arith; apart = λ i j h k e. omega arith })
     (record { below = λ i h. omega arith; apart = λ i j h k e. omega arith })
     (record { below = λ i h. omega arith; apart = λ i j h k e. omega arith })
+    (record { below = λ i h. omega arith; apart = λ i j h k e. omega arith })

@@ -110,6 +110,7 @@ fn agrees_at_each_width<O: SliceOrder, R: Abort + AllocGlobal>(rt: &R) -> Result
     agrees_everywhere::<u16, O, R>(rt)?;
     agrees_everywhere::<u32, O, R>(rt)?;
     agrees_everywhere::<u64, O, R>(rt)?;
+    agrees_everywhere::<u128, O, R>(rt)?;
     agrees_everywhere::<usize, O, R>(rt)
 }
 

@@ -118,6 +118,25 @@ fn a_right_window_takes_few_loads(rt: HostRuntime) -> Result<(), Fail> {
     Ok(())
 }
 
+// 128 bits are two steps, each of which touches at most two wide elements.
+#[test]
+fn a_copy_takes_few_wide_elements(rt: HostRuntime) -> Result<(), Fail> {
+    let mut wide = [0u128; 2];
+    let right_wide = [u128::MAX; 2];
+    let mut cells = Counted::new(Exclusive::new(&mut wide));
+    let mut right = Counted::new(Shared::new(&right_wide));
+    let window = Window {
+        start: 64,
+        len: 128,
+    };
+    let steps = [step(0, 128, Op::CopyFrom(right_bits(128)))];
+    let _replies = run::<Lsb0, _, _, _>(rt.alloc(), &mut cells, window, &mut right, &steps)?;
+    assert!(rt; cells.loads() <= 4 && cells.stores() <= 4);
+    assert!(rt; right.loads() <= 4);
+    assert_eq!(rt; wide, [u128::MAX << 64, u128::MAX >> 64]);
+    Ok(())
+}
+
 #[test]
 fn a_refused_step_costs_nothing(rt: HostRuntime) -> Result<(), Fail> {
     let steps = [

@@ -130,6 +130,7 @@ fn agrees_at_each_width<O: SliceOrder + FieldOrder, R: Abort + AllocGlobal>(
     agrees_everywhere::<u16, O, R>(rt)?;
     agrees_everywhere::<u32, O, R>(rt)?;
     agrees_everywhere::<u64, O, R>(rt)?;
+    agrees_everywhere::<u128, O, R>(rt)?;
     agrees_everywhere::<usize, O, R>(rt)
 }
 

@@ -13,8 +13,6 @@ use Rattle.bitvec_words.specs.base.Parts.{part_window}
 use Rattle.bitvec_words.specs.base.SliceLaws.{range-all}
 use Rattle.bitvec_words.specs.base.WriteLaws.{length-slice_range}
 use Rattle.bitvec_words.specs.base.WritesLaws.{length-list, list-range}
-use Rattle.bitvec_words.specs.store.Width.{IsWidth}
-use Rattle.bitvec_words.specs.store.WidthLaws.{at_each_width}
 use Rattle.bitvec_words.specs.walk.Cost.{touched}
 use Rattle.bitvec_words.specs.walk.WalkLaws.{touched-until}
 use Rattle.bitvec_words.specs.Elements.{elements_window}
@@ -25,9 +23,6 @@ use Rattle.bitvec_segments.specs.NumberLaws.{segment_number-below}
 use Rattle.bitvec_segments.specs.PlainLaws.{append-highest, append-lowest}
 use Rattle.bitvec_segments.specs.Segments.{segment_number}
 use Rattle.bitvec_segments.proofs.WalkLemmas.{list-empty}
-
-pub width_most : (b : ℕ) → IsWidth b → b ≤ 64
-width_most b width = at_each_width (λ n. n ≤ 64) (omega arith) (omega arith) (omega arith) (omega arith) b width
 
 -- the part that is a whole element
 pub list-whole : (b : ℕ) (at : ℕ → ℕ → ℕ) (xs : List ℕ) (e w : ℕ) → w ≡ b → e < length xs → list_in b at xs (part_window b (record { element = e; from = 0; to = w })) ≡ element_bits b at (slice_index xs e)

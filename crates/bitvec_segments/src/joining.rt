@@ -12,24 +12,29 @@ use bitvec_words::cells::CellsRead;
 use bitvec_words::store::BitStore;
 use bitvec_words::{WORD_BITS, WordOrder};
 
-/// Whether a window isn't empty, and the elements that it touches have no more bits than a word.
+/// Whether a window isn't empty, and the elements that it touches have no more bits than a word, one
+/// alone and together.
 #[inline(always)]
 pub(crate) fn fits_word<T: BitStore>(window: Window) -> bool
     ensures some { result ≡ true → 0 < window.len }
+    ensures narrow { result ≡ true → T.BITS ≤ 64 }
     ensures fits { result ≡ true → window.start % T.BITS + window.len ≤ 64 }
 {
-    window.len > 0
+    T::BITS as usize <= WORD_BITS
+        && window.len > 0
         && window.len <= WORD_BITS
         && window.start % T::BITS as usize + window.len <= WORD_BITS
 }
 
 /// The number of a window's bits as of one segment. Condition: the window isn't empty, lies in a
-/// memory of at most `MAX_BITS` bits, and the elements that it touches have at most 64 bits. It loads
-/// each of these once, and takes two shifts and one mask beside one shift an element.
+/// memory of at most `MAX_BITS` bits, and the elements that it touches have at most 64 bits, one alone
+/// and together. It loads each of these once, and takes two shifts and one mask beside one shift an
+/// element.
 #[inline(always)]
 pub(crate) fn joined_number<O: WordOrder, C: CellsRead>(cells: &mut C, window: Window) -> u64
     requires window { HasWindow C.Elem.BITS (C.numbers cells.old) window }
     requires some { 0 < window.len }
+    requires narrow { C.Elem.BITS ≤ 64 }
     requires fits { window.start % C.Elem.BITS + window.len ≤ 64 }
     ensures value { result ≡ segment_number O.HIGH (list_in C.Elem.BITS O.at (C.numbers cells.old) window) }
     ensures reads { OnlyReads C.CellsRead cells.old cells.new (touched C.Elem.BITS window.start window.len) }
@@ -47,10 +52,12 @@ pub(crate) fn joined_number<O: WordOrder, C: CellsRead>(cells: &mut C, window: W
     cut_out::<O>(word, count * bits, from, window.len)
 }
 
-/// The number of all bits of an element. Condition: the memory has the element. It takes one load.
+/// The number of all bits of an element. Condition: the memory has the element, which has at most 64. It
+/// takes one load.
 #[inline(always)]
 fn element_number<O: WordOrder, C: CellsRead>(cells: &mut C, element: usize) -> u64
-    requires { element < length (C.numbers cells.old) }
+    requires inside { element < length (C.numbers cells.old) }
+    requires narrow { C.Elem.BITS ≤ 64 }
     ensures value { result ≡ segment_number O.HIGH (element_bits C.Elem.BITS O.at (slice_index (C.numbers cells.old) element)) }
     ensures fits { result < 2 ^ C.Elem.BITS }
     ensures reads { OnlyReads C.CellsRead cells.old cells.new 1 }

@@ -42,10 +42,12 @@ pub(crate) fn store_le<O: WordOrder, C: Cells>(cells: &mut C, window: Window, nu
     store_few_le::<O, C>(cells, rest, next, number >> head);
 }
 
-/// `store_le` of a window that begins where an element does, and isn't longer than two of them.
+/// `store_le` of a window that begins where an element does, isn't empty, and isn't longer than two of
+/// them.
 fn store_few_le<O: WordOrder, C: Cells>(cells: &mut C, window: Window, element: usize, number: u128)
     requires window { HasWindow C.Elem.BITS (C.numbers cells.old) window }
     requires some { 0 < window.len }
+    requires size { window.len ≤ 128 }
     requires few { window.len ≤ 2 * C.Elem.BITS }
     requires edge { window.start ≡ element * C.Elem.BITS }
     ensures writes { Edits C.Elem.BITS O.at (C.numbers cells.old) (C.numbers cells.new) window
@@ -106,10 +108,12 @@ pub(crate) fn store_be<O: WordOrder, C: Cells>(cells: &mut C, window: Window, nu
     store_few_be::<O, C>(cells, rest, next, number);
 }
 
-/// `store_be` of a window that begins where an element does, and isn't longer than two of them.
+/// `store_be` of a window that begins where an element does, isn't empty, and isn't longer than two of
+/// them.
 fn store_few_be<O: WordOrder, C: Cells>(cells: &mut C, window: Window, element: usize, number: u128)
     requires window { HasWindow C.Elem.BITS (C.numbers cells.old) window }
     requires some { 0 < window.len }
+    requires size { window.len ≤ 128 }
     requires few { window.len ≤ 2 * C.Elem.BITS }
     requires edge { window.start ≡ element * C.Elem.BITS }
     ensures writes { Edits C.Elem.BITS O.at (C.numbers cells.old) (C.numbers cells.new) window

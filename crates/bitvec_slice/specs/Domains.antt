@@ -24,6 +24,15 @@ abbrev pub bits_of_views : {T : Type 0} → Views T → List Bool
 bits_of_views (enclave view) = view.bits
 bits_of_views (region head body tail) = head.bits ++ (body.bits ++ tail.bits)
 
+-- the one view, or the three of a region, where the bit domain is that
+abbrev pub enclave_view : {T : Type 0} → Views T → Option (Seen T)
+enclave_view (enclave view) = Some view
+enclave_view (region head body tail) = None
+
+abbrev pub region_views : {T : Type 0} → Views T → Option (Seen T × (Seen T × Seen T))
+region_views (enclave view) = None
+region_views (region head body tail) = Some (head, (body, tail))
+
 module _ {T O : Type 0} {t : Store T} {o : Order O} where
   abbrev pub views_of : BitDomain T O t o → Views T
   views_of (Enclave v) = enclave (seen v)

@@ -1,10 +1,11 @@
 //! A view, cut at the edges of elements.
 ghost use Rattle.std.specs.Prelude.{◌≡◌, ◌+◌, ◌*◌, ◌≤◌, IfSome, length, map};
+ghost use Rattle.std.specs.Option.{option_map};
 ghost use Rattle.bitvec_traits.specs.base.Memory.{HasWindow};
 ghost use Rattle.bitvec_traits.specs.base.Window.{max_bits};
 ghost use Rattle.bitvec_domain.specs.Cuts.{IsCutWithin, IsPartWithin, cut_of, part_from, part_if_from};
 ghost use Rattle.bitvec_domain.specs.declared.cut.Cut.TheVariants.{Across};
-ghost use Rattle.bitvec_slice.specs.Domains.{view_in, view_in_if, views_in, views_of, views_of_mut};
+ghost use Rattle.bitvec_slice.specs.Domains.{enclave_view, region_views, view_in, view_in_if, views_in, views_of, views_of_mut};
 ghost use Rattle.bitvec_slice.specs.Views.{seen, seen_mut};
 
 use crate::{BitSlice, BitSliceMut};
@@ -44,6 +45,66 @@ pub enum BitDomainMut<'a, T: BitStore, O: BitOrder> {
         /// The bits of the last element, if the view ends inside it.
         tail: BitSliceMut<'a, T, O>,
     },
+}
+
+impl<'a, T: BitStore, O: BitOrder> BitDomain<'a, T, O> {
+    /// The view, where it touches neither edge of the one element that it lies in: `enclave` of bitvec.
+    pub fn enclave(self) -> Option<BitSlice<'a, T, O>>
+        ensures { option_map seen result ≡ enclave_view (views_of self.entry) }
+    {
+        match self {
+            BitDomain::Enclave(view) => Some(view),
+            BitDomain::Region {
+                head: _,
+                body: _,
+                tail: _,
+            } => None,
+        }
+    }
+
+    /// The views of the three pieces, where the view isn't within one element: `region` of bitvec.
+    pub fn region(self) -> Option<(BitSlice<'a, T, O>, BitSlice<'a, T, O>, BitSlice<'a, T, O>)>
+        ensures { option_map (λ given. (seen given.0, (seen given.1, seen given.2))) result ≡ region_views (views_of self.entry) }
+    {
+        match self {
+            BitDomain::Enclave(_) => None,
+            BitDomain::Region { head, body, tail } => Some((head, body, tail)),
+        }
+    }
+}
+
+impl<'a, T: BitStore, O: BitOrder> BitDomainMut<'a, T, O> {
+    /// The view, where it touches neither edge of the one element that it lies in: `enclave` of bitvec.
+    pub fn enclave(self) -> Option<BitSliceMut<'a, T, O>>
+        ensures { option_map seen_mut result ≡ enclave_view (views_of_mut self.entry) }
+    {
+        match self {
+            BitDomainMut::Enclave(view) => Some(view),
+            BitDomainMut::Region {
+                head: _,
+                body: _,
+                tail: _,
+            } => None,
+        }
+    }
+
+    /// The views of the three pieces, where the view isn't within one element: `region` of bitvec.
+    pub fn region(
+        self,
+    ) -> Option<
+        (
+            BitSliceMut<'a, T, O>,
+            BitSliceMut<'a, T, O>,
+            BitSliceMut<'a, T, O>,
+        ),
+    >
+        ensures { option_map (λ given. (seen_mut given.0, (seen_mut given.1, seen_mut given.2))) result ≡ region_views (views_of_mut self.entry) }
+    {
+        match self {
+            BitDomainMut::Enclave(_) => None,
+            BitDomainMut::Region { head, body, tail } => Some((head, body, tail)),
+        }
+    }
 }
 
 /// A window, cut at the edges of elements. Condition: the memory has at most `MAX_BITS` bits, and

@@ -1,10 +1,10 @@
-//! `==` of shared views of the same type.
+//! `==` of views of the same type.
 ghost use Rattle.std.proofs.Common.{rules};
 ghost use Rattle.std.specs.Cmp.Rules.{comparing};
 ghost use Rattle.bitvec_traits.specs.base.Lists.{same_bits};
-ghost use Rattle.bitvec_slice.specs.Views.{seen};
+ghost use Rattle.bitvec_slice.specs.Views.{seen, seen_mut};
 
-use crate::BitSlice;
+use crate::{BitSlice, BitSliceMut};
 use bitvec_traits::elements::eq_block_in;
 use bitvec_traits::engine::SliceOrder;
 use bitvec_traits::store::BitStore;
@@ -26,5 +26,20 @@ impl<'a, T: BitStore, O: SliceOrder> PartialEq for BitSlice<'a, T, O> {
 }
 
 impl<'a, T: BitStore, O: SliceOrder> Eq for BitSlice<'a, T, O> {
+    ghost laws = { Prim.search (comparing, rules) };
+}
+
+impl<'a, T: BitStore, O: SliceOrder> PartialEq for BitSliceMut<'a, T, O> {
+    ghost eq = { λ view other. same_bits (seen_mut view).bits (seen_mut other).bits };
+
+    ghost laws = { Prim.search (comparing, rules) };
+
+    /// Whether the other view has the same bits.
+    fn eq(&self, other: &Self) -> bool {
+        self.as_ref() == other.as_ref()
+    }
+}
+
+impl<'a, T: BitStore, O: SliceOrder> Eq for BitSliceMut<'a, T, O> {
     ghost laws = { Prim.search (comparing, rules) };
 }

@@ -1,9 +1,9 @@
-//! The texts of shared views.
+//! The texts of views.
 ghost use Rattle.std.specs.Prelude.{Some};
-ghost use Rattle.bitvec_slice.specs.Views.{seen};
+ghost use Rattle.bitvec_slice.specs.Views.{seen, seen_mut};
 ghost use Rattle.bitvec_traits.specs.Listing.{bits_text};
 
-use crate::BitSlice;
+use crate::{BitSlice, BitSliceMut};
 use bitvec_traits::base::BitOrder;
 use bitvec_traits::store::BitStore;
 use bitvec_traits::write_bits_in;
@@ -24,5 +24,23 @@ impl<'a, T: BitStore, O: BitOrder> fmt::Debug for BitSlice<'a, T, O> {
 
     fn fmt<W: fmt::Write>(&self, f: &mut fmt::Formatter<W>) -> fmt::Result {
         write_bits_in::<T, O, W>(self.elements(), self.window(), f)
+    }
+}
+
+/// The bits as a list, as `[0, 1, 0]`.
+impl<'a, T: BitStore, O: BitOrder> fmt::Display for BitSliceMut<'a, T, O> {
+    ghost output = { λ view. Some (bits_text (seen_mut view).bits) };
+
+    fn fmt<W: fmt::Write>(&self, f: &mut fmt::Formatter<W>) -> fmt::Result {
+        fmt::Display::fmt(&self.as_ref(), f)
+    }
+}
+
+/// The text of `Display`.
+impl<'a, T: BitStore, O: BitOrder> fmt::Debug for BitSliceMut<'a, T, O> {
+    ghost debug_output = { λ view. Some (bits_text (seen_mut view).bits) };
+
+    fn fmt<W: fmt::Write>(&self, f: &mut fmt::Formatter<W>) -> fmt::Result {
+        fmt::Display::fmt(&self.as_ref(), f)
     }
 }

@@ -28,6 +28,8 @@ mod ranges;
 #[cfg(test)]
 mod references;
 #[cfg(test)]
+mod shown;
+#[cfg(test)]
 mod split_apart;
 #[cfg(test)]
 mod split_at;

@@ -44,6 +44,16 @@ fn each_width_under_lsb0(rt: HostRuntime) {
     let mut cells = [0u64; 3];
     edit_twice::<u64, Lsb0>(&mut cells);
     assert_eq!(rt; cells, [0xFFFF_FFFF_FFFF_FF80, 1, 0x1FFF_FFFF_FFFF_FFFF]);
+    let mut cells = [0u128; 3];
+    edit_twice::<u128, Lsb0>(&mut cells);
+    assert_eq!(rt;
+        cells,
+        [
+            0xFFFF_FFFF_FFFF_FFFF_FFFF_FFFF_FFFF_FF80,
+            1,
+            0x1FFF_FFFF_FFFF_FFFF_FFFF_FFFF_FFFF_FFFF
+        ]
+    );
     let mut cells = [0usize; 3];
     edit_twice::<usize, Lsb0>(&mut cells);
     assert_eq!(rt; cells, [0xFFFF_FFFF_FFFF_FF80, 1, 0x1FFF_FFFF_FFFF_FFFF]);
@@ -65,6 +75,16 @@ fn each_width_under_msb0(rt: HostRuntime) {
     assert_eq!(rt;
         cells,
         [0x01FF_FFFF_FFFF_FFFF, 1 << 63, 0xFFFF_FFFF_FFFF_FFF8]
+    );
+    let mut cells = [0u128; 3];
+    edit_twice::<u128, Msb0>(&mut cells);
+    assert_eq!(rt;
+        cells,
+        [
+            0x01FF_FFFF_FFFF_FFFF_FFFF_FFFF_FFFF_FFFF,
+            1 << 127,
+            0xFFFF_FFFF_FFFF_FFFF_FFFF_FFFF_FFFF_FFF8
+        ]
     );
     let mut cells = [0usize; 3];
     edit_twice::<usize, Msb0>(&mut cells);
@@ -90,6 +110,16 @@ fn each_width_under_hilo(rt: HostRuntime) {
     let mut cells = [0u64; 3];
     edit_twice::<u64, HiLo>(&mut cells);
     assert_eq!(rt; cells, [0xFFFF_FFFF_FFFF_FF08, 0x10, 0xF1FF_FFFF_FFFF_FFFF]);
+    let mut cells = [0u128; 3];
+    edit_twice::<u128, HiLo>(&mut cells);
+    assert_eq!(rt;
+        cells,
+        [
+            0xFFFF_FFFF_FFFF_FFFF_FFFF_FFFF_FFFF_FF08,
+            0x10,
+            0xF1FF_FFFF_FFFF_FFFF_FFFF_FFFF_FFFF_FFFF
+        ]
+    );
     let mut cells = [0usize; 3];
     edit_twice::<usize, HiLo>(&mut cells);
     assert_eq!(rt; cells, [0xFFFF_FFFF_FFFF_FF08, 0x10, 0xF1FF_FFFF_FFFF_FFFF]);

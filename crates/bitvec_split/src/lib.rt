@@ -8,6 +8,7 @@ mod counted_lending;
 mod counting;
 mod lending;
 mod splitting;
+mod walks;
 mod ways;
 
 pub use calls::SplitCalls;
@@ -16,4 +17,5 @@ pub use counted_lending::{RSplitNMut, SplitNMut, SplitsNMut};
 pub use counting::{RSplitN, SplitN, SplitsN};
 pub use lending::{RSplitMut, SplitInclusiveMut, SplitMut, SplitsMut};
 pub use splitting::{RSplit, Split, SplitInclusive, Splits};
+pub use walks::{CountedSplitWalk, SplitWalk};
 pub use ways::{Forward, Inclusive, Reversed, Way};

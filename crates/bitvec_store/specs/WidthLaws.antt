@@ -1,17 +1,13 @@
 -- What holds at each width.
-use Rattle.std.specs.Prelude.{◌≡◌, ℕ, ◌<◌, ◌≤◌}
-use Rattle.std.proofs.Common.{arith, sym, subst, ⊎_elim, lit<}
+use Rattle.std.specs.Prelude.{ℕ, ◌<◌}
+use Rattle.std.proofs.Common.{sym, subst, ⊎_elim, lit<}
 use Rattle.bitvec_store.specs.Width.{IsWidth}
 
 -- what is true of each of the widths is true of a width
-pub at_each_width : (P : ℕ → Type 0) → P 8 → P 16 → P 32 → P 64 → (b : ℕ) → IsWidth b → P b
-at_each_width P p8 p16 p32 p64 b w =
-    ⊎_elim (λ e. subst P (sym e) p8) (⊎_elim (λ e. subst P (sym e) p16) (⊎_elim (λ e. subst P (sym e) p32) (λ e. subst P (sym e) p64))) w
+pub at_each_width : (P : ℕ → Type 0) → P 8 → P 16 → P 32 → P 64 → P 128 → (b : ℕ) → IsWidth b → P b
+at_each_width P p8 p16 p32 p64 p128 b w =
+    ⊎_elim (λ e. subst P (sym e) p8) (⊎_elim (λ e. subst P (sym e) p16) (⊎_elim (λ e. subst P (sym e) p32) (⊎_elim (λ e. subst P (sym e) p64) (λ e. subst P (sym e) p128)))) w
 
 -- a width is not 0
 pub width_some : (b : ℕ) → IsWidth b → 0 < b
-width_some b w = at_each_width (λ n. 0 < n) (lit< tt) (lit< tt) (lit< tt) (lit< tt) b w
-
--- nor more than 64
-pub width_most : (b : ℕ) → IsWidth b → b ≤ 64
-width_most b w = at_each_width (λ n. n ≤ 64) (omega arith) (omega arith) (omega arith) (omega arith) b w
+width_some b w = at_each_width (λ n. 0 < n) (lit< tt) (lit< tt) (lit< tt) (lit< tt) (lit< tt) b w

@@ -12,7 +12,10 @@ pub fn mixed_elements<T: BitStore, A: Allocator>(
     let mut elements = Vec::new(alloc);
     for _ in 0..count {
         number = number.wrapping_mul(0x5851_F42D_4C95_7F2D).wrapping_add(1);
-        elements.push(T::from_u128((number ^ number >> 29) as u128 & T::ALL.to_u128()))?;
+        let low = number ^ number >> 29;
+        let high = low.wrapping_mul(0x9E37_79B9_7F4A_7C15);
+        let mixed = (high as u128) << 64 | low as u128;
+        elements.push(T::from_u128(mixed & T::ALL.to_u128()))?;
     }
     Ok(elements)
 }

@@ -16,3 +16,4 @@ rotated_permutes =
     (record { below = λ i low. omega arith; apart = λ i j low high same. omega arith })
     (record { below = λ i low. omega arith; apart = λ i j low high same. omega arith })
     (record { below = λ i low. omega arith; apart = λ i j low high same. omega arith })
+    (record { below = λ i low. omega arith; apart = λ i j low high same. omega arith })

@@ -7,6 +7,8 @@ mod answers;
 #[cfg(test)]
 mod device;
 #[cfg(test)]
+mod edits_composed;
+#[cfg(test)]
 mod edits_known;
 #[cfg(test)]
 mod filled;
@@ -23,8 +25,12 @@ mod own_element;
 #[cfg(test)]
 mod own_order;
 #[cfg(test)]
+mod own_wide_element;
+#[cfg(test)]
 mod runs_known;
 #[cfg(test)]
 mod slots;
 #[cfg(test)]
 mod transfers;
+#[cfg(test)]
+mod walks_known;

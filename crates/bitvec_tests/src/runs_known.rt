@@ -1,13 +1,15 @@
 //! What a caller knows of two halves after a run of commands, and of copies of a view.
-ghost use Rattle.std.specs.Prelude.{◌≡◌, ◌≤◌, [], IfOk, length};
+ghost use Rattle.std.specs.Prelude.{◌≡◌, ◌*◌, ◌≤◌, [], IfOk, length, map, replicate};
 ghost use Rattle.std.specs.List.{repeat};
 ghost use Rattle.bitvec.specs.Copies.{Holds};
 ghost use Rattle.bitvec.specs.Counts.{ones_of};
 ghost use Rattle.bitvec.specs.Fold.{list_after, replies_of};
+ghost use Rattle.bitvec.specs.Memory.{memory_bits};
 ghost use Rattle.bitvec.specs.Owned.{owned};
 ghost use Rattle.bitvec.specs.Sides.{halves_of, joined, side_lists, side_reply};
 ghost use Rattle.bitvec.specs.Views.{seen, seen_mut};
 
+use crate::filled::fill_all;
 use bitvec::prelude::*;
 use bitvec::run::{Op, Reply, Side, Step, run_halves};
 use bitvec::vec::RepeatError;
@@ -59,6 +61,16 @@ pub fn flipped_copy<T: BitStore, O: SliceOrder>(
     Ok((copy, ones))
 }
 
+/// Fills all bits of a sequence's elements, by a function over a slice: what it leaves in the slice is what the
+/// sequence has.
+pub fn fill_elements<T: BitStore, O: SliceOrder>(bits: &mut BitVec<T, O, Global>, bit: bool)
+    ensures bits { memory_bits T.BITS O.at (map T.value (owned bits.new).elements)
+        ≡ replicate (T.BITS * length (owned bits.old).elements) bit }
+    ensures window { (owned bits.new).window ≡ (owned bits.old).window }
+{
+    fill_all::<T, O>(bits.as_raw_mut_slice(), bit);
+}
+
 #[test]
 fn halves_are_run(rt: HostRuntime) {
     let mut cells = [0b0101_0110u8];
@@ -100,5 +112,8 @@ fn copies_are_made(rt: HostRuntime) -> Result<(), Fail> {
     let (copy, ones) = flipped_copy(rt.alloc(), view)?;
     assert_eq!(rt; copy.as_raw_slice(), [0xCE].as_slice());
     assert_eq!(rt; ones, 3);
+    let mut filled = view.to_bitvec(rt.alloc())?;
+    fill_elements(&mut filled, true);
+    assert_eq!(rt; filled.as_raw_slice(), [0xFF].as_slice());
     Ok(())
 }

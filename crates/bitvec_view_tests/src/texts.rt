@@ -58,3 +58,20 @@ fn no_bits(rt: HostRuntime) -> Result<(), Fail> {
     assert_eq!(rt; format!(in rt.alloc(); "{hex}")?.as_str(), "[]");
     Ok(())
 }
+
+#[test]
+fn a_wide_element(rt: HostRuntime) -> Result<(), Fail> {
+    let bits = [1u128];
+    let view = BitSlice::<u128, Lsb0>::from_slice(&bits);
+    let hex = LowerHex(view);
+    let octal = Octal(view);
+    assert_eq!(rt;
+        format!(in rt.alloc(); "{hex}")?.as_str(),
+        "[80000000000000000000000000000000]"
+    );
+    assert_eq!(rt;
+        format!(in rt.alloc(); "{octal}")?.as_str(),
+        "[2000000000000000000000000000000000000000000]"
+    );
+    Ok(())
+}

@@ -148,7 +148,7 @@ turned_halved b half n lower now before whole has turned k t h low =
 
 -- a width is a power of two
 width_power : (b : ℕ) → IsWidth b → (j : ℕ) × (b ≡ 2 ^ j)
-width_power b w = at_each_width (λ n. (j : ℕ) × (n ≡ 2 ^ j)) (3, refl) (4, refl) (5, refl) (6, refl) b w
+width_power b w = at_each_width (λ n. (j : ℕ) × (n ≡ 2 ^ j)) (3, refl) (4, refl) (5, refl) (6, refl) (7, refl) b w
 
 -- one block is in the reverse order
 pub TurnsBlocks-start : (b v all : ℕ) → IsWidth b → all ≡ 2 ^ b - 1 → TurnsBlocks b b all v v

@@ -72,5 +72,8 @@ fn each_width(rt: HostRuntime) {
     sweep::<u32, Msb0, _>(&rt, &mut [0; 6]);
     sweep::<u64, Msb0, _>(&rt, &mut [0; 3]);
     sweep::<u64, Lsb0, _>(&rt, &mut [0; 3]);
+    sweep::<u128, Lsb0, _>(&rt, &mut [0; 2]);
+    sweep::<u128, Msb0, _>(&rt, &mut [0; 2]);
     sweep::<u8, HiLo, _>(&rt, &mut [0; 24]);
+    sweep::<u128, HiLo, _>(&rt, &mut [0; 2]);
 }

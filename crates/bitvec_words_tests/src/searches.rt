@@ -109,4 +109,7 @@ fn wider_elements(rt: HostRuntime) {
     sweep::<u32, Lsb0, _>(&rt, &mut [0; 10]);
     sweep::<u64, Lsb0, _>(&rt, &mut [0; 6]);
     sweep::<u64, Msb0, _>(&rt, &mut [0; 6]);
+    sweep::<u128, Lsb0, _>(&rt, &mut [0; 3]);
+    sweep::<u128, Msb0, _>(&rt, &mut [0; 3]);
+    sweep::<u128, HiLo, _>(&rt, &mut [0; 3]);
 }

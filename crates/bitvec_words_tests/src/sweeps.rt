@@ -198,6 +198,7 @@ fn sweep_each_width<O: SliceOrder, R: Abort + AllocGlobal>(rt: &R) -> Result<(),
     sweep_all::<u16, O, R>(rt)?;
     sweep_all::<u32, O, R>(rt)?;
     sweep_all::<u64, O, R>(rt)?;
+    sweep_all::<u128, O, R>(rt)?;
     sweep_all::<usize, O, R>(rt)
 }
 

@@ -15,7 +15,6 @@ pub struct Layout {
     /// Whether the first bit of an element is its highest.
     pub high: bool,
     ghost some: { 0 < bits },
-    ghost most: { bits ≤ 64 },
 }
 
 impl Layout {
@@ -50,6 +49,9 @@ pub(super) fn load_le(layout: Layout, place: usize, list: &[bool]) -> u128
     }
     let len = first_len(layout, place, list.len());
     let first = segment_number(layout.high, &list[..len]);
+    if len == list.len() {
+        return first;
+    }
     let rest = load_le(layout, place + len, &list[len..]);
     (rest << len) + first
 }
@@ -80,6 +82,9 @@ pub(super) fn store_le(layout: Layout, place: usize, list: &mut [bool], value: u
     }
     let len = first_len(layout, place, list.len());
     give_number(layout.high, &mut list[..len], value);
+    if len == list.len() {
+        return;
+    }
     store_le(layout, place + len, &mut list[len..], value >> len);
 }
 

@@ -2,7 +2,6 @@ use Rattle.std.proofs.Common.{◌≡◌, ℕ, arith, rules, ap, sym, ◌∙◌, 
 use Rattle.bitvec_copy.specs.base.Memory.{element_bits}
 use Rattle.bitvec_copy.specs.base.PartLaws.{element-none}
 use Rattle.bitvec_copy.specs.base.SliceLaws.{range-none}
-use Rattle.bitvec_copy.specs.store.WidthLaws.{width_most}
 use Rattle.bitvec_copy.specs.words.Field.{padded}
 use Rattle.bitvec_copy.specs.words.MovedLaws.{padded-none}
 use Rattle.bitvec_engine.proofs.FrontLemmas.{gathered-none, gathered-one}
@@ -18,11 +17,10 @@ loop-index-preserved g c =
     let at = g.O.BitOrder.at in
     let to = g.P.BitOrder.at in
     let i = c.loop-index.index in
-    let fits = width_most b g.met.T.BitStore.width_law in
     let is = rw c.select.ensures at (c.to_u128.ensures.number ∙ c.and.ensures) in
     elim c.if-to_u128-ne0.branch [
-      | then-to_u128-ne0 w ↦ rw (w.word-is, w.select-word.ensures) (gathered-one b 64 at to _ c.loop-index.word c.args.part.from i _ c.loop-index.auto.index (omega arith) fits is c.loop-index.invariant (g.met.P.BitOrder.permutes 64 (search rules)) w.if-to_u128-ne0.true)
-      | else-to_u128-ne0 w ↦ rw w.word-is (gathered-none b 64 at to _ c.loop-index.word c.args.part.from i _ c.loop-index.auto.index (omega arith) fits is c.loop-index.invariant w.if-to_u128-ne0.false)
+      | then-to_u128-ne0 w ↦ rw (w.word-is, w.select-word.ensures) (gathered-one b 64 at to _ c.loop-index.word c.args.part.from i _ c.loop-index.auto.index (omega arith) (omega arith) is c.loop-index.invariant (g.met.P.BitOrder.permutes 64 (search rules)) w.if-to_u128-ne0.true)
+      | else-to_u128-ne0 w ↦ rw w.word-is (gathered-none b 64 at to _ c.loop-index.word c.args.part.from i _ c.loop-index.auto.index (omega arith) (omega arith) is c.loop-index.invariant w.if-to_u128-ne0.false)
     ]
 
 pub returns : goal.returns

@@ -2,19 +2,20 @@ use Rattle.std.proofs.Common.{◌≡◌, ℕ, ◌+◌, ◌-◌, arith, rules, ap
 use Rattle.bitvec_copy.specs.base.Memory.{element_bits}
 use Rattle.bitvec_copy.specs.base.PartLaws.{length-part}
 use Rattle.bitvec_copy.specs.base.Parts.{first_part_of}
-use Rattle.bitvec_copy.specs.store.WidthLaws.{width_most, width_some}
+use Rattle.bitvec_copy.specs.store.WidthLaws.{width_some}
 use Rattle.bitvec_copy.specs.walk.WalkLaws.{first-len}
+use Rattle.bitvec_engine.specs.Front.{front_window}
 use Rattle.bitvec_engine.proofs.FrontLemmas.{part-front, touched-part, touched-word, word-front, written-padded}
 use Rattle.bitvec_engine.proofs.fronts.words_load_front.Goals as goal
 
 pub returns-then-window-bits-eq0-clause-value : goal.returns-then-window-bits-eq0-clause-value
 returns-then-window-bits-eq0-clause-value g c =
-    word-front g.C.Elem.BitStore.BITS g.O.BitOrder.at _ c.args.window _ g.met.C.Elem.BitStore.width_law c.if-window-ge-WORD_BITS.true (rw c.BITS-bits.ensures at c.if-window-bits-eq0.true) c.requires.window
+    word-front g.C.Elem.BitStore.BITS g.O.BitOrder.at _ c.args.window _ g.met.C.Elem.BitStore.width_law (rw c.BITS-bits.ensures at c.if-bits-le-WORD_BITS.true) c.if-window-ge-WORD_BITS.true (rw c.BITS-bits.ensures at c.if-window-bits-eq0.true) c.requires.window
     (rw c.BITS-bits.ensures at c.load_elements-word.ensures.value)
 
 pub returns-then-window-bits-eq0-clause-reads : goal.returns-then-window-bits-eq0-clause-reads
 returns-then-window-bits-eq0-clause-reads g c =
-    rw (touched-word g.C.Elem.BitStore.BITS c.args.window.start g.met.C.Elem.BitStore.width_law (rw c.BITS-bits.ensures at c.if-window-bits-eq0.true))
+    rw (touched-word g.C.Elem.BitStore.BITS c.args.window.start g.met.C.Elem.BitStore.width_law (rw c.BITS-bits.ensures at c.if-bits-le-WORD_BITS.true) (rw c.BITS-bits.ensures at c.if-window-bits-eq0.true))
     c.load_elements-word.ensures.reads
 
 pub returns-clause-value : goal.returns-clause-value
@@ -23,11 +24,11 @@ returns-clause-value g c =
     let at = g.O.BitOrder.at in
     let width = g.met.C.Elem.BitStore.width_law in
     let window = c.args.window in
-    let part : c.first_part-part.result ≡ first_part_of b window = c.first_part-part.ensures ∙ ap (λ (n : ℕ). first_part_of n window) c.BITS-bits.ensures in
+    let front = front_window window in
+    let part : c.first_part-part.result ≡ first_part_of b front = rw c.front_window.ensures at c.first_part-part.ensures ∙ ap (λ (n : ℕ). first_part_of n front) c.BITS-bits.ensures in
     let v = g.C.Elem.BitStore.value c.load-element.result in
-    let first = first_part_of b window in
-    let len = first-len b window (width_some b width) c.requires.some in
-    let most = width_most b width in
+    let first = first_part_of b front in
+    let len = first-len b front (width_some b width) (let some = c.requires.some in omega arith) in
     let long = length-part b at v first.from first.to (omega arith) in
     let end : first.from + (first.to - first.from) ≡ first.to = omega arith in
     rw (c.len-count.ensures, part)
@@ -37,6 +38,7 @@ returns-clause-value g c =
 pub returns-clause-reads : goal.returns-clause-reads
 returns-clause-reads g c =
     let b = g.C.Elem.BitStore.BITS in
-    let part : c.first_part-part.result ≡ first_part_of b c.args.window = c.first_part-part.ensures ∙ ap (λ (n : ℕ). first_part_of n c.args.window) c.BITS-bits.ensures in
-    let one = touched-part b c.args.window g.met.C.Elem.BitStore.width_law c.requires.some in
+    let front = front_window c.args.window in
+    let part : c.first_part-part.result ≡ first_part_of b front = rw c.front_window.ensures at c.first_part-part.ensures ∙ ap (λ (n : ℕ). first_part_of n front) c.BITS-bits.ensures in
+    let one = touched-part b front g.met.C.Elem.BitStore.width_law (let some = c.requires.some in omega arith) in
     rw (c.len-count.ensures, part, one) (search rules)

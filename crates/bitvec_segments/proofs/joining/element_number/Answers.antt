@@ -5,13 +5,13 @@ use Rattle.bitvec_words.specs.base.Memory.{element_bits}
 use Rattle.bitvec_words.specs.base.MemoryLaws.{length-element_bits}
 use Rattle.bitvec_segments.specs.NumberLaws.{segment_number-below}
 use Rattle.bitvec_segments.specs.Segments.{segment_number}
-use Rattle.bitvec_segments.proofs.JoinedWindow.{list-whole, width_most}
+use Rattle.bitvec_segments.proofs.JoinedWindow.{list-whole}
 use Rattle.bitvec_segments.proofs.joining.element_number.Goals as goal
 
 pub returns-clause-value : goal.returns-clause-value
 returns-clause-value g c =
     c.part_number.ensures.value
-    ∙ ap (segment_number g.O.WordOrder.HIGH) (list-whole _ _ _ c.args.element c.BITS.result c.BITS.ensures c.requires)
+    ∙ ap (segment_number g.O.WordOrder.HIGH) (list-whole _ _ _ c.args.element c.BITS.result c.BITS.ensures c.requires.inside)
 
 pub returns-clause-fits : goal.returns-clause-fits
 returns-clause-fits g c =
@@ -24,6 +24,5 @@ returns-clause-fits g c =
 pub overflow_cast-result : goal.overflow_cast-result
 overflow_cast-result g c =
     let below = returns-clause-fits g c in
-    let most = width_most _ g.met.C.Elem.BitStore.width_law in
-    let order : 2 ^ g.C.Elem.BitStore.BITS ≤ 2 ^ 64 = pow_mono most in
+    let order : 2 ^ g.C.Elem.BitStore.BITS ≤ 2 ^ 64 = pow_mono c.requires.narrow in
     record { fits = omega arith }

@@ -1,4 +1,4 @@
-use Rattle.std.proofs.Common.{◌≡◌, ◌+◌, ◌*◌, ◌<◌, ◌≤◌, List, refl}
+use Rattle.std.proofs.Common.{◌≡◌, ◌+◌, ◌*◌, ◌<◌, ◌≤◌, List, refl, subst, sym}
 use Rattle.std.specs.Coded.{le_prop}
 use Rattle.std.specs.Int.{div_ceil}
 use Rattle.std.specs.Prelude.{vec_len}
@@ -9,7 +9,7 @@ use Rattle.bitvec_edit.specs.base.declared.order.BitOrder.{Ghosts as Order}
 use Rattle.bitvec_edit.specs.store.declared.store.BitStore.{Ghosts as Store}
 use Rattle.bitvec_owned.specs.Lending.{with_elements}
 use Rattle.bitvec_owned.specs.declared.bit_vec.BitVec.{BitVec}
-use Rattle.bitvec_owned.proofs.bit_vec.BitVec.elements_mut.Goals as goal
+use Rattle.bitvec_owned.proofs.bit_vec.BitVec.as_raw_mut_slice.Goals as goal
 
 -- a sequence's facts have one proof each
 module _ {T O A : Type 0} {t : Store T} {o : Order O} (v : BitVec T O A t o) (xs : List T) where
@@ -26,4 +26,4 @@ module _ {T O A : Type 0} {t : Store T} {o : Order O} (v : BitVec T O A t o) (xs
   }
 
 pub returns : goal.returns
-returns g c = ((refl, λ w. same c.args.self.now w _ _ _), record { writes_back = tt; elements = c.as_mut_slice.ensures.value })
+returns g c = ((refl, λ w. same c.args.self.now w _ _ _), record { writes_back = tt; elements = c.as_mut_slice.ensures.value; fits = subst (λ n. g.T.BitStore.BITS * n ≤ max_bits) (sym c.as_mut_slice.ensures.len) c.args.self.now.bounded })

@@ -1,0 +1,143 @@
+-- A field written into a view, and one field after the other.
+use Rattle.std.specs.Prelude.{◌≡◌, ℕ, ◌+◌, ◌%◌, ◌^◌, ◌<◌, ◌≤◌, ◌⊎◌, Bool, List, length, slice_index, slice_index_or, slice_range, refl}
+use Rattle.std.proofs.Common.{arith, sym, ◌∙◌, ap, ⊎_elim, inl, inr, subst}
+use Rattle.std.proofs.lemmas.List.{same_lists}
+use Rattle.std.proofs.Math.Nat.{mod-eq_of_lt, mod-mod}
+use Rattle.std.proofs.Math.Pow.{pow_mono}
+use Rattle.bitvec.specs.LoadLaws.{loaded_be-phase, loaded_le-phase}
+use Rattle.bitvec.specs.Segments.{loaded_be, loaded_le, stored_be, stored_le}
+use Rattle.bitvec.specs.SeenLaws.{length_bits}
+use Rattle.bitvec.specs.StoreLaws.{length-stored_be, length-stored_le, stored_be-loads, stored_le-loads}
+use Rattle.bitvec.specs.Types.{BitSliceMut, Order, Store, Window}
+use Rattle.bitvec.specs.Views.{seen_mut}
+use Rattle.bitvec.specs.Window.{IsWithin, window_of, write_at}
+use Rattle.bitvec.specs.WindowLaws.{get-window, length-window, window-written}
+use Rattle.bitvec.specs.WriteLaws.{get-write_at_above, get-write_at_below, length-slice_range}
+use Rattle.bitvec.specs.Writes.{WritesBits}
+use Rattle.bitvec.specs.WritesLaws.{written-then}
+use Rattle.bitrecord.specs.Layouts.{AreApart, HasWidth, IsLayout, field_at}
+use Rattle.bitrecord.specs.Records.{Fits, IsBeside, WritesField, WritesFields, number_in, number_of}
+use Rattle.bitrecord.specs.declared.endian.Endian.{Endian}
+use Rattle.bitrecord.specs.declared.endian.Endian.TheVariants.{Big as big, Little as little}
+
+earlier_or_this : (k n : ℕ) → k < n + 1 → (k < n) ⊎ (k ≡ n)
+earlier_or_this k n low = grind arith
+
+less_or_not : (m n : ℕ) → (m < n) ⊎ (n ≤ m)
+less_or_not m n = grind arith
+
+below-more : (a m n : ℕ) → a < m → m ≤ n → a < n
+below-more a m n low most = omega arith
+
+fits-kept : (len value : ℕ) → len ≤ 128 → value < 2 ^ len → value % 2 ^ 128 % 2 ^ len ≡ value
+fits-kept len value bound fits =
+    let most : 2 ^ len ≤ 2 ^ 128 = pow_mono bound in
+    ap (λ (n : ℕ). n % 2 ^ len) (mod-eq_of_lt (below-more value _ _ fits most)) ∙ mod-eq_of_lt fits
+
+field-slice : (list : List Bool) (field : Window) → window_of list field ≡ slice_range list field.start (field.start + field.len)
+unfolding window_of
+field-slice list field = refl
+
+-- what is loaded of a part that is the field
+pub take-le : (high : Bool) (b s start : ℕ) (list part : List Bool) (field : Window) → part ≡ slice_range list field.start (field.start + field.len) → start ≡ (s + field.start) % b
+    → loaded_le high b start part ≡ loaded_le high b (s + field.start) (window_of list field)
+take-le high b s start list part field is place =
+    loaded_le-phase high b start (s + field.start) part (ap (λ (n : ℕ). n % b) place ∙ mod-mod (s + field.start) b)
+    ∙ ap (loaded_le high b (s + field.start)) (is ∙ sym (field-slice list field))
+
+pub take-be : (high : Bool) (b s start : ℕ) (list part : List Bool) (field : Window) → part ≡ slice_range list field.start (field.start + field.len) → start ≡ (s + field.start) % b
+    → loaded_be high b start part ≡ loaded_be high b (s + field.start) (window_of list field)
+take-be high b s start list part field is place =
+    loaded_be-phase high b start (s + field.start) part (ap (λ (n : ℕ). n % b) place ∙ mod-mod (s + field.start) b)
+    ∙ ap (loaded_be high b (s + field.start)) (is ∙ sym (field-slice list field))
+
+-- of two fields that are apart one ends before the other begins
+apart-sides : (x y : Window) → AreApart x y → (x.start + x.len ≤ y.start) ⊎ (y.start + y.len ≤ x.start)
+apart-sides x y apart =
+    ⊎_elim (λ (front : y.start < x.start + x.len).
+    ⊎_elim (λ (behind : x.start < y.start + y.len). absurd (apart (record { first = front; second = behind })))
+    (λ (ends : y.start + y.len ≤ x.start). inr ends) (less_or_not x.start (y.start + y.len)))
+    (λ (ends : x.start + x.len ≤ y.start). inl ends) (less_or_not y.start (x.start + x.len))
+
+beside-side : (other field : Window) (k : ℕ) → k < other.len → (other.start + other.len ≤ field.start) ⊎ (field.start + field.len ≤ other.start) → IsBeside field (other.start + k)
+beside-side other field k low sides = ⊎_elim (λ (front : other.start + other.len ≤ field.start). inl (omega arith)) (λ (behind : field.start + field.len ≤ other.start). inr (omega arith)) sides
+
+module _ {T O : Type 0} {t : Store T} {o : Order O} (high : Bool) (before after : BitSliceMut T O t o) where
+  long : (v : BitSliceMut T O t o) → length (seen_mut v).bits ≡ (seen_mut v).window.len
+  long v = length_bits t.BITS o.at t.value v.elements.now v.head v.len v.inside
+
+  -- a list with the number, written into the field
+  pub put-field : (endian : Endian) (field : Window) (value : ℕ) (new : List Bool) → IsWithin field (seen_mut before).window.len → length new ≡ field.len
+      → number_of endian high t.BITS ((seen_mut before).window.start + field.start) new ≡ value
+      → WritesBits before after (write_at (seen_mut before).bits field.start new) → WritesField endian high field value before after
+  put-field endian field value new inside many is wrote =
+      let all = long before in
+      let start = inside.start in
+      let len = inside.len in
+      let within : IsWithin field (length (seen_mut before).bits) = record { start = omega arith; len = omega arith } in
+      let holds : window_of (seen_mut after).bits field ≡ new = ap (λ (l : List Bool). window_of l field) wrote.bits ∙ window-written (seen_mut before).bits field new within many in
+      record {
+        number = ap (λ (w : Window). number_of endian high t.BITS (w.start + field.start) (window_of (seen_mut after).bits field)) wrote.window
+            ∙ ap (number_of endian high t.BITS ((seen_mut before).window.start + field.start)) holds ∙ is;
+        others = λ place d beside. ap (λ (l : List Bool). slice_index_or l place d) wrote.bits
+            ∙ ⊎_elim (λ (front : place < field.start). get-write_at_below (seen_mut before).bits field.start new place d (omega arith) front)
+            (λ (behind : field.start + field.len ≤ place). get-write_at_above (seen_mut before).bits field.start new place d (omega arith) (omega arith)) beside;
+        written = subst (WritesBits before after) (sym wrote.bits) wrote;
+      }
+
+  pub put-le : (field : Window) (value : ℕ) → HasWidth field → IsWithin field (seen_mut before).window.len → Fits field value → 0 < t.BITS
+      → WritesBits before after (write_at (seen_mut before).bits field.start (stored_le high t.BITS ((seen_mut before).window.start + field.start) (value % 2 ^ 128) (slice_range (seen_mut before).bits field.start (field.start + field.len))))
+      → WritesField little high field value before after
+  put-le field value width inside fits some wrote =
+      let all = long before in
+      let start = inside.start in
+      let len = inside.len in
+      let list = slice_range (seen_mut before).bits field.start (field.start + field.len) in
+      let many : length list ≡ field.len = length-slice_range (seen_mut before).bits field.start (field.start + field.len) (omega arith) ∙ omega arith in
+      put-field little field value _ inside (length-stored_le high t.BITS _ (value % 2 ^ 128) list ∙ many)
+      (stored_le-loads high t.BITS _ (value % 2 ^ 128) list some ∙ ap (λ (n : ℕ). value % 2 ^ 128 % 2 ^ n) many ∙ fits-kept field.len value width.bound fits) wrote
+
+  pub put-be : (field : Window) (value : ℕ) → HasWidth field → IsWithin field (seen_mut before).window.len → Fits field value → 0 < t.BITS
+      → WritesBits before after (write_at (seen_mut before).bits field.start (stored_be high t.BITS ((seen_mut before).window.start + field.start) (value % 2 ^ 128) (slice_range (seen_mut before).bits field.start (field.start + field.len))))
+      → WritesField big high field value before after
+  put-be field value width inside fits some wrote =
+      let all = long before in
+      let start = inside.start in
+      let len = inside.len in
+      let list = slice_range (seen_mut before).bits field.start (field.start + field.len) in
+      let many : length list ≡ field.len = length-slice_range (seen_mut before).bits field.start (field.start + field.len) (omega arith) ∙ omega arith in
+      put-field big field value _ inside (length-stored_be high t.BITS _ (value % 2 ^ 128) list ∙ many)
+      (stored_be-loads high t.BITS _ (value % 2 ^ 128) list some ∙ ap (λ (n : ℕ). value % 2 ^ 128 % 2 ^ n) many ∙ fits-kept field.len value width.bound fits) wrote
+
+  -- a field apart from that which was written has its number as before
+  pub other-field : (endian : Endian) (field other : Window) (value : ℕ) → AreApart other field → IsWithin other (seen_mut before).window.len → WritesField endian high field value before after
+      → number_in endian high t.BITS (seen_mut after).window.start (seen_mut after).bits other ≡ number_in endian high t.BITS (seen_mut before).window.start (seen_mut before).bits other
+  other-field endian field other value apart inside wrote =
+      let all = long before in
+      let now = long after ∙ ap (λ (w : Window). w.len) wrote.written.window in
+      let start = inside.start in
+      let len = inside.len in
+      let old-long = length-window (seen_mut before).bits other (record { start = omega arith; len = omega arith }) in
+      let new-long = length-window (seen_mut after).bits other (record { start = omega arith; len = omega arith }) in
+      let beside : (k : ℕ) → k < other.len → IsBeside field (other.start + k) = λ k low. beside-side other field k low (apart-sides other field apart) in
+      let same : window_of (seen_mut after).bits other ≡ window_of (seen_mut before).bits other = same_lists _ _ (omega arith) (λ k d low.
+      let inner : k < other.len = omega arith in
+      get-window (seen_mut after).bits other k d inner ∙ wrote.others (other.start + k) d (beside k inner) ∙ sym (get-window (seen_mut before).bits other k d inner)) in
+      ap (λ (w : Window). number_of endian high t.BITS (w.start + other.start) (window_of (seen_mut after).bits other)) wrote.written.window
+      ∙ ap (number_of endian high t.BITS ((seen_mut before).window.start + other.start)) same
+
+module _ {T O : Type 0} {t : Store T} {o : Order O} (high : Bool) (first now after : BitSliceMut T O t o) where
+  -- the next field is written
+  pub next-field : (endian : Endian) (bits : ℕ) (fields : List Window) (values : List ℕ) (n : ℕ) → IsLayout bits fields → (seen_mut first).window.len ≡ bits → n < length fields
+      → WritesFields endian high fields values n first now → WritesField endian high (field_at fields n) (slice_index values n) now after
+      → WritesFields endian high fields values (n + 1) first after
+  next-field endian bits fields values n layout many below far wrote =
+      let width = ap (λ (w : Window). w.len) far.written.window ∙ many in
+      record {
+        numbers = λ k low. ⊎_elim
+            (λ (earlier : k < n). other-field high now after endian (field_at fields n) (field_at fields k) (slice_index values n)
+            (layout.apart k (omega arith) n (omega arith) below) (rw width (layout.inside k (omega arith))) wrote ∙ far.numbers k earlier)
+            (λ (this : k ≡ n). rw this wrote.number) (earlier_or_this k n low);
+        others = λ place d outside. wrote.others place d (outside n below) ∙ far.others place d outside;
+        written = written-then first now after _ _ far.written wrote.written;
+      }

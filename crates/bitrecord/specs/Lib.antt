@@ -1,0 +1,5 @@
+pub mod bits
+pub mod Layouts
+pub mod RecordLaws
+pub mod Records
+pub mod Views

@@ -1,0 +1,68 @@
+-- Records: the numbers of a layout's fields in a view.
+use Rattle.std.specs.Prelude.{◌≡◌, ℕ, ◌+◌, ◌^◌, ◌<◌, ◌≤◌, ◌⊎◌, Bool, List, length, map, slice_index, slice_index_or}
+use Rattle.bitvec.specs.Types.{BitSliceMut, Order, Store, Window}
+use Rattle.bitvec.specs.Segments.{loaded_be, loaded_le}
+use Rattle.bitvec.specs.Views.{seen_mut}
+use Rattle.bitvec.specs.Window.{window_of}
+use Rattle.bitvec.specs.Writes.{WritesBits}
+use Rattle.bitrecord.specs.Layouts.{field_at}
+use Rattle.bitrecord.specs.declared.encode_error.EncodeError.{EncodeError}
+use Rattle.bitrecord.specs.declared.encode_error.EncodeError.TheVariants as refusal
+use Rattle.bitrecord.specs.declared.endian.Endian.{Endian}
+use Rattle.bitrecord.specs.declared.endian.Endian.TheVariants as end
+
+-- the number of a list of bits at a place, from that end
+abbrev pub number_of : Endian → Bool → ℕ → ℕ → List Bool → ℕ
+number_of end.Little high b s list = loaded_le high b s list
+number_of end.Big high b s list = loaded_be high b s list
+
+-- the number of a field of a list of bits that begins at the place; and the numbers of all fields
+abbrev pub number_in : Endian → Bool → ℕ → ℕ → List Bool → Window → ℕ
+number_in endian high b s list field = number_of endian high b (s + field.start) (window_of list field)
+
+abbrev pub record_in : Endian → Bool → ℕ → ℕ → List Bool → List Window → List ℕ
+record_in endian high b s list fields = map (number_in endian high b s list) fields
+
+-- the place is none of the field's, and of no field
+abbrev pub IsBeside : Window → ℕ → Type 0
+IsBeside field place = (place < field.start) ⊎ (field.start + field.len ≤ place)
+
+abbrev pub IsOutside : List Window → ℕ → Type 0
+IsOutside fields place = (k : ℕ) → k < length fields → IsBeside (field_at fields k) place
+
+-- a value has no more bits than the field
+abbrev pub Fits : Window → ℕ → Type 0
+Fits field value = value < 2 ^ field.len
+
+-- there is one value a field, and each fits
+pub record AreEncodable (fields : List Window) (values : List ℕ) : Type 0 where
+  pub count : length values ≡ length fields
+  pub fit : (k : ℕ) → k < length fields → Fits (field_at fields k) (slice_index values k)
+
+-- the first value that doesn't fit its field
+pub record IsFirstTooLarge (fields : List Window) (values : List ℕ) (i : ℕ) : Type 0 where
+  pub count : length values ≡ length fields
+  pub below : i < length fields
+  pub large : 2 ^ (field_at fields i).len ≤ slice_index values i
+  pub before : (k : ℕ) → k < i → Fits (field_at fields k) (slice_index values k)
+
+abbrev pub IsRefusal : List Window → List ℕ → EncodeError → Type 0
+IsRefusal fields values refusal.Count = (length values ≡ length fields) → ⊥
+IsRefusal fields values (refusal.Range i) = IsFirstTooLarge fields values i
+
+module _ {T O : Type 0} {t : Store T} {o : Order O} where
+  -- the field has this number, and all other bits are as before
+  pub record WritesField (endian : Endian) (high : Bool) (field : Window) (value : ℕ) (before after : BitSliceMut T O t o) : Type 0 where
+    pub number : number_in endian high t.BITS (seen_mut after).window.start (seen_mut after).bits field ≡ value
+    pub others : (place : ℕ) (d : Bool) → IsBeside field place → slice_index_or (seen_mut after).bits place d ≡ slice_index_or (seen_mut before).bits place d
+    pub written : WritesBits before after (seen_mut after).bits
+
+  -- the fields before the number have these numbers, and the bits in no field are as before
+  pub record WritesFields (endian : Endian) (high : Bool) (fields : List Window) (values : List ℕ) (n : ℕ) (before after : BitSliceMut T O t o) : Type 0 where
+    pub numbers : (k : ℕ) → k < n → number_in endian high t.BITS (seen_mut after).window.start (seen_mut after).bits (field_at fields k) ≡ slice_index values k
+    pub others : (place : ℕ) (d : Bool) → IsOutside fields place → slice_index_or (seen_mut after).bits place d ≡ slice_index_or (seen_mut before).bits place d
+    pub written : WritesBits before after (seen_mut after).bits
+
+  -- all fields have these numbers, and the bits in no field are as before
+  abbrev pub WritesRecord : Endian → Bool → List Window → List ℕ → BitSliceMut T O t o → BitSliceMut T O t o → Type 0
+  WritesRecord endian high fields values before after = WritesFields endian high fields values (length fields) before after

@@ -1,0 +1,34 @@
+//! Want of memory.
+use bitrecord::bits::Window;
+use bitrecord::{Layout, LayoutError};
+use test_streams::Refusing;
+
+#[test]
+fn each_growth_refused(rt: HostRuntime) {
+    let fields = [Window { start: 0, len: 3 }, Window { start: 3, len: 7 }];
+    let mut refused = false;
+    for granted in 0..10 {
+        let refusing = Refusing::new(rt.alloc(), granted);
+        match Layout::new(&refusing, 16, &fields) {
+            Ok(layout) => {
+                assert!(rt; refusing.granted_all());
+                assert_eq!(rt; layout.len(), 2);
+                break;
+            }
+            Err(why) => {
+                assert_eq!(rt; why, LayoutError::Memory);
+                refused = true;
+            }
+        }
+    }
+    assert!(rt; refused);
+}
+
+#[test]
+fn no_fields_take_no_memory(rt: HostRuntime) {
+    let refusing = Refusing::new(rt.alloc(), 0);
+    match Layout::new(&refusing, 16, &[]) {
+        Ok(layout) => assert!(rt; layout.is_empty()),
+        Err(_) => assert!(rt; false),
+    }
+}

@@ -1,0 +1,102 @@
+//! What a caller knows of several edits of one view, and of numbers stored in its parts.
+ghost use Rattle.std.specs.Prelude.{◌≡◌, ℕ, ◌+◌, ◌%◌, ◌^◌, ◌<◌, ◌≤◌, slice_index_or, slice_range, true};
+ghost use Rattle.bitvec.specs.Segments.{stored_le};
+ghost use Rattle.bitvec.specs.Views.{seen, seen_mut};
+ghost use Rattle.bitvec.specs.Window.{write_at};
+ghost use Rattle.bitvec.specs.Writes.{WritesBits};
+
+use bitvec::prelude::*;
+
+/// Makes each bit that one, one after the other.
+#[tactic(auto, using(bitvec::specs::Laws::composed))]
+pub fn set_all<T: BitStore, O: SliceOrder>(view: &mut BitSliceMut<'_, T, O>, bit: bool)
+    ensures { WritesBits view.old view.new (seen_mut view.new).bits }
+{
+    for index in 0..view.len() {
+        view.set(index, bit);
+    }
+}
+
+/// Makes a bit 1, then reverses all: both as one edit.
+#[tactic(auto, using(bitvec::specs::Laws::composed))]
+pub fn set_and_turn<T: BitStore, O: SliceOrder>(view: &mut BitSliceMut<'_, T, O>, index: usize)
+    requires { index < (seen_mut view.old).window.len }
+    ensures { WritesBits view.old view.new (seen_mut view.new).bits }
+{
+    view.set(index, true);
+    view.reverse();
+}
+
+/// Makes the bits from `from` up to `to` ones: each bit outside the range is as before.
+#[tactic(auto, using(bitvec::specs::Laws::edited))]
+pub fn fill_between<T: BitStore, O: SliceOrder>(
+    view: &mut BitSliceMut<'_, T, O>,
+    from: usize,
+    to: usize,
+)
+    requires order { from ≤ to }
+    requires bound { to ≤ (seen_mut view.old).window.len }
+    ensures front { (index : ℕ) → index < from → slice_index_or (seen_mut view.new).bits index true ≡ slice_index_or (seen_mut view.old).bits index true }
+    ensures behind { (index : ℕ) → to ≤ index → slice_index_or (seen_mut view.new).bits index true ≡ slice_index_or (seen_mut view.old).bits index true }
+{
+    view.edit_with(from..to, |piece| piece.fill(true));
+}
+
+/// Stores a number in the `width` bits from `from` on.
+pub fn put_number<T: BitStore, O: FieldOrder>(
+    view: &mut BitSliceMut<'_, T, O>,
+    from: usize,
+    width: usize,
+    number: u128,
+)
+    requires some { 0 < width }
+    requires bound { width ≤ 128 }
+    requires inside { from + width ≤ (seen_mut view.old).window.len }
+    ensures { WritesBits view.old view.new (write_at (seen_mut view.old).bits from
+        (stored_le O.HIGH T.BITS ((seen_mut view.old).window.start + from) (number % 2 ^ 128) (slice_range (seen_mut view.old).bits from (from + width)))) }
+{
+    view.edit_with(from..from + width, |piece| piece.store_le::<u128>(number));
+}
+
+/// Whether two views of one type that begin at one index of an element, with as many bits, have one
+/// number: then they have the same bits.
+#[tactic(auto, using(bitvec::specs::Laws::determined))]
+pub fn same_number<T: BitStore, O: FieldOrder>(
+    view: BitSlice<'_, T, O>,
+    other: BitSlice<'_, T, O>,
+) -> bool
+    requires some { 0 < (seen view).window.len }
+    requires bound { (seen view).window.len ≤ 128 }
+    requires len { (seen other).window.len ≡ (seen view).window.len }
+    requires start { (seen other).window.start ≡ (seen view).window.start }
+    ensures { result ≡ true → (seen view.entry).bits ≡ (seen other.entry).bits }
+{
+    let _len = view.len();
+    let _other_len = other.len();
+    view.load_le::<u128>() == other.load_le::<u128>()
+}
+
+#[test]
+fn edits_are_composed(rt: HostRuntime) {
+    let mut cells = [0u8; 3];
+    let mut view = BitSliceMut::<u8, Msb0>::from_slice_mut(&mut cells);
+    put_number(&mut view, 5, 12, 0xABC);
+    set_and_turn(&mut view, 0);
+    fill_between(&mut view, 0, 4);
+    assert_eq!(rt; cells, [0xF1, 0xEA, 0x21]);
+}
+
+#[test]
+fn all_bits_are_set(rt: HostRuntime) {
+    let mut cells = [0u8; 2];
+    let mut view = BitSliceMut::<u8, Msb0>::from_slice_mut(&mut cells);
+    set_all(&mut view, true);
+    assert_eq!(rt; cells, [0xFF, 0xFF]);
+}
+
+#[test]
+fn numbers_are_compared(rt: HostRuntime) {
+    let cells = [0xF1u8, 0xEA];
+    let view = BitSlice::<u8, Msb0>::from_slice(&cells);
+    assert!(rt; same_number(view, view));
+}

@@ -1,0 +1,117 @@
+//! Walks and splits that leave the function in which the view was made or given.
+ghost use Rattle.std.specs.Prelude.{◌≡◌, ◌*◌, ◌<◌, ◌≤◌, IfSome, false, find, length, slice_index_or, true, unwrap_or};
+ghost use Rattle.bitvec.specs.Arrays.{lsb0_bits};
+ghost use Rattle.bitvec.specs.Cutting.{chunk, chunk_count};
+ghost use Rattle.bitvec.specs.Left.{pieces_left, walked};
+ghost use Rattle.bitvec.specs.Lists.{places_of};
+ghost use Rattle.bitvec.specs.OnesLeft.{indices_left};
+ghost use Rattle.bitvec.specs.PieceParts.{parts_of};
+ghost use Rattle.bitvec.specs.SplitAsked.{upward};
+ghost use Rattle.bitvec.specs.Views.{seen, seen_mut};
+ghost use Rattle.bitvec.specs.Window.{max_bits};
+
+use bitvec::prelude::*;
+use bitvec::slice::{Chunks, IterOnes};
+use std::test::Fail;
+
+/// The bits before the first that is 1, or all.
+pub fn first_token<'a>(view: BitSlice<'a, u8, Msb0>) -> Option<BitSlice<'a, u8, Msb0>>
+    ensures { IfSome result (λ token. (seen token).window.len
+        ≡ unwrap_or (find (λ index. slice_index_or (seen view.entry).bits index false) (upward (seen view.entry).window.len)) (seen view.entry).window.len) }
+{
+    view.split(|_, bit| *bit).next()
+}
+
+/// The rows of eight bits.
+pub fn rows<'a>(view: BitSlice<'a, u8, Msb0>) -> Chunks<'a, u8, Msb0>
+    ensures { pieces_left result ≡ parts_of 8 (seen view.entry) (chunk_count 8) (chunk 8) }
+{
+    view.chunks(8)
+}
+
+/// The pairs of bits of the elements.
+pub fn pairs(elements: &[u8]) -> Chunks<'_, u8, Lsb0>
+    requires { 8 * length elements.now ≤ max_bits }
+    ensures bits { (walked result).bits ≡ lsb0_bits 8 elements.now }
+    ensures pieces { pieces_left result ≡ parts_of 8 (walked result) (chunk_count 2) (chunk 2) }
+{
+    BitSlice::<u8, Lsb0>::from_slice(elements).chunks(2)
+}
+
+/// The chunks of a width of any view.
+pub fn rows_of<'a, T: BitStore, O: BitOrder>(
+    view: BitSlice<'a, T, O>,
+    width: usize,
+) -> Chunks<'a, T, O>
+    requires { 0 < width }
+    ensures { pieces_left result ≡ parts_of T.BITS (seen view.entry) (chunk_count width) (chunk width) }
+{
+    view.chunks(width)
+}
+
+/// The chunks of a width of a writable view, which live as long as its borrow.
+pub fn rows_in<'v, T: BitStore, O: BitOrder>(
+    view: &'v BitSliceMut<'_, T, O>,
+    width: usize,
+) -> Chunks<'v, T, O>
+    requires { 0 < width }
+    ensures { pieces_left result ≡ parts_of T.BITS (seen_mut view.now) (chunk_count width) (chunk width) }
+{
+    view.chunks(width)
+}
+
+/// The indices of the ones of a writable view, which live as long as its borrow.
+pub fn taken_in<'v, T: BitStore, O: SliceOrder>(
+    view: &'v BitSliceMut<'_, T, O>,
+) -> IterOnes<'v, T, O>
+    ensures { indices_left result ≡ places_of true (seen_mut view.now).bits }
+{
+    view.iter_ones()
+}
+
+/// The chunks of a width of either type of views.
+pub fn rows_either<T: BitStore, V: IterCalls<T>>(view: V, width: usize) -> V::Chunks
+    requires { 0 < width }
+    ensures { V.Chunks.left result ≡ parts_of T.BITS (V.shows view) (chunk_count width) (chunk width) }
+{
+    view.chunks(width)
+}
+
+#[test]
+fn walks_leave_their_functions(rt: HostRuntime) {
+    let bytes = [0x17u8, 0x80];
+    let view = BitSlice::<u8, Msb0>::from_slice(&bytes);
+    assert_eq!(rt; first_token(view).map_or(99, |token| token.len()), 3);
+    assert_eq!(rt; rows(view).len(), 2);
+    assert_eq!(rt; pairs(&bytes).len(), 8);
+    assert_eq!(rt; rows_of(view, 5).len(), 4);
+    assert_eq!(rt; rows_either(view, 5).len(), 4);
+}
+
+#[test]
+fn walks_of_a_writable_view(rt: HostRuntime) {
+    let mut bytes = [0x17u8, 0x80];
+    let mut view = BitSliceMut::<u8, Msb0>::from_slice_mut(&mut bytes);
+    assert_eq!(rt; rows_in(&view, 5).len(), 4);
+    assert_eq!(rt; taken_in(&view).next_back(), Some(8));
+    assert_eq!(rt; rows_either(&view, 3).len(), 6);
+    let lent = &mut view;
+    assert_eq!(rt; lent.rchunks(3).len(), 6);
+    assert_eq!(rt;
+        lent.splitn(2, |_, bit| *bit)
+            .next()
+            .map_or(99, |piece| piece.len()),
+        3
+    );
+    lent.set(0, true);
+    assert_eq!(rt; view.iter_zeros().next(), Some(1));
+}
+
+#[test]
+fn walks_of_an_owned_sequence(rt: HostRuntime) -> Result<(), Fail> {
+    let bytes = [0x17u8, 0x80];
+    let copy = BitSlice::<u8, Msb0>::from_slice(&bytes).to_bitvec(rt.alloc())?;
+    let chunks = copy.as_bitslice().chunks(5);
+    assert_eq!(rt; chunks.len(), 4);
+    Ok(())
+}
