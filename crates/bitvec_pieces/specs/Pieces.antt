@@ -70,19 +70,24 @@ module _ {V : Type 0} (shows : V → Shown) where
   MayEditEach {F} pre step view way = (f : F) (k : ℕ) → MayEdit (pre f k) (λ p r q. (g : F) × step f k p r q g) (IsNumbered view way k)
 
   -- such an edit was called on the piece, and the view has there the bits that it left
-  abbrev pub EditsPiece : {R : Type 0} → (V → V → List Bool → Type 0) → (MutBor V → R → MutBor V → Type 0) → V → Range ℕ → R → V → Type 0
-  EditsPiece writes post before range r after =
-      (p : MutBor V) × (q : MutBor V) × IsPieceOf (shows before) range (shows p.now) × post p r q
-      × writes before after (write_at (shows before).bits range.start (shows q.now).bits)
+  pub record EditsPiece {R : Type 0} (writes : V → V → List Bool → Type 0) (post : MutBor V → R → MutBor V → Type 0) (before : V) (range : Range ℕ) (r : R) (after : V) : Type 0 where
+    pub piece : MutBor V
+    pub left : MutBor V
+    pub is : IsPieceOf (shows before) range (shows piece.now)
+    pub edited : post piece r left
+    pub written : writes before after (write_at (shows before).bits range.start (shows left.now).bits)
 
   -- an edit with the one `post` was called on the bits before `mid`, and one with the other on those from it, and the view has what they left
-  abbrev pub EditsHalves :
-      {A B : Type 0} → (V → V → List Bool → Type 0) → (MutBor V → A → MutBor V → Type 0) → (MutBor V → B → MutBor V → Type 0) → V → ℕ → A → B → V → Type 0
-  EditsHalves writes left right before mid a b after =
-      (p : MutBor V) × (q : MutBor V) × (p2 : MutBor V) × (q2 : MutBor V)
-      × IsPieceOf (shows before) (range_of 0 mid) (shows p.now) × left p a q
-      × IsPieceOf (shows before) (range_of mid (shows before).window.len) (shows p2.now) × right p2 b q2
-      × writes before after ((shows q.now).bits ++ (shows q2.now).bits)
+  pub record EditsHalves {A B : Type 0} (writes : V → V → List Bool → Type 0) (left : MutBor V → A → MutBor V → Type 0) (right : MutBor V → B → MutBor V → Type 0) (before : V) (mid : ℕ) (a : A) (b : B) (after : V) : Type 0 where
+    pub first : MutBor V
+    pub first_left : MutBor V
+    pub second : MutBor V
+    pub second_left : MutBor V
+    pub first_is : IsPieceOf (shows before) (range_of 0 mid) (shows first.now)
+    pub first_edited : left first a first_left
+    pub second_is : IsPieceOf (shows before) (range_of mid (shows before).window.len) (shows second.now)
+    pub second_edited : right second b second_left
+    pub written : writes before after ((shows first_left.now).bits ++ (shows second_left.now).bits)
 
   -- a step of such an edit was made at the piece of the number, and left this list there
   pub record EditsNumbered {F : Type 0} (step : F → ℕ → MutBor V → ⊤ → MutBor V → F → Type 0) (view : Shown) (way : WayToCut) (number : ℕ) (list : List Bool) : Type 0 where

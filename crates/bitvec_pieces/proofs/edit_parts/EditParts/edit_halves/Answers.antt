@@ -3,17 +3,21 @@ use Rattle.bitvec_pieces.proofs.edit_parts.EditParts.edit_halves.Goals as goal
 
 pub edit_shown-behind-requires-clause-edit : goal.edit_shown-behind-requires-clause-edit
 edit_shown-behind-requires-clause-edit g c =
-    let (p, q, is, left, wrote) = c.edit_shown-before.ensures in
-    let stays = c.requires.left.in_place _ _ _ is left in
+    let first = c.edit_shown-before.ensures in
+    let stays = c.requires.left.in_place _ _ _ first.is first.edited in
     rw c.place-len.ensures (record {
-      accepts = λ p2 is2. c.requires.right.accepts p2 (behind-is c.requires.mid is stays wrote is2);
-      in_place = λ p2 q2 r is2. c.requires.right.in_place p2 q2 r (behind-is c.requires.mid is stays wrote is2);
+      accepts = λ p is. c.requires.right.accepts p (behind-is c.requires.mid first.is stays first.written is);
+      in_place = λ p q r is. c.requires.right.in_place p q r (behind-is c.requires.mid first.is stays first.written is);
     })
 
 pub returns : goal.returns
 returns g c =
-    let (p, q, is, left, wrote) = c.edit_shown-before.ensures in
-    let (p2, q2, is2, right, then) = rw c.place-len.ensures at c.edit_shown-behind.ensures in
-    let stays = c.requires.left.in_place _ _ _ is left in
-    let behind = behind-is c.requires.mid is stays wrote is2 in
-    (p, q, p2, q2, is, left, behind, right, g.met.Self.EditParts.written _ _ _ (halves-written c.requires.mid is stays wrote behind (c.requires.right.in_place _ _ _ behind right) then))
+    let first = c.edit_shown-before.ensures in
+    let second = rw c.place-len.ensures at c.edit_shown-behind.ensures in
+    let stays = c.requires.left.in_place _ _ _ first.is first.edited in
+    let behind = behind-is c.requires.mid first.is stays first.written second.is in
+    record {
+      first = first.piece; first_left = first.left; second = second.piece; second_left = second.left;
+      first_is = first.is; first_edited = first.edited; second_is = behind; second_edited = second.edited;
+      written = g.met.Self.EditParts.written _ _ _ (halves-written c.requires.mid first.is stays first.written behind (c.requires.right.in_place _ _ _ behind second.edited) second.written)
+    }

@@ -10,4 +10,4 @@ pub returns : goal.returns
 returns g c =
     let narrowed = c.narrow-window.ensures in
     let stays = c.requires.edit.in_place _ _ _ narrowed.part c.edit-result.ensures in
-    (_, _, narrowed.part, c.edit-result.ensures, returned c.requires.range narrowed stays c.stand_at.ensures)
+    record { piece = _; left = _; is = narrowed.part; edited = c.edit-result.ensures; written = returned c.requires.range narrowed stays c.stand_at.ensures }

@@ -1,0 +1,57 @@
+//! `bitvec_times OPERATION WIDTH PHASE TIMES` carries an operation out so many times, and prints the
+//! sum of what it gave: the benchmark times its runs.
+//!
+//! OPERATION is `copy`, `count`, `equality`, `or`, `reverse` or `search`, of 2^20 bits in elements of
+//! WIDTH bits, under `Lsb0`; the right side begins PHASE bits into an element. Or it is `encode` or
+//! `decode`, of the header of a packet, in bytes.
+#![tactic(auto)]
+
+mod operation;
+mod record;
+
+use operation::{Operation, carry_out_times};
+use record::{decode_times, encode_times};
+use std::alloc::Allocator;
+use std::env;
+use std::process::ExitCode;
+use std::rt::Env;
+
+/// The sum that the words after the program's name ask for. None where they ask for none.
+fn sum<A: Allocator + Copy>(alloc: A, words: &[String]) -> Option<u128> {
+    let [name, width, phase, times] = words else {
+        return None;
+    };
+    let width = width.as_str();
+    let phase = usize::from_str_radix(phase.as_str(), 10).ok()?;
+    let times = usize::from_str_radix(times.as_str(), 10).ok()?;
+    match name.as_str() {
+        "encode" => return encode_times(alloc, times),
+        "decode" => return decode_times(alloc, times),
+        _ => {}
+    }
+    let operation = Operation::of(name.as_str())?;
+    let sum = match width {
+        "8" => carry_out_times::<u8, A>(alloc, operation, phase, times)?,
+        "64" => carry_out_times::<u64, A>(alloc, operation, phase, times)?,
+        "128" => carry_out_times::<u128, A>(alloc, operation, phase, times)?,
+        _ => return None,
+    };
+    Some(sum as u128)
+}
+
+/// The sum that the program's words ask for.
+fn sum_of_words<R: Env + AllocGlobal>(rt: &R) -> Option<u128> {
+    let words: Vec<String> = env::args(rt).ok()?.skip(1).collect(rt.alloc()).ok()?;
+    sum(rt.alloc(), words.as_slice())
+}
+
+fn main(rt: HostRuntime) -> ExitCode {
+    let printed = match sum_of_words(&rt) {
+        Some(sum) => rt.println(sum),
+        None => return ExitCode::from(2),
+    };
+    match printed {
+        Ok(()) => ExitCode::SUCCESS,
+        Err(_) => ExitCode::FAILURE,
+    }
+}
