@@ -47,16 +47,21 @@ impl Operation {
             Operation::Search => return left.first_one().unwrap_or(0),
             _ => return 0,
         }
-        left.first_one().unwrap_or(0)
+        usize::from(left.len() > 0 && left.as_ref()[0])
     }
 }
 
 /// A sequence of zeros and a last one.
 fn zeros_and_one<T: BitStore, A: Allocator>(alloc: A, len: usize) -> Option<BitVec<T, Lsb0, A>> {
+    T::fits_in_memory();
     let zero = [T::ZERO];
-    let mut bits = BitSlice::<T, Lsb0>::from_slice(&zero).into_part(0..1).repeat(alloc, len).ok()?;
-    if len > 0 {
-        bits.set(len - 1, true);
+    let mut bits = BitSlice::<T, Lsb0>::from_slice(&zero)
+        .into_part(0..1)
+        .repeat(alloc, len)
+        .ok()?;
+    let end = bits.len();
+    if end > 0 {
+        bits.set(end - 1, true);
     }
     Some(bits)
 }
@@ -69,13 +74,21 @@ pub(crate) fn carry_out_times<T: BitStore, A: Allocator + Copy>(
     phase: usize,
     times: usize,
 ) -> Option<usize> {
+    let phase = phase % 128;
     let mut left = zeros_and_one::<T, A>(alloc, BITS)?;
-    let right = zeros_and_one::<T, A>(alloc, BITS + phase % 128)?;
-    let right = right.as_bitslice().into_part(phase % 128..BITS + phase % 128);
+    let right = zeros_and_one::<T, A>(alloc, BITS + phase)?;
+    let right = right.as_bitslice();
+    if right.len() < BITS + phase {
+        return None;
+    }
+    let right = right.into_part(phase..BITS + phase);
     let mut left = left.as_mut_bitslice();
     let mut sum = 0usize;
     for round in 0..times {
-        left.set(round % 64, false);
+        let index = round % 64;
+        if index < left.len() {
+            left.set(index, false);
+        }
         sum = sum.wrapping_add(operation.carry_out(&mut left, right));
     }
     Some(sum)

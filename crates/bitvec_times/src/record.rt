@@ -23,7 +23,21 @@ fn header<A: Allocator>(alloc: A) -> Option<Layout<A>> {
 pub(crate) fn encode_times<A: Allocator>(alloc: A, times: usize) -> Option<u128> {
     let layout = header(alloc)?;
     let mut bytes = [0u8; 20];
-    let mut numbers = [4, 5, 0, 0, 115, 0, 2, 0, 64, 17, 0xB861, 0xC0A8_0001, 0xC0A8_00C7];
+    let mut numbers = [
+        4,
+        5,
+        0,
+        0,
+        115,
+        0,
+        2,
+        0,
+        64,
+        17,
+        0xB861,
+        0xC0A8_0001,
+        0xC0A8_00C7,
+    ];
     let mut sum = 0u128;
     for round in 0..times {
         numbers[5] = round as u128 % 65_536;
