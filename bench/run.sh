@@ -1,6 +1,6 @@
 #!/bin/sh
 # Builds the library, its peers and the driver, and prints the tables that README.md explains.
-# What it builds goes to bench/out and crates/bitvec_bench/out.
+# What it builds goes to bench/out and to out/ of crates/bitvec_bench and crates/bitvec_times.
 set -eu
 cd "$(dirname "$0")"
 
@@ -21,6 +21,7 @@ fi
 
 mkdir -p out
 (cd ../crates/bitvec_bench && rt lib) >&2
+(cd ../crates/bitvec_times && rt run -- encode 8 0 0) >/dev/null
 
 # rust NAME KIND SOURCE FLAGS..: compiles one crate of the peers
 rust() {
@@ -37,10 +38,12 @@ rust peers staticlib peers.rs --edition 2021 \
 # gcc takes the lists of checks.hpp for ones that could be as long as the memory
 g++ -std=c++17 -O3 "-march=$processor" -Wall -Wextra -Wno-stringop-overflow driver.cpp \
     ../crates/bitvec_bench/out/libbitvec_bench.a out/libpeers.a -lpthread -ldl -o out/driver
+g++ -std=c++17 -O3 "-march=$processor" -Wall -Wextra programs.cpp -o out/programs
 
 echo "- machine: $(lscpu | sed -n 's/^Model name: *//p'), $(nproc) processors"
 echo "- kit: $(rt version)"
 echo "- compilers: $(g++ --version | head -n 1), -O3 -march=$processor; $(rustc --version), -C opt-level=3 -C target-cpu=$processor"
 echo "- load at the start: $(cut -d ' ' -f 1 /proc/loadavg)"
 echo
-exec out/driver
+out/driver
+exec out/programs ../crates/bitvec_times/out/bitvec_times
