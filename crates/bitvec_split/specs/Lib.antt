@@ -4,6 +4,7 @@ pub mod AskedLaws
 pub mod CountedLending
 pub mod CourseLaws
 pub mod Courses
+pub mod FoundLaws
 pub mod Lent
 pub mod LentLaws
 pub mod LentViews
