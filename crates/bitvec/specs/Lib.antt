@@ -55,6 +55,7 @@ pub use Rattle.bitvec_owned.specs.edit.slice.Walks as BitWalks
 pub use Rattle.bitvec_owned.specs.edit.slice.Writes
 pub use Rattle.bitvec_split.specs.Asked as SplitAsked
 pub use Rattle.bitvec_split.specs.AskedLaws as SplitAskedLaws
+pub use Rattle.bitvec_split.specs.FoundLaws as SplitFoundLaws
 pub use Rattle.bitvec_split.specs.Lent as SplitLent
 pub use Rattle.bitvec_split.specs.LentViews as SplitLentViews
 pub use Rattle.bitvec_split.specs.SplitLaws

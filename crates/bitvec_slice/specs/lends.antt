@@ -1,6 +1,10 @@
 -- What crates above name of `bitvec_lending`.
 pub use Rattle.bitvec_lending.specs.Arity
 pub use Rattle.bitvec_lending.specs.Kept
+pub use Rattle.bitvec_lending.specs.Lender
+pub use Rattle.bitvec_lending.specs.Middle
+pub use Rattle.bitvec_lending.specs.PartLender
 pub use Rattle.bitvec_lending.specs.Refill
 pub use Rattle.bitvec_lending.specs.RefillLaws
 pub use Rattle.bitvec_lending.specs.Steps
+pub use Rattle.bitvec_lending.specs.Through

@@ -75,12 +75,22 @@ module _ {T P : Type 0} (g : Mut P (ℕ × (Bor Bool × Unit {0})) Bool) where
   abbrev pub SplitNextBackIn : Bool → Bool → LeftIn T P → Option (Range ℕ) → LeftIn T P → Type 0
   SplitNextBackIn inclusive reversed s result t = SplitStepIn inclusive (row_of inclusive (not reversed) (s.to - s.from)) s result t
 
+  -- of a split that may lend `count` pieces more, what a call makes of all but that number
+  abbrev pub CountedStepIn : Bool → Bool → ℕ → LeftIn T P → Option (Range ℕ) → LeftIn T P → Type 0
+  CountedStepIn inclusive reversed count s result t =
+      MatchOption result (((count ≡ 0) ⊎ (s.finished ≡ true)) × (t ≡ s))
+      (λ piece. (0 < count) × MatchBool (count == 1) (SplitRestIn s (Some piece) t) (SplitNextIn inclusive reversed s (Some piece) t))
+
   abbrev pub CountedNextIn : Bool → Bool → CountedIn T P → Option (Range ℕ) → CountedIn T P → Type 0
   CountedNextIn inclusive reversed s result t =
       MatchOption result (((s.count ≡ 0) ⊎ (s.left.finished ≡ true)) × (t ≡ s))
       (λ piece. (0 < s.count) × (t.count ≡ s.count - 1)
       × MatchBool (s.count == 1) (SplitRestIn s.left (Some piece) t.left)
       (SplitNextIn inclusive reversed s.left (Some piece) t.left))
+
+-- a range, where one was found
+abbrev pub piece_if : Bool → Range ℕ → Option (Range ℕ)
+piece_if found range = if found then Some range else None
 
 -- the view stays, and has the range that a step gave
 pub record StaysIn {T P : Type 0} (s : LeftIn T P) (result : Option (Range ℕ)) (t : LeftIn T P) : Type 0 where

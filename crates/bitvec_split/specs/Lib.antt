@@ -1,8 +1,14 @@
+pub mod AnyLender
 pub mod Asked
 pub mod AskedLaws
+pub mod CountedLending
+pub mod CourseLaws
+pub mod Courses
+pub mod FoundLaws
 pub mod Lent
 pub mod LentLaws
 pub mod LentViews
 pub mod SplitLaws
 pub mod Splits
+pub mod SplitsLending
 pub mod Views

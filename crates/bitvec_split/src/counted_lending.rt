@@ -1,17 +1,29 @@
 //! Splits of writable views into a number of pieces at most.
-ghost use Rattle.std.specs.Prelude.{◌≡◌, Some, min, option_map};
+ghost use Rattle.std.specs.Prelude.{◌≡◌, ◌+◌, ◌*◌, ◌≤◌, ◌==◌, ◌||◌, Some, length, min, option_map, slice_range};
+ghost use Rattle.bitvec_slice.specs.base.Window.{max_bits};
 
-use crate::{Forward, Reversed, SplitsMut, Way};
-use bitvec_slice::BitSliceMut;
-use bitvec_slice::base::BitOrder;
+use crate::course::{Course, look};
+use crate::{Forward, Reversed, Way};
+use bitvec_slice::base::{BitOrder, Window};
 use bitvec_slice::store::BitStore;
+use bitvec_slice::{BitSlice, BitSliceMut, RawElements, touched};
+use std::marker::PhantomData;
 use std::ops::Range;
 
 /// The pieces of a writable view as `SplitsN` gives them of a shared one, lent one at a time.
 #[derive(Drop)]
 pub struct SplitsNMut<'a, T: BitStore, O: BitOrder, P, W> {
-    parts: SplitsMut<'a, T, O, P, W>,
+    pub(crate) elements: &'a mut [T],
+    pub(crate) head: usize,
+    pub(crate) len: usize,
+    course: Course<P, W>,
     count: usize,
+    found: Range<usize>,
+    mark: PhantomData<(O, &'a mut T)>,
+    ghost inside: { head + len ≤ T.BITS * length elements.now },
+    ghost bounded: { T.BITS * length elements.now ≤ max_bits },
+    ghost ordered: { found.start ≤ found.end },
+    ghost held: { found.end ≤ len },
 }
 
 /// The pieces of `SplitMut`, up to a number of them: `splitn_mut` makes them.
@@ -29,9 +41,11 @@ impl<'a, T: BitStore, O: BitOrder, P: FnMut(usize, &bool) -> bool, W: Way> Split
 > {
     ghost use Rattle.std.specs.Borrow.{sem};
     ghost use Rattle.bitvec_slice.specs.Lending.{lends};
-    ghost use Rattle.bitvec_slice.specs.Views.{seen_mut};
-    ghost use Rattle.bitvec_split.specs.Lent.{CountedNextIn, Lends, MayGoOnIn, StaysIn, counted_most_in, least_in, unsplit_in};
-    ghost use Rattle.bitvec_split.specs.LentViews.{counted_in, left_in, name_of_counted, name_of_splits};
+    ghost use Rattle.bitvec_slice.specs.Seen.{IsRangeOf, shown};
+    ghost use Rattle.bitvec_slice.specs.Views.{name_of, seen_mut};
+    ghost use Rattle.bitvec_split.specs.Lent.{CountedNextIn, Lends, MayGoOnIn, StaysIn, counted_most_in, least_in, piece_if, unsplit_in};
+    ghost use Rattle.bitvec_split.specs.LentViews.{counted_found_in, counted_in, name_of_counted};
+    ghost use Rattle.bitvec_split.specs.CountedLending.{lends_found};
 
     /// The pieces of a view, which is lent for as long as they are. The crate has no such call:
     /// `splitn_mut` and `rsplitn_mut` are made of it.
@@ -44,40 +58,71 @@ impl<'a, T: BitStore, O: BitOrder, P: FnMut(usize, &bool) -> bool, W: Way> Split
         ensures* writes_back { sem 𝓛 (lends T.row O.row bits.entry (name_of_counted result)) }
         ensures left { counted_in result ≡ record { left = unsplit_in W.INCLUSIVE (seen_mut bits.old) pred; count = count } }
     {
-        SplitsNMut::of(SplitsMut::new(bits, pred), count)
+        let window = bits.window();
+        SplitsNMut::from_parts(bits.elements_mut(), window, count, pred)
     }
 
-    fn of(parts: SplitsMut<'a, T, O, P, W>, count: usize) -> Self
-        ensures left { counted_in result ≡ record { left = left_in parts.entry; count = count } }
-        ensures name { name_of_counted result ≡ name_of_splits parts.entry }
+    fn from_parts(elements: &'a mut [T], window: Window, count: usize, pred: P) -> Self
+        requires inside { window.start + window.len ≤ T.BITS * length elements.old }
+        requires bounded { T.BITS * length elements.old ≤ max_bits }
+        ensures left { counted_in result ≡ record { left = unsplit_in W.INCLUSIVE (shown T.BITS O.at T.value elements.old window.start window.len) pred; count = count } }
+        ensures name { name_of_counted result ≡ elements.entry.ghost_name }
     {
-        SplitsNMut { parts, count }
+        let bits = BitSlice::<T, O>::from_parts(elements, window.start, window.len);
+        let course = Course::of(bits, pred);
+        SplitsNMut {
+            elements,
+            head: window.start,
+            len: window.len,
+            course,
+            count,
+            found: 0..0,
+            mark: PhantomData,
+        }
     }
 
-    // The next piece, as a range of the view.
-    fn step(&mut self) -> Option<Range<usize>>
+    /// Whether no piece is left.
+    pub fn is_finished(&self) -> bool
+        ensures { result ≡ ((counted_in self.now).count == 0) || (counted_in self.now).left.finished }
+    {
+        self.count == 0 || self.course.finished
+    }
+
+    /// Finds the next piece, and says whether there is one, as [`crate::SplitsMut::advance`] does.
+    pub fn advance(&mut self) -> bool
         requires { MayGoOnIn P.FnMut (counted_in self.old).left }
-        ensures stays { StaysIn (counted_in self.old).left result (counted_in self.new).left }
-        ensures piece { CountedNextIn P.FnMut W.INCLUSIVE W.REVERSED (counted_in self.old) result (counted_in self.new) }
+        ensures stays { StaysIn (counted_in self.old).left (piece_if result (counted_found_in self.new)) (counted_in self.new).left }
+        ensures piece { CountedNextIn P.FnMut W.INCLUSIVE W.REVERSED (counted_in self.old) (piece_if result (counted_found_in self.new)) (counted_in self.new) }
+        ensures name { name_of_counted self.new ≡ name_of_counted self.old }
     {
-        let range = match self.count {
-            0 => None,
-            1 => self.parts.finish(),
-            _ => self.parts.step(),
-        }?;
+        let bits = look::<T, O>(&self.elements, self.head, self.len);
+        let Some(range) = self.course.step_counted(bits, self.count) else {
+            return false;
+        };
+        self.found = range;
         self.count -= 1;
-        Some(range)
+        true
     }
 
-    /// The next piece, if there is one, as [`SplitsMut::next_mut`] lends it. Condition: the predicate
-    /// may always be called, or at least asked about all that is left.
+    /// The piece that was found last, as [`crate::SplitsMut::piece_mut`] lends it.
+    pub fn piece_mut(&mut self) -> BitSliceMut<'_, T, O>
+        ensures* writes_back { sem 𝓛 (lends_found T.row O.row P.row W.row self.entry (name_of result)) }
+        ensures piece { IsRangeOf T.BITS (counted_in self.old).left.view (counted_found_in self.old).start (counted_found_in self.old).end (seen_mut result) }
+    {
+        let Range { start, end } = self.found;
+        self.part_mut(start, end)
+    }
+
+    /// The next piece, if there is one, as [`crate::SplitsMut::next_mut`] lends it. Condition: the
+    /// predicate may always be called, or at least asked about all that is left.
     pub fn next_mut(&mut self) -> Option<BitSliceMut<'_, T, O>>
         requires { MayGoOnIn P.FnMut (counted_in self.old).left }
         ensures { Lends T.BITS (counted_in self.old).left.view (CountedNextIn P.FnMut W.INCLUSIVE W.REVERSED (counted_in self.old)) (option_map seen_mut result) }
     {
-        match self.step() {
-            Some(range) => Some(self.parts.lend(range)),
-            None => None,
+        if self.advance() {
+            Some(self.piece_mut())
+        } else {
+            None
         }
     }
 
@@ -85,7 +130,37 @@ impl<'a, T: BitStore, O: BitOrder, P: FnMut(usize, &bool) -> bool, W: Way> Split
     pub fn size_hint(&self) -> (usize, Option<usize>)
         ensures { result ≡ (min (least_in (counted_in self.now).left) (counted_in self.now).count, Some (counted_most_in (counted_in self.now))) }
     {
-        let (least, most) = self.parts.bounds();
+        let bits = look::<T, O>(&self.elements, self.head, self.len);
+        let (least, most) = self.course.bounds(bits);
         (least.min(self.count), Some(most.min(self.count)))
+    }
+}
+
+impl<'a, T: BitStore, O: BitOrder, P, W> SplitsNMut<'a, T, O, P, W> {
+    ghost use Rattle.std.specs.Borrow.{sem};
+    ghost use Rattle.bitvec_slice.specs.Seen.{IsRangeOf};
+    ghost use Rattle.bitvec_slice.specs.Views.{name_of, seen_mut};
+    ghost use Rattle.bitvec_split.specs.LentViews.{counted_in};
+    ghost use Rattle.bitvec_split.specs.CountedLending.{lends_bits, lends_part};
+
+    fn part_mut(&mut self, from: usize, to: usize) -> BitSliceMut<'_, T, O>
+        requires order { from ≤ to }
+        requires bound { to ≤ (counted_in self.old).left.view.window.len }
+        ensures* writes_back { sem 𝓛 (lends_bits T.row O.row P.row W.row self.entry from to (name_of result)) }
+        ensures part { IsRangeOf T.BITS (counted_in self.old).left.view from to (seen_mut result) }
+    {
+        let start = self.head + from;
+        let cells = touched::<T>(start, self.head + to);
+        let elements = self.elements_part_mut(cells.start, cells.end);
+        BitSliceMut::from_parts(elements, start % (T::BITS as usize), to - from)
+    }
+
+    fn elements_part_mut(&mut self, start: usize, end: usize) -> &mut [T]
+        requires order { start ≤ end }
+        requires bound { end ≤ length (counted_in self.old).left.view.elements }
+        ensures* writes_back { sem 𝓛 (lends_part T.row O.row P.row W.row self.entry start end result.ghost_name) }
+        ensures elements { result.now ≡ slice_range (counted_in self.old).left.view.elements start end }
+    {
+        &mut self.elements[start..end]
     }
 }

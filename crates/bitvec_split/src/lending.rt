@@ -1,25 +1,33 @@
 //! Splits of writable views, which lend their pieces one at a time.
-ghost use Rattle.std.specs.Prelude.{◌≡◌, ◌+◌, ◌-◌, ◌<◌, ◌≤◌, ◌^◌, Some, option_map};
+ghost use Rattle.std.specs.Prelude.{◌≡◌, ◌+◌, ◌*◌, ◌≤◌, Some, length, option_map, slice_range};
+ghost use Rattle.bitvec_slice.specs.base.Window.{max_bits};
 
-use crate::asking::{ask_down, ask_up};
-use crate::ways::{asked_behind, end_of};
+use crate::course::{Course, look};
 use crate::{Forward, Inclusive, Reversed, Way};
-use bitvec_slice::base::BitOrder;
+use bitvec_slice::base::{BitOrder, Window};
 use bitvec_slice::store::BitStore;
-use bitvec_slice::{BitSlice, BitSliceMut};
+use bitvec_slice::{BitSlice, BitSliceMut, RawElements, touched};
 use std::marker::PhantomData;
 use std::ops::Range;
 
 /// The pieces of a writable view as `Splits` gives them of a shared one. A piece is lent: it ends
 /// before the next is asked for. The predicate sees the bits as they stand when it is asked.
+///
+/// `advance` finds a piece and `piece_mut` lends it; whoever calls these knows of the split what was
+/// asked, what is left, and each element that the piece doesn't touch. `next_mut` is both in one, and
+/// of the split its caller knows that it is one.
 #[derive(Drop)]
 pub struct SplitsMut<'a, T: BitStore, O: BitOrder, P, W> {
-    bits: BitSliceMut<'a, T, O>,
-    from: usize,
-    to: usize,
-    finished: bool,
-    pred: P,
-    way: PhantomData<W>,
+    pub(crate) elements: &'a mut [T],
+    pub(crate) head: usize,
+    pub(crate) len: usize,
+    course: Course<P, W>,
+    found: Range<usize>,
+    mark: PhantomData<(O, &'a mut T)>,
+    ghost inside: { head + len ≤ T.BITS * length elements.now },
+    ghost bounded: { T.BITS * length elements.now ≤ max_bits },
+    ghost ordered: { found.start ≤ found.end },
+    ghost held: { found.end ≤ len },
 }
 
 /// The pieces between the bits at which the predicate says yes: `split_mut` makes them.
@@ -38,114 +46,90 @@ impl<'a, T: BitStore, O: BitOrder, P: FnMut(usize, &bool) -> bool, W: Way> Split
     P,
     W,
 > {
-    ghost use Rattle.bitvec_slice.specs.Indices.{HasRange};
-    ghost use Rattle.bitvec_slice.specs.Seen.{IsRangeOf};
     ghost use Rattle.std.specs.Borrow.{sem};
     ghost use Rattle.bitvec_slice.specs.Lending.{lends};
-    ghost use Rattle.bitvec_slice.specs.Views.{name_of, seen, seen_mut};
-    ghost use Rattle.bitvec_split.specs.Splits.{back, front};
-    ghost use Rattle.bitvec_split.specs.Lent.{Lends, MayGoOnIn, SplitNextBackIn, SplitNextIn, SplitRestIn, SplitStepIn, StaysIn, least_in, most_in, unsplit_in};
-    ghost use Rattle.bitvec_split.specs.LentViews.{left_in, name_of_splits};
+    ghost use Rattle.bitvec_slice.specs.Seen.{IsRangeOf, shown};
+    ghost use Rattle.bitvec_slice.specs.Views.{name_of, seen_mut};
+    ghost use Rattle.bitvec_split.specs.Lent.{Lends, MayGoOnIn, SplitNextBackIn, SplitNextIn, StaysIn, least_in, most_in, piece_if, unsplit_in};
+    ghost use Rattle.bitvec_split.specs.LentViews.{found_in, left_in, name_of_splits};
+    ghost use Rattle.bitvec_split.specs.SplitsLending.{lends_found};
 
-    // The range of the view that no piece has yet.
-    fn range(&self) -> Range<usize>
-        ensures start { result.start ≡ (left_in self.now).from }
-        ensures end { result.end ≡ (left_in self.now).to }
-        ensures order { result.start ≤ result.end }
-        ensures inside { result.end ≤ (left_in self.now).view.window.len }
+    /// The pieces of a view, which is lent for as long as they are. The crate has no such call:
+    /// `split_mut` and its kin are made of it.
+    #[doc(hidden)]
+    pub fn new<'s>(bits: &'s mut BitSliceMut<'a, T, O>, pred: P) -> SplitsMut<'s, T, O, P, W>
+        ensures* writes_back { sem 𝓛 (lends T.row O.row bits.entry (name_of_splits result)) }
+        ensures left { left_in result ≡ unsplit_in W.INCLUSIVE (seen_mut bits.old) pred }
     {
-        let end = self.to.min(self.bits.len());
-        self.from.min(end)..end
+        let window = bits.window();
+        SplitsMut::from_parts(bits.elements_mut(), window, pred)
     }
 
-    // The next piece from the front of what is left, as a range of the view.
-    #[tactic(auto, using(crate::specs::AskedLaws::may_ask_of_fewer, crate::specs::AskedLaws::may_ask_either))]
-    fn step_front(&mut self) -> Option<Range<usize>>
-        requires { MayGoOnIn P.FnMut (left_in self.old) }
-        ensures stays { StaysIn (left_in self.old) result (left_in self.new) }
-        ensures piece { SplitStepIn P.FnMut W.INCLUSIVE (front W.INCLUSIVE ((left_in self.old).to - (left_in self.old).from)) (left_in self.old) result (left_in self.new) }
+    fn from_parts(elements: &'a mut [T], window: Window, pred: P) -> Self
+        requires inside { window.start + window.len ≤ T.BITS * length elements.old }
+        requires bounded { T.BITS * length elements.old ≤ max_bits }
+        ensures left { left_in result ≡ unsplit_in W.INCLUSIVE (shown T.BITS O.at T.value elements.old window.start window.len) pred }
+        ensures name { name_of_splits result ≡ elements.entry.ghost_name }
     {
-        if self.finished {
-            return None;
+        let bits = BitSlice::<T, O>::from_parts(elements, window.start, window.len);
+        let course = Course::of(bits, pred);
+        SplitsMut {
+            elements,
+            head: window.start,
+            len: window.len,
+            course,
+            found: 0..0,
+            mark: PhantomData,
         }
-        let Range { start, end } = self.range();
-        let rest = self.bits.as_ref().into_part(start..end);
-        let Some(index) = ask_up(rest, &mut self.pred) else {
-            self.finished = true;
-            return Some(start..end);
+    }
+
+    /// Whether no piece is left.
+    pub fn is_finished(&self) -> bool
+        ensures { result ≡ (left_in self.now).finished }
+    {
+        self.course.finished
+    }
+
+    /// Finds the next piece, and says whether there is one. Condition: the predicate may always be
+    /// called, or at least asked about all that is left. The crate has no such call: with it, and with
+    /// `piece_mut` behind it, a caller knows what was asked and what is left.
+    pub fn advance(&mut self) -> bool
+        requires { MayGoOnIn P.FnMut (left_in self.old) }
+        ensures stays { StaysIn (left_in self.old) (piece_if result (found_in self.new)) (left_in self.new) }
+        ensures piece { SplitNextIn P.FnMut W.INCLUSIVE W.REVERSED (left_in self.old) (piece_if result (found_in self.new)) (left_in self.new) }
+        ensures name { name_of_splits self.new ≡ name_of_splits self.old }
+    {
+        let bits = look::<T, O>(&self.elements, self.head, self.len);
+        let Some(range) = self.course.step(bits) else {
+            return false;
         };
-        self.from = start + index + 1;
-        self.to = end;
-        self.finished = W::INCLUSIVE && self.from == end;
-        Some(start..start + end_of::<W>(index))
+        self.found = range;
+        true
     }
 
-    // The next piece from the back of what is left, as a range of the view.
-    #[tactic(auto, using(crate::specs::AskedLaws::may_ask_of_fewer, crate::specs::AskedLaws::may_ask_either))]
-    fn step_back(&mut self) -> Option<Range<usize>>
+    /// Finds the next piece from the other end, as [`SplitsMut::advance`] finds one.
+    pub fn advance_back(&mut self) -> bool
         requires { MayGoOnIn P.FnMut (left_in self.old) }
-        ensures stays { StaysIn (left_in self.old) result (left_in self.new) }
-        ensures piece { SplitStepIn P.FnMut W.INCLUSIVE (back W.INCLUSIVE ((left_in self.old).to - (left_in self.old).from)) (left_in self.old) result (left_in self.new) }
+        ensures stays { StaysIn (left_in self.old) (piece_if result (found_in self.new)) (left_in self.new) }
+        ensures piece { SplitNextBackIn P.FnMut W.INCLUSIVE W.REVERSED (left_in self.old) (piece_if result (found_in self.new)) (left_in self.new) }
+        ensures name { name_of_splits self.new ≡ name_of_splits self.old }
     {
-        if self.finished {
-            return None;
-        }
-        let Range { start, end } = self.range();
-        let rest = self.bits.as_ref().into_part(start..end);
-        let asked = asked_behind::<W>(end - start);
-        let Some(index) = ask_down(rest, asked, &mut self.pred) else {
-            self.finished = true;
-            return Some(start..end);
+        let bits = look::<T, O>(&self.elements, self.head, self.len);
+        let Some(range) = self.course.step_behind(bits) else {
+            return false;
         };
-        self.from = start;
-        self.to = start + end_of::<W>(index);
-        Some(start + index + 1..end)
+        self.found = range;
+        true
     }
 
-    // The next piece, as a range of the view.
-    pub(crate) fn step(&mut self) -> Option<Range<usize>>
-        requires { MayGoOnIn P.FnMut (left_in self.old) }
-        ensures stays { StaysIn (left_in self.old) result (left_in self.new) }
-        ensures piece { SplitNextIn P.FnMut W.INCLUSIVE W.REVERSED (left_in self.old) result (left_in self.new) }
+    /// The piece that was found last, as often as it is asked for: no bits before the first. The crate
+    /// has no such call: with it a caller knows that nothing but the elements of the piece is changed.
+    pub fn piece_mut(&mut self) -> BitSliceMut<'_, T, O>
+        ensures* writes_back { sem 𝓛 (lends_found T.row O.row P.row W.row self.entry (name_of result)) }
+        ensures piece { IsRangeOf T.BITS (left_in self.old).view (found_in self.old).start (found_in self.old).end (seen_mut result) }
     {
-        if W::REVERSED {
-            self.step_back()
-        } else {
-            self.step_front()
-        }
-    }
-
-    // The same from the other end.
-    fn step_behind(&mut self) -> Option<Range<usize>>
-        requires { MayGoOnIn P.FnMut (left_in self.old) }
-        ensures stays { StaysIn (left_in self.old) result (left_in self.new) }
-        ensures piece { SplitNextBackIn P.FnMut W.INCLUSIVE W.REVERSED (left_in self.old) result (left_in self.new) }
-    {
-        if W::REVERSED {
-            self.step_front()
-        } else {
-            self.step_back()
-        }
-    }
-
-    // All that is left, unasked, as a range of the view.
-    pub(crate) fn finish(&mut self) -> Option<Range<usize>>
-        ensures stays { StaysIn (left_in self.old) result (left_in self.new) }
-        ensures piece { SplitRestIn (left_in self.old) result (left_in self.new) }
-    {
-        if self.finished {
-            return None;
-        }
-        self.finished = true;
-        Some(self.range())
-    }
-
-    // Lends a range of the view.
-    pub(crate) fn lend(&mut self, range: Range<usize>) -> BitSliceMut<'_, T, O>
-        requires { HasRange range (left_in self.old).view.window.len }
-        ensures { IsRangeOf T.BITS (left_in self.old).view range.start range.end (seen_mut result) }
-    {
-        self.bits.part_mut(range)
+        let Range { start, end } = self.found;
+        self.part_mut(start, end)
     }
 
     /// The next piece, if there is one. Condition: the predicate may always be called, or at least
@@ -155,9 +139,10 @@ impl<'a, T: BitStore, O: BitOrder, P: FnMut(usize, &bool) -> bool, W: Way> Split
         requires { MayGoOnIn P.FnMut (left_in self.old) }
         ensures { Lends T.BITS (left_in self.old).view (SplitNextIn P.FnMut W.INCLUSIVE W.REVERSED (left_in self.old)) (option_map seen_mut result) }
     {
-        match self.step() {
-            Some(range) => Some(self.lend(range)),
-            None => None,
+        if self.advance() {
+            Some(self.piece_mut())
+        } else {
+            None
         }
     }
 
@@ -166,9 +151,10 @@ impl<'a, T: BitStore, O: BitOrder, P: FnMut(usize, &bool) -> bool, W: Way> Split
         requires { MayGoOnIn P.FnMut (left_in self.old) }
         ensures { Lends T.BITS (left_in self.old).view (SplitNextBackIn P.FnMut W.INCLUSIVE W.REVERSED (left_in self.old)) (option_map seen_mut result) }
     {
-        match self.step_behind() {
-            Some(range) => Some(self.lend(range)),
-            None => None,
+        if self.advance_back() {
+            Some(self.piece_mut())
+        } else {
+            None
         }
     }
 
@@ -176,43 +162,37 @@ impl<'a, T: BitStore, O: BitOrder, P: FnMut(usize, &bool) -> bool, W: Way> Split
     pub fn size_hint(&self) -> (usize, Option<usize>)
         ensures { result ≡ (least_in (left_in self.now), Some (most_in (left_in self.now))) }
     {
-        let (least, most) = self.bounds();
+        let bits = look::<T, O>(&self.elements, self.head, self.len);
+        let (least, most) = self.course.bounds(bits);
         (least, Some(most))
     }
+}
 
-    // The same as plain numbers.
-    pub(crate) fn bounds(&self) -> (usize, usize)
-        ensures { result ≡ (least_in (left_in self.now), most_in (left_in self.now)) }
+impl<'a, T: BitStore, O: BitOrder, P, W> SplitsMut<'a, T, O, P, W> {
+    ghost use Rattle.std.specs.Borrow.{sem};
+    ghost use Rattle.bitvec_slice.specs.Seen.{IsRangeOf};
+    ghost use Rattle.bitvec_slice.specs.Views.{name_of, seen_mut};
+    ghost use Rattle.bitvec_split.specs.LentViews.{left_in};
+    ghost use Rattle.bitvec_split.specs.SplitsLending.{lends_bits, lends_part};
+
+    fn part_mut(&mut self, from: usize, to: usize) -> BitSliceMut<'_, T, O>
+        requires order { from ≤ to }
+        requires bound { to ≤ (left_in self.old).view.window.len }
+        ensures* writes_back { sem 𝓛 (lends_bits T.row O.row P.row W.row self.entry from to (name_of result)) }
+        ensures part { IsRangeOf T.BITS (left_in self.old).view from to (seen_mut result) }
     {
-        if self.finished {
-            return (0, 0);
-        }
-        let Range { start, end } = self.range();
-        (1, end - start + 1)
+        let start = self.head + from;
+        let cells = touched::<T>(start, self.head + to);
+        let elements = self.elements_part_mut(cells.start, cells.end);
+        BitSliceMut::from_parts(elements, start % (T::BITS as usize), to - from)
     }
 
-    /// The pieces of a view, which is lent for as long as they are. The crate has no such call:
-    /// `split_mut` and its kin are made of it.
-    #[doc(hidden)]
-    pub fn new<'s>(bits: &'s mut BitSliceMut<'a, T, O>, pred: P) -> SplitsMut<'s, T, O, P, W>
-        ensures* writes_back { sem 𝓛 (lends T.row O.row bits.entry (name_of_splits result)) }
-        ensures left { left_in result ≡ unsplit_in W.INCLUSIVE (seen_mut bits.old) pred }
+    fn elements_part_mut(&mut self, start: usize, end: usize) -> &mut [T]
+        requires order { start ≤ end }
+        requires bound { end ≤ length (left_in self.old).view.elements }
+        ensures* writes_back { sem 𝓛 (lends_part T.row O.row P.row W.row self.entry start end result.ghost_name) }
+        ensures elements { result.now ≡ slice_range (left_in self.old).view.elements start end }
     {
-        SplitsMut::of(bits.as_mut(), pred)
-    }
-
-    fn of(bits: BitSliceMut<'a, T, O>, pred: P) -> Self
-        ensures left { left_in result ≡ unsplit_in W.INCLUSIVE (seen_mut bits.entry) pred }
-        ensures name { name_of_splits result ≡ name_of bits.entry }
-    {
-        let to = bits.len();
-        SplitsMut {
-            bits,
-            from: 0,
-            to,
-            finished: W::INCLUSIVE && to == 0,
-            pred,
-            way: PhantomData,
-        }
+        &mut self.elements[start..end]
     }
 }

@@ -6,6 +6,7 @@ mod calls;
 mod calls_mut;
 mod counted_lending;
 mod counting;
+mod course;
 mod lending;
 mod splitting;
 mod walks;

@@ -11,13 +11,13 @@ use test_bits::{MEMORIES, bits_of, flip};
 
 /// What a predicate was asked about, in turn: indices and bits.
 #[derive(Clone, Copy, Debug, PartialEq)]
-struct Asked {
+pub(crate) struct Asked {
     about: [(usize, bool); 40],
     count: usize,
 }
 
 impl Asked {
-    fn new() -> Asked {
+    pub(crate) fn new() -> Asked {
         Asked {
             about: [(0, false); 40],
             count: 0,
@@ -25,7 +25,7 @@ impl Asked {
     }
 
     /// Notes a question, and says yes at a one.
-    fn hears(&mut self, index: usize, bit: bool) -> bool {
+    pub(crate) fn hears(&mut self, index: usize, bit: bool) -> bool {
         if let Some(place) = self.about.get_mut(self.count) {
             *place = (index, bit);
         }
@@ -36,13 +36,13 @@ impl Asked {
 
 /// A split of a list of bits by a predicate that says yes at ones.
 #[derive(Drop)]
-struct Model {
-    bits: [bool; 24],
+pub(crate) struct Model {
+    pub(crate) bits: [bool; 24],
     from: usize,
     to: usize,
     inclusive: bool,
-    ended: bool,
-    asked: Asked,
+    pub(crate) ended: bool,
+    pub(crate) asked: Asked,
 }
 
 impl Model {
@@ -126,7 +126,7 @@ impl Model {
 
 /// From which ends the pieces are taken.
 #[derive(Clone, Copy)]
-enum Ends {
+pub(crate) enum Ends {
     Front,
     Back,
     ByTurns,
@@ -134,7 +134,7 @@ enum Ends {
 
 impl Ends {
     /// Whether the call of a number is one from the back.
-    fn is_back(self, call: usize) -> bool {
+    pub(crate) fn is_back(self, call: usize) -> bool {
         match self {
             Ends::Front => false,
             Ends::Back => true,
@@ -145,14 +145,14 @@ impl Ends {
 
 /// How a view is split.
 #[derive(Clone, Copy)]
-enum Kind {
+pub(crate) enum Kind {
     Between,
     Inclusive,
     Reversed,
 }
 
 /// What thirty calls of a split give: how many bits each piece has.
-type Lengths = [Option<usize>; 30];
+pub(crate) type Lengths = [Option<usize>; 30];
 
 /// Calls a split of the bits 3 up to 21 thirty times, and gives what came and what was asked.
 fn split_in(bytes: &mut [u8; 3], kind: Kind, ends: Ends) -> (Lengths, Asked) {
@@ -207,7 +207,7 @@ fn split_in(bytes: &mut [u8; 3], kind: Kind, ends: Ends) -> (Lengths, Asked) {
 }
 
 /// The same of a list.
-fn split_list(bytes: [u8; 3], kind: Kind, ends: Ends) -> (Lengths, Model) {
+pub(crate) fn split_list(bytes: [u8; 3], kind: Kind, ends: Ends) -> (Lengths, Model) {
     let mut lengths = [None; 30];
     let mut model = Model::new(bits_of(bytes), matches!(kind, Kind::Inclusive));
     let reversed = matches!(kind, Kind::Reversed);
@@ -276,7 +276,7 @@ fn split_into(bytes: &mut [u8; 3], count: usize, reversed: bool) -> (Lengths, As
 }
 
 /// The same of a list.
-fn split_list_into(bytes: [u8; 3], count: usize, reversed: bool) -> (Lengths, Model) {
+pub(crate) fn split_list_into(bytes: [u8; 3], count: usize, reversed: bool) -> (Lengths, Model) {
     let mut lengths = [None; 30];
     let mut model = Model::new(bits_of(bytes), false);
     for (call, length) in lengths.iter_mut().enumerate() {

@@ -11,6 +11,8 @@ mod comparing;
 #[cfg(test)]
 mod copies;
 #[cfg(test)]
+mod found_splits;
+#[cfg(test)]
 mod hashing;
 #[cfg(test)]
 mod laws;

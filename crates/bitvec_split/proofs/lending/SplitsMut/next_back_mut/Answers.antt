@@ -1,9 +1,9 @@
 use Rattle.bitvec_split.specs.Lent.{SplitNextBackIn}
 use Rattle.bitvec_split.specs.LentLaws.{lends_so}
-use Rattle.bitvec_split.specs.LentViews.{left_in}
+use Rattle.bitvec_split.specs.LentViews.{found_in, left_in}
 use Rattle.bitvec_split.proofs.lending.SplitsMut.next_back_mut.Goals as goal
 
-pub returns-in-Some : goal.returns-in-Some
-returns-in-Some g c =
-    lends_so (SplitNextBackIn g.P.FnMut g.W.Way.INCLUSIVE g.W.Way.REVERSED (left_in c.args.self.now)) _ _ (left_in c.step_behind.new.self)
-    c.in-Some.ensures.piece c.in-Some.ensures.stays.view c.lend.ensures
+pub returns-then-advance_back : goal.returns-then-advance_back
+returns-then-advance_back g c =
+    lends_so (SplitNextBackIn g.P.FnMut g.W.Way.INCLUSIVE g.W.Way.REVERSED (left_in c.args.self.now)) (found_in c.advance_back.new.self) _ (left_in c.advance_back.new.self)
+    c.if-advance_back.ensures.piece c.if-advance_back.ensures.stays.view c.piece_mut.ensures.piece

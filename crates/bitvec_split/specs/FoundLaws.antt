@@ -1,0 +1,31 @@
+-- A split of which the piece that was found last was lent keeps the elements that the piece doesn't touch.
+use Rattle.std.specs.Prelude.{ℕ, ◌+◌, ◌<◌, List, length}
+use Rattle.std.proofs.Common.{arith}
+use Rattle.bitvec_slice.specs.store.declared.store.BitStore.{Ghosts as Store}
+use Rattle.bitvec_slice.specs.base.declared.order.BitOrder.{Ghosts as Order}
+use Rattle.bitvec_slice.specs.lends.Kept.{KeepsOutside}
+use Rattle.bitvec_slice.specs.lends.Refill.{with_range}
+use Rattle.bitvec_slice.specs.lends.RefillLaws.{refilled-keeps}
+use Rattle.bitvec_slice.specs.Touched.{end_touched, first_touched}
+use Rattle.bitvec_slice.specs.TouchedLaws.{touches}
+use Rattle.bitvec_split.specs.LentViews.{found_in, left_in}
+use Rattle.bitvec_split.specs.SplitsLending.{with_elements}
+use Rattle.bitvec_split.specs.declared.lending.SplitsMut.{SplitsMut}
+
+module _ {T O P W : Type 0} {t : Store T} {o : Order O} (s : SplitsMut T O P W t o) where
+  -- where the elements begin and end that the piece touches
+  abbrev pub first_of_found : ℕ
+  first_of_found = first_touched t.BITS ((left_in s).view.window.start + (found_in s).start)
+
+  abbrev pub end_of_found : ℕ
+  end_of_found = end_touched t.BITS ((left_in s).view.window.start + (found_in s).end)
+
+  -- whatever was left in them
+  pub found-keeps : (ws : List T) → 0 < t.BITS
+      → KeepsOutside first_of_found end_of_found (left_in s).view.elements (left_in (with_elements s (with_range (left_in s).view.elements first_of_found end_of_found ws))).view.elements
+  found-keeps ws some =
+      let inside = s.inside in
+      let ordered = s.ordered in
+      let held = s.held in
+      let is = touches t.BITS (length s.elements.now) (s.head + s.found.start) (s.head + s.found.end) some (omega arith) (omega arith) in
+      refilled-keeps s.elements.now ws _ _ is.order is.bound

@@ -1,0 +1,196 @@
+//! How far a split that lends its pieces has come, and its steps.
+ghost use Rattle.std.specs.Prelude.{◌≡◌, ◌+◌, ◌-◌, ◌<◌, ◌≤◌, ◌*◌, ◌^◌, Some, length};
+ghost use Rattle.bitvec_slice.specs.Seen.{shown};
+ghost use Rattle.bitvec_slice.specs.Views.{seen};
+ghost use Rattle.bitvec_slice.specs.base.Window.{max_bits};
+ghost use Rattle.bitvec_split.specs.Courses.{left_on};
+ghost use Rattle.bitvec_split.specs.Lent.{CountedStepIn, MayGoOnIn, SplitNextBackIn, SplitNextIn, SplitRestIn, SplitStepIn, StaysIn, least_in, most_in, unsplit_in};
+ghost use Rattle.bitvec_split.specs.Splits.{back, front};
+
+use crate::Way;
+use crate::asking::{ask_down, ask_up};
+use crate::ways::{asked_behind, end_of};
+use bitvec_slice::BitSlice;
+use bitvec_slice::base::BitOrder;
+use bitvec_slice::store::BitStore;
+use std::marker::PhantomData;
+use std::ops::Range;
+
+/// Which bits of a view no piece has yet, whether the last piece was lent, and the predicate.
+#[derive(Drop)]
+pub(crate) struct Course<P, W> {
+    pub(crate) from: usize,
+    pub(crate) to: usize,
+    pub(crate) finished: bool,
+    pub(crate) pred: P,
+    pub(crate) way: PhantomData<W>,
+}
+
+impl<P: FnMut(usize, &bool) -> bool, W: Way> Course<P, W> {
+    /// All bits of a view are left.
+    pub(crate) fn of<T: BitStore, O: BitOrder>(bits: BitSlice<'_, T, O>, pred: P) -> Self
+        ensures { left_on (seen bits.entry) result ≡ unsplit_in W.INCLUSIVE (seen bits.entry) pred }
+    {
+        let to = bits.len();
+        Course {
+            from: 0,
+            to,
+            finished: W::INCLUSIVE && to == 0,
+            pred,
+            way: PhantomData,
+        }
+    }
+
+    // The range of the view that no piece has yet.
+    fn range<T: BitStore, O: BitOrder>(&self, bits: BitSlice<'_, T, O>) -> Range<usize>
+        ensures start { result.start ≡ (left_on (seen bits.entry) self.now).from }
+        ensures end { result.end ≡ (left_on (seen bits.entry) self.now).to }
+        ensures order { result.start ≤ result.end }
+        ensures inside { result.end ≤ (seen bits.entry).window.len }
+    {
+        let end = self.to.min(bits.len());
+        self.from.min(end)..end
+    }
+
+    // The next piece from the front of what is left, as a range of the view.
+    #[tactic(auto, using(crate::specs::AskedLaws::may_ask_of_fewer, crate::specs::AskedLaws::may_ask_either))]
+    fn step_front<T: BitStore, O: BitOrder>(
+        &mut self,
+        bits: BitSlice<'_, T, O>,
+    ) -> Option<Range<usize>>
+        requires { MayGoOnIn P.FnMut (left_on (seen bits) self.old) }
+        ensures stays { StaysIn (left_on (seen bits.entry) self.old) result (left_on (seen bits.entry) self.new) }
+        ensures piece { SplitStepIn P.FnMut W.INCLUSIVE (front W.INCLUSIVE ((left_on (seen bits.entry) self.old).to - (left_on (seen bits.entry) self.old).from)) (left_on (seen bits.entry) self.old) result (left_on (seen bits.entry) self.new) }
+    {
+        if self.finished {
+            return None;
+        }
+        let Range { start, end } = self.range(bits);
+        let rest = bits.into_part(start..end);
+        let Some(index) = ask_up(rest, &mut self.pred) else {
+            self.finished = true;
+            return Some(start..end);
+        };
+        self.from = start + index + 1;
+        self.to = end;
+        self.finished = W::INCLUSIVE && self.from == end;
+        Some(start..start + end_of::<W>(index))
+    }
+
+    // The next piece from the back of what is left, as a range of the view.
+    #[tactic(auto, using(crate::specs::AskedLaws::may_ask_of_fewer, crate::specs::AskedLaws::may_ask_either))]
+    fn step_back<T: BitStore, O: BitOrder>(
+        &mut self,
+        bits: BitSlice<'_, T, O>,
+    ) -> Option<Range<usize>>
+        requires { MayGoOnIn P.FnMut (left_on (seen bits) self.old) }
+        ensures stays { StaysIn (left_on (seen bits.entry) self.old) result (left_on (seen bits.entry) self.new) }
+        ensures piece { SplitStepIn P.FnMut W.INCLUSIVE (back W.INCLUSIVE ((left_on (seen bits.entry) self.old).to - (left_on (seen bits.entry) self.old).from)) (left_on (seen bits.entry) self.old) result (left_on (seen bits.entry) self.new) }
+    {
+        if self.finished {
+            return None;
+        }
+        let Range { start, end } = self.range(bits);
+        let rest = bits.into_part(start..end);
+        let asked = asked_behind::<W>(end - start);
+        let Some(index) = ask_down(rest, asked, &mut self.pred) else {
+            self.finished = true;
+            return Some(start..end);
+        };
+        self.from = start;
+        self.to = start + end_of::<W>(index);
+        Some(start + index + 1..end)
+    }
+
+    /// The next piece, as a range of the view.
+    pub(crate) fn step<T: BitStore, O: BitOrder>(
+        &mut self,
+        bits: BitSlice<'_, T, O>,
+    ) -> Option<Range<usize>>
+        requires { MayGoOnIn P.FnMut (left_on (seen bits) self.old) }
+        ensures stays { StaysIn (left_on (seen bits.entry) self.old) result (left_on (seen bits.entry) self.new) }
+        ensures piece { SplitNextIn P.FnMut W.INCLUSIVE W.REVERSED (left_on (seen bits.entry) self.old) result (left_on (seen bits.entry) self.new) }
+    {
+        if W::REVERSED {
+            self.step_back(bits)
+        } else {
+            self.step_front(bits)
+        }
+    }
+
+    /// The same from the other end.
+    pub(crate) fn step_behind<T: BitStore, O: BitOrder>(
+        &mut self,
+        bits: BitSlice<'_, T, O>,
+    ) -> Option<Range<usize>>
+        requires { MayGoOnIn P.FnMut (left_on (seen bits) self.old) }
+        ensures stays { StaysIn (left_on (seen bits.entry) self.old) result (left_on (seen bits.entry) self.new) }
+        ensures piece { SplitNextBackIn P.FnMut W.INCLUSIVE W.REVERSED (left_on (seen bits.entry) self.old) result (left_on (seen bits.entry) self.new) }
+    {
+        if W::REVERSED {
+            self.step_front(bits)
+        } else {
+            self.step_back(bits)
+        }
+    }
+
+    /// All that is left, unasked, as a range of the view.
+    pub(crate) fn finish<T: BitStore, O: BitOrder>(
+        &mut self,
+        bits: BitSlice<'_, T, O>,
+    ) -> Option<Range<usize>>
+        ensures stays { StaysIn (left_on (seen bits.entry) self.old) result (left_on (seen bits.entry) self.new) }
+        ensures piece { SplitRestIn (left_on (seen bits.entry) self.old) result (left_on (seen bits.entry) self.new) }
+    {
+        if self.finished {
+            return None;
+        }
+        self.finished = true;
+        Some(self.range(bits))
+    }
+
+    /// The next piece of a split that may lend `count` more, as a range of the view.
+    pub(crate) fn step_counted<T: BitStore, O: BitOrder>(
+        &mut self,
+        bits: BitSlice<'_, T, O>,
+        count: usize,
+    ) -> Option<Range<usize>>
+        requires { MayGoOnIn P.FnMut (left_on (seen bits) self.old) }
+        ensures stays { StaysIn (left_on (seen bits.entry) self.old) result (left_on (seen bits.entry) self.new) }
+        ensures piece { CountedStepIn P.FnMut W.INCLUSIVE W.REVERSED count (left_on (seen bits.entry) self.old) result (left_on (seen bits.entry) self.new) }
+    {
+        let range = match count {
+            0 => None,
+            1 => self.finish(bits),
+            _ => self.step(bits),
+        }?;
+        Some(range)
+    }
+
+    /// How many pieces come at least, and how many at most.
+    pub(crate) fn bounds<T: BitStore, O: BitOrder>(
+        &self,
+        bits: BitSlice<'_, T, O>,
+    ) -> (usize, usize)
+        ensures { result ≡ (least_in (left_on (seen bits.entry) self.now), most_in (left_on (seen bits.entry) self.now)) }
+    {
+        if self.finished {
+            return (0, 0);
+        }
+        let Range { start, end } = self.range(bits);
+        (1, end - start + 1)
+    }
+}
+
+/// The bits of elements that are borrowed for writing, to read.
+pub(crate) fn look<'s, T: BitStore, O: BitOrder>(
+    elements: &'s &mut [T],
+    head: usize,
+    len: usize,
+) -> BitSlice<'s, T, O>
+    requires inside { head + len ≤ T.BITS * length elements.now.now }
+    requires bounded { T.BITS * length elements.now.now ≤ max_bits }
+    ensures { seen result ≡ shown T.BITS O.at T.value elements.now.now head len }
+{
+    BitSlice::from_parts(elements, head, len)
+}

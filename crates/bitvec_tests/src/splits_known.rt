@@ -1,0 +1,70 @@
+//! What a caller knows of a writable split once its pieces were found and lent.
+ghost use Rattle.std.specs.Prelude.{◌≡◌, ◌+◌, false};
+ghost use Rattle.bitvec.specs.Kept.{KeepsOutside};
+ghost use Rattle.bitvec.specs.SplitFoundLaws.{end_of_found, first_of_found};
+ghost use Rattle.bitvec.specs.SplitLent.{MayGoOnIn, SplitNextIn, piece_if};
+ghost use Rattle.bitvec.specs.SplitLentViews.{found_in, left_in};
+ghost use Rattle.bitvec.specs.Views.{name_of, seen_mut};
+
+use bitvec::prelude::*;
+use bitvec::slice::SplitMut;
+
+/// Clears the next piece, if there is one. What was asked, where the piece stands and what is left are
+/// as the step says; the view stays where it is, and so does each element that the piece doesn't touch.
+pub fn clear_next<T: BitStore, O: SliceOrder, P: FnMut(usize, &bool) -> bool>(
+    pieces: &mut SplitMut<'_, T, O, P>,
+) -> bool
+    requires { MayGoOnIn P.FnMut (left_in pieces.old) }
+    ensures step { SplitNextIn P.FnMut false false (left_in pieces.old) (piece_if result (found_in pieces.new)) (record (left_in pieces.new) { view = (left_in pieces.old).view }) }
+    ensures window { (left_in pieces.new).view.window ≡ (left_in pieces.old).view.window }
+    ensures elements { KeepsOutside (first_of_found pieces.new) (end_of_found pieces.new) (left_in pieces.old).view.elements (left_in pieces.new).view.elements }
+{
+    let found = pieces.advance();
+    {
+        let mut piece = pieces.piece_mut();
+        if found {
+            piece.fill(false);
+        }
+    }
+    found
+}
+
+/// Clears the first two pieces between zeros, and says whether nothing is left then: the view stays
+/// where it is.
+pub fn clear_two<T: BitStore, O: SliceOrder>(view: &mut BitSliceMut<'_, T, O>) -> bool
+    ensures window { (seen_mut view.new).window ≡ (seen_mut view.old).window }
+    ensures name { name_of view.new ≡ name_of view.old }
+{
+    let mut pieces = view.split_mut(|_, bit| !*bit);
+    for _ in 0..2 {
+        if pieces.advance() {
+            let mut piece = pieces.piece_mut();
+            piece.fill(false);
+        }
+    }
+    pieces.is_finished()
+}
+
+#[test]
+fn the_next_piece_is_cleared(rt: HostRuntime) {
+    // 0, 1, 1, 0, 1, 1, 0, 1
+    let mut cells = [0xB6u8];
+    let mut view = BitSliceMut::<u8, Lsb0>::from_slice_mut(&mut cells);
+    {
+        let mut pieces = view.split_mut(|index, _| index == 2);
+        assert!(rt; clear_next(&mut pieces));
+        assert!(rt; clear_next(&mut pieces));
+        assert!(rt; clear_next(&mut pieces));
+        assert!(rt; !clear_next(&mut pieces));
+    }
+    assert_eq!(rt; cells, [0x24]);
+}
+
+#[test]
+fn two_pieces_are_cleared(rt: HostRuntime) {
+    // 0, 1, 1, 0, 1, 1, 0, 1
+    let mut cells = [0xB6u8];
+    let mut view = BitSliceMut::<u8, Lsb0>::from_slice_mut(&mut cells);
+    assert!(rt; !clear_two(&mut view));
+    assert_eq!(rt; cells, [0xB0]);
+}
