@@ -2,5 +2,4 @@
 pub use Rattle.bitvec_traits.specs.Feeding
 pub use Rattle.bitvec_traits.specs.FeedingLaws
 pub use Rattle.bitvec_traits.specs.Listing
-pub use Rattle.bitvec_traits.specs.ListingLaws
 pub use Rattle.bitvec_traits.specs.OrderLaws
