@@ -2,6 +2,7 @@
 #![tactic(auto)]
 
 mod edits;
+mod swapping;
 mod views;
 
 /// What crates above name of `bitvec_base`.
@@ -102,3 +103,5 @@ pub mod words {
 }
 
 pub use edits::BitEdits;
+#[doc(hidden)]
+pub use swapping::swap_within_in;
