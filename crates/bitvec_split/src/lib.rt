@@ -8,6 +8,7 @@ mod counted_lending;
 mod counting;
 mod lending;
 mod splitting;
+mod texts;
 mod walks;
 mod ways;
 
