@@ -35,7 +35,7 @@ pub mod copy {
 /// What crates above name of `bitvec_domain`.
 pub mod domain {
     pub use bitvec_slice::domain::{
-        Cut, Domain, DomainMut, PartialElement, PartialElementMut, Region, RegionMut,
+        Cut, Domain, DomainMut, DomainValues, PartialElement, PartialElementMut, Region, RegionMut,
         domain_mut_of, domain_of,
     };
 }

@@ -3,4 +3,3 @@ pub use Rattle.bitvec_domain.specs.Cuts
 pub use Rattle.bitvec_domain.specs.Domains
 pub use Rattle.bitvec_domain.specs.Parts
 pub use Rattle.bitvec_domain.specs.Values
-pub use Rattle.bitvec_domain.specs.ValuesLaws
