@@ -5,13 +5,14 @@ pub use bitvec_lent::PieceCallsMut;
 pub use bitvec_ones::OnesCalls;
 pub use bitvec_ones::query::BitQueries;
 pub use bitvec_owned::edit::BitEdits;
-pub use bitvec_owned::edit::base::{BitOrder, HiLo, Lsb0, Msb0};
+pub use bitvec_owned::edit::base::{BitOrder, BitSpanError, HiLo, Lsb0, Msb0};
 pub use bitvec_owned::edit::engine::SliceOrder;
 pub use bitvec_owned::edit::slice::{
     BitDomain, BitDomainMut, BitRef, BitRefMut, BitSlice, BitSliceIndex, BitSliceMut, Domain,
     DomainMut,
 };
 pub use bitvec_owned::edit::store::BitStore;
-pub use bitvec_owned::{BitVec, ToBitVec};
+pub use bitvec_owned::{BitVec, RepeatError, ToBitVec};
 pub use bitvec_pieces::EditParts;
 pub use bitvec_split::{SplitCalls, SplitCallsMut};
+pub use bitvec_text::{Binary, LowerHex, Octal, UpperHex};

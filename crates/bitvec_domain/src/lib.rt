@@ -6,9 +6,11 @@ mod domain;
 mod domain_mut;
 mod part;
 mod part_mut;
+mod values;
 
 pub use cut::Cut;
 pub use domain::{Domain, Region, domain_of};
 pub use domain_mut::{DomainMut, RegionMut, domain_mut_of};
 pub use part::PartialElement;
 pub use part_mut::PartialElementMut;
+pub use values::DomainValues;

@@ -2,3 +2,4 @@
 pub use Rattle.bitvec_slice.specs.domain.Cuts
 pub use Rattle.bitvec_slice.specs.domain.Domains
 pub use Rattle.bitvec_slice.specs.domain.Parts
+pub use Rattle.bitvec_slice.specs.domain.Values

@@ -7,6 +7,7 @@ ghost use Rattle.bitvec_slice.specs.words.Operator.{operator};
 ghost use Rattle.bitvec_slice.specs.words.declared.operator.BitOp.TheVariants.{And, Or, Xor};
 ghost use Rattle.bitvec_slice.specs.Views.{seen, seen_mut};
 ghost use Rattle.bitvec_slice.specs.Writes.{WritesBits};
+ghost use Rattle.bitvec_edit.specs.Swaps.{LieApart, swapped_within};
 
 use bitvec_slice::base::BitOrder;
 use bitvec_slice::store::BitStore;
@@ -136,6 +137,18 @@ pub trait BitEdits<T> {
     fn copy_within(&mut self, src: Range<usize>, dest: usize)
         requires { FitsWithin src.start src.end dest (shows self.old).window.len }
         ensures { writes self.old self.new (copied_within src.start src.end dest (shows self.old).bits) };
+
+    /// Exchanges the bits of a range with as many from `dest` on. Condition: `start <= end <= len`,
+    /// `dest + (end - start) <= len`, and the two ranges lie apart. The crate has no such call: there it
+    /// is `swap_with_bitslice` of two parts that `split_at_mut` gives.
+    ///
+    /// ```
+    /// view.swap_within(0..half, half);
+    /// ```
+    fn swap_within(&mut self, src: Range<usize>, dest: usize)
+        requires fits { FitsWithin src.start src.end dest (shows self.old).window.len }
+        requires apart { LieApart src.start src.end dest }
+        ensures { writes self.old self.new (swapped_within src.start src.end dest (shows self.old).bits) };
 
     /// The same as [`BitEdits::set`], under the same condition.
     fn set_unchecked(&mut self, index: usize, bit: bool)

@@ -2,6 +2,7 @@
 #![tactic(auto)]
 
 mod edits;
+mod swapping;
 mod views;
 
 /// What crates above name of `bitvec_base`.
@@ -34,7 +35,7 @@ pub mod copy {
 /// What crates above name of `bitvec_domain`.
 pub mod domain {
     pub use bitvec_slice::domain::{
-        Cut, Domain, DomainMut, PartialElement, PartialElementMut, Region, RegionMut,
+        Cut, Domain, DomainMut, DomainValues, PartialElement, PartialElementMut, Region, RegionMut,
         domain_mut_of, domain_of,
     };
 }
@@ -102,3 +103,5 @@ pub mod words {
 }
 
 pub use edits::BitEdits;
+#[doc(hidden)]
+pub use swapping::swap_within_in;

@@ -5,6 +5,7 @@ ghost use Rattle.bitvec_slice.specs.Views.{seen, seen_mut};
 ghost use Rattle.bitvec_slice.specs.Writes.{WritesBits};
 
 use crate::BitEdits;
+use crate::swapping::swap_within_in;
 use bitvec_slice::base::BitOrder;
 use bitvec_slice::elements::{
     combine_in, copy_from_in, copy_within_in, fill_in, fill_with_in, for_each_in, invert_in,
@@ -74,6 +75,11 @@ impl<'a, T: BitStore, O: SliceOrder> BitEdits<T> for BitSliceMut<'a, T, O> {
     fn copy_within(&mut self, src: Range<usize>, dest: usize) {
         let window = self.window();
         copy_within_in::<T, O>(self.elements_mut(), window, src, dest);
+    }
+
+    fn swap_within(&mut self, src: Range<usize>, dest: usize) {
+        let window = self.window();
+        swap_within_in::<T, O>(self.elements_mut(), window, src, dest);
     }
 
     fn clone_from_bitslice<U: BitStore, P: BitOrder>(&mut self, src: BitSlice<'_, U, P>) {

@@ -16,4 +16,6 @@ mod old_names;
 #[cfg(test)]
 mod pieces;
 #[cfg(test)]
+mod swaps;
+#[cfg(test)]
 mod transfers;

@@ -5,6 +5,7 @@ mod calls;
 mod parts;
 mod piece_walk;
 mod pieces;
+mod texts;
 mod views;
 
 pub use bitvec_cutting::{

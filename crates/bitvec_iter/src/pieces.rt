@@ -26,7 +26,7 @@ use std::ops::Range;
 pub struct Pieces<'a, T: BitStore, O: BitOrder, C: Cutting> {
     view: BitSlice<'a, T, O>,
     cutting: C,
-    numbers: Range<usize>,
+    pub(crate) numbers: Range<usize>,
     ghost inside: { numbers.end ≤ C.pieces cutting (seen view).window.len },
 }
 
@@ -68,7 +68,7 @@ impl<'a, T: BitStore, O: BitOrder, C: Cutting> Pieces<'a, T, O, C> {
     }
 
     #[tactic(auto, using(crate::specs::LeftLaws::stepping))]
-    fn piece(&self, number: usize) -> BitSlice<'a, T, O>
+    pub(crate) fn piece(&self, number: usize) -> BitSlice<'a, T, O>
         requires { number < C.pieces (cut_by self.now) (walked self.now).window.len }
         ensures { seen result ≡ piece_at self.now number }
     {

@@ -22,6 +22,8 @@ mod remainders;
 #[cfg(test)]
 mod runs;
 #[cfg(test)]
+mod shown;
+#[cfg(test)]
 mod walked;
 #[cfg(test)]
 mod widths;

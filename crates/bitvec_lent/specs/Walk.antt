@@ -1,6 +1,8 @@
 -- What contracts see of a walk that lends the pieces of a view.
-use Rattle.std.specs.Prelude.{◌≡◌, ℕ, ◌+◌, ◌-◌, Bool, false, if◌then◌else◌, min}
+use Rattle.std.specs.Prelude.{◌≡◌, ℕ, ◌+◌, ◌-◌, Bool, List, false, if◌then◌else◌, min}
 use Rattle.std.specs.declared.ops.Range.{Range}
+use Rattle.bitvec_cutting.specs.Cutting.{cut}
+use Rattle.bitvec_cutting.specs.Walks.{walk as pieces}
 use Rattle.bitvec_slice.specs.Seen.{IsRangeOf, Seen}
 
 -- the view that is cut, how it is cut, which numbers are left, from `front` up to `back`, and whether what no piece has was taken
@@ -24,6 +26,10 @@ module _ {T C : Type 0} where
   IsPieceOf b place walk number part =
       let range = place walk.cutting walk.view.window.len number in
       IsRangeOf b walk.view range.start range.end part
+
+  -- the bits of each piece that is left
+  abbrev pub lists_left : (C → ℕ → ℕ → Range ℕ) → Walk T C → List (List Bool)
+  lists_left place walk = pieces (λ number. cut walk.view.bits (place walk.cutting walk.view.window.len number)) walk.front walk.back
 
   -- the walk without its first pieces, of which it has as many or fewer, and without its last ones
   abbrev pub past : Walk T C → ℕ → Walk T C

@@ -16,10 +16,10 @@ use std::marker::PhantomData;
 /// which gives each half to a closure, each bit.
 #[derive(Drop)]
 pub struct HalvesMut<'a, T: BitStore, O: BitOrder> {
-    elements: &'a mut [T],
-    head: usize,
-    mid: usize,
-    len: usize,
+    pub(crate) elements: &'a mut [T],
+    pub(crate) head: usize,
+    pub(crate) mid: usize,
+    pub(crate) len: usize,
     mark: PhantomData<(O, &'a mut T)>,
     ghost inside: { head + len ≤ T.BITS * length elements.now },
     ghost bounded: { T.BITS * length elements.now ≤ max_bits },

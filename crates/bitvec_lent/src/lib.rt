@@ -6,6 +6,7 @@ mod calls;
 mod halves;
 mod pieces;
 mod remainders;
+mod texts;
 
 pub use bits::IterMut;
 pub use bitvec_cutting::{InChunks, InChunksFromEnd, InExactChunks, InExactChunksFromEnd};

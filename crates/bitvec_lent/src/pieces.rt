@@ -23,7 +23,7 @@ pub struct PiecesMut<'a, T: BitStore, O: BitOrder, C: Cutting> {
     pub(crate) elements: &'a mut [T],
     pub(crate) head: usize,
     pub(crate) len: usize,
-    front: usize,
+    pub(crate) front: usize,
     back: usize,
     pub(crate) taken: bool,
     pub(crate) cutting: C,

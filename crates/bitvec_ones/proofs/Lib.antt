@@ -1,2 +1,3 @@
 mod KeptLemmas
 mod LowestLemmas
+mod PushedLemmas

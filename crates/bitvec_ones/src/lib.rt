@@ -5,6 +5,7 @@ mod index_walk;
 mod kept;
 mod ones_calls;
 mod places;
+mod texts;
 mod views;
 mod wanted;
 

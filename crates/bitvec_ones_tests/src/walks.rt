@@ -107,3 +107,20 @@ fn a_list_of_zeros(rt: HostRuntime) -> Result<(), Fail> {
     assert_eq!(rt; zeros.as_slice(), [7, 2].as_slice());
     Ok(())
 }
+
+#[test]
+fn walks_print_the_indices_that_are_left(rt: HostRuntime) -> Result<(), Fail> {
+    let cells = [0x92u8];
+    let view = BitSlice::<u8, Lsb0>::from_slice(&cells);
+    let mut ones = view.iter_ones();
+    assert_eq!(rt;
+        format!(in rt.alloc(); "{ones:?}")?.as_str(),
+        "Places([1, 4, 7])"
+    );
+    let _last = ones.next_back();
+    let _first = ones.next();
+    assert_eq!(rt; format!(in rt.alloc(); "{ones:?}")?.as_str(), "Places([4])");
+    let none = BitSlice::<u8, Msb0>::empty().iter_zeros();
+    assert_eq!(rt; format!(in rt.alloc(); "{none:?}")?.as_str(), "Places([])");
+    Ok(())
+}

@@ -6,7 +6,7 @@ ghost use Rattle.bitvec_owned.specs.Owned.{owned};
 ghost use Rattle.bitvec_owned.specs.Writes.{WritesOwned};
 
 use crate::BitVec;
-use bitvec_edit::BitEdits;
+use bitvec_edit::{BitEdits, swap_within_in};
 use bitvec_edit::base::BitOrder;
 use bitvec_edit::elements::{
     combine_in, copy_from_in, copy_within_in, fill_in, fill_with_in, for_each_in, invert_in,
@@ -77,6 +77,11 @@ impl<T: BitStore, O: SliceOrder, A: Allocator> BitEdits<T> for BitVec<T, O, A> {
     fn copy_within(&mut self, src: Range<usize>, dest: usize) {
         let window = self.window();
         copy_within_in::<T, O>(self.elements.as_mut_slice(), window, src, dest);
+    }
+
+    fn swap_within(&mut self, src: Range<usize>, dest: usize) {
+        let window = self.window();
+        swap_within_in::<T, O>(self.elements.as_mut_slice(), window, src, dest);
     }
 
     fn clone_from_bitslice<U: BitStore, P: BitOrder>(&mut self, src: BitSlice<'_, U, P>) {

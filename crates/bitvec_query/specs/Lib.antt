@@ -6,3 +6,4 @@ pub mod traits
 pub mod walk
 pub mod words
 pub mod Cited
+pub mod ListingLaws

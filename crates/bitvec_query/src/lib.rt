@@ -33,6 +33,11 @@ pub mod store {
     pub use bitvec_slice::store::BitStore;
 }
 
+/// What crates above name of `bitvec_traits`.
+pub mod traits {
+    pub use bitvec_slice::traits::separator_before;
+}
+
 /// What crates above name of `bitvec_walk`.
 pub mod walk {
     pub use bitvec_slice::walk::sought;

@@ -16,6 +16,7 @@ pub mod Domains
 pub mod Indices
 pub mod KeptLaws
 pub mod Lending
+pub mod ListingLaws
 pub mod Seen
 pub mod SeenLaws
 pub mod Touched

@@ -2,3 +2,4 @@
 pub use Rattle.bitvec_domain.specs.Cuts
 pub use Rattle.bitvec_domain.specs.Domains
 pub use Rattle.bitvec_domain.specs.Parts
+pub use Rattle.bitvec_domain.specs.Values

@@ -49,11 +49,11 @@ pub enum BitDomainMut<'a, T: BitStore, O: BitOrder> {
 
 impl<'a, T: BitStore, O: BitOrder> BitDomain<'a, T, O> {
     /// The view, where it touches neither edge of the one element that it lies in: `enclave` of bitvec.
-    pub fn enclave(self) -> Option<BitSlice<'a, T, O>>
-        ensures { option_map seen result ≡ enclave_view (views_of self.entry) }
+    pub fn enclave(&self) -> Option<BitSlice<'a, T, O>>
+        ensures { option_map seen result ≡ enclave_view (views_of self.now) }
     {
         match self {
-            BitDomain::Enclave(view) => Some(view),
+            BitDomain::Enclave(view) => Some(*view),
             BitDomain::Region {
                 head: _,
                 body: _,
@@ -63,12 +63,12 @@ impl<'a, T: BitStore, O: BitOrder> BitDomain<'a, T, O> {
     }
 
     /// The views of the three pieces, where the view isn't within one element: `region` of bitvec.
-    pub fn region(self) -> Option<(BitSlice<'a, T, O>, BitSlice<'a, T, O>, BitSlice<'a, T, O>)>
-        ensures { option_map (λ given. (seen given.0, (seen given.1, seen given.2))) result ≡ region_views (views_of self.entry) }
+    pub fn region(&self) -> Option<(BitSlice<'a, T, O>, BitSlice<'a, T, O>, BitSlice<'a, T, O>)>
+        ensures { option_map (λ given. (seen given.0, (seen given.1, seen given.2))) result ≡ region_views (views_of self.now) }
     {
         match self {
             BitDomain::Enclave(_) => None,
-            BitDomain::Region { head, body, tail } => Some((head, body, tail)),
+            BitDomain::Region { head, body, tail } => Some((*head, *body, *tail)),
         }
     }
 }

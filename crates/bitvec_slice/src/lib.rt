@@ -24,6 +24,7 @@ mod touching;
 mod transfers;
 mod view;
 mod view_mut;
+mod walk_texts;
 
 /// What crates above name of `bitvec_base`.
 pub mod base {
@@ -57,7 +58,7 @@ pub mod copy {
 /// What crates above name of `bitvec_domain`.
 pub mod domain {
     pub use bitvec_domain::{
-        Cut, Domain, DomainMut, PartialElement, PartialElementMut, Region, RegionMut,
+        Cut, Domain, DomainMut, DomainValues, PartialElement, PartialElementMut, Region, RegionMut,
         domain_mut_of, domain_of,
     };
 }
@@ -122,7 +123,7 @@ pub mod words {
 
 pub use bit_domain::{BitDomain, BitDomainMut};
 pub use bit_iters::{BitRefIter, BitValIter};
-pub use bitvec_domain::{Domain, DomainMut, PartialElement, PartialElementMut};
+pub use bitvec_domain::{Domain, DomainMut, DomainValues, PartialElement, PartialElementMut};
 pub use bitvec_traits::base::{BitSpanError, Window};
 pub use bitvec_traits::reference::{BitRef, BitRefMut};
 pub use conversions::{from_mut, from_ref};
@@ -134,3 +135,5 @@ pub use raw_elements::RawElements;
 pub use touching::touched;
 pub use view::BitSlice;
 pub use view_mut::BitSliceMut;
+#[doc(hidden)]
+pub use walk_texts::write_named;

@@ -1,4 +1,5 @@
-//! What is printed of writable views and of references to bits, when they are equal, and of which kind a domain is.
+//! What is printed of writable views, of references to bits and of walks over them, when they are equal, and
+//! of which kind a domain is.
 ghost use Rattle.std.specs.Prelude.{◌≤◌};
 
 use bitvec_edit::reference::BitRefMut;
@@ -72,6 +73,33 @@ fn writing_references_print_and_compare(rt: HostRuntime) -> Result<(), Fail> {
     Ok(())
 }
 
+#[test]
+fn walks_over_bits_print_what_is_left(rt: HostRuntime) -> Result<(), Fail> {
+    let bits = [0b1101u8];
+    let view = BitSlice::<u8, Lsb0>::from_slice(&bits).into_part(0..5);
+    let mut walk = view.iter();
+    let _first = walk.next();
+    let _last = walk.next_back();
+    assert_eq!(rt;
+        format!(in rt.alloc(); "{walk:?}")?.as_str(),
+        "Iter([0, 1, 1])"
+    );
+    let refs = view.iter().by_refs();
+    assert_eq!(rt;
+        format!(in rt.alloc(); "{refs:?}")?.as_str(),
+        "BitRefIter([1, 0, 1, 1, 0])"
+    );
+    let mut vals = view.iter().by_vals();
+    for _ in 0..5 {
+        let _bit = vals.next();
+    }
+    assert_eq!(rt;
+        format!(in rt.alloc(); "{vals:?}")?.as_str(),
+        "BitValIter([])"
+    );
+    Ok(())
+}
+
 /// The value of a view's one part, and how many whole elements a region has.
 fn elements_of(cells: &[u8; 3], from: usize, to: usize) -> (Option<u8>, Option<usize>)
     requires order { from ≤ to }
@@ -94,6 +122,73 @@ fn domains_tell_their_kind(rt: HostRuntime) {
     let cells = [0x0Fu8, 0x12, 0x80];
     assert_eq!(rt; elements_of(&cells, 9, 15), (Some(0x12), None));
     assert_eq!(rt; elements_of(&cells, 4, 17), (None, Some(1)));
+}
+
+/// How many bits a view's one part has, and those of a region's three.
+fn shared_lens(cells: &[u8; 3], from: usize, to: usize) -> (usize, usize)
+    requires order { from ≤ to }
+    requires bound { to ≤ 24 }
+{
+    let view = BitSlice::<u8, Msb0>::from_slice(cells).into_part(from..to);
+    let mut inside = 0;
+    let mut outside = 0;
+    if let Some(bits) = view.bit_domain().enclave() {
+        inside = bits.len();
+    }
+    if let Some((head, body, tail)) = view.bit_domain().region() {
+        if head.len() <= 8 && body.len() <= 24 && tail.len() <= 8 {
+            outside = head.len() + body.len() + tail.len();
+        }
+    }
+    (inside, outside)
+}
+
+#[test]
+fn bit_domains_tell_their_kind(rt: HostRuntime) {
+    let cells = [0x0Fu8, 0x12, 0x80];
+    assert_eq!(rt; shared_lens(&cells, 9, 15), (6, 0));
+    assert_eq!(rt; shared_lens(&cells, 4, 17), (0, 13));
+}
+
+/// The values of the elements that a range of the bits touches, from the front, or from the back.
+fn values_of(
+    alloc: Global,
+    cells: &[u8; 4],
+    from: usize,
+    to: usize,
+    back: bool,
+) -> Result<Vec<u8>, Fail>
+    requires order { from ≤ to }
+    requires bound { to ≤ 32 }
+{
+    let domain = BitSlice::<u8, Msb0>::from_slice(cells)
+        .into_part(from..to)
+        .domain();
+    if back {
+        return Ok(domain.values().rev().collect(alloc)?);
+    }
+    let mut values = Vec::new(alloc);
+    for value in domain {
+        values.push(value)?;
+    }
+    Ok(values)
+}
+
+#[test]
+fn domains_give_their_values_in_order(rt: HostRuntime) -> Result<(), Fail> {
+    let cells = [0xFFu8, 0x12, 0x34, 0xFF];
+    let inside = values_of(rt.alloc(), &cells, 9, 12, false)?;
+    assert_eq!(rt; inside.as_slice(), [0x10].as_slice());
+    let across = values_of(rt.alloc(), &cells, 4, 28, false)?;
+    assert_eq!(rt; across.as_slice(), [0x0F, 0x12, 0x34, 0xF0].as_slice());
+    let from_end = values_of(rt.alloc(), &cells, 4, 28, true)?;
+    assert_eq!(rt; from_end.as_slice(), [0xF0, 0x34, 0x12, 0x0F].as_slice());
+    let whole = values_of(rt.alloc(), &cells, 8, 24, true)?;
+    assert_eq!(rt; whole.as_slice(), [0x34, 0x12].as_slice());
+    let edge = values_of(rt.alloc(), &cells, 0, 11, false)?;
+    assert_eq!(rt; edge.as_slice(), [0xFF, 0x00].as_slice());
+    assert!(rt; values_of(rt.alloc(), &cells, 5, 5, false)?.is_empty());
+    Ok(())
 }
 
 /// How many bits a writable view's one part has, and those of a region's three.

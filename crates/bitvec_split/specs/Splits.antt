@@ -1,5 +1,5 @@
 -- What is left of a split, and what each call asks, gives and leaves.
-use Rattle.std.specs.Prelude.{◌≡◌, ℕ, ◌+◌, ◌-◌, ◌<◌, ◌==◌, ◌&&◌, ◌⊎◌, Bool, true, false, List, Option, Some, MatchOption, if◌then◌else◌, min, not}
+use Rattle.std.specs.Prelude.{◌≡◌, ℕ, ◌+◌, ◌-◌, ◌<◌, ◌==◌, ◌&&◌, ◌⊎◌, Bool, true, false, List, [], Option, Some, MatchOption, if◌then◌else◌, min, not}
 use Rattle.std.specs.Bool.{MatchBool}
 use Rattle.std.specs.Borrow.{Bor}
 use Rattle.std.specs.Fn.{Mut, always_mut}
@@ -31,6 +31,10 @@ module _ {T P : Type 0} where
 
   abbrev pub counted_most : Counted T P → ℕ
   counted_most s = min (most s.left) s.count
+
+  -- the bits of which pieces are still to come
+  abbrev pub uncut : Left T P → List Bool
+  uncut s = if s.finished then [] else s.rest.bits
 
   -- all that is left is the last piece
   pub record GivesAll (s : Left T P) (piece : Seen T) (t : Left T P) : Type 0 where

@@ -12,8 +12,8 @@ use bitvec_slice::store::BitStore;
 /// about which the predicate isn't asked.
 #[derive(Drop)]
 pub struct SplitsN<'a, T: BitStore, O: BitOrder, P, W> {
-    parts: Splits<'a, T, O, P, W>,
-    count: usize,
+    pub(crate) parts: Splits<'a, T, O, P, W>,
+    pub(crate) count: usize,
 }
 
 /// The pieces of `Split`, up to a number of them.

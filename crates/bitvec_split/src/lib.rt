@@ -9,6 +9,7 @@ mod counting;
 mod course;
 mod lending;
 mod splitting;
+mod texts;
 mod walks;
 mod ways;
 

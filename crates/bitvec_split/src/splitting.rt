@@ -18,8 +18,8 @@ use std::marker::PhantomData;
 /// the last first. With no yes all of them are the last piece.
 #[derive(Drop)]
 pub struct Splits<'a, T: BitStore, O: BitOrder, P, W> {
-    rest: BitSlice<'a, T, O>,
-    finished: bool,
+    pub(crate) rest: BitSlice<'a, T, O>,
+    pub(crate) finished: bool,
     pred: P,
     way: PhantomData<W>,
 }

@@ -2,6 +2,7 @@
 ghost use Rattle.std.specs.Prelude.{◌≡◌, ◌-◌, ◌*◌, ◌<◌, ◌≤◌, length, map, not, reverse, slice_set};
 ghost use Rattle.std.specs.List.{swap};
 ghost use Rattle.bitvec.specs.Lists.{copied_within, rotated_left, shifted_end, shifted_start};
+ghost use Rattle.bitvec.specs.Swaps.{swapped_within};
 ghost use Rattle.bitvec.specs.Views.{seen_mut};
 ghost use Rattle.bitvec.specs.Window.{max_bits};
 
@@ -57,6 +58,16 @@ pub fn double_front<T: BitStore, O: SliceOrder>(view: &mut BitSliceMut<'_, T, O>
     view.copy_within(0..width, width);
 }
 
+/// Exchanges the first `width` bits with the last ones.
+pub fn swap_fields<T: BitStore, O: SliceOrder>(view: &mut BitSliceMut<'_, T, O>, width: usize)
+    requires { 2 * width ≤ (seen_mut view.old).window.len }
+    ensures bits { (seen_mut view.new).bits
+        ≡ swapped_within 0 width ((seen_mut view.old).window.len - width) (seen_mut view.old).bits }
+    ensures window { (seen_mut view.new).window ≡ (seen_mut view.old).window }
+{
+    view.swap_within(0..width, view.len() - width);
+}
+
 /// Exchanges the bits of two views of one type.
 pub fn exchange<T: BitStore, O: SliceOrder>(
     view: &mut BitSliceMut<'_, T, O>,
@@ -91,7 +102,8 @@ fn bits_are_moved(rt: HostRuntime) {
     swap_ends(&mut view);
     double_front(&mut view, 3);
     turn_and_flip(&mut view, 2);
-    assert_eq!(rt; cells, [0b1101_1011]);
+    swap_fields(&mut view, 4);
+    assert_eq!(rt; cells, [0b1011_1101]);
 }
 
 /// Exchanges the first four bits of the bytes with those of others.

@@ -12,7 +12,6 @@ ghost use Rattle.bitvec.specs.Views.{seen, seen_mut};
 use crate::filled::fill_all;
 use bitvec::prelude::*;
 use bitvec::run::{Op, Reply, Side, Step, run_halves};
-use bitvec::vec::RepeatError;
 use std::alloc::{AllocError, Global};
 use std::test::Fail;
 

@@ -1,7 +1,8 @@
-//! What views print.
+//! What views and splits print.
 
 use bitvec_owned::query::base::{Lsb0, Msb0};
 use bitvec_owned::query::slice::BitSlice;
+use bitvec_split::SplitCalls;
 use bitvec_text::{Binary, LowerHex, Octal, UpperHex};
 use std::test::Fail;
 
@@ -72,6 +73,28 @@ fn a_wide_element(rt: HostRuntime) -> Result<(), Fail> {
     assert_eq!(rt;
         format!(in rt.alloc(); "{octal}")?.as_str(),
         "[2000000000000000000000000000000000000000000]"
+    );
+    Ok(())
+}
+
+#[test]
+fn splits(rt: HostRuntime) -> Result<(), Fail> {
+    let bits = [0b0001_0010u8];
+    let view = BitSlice::<u8, Lsb0>::from_slice(&bits).into_part(0..6);
+    let mut split = view.split(|_, bit| *bit);
+    let _piece = split.next();
+    assert_eq!(rt;
+        format!(in rt.alloc(); "{split:?}")?.as_str(),
+        "Splits([0, 0, 1, 0])"
+    );
+    let _piece = split.next();
+    let _piece = split.next();
+    assert_eq!(rt; format!(in rt.alloc(); "{split:?}")?.as_str(), "Splits([])");
+    let mut counted = view.rsplitn(2, |_, bit| *bit);
+    let _piece = counted.next();
+    assert_eq!(rt;
+        format!(in rt.alloc(); "{counted:?}")?.as_str(),
+        "SplitsN([0, 1, 0, 0], 1)"
     );
     Ok(())
 }

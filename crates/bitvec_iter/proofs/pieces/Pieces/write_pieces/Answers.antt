@@ -1,0 +1,33 @@
+use Rattle.std.proofs.Common.{◌≡◌, ◌∙◌, ◌+◌, ap, arith, rules, slice_index_or, sym}
+use Rattle.std.specs.Fmt.{HasWritten}
+use Rattle.std.specs.List.{join_by}
+use Rattle.std.proofs.Output.{has_written_append, has_written_of_eq}
+use Rattle.std.proofs.lemmas.List.{take_all}
+use Rattle.bitvec_cutting.specs.WalkLaws.{walk_at}
+use Rattle.bitvec_slice.specs.ListingLaws.{join_by-more}
+use Rattle.bitvec_slice.specs.traits.Listing.{bits_text, comma, separator}
+use Rattle.bitvec_slice.specs.Views.{seen}
+use Rattle.bitvec_iter.specs.Left.{piece_at, pieces_left}
+use Rattle.bitvec_iter.specs.LeftLaws.{left, left_length}
+use Rattle.bitvec_iter.proofs.pieces.Pieces.write_pieces.Goals as goal
+
+pub loop-index-preserved : goal.loop-index-preserved
+loop-index-preserved g c = λ plain.
+    let it = c.args.self.now in
+    let index = c.loop-index.index in
+    let long = left_length it in
+    let here = piece_at it (it.numbers.start + index) in
+    let is : slice_index_or (pieces_left it) index here ≡ here =
+    ap (λ l. slice_index_or l index here) (left it) ∙ walk_at (piece_at it) it.numbers.start it.numbers.end index (it.numbers.start + index) here (omega arith) (omega arith) in
+    let so_far = c.loop-index.invariant plain in
+    let lead : HasWritten g.W.Write.write_str_gives c.loop-index.f (separator index) c.write_str.new.self = search rules in
+    let wrote : HasWritten g.W.Write.write_str_gives c.write_str.new.self (bits_text (seen c.piece.result).bits) c.fmt.new.f = search rules in
+    let text : bits_text (seen c.piece.result).bits ≡ bits_text (slice_index_or (pieces_left it) index here).bits = ap (λ p. bits_text p.bits) (c.piece.ensures ∙ sym is) in
+    has_written_of_eq _ _ _ _ _ (join_by-more (λ piece. bits_text piece.bits) (pieces_left it) index here (omega arith))
+    (has_written_append _ _ _ _ _ _ so_far (has_written_append _ _ _ _ _ _ lead (has_written_of_eq _ _ _ _ _ text wrote)))
+
+pub returns : goal.returns
+returns g c = λ plain _.
+    let it = c.args.self.now in
+    let long = left_length it in
+    has_written_of_eq _ _ _ _ _ (ap (join_by (λ piece. bits_text piece.bits) comma) (take_all c.loop-index.index (pieces_left it) (omega arith))) (c.loop-index.invariant plain)

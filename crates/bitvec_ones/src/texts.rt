@@ -1,0 +1,42 @@
+//! The texts of walks over indices.
+ghost use Rattle.std.specs.Prelude.{Some, codes};
+ghost use Rattle.std.specs.Fmt.{WritesOnOk, debug_variant, decimal};
+ghost use Rattle.std.specs.List.{join_by};
+ghost use Rattle.bitvec_query.specs.traits.Listing.{comma, listed};
+ghost use Rattle.bitvec_ones.specs.Indices.{indices_left};
+
+use crate::{Places, Wanted};
+use bitvec_query::engine::SliceOrder;
+use bitvec_query::store::BitStore;
+use bitvec_query::traits::separator_before;
+use std::fmt;
+
+/// The indices that are still to come, as `Places([1, 4])`.
+impl<'a, T: BitStore, O: SliceOrder, B: Wanted> fmt::Debug for Places<'a, T, O, B> {
+    ghost debug_output = { λ walk. debug_variant (codes "Places") (Some (listed decimal (indices_left walk))) };
+
+    #[tactic(auto, unfolding(bitvec_query::specs::Cited::listed))]
+    fn fmt<W: fmt::Write>(&self, f: &mut fmt::Formatter<W>) -> fmt::Result {
+        f.write_str("Places")?;
+        f.write_str("(")?;
+        f.write_str("[")?;
+        write_indices(*self, f)?;
+        f.write_str("]")?;
+        f.write_str(")")
+    }
+}
+
+fn write_indices<T: BitStore, O: SliceOrder, B: Wanted, W: fmt::Write>(
+    walk: Places<'_, T, O, B>,
+    f: &mut fmt::Formatter<W>,
+) -> fmt::Result
+    ensures { WritesOnOk W.write_str_gives f.old result (join_by decimal comma (indices_left walk.entry)) f.new }
+{
+    let mut passed = 0;
+    for index in walk {
+        f.write_str(separator_before(passed))?;
+        fmt::Display::fmt(&index, f)?;
+        passed = 1;
+    }
+    Ok(())
+}

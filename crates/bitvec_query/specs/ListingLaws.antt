@@ -1,0 +1,2 @@
+-- The text of a list with one item more, for crates above.
+pub use Rattle.bitvec_slice.specs.ListingLaws.{join_by-more}

@@ -1,0 +1,63 @@
+//! The texts of shared splits.
+ghost use Rattle.std.specs.Prelude.{◌≡◌, ◌++◌, Some, codes};
+ghost use Rattle.std.specs.Fmt.{WritesOnOk, debug_variant, decimal};
+ghost use Rattle.bitvec_slice.specs.Views.{seen};
+ghost use Rattle.bitvec_slice.specs.traits.Listing.{bits_text, comma};
+ghost use Rattle.bitvec_split.specs.Splits.{uncut};
+
+use crate::{Splits, SplitsN};
+use bitvec_slice::base::BitOrder;
+use bitvec_slice::store::BitStore;
+use bitvec_slice::{BitSlice, write_named};
+use std::fmt;
+
+impl<'a, T: BitStore, O: BitOrder, P, W> Splits<'a, T, O, P, W> {
+    ghost use Rattle.bitvec_split.specs.Views.{left_of};
+
+    // The bits of which pieces are still to come.
+    fn uncut(&self) -> BitSlice<'a, T, O>
+        ensures { (seen result).bits ≡ uncut (left_of self.now) }
+    {
+        if self.finished {
+            return BitSlice::empty();
+        }
+        self.rest
+    }
+}
+
+/// The bits that no piece has yet, as `Splits([0, 1, 0])`: none once the last piece was given.
+impl<'a, T: BitStore, O: BitOrder, P, W> fmt::Debug for Splits<'a, T, O, P, W> {
+    ghost use Rattle.bitvec_split.specs.Views.{left_of};
+
+    ghost debug_output = { λ s. debug_variant (codes "Splits") (Some (bits_text (uncut (left_of s)))) };
+
+    fn fmt<V: fmt::Write>(&self, f: &mut fmt::Formatter<V>) -> fmt::Result {
+        write_named("Splits", self.uncut(), f)
+    }
+}
+
+/// The bits that no piece has yet, and how many pieces may come, as `SplitsN([0, 1, 0], 2)`.
+impl<'a, T: BitStore, O: BitOrder, P, W> fmt::Debug for SplitsN<'a, T, O, P, W> {
+    ghost use Rattle.bitvec_split.specs.Views.{counted_of};
+
+    ghost debug_output = { λ s. debug_variant (codes "SplitsN") (Some (bits_text (uncut (counted_of s).left) ++ (comma ++ decimal (counted_of s).count))) };
+
+    fn fmt<V: fmt::Write>(&self, f: &mut fmt::Formatter<V>) -> fmt::Result {
+        f.write_str("SplitsN")?;
+        f.write_str("(")?;
+        self.write_left(f)?;
+        f.write_str(")")
+    }
+}
+
+impl<'a, T: BitStore, O: BitOrder, P, W> SplitsN<'a, T, O, P, W> {
+    ghost use Rattle.bitvec_split.specs.Views.{counted_of};
+
+    fn write_left<V: fmt::Write>(&self, f: &mut fmt::Formatter<V>) -> fmt::Result
+        ensures { WritesOnOk V.write_str_gives f.old result (bits_text (uncut (counted_of self.now).left) ++ (comma ++ decimal (counted_of self.now).count)) f.new }
+    {
+        fmt::Display::fmt(&self.parts.uncut(), f)?;
+        f.write_str(", ")?;
+        fmt::Display::fmt(&self.count, f)
+    }
+}
