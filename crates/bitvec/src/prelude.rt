@@ -13,5 +13,6 @@ pub use bitvec_owned::edit::slice::{
 };
 pub use bitvec_owned::edit::store::BitStore;
 pub use bitvec_owned::{BitVec, ToBitVec};
-pub use bitvec_pieces::EditParts;
-pub use bitvec_split::{SplitCalls, SplitCallsMut};
+pub use bitvec_split_edits::EditSplits;
+pub use bitvec_split_edits::pieces::EditParts;
+pub use bitvec_split_edits::split::{SplitCalls, SplitCallsMut};

@@ -11,6 +11,8 @@ mod splitting;
 mod walks;
 mod ways;
 
+#[doc(hidden)]
+pub use asking::{ask_down, ask_up};
 pub use calls::SplitCalls;
 pub use calls_mut::SplitCallsMut;
 pub use counted_lending::{RSplitNMut, SplitNMut, SplitsNMut};
@@ -19,3 +21,5 @@ pub use lending::{RSplitMut, SplitInclusiveMut, SplitMut, SplitsMut};
 pub use splitting::{RSplit, Split, SplitInclusive, Splits};
 pub use walks::{CountedSplitWalk, SplitWalk};
 pub use ways::{Forward, Inclusive, Reversed, Way};
+#[doc(hidden)]
+pub use ways::{asked_behind, end_of};
