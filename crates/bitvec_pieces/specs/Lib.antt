@@ -1,4 +1,7 @@
+pub mod base
 pub mod cutting
+pub mod slice
+pub mod store
 pub mod LeftLaws
 pub mod NumberedLaws
 pub mod Pieces

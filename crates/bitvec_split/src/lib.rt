@@ -13,6 +13,8 @@ mod texts;
 mod walks;
 mod ways;
 
+#[doc(hidden)]
+pub use asking::{ask_down, ask_up};
 pub use calls::SplitCalls;
 pub use calls_mut::SplitCallsMut;
 pub use counted_lending::{RSplitNMut, SplitNMut, SplitsNMut};
@@ -21,3 +23,5 @@ pub use lending::{RSplitMut, SplitInclusiveMut, SplitMut, SplitsMut};
 pub use splitting::{RSplit, Split, SplitInclusive, Splits};
 pub use walks::{CountedSplitWalk, SplitWalk};
 pub use ways::{Forward, Inclusive, Reversed, Way};
+#[doc(hidden)]
+pub use ways::{asked_behind, end_of};

@@ -54,16 +54,18 @@ impl Way for Reversed {
     ghost REVERSED = { true };
 }
 
-/// The index behind a piece that the yes at an index ends.
-pub(crate) fn end_of<W: Way>(index: usize) -> usize
+/// The index behind a piece that the yes at an index ends. The crate has no such call.
+#[doc(hidden)]
+pub fn end_of<W: Way>(index: usize) -> usize
     requires { index + 1 < 2 ^ 64 }
     ensures { result ≡ end_of W.INCLUSIVE index }
 {
     if W::INCLUSIVE { index + 1 } else { index }
 }
 
-/// How many of the last bits a call from the back of so many asks about.
-pub(crate) fn asked_behind<W: Way>(len: usize) -> usize
+/// How many of the last bits a call from the back of so many asks about. The crate has no such call.
+#[doc(hidden)]
+pub fn asked_behind<W: Way>(len: usize) -> usize
     ensures { result ≡ asked_behind W.INCLUSIVE len }
 {
     if W::INCLUSIVE {

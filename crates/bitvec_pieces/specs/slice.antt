@@ -1,0 +1,7 @@
+-- What crates above name of `bitvec_slice`.
+pub use Rattle.bitvec_slice.specs.Indices
+pub use Rattle.bitvec_slice.specs.Seen
+pub use Rattle.bitvec_slice.specs.SeenLaws
+pub use Rattle.bitvec_slice.specs.Views
+pub use Rattle.bitvec_slice.specs.Writes
+pub use Rattle.bitvec_slice.specs.declared

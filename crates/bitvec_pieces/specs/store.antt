@@ -1,0 +1,2 @@
+-- What crates above name of `bitvec_store`.
+pub use Rattle.bitvec_slice.specs.store.declared

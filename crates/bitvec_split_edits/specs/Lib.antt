@@ -1,0 +1,9 @@
+pub mod cutting
+pub mod pieces
+pub mod split
+pub mod Left
+pub mod LeftLaws
+pub mod SplitEdits
+pub mod SplitEditsLaws
+pub mod TurnsLaws
+pub mod ViewSeen
