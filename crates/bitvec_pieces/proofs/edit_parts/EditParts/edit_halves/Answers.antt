@@ -17,7 +17,13 @@ returns g c =
     let stays = c.requires.left.in_place _ _ _ first.is first.edited in
     let behind = behind-is c.requires.mid first.is stays first.written second.is in
     record {
-      first = first.piece; first_left = first.left; second = second.piece; second_left = second.left;
-      first_is = first.is; first_edited = first.edited; second_is = behind; second_edited = second.edited;
-      written = g.met.Self.EditParts.written _ _ _ (halves-written c.requires.mid first.is stays first.written behind (c.requires.right.in_place _ _ _ behind second.edited) second.written)
+      first = first.piece;
+      first_left = first.left;
+      second = second.piece;
+      second_left = second.left;
+      first_is = first.is;
+      first_edited = first.edited;
+      second_is = behind;
+      second_edited = second.edited;
+      written = g.met.Self.EditParts.written _ _ _ (halves-written c.requires.mid first.is stays first.written behind (c.requires.right.in_place _ _ _ behind second.edited) second.written);
     }
