@@ -124,32 +124,6 @@ fn domains_tell_their_kind(rt: HostRuntime) {
     assert_eq!(rt; elements_of(&cells, 4, 17), (None, Some(1)));
 }
 
-/// How many bits a view's one part has, and those of a region's three.
-fn shared_lens(cells: &[u8; 3], from: usize, to: usize) -> (usize, usize)
-    requires order { from ≤ to }
-    requires bound { to ≤ 24 }
-{
-    let view = BitSlice::<u8, Msb0>::from_slice(cells).into_part(from..to);
-    let mut inside = 0;
-    let mut outside = 0;
-    if let Some(bits) = view.bit_domain().enclave() {
-        inside = bits.len();
-    }
-    if let Some((head, body, tail)) = view.bit_domain().region() {
-        if head.len() <= 8 && body.len() <= 24 && tail.len() <= 8 {
-            outside = head.len() + body.len() + tail.len();
-        }
-    }
-    (inside, outside)
-}
-
-#[test]
-fn bit_domains_tell_their_kind(rt: HostRuntime) {
-    let cells = [0x0Fu8, 0x12, 0x80];
-    assert_eq!(rt; shared_lens(&cells, 9, 15), (6, 0));
-    assert_eq!(rt; shared_lens(&cells, 4, 17), (0, 13));
-}
-
 /// The values of the elements that a range of the bits touches, from the front, or from the back.
 fn values_of(
     alloc: Global,
