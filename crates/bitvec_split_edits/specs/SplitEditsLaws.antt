@@ -51,7 +51,7 @@ module _ {V F : Type 0} (shows : V → Shown) (step : F → ℕ → MutBor V →
       ∙ ⊎_elim (λ before. get-write_at_below s.bits range.start new i d (omega arith) before) (λ behind. get-write_at_above s.bits range.start new i d (omega arith) (omega arith)) out.0
 
   module _ (Related : Bool → Bool → Type 0)
-      (leaves : (f g : F) (k : ℕ) (p q : MutBor V) → step f k p tt q g → (i : ℕ) → i < length (shows p.now).bits → Related (slice_index_or (shows p.now).bits i false) (slice_index_or (shows q.now).bits i false)) (i : ℕ) where
+      (leaves : (f g : F) (k : ℕ) (p q : MutBor V) → step f k p tt q g → (i : ℕ) → i < (shows p.now).window.len → Related (slice_index_or (shows p.now).bits i false) (slice_index_or (shows q.now).bits i false)) (i : ℕ) where
     related-next : (s t : Editing F) (range : Range ℕ) → length s.bits ≡ view.window.len → EditsNext shows step view s range t
         → Related (slice_index_or view.bits i false) (slice_index_or s.bits i false) → Related (slice_index_or view.bits i false) (slice_index_or t.bits i false)
     related-next s t range long next same =
@@ -72,7 +72,7 @@ module _ {V F : Type 0} (shows : V → Shown) (step : F → ℕ → MutBor V →
         ap (λ (l : List Bool). slice_index_or l here false) next.is.bits ∙ get-slice_range view.bits range.start range.end here false (omega arith) ∙ ap (λ (k : ℕ). slice_index_or view.bits k false) place in
         let now : slice_index_or t.bits i false ≡ slice_index_or new here false =
         ap (λ (l : List Bool). slice_index_or l i false) next.bits ∙ get-write_at_inside s.bits range.start new i false (omega arith) from (omega arith) in
-        let short : here < length (shows next.piece.now).bits = omega (arith, ap length next.is.bits, piece, inside, from) in
+        let short : here < (shows next.piece.now).window.len = omega (arith, next.is.len, inside, from) in
         rw (now, sym old) (leaves _ _ _ _ _ next.stepped here short))
         (λ behind. elsewhere (get-write_at_above s.bits range.start new i false (omega arith) (omega arith))) (cases_lt i range.end)) (cases_lt i range.start)
 
@@ -91,7 +91,7 @@ module _ {V F : Type 0} {shows : V → Shown} {step : F → ℕ → MutBor V →
 
   -- each bit of the view was related to itself, and each bit of a piece to what a step left there: so each bit is to what is there now
   pub each-bit : {edit : F} {pieces : List (Range ℕ)} {bits : List Bool} (Related : Bool → Bool → Type 0) → EditsInTurn shows step view edit pieces bits → ((b : Bool) → Related b b)
-      → ((f g : F) (k : ℕ) (p q : MutBor V) → step f k p tt q g → (i : ℕ) → i < length (shows p.now).bits → Related (slice_index_or (shows p.now).bits i false) (slice_index_or (shows q.now).bits i false))
+      → ((f g : F) (k : ℕ) (p q : MutBor V) → step f k p tt q g → (i : ℕ) → i < (shows p.now).window.len → Related (slice_index_or (shows p.now).bits i false) (slice_index_or (shows q.now).bits i false))
       → (i : ℕ) → Related (slice_index_or view.bits i false) (slice_index_or bits i false)
   each-bit {edit} {pieces} Related edits same leaves i =
       subst (λ (l : List Bool). Related (slice_index_or view.bits i false) (slice_index_or l i false)) (sym edits.bits)

@@ -15,7 +15,17 @@ use bitvec_split::{Forward, Inclusive, Reversed, Way, end_of};
 use std::ops::Range;
 
 /// Edits of the pieces of a writable view that a predicate splits, by closures, which take the view
-/// itself, narrowed to the piece for the time of the call.
+/// itself, narrowed to the piece for the time of the call. So what is known of the view afterwards is
+/// exact: the pieces are those that the split gives of the bits as they were, each has the bits that the
+/// closure left, and all else is as before.
+///
+/// A predicate is asked as by the splits of `SplitCallsMut` (`bitvec_split`): about the bits that no piece
+/// has yet, by their indices among these and their values, until its first yes. A closure gets the number
+/// of a piece, from 0 on, and the piece, which may be empty. What the two keep goes from each call to the
+/// next. Conditions of all calls: the predicate may always be called, or at least asked about all bits of
+/// the view; the closure may be called on each range of the view, with a number not beyond its length,
+/// whatever it keeps from the calls before, and leaves it in its place. The crate has no such calls: its
+/// `split_mut` and kin give views of their own.
 pub trait EditSplits<T>: EditParts {
     // What contracts see of the view.
     ghost seen: { Self → Seen T };
@@ -144,8 +154,13 @@ pub trait EditSplits<T>: EditParts {
         }
     }
 
-    /// Calls `edit` on each piece between the bits at which `pred` says yes, and its number, in ascending
-    /// order from 0 on.
+    /// Calls `edit` on each piece between the bits at which `pred` says yes, in ascending order. No piece has
+    /// such a bit; with no yes all that is left is the last piece, also an empty one. It stands for `for` over
+    /// the crate's `split_mut`.
+    ///
+    /// ```
+    /// view.for_each_split_mut(pred, |_number, piece| piece.invert());
+    /// ```
     final fn for_each_split_mut<P: FnMut(usize, &bool) -> bool, F: FnMut(usize, &mut Self)>(
         &mut self,
         pred: P,
@@ -158,7 +173,12 @@ pub trait EditSplits<T>: EditParts {
         self.for_each_piece_between::<Forward, P, F>(pred, edit)
     }
 
-    /// The same of the pieces that keep the bit behind them.
+    /// The same of the pieces with the bit behind each, as `split_inclusive_mut` lends them: no empty piece
+    /// follows a yes at the last bit, and the empty view has no piece.
+    ///
+    /// ```
+    /// view.for_each_split_inclusive_mut(|_index, bit| *bit, |_number, piece| piece.invert());
+    /// ```
     final fn for_each_split_inclusive_mut<
         P: FnMut(usize, &bool) -> bool,
         F: FnMut(usize, &mut Self),
@@ -170,7 +190,12 @@ pub trait EditSplits<T>: EditParts {
         self.for_each_piece_between::<Inclusive, P, F>(pred, edit)
     }
 
-    /// The same from the last to the first.
+    /// The pieces of `for_each_split_mut` from the last to the first, as `rsplit_mut` lends them: `pred` is
+    /// asked about the last bits first, and the last piece has number 0.
+    ///
+    /// ```
+    /// view.for_each_rsplit_mut(|_index, bit| *bit, |number, piece| piece.fill(number == 1));
+    /// ```
     final fn for_each_rsplit_mut<P: FnMut(usize, &bool) -> bool, F: FnMut(usize, &mut Self)>(
         &mut self,
         pred: P,
@@ -183,7 +208,12 @@ pub trait EditSplits<T>: EditParts {
         self.for_each_piece_between::<Reversed, P, F>(pred, edit)
     }
 
-    /// The first pieces of `for_each_split_mut`, `count` at most.
+    /// The first pieces of `for_each_split_mut`, `count` at most, as `splitn_mut` lends them: the last of so
+    /// many is all that is left, without asking; with `count` 0 there is none.
+    ///
+    /// ```
+    /// view.for_each_splitn_mut(2, |_index, bit| *bit, |_number, piece| piece.invert());
+    /// ```
     final fn for_each_splitn_mut<P: FnMut(usize, &bool) -> bool, F: FnMut(usize, &mut Self)>(
         &mut self,
         count: usize,
@@ -198,7 +228,11 @@ pub trait EditSplits<T>: EditParts {
         self.for_each_counted_piece::<Forward, P, F>(count, pred, edit)
     }
 
-    /// The first pieces of `for_each_rsplit_mut`, `count` at most.
+    /// The first pieces of `for_each_rsplit_mut`, `count` at most, as for `for_each_splitn_mut`.
+    ///
+    /// ```
+    /// view.for_each_rsplitn_mut(2, |_index, bit| *bit, |_number, piece| piece.invert());
+    /// ```
     final fn for_each_rsplitn_mut<P: FnMut(usize, &bool) -> bool, F: FnMut(usize, &mut Self)>(
         &mut self,
         count: usize,

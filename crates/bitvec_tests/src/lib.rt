@@ -31,6 +31,8 @@ mod runs_known;
 #[cfg(test)]
 mod slots;
 #[cfg(test)]
+mod split_edits;
+#[cfg(test)]
 mod splits_known;
 #[cfg(test)]
 mod transfers;

@@ -1,13 +1,37 @@
-//! Edits of the pieces of a split by closures, of the bits 3 up to 21 of three bytes beside those of the plain
-//! list: the predicate, which says yes at ones, was asked about the same indices and bits, and the edit, which
-//! writes into each piece how many calls there were, was called on the same pieces with the same numbers.
+//! Edits of the pieces of a split by closures: what a caller knows of them, and, of the bits 3 up to 21 of
+//! three bytes, that they do as those of the plain list: the predicate, which says yes at ones, was asked
+//! about the same indices and bits, and the edit, which writes into each piece how many calls there were, was
+//! called on the same pieces with the same numbers.
+ghost use Rattle.std.specs.Prelude.{◌≡◌, ℕ, List, false, map, not, slice_index_or, true};
+ghost use Rattle.std.specs.declared.ops.Range.{Range};
+ghost use Rattle.bitvec.specs.SplitEdits.{GivesInTurn};
+ghost use Rattle.bitvec.specs.SplitEditsLaws.{made};
+ghost use Rattle.bitvec.specs.SplitLent.{MayGoOnIn, SplitNextIn, unsplit_in};
+ghost use Rattle.bitvec.specs.Views.{seen_mut};
+ghost use Rattle.bitvec.specs.Writes.{WritesBits};
 
-use bitvec_edit::BitEdits;
-use bitvec_edit::base::Lsb0;
-use bitvec_edit::slice::BitSliceMut;
-use bitvec_split_edits::EditSplits;
+use bitvec::prelude::*;
 use std::process::Abort;
 use test_bits::{MEMORIES, bits_of};
+
+/// Makes the bits between the ones ones, piece by piece: no one becomes a zero.
+pub fn fill_between_ones<T: BitStore, O: SliceOrder>(view: &mut BitSliceMut<'_, T, O>)
+    ensures { (index : ℕ) → slice_index_or (seen_mut view.old).bits index false ≡ true → slice_index_or (seen_mut view.new).bits index false ≡ true }
+{
+    view.for_each_split_mut(|_index, bit| *bit, |_number, piece| piece.fill(true));
+}
+
+/// Flips the bits between those at which `pred` says yes, and no other.
+pub fn invert_between<T: BitStore, O: SliceOrder, P: FnMut(usize, &bool) -> bool>(
+    view: &mut BitSliceMut<'_, T, O>,
+    pred: P,
+)
+    requires { MayGoOnIn P.FnMut (unsplit_in false (seen_mut view.old) pred) }
+    ensures { (pieces : List (Range ℕ)) × GivesInTurn (SplitNextIn P.FnMut false false) (unsplit_in false (seen_mut view.old) pred) pieces
+        × WritesBits view.old view.new (made (λ _number bits. map not bits) (seen_mut view.old).bits 0 pieces (seen_mut view.old).bits) }
+{
+    view.for_each_split_mut(pred, |_number, piece| piece.invert());
+}
 
 /// How a view is split.
 #[derive(Clone, Copy)]
@@ -15,6 +39,8 @@ enum Kind {
     Between,
     Inclusive,
     Reversed,
+    Counted(usize),
+    CountedReversed(usize),
 }
 
 /// What a predicate was asked about, and what an edit was called with: pairs of numbers and of what belongs to them.
@@ -69,6 +95,14 @@ fn edit_in(bytes: &mut [u8; 3], kind: Kind) -> (Heard, Heard) {
             let call = edited.hears(number, piece.len());
             piece.fill_with(|index| written(call, index));
         }),
+        Kind::Counted(count) => view.for_each_splitn_mut(count, pred, |number, piece| {
+            let call = edited.hears(number, piece.len());
+            piece.fill_with(|index| written(call, index));
+        }),
+        Kind::CountedReversed(count) => view.for_each_rsplitn_mut(count, pred, |number, piece| {
+            let call = edited.hears(number, piece.len());
+            piece.fill_with(|index| written(call, index));
+        }),
     }
     (asked, edited)
 }
@@ -107,12 +141,12 @@ impl Model {
         }
     }
 
-    /// Splits the places 3 up to 21 upward.
-    fn edit_up(&mut self, inclusive: bool) {
+    /// Splits the places 3 up to 21 upward into so many pieces at most.
+    fn edit_up(&mut self, inclusive: bool, count: usize) {
         let mut from = 3;
-        let mut number = 0;
+        let mut number = 0usize;
         for place in 3..21usize {
-            if self.is_yes(place, from) {
+            if number.wrapping_add(1) < count && self.is_yes(place, from) {
                 let end = if inclusive {
                     place.wrapping_add(1)
                 } else {
@@ -123,23 +157,25 @@ impl Model {
                 number = number.wrapping_add(1);
             }
         }
-        if !inclusive || from < 21 {
+        if count > 0 && (!inclusive || from < 21) {
             self.edit(number, from, 21);
         }
     }
 
     /// Splits them downward.
-    fn edit_down(&mut self) {
+    fn edit_down(&mut self, count: usize) {
         let mut to = 21;
-        let mut number = 0;
+        let mut number = 0usize;
         for place in (3..21usize).rev() {
-            if self.is_yes(place, 3) {
+            if number.wrapping_add(1) < count && self.is_yes(place, 3) {
                 self.edit(number, place.wrapping_add(1), to);
                 to = place;
                 number = number.wrapping_add(1);
             }
         }
-        self.edit(number, 3, to);
+        if count > 0 {
+            self.edit(number, 3, to);
+        }
     }
 }
 
@@ -150,9 +186,11 @@ fn edits_as_list<R: Abort>(rt: &R, kind: Kind) {
         let (asked, edited) = edit_in(&mut after, kind);
         let mut model = Model::new(bytes);
         match kind {
-            Kind::Between => model.edit_up(false),
-            Kind::Inclusive => model.edit_up(true),
-            Kind::Reversed => model.edit_down(),
+            Kind::Between => model.edit_up(false, 100),
+            Kind::Inclusive => model.edit_up(true, 100),
+            Kind::Reversed => model.edit_down(100),
+            Kind::Counted(count) => model.edit_up(false, count),
+            Kind::CountedReversed(count) => model.edit_down(count),
         }
         assert_eq!(rt; asked, model.asked);
         assert_eq!(rt; edited, model.edited);
@@ -175,13 +213,30 @@ fn pieces_by_for_each_rsplit_mut(rt: HostRuntime) {
     edits_as_list(&rt, Kind::Reversed);
 }
 
-/// Edits the pieces of inclusive splits of no bits, and gives how many came.
+#[test]
+fn pieces_by_for_each_splitn_mut(rt: HostRuntime) {
+    for count in [0, 1, 2, 5, 30] {
+        edits_as_list(&rt, Kind::Counted(count));
+    }
+}
+
+#[test]
+fn pieces_by_for_each_rsplitn_mut(rt: HostRuntime) {
+    for count in [0, 1, 2, 5, 30] {
+        edits_as_list(&rt, Kind::CountedReversed(count));
+    }
+}
+
+/// Edits the pieces of an inclusive split of no bits, and gives how many came.
 fn count_pieces_of_none(bytes: &mut [u8; 3]) -> usize {
     let mut count = 0usize;
     let mut view = BitSliceMut::<u8, Lsb0>::from_slice_mut(bytes).into_part(7..7);
-    view.for_each_split_inclusive_mut(|_index, _bit| true, |_number, _piece| {
-        count = count.wrapping_add(1);
-    });
+    view.for_each_split_inclusive_mut(
+        |_index, _bit| true,
+        |_number, _piece| {
+            count = count.wrapping_add(1);
+        },
+    );
     count
 }
 
@@ -190,4 +245,35 @@ fn no_piece_of_no_bits(rt: HostRuntime) {
     let mut bytes = [1, 2, 3];
     assert_eq!(rt; count_pieces_of_none(&mut bytes), 0);
     assert_eq!(rt; bytes, [1, 2, 3]);
+}
+
+/// Makes the bits between the ones of two bytes ones, and flips the bits between the zeros of these.
+fn fill_and_invert(bytes: &mut [u8; 2]) {
+    let mut view = BitSliceMut::<u8, Lsb0>::from_slice_mut(bytes).into_part(2..14);
+    fill_between_ones(&mut view);
+    view.set(7, false);
+    invert_between(&mut view, |_index, bit| !*bit);
+}
+
+#[test]
+fn pieces_of_two_bytes(rt: HostRuntime) {
+    let mut bytes = [0b0100_1001, 0b0001_0010];
+    fill_and_invert(&mut bytes);
+    assert_eq!(rt; bytes, [0b0000_0001, 0]);
+}
+
+/// Edits the pieces of the bits 2 up to 14 of two bytes by the other calls.
+fn edit_pieces(bytes: &mut [u8; 2]) {
+    let mut view = BitSliceMut::<u8, Lsb0>::from_slice_mut(bytes).into_part(2..14);
+    view.for_each_split_inclusive_mut(|_index, bit| *bit, |_number, piece| piece.invert());
+    view.for_each_rsplit_mut(|_index, bit| *bit, |number, piece| piece.fill(number == 1));
+    view.for_each_splitn_mut(2, |_index, bit| *bit, |_number, piece| piece.invert());
+    view.for_each_rsplitn_mut(2, |_index, bit| *bit, |_number, piece| piece.invert());
+}
+
+#[test]
+fn pieces_of_each_kind(rt: HostRuntime) {
+    let mut bytes = [0b0100_1001, 0b0001_0010];
+    edit_pieces(&mut bytes);
+    assert_eq!(rt; bytes, [0b1011_0001, 0b0011_1111]);
 }
