@@ -143,7 +143,7 @@ pub trait BitEdits<T> {
     /// is `swap_with_bitslice` of two parts that `split_at_mut` gives.
     ///
     /// ```
-    /// view.swap_within(0..half, half);
+    /// view.swap_within(0..width, view.len() - width);
     /// ```
     fn swap_within(&mut self, src: Range<usize>, dest: usize)
         requires fits { FitsWithin src.start src.end dest (shows self.old).window.len }
