@@ -156,7 +156,10 @@ fn counted_pieces_by_advance(rt: HostRuntime) {
 fn lend_again(bytes: &mut [u8; 3]) -> (usize, usize, usize) {
     let mut view = BitSliceMut::<u8, Lsb0>::from_slice_mut(bytes).into_part(3..21);
     let mut pieces = view.split_mut(|index, _| index == 7);
-    let before = pieces.piece_mut().len();
+    let before = {
+        let piece = pieces.piece_mut();
+        piece.len()
+    };
     let _found = pieces.advance();
     let first = {
         let piece = pieces.piece_mut();
