@@ -6,7 +6,6 @@ ghost use Rattle.bitvec_owned.specs.Owned.{owned};
 ghost use Rattle.bitvec_owned.specs.Writes.{WritesOwned};
 
 use crate::BitVec;
-use bitvec_edit::{BitEdits, swap_within_in};
 use bitvec_edit::base::BitOrder;
 use bitvec_edit::elements::{
     combine_in, copy_from_in, copy_within_in, fill_in, fill_with_in, for_each_in, invert_in,
@@ -16,6 +15,7 @@ use bitvec_edit::elements::{
 use bitvec_edit::engine::{BitOp, SliceOrder};
 use bitvec_edit::slice::{BitSlice, BitSliceMut, RawElements};
 use bitvec_edit::store::BitStore;
+use bitvec_edit::{BitEdits, swap_within_in};
 use std::alloc::Allocator;
 use std::ops::Range;
 
