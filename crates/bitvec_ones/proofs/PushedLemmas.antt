@@ -1,5 +1,5 @@
 -- The text of a list with one item more at its end.
-use Rattle.std.specs.Prelude.{◌≡◌, ℕ, ◌+◌, ◌<◌, ◌==◌, false, List, [], ◌∷◌, ◌++◌, length, slice_index_or, take, refl}
+use Rattle.std.specs.Prelude.{◌≡◌, ℕ, ◌+◌, ◌==◌, false, List, [], ◌∷◌, ◌++◌, length, slice_index_or, take, refl}
 use Rattle.std.specs.List.{join_by}
 use Rattle.std.proofs.Common.{arith, length-append, rules}
 use Rattle.std.proofs.lemmas.List.{places, same_lists, take_all}

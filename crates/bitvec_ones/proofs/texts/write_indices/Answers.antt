@@ -1,4 +1,4 @@
-use Rattle.std.proofs.Common.{◌≡◌, ◌∙◌, [], ◌∷◌, ◌++◌, ap, append-nil, append_assoc, length, rules, sym}
+use Rattle.std.proofs.Common.{◌∙◌, [], ◌∷◌, ◌++◌, ap, append-nil, append_assoc, rules, sym}
 use Rattle.std.specs.Fmt.{HasWritten, decimal}
 use Rattle.std.specs.List.{join_by}
 use Rattle.std.proofs.Output.{has_written_append, has_written_of_eq}
