@@ -63,6 +63,7 @@ pub use Rattle.bitvec_split_edits.specs.split.LentViews as SplitLentViews
 pub use Rattle.bitvec_split_edits.specs.split.SplitLaws
 pub use Rattle.bitvec_split_edits.specs.split.Splits
 pub use Rattle.bitvec_split_edits.specs.split.Views as SplitViews
+pub use Rattle.bitvec_split_edits.specs.CoversLaws as SplitCoversLaws
 pub use Rattle.bitvec_split_edits.specs.SplitEdits
 pub use Rattle.bitvec_split_edits.specs.SplitEditsLaws
 pub use Rattle.bitvec_owned.specs.edit.store.Width

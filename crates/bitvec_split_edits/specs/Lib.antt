@@ -1,6 +1,7 @@
 pub mod cutting
 pub mod pieces
 pub mod split
+pub mod CoversLaws
 pub mod Left
 pub mod LeftLaws
 pub mod SplitEdits
