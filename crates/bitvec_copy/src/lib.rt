@@ -26,7 +26,7 @@ pub mod store {
     pub use bitvec_words::store::BitStore;
 }
 
-/// What crates above name of `bitvec_walk`.
+/// What crates above name of `bitvec_cells`.
 pub mod walk {
     pub use bitvec_words::walk::{
         count_part, fill_part, filled, first_in_element, first_in_part, get_bit, invert_part,

@@ -1,3 +1,3 @@
--- What crates above name of `bitvec_reference`.
+-- What crates above name of `bitvec_elements`.
 pub use Rattle.bitvec_slice.specs.reference.References
 pub use Rattle.bitvec_slice.specs.reference.declared

@@ -1,4 +1,4 @@
--- What crates above name of `bitvec_traits`.
+-- What crates above name of `bitvec_elements`.
 pub use Rattle.bitvec_slice.specs.traits.Feeding
 pub use Rattle.bitvec_slice.specs.traits.FeedingLaws
 pub use Rattle.bitvec_slice.specs.traits.Listing

@@ -1,3 +1,3 @@
--- What crates above name of `bitvec_walk`.
+-- What crates above name of `bitvec_cells`.
 pub use Rattle.bitvec_slice.specs.walk.CostLaws
 pub use Rattle.bitvec_slice.specs.walk.Sought

@@ -67,7 +67,7 @@ pub mod exchange {
     pub use bitvec_slice::exchange::{reverse, swap};
 }
 
-/// What crates above name of `bitvec_reference`.
+/// What crates above name of `bitvec_elements`.
 pub mod reference {
     pub use bitvec_slice::reference::{BitRef, BitRefMut};
 }
@@ -86,7 +86,7 @@ pub mod store {
     pub use bitvec_slice::store::BitStore;
 }
 
-/// What crates above name of `bitvec_walk`.
+/// What crates above name of `bitvec_cells`.
 pub mod walk {
     pub use bitvec_slice::walk::{
         count_part, fill_part, filled, first_in_element, first_in_part, invert_part,

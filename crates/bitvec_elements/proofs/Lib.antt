@@ -1,1 +1,3 @@
 pub mod Answered
+pub mod References
+mod Steps

@@ -1,5 +1,12 @@
 pub mod Asked
 pub mod AskedLaws
+pub mod Cited
+pub mod Feeding
+pub mod FeedingLaws
+pub mod Listing
+pub mod ListingLaws
+pub mod OrderLaws
+pub mod References
 pub use Rattle.bitvec_engine.specs.base as base
 pub use Rattle.bitvec_engine.specs.cells as cells
 pub use Rattle.bitvec_engine.specs as engine

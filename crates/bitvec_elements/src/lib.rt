@@ -1,4 +1,5 @@
-//! The bit operations on windows of borrowed slices of elements, without counts: what views call.
+//! The bit operations on windows of borrowed slices of elements, without counts: what views call; with
+//! references to one bit, read or written at once, and what views' hash and texts stand on.
 #![tactic(auto)]
 
 mod answering;
@@ -8,13 +9,19 @@ mod comparing;
 mod copying;
 mod copying_within;
 mod counting;
+mod equality;
+mod feeding;
 mod filling;
+mod listing;
 mod needles;
+mod reference;
+mod reference_mut;
 mod reversing;
 mod rotating;
 mod scanning;
 mod shifting;
 mod swapping;
+mod texts;
 
 /// What crates above name of `bitvec_base`.
 pub mod base {
@@ -66,7 +73,7 @@ pub mod store {
     pub use bitvec_engine::store::BitStore;
 }
 
-/// What crates above name of `bitvec_walk`.
+/// What crates above name of `bitvec_cells`.
 pub mod walk {
     pub use bitvec_engine::walk::{
         count_part, fill_part, filled, first_in_element, first_in_part, invert_part,
@@ -89,8 +96,12 @@ pub use comparing::{compare_block_in, compare_in, eq_block_in, eq_in};
 pub use copying::{copy_from_block_in, copy_from_in};
 pub use copying_within::copy_within_in;
 pub use counting::count_in;
+pub use feeding::hash_in;
 pub use filling::{fill_in, invert_in};
+pub use listing::{separator_before, write_bits_in};
 pub use needles::{contains_in, ends_with_in, starts_with_in};
+pub use reference::BitRef;
+pub use reference_mut::BitRefMut;
 pub use reversing::reverse_in;
 pub use rotating::{rotate_left_in, rotate_right_in};
 pub use scanning::{all_in, any_in, first_in, last_in};

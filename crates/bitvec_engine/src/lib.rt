@@ -57,7 +57,7 @@ pub mod store {
     pub use bitvec_copy::store::BitStore;
 }
 
-/// What crates above name of `bitvec_walk`.
+/// What crates above name of `bitvec_cells`.
 pub mod walk {
     pub use bitvec_copy::walk::{
         count_part, fill_part, filled, first_in_element, first_in_part, invert_part,

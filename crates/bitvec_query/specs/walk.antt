@@ -1,2 +1,2 @@
--- What crates above name of `bitvec_walk`.
+-- What crates above name of `bitvec_cells`.
 pub use Rattle.bitvec_slice.specs.walk.Sought

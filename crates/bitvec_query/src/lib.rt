@@ -33,12 +33,12 @@ pub mod store {
     pub use bitvec_slice::store::BitStore;
 }
 
-/// What crates above name of `bitvec_traits`.
+/// What crates above name of `bitvec_elements`.
 pub mod traits {
     pub use bitvec_slice::traits::separator_before;
 }
 
-/// What crates above name of `bitvec_walk`.
+/// What crates above name of `bitvec_cells`.
 pub mod walk {
     pub use bitvec_slice::walk::sought;
 }

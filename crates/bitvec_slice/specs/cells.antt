@@ -1,2 +1,2 @@
 -- What crates above name of `bitvec_cells`.
-pub use Rattle.bitvec_traits.specs.cells.declared
+pub use Rattle.bitvec_elements.specs.cells.declared

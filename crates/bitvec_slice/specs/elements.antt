@@ -1,3 +1,3 @@
 -- What crates above name of `bitvec_elements`.
-pub use Rattle.bitvec_traits.specs.elements.Asked
-pub use Rattle.bitvec_traits.specs.elements.AskedLaws
+pub use Rattle.bitvec_elements.specs.Asked
+pub use Rattle.bitvec_elements.specs.AskedLaws

@@ -1,3 +1,3 @@
--- What crates above name of `bitvec_reference`.
-pub use Rattle.bitvec_traits.specs.reference.References
-pub use Rattle.bitvec_traits.specs.reference.declared
+-- What crates above name of `bitvec_elements`.
+pub use Rattle.bitvec_elements.specs.References
+pub use Rattle.bitvec_elements.specs.declared

@@ -1,5 +1,5 @@
--- What crates above name of `bitvec_traits`.
-pub use Rattle.bitvec_traits.specs.Feeding
-pub use Rattle.bitvec_traits.specs.FeedingLaws
-pub use Rattle.bitvec_traits.specs.Listing
-pub use Rattle.bitvec_traits.specs.OrderLaws
+-- What crates above name of `bitvec_elements`.
+pub use Rattle.bitvec_elements.specs.Feeding
+pub use Rattle.bitvec_elements.specs.FeedingLaws
+pub use Rattle.bitvec_elements.specs.Listing
+pub use Rattle.bitvec_elements.specs.OrderLaws

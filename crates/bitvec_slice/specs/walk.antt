@@ -1,3 +1,3 @@
--- What crates above name of `bitvec_walk`.
-pub use Rattle.bitvec_traits.specs.walk.CostLaws
-pub use Rattle.bitvec_traits.specs.walk.Sought
+-- What crates above name of `bitvec_cells`.
+pub use Rattle.bitvec_elements.specs.walk.CostLaws
+pub use Rattle.bitvec_elements.specs.walk.Sought

@@ -1,8 +1,8 @@
 //! A view, cut at the edges of elements.
 ghost use Rattle.std.specs.Prelude.{◌≡◌, ◌+◌, ◌*◌, ◌≤◌, IfSome, length, map};
 ghost use Rattle.std.specs.Option.{option_map};
-ghost use Rattle.bitvec_traits.specs.base.Memory.{HasWindow};
-ghost use Rattle.bitvec_traits.specs.base.Window.{max_bits};
+ghost use Rattle.bitvec_elements.specs.base.Memory.{HasWindow};
+ghost use Rattle.bitvec_elements.specs.base.Window.{max_bits};
 ghost use Rattle.bitvec_domain.specs.Cuts.{IsCutWithin, IsPartWithin, cut_of, part_from, part_if_from};
 ghost use Rattle.bitvec_domain.specs.declared.cut.Cut.TheVariants.{Across};
 ghost use Rattle.bitvec_slice.specs.Domains.{enclave_view, region_views, view_in, view_in_if, views_in, views_of, views_of_mut};
@@ -10,8 +10,8 @@ ghost use Rattle.bitvec_slice.specs.Views.{seen, seen_mut};
 
 use crate::{BitSlice, BitSliceMut};
 use bitvec_domain::Cut;
-use bitvec_traits::base::{BitOrder, Part, Window};
-use bitvec_traits::store::BitStore;
+use bitvec_elements::base::{BitOrder, Part, Window};
+use bitvec_elements::store::BitStore;
 
 /// A view, cut at the edges of elements: the crate's `BitDomain` over shared elements.
 #[derive(Drop)]

@@ -28,31 +28,31 @@ mod walk_texts;
 
 /// What crates above name of `bitvec_base`.
 pub mod base {
-    pub use bitvec_traits::base::{
+    pub use bitvec_elements::base::{
         BitOrder, BitSpanError, HiLo, Lsb0, MAX_BITS, Msb0, Part, Window, first_part, last_part,
     };
 }
 
 /// What crates above name of `bitvec_cells`.
 pub mod cells {
-    pub use bitvec_traits::cells::{
+    pub use bitvec_elements::cells::{
         Cells, CellsRead, Exclusive, Shared, fits_max_bits, has_window,
     };
 }
 
 /// What crates above name of `bitvec_combine`.
 pub mod combine {
-    pub use bitvec_traits::combine::combine;
+    pub use bitvec_elements::combine::combine;
 }
 
 /// What crates above name of `bitvec_compare`.
 pub mod comparisons {
-    pub use bitvec_traits::comparisons::equal;
+    pub use bitvec_elements::comparisons::equal;
 }
 
 /// What crates above name of `bitvec_copy`.
 pub mod copy {
-    pub use bitvec_traits::copy::{copy, copy_within};
+    pub use bitvec_elements::copy::{copy, copy_within};
 }
 
 /// What crates above name of `bitvec_domain`.
@@ -65,7 +65,7 @@ pub mod domain {
 
 /// What crates above name of `bitvec_elements`.
 pub mod elements {
-    pub use bitvec_traits::elements::{
+    pub use bitvec_elements::{
         all_in, any_in, bit_in, combine_block_in, combine_in, compare_block_in, compare_in,
         contains_in, copy_from_block_in, copy_from_in, copy_within_in, count_in, ends_with_in,
         eq_block_in, eq_in, fill_in, fill_with_in, first_in, for_each_in, invert_in, last_in,
@@ -76,7 +76,7 @@ pub mod elements {
 
 /// What crates above name of `bitvec_engine`.
 pub mod engine {
-    pub use bitvec_traits::engine::{
+    pub use bitvec_elements::engine::{
         BitOp, ByWords, SliceOrder, all, any, bits_contains, bits_copy, bits_copy_within,
         bits_ends_with, bits_eq, bits_op, bits_reverse, bits_scan_first, bits_scan_last,
         bits_starts_with, bits_swap, compare, contains, count, count_zeros, ends_with, fill,
@@ -87,27 +87,27 @@ pub mod engine {
 
 /// What crates above name of `bitvec_exchange`.
 pub mod exchange {
-    pub use bitvec_traits::exchange::{reverse, swap};
+    pub use bitvec_elements::exchange::{reverse, swap};
 }
 
-/// What crates above name of `bitvec_reference`.
+/// What crates above name of `bitvec_elements`.
 pub mod reference {
-    pub use bitvec_traits::reference::{BitRef, BitRefMut};
+    pub use bitvec_elements::{BitRef, BitRefMut};
 }
 
 /// What crates above name of `bitvec_store`.
 pub mod store {
-    pub use bitvec_traits::store::BitStore;
+    pub use bitvec_elements::store::BitStore;
 }
 
-/// What crates above name of `bitvec_traits`.
+/// What crates above name of `bitvec_elements`.
 pub mod traits {
-    pub use bitvec_traits::separator_before;
+    pub use bitvec_elements::separator_before;
 }
 
-/// What crates above name of `bitvec_walk`.
+/// What crates above name of `bitvec_cells`.
 pub mod walk {
-    pub use bitvec_traits::walk::{
+    pub use bitvec_elements::walk::{
         count_part, fill_part, filled, first_in_element, first_in_part, invert_part,
         last_in_element, last_in_part, sought,
     };
@@ -115,7 +115,7 @@ pub mod walk {
 
 /// What crates above name of `bitvec_words`.
 pub mod words {
-    pub use bitvec_traits::words::{
+    pub use bitvec_elements::words::{
         WORD_BITS, WordOrder, field, field_after, joined, load_field, merged, moved, reversed,
         same_between, store_field, store_part, toward_end, toward_start,
     };
@@ -124,8 +124,8 @@ pub mod words {
 pub use bit_domain::{BitDomain, BitDomainMut};
 pub use bit_iters::{BitRefIter, BitValIter};
 pub use bitvec_domain::{Domain, DomainMut, DomainValues, PartialElement, PartialElementMut};
-pub use bitvec_traits::base::{BitSpanError, Window};
-pub use bitvec_traits::reference::{BitRef, BitRefMut};
+pub use bitvec_elements::base::{BitSpanError, Window};
+pub use bitvec_elements::{BitRef, BitRefMut};
 pub use conversions::{from_mut, from_ref};
 pub use index::{BitSliceIndex, Viewed, ViewedMut};
 pub use iter::Iter;

@@ -1,13 +1,13 @@
 //! The elements that a writable view holds, with the bits outside the view.
 ghost use Rattle.std.specs.Prelude.{◌≡◌, ◌*◌, ◌≤◌, length, slice_range};
 ghost use Rattle.std.specs.Borrow.{sem};
-ghost use Rattle.bitvec_traits.specs.base.Window.{IsWithin};
+ghost use Rattle.bitvec_elements.specs.base.Window.{IsWithin};
 ghost use Rattle.bitvec_slice.specs.Lending.{lends, lends_part};
 ghost use Rattle.bitvec_slice.specs.Views.{name_of, seen_mut};
 
 use crate::BitSliceMut;
-use bitvec_traits::base::{BitOrder, Window};
-use bitvec_traits::store::BitStore;
+use bitvec_elements::base::{BitOrder, Window};
+use bitvec_elements::store::BitStore;
 
 /// The elements that a writable view holds, also their bits outside the view, for the crates that the
 /// library is made of: whoever calls these owes that those bits stay, which `WritesBits` says of an edit.

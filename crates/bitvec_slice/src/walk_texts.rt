@@ -1,12 +1,12 @@
 //! The texts of walks over bits.
 ghost use Rattle.std.specs.Prelude.{Some, codes};
 ghost use Rattle.std.specs.Fmt.{DisplaysOnOk, debug_variant};
-ghost use Rattle.bitvec_traits.specs.Listing.{bits_text};
+ghost use Rattle.bitvec_elements.specs.Listing.{bits_text};
 ghost use Rattle.bitvec_slice.specs.Views.{seen};
 
 use crate::{BitRefIter, BitSlice, BitValIter, Iter};
-use bitvec_traits::base::BitOrder;
-use bitvec_traits::store::BitStore;
+use bitvec_elements::base::BitOrder;
+use bitvec_elements::store::BitStore;
 use std::fmt;
 
 /// Writes a name, and behind it the view in parentheses.

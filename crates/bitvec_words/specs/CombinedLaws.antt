@@ -3,21 +3,21 @@ use Rattle.std.specs.Prelude.{◌≡◌, ℕ, ◌+◌, ◌-◌, ◌<◌, ◌≤�
 use Rattle.std.proofs.Common.{arith, rules, sym, ◌∙◌, ap, append-nil, min, ⊎_elim, length-append}
 use Rattle.std.proofs.lemmas.Bool.{cases_lt}
 use Rattle.std.proofs.lemmas.List.{same_lists, places, length-replicate, get_or-replicate, get_or_past}
-use Rattle.bitvec_walk.specs.base.Lists.{combined, differs}
-use Rattle.bitvec_walk.specs.base.ListsLaws.{combined-is, get-combined, length-combined}
-use Rattle.bitvec_walk.specs.base.declared.window.Window.{Window}
-use Rattle.bitvec_walk.specs.base.Memory.{HasWindow, Writes, element_bits, list_in}
-use Rattle.bitvec_walk.specs.base.declared.part.Part.{Part}
-use Rattle.bitvec_walk.specs.base.MemoryLaws.{length-element_bits}
-use Rattle.bitvec_walk.specs.base.Parts.{HasPart, first_part_of, part_window}
-use Rattle.bitvec_walk.specs.base.Window.{window_after, window_until, write_at}
-use Rattle.bitvec_walk.specs.base.WriteLaws.{length-slice_range}
-use Rattle.bitvec_walk.specs.base.WritesLaws.{Writes-is, Writes-join, length-list, list-behind, list-join}
+use Rattle.bitvec_cells.specs.base.Lists.{combined, differs}
+use Rattle.bitvec_cells.specs.base.ListsLaws.{combined-is, get-combined, length-combined}
+use Rattle.bitvec_cells.specs.base.declared.window.Window.{Window}
+use Rattle.bitvec_cells.specs.base.Memory.{HasWindow, Writes, element_bits, list_in}
+use Rattle.bitvec_cells.specs.base.declared.part.Part.{Part}
+use Rattle.bitvec_cells.specs.base.MemoryLaws.{length-element_bits}
+use Rattle.bitvec_cells.specs.base.Parts.{HasPart, first_part_of, part_window}
+use Rattle.bitvec_cells.specs.base.Window.{window_after, window_until, write_at}
+use Rattle.bitvec_cells.specs.base.WriteLaws.{length-slice_range}
+use Rattle.bitvec_cells.specs.base.WritesLaws.{Writes-is, Writes-join, length-list, list-behind, list-join}
 use Rattle.std.proofs.Math.Nat.{mul-le-mul_left}
 use Rattle.std.proofs.lemmas.Nat.{div-add-mod'}
 use Rattle.bitvec_words.specs.Elements.{elements_window}
 use Rattle.bitvec_words.specs.FieldLaws.{Writes-element, Writes-no_element, element_of, list-element, list-part, list-parted, list-whole}
-use Rattle.bitvec_walk.specs.WalkLaws.{first-len, first-place}
+use Rattle.bitvec_cells.specs.WalkLaws.{first-len, first-place}
 use Rattle.bitvec_words.specs.Operator.{operator}
 use Rattle.bitvec_words.specs.declared.operator.BitOp.{BitOp}
 use Rattle.bitvec_words.specs.declared.operator.BitOp.TheVariants.{And, Or, Xor}

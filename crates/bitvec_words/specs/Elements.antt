@@ -1,7 +1,7 @@
 -- Windows of whole elements of b bits.
 use Rattle.std.specs.Prelude.{ℕ, ◌+◌, ◌*◌, ◌/◌, ◌%◌}
-use Rattle.bitvec_walk.specs.base.declared.part.Part.{Part}
-use Rattle.bitvec_walk.specs.base.declared.window.Window.{Window}
+use Rattle.bitvec_cells.specs.base.declared.part.Part.{Part}
+use Rattle.bitvec_cells.specs.base.declared.window.Window.{Window}
 
 -- `count` elements from the element `first` on
 abbrev pub elements_window : ℕ → ℕ → ℕ → Window

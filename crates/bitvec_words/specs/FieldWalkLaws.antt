@@ -3,15 +3,15 @@ use Rattle.std.specs.Prelude.{◌≡◌, ℕ, ◌+◌, ◌-◌, ◌<◌, ◌≤�
 use Rattle.std.proofs.Common.{arith, sym, ◌∙◌, ap}
 use Rattle.std.proofs.lemmas.List.{length-replicate}
 use Rattle.std.proofs.lemmas.Nat.{div_below}
-use Rattle.bitvec_walk.specs.base.declared.window.Window.{Window}
-use Rattle.bitvec_walk.specs.base.Memory.{HasWindow, Writes, element_bits, list_in}
-use Rattle.bitvec_walk.specs.base.MemoryLaws.{length-element_bits}
-use Rattle.bitvec_walk.specs.base.Parts.{HasPart, first_part_of, part_window}
-use Rattle.bitvec_walk.specs.base.Window.{window_after, write_at}
-use Rattle.bitvec_walk.specs.base.WriteLaws.{length-slice_range}
-use Rattle.bitvec_walk.specs.base.WritesLaws.{Writes-is}
-use Rattle.bitvec_walk.specs.Walk.{Walked, passed}
-use Rattle.bitvec_walk.specs.WalkLaws.{Writes-next_part, first-len, length-first, length-passed, list-next}
+use Rattle.bitvec_cells.specs.base.declared.window.Window.{Window}
+use Rattle.bitvec_cells.specs.base.Memory.{HasWindow, Writes, element_bits, list_in}
+use Rattle.bitvec_cells.specs.base.MemoryLaws.{length-element_bits}
+use Rattle.bitvec_cells.specs.base.Parts.{HasPart, first_part_of, part_window}
+use Rattle.bitvec_cells.specs.base.Window.{window_after, write_at}
+use Rattle.bitvec_cells.specs.base.WriteLaws.{length-slice_range}
+use Rattle.bitvec_cells.specs.base.WritesLaws.{Writes-is}
+use Rattle.bitvec_cells.specs.Walk.{Walked, passed}
+use Rattle.bitvec_cells.specs.WalkLaws.{Writes-next_part, first-len, length-first, length-passed, list-next}
 use Rattle.bitvec_words.specs.Field.{padded}
 use Rattle.bitvec_words.specs.FieldLaws.{list-part}
 use Rattle.bitvec_words.specs.MovedLaws.{element-joined, field-there, take-range}

@@ -4,15 +4,15 @@ use Rattle.std.proofs.Common.{arith, sym, ◌∙◌, ap}
 use Rattle.std.proofs.lemmas.Bool.{cond-false, ne_eqb}
 use Rattle.std.proofs.lemmas.List.{map-append, replicate-append-replicate}
 use Rattle.std.proofs.lemmas.Nat.{div-add-mod'}
-use Rattle.bitvec_walk.specs.base.declared.window.Window.{Window}
-use Rattle.bitvec_walk.specs.base.Memory.{HasWindow, Writes, element_bits, list_in}
-use Rattle.bitvec_walk.specs.base.Order.{Permutes}
-use Rattle.bitvec_walk.specs.base.Parts.{first_part_of, part_window}
-use Rattle.bitvec_walk.specs.base.Window.{window_after}
-use Rattle.bitvec_walk.specs.base.WritesLaws.{Writes-empty, Writes-is, list-behind}
-use Rattle.bitvec_walk.specs.Cost.{fill_loads}
-use Rattle.bitvec_walk.specs.ElementLaws.{element-filled, element-flipped}
-use Rattle.bitvec_walk.specs.WalkLaws.{first-len, first-place}
+use Rattle.bitvec_cells.specs.base.declared.window.Window.{Window}
+use Rattle.bitvec_cells.specs.base.Memory.{HasWindow, Writes, element_bits, list_in}
+use Rattle.bitvec_cells.specs.base.Order.{Permutes}
+use Rattle.bitvec_cells.specs.base.Parts.{first_part_of, part_window}
+use Rattle.bitvec_cells.specs.base.Window.{window_after}
+use Rattle.bitvec_cells.specs.base.WritesLaws.{Writes-empty, Writes-is, list-behind}
+use Rattle.bitvec_cells.specs.Cost.{fill_loads}
+use Rattle.bitvec_cells.specs.ElementLaws.{element-filled, element-flipped}
+use Rattle.bitvec_cells.specs.WalkLaws.{first-len, first-place}
 use Rattle.bitvec_words.specs.CombinedLaws.{element-kept}
 use Rattle.bitvec_words.specs.Elements.{elements_window, tail_of, whole_of}
 use Rattle.bitvec_words.specs.FieldLaws.{Writes-element, Writes-head, Writes-tail, list-element, list-head, list-tail}

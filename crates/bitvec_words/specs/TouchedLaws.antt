@@ -3,9 +3,9 @@ use Rattle.std.specs.Prelude.{◌≡◌, ◌≢◌, ℕ, min, ◌+◌, ◌-◌, 
 use Rattle.std.proofs.Common.{arith, ◌∙◌, ap, ⊎_elim}
 use Rattle.std.proofs.lemmas.Bool.{cases_eq, cases_lt}
 use Rattle.std.proofs.lemmas.Nat.{div-mul-add, div-add-mod', mod_below, mod-mul-add}
-use Rattle.bitvec_walk.specs.base.declared.part.Part.{Part}
-use Rattle.bitvec_walk.specs.Cost.{part_loads, touched}
-use Rattle.bitvec_walk.specs.WalkLaws.{div-order, touched-none, touched-some}
+use Rattle.bitvec_cells.specs.base.declared.part.Part.{Part}
+use Rattle.bitvec_cells.specs.Cost.{part_loads, touched}
+use Rattle.bitvec_cells.specs.WalkLaws.{div-order, touched-none, touched-some}
 
 -- a window touches an element
 pub touched-first : (b s n : ℕ) → 0 < n → touched b s n ≡ 1 + (touched b s n - 1)

@@ -4,17 +4,17 @@ use Rattle.std.proofs.Common.{arith, sym, ◌∙◌, ap, ⊎_elim}
 use Rattle.std.proofs.lemmas.Bool.{cases_lt}
 use Rattle.std.proofs.lemmas.Nat.{div-add-mod', mod_below, mod-mul-add}
 use Rattle.std.proofs.Math.Nat.{mul-le-mul_left}
-use Rattle.bitvec_walk.specs.base.declared.window.Window.{Window}
-use Rattle.bitvec_walk.specs.base.Lists.{same_bits}
-use Rattle.bitvec_walk.specs.base.Memory.{HasWindow, list_in, memory_bits}
-use Rattle.bitvec_walk.specs.base.Parts.{first_part_of, part_window}
-use Rattle.bitvec_walk.specs.base.SliceLaws.{range-none}
-use Rattle.bitvec_walk.specs.base.Window.{window_after, window_of, window_until}
-use Rattle.bitvec_walk.specs.base.WritesLaws.{length-list, list-join}
-use Rattle.bitvec_walk.specs.Cost.{touched}
+use Rattle.bitvec_cells.specs.base.declared.window.Window.{Window}
+use Rattle.bitvec_cells.specs.base.Lists.{same_bits}
+use Rattle.bitvec_cells.specs.base.Memory.{HasWindow, list_in, memory_bits}
+use Rattle.bitvec_cells.specs.base.Parts.{first_part_of, part_window}
+use Rattle.bitvec_cells.specs.base.SliceLaws.{range-none}
+use Rattle.bitvec_cells.specs.base.Window.{window_after, window_of, window_until}
+use Rattle.bitvec_cells.specs.base.WritesLaws.{length-list, list-join}
+use Rattle.bitvec_cells.specs.Cost.{touched}
 use Rattle.bitvec_words.specs.Elements.{elements_window, elements_window_from}
 use Rattle.bitvec_words.specs.TouchedLaws.{touched-edge, touched-first, touched-from, touched-inside, touched-whole}
-use Rattle.bitvec_walk.specs.WalkLaws.{div-order, first-len, touched-none, touched-some}
+use Rattle.bitvec_cells.specs.WalkLaws.{div-order, first-len, touched-none, touched-some}
 
 -- m elements that a window of n bits has
 pub whole_fits : (b n m : ℕ) → m ≤ n / b → m * b ≤ n

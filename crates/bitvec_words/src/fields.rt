@@ -1,17 +1,17 @@
 //! Fields: up to 64 bits of a window as the first bits of a word, and bits of one element at other
 //! indices of another.
 ghost use Rattle.std.specs.Prelude.{◌≡◌, ◌+◌, ◌≤◌, false, replicate, slice_range, take};
-ghost use Rattle.bitvec_walk.specs.base.Memory.{HasWindow, Writes, element_bits, list_in};
-ghost use Rattle.bitvec_walk.specs.base.Window.{write_at};
-ghost use Rattle.bitvec_walk.specs.cells.Access.{CostsAtMost, OnlyReads};
-ghost use Rattle.bitvec_walk.specs.Cost.{fill_loads, touched};
+ghost use Rattle.bitvec_cells.specs.base.Memory.{HasWindow, Writes, element_bits, list_in};
+ghost use Rattle.bitvec_cells.specs.base.Window.{write_at};
+ghost use Rattle.bitvec_cells.specs.Access.{CostsAtMost, OnlyReads};
+ghost use Rattle.bitvec_cells.specs.Cost.{fill_loads, touched};
 ghost use Rattle.bitvec_words.specs.Field.{lowest_bit, padded};
 
 use crate::WordOrder;
 use crate::part::store_part;
-use bitvec_walk::base::{Window, first_part};
-use bitvec_walk::cells::{Cells, CellsRead};
-use bitvec_walk::store::BitStore;
+use bitvec_cells::base::{Window, first_part};
+use bitvec_cells::store::BitStore;
+use bitvec_cells::{Cells, CellsRead};
 
 /// The most bits that a field has.
 pub const WORD_BITS: usize = 64;

@@ -1,14 +1,13 @@
 //! Each bit of a window set, cleared or flipped: the edges behind masks, whole elements as they are.
 ghost use Rattle.std.specs.Prelude.{◌≡◌, ℕ, ◌+◌, ◌-◌, ◌*◌, ◌/◌, ◌%◌, ◌^◌, ◌<◌, ◌≤◌, if◌then◌else◌, Bool, not, map, replicate};
-ghost use Rattle.bitvec_walk.specs.base.Memory.{Edits, HasWindow, Writes};
-ghost use Rattle.bitvec_walk.specs.cells.Access.{Costs, CostsAtMost};
-ghost use Rattle.bitvec_walk.specs.Cost.{fill_loads, touched};
+ghost use Rattle.bitvec_cells.specs.base.Memory.{Edits, HasWindow, Writes};
+ghost use Rattle.bitvec_cells.specs.Access.{Costs, CostsAtMost};
+ghost use Rattle.bitvec_cells.specs.Cost.{fill_loads, touched};
 ghost use Rattle.bitvec_words.specs.Elements.{elements_window};
 
-use bitvec_walk::base::{BitOrder, Part, Window, first_part};
-use bitvec_walk::cells::{Cells, CellsRead};
-use bitvec_walk::store::BitStore;
-use bitvec_walk::{fill_part, invert_part};
+use bitvec_cells::base::{BitOrder, Part, Window, first_part};
+use bitvec_cells::store::BitStore;
+use bitvec_cells::{Cells, CellsRead, fill_part, invert_part};
 
 /// Makes each bit of a window `bit`; all other bits of the memory stay. Condition: the memory has
 /// at most `MAX_BITS` bits, and the window lies in it. It stores each element that the window

@@ -11,24 +11,24 @@ mod word_order;
 
 /// What crates above name of `bitvec_base`.
 pub mod base {
-    pub use bitvec_walk::base::{
+    pub use bitvec_cells::base::{
         BitOrder, BitSpanError, HiLo, Lsb0, MAX_BITS, Msb0, Part, Window, first_part, last_part,
     };
 }
 
 /// What crates above name of `bitvec_cells`.
 pub mod cells {
-    pub use bitvec_walk::cells::{Cells, CellsRead, Exclusive, Shared, fits_max_bits, has_window};
+    pub use bitvec_cells::{Cells, CellsRead, Exclusive, Shared, fits_max_bits, has_window};
 }
 
 /// What crates above name of `bitvec_store`.
 pub mod store {
-    pub use bitvec_walk::store::BitStore;
+    pub use bitvec_cells::store::BitStore;
 }
 
-/// What crates above name of `bitvec_walk`.
+/// What crates above name of `bitvec_cells`.
 pub mod walk {
-    pub use bitvec_walk::{
+    pub use bitvec_cells::{
         count_part, fill_part, filled, first_in_element, first_in_part, get_bit, invert_part,
         last_in_element, last_in_part, replace_bit, sought, swap_bits,
     };

@@ -1,9 +1,9 @@
 use Rattle.std.proofs.Common.{◌≡◌, ℕ, ◌-◌, arith, ap, refl, sym, ◌∙◌}
-use Rattle.bitvec_walk.specs.base.declared.part.Part.{Part}
-use Rattle.bitvec_walk.specs.base.PartLaws.{element-none}
-use Rattle.bitvec_walk.specs.base.Parts.{first_part_of}
-use Rattle.bitvec_walk.specs.store.WidthLaws.{width_some}
-use Rattle.bitvec_walk.specs.WalkLaws.{Walked-start, Walked-next, first-len, passed-none, touched-next, touched-none}
+use Rattle.bitvec_cells.specs.base.declared.part.Part.{Part}
+use Rattle.bitvec_cells.specs.base.PartLaws.{element-none}
+use Rattle.bitvec_cells.specs.base.Parts.{first_part_of}
+use Rattle.bitvec_cells.specs.store.WidthLaws.{width_some}
+use Rattle.bitvec_cells.specs.WalkLaws.{Walked-start, Walked-next, first-len, passed-none, touched-next, touched-none}
 use Rattle.bitvec_words.specs.Field.{padded}
 use Rattle.bitvec_words.specs.MovedLaws.{padded-none}
 use Rattle.bitvec_words.specs.FieldWalkLaws.{field-next}

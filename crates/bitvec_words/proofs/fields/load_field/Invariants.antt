@@ -1,8 +1,8 @@
 use Rattle.std.proofs.Common.{◌≡◌}
-use Rattle.bitvec_walk.specs.base.Memory.{element_bits, list_in}
-use Rattle.bitvec_walk.specs.cells.Access.{OnlyReads}
-use Rattle.bitvec_walk.specs.Cost.{touched}
-use Rattle.bitvec_walk.specs.Walk.{Walked, passed}
+use Rattle.bitvec_cells.specs.base.Memory.{element_bits, list_in}
+use Rattle.bitvec_cells.specs.Access.{OnlyReads}
+use Rattle.bitvec_cells.specs.Cost.{touched}
+use Rattle.bitvec_cells.specs.Walk.{Walked, passed}
 use Rattle.bitvec_words.specs.Field.{padded}
 use Rattle.bitvec_words.proofs.fields.load_field.Given as goal
 

@@ -1,10 +1,10 @@
 use Rattle.std.proofs.Common.{◌≡◌, ℕ, ◌-◌, arith, rules, ap, refl, sym, ◌∙◌, take}
-use Rattle.bitvec_walk.specs.base.declared.part.Part.{Part}
-use Rattle.bitvec_walk.specs.base.Memory.{element_bits}
-use Rattle.bitvec_walk.specs.base.Parts.{first_part_of}
-use Rattle.bitvec_walk.specs.base.WritesLaws.{Writes-is}
-use Rattle.bitvec_walk.specs.store.WidthLaws.{width_some}
-use Rattle.bitvec_walk.specs.WalkLaws.{Walked-start, Walked-next, Writes-none_passed, edge_loads-next, first-len, touched-next, touched-none}
+use Rattle.bitvec_cells.specs.base.declared.part.Part.{Part}
+use Rattle.bitvec_cells.specs.base.Memory.{element_bits}
+use Rattle.bitvec_cells.specs.base.Parts.{first_part_of}
+use Rattle.bitvec_cells.specs.base.WritesLaws.{Writes-is}
+use Rattle.bitvec_cells.specs.store.WidthLaws.{width_some}
+use Rattle.bitvec_cells.specs.WalkLaws.{Walked-start, Walked-next, Writes-none_passed, edge_loads-next, first-len, touched-next, touched-none}
 use Rattle.bitvec_words.specs.FieldWalkLaws.{Writes-next_field}
 use Rattle.bitvec_words.proofs.fields.store_field.Goals as goal
 

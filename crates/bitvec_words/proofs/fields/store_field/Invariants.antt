@@ -1,8 +1,8 @@
 use Rattle.std.proofs.Common.{take}
-use Rattle.bitvec_walk.specs.base.Memory.{Writes, element_bits}
-use Rattle.bitvec_walk.specs.cells.Access.{CostsAtMost}
-use Rattle.bitvec_walk.specs.Cost.{touched}
-use Rattle.bitvec_walk.specs.Walk.{Walked, edge_loads, passed}
+use Rattle.bitvec_cells.specs.base.Memory.{Writes, element_bits}
+use Rattle.bitvec_cells.specs.Access.{CostsAtMost}
+use Rattle.bitvec_cells.specs.Cost.{touched}
+use Rattle.bitvec_cells.specs.Walk.{Walked, edge_loads, passed}
 use Rattle.bitvec_words.proofs.fields.store_field.Given as goal
 
 abbrev pub invariant-loop-rest : goal.invariant-loop-rest

@@ -1,10 +1,10 @@
 use Rattle.std.proofs.Common.{◌≡◌, ◌<◌, ℕ, ◌-◌, arith, rules, refl, sym, ◌∙◌, ap}
-use Rattle.bitvec_walk.specs.base.declared.part.Part.{Part}
-use Rattle.bitvec_walk.specs.base.Parts.{first_part_of}
-use Rattle.bitvec_walk.specs.base.WritesLaws.{Writes-empty, Writes-is}
-use Rattle.bitvec_walk.specs.store.WidthLaws.{width_some}
-use Rattle.bitvec_walk.specs.Cost.{touched}
-use Rattle.bitvec_walk.specs.WalkLaws.{first-len, touched-none}
+use Rattle.bitvec_cells.specs.base.declared.part.Part.{Part}
+use Rattle.bitvec_cells.specs.base.Parts.{first_part_of}
+use Rattle.bitvec_cells.specs.base.WritesLaws.{Writes-empty, Writes-is}
+use Rattle.bitvec_cells.specs.store.WidthLaws.{width_some}
+use Rattle.bitvec_cells.specs.Cost.{touched}
+use Rattle.bitvec_cells.specs.WalkLaws.{first-len, touched-none}
 use Rattle.bitvec_words.specs.FieldLaws.{Writes-head, first_part-long}
 use Rattle.bitvec_words.specs.FillingLaws.{fill_loads-some, replicate-is, replicate-parts}
 use Rattle.bitvec_words.specs.TouchedLaws.{part_loads-most, touched-head, touched-rest}

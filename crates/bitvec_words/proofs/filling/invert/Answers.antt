@@ -1,10 +1,10 @@
 use Rattle.std.proofs.Common.{◌≡◌, ◌<◌, ℕ, ◌-◌, arith, rules, refl, sym, ◌∙◌, ap, map, not}
-use Rattle.bitvec_walk.specs.base.declared.part.Part.{Part}
-use Rattle.bitvec_walk.specs.base.Parts.{first_part_of}
-use Rattle.bitvec_walk.specs.base.WritesLaws.{Writes-empty, Writes-is}
-use Rattle.bitvec_walk.specs.store.WidthLaws.{width_some}
-use Rattle.bitvec_walk.specs.Cost.{touched}
-use Rattle.bitvec_walk.specs.WalkLaws.{touched-none}
+use Rattle.bitvec_cells.specs.base.declared.part.Part.{Part}
+use Rattle.bitvec_cells.specs.base.Parts.{first_part_of}
+use Rattle.bitvec_cells.specs.base.WritesLaws.{Writes-empty, Writes-is}
+use Rattle.bitvec_cells.specs.store.WidthLaws.{width_some}
+use Rattle.bitvec_cells.specs.Cost.{touched}
+use Rattle.bitvec_cells.specs.WalkLaws.{touched-none}
 use Rattle.bitvec_words.specs.FieldLaws.{first_part-long}
 use Rattle.bitvec_words.specs.FillingLaws.{Writes-flipped_head}
 use Rattle.bitvec_words.specs.TouchedLaws.{touched-head, touched-rest}

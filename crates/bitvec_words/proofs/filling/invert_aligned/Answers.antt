@@ -1,5 +1,5 @@
 use Rattle.std.proofs.Common.{arith, rules}
-use Rattle.bitvec_walk.specs.store.WidthLaws.{width_some}
+use Rattle.bitvec_cells.specs.store.WidthLaws.{width_some}
 use Rattle.bitvec_words.specs.FillingLaws.{Writes-flipped_tail}
 use Rattle.bitvec_words.specs.TouchedLaws.{touched-full, touched-more}
 use Rattle.bitvec_words.proofs.filling.invert_aligned.Goals as goal
