@@ -15,7 +15,7 @@ pub mod ShiftedLaws
 pub mod TouchedLaws
 pub mod Turn
 pub mod WholeLaws
+pub mod walk
 pub use Rattle.bitvec_cells.specs.base as base
 pub use Rattle.bitvec_cells.specs as cells
 pub use Rattle.bitvec_cells.specs.store as store
-pub use Rattle.bitvec_cells.specs as walk
