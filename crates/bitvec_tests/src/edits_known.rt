@@ -102,7 +102,9 @@ fn bits_are_moved(rt: HostRuntime) {
     swap_ends(&mut view);
     double_front(&mut view, 3);
     turn_and_flip(&mut view, 2);
-    swap_fields(&mut view, 4);
+    if view.len() >= 8 {
+        swap_fields(&mut view, 4);
+    }
     assert_eq!(rt; cells, [0b1011_1101]);
 }
 

@@ -251,7 +251,9 @@ fn no_piece_of_no_bits(rt: HostRuntime) {
 fn fill_and_invert(bytes: &mut [u8; 2]) {
     let mut view = BitSliceMut::<u8, Lsb0>::from_slice_mut(bytes).into_part(2..14);
     fill_between_ones(&mut view);
-    view.set(7, false);
+    if view.len() > 7 {
+        view.set(7, false);
+    }
     invert_between(&mut view, |_index, bit| !*bit);
 }
 
