@@ -1,5 +1,6 @@
 //! What each command answers and leaves.
 use crate::support::{expect, expect_run};
+use std::process::Abort;
 use std::test::Fail;
 
 #[test]
@@ -122,18 +123,30 @@ const ARGUMENTS: [(&str, usize); 29] = [
 #[test]
 fn each_command_takes_so_many_arguments(rt: HostRuntime) -> Result<(), Fail> {
     for (word, count) in ARGUMENTS {
-        for (given, zeros) in ["", " 0", " 0 0", " 0 0 0", " 0 0 0 0"]
-            .into_iter()
-            .enumerate()
-        {
-            let input = format!(in rt.alloc(); "0 8 {word}{zeros}\nno line")?;
+        for given in 0..5 {
             let printed = if given == count {
                 "bad line 2\n"
             } else {
                 "bad line 1\n"
             };
-            expect(&rt, "8 lsb0 00 00 0 8", input.as_str(), 2, printed)?;
+            expect_zeros(&rt, word, given, printed)?;
         }
     }
     Ok(())
+}
+
+/// Asserts what is printed of a command with so many zeros as arguments, and a line behind it that is none.
+fn expect_zeros<R: Abort + AllocGlobal>(
+    rt: &R,
+    word: &str,
+    zeros: usize,
+    printed: &str,
+) -> Result<(), Fail> {
+    let mut input = String::from_str(rt.alloc(), "0 8 ")?;
+    input.push_str(word)?;
+    for _ in 0..zeros {
+        input.push_str(" 0")?;
+    }
+    input.push_str("\nno line")?;
+    expect(rt, "8 lsb0 00 00 0 8", input.as_str(), 2, printed)
 }

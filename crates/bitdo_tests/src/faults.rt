@@ -1,8 +1,9 @@
 //! Readers and writers that give little or fail, and want of memory.
-use crate::support::{status, words};
+use crate::support::{expect_read, is_enough, status, words};
 use std::io::ErrorKind;
+use std::process::Abort;
 use std::test::Fail;
-use test_streams::{FailingReader, FailingWriter, OneByteReader, Refusing};
+use test_streams::{FailingReader, FailingWriter, OneByteReader};
 
 const ARGS: &str = "8 lsb0 01,02 FF 0 16";
 
@@ -12,18 +13,11 @@ const PRINTED: &[u8] = b"bit 1\ncount 2\ndone\n= 81,02\n";
 
 #[test]
 fn a_byte_a_read_is_enough(rt: HostRuntime) -> Result<(), Fail> {
-    let args = words(rt.alloc(), ARGS)?;
-    let mut output = Vec::new(rt.alloc());
-    let mut input = OneByteReader::new(INPUT);
-    let ended = status(rt.alloc(), args.as_slice(), &mut input, &mut output);
-    assert_eq!(rt; ended, 0);
-    assert_eq!(rt; output.as_slice(), PRINTED);
-    Ok(())
+    expect_read(&rt, ARGS, &mut OneByteReader::new(INPUT), 0, PRINTED)
 }
 
 #[test]
 fn many_chunks_are_one_input(rt: HostRuntime) -> Result<(), Fail> {
-    let args = words(rt.alloc(), ARGS)?;
     let mut input = Vec::new(rt.alloc());
     let mut printed = Vec::new(rt.alloc());
     for _ in 0..500 {
@@ -31,16 +25,7 @@ fn many_chunks_are_one_input(rt: HostRuntime) -> Result<(), Fail> {
         printed.extend_from_slice(b"count 2\n")?;
     }
     printed.extend_from_slice(b"= 01,02\n")?;
-    let mut output = Vec::new(rt.alloc());
-    let ended = status(
-        rt.alloc(),
-        args.as_slice(),
-        &mut input.as_slice(),
-        &mut output,
-    );
-    assert_eq!(rt; ended, 0);
-    assert_eq!(rt; output.as_slice(), printed.as_slice());
-    Ok(())
+    expect_read(&rt, ARGS, &mut input.as_slice(), 0, printed.as_slice())
 }
 
 #[test]
@@ -56,12 +41,7 @@ fn a_reader_that_fails_is_bad_input(rt: HostRuntime) -> Result<(), Fail> {
             ("8 lsb0 01 - 8 1", b"bad input\n".as_slice()),
             ("8 lsb0 0 - 0 8", b"bad arguments\n".as_slice()),
         ] {
-            let args = words(rt.alloc(), args)?;
-            let mut output = Vec::new(rt.alloc());
-            let mut input = FailingReader::new(given, kind);
-            let ended = status(rt.alloc(), args.as_slice(), &mut input, &mut output);
-            assert_eq!(rt; output.as_slice(), printed);
-            assert_eq!(rt; ended, 2);
+            expect_read(&rt, args, &mut FailingReader::new(given, kind), 2, printed)?;
         }
     }
     Ok(())
@@ -69,7 +49,6 @@ fn a_reader_that_fails_is_bad_input(rt: HostRuntime) -> Result<(), Fail> {
 
 #[test]
 fn an_input_is_text_before_its_first_line(rt: HostRuntime) -> Result<(), Fail> {
-    let args = words(rt.alloc(), ARGS)?;
     for given in [
         b"\xFF".as_slice(),
         b"no line\n\xC3".as_slice(),
@@ -77,11 +56,7 @@ fn an_input_is_text_before_its_first_line(rt: HostRuntime) -> Result<(), Fail> {
         b"0 8 get 0\n\xE2\x82".as_slice(),
         b"0 8 get 0\n\xF0\x9F\x98".as_slice(),
     ] {
-        let mut input = OneByteReader::new(given);
-        let mut output = Vec::new(rt.alloc());
-        let ended = status(rt.alloc(), args.as_slice(), &mut input, &mut output);
-        assert_eq!(rt; output.as_slice(), b"bad input\n".as_slice());
-        assert_eq!(rt; ended, 2);
+        expect_read(&rt, ARGS, &mut OneByteReader::new(given), 2, b"bad input\n")?;
     }
     Ok(())
 }
@@ -89,56 +64,43 @@ fn an_input_is_text_before_its_first_line(rt: HostRuntime) -> Result<(), Fail> {
 /// A character of the input may come in several reads.
 #[test]
 fn a_character_may_be_cut_by_reads(rt: HostRuntime) -> Result<(), Fail> {
-    let args = words(rt.alloc(), ARGS)?;
     let mut input = OneByteReader::new(b"0 8 get 0\n\xE2\x82\xAC\n");
-    let mut output = Vec::new(rt.alloc());
-    let ended = status(rt.alloc(), args.as_slice(), &mut input, &mut output);
-    assert_eq!(rt; output.as_slice(), b"bad line 2\n".as_slice());
-    assert_eq!(rt; ended, 2);
+    expect_read(&rt, ARGS, &mut input, 2, b"bad line 2\n")
+}
+
+/// Asserts the status of a run whose output fails behind each of its first so many bytes.
+fn expect_failed_output<R: Abort + AllocGlobal>(
+    rt: &R,
+    args: &str,
+    input: &[u8],
+    printed: usize,
+) -> Result<(), Fail> {
+    let args = words(rt.alloc(), args)?;
+    for room in 0..=printed {
+        let mut input = input;
+        let mut output = FailingWriter::new(room, ErrorKind::StorageFull);
+        let ended = status(rt.alloc(), args.as_slice(), &mut input, &mut output);
+        assert_eq!(rt; ended, 1, "with room for {room}");
+    }
     Ok(())
 }
 
 #[test]
 fn an_output_that_fails_is_status_1(rt: HostRuntime) -> Result<(), Fail> {
-    for (args, input, printed) in [
-        (ARGS, INPUT, PRINTED.len()),
-        (ARGS, b"no line".as_slice(), "bad line 1\n".len()),
-        ("8 lsb0 0 - 0 8", b"".as_slice(), "bad arguments\n".len()),
-    ] {
-        let args = words(rt.alloc(), args)?;
-        for room in 0..=printed {
-            let mut input = input;
-            let mut output = FailingWriter::new(room, ErrorKind::StorageFull);
-            let ended = status(rt.alloc(), args.as_slice(), &mut input, &mut output);
-            assert_eq!(rt; ended, 1, "with room for {room}");
-        }
-    }
-    Ok(())
+    expect_failed_output(&rt, ARGS, INPUT, PRINTED.len())?;
+    expect_failed_output(&rt, ARGS, b"no line", "bad line 1\n".len())?;
+    expect_failed_output(&rt, "8 lsb0 0 - 0 8", b"", "bad arguments\n".len())
 }
 
 #[test]
 fn want_of_memory_is_told_at_each_request(rt: HostRuntime) -> Result<(), Fail> {
     let args = words(rt.alloc(), ARGS)?;
-    let mut needed = None;
-    for granted in 0..100 {
-        let refusing = Refusing::new(rt.alloc(), granted);
-        let mut input = INPUT;
-        let mut output = Vec::new(rt.alloc());
-        let ended = status(&refusing, args.as_slice(), &mut input, &mut output);
-        if refusing.granted_all() {
-            assert_eq!(rt; output.as_slice(), PRINTED);
-            assert_eq!(rt; ended, 0);
-            needed = Some(granted);
-            break;
+    for requests in 0..100 {
+        if is_enough(&rt, args.as_slice(), INPUT, requests, PRINTED)? {
+            // One at least for each memory, the input, the steps and the replies.
+            assert!(rt; requests >= 5, "{requests} requests");
+            return Ok(());
         }
-        assert_eq!(rt;
-            output.as_slice(),
-            b"run error: memory\n".as_slice(),
-            "after {granted}"
-        );
-        assert_eq!(rt; ended, 3, "after {granted}");
     }
-    // One at least for each memory, the input, the steps and the replies.
-    assert!(rt; needed >= Some(5), "{needed:?} requests");
-    Ok(())
+    panic!(rt; "100 requests aren't enough")
 }

@@ -1,42 +1,37 @@
 //! How often a run of the program asks for memory.
-use crate::support::{status, words};
+use crate::support::{is_enough, words};
 use std::alloc::{AllocError, Global};
 use std::process::Abort;
 use std::test::Fail;
-use test_streams::Refusing;
 
 /// A memory of nine bytes and a right one of two.
 const ARGS: &str = "8 lsb0 01,02,03,04,05,06,07,08,09 FF,0F 0 72";
 
-/// So many lines that count the first byte's ones.
-fn counts(alloc: Global, lines: usize) -> Result<Vec<u8>, AllocError> {
-    let mut input = Vec::new(alloc);
+/// A line so many times.
+fn repeated(alloc: Global, line: &[u8], lines: usize) -> Result<Vec<u8>, AllocError> {
+    let mut text = Vec::new(alloc);
     for _ in 0..lines {
-        input.extend_from_slice(b"0 8 count_ones\n")?;
+        text.extend_from_slice(line)?;
     }
-    Ok(input)
+    Ok(text)
 }
 
-/// The least number of requests that a run of so many lines needs.
+/// The least number of requests that a run of so many lines needs, which count the first byte's ones.
 fn needed<R: Abort + AllocGlobal>(rt: &R, lines: usize) -> Result<Option<u64>, Fail> {
     let args = words(rt.alloc(), ARGS)?;
-    let input = counts(rt.alloc(), lines)?;
-    for granted in 0..100 {
-        let refusing = Refusing::new(rt.alloc(), granted);
-        let mut bytes = input.as_slice();
-        let mut output = Vec::new(rt.alloc());
-        let ended = status(&refusing, args.as_slice(), &mut bytes, &mut output);
-        if refusing.granted_all() {
-            assert_eq!(rt; ended, 0);
-            assert_eq!(rt; refusing.granted(), granted);
-            return Ok(Some(granted));
+    let input = repeated(rt.alloc(), b"0 8 count_ones\n", lines)?;
+    let mut printed = repeated(rt.alloc(), b"count 1\n", lines)?;
+    printed.extend_from_slice(b"= 01,02,03,04,05,06,07,08,09\n")?;
+    for requests in 0..100 {
+        if is_enough(
+            rt,
+            args.as_slice(),
+            input.as_slice(),
+            requests,
+            printed.as_slice(),
+        )? {
+            return Ok(Some(requests));
         }
-        assert_eq!(rt; ended, 3, "after {granted}");
-        assert_eq!(rt;
-            output.as_slice(),
-            b"run error: memory\n".as_slice(),
-            "after {granted}"
-        );
     }
     Ok(None)
 }
@@ -47,10 +42,15 @@ fn needed<R: Abort + AllocGlobal>(rt: &R, lines: usize) -> Result<Option<u64>, F
 // eight, and eight times up to 512; the replies once.
 #[test]
 fn each_list_is_asked_for_as_often_as_it_doubles(rt: HostRuntime) -> Result<(), Fail> {
-    assert_eq!(rt; needed(&rt, 0)?, Some(2 + 1));
-    assert_eq!(rt; needed(&rt, 1)?, Some(2 + 1 + 1 + 1 + 1));
-    assert_eq!(rt; needed(&rt, 4)?, Some(2 + 1 + 1 + 1 + 1));
-    assert_eq!(rt; needed(&rt, 5)?, Some(2 + 1 + 1 + 2 + 1));
-    assert_eq!(rt; needed(&rt, 500)?, Some(2 + 1 + 4 + 8 + 1));
+    for (lines, requests) in [
+        (0, 2 + 1),
+        (1, 2 + 1 + 1 + 1 + 1),
+        (4, 2 + 1 + 1 + 1 + 1),
+        (5, 2 + 1 + 1 + 2 + 1),
+        (500, 2 + 1 + 4 + 8 + 1),
+    ] {
+        let least = needed(&rt, lines)?;
+        assert_eq!(rt; least, Some(requests), "of {lines} lines");
+    }
     Ok(())
 }

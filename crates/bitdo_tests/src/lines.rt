@@ -20,68 +20,23 @@ fn lines_are_ended_in_three_ways(rt: HostRuntime) -> Result<(), Fail> {
     Ok(())
 }
 
+/// Lines that are none, with a `|` between two.
+const BAD_LINES: &str =
+    " |  |\t|\r|\0|0|0 8|0 8 |0 8 get|0 8 get |0 8 get 0 |0 8 get 0 0| 0 8 get 0|0  8 get 0|\
+    0 8  get 0|0 8 get  0|0 8 get 0 \n|0 8 get 0 \r\n|0 8 invert |0 8\tget 0|0 8 get\t0|\
+    0 8 get 0\t|0 8 get 0\t\n|0 8 get 0\0|0 8 get 0\r|0 8 get 0\r\r\n|0 8 get +0|0 8 get -1|\
+    0 8 get 0x0|0 8 get 18446744073709551616|18446744073709551616 8 get 0|\
+    0 18446744073709551616 get 0|x 8 get 0|0 8 GET 0|0 8 gets 0|0 8 ge 0|0 8 set 0|\
+    0 8 set 0 2|0 8 set 0 01|0 8 set 0 1 1|0 8 set 0 true|0 8 replace 0 2|0 8 fill 01|\
+    0 8 swap 0 x|0 8 swap x 0|0 8 get 36893488147419103232|\
+    0 8 get 100000000000000000000000000000000000000000|0 8 swap 0 18446744073709551616|\
+    0 8 rotate_left 18446744073709551616|0 8 copy_within 0 0 18446744073709551616|\
+    0 8 or 18446744073709551616 0|0 8 xor 0 18446744073709551616|0 8 shift-start 0|\
+    0 8 count_ones 0|0 8 get ٣|0 8 get\u{A0}0|0 8 get 0\u{2028}0 8 get 0|\u{FEFF}0 8 get 0";
+
 #[test]
 fn other_lines_are_bad(rt: HostRuntime) -> Result<(), Fail> {
-    for line in [
-        " ",
-        "  ",
-        "\t",
-        "\r",
-        "\0",
-        "0",
-        "0 8",
-        "0 8 ",
-        "0 8 get",
-        "0 8 get ",
-        "0 8 get 0 ",
-        "0 8 get 0 0",
-        " 0 8 get 0",
-        "0  8 get 0",
-        "0 8  get 0",
-        "0 8 get  0",
-        "0 8 get 0 \n",
-        "0 8 get 0 \r\n",
-        "0 8 invert ",
-        "0 8\tget 0",
-        "0 8 get\t0",
-        "0 8 get 0\t",
-        "0 8 get 0\t\n",
-        "0 8 get 0\0",
-        "0 8 get 0\r",
-        "0 8 get 0\r\r\n",
-        "0 8 get +0",
-        "0 8 get -1",
-        "0 8 get 0x0",
-        "0 8 get 18446744073709551616",
-        "18446744073709551616 8 get 0",
-        "0 18446744073709551616 get 0",
-        "x 8 get 0",
-        "0 8 GET 0",
-        "0 8 gets 0",
-        "0 8 ge 0",
-        "0 8 set 0",
-        "0 8 set 0 2",
-        "0 8 set 0 01",
-        "0 8 set 0 1 1",
-        "0 8 set 0 true",
-        "0 8 replace 0 2",
-        "0 8 fill 01",
-        "0 8 swap 0 x",
-        "0 8 swap x 0",
-        "0 8 get 36893488147419103232",
-        "0 8 get 100000000000000000000000000000000000000000",
-        "0 8 swap 0 18446744073709551616",
-        "0 8 rotate_left 18446744073709551616",
-        "0 8 copy_within 0 0 18446744073709551616",
-        "0 8 or 18446744073709551616 0",
-        "0 8 xor 0 18446744073709551616",
-        "0 8 shift-start 0",
-        "0 8 count_ones 0",
-        "0 8 get ٣",
-        "0 8 get\u{A0}0",
-        "0 8 get 0\u{2028}0 8 get 0",
-        "\u{FEFF}0 8 get 0",
-    ] {
+    for line in BAD_LINES.split('|') {
         expect(&rt, "8 lsb0 01 - 0 8", line, 2, "bad line 1\n")?;
     }
     Ok(())

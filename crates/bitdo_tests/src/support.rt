@@ -5,6 +5,7 @@ use std::io::{Read, Write};
 use std::process::Abort;
 use std::str;
 use std::test::Fail;
+use test_streams::Refusing;
 
 /// The words of a text, cut at each space.
 pub(crate) fn words(alloc: Global, text: &str) -> Result<Vec<String>, AllocError> {
@@ -23,6 +24,45 @@ pub(crate) fn status<A: Allocator + Clone + Drop, R: Read, W: Write>(
     output: &mut W,
 ) -> u8 {
     work(alloc, args, input, output)
+}
+
+/// Asserts what `work` prints on these arguments and this reader's input, and its status.
+pub(crate) fn expect_read<R: Abort + AllocGlobal, I: Read>(
+    rt: &R,
+    args: &str,
+    input: &mut I,
+    ended: u8,
+    printed: &[u8],
+) -> Result<(), Fail> {
+    let args = words(rt.alloc(), args)?;
+    let mut output = Vec::new(rt.alloc());
+    let got = status(rt.alloc(), args.as_slice(), input, &mut output);
+    assert_eq!(rt; output.as_slice(), printed);
+    assert_eq!(rt; got, ended);
+    Ok(())
+}
+
+/// Whether a run that is granted so many requests for memory makes no more. Asserts what it prints then, and
+/// that else it tells of the want of memory, and its status.
+pub(crate) fn is_enough<R: Abort + AllocGlobal>(
+    rt: &R,
+    args: &[String],
+    input: &[u8],
+    requests: u64,
+    printed: &[u8],
+) -> Result<bool, Fail> {
+    let refusing = Refusing::new(rt.alloc(), requests);
+    let mut bytes = input;
+    let mut output = Vec::new(rt.alloc());
+    let got = status(&refusing, args, &mut bytes, &mut output);
+    let (ended, printed) = if refusing.granted_all() {
+        (0, printed)
+    } else {
+        (3, b"run error: memory\n".as_slice())
+    };
+    assert_eq!(rt; output.as_slice(), printed, "after {requests}");
+    assert_eq!(rt; got, ended, "after {requests}");
+    Ok(ended == 0)
 }
 
 /// Asserts what `work` prints on these arguments and this input, and its status.

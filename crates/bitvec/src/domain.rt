@@ -3,4 +3,4 @@ pub use bitvec_owned::edit::domain::{
     Cut, Domain, DomainMut, DomainValues, PartialElement, PartialElementMut, Region, RegionMut,
     domain_mut_of, domain_of,
 };
-pub use bitvec_owned::edit::slice::{BitDomain, BitDomainMut};
+pub use bitvec_owned::edit::slice::{BitDomain, BitDomainParts};

@@ -12,9 +12,18 @@ use bitvec_words::cells::CellsRead;
 use bitvec_words::same_between;
 use bitvec_words::store::BitStore;
 
-/// How many elements are compared before each test. A test after each single one would keep the
-/// loop from vector instructions.
-pub(crate) const ELEMENTS_PER_TEST: usize = 32;
+/// How many bits are compared before each test. A test after each single element would keep the loop
+/// from vector instructions; a loop over more of the widest elements isn't written out, and so has none.
+const BITS_PER_TEST: usize = 2048;
+
+/// How many elements of `bits` bits are compared before each test.
+#[inline(always)]
+pub(crate) fn elements_per_test(bits: usize) -> usize
+    requires some { 0 < bits }
+    ensures { 0 < result }
+{
+    (BITS_PER_TEST / bits).max(1)
+}
 
 /// Whether a window has the bits of one whose first bit has the same index in its element.
 /// Condition: as of [`crate::equal`], and the windows aren't empty.
@@ -70,21 +79,16 @@ fn equal_aligned<O: BitOrder, C: CellsRead, D: CellsRead<Elem = C::Elem>>(
 {
     let bits = C::Elem::BITS as usize;
     let (first, source) = (left_window.start / bits, right_window.start / bits);
-    let tests = left_window.len / bits / ELEMENTS_PER_TEST;
+    let span = elements_per_test(bits);
+    let tests = left_window.len / bits / span;
     for test in 0..tests {
-        let passed = test * ELEMENTS_PER_TEST;
-        let found = differences::<O, C, D>(
-            left,
-            first + passed,
-            right,
-            source + passed,
-            ELEMENTS_PER_TEST,
-        );
+        let passed = test * span;
+        let found = differences::<O, C, D>(left, first + passed, right, source + passed, span);
         if found.to_u128() != 0 {
             return false;
         }
     }
-    let passed = tests * ELEMENTS_PER_TEST * bits;
+    let passed = tests * span * bits;
     equal_aligned_rest::<O, C, D>(
         left,
         left_window.after(passed),
@@ -131,6 +135,7 @@ fn equal_aligned_rest<O: BitOrder, C: CellsRead, D: CellsRead<Elem = C::Elem>>(
 
 /// An element with each bit that differs in any of `count` whole elements: 0 exactly where all are
 /// the same.
+#[inline(always)]
 fn differences<O: BitOrder, C: CellsRead, D: CellsRead<Elem = C::Elem>>(
     left: &mut C,
     first: usize,

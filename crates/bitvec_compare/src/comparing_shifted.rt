@@ -8,7 +8,7 @@ ghost use Rattle.bitvec_words.specs.cells.Access.{OnlyReads, OnlyReadsAtMost};
 ghost use Rattle.bitvec_words.specs.walk.Cost.{touched};
 ghost use Rattle.bitvec_words.specs.Elements.{elements_window, elements_window_from};
 
-use crate::comparing_equal::ELEMENTS_PER_TEST;
+use crate::comparing_equal::elements_per_test;
 use bitvec_words::base::{BitOrder, Part, Window, first_part};
 use bitvec_words::cells::CellsRead;
 use bitvec_words::store::BitStore;
@@ -110,10 +110,11 @@ fn equal_carried<O: WordOrder, C: CellsRead, D: CellsRead<Elem = C::Elem>>(
         right_window.start / bits,
         right_window.start % bits,
     );
-    let tests = left_window.len / bits / ELEMENTS_PER_TEST;
+    let span = elements_per_test(bits);
+    let tests = left_window.len / bits / span;
     let mut last = carry;
     for test in 0..tests {
-        let passed = test * ELEMENTS_PER_TEST;
+        let passed = test * span;
         let (found, next) = shifted_differences::<O, C, D>(
             left,
             first + passed,
@@ -121,14 +122,14 @@ fn equal_carried<O: WordOrder, C: CellsRead, D: CellsRead<Elem = C::Elem>>(
             source + passed,
             last,
             skip,
-            ELEMENTS_PER_TEST,
+            span,
         );
         if found.to_u128() != 0 {
             return false;
         }
         last = next;
     }
-    let passed = tests * ELEMENTS_PER_TEST * bits;
+    let passed = tests * span * bits;
     equal_carried_rest::<O, C, D>(
         left,
         left_window.after(passed),

@@ -1,1 +1,2 @@
+mod Edges
 mod Swapped

@@ -1,12 +1,12 @@
 -- Ranges exchanged a stretch after the other.
-use Rattle.std.specs.Prelude.{◌≡◌, ℕ, ◌+◌, ◌-◌, ◌≤◌, ◌⊎◌, Bool, List, [], ◌++◌, length, slice_range, refl}
+use Rattle.std.specs.Prelude.{◌≡◌, ℕ, ◌+◌, ◌-◌, ◌≤◌, ◌⊎◌, Bool, List, ◌++◌, length, slice_range, refl}
 use Rattle.std.proofs.Common.{arith, rules, sym, ◌∙◌, ap, ⊎_elim, length-append}
 use Rattle.std.proofs.lemmas.List.{places, same_lists}
 use Rattle.bitvec_slice.specs.base.Lists.{copied_within}
 use Rattle.bitvec_slice.specs.base.Memory.{HasWindow, Writes, list_in}
-use Rattle.bitvec_slice.specs.base.SliceLaws.{range-join, range-none}
+use Rattle.bitvec_slice.specs.base.SliceLaws.{range-join}
 use Rattle.bitvec_slice.specs.base.Window.{window_range, write_at}
-use Rattle.bitvec_slice.specs.base.WriteLaws.{length-slice_range, length-write_at, range-write_at_after, range-write_at_before, write_at-next, write_at-nil}
+use Rattle.bitvec_slice.specs.base.WriteLaws.{length-slice_range, length-write_at, range-write_at_after, range-write_at_before, write_at-next}
 use Rattle.bitvec_slice.specs.base.WritesLaws.{HasWindow-kept, Writes-holds, Writes-next, Writes-range, list-range}
 use Rattle.bitvec_slice.specs.base.declared.window.Window.{Window}
 use Rattle.bitvec_edit.specs.Swaps.{swapped_within}
@@ -83,15 +83,6 @@ module _ {X : Type 0} where
   unfolding swapped_within
   swapped-by list f t s n long = ap (λ (m : ℕ). write_at (write_at list f (slice_range list s (s + m))) s (slice_range list f t)) long
 
-  -- nothing exchanged
-  pub swapped-none : (list : List X) (f s : ℕ) → f ≤ length list → s ≤ length list → swapped_within f (f + 0) s list ≡ list
-  swapped-none list f s source room =
-      swapped-by list f (f + 0) s 0 (omega arith)
-      ∙ ap (λ (l : List X). write_at (write_at list f l) s (slice_range list f (f + 0))) (range-none list s (s + 0) (omega arith))
-      ∙ ap (λ (l : List X). write_at (write_at list f []) s l) (range-none list f (f + 0) (omega arith))
-      ∙ ap (λ (l : List X). write_at l s []) (write_at-nil list f source)
-      ∙ write_at-nil list s room
-
   -- and then a stretch more
   pub swapped-next : (list : List X) (f s d c : ℕ) → f + (d + c) ≤ length list → s + (d + c) ≤ length list → (f + (d + c) ≤ s) ⊎ (s + (d + c) ≤ f)
       → swapped_within (f + d) (f + d + c) (s + d) (swapped_within f (f + d) s list) ≡ swapped_within f (f + (d + c)) s list
@@ -100,6 +91,15 @@ module _ {X : Type 0} where
       ∙ ap (λ (l : List X). write_at (write_at l (f + d) (slice_range l (s + d) (s + d + c))) (s + d) (slice_range l (f + d) (f + d + c))) (swapped-by list f (f + d) s d (omega arith))
       ∙ swapped-stretch list f s d c source room apart
       ∙ sym (swapped-by list f (f + (d + c)) s (d + c) (omega arith))
+
+  -- the ranges named in the other order
+  pub swapped-turned : (list : List X) (f s n : ℕ) → f + n ≤ s → s + n ≤ length list → swapped_within f (f + n) s list ≡ swapped_within s (s + n) f list
+  swapped-turned list f s n apart fits =
+      let near = length-slice_range list f (f + n) (omega arith) in
+      let far = length-slice_range list s (s + n) (omega arith) in
+      swapped-by list f (f + n) s n (omega arith)
+      ∙ writes-apart list f (slice_range list s (s + n)) s (slice_range list f (f + n)) (omega arith) (omega arith)
+      ∙ sym (swapped-by list s (s + n) f n (omega arith))
 
 -- what is held aside, copied to the other place
 pub stretch-swapped : (b : ℕ) (at : ℕ → ℕ → ℕ) (old mid new held kept : List ℕ) (window aside : Window) (f s c : ℕ) → HasWindow b old window → HasWindow b held aside

@@ -1,5 +1,7 @@
 -- What crates above name of `bitvec_slice`.
+pub use Rattle.bitvec_slice.specs.BitParts
 pub use Rattle.bitvec_slice.specs.Domains
+pub use Rattle.bitvec_slice.specs.DomainsLaws
 pub use Rattle.bitvec_slice.specs.Indices
 pub use Rattle.bitvec_slice.specs.KeptLaws
 pub use Rattle.bitvec_slice.specs.Seen

@@ -75,7 +75,7 @@ pub mod reference {
 /// What crates above name of `bitvec_slice`.
 pub mod slice {
     pub use bitvec_slice::{
-        BitDomain, BitDomainMut, BitRef, BitRefIter, BitRefMut, BitSlice, BitSliceIndex,
+        BitDomain, BitDomainParts, BitRef, BitRefIter, BitRefMut, BitSlice, BitSliceIndex,
         BitSliceMut, BitValIter, Domain, DomainMut, Iter, RawElements, Viewed, ViewedMut, from_mut,
         from_ref,
     };

@@ -98,3 +98,39 @@ fn the_last_bit_but_one(rt: HostRuntime) {
     clear_one(&mut bytes);
     assert_eq!(rt; bytes, [0xBF]);
 }
+
+/// Flips every second one of the bits 3 up to 12, from the first of these on: of bits 1 up to 15, those behind
+/// the first two and before the last three.
+fn flip_every_second(bytes: &mut [u8; 2]) -> bool {
+    let mut view = BitSliceMut::<u8, Lsb0>::from_slice_mut(bytes).into_part(1..15);
+    let mut bits = view.iter_mut();
+    bits.pass(2);
+    bits.pass_back(3);
+    bits.for_each_bit_mut(|number, bit| bit != (number % 2 == 0));
+    bits.is_empty()
+}
+
+#[test]
+fn the_bits_that_are_left_are_refilled(rt: HostRuntime) {
+    let mut bytes = [0x00, 0xFF];
+    assert!(rt; flip_every_second(&mut bytes));
+    assert_eq!(rt; bytes, [0xA8, 0xF5]);
+}
+
+/// Makes each bit what the one before it was, and the first one 0: the closure keeps a state.
+fn shift_by_one(bytes: &mut [u8; 1]) {
+    let mut view = BitSliceMut::<u8, Lsb0>::from_slice_mut(bytes);
+    let mut before = false;
+    view.iter_mut().for_each_bit_mut(|_number, bit| {
+        let answer = before;
+        before = bit;
+        answer
+    });
+}
+
+#[test]
+fn a_closure_that_keeps_the_bit_before(rt: HostRuntime) {
+    let mut bytes = [0x8D];
+    shift_by_one(&mut bytes);
+    assert_eq!(rt; bytes, [0x1A]);
+}

@@ -1,9 +1,10 @@
 -- A writable walk over single bits, as contracts see it.
-use Rattle.std.specs.Prelude.{◌≡◌, ℕ, ◌+◌, ◌-◌, min}
+use Rattle.std.specs.Prelude.{◌≡◌, ℕ, ◌+◌, ◌-◌, Bool, List, length, min, slice_range}
 use Rattle.std.specs.Borrow.{GName}
 use Rattle.bitvec_slice.specs.store.declared.store.BitStore.{Ghosts as Store}
 use Rattle.bitvec_slice.specs.base.declared.order.BitOrder.{Ghosts as Order}
 use Rattle.bitvec_slice.specs.Seen.{Seen, shown}
+use Rattle.bitvec_slice.specs.base.Window.{write_at}
 use Rattle.bitvec_lent.specs.declared.bits.IterMut.{IterMut}
 
 -- the view, and which of its indices are left, from `front` up to `back`
@@ -22,6 +23,23 @@ module _ {T : Type 0} where
   -- the first that is left, or where one past the last is
   abbrev pub start_of : BitsLeft T → ℕ
   start_of walk = min walk.front walk.back
+
+  -- the bits that a walk has left, and those that stand in their places once it is `after`
+  abbrev pub bits_to_come : BitsLeft T → List Bool
+  bits_to_come walk = slice_range walk.view.bits (start_of walk) walk.back
+
+  abbrev pub bits_in_place : BitsLeft T → BitsLeft T → List Bool
+  bits_in_place walk after = slice_range after.view.bits (start_of walk) walk.back
+
+  -- the bits that were left are `new`, in the view and in its memory, where all others are as before, and none is left
+  pub record WritesLeft (walk after : BitsLeft T) (new : List Bool) : Type 0 where
+    pub bits : after.view.bits ≡ write_at walk.view.bits (start_of walk) new
+    pub memory : after.view.memory ≡ write_at walk.view.memory (walk.view.window.start + start_of walk) new
+    pub window : after.view.window ≡ walk.view.window
+    pub elements : length after.view.elements ≡ length walk.view.elements
+    pub long : length new ≡ walk.back - start_of walk
+    pub front : after.front ≡ walk.back
+    pub back : after.back ≡ walk.back
 
   -- the walk without its first bits, of which it has as many or fewer, and without its last ones
   abbrev pub past_bits : BitsLeft T → ℕ → BitsLeft T

@@ -3,14 +3,16 @@ ghost use Rattle.std.specs.Prelude.{◌≡◌, ◌+◌, ◌-◌, ◌*◌, ◌<�
 ghost use Rattle.bitvec_slice.specs.base.Window.{max_bits};
 
 use bitvec_slice::base::{BitOrder, Window};
+use bitvec_slice::elements::for_each_in;
 use bitvec_slice::store::BitStore;
 use bitvec_slice::{BitRefMut, BitSlice, BitSliceMut, RawElements, touched};
 use std::marker::PhantomData;
 
 /// The bits of a writable view, which are lent one at a time, from both ends: `iter_mut` makes it.
 ///
-/// The calls are those of [`crate::PiecesMut`], and each gives a reference to one bit. By `for_each` and
-/// `fill_with` of `bitvec_edit`, which ask a closure for each bit, each bit is known afterwards.
+/// The calls are those of [`crate::PiecesMut`], and each gives a reference to one bit. By
+/// [`IterMut::for_each_bit_mut`], and of a view by `for_each` and `fill_with` of `bitvec_edit`, which ask a
+/// closure for each bit, each bit is known afterwards.
 #[derive(Drop)]
 pub struct IterMut<'a, T: BitStore, O: BitOrder> {
     elements: &'a mut [T],
@@ -32,7 +34,8 @@ impl<'a, T: BitStore, O: BitOrder> IterMut<'a, T, O> {
     ghost use Rattle.bitvec_slice.specs.Seen.{IsGiven, IsRangeOf, shown};
     ghost use Rattle.bitvec_slice.specs.Views.{name_of, seen, seen_mut};
     ghost use Rattle.bitvec_lent.specs.BitsLending.{lends_bits, lends_first, lends_last, lends_part};
-    ghost use Rattle.bitvec_lent.specs.Bits.{IsAllOf, bits_left, name_of_bits, past_back_bits, past_bits, start_of};
+    ghost use Rattle.bitvec_lent.specs.Bits.{IsAllOf, WritesLeft, bits_in_place, bits_left, bits_to_come, name_of_bits, past_back_bits, past_bits, start_of};
+    ghost use Rattle.bitvec_slice.specs.elements.Asked.{CallableOnBits, RefillsWith};
 
     /// The bits of a view. The crate has no such call: `iter_mut` is made of it.
     #[doc(hidden)]
@@ -141,6 +144,31 @@ impl<'a, T: BitStore, O: BitOrder> IterMut<'a, T, O> {
         self.back -= 1;
         let index = self.back;
         self.bit_mut(index)
+    }
+
+    /// Makes each bit that is left what `f` answers for its number among these and the bit that stands
+    /// there: `f` is called once for each, in ascending order, with numbers from 0 on, and what it keeps goes
+    /// from each call to the next. No bit is left then, and all others stay as they are. Condition: `f` may be
+    /// called for each number and the bit there, once the calls for those before it are done, whatever they
+    /// answered. It stands for `for` over the crate's iterator.
+    ///
+    /// ```
+    /// bits.pass(2);
+    /// bits.pass_back(3);
+    /// bits.for_each_bit_mut(|number, bit| bit != (number % 2 == 0));
+    /// ```
+    pub fn for_each_bit_mut<F: FnMut(usize, bool) -> bool>(&mut self, f: F)
+        requires { CallableOnBits F.FnMut f (bits_to_come (bits_left self.old)) }
+        ensures answers { RefillsWith F.FnMut f (bits_to_come (bits_left self.old)) (bits_in_place (bits_left self.old) (bits_left self.new)) }
+        ensures walk { WritesLeft (bits_left self.old) (bits_left self.new) (bits_in_place (bits_left self.old) (bits_left self.new)) }
+        ensures name { name_of_bits self.new ≡ name_of_bits self.old }
+    {
+        let window = Window {
+            start: self.head + self.front.min(self.back),
+            len: self.len(),
+        };
+        for_each_in::<T, O, F>(&mut *self.elements, window, f);
+        self.front = self.back;
     }
 
     /// Passes the first `count` bits that are left, or all. The crate has no such call.

@@ -1,5 +1,8 @@
 -- What crates above name of `bitvec_slice`.
 pub use Rattle.bitvec_slice.specs.Apart
+pub use Rattle.bitvec_slice.specs.BitParts
+pub use Rattle.bitvec_slice.specs.Domains
+pub use Rattle.bitvec_slice.specs.DomainsLaws
 pub use Rattle.bitvec_slice.specs.Seen
 pub use Rattle.bitvec_slice.specs.Views
 pub use Rattle.bitvec_slice.specs.Walks

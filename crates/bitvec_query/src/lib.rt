@@ -23,7 +23,7 @@ pub mod engine {
 /// What crates above name of `bitvec_slice`.
 pub mod slice {
     pub use bitvec_slice::{
-        BitDomain, BitDomainMut, BitRef, BitSlice, BitSliceIndex, BitSliceMut, Domain, DomainMut,
+        BitDomain, BitDomainParts, BitRef, BitSlice, BitSliceIndex, BitSliceMut, Domain, DomainMut,
         Viewed, ViewedMut, from_mut, from_ref,
     };
 }

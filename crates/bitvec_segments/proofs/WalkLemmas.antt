@@ -1,10 +1,10 @@
 -- A walk over a window that loads or stores a number, a part of one element at a time.
-use Rattle.std.specs.Prelude.{◌≡◌, ℕ, ◌+◌, ◌-◌, ◌*◌, ◌/◌, ◌%◌, ◌^◌, ◌<◌, ◌≤◌, ◌==◌, if◌then◌else◌, Bool, true, false, zero, suc, List, ◌++◌, [], length, take, drop, min, refl}
+use Rattle.std.specs.Prelude.{◌≡◌, ℕ, ◌+◌, ◌-◌, ◌*◌, ◌/◌, ◌%◌, ◌^◌, ◌<◌, ◌≤◌, ◌==◌, ◌⊎◌, if◌then◌else◌, Bool, true, false, zero, suc, List, ◌++◌, [], length, take, drop, min, refl}
 use Rattle.std.proofs.Common.{arith, sym, ◌∙◌, ap, ⊎_elim, eqb}
 use Rattle.std.proofs.lemmas.Bool.{cases_lt, cond-false, cond-true, eq-eqb, ne_eqb}
 use Rattle.std.proofs.lemmas.Nat.{div-add-mod', div-mul-add, mod-mul-add, mod_below, pow-add, shr-shr}
 use Rattle.std.proofs.lemmas.List.{drop-drop, take_all}
-use Rattle.std.proofs.Math.Nat.{mod-eq_of_lt}
+use Rattle.std.proofs.Math.Nat.{add-mul-mod_self_right, mod-eq_of_lt}
 use Rattle.std.proofs.Math.Pow.{pow_mono}
 use Rattle.std.proofs.Math.Seq.{take-add}
 use Rattle.bitvec_words.specs.base.declared.part.Part.{Part}
@@ -413,3 +413,20 @@ edge-len b e window some edge =
     let part = edge-part b e (min window.len b) window some edge refl in
     let long : min window.len b ≡ min window.len b - 0 = omega arith in
     long ∙ ap (λ (p : Part). p.to - p.from) part
+
+-- ---- windows of whole elements
+
+pub whole-elements : (b s : ℕ) → s % b ≡ 0 → s ≡ s / b * b
+whole-elements b s edge = let place = div-add-mod' s b in omega arith
+
+less_or_not : (m n : ℕ) → (m < n) ⊎ (n ≤ m)
+less_or_not m n = grind arith
+
+pub whole-some : (b n : ℕ) → 0 < n → n % b ≡ 0 → b ≤ n
+whole-some b n more whole =
+    ⊎_elim (λ (low : n < b). absurd (let all = mod-eq_of_lt low in omega arith)) (λ (most : b ≤ n). most) (less_or_not n b)
+
+pub whole-less : (b n : ℕ) → b ≤ n → n % b ≡ 0 → (n - b) % b ≡ 0
+whole-less b n most whole =
+    let back : n - b + 1 * b ≡ n = omega arith in
+    sym (add-mul-mod_self_right (n - b) 1 b) ∙ ap (λ (m : ℕ). m % b) back ∙ whole

@@ -16,13 +16,13 @@ use bitvec_words::{WORD_BITS, WordOrder};
 /// alone and together.
 #[inline(always)]
 pub(crate) fn fits_word<T: BitStore>(window: Window) -> bool
+    requires { window.len ≤ 128 }
     ensures some { result ≡ true → 0 < window.len }
     ensures narrow { result ≡ true → T.BITS ≤ 64 }
     ensures fits { result ≡ true → window.start % T.BITS + window.len ≤ 64 }
 {
     T::BITS as usize <= WORD_BITS
         && window.len > 0
-        && window.len <= WORD_BITS
         && window.start % T::BITS as usize + window.len <= WORD_BITS
 }
 
@@ -44,12 +44,14 @@ pub(crate) fn joined_number<O: WordOrder, C: CellsRead>(cells: &mut C, window: W
     let first = window.start / bits;
     let mut word = element_number::<O, C>(cells, first);
     let mut count = 1;
-    while count * bits < from + window.len {
+    let mut width = bits;
+    while width < from + window.len {
         let next = element_number::<O, C>(cells, first + count);
-        word = with_next::<O>(word, count * bits, next, bits);
+        word = with_next::<O>(word, width, next, bits);
         count += 1;
+        width += bits;
     }
-    cut_out::<O>(word, count * bits, from, window.len)
+    cut_out::<O>(word, width, from, window.len)
 }
 
 /// The number of all bits of an element. Condition: the memory has the element, which has at most 64. It

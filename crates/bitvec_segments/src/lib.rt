@@ -8,5 +8,6 @@ mod joining;
 mod loading;
 mod part;
 mod storing;
+mod whole;
 
 pub use field_order::FieldOrder;

@@ -7,6 +7,7 @@ ghost use Rattle.bitvec_words.specs.walk.Cost.{fill_loads, touched};
 
 use crate::cutting::{edge_part, head_part, only_part, whole_part};
 use crate::part::store_part_number;
+use crate::whole::{of_len, store_whole_be, store_whole_le};
 use bitvec_words::WordOrder;
 use bitvec_words::base::{Window, first_part};
 use bitvec_words::cells::Cells;
@@ -27,9 +28,18 @@ pub(crate) fn store_le<O: WordOrder, C: Cells>(cells: &mut C, window: Window, nu
         return;
     }
     let bits = C::Elem::BITS as usize;
-    let head = bits - window.start % bits;
+    let from = window.start % bits;
+    let head = bits - from;
     if window.len <= head {
         store_part_number::<O, C>(cells, only_part(bits, window), number);
+        return;
+    }
+    if from == 0 && window.len == 2 * bits {
+        store_whole_le::<O, C>(cells, of_len(window, 2 * bits), number);
+        return;
+    }
+    if from == 0 && window.len == 4 * bits {
+        store_whole_le::<O, C>(cells, of_len(window, 4 * bits), number);
         return;
     }
     let rest = window.after(head);
@@ -93,9 +103,18 @@ pub(crate) fn store_be<O: WordOrder, C: Cells>(cells: &mut C, window: Window, nu
         return;
     }
     let bits = C::Elem::BITS as usize;
-    let head = bits - window.start % bits;
+    let from = window.start % bits;
+    let head = bits - from;
     if window.len <= head {
         store_part_number::<O, C>(cells, only_part(bits, window), number);
+        return;
+    }
+    if from == 0 && window.len == 2 * bits {
+        store_whole_be::<O, C>(cells, of_len(window, 2 * bits), number);
+        return;
+    }
+    if from == 0 && window.len == 4 * bits {
+        store_whole_be::<O, C>(cells, of_len(window, 4 * bits), number);
         return;
     }
     let rest = window.after(head);

@@ -1,5 +1,5 @@
 -- What the parts of a view are that is cut at the edges of elements.
-use Rattle.std.specs.Prelude.{◌≡◌, ℕ, ◌+◌, ◌-◌, ◌*◌, Bool, List, [], ◌++◌, Option, None, Some, slice_range}
+use Rattle.std.specs.Prelude.{◌≡◌, ℕ, ◌+◌, ◌-◌, ◌*◌, Bool, List, [], ◌∷◌, ◌++◌, Option, None, Some, slice_range}
 use Rattle.bitvec_elements.specs.base.declared.part.Part.{Part}
 use Rattle.bitvec_elements.specs.store.declared.store.BitStore.{Ghosts as Store}
 use Rattle.bitvec_elements.specs.base.declared.order.BitOrder.{Ghosts as Order}
@@ -11,10 +11,10 @@ use Rattle.bitvec_slice.specs.Seen.{Seen, shown}
 use Rattle.bitvec_slice.specs.Views.{seen, seen_mut}
 use Rattle.bitvec_slice.specs.declared.bit_domain.BitDomain.{BitDomain}
 use Rattle.bitvec_slice.specs.declared.bit_domain.BitDomain.TheVariants.{Enclave, Region}
-use Rattle.bitvec_slice.specs.declared.bit_domain.BitDomainMut.{BitDomainMut}
-use Rattle.bitvec_slice.specs.declared.bit_domain.BitDomainMut.TheVariants.{Enclave as EnclaveMut, Region as RegionMut}
+use Rattle.bitvec_slice.specs.declared.view.BitSlice.{BitSlice}
+use Rattle.bitvec_slice.specs.declared.view_mut.BitSliceMut.{BitSliceMut}
 
--- what both types of bit domains show: one view, or three
+-- what a bit domain's parts show: one view, or three
 pub data Views (T : Type 0) : Type 0 where
   enclave : Seen T → Views T
   region : Seen T → Seen T → Seen T → Views T
@@ -33,14 +33,37 @@ abbrev pub region_views : {T : Type 0} → Views T → Option (Seen T × (Seen T
 region_views (enclave view) = None
 region_views (region head body tail) = Some (head, (body, tail))
 
-module _ {T O : Type 0} {t : Store T} {o : Order O} where
-  abbrev pub views_of : BitDomain T O t o → Views T
-  views_of (Enclave v) = enclave (seen v)
-  views_of (Region head body tail) = region (seen head) (seen body) (seen tail)
+-- the views, in their order
+abbrev pub list_of_views : {T : Type 0} → Views T → List (Seen T)
+list_of_views (enclave view) = view ∷ []
+list_of_views (region head body tail) = head ∷ body ∷ tail ∷ []
 
-  abbrev pub views_of_mut : BitDomainMut T O t o → Views T
-  views_of_mut (EnclaveMut v) = enclave (seen_mut v)
-  views_of_mut (RegionMut head body tail) = region (seen_mut head) (seen_mut body) (seen_mut tail)
+module _ {V : Type 0} where
+  -- the one part, or the three of a region, where the bit domain is that
+  abbrev pub enclave_part : BitDomain V → Option V
+  enclave_part (Enclave part) = Some part
+  enclave_part (Region head body tail) = None
+
+  abbrev pub region_parts : BitDomain V → Option (V × (V × V))
+  region_parts (Enclave part) = None
+  region_parts (Region head body tail) = Some (head, (body, tail))
+
+  -- the parts, in their order
+  abbrev pub parts_of : BitDomain V → List V
+  parts_of (Enclave part) = part ∷ []
+  parts_of (Region head body tail) = head ∷ body ∷ tail ∷ []
+
+  -- what the parts show, where each part shows this
+  abbrev pub views_by : {T : Type 0} → (V → Seen T) → BitDomain V → Views T
+  views_by show (Enclave part) = enclave (show part)
+  views_by show (Region head body tail) = region (show head) (show body) (show tail)
+
+module _ {T O : Type 0} {t : Store T} {o : Order O} where
+  abbrev pub views_of : BitDomain (BitSlice T O t o) → Views T
+  views_of = views_by seen
+
+  abbrev pub views_of_mut : BitDomain (BitSliceMut T O t o) → Views T
+  views_of_mut = views_by seen_mut
 
 module _ {T : Type 0} (b : ℕ) (at : ℕ → ℕ → ℕ) (value : T → ℕ) where
   -- a view of the part, which has its element alone; and of no bit, of no element, if there is no part

@@ -12,7 +12,10 @@ pub mod words
 pub mod Cited
 pub mod Apart
 pub mod ApartLaws
+pub mod BitParts
+pub mod BitPartsLaws
 pub mod Domains
+pub mod DomainsLaws
 pub mod Indices
 pub mod KeptLaws
 pub mod Lending

@@ -5,7 +5,7 @@ ghost use Rattle.bitvec_elements.specs.base.Memory.{HasWindow};
 ghost use Rattle.bitvec_elements.specs.base.Window.{max_bits};
 ghost use Rattle.bitvec_domain.specs.Cuts.{IsCutWithin, IsPartWithin, cut_of, part_from, part_if_from};
 ghost use Rattle.bitvec_domain.specs.declared.cut.Cut.TheVariants.{Across};
-ghost use Rattle.bitvec_slice.specs.Domains.{enclave_view, region_views, view_in, view_in_if, views_in, views_of, views_of_mut};
+ghost use Rattle.bitvec_slice.specs.Domains.{enclave_part, region_parts, view_in, view_in_if, views_in, views_of, views_of_mut};
 ghost use Rattle.bitvec_slice.specs.Views.{seen, seen_mut};
 
 use crate::{BitSlice, BitSliceMut};
@@ -13,47 +13,32 @@ use bitvec_domain::Cut;
 use bitvec_elements::base::{BitOrder, Part, Window};
 use bitvec_elements::store::BitStore;
 
-/// A view, cut at the edges of elements: the crate's `BitDomain` over shared elements.
-#[derive(Drop)]
-pub enum BitDomain<'a, T: BitStore, O: BitOrder> {
+/// A view, cut at the edges of elements: the crate's `BitDomain`, over the type of the parts, which is
+/// [`BitSlice`] of `bit_domain` and [`BitSliceMut`] of `bit_domain_mut`. In a `for` it gives them in their
+/// order, as `parts` does.
+#[derive(Clone, Copy, Debug, PartialEq, Eq, Drop)]
+pub enum BitDomain<V> {
     /// Bits of one element that touch neither of its edges.
-    Enclave(BitSlice<'a, T, O>),
+    Enclave(V),
     /// The bits of whole elements, and parts of one at either end. A part that isn't there is an
     /// empty view of no element.
     Region {
         /// The bits of the first element, if the view begins inside it.
-        head: BitSlice<'a, T, O>,
+        head: V,
         /// The bits of the elements that the view covers.
-        body: BitSlice<'a, T, O>,
+        body: V,
         /// The bits of the last element, if the view ends inside it.
-        tail: BitSlice<'a, T, O>,
+        tail: V,
     },
 }
 
-/// A writable view, cut at the edges of elements: the crate's `BitDomain` over exclusive elements.
-#[derive(Drop)]
-pub enum BitDomainMut<'a, T: BitStore, O: BitOrder> {
-    /// Bits of one element that touch neither of its edges.
-    Enclave(BitSliceMut<'a, T, O>),
-    /// The bits of whole elements, and parts of one at either end. A part that isn't there is an
-    /// empty view of no element.
-    Region {
-        /// The bits of the first element, if the view begins inside it.
-        head: BitSliceMut<'a, T, O>,
-        /// The bits of the elements that the view covers.
-        body: BitSliceMut<'a, T, O>,
-        /// The bits of the last element, if the view ends inside it.
-        tail: BitSliceMut<'a, T, O>,
-    },
-}
-
-impl<'a, T: BitStore, O: BitOrder> BitDomain<'a, T, O> {
+impl<V: Drop> BitDomain<V> {
     /// The view, where it touches neither edge of the one element that it lies in: `enclave` of bitvec.
-    pub fn enclave(&self) -> Option<BitSlice<'a, T, O>>
-        ensures { option_map seen result ≡ enclave_view (views_of self.now) }
+    pub fn enclave(self) -> Option<V>
+        ensures { result ≡ enclave_part self }
     {
         match self {
-            BitDomain::Enclave(view) => Some(*view),
+            BitDomain::Enclave(view) => Some(view),
             BitDomain::Region {
                 head: _,
                 body: _,
@@ -63,46 +48,12 @@ impl<'a, T: BitStore, O: BitOrder> BitDomain<'a, T, O> {
     }
 
     /// The views of the three pieces, where the view isn't within one element: `region` of bitvec.
-    pub fn region(&self) -> Option<(BitSlice<'a, T, O>, BitSlice<'a, T, O>, BitSlice<'a, T, O>)>
-        ensures { option_map (λ given. (seen given.0, (seen given.1, seen given.2))) result ≡ region_views (views_of self.now) }
+    pub fn region(self) -> Option<(V, V, V)>
+        ensures { option_map (λ given. (given.0, (given.1, given.2))) result ≡ region_parts self }
     {
         match self {
             BitDomain::Enclave(_) => None,
-            BitDomain::Region { head, body, tail } => Some((*head, *body, *tail)),
-        }
-    }
-}
-
-impl<'a, T: BitStore, O: BitOrder> BitDomainMut<'a, T, O> {
-    /// The view, where it touches neither edge of the one element that it lies in: `enclave` of bitvec.
-    pub fn enclave(self) -> Option<BitSliceMut<'a, T, O>>
-        ensures { option_map seen_mut result ≡ enclave_view (views_of_mut self.entry) }
-    {
-        match self {
-            BitDomainMut::Enclave(view) => Some(view),
-            BitDomainMut::Region {
-                head: _,
-                body: _,
-                tail: _,
-            } => None,
-        }
-    }
-
-    /// The views of the three pieces, where the view isn't within one element: `region` of bitvec.
-    pub fn region(
-        self,
-    ) -> Option<
-        (
-            BitSliceMut<'a, T, O>,
-            BitSliceMut<'a, T, O>,
-            BitSliceMut<'a, T, O>,
-        ),
-    >
-        ensures { option_map (λ given. (seen_mut given.0, (seen_mut given.1, seen_mut given.2))) result ≡ region_views (views_of_mut self.entry) }
-    {
-        match self {
-            BitDomainMut::Enclave(_) => None,
-            BitDomainMut::Region { head, body, tail } => Some((head, body, tail)),
+            BitDomain::Region { head, body, tail } => Some((head, body, tail)),
         }
     }
 }
@@ -112,7 +63,7 @@ impl<'a, T: BitStore, O: BitOrder> BitDomainMut<'a, T, O> {
 pub(crate) fn bit_domain_of<T: BitStore, O: BitOrder>(
     cells: &[T],
     window: Window,
-) -> BitDomain<'_, T, O>
+) -> BitDomain<BitSlice<'_, T, O>>
     requires window { HasWindow T.BITS (map T.value cells.now) window }
     ensures { views_of result ≡ views_in T.BITS O.at T.value cells.now (cut_of T.BITS window) }
 {
@@ -157,12 +108,12 @@ fn part_view_if<T: BitStore, O: BitOrder>(cells: &[T], part: Option<Part>) -> Bi
 pub(crate) fn bit_domain_mut_of<T: BitStore, O: BitOrder>(
     cells: &mut [T],
     window: Window,
-) -> BitDomainMut<'_, T, O>
+) -> BitDomain<BitSliceMut<'_, T, O>>
     requires window { HasWindow T.BITS (map T.value cells.old) window }
     ensures { views_of_mut result ≡ views_in T.BITS O.at T.value cells.old (cut_of T.BITS window) }
 {
     match Cut::of_elements(cells, window) {
-        Cut::Inside(part) => BitDomainMut::Enclave(part_view_mut(cells, 0, part)),
+        Cut::Inside(part) => BitDomain::Enclave(part_view_mut(cells, 0, part)),
         Cut::Across {
             head,
             start,
@@ -179,7 +130,7 @@ fn region<T: BitStore, O: BitOrder>(
     start: usize,
     end: usize,
     tail: Option<Part>,
-) -> BitDomainMut<'_, T, O>
+) -> BitDomain<BitSliceMut<'_, T, O>>
     requires cut { IsCutWithin T.BITS (length cells.old) (Across head start end tail) }
     requires bounded { T.BITS * length cells.old ≤ max_bits }
     ensures { views_of_mut result ≡ views_in T.BITS O.at T.value cells.old (Across head start end tail) }
@@ -189,7 +140,7 @@ fn region<T: BitStore, O: BitOrder>(
     let head = part_view_if_mut(before, 0, head);
     let body = BitSliceMut::from_slice_mut(body);
     let tail = part_view_if_mut(after, end, tail);
-    BitDomainMut::Region { head, body, tail }
+    BitDomain::Region { head, body, tail }
 }
 
 /// The bits of a part, as a view of its element, where `cells` are the elements from the element

@@ -3,6 +3,7 @@
 
 mod bit_domain;
 mod bit_iters;
+mod bit_parts;
 mod comparison;
 mod constructors;
 mod conversions;
@@ -121,8 +122,9 @@ pub mod words {
     };
 }
 
-pub use bit_domain::{BitDomain, BitDomainMut};
+pub use bit_domain::BitDomain;
 pub use bit_iters::{BitRefIter, BitValIter};
+pub use bit_parts::BitDomainParts;
 pub use bitvec_domain::{Domain, DomainMut, DomainValues, PartialElement, PartialElementMut};
 pub use bitvec_elements::base::{BitSpanError, Window};
 pub use bitvec_elements::{BitRef, BitRefMut};

@@ -151,7 +151,7 @@ impl<'a, T: BitStore, O: BitOrder> BitSlice<'a, T, O> {
     }
 
     /// The view, cut at the edges of elements.
-    pub fn bit_domain(self) -> BitDomain<'a, T, O>
+    pub fn bit_domain(self) -> BitDomain<BitSlice<'a, T, O>>
         ensures { IsBitDomain T.BITS O.at T.value (seen self.entry) (views_of result) }
     {
         bit_domain_of(self.elements, self.window())

@@ -4,7 +4,7 @@ ghost use Rattle.bitvec_elements.specs.base.Window.{max_bits};
 
 use crate::bit_domain::bit_domain_mut_of;
 use crate::touching::touched;
-use crate::{BitDomain, BitDomainMut, BitSlice, Domain, DomainMut};
+use crate::{BitDomain, BitSlice, Domain, DomainMut};
 use bitvec_domain::domain_mut_of;
 use bitvec_elements::base::{BitOrder, Window};
 use bitvec_elements::store::BitStore;
@@ -179,14 +179,14 @@ impl<'a, T: BitStore, O: BitOrder> BitSliceMut<'a, T, O> {
     }
 
     /// The view, cut at the edges of elements.
-    pub fn bit_domain(&self) -> BitDomain<'_, T, O>
+    pub fn bit_domain(&self) -> BitDomain<BitSlice<'_, T, O>>
         ensures { IsBitDomain T.BITS O.at T.value (seen_mut self.now) (views_of result) }
     {
         self.as_ref().bit_domain()
     }
 
     /// The view for writing, cut at the edges of elements.
-    pub fn bit_domain_mut(&mut self) -> BitDomainMut<'_, T, O>
+    pub fn bit_domain_mut(&mut self) -> BitDomain<BitSliceMut<'_, T, O>>
         ensures { IsBitDomain T.BITS O.at T.value (seen_mut self.old) (views_of_mut result) }
     {
         let window = self.window();

@@ -7,7 +7,7 @@ use bitvec_edit::BitEdits;
 use bitvec_query::BitQueries;
 use bitvec_query::base::{BitOrder, Lsb0, Msb0};
 use bitvec_query::engine::SliceOrder;
-use bitvec_query::slice::{BitDomain, BitDomainMut, BitSlice, BitSliceMut};
+use bitvec_query::slice::{BitDomain, BitSlice, BitSliceMut};
 use bitvec_query::store::BitStore;
 
 /// The parts of a range of the elements' bits.
@@ -33,8 +33,8 @@ fn fill_edges<T: BitStore, O: SliceOrder>(elements: &mut [T], from: usize, to: u
     let mut view = BitSliceMut::<T, O>::from_slice_mut(elements);
     if let Some(mut range) = view.get_mut(from..to) {
         match range.bit_domain_mut() {
-            BitDomainMut::Enclave(mut part) => part.fill(true),
-            BitDomainMut::Region {
+            BitDomain::Enclave(mut part) => part.fill(true),
+            BitDomain::Region {
                 mut head,
                 body: _,
                 mut tail,

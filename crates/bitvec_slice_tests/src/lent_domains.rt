@@ -3,7 +3,7 @@
 
 use bitvec_edit::BitEdits;
 use bitvec_query::base::{Lsb0, Window};
-use bitvec_query::slice::{BitDomainMut, BitSliceMut, DomainMut};
+use bitvec_query::slice::{BitDomain, BitSliceMut, DomainMut};
 use std::process::Abort;
 use test_bits::{MEMORIES, bits_of, flipped};
 
@@ -42,8 +42,8 @@ fn flip_elements(view: &mut BitSliceMut<'_, u8, Lsb0>, piece: Piece) {
 /// Flips a part of a view.
 fn flip_bits(view: &mut BitSliceMut<'_, u8, Lsb0>, piece: Piece) {
     match view.bit_domain_mut() {
-        BitDomainMut::Enclave(mut whole) => whole.invert(),
-        BitDomainMut::Region {
+        BitDomain::Enclave(mut whole) => whole.invert(),
+        BitDomain::Region {
             mut head,
             mut body,
             mut tail,

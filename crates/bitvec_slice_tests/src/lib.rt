@@ -4,6 +4,8 @@
 #[cfg(test)]
 mod bit_domains;
 #[cfg(test)]
+mod bit_parts;
+#[cfg(test)]
 mod callers;
 #[cfg(test)]
 mod constructors;

@@ -1,14 +1,14 @@
 -- What is left of a split that lends its pieces, and what each call asks, lends and leaves. The bits that are
 -- left are a range of the view that was split.
-use Rattle.std.specs.Prelude.{◌≡◌, ℕ, ◌+◌, ◌-◌, ◌<◌, ◌==◌, ◌&&◌, ◌⊎◌, Bool, true, false, Option, Some, None, IfSome, MatchOption, if◌then◌else◌, min, not, slice_range}
+use Rattle.std.specs.Prelude.{◌≡◌, ℕ, ◌+◌, ◌-◌, ◌<◌, ◌==◌, ◌&&◌, ◌⊎◌, Bool, true, List, [], Option, Some, None, IfSome, MatchOption, if◌then◌else◌, min, not, slice_range}
 use Rattle.std.specs.Bool.{MatchBool}
 use Rattle.std.specs.Borrow.{Bor}
 use Rattle.std.specs.Fn.{Mut, always_mut}
 use Rattle.std.specs.declared.ops.Range.{Range}
 use Rattle.bitvec_slice.specs.Indices.{HasRange}
 use Rattle.bitvec_slice.specs.Seen.{IsRangeOf, Seen}
-use Rattle.bitvec_split.specs.Asked.{Asked, MayAsk}
-use Rattle.bitvec_split.specs.Splits.{Row, row_of}
+use Rattle.bitvec_split.specs.Asked.{MayAsk}
+use Rattle.bitvec_split.specs.Splits.{CountedBy, Limited, RestBy, Row, StepBy, row_of}
 
 -- the view, the indices `from` up to `to` of the bits that no piece has yet, and the rest as of a shared split
 pub record LeftIn (T P : Type 0) : Type 0 where
@@ -19,9 +19,8 @@ pub record LeftIn (T P : Type 0) : Type 0 where
   pub pred : P
 
 -- of a counted split, also how many pieces it may still lend
-pub record CountedIn (T P : Type 0) : Type 0 where
-  pub left : LeftIn T P
-  pub count : ℕ
+abbrev pub CountedIn : (T P : Type 0) → Type 0
+CountedIn T P = Limited (LeftIn T P)
 
 module _ {T P : Type 0} where
   abbrev pub unsplit_in : Bool → Seen T → P → LeftIn T P
@@ -37,6 +36,10 @@ module _ {T P : Type 0} where
   abbrev pub counted_most_in : CountedIn T P → ℕ
   counted_most_in s = min (most_in s.left) s.count
 
+  -- the bits of which pieces are still to come
+  abbrev pub uncut_in : LeftIn T P → List Bool
+  uncut_in s = if s.finished then [] else slice_range s.view.bits s.from s.to
+
   -- all that is left is the last piece
   pub record GivesAllIn (s : LeftIn T P) (piece : Range ℕ) (t : LeftIn T P) : Type 0 where
     pub start : piece.start ≡ s.from
@@ -46,7 +49,7 @@ module _ {T P : Type 0} where
 
   -- and is given unasked
   abbrev pub SplitRestIn : LeftIn T P → Option (Range ℕ) → LeftIn T P → Type 0
-  SplitRestIn s result t = MatchOption result ((s.finished ≡ true) × (t ≡ s)) (λ piece. (s.finished ≡ false) × GivesAllIn s piece t × (t.pred ≡ s.pred))
+  SplitRestIn s result t = RestBy s.finished (t ≡ s) (λ piece. GivesAllIn s piece t) (t.pred ≡ s.pred) result
 
   -- one range of what is left is the piece, another is left
   pub record GivesRangeIn (inclusive : Bool) (range rest : ℕ × ℕ) (s : LeftIn T P) (piece : Range ℕ) (t : LeftIn T P) : Type 0 where
@@ -65,9 +68,7 @@ module _ {T P : Type 0} (g : Mut P (ℕ × (Bor Bool × Unit {0})) Bool) where
   -- as `SplitStep`, of ranges of the view
   abbrev pub SplitStepIn : Bool → Row → LeftIn T P → Option (Range ℕ) → LeftIn T P → Type 0
   SplitStepIn inclusive row s result t =
-      MatchOption result ((s.finished ≡ true) × (t ≡ s))
-      (λ piece. (s.finished ≡ false) × ((found : Option ℕ) × Asked g (slice_range s.view.bits s.from s.to) s.pred row.asks found t.pred
-      × MatchOption found (GivesAllIn s piece t) (λ j. GivesRangeIn inclusive (row.piece j) (row.keeps j) s piece t)))
+      StepBy s.finished (t ≡ s) (λ piece. GivesAllIn s piece t) g (slice_range s.view.bits s.from s.to) s.pred t.pred (λ range rest piece. GivesRangeIn inclusive range rest s piece t) row result
 
   abbrev pub SplitNextIn : Bool → Bool → LeftIn T P → Option (Range ℕ) → LeftIn T P → Type 0
   SplitNextIn inclusive reversed s result t = SplitStepIn inclusive (row_of inclusive reversed (s.to - s.from)) s result t
@@ -83,10 +84,7 @@ module _ {T P : Type 0} (g : Mut P (ℕ × (Bor Bool × Unit {0})) Bool) where
 
   abbrev pub CountedNextIn : Bool → Bool → CountedIn T P → Option (Range ℕ) → CountedIn T P → Type 0
   CountedNextIn inclusive reversed s result t =
-      MatchOption result (((s.count ≡ 0) ⊎ (s.left.finished ≡ true)) × (t ≡ s))
-      (λ piece. (0 < s.count) × (t.count ≡ s.count - 1)
-      × MatchBool (s.count == 1) (SplitRestIn s.left (Some piece) t.left)
-      (SplitNextIn inclusive reversed s.left (Some piece) t.left))
+      CountedBy (λ left. left.finished) (λ left piece rest. SplitRestIn left (Some piece) rest) (λ left piece rest. SplitNextIn inclusive reversed left (Some piece) rest) s result t
 
 -- a range, where one was found
 abbrev pub piece_if : Bool → Range ℕ → Option (Range ℕ)

@@ -1,8 +1,9 @@
 -- What is left of a split, and what each call asks, gives and leaves.
-use Rattle.std.specs.Prelude.{◌≡◌, ℕ, ◌+◌, ◌-◌, ◌<◌, ◌==◌, ◌&&◌, ◌⊎◌, Bool, true, false, List, [], Option, Some, MatchOption, if◌then◌else◌, min, not}
+use Rattle.std.specs.Prelude.{◌≡◌, ℕ, ◌+◌, ◌-◌, ◌<◌, ◌≤◌, ◌==◌, ◌&&◌, ◌⊎◌, Bool, true, false, List, [], Option, Some, MatchOption, if◌then◌else◌, min, not}
 use Rattle.std.specs.Bool.{MatchBool}
 use Rattle.std.specs.Borrow.{Bor}
 use Rattle.std.specs.Fn.{Mut, always_mut}
+use Rattle.std.specs.declared.ops.Range.{Range}
 use Rattle.bitvec_slice.specs.Seen.{IsRangeOf, Seen}
 use Rattle.bitvec_split.specs.Asked.{Asked, MayAsk, downward, upward}
 
@@ -12,10 +13,13 @@ pub record Left (T P : Type 0) : Type 0 where
   pub finished : Bool
   pub pred : P
 
--- of a counted split, also how many pieces it may still give
-pub record Counted (T P : Type 0) : Type 0 where
-  pub left : Left T P
+-- of a counted split, what is left and how many pieces it may still give
+pub record Limited (S : Type 0) : Type 0 where
+  pub left : S
   pub count : ℕ
+
+abbrev pub Counted : (T P : Type 0) → Type 0
+Counted T P = Limited (Left T P)
 
 module _ {T P : Type 0} where
   -- a split of all bits of a view, which is finished if it is inclusive and the view is empty
@@ -35,16 +39,6 @@ module _ {T P : Type 0} where
   -- the bits of which pieces are still to come
   abbrev pub uncut : Left T P → List Bool
   uncut s = if s.finished then [] else s.rest.bits
-
-  -- all that is left is the last piece
-  pub record GivesAll (s : Left T P) (piece : Seen T) (t : Left T P) : Type 0 where
-    pub gives : piece ≡ s.rest
-    pub keeps : t.rest ≡ s.rest
-    pub finished : t.finished ≡ true
-
-  -- all that is left is given, unasked
-  abbrev pub SplitRest : Left T P → Option (Seen T) → Left T P → Type 0
-  SplitRest s result t = MatchOption result ((s.finished ≡ true) × (t ≡ s)) (λ piece. (s.finished ≡ false) × GivesAll s piece t × (t.pred ≡ s.pred))
 
 -- the predicate may always be called, or at least asked about all that is left
 abbrev pub MayGoOn : {T P : Type 0} → Mut P (ℕ × (Bor Bool × Unit {0})) Bool → Left T P → Type 0
@@ -77,6 +71,62 @@ back inclusive n = record { asks = downward (asked_behind inclusive n); piece = 
 abbrev pub row_of : Bool → Bool → ℕ → Row
 row_of inclusive reversed n = if reversed then back inclusive n else front inclusive n
 
+-- how many of n bits a call asks about at most
+abbrev pub asked_of : Bool → Bool → ℕ → ℕ
+asked_of inclusive reversed n = if reversed then asked_behind inclusive n else n
+
+-- the piece and what is left where the match is at j are those of the row
+pub record IsCutBy (row : Row) (j : ℕ) (piece rest : Range ℕ) : Type 0 where
+  pub start : piece.start ≡ (row.piece j).0
+  pub end : piece.end ≡ (row.piece j).1
+  pub from : rest.start ≡ (row.keeps j).0
+  pub to : rest.end ≡ (row.keeps j).1
+
+-- two ranges of n bits lie side by side, and the second has fewer
+pub record LieBeside (n : ℕ) (piece rest : Range ℕ) : Type 0 where
+  pub order : piece.start ≤ piece.end
+  pub end : piece.end ≤ n
+  pub left : rest.start ≤ rest.end
+  pub to : rest.end ≤ n
+  pub apart : (piece.end ≤ rest.start) ⊎ (rest.end ≤ piece.start)
+  pub fewer : rest.end - rest.start < n
+
+-- What a call does with a split that was `finished` or not, where pieces are of type X: `all piece` says that
+-- all that is left is the piece, `same` that the split is as it was.
+module _ {X : Type 0} (finished : Bool) (same : Type 0) (all : X → Type 0) where
+  -- all that is left is given, and nothing was asked
+  abbrev pub RestBy : Type 0 → Option X → Type 0
+  RestBy unasked result = MatchOption result ((finished ≡ true) × same) (λ piece. (finished ≡ false) × all piece × unasked)
+
+  -- A finished split gives nothing, and asks nothing. Any other asks as the row says about the bits that
+  -- are left, by a predicate that is `next` then, and gives and keeps the row's ranges of them at the first
+  -- yes; with no yes it gives all.
+  abbrev pub StepBy : {P : Type 0} → Mut P (ℕ × (Bor Bool × Unit {0})) Bool → List Bool → P → P → (ℕ × ℕ → ℕ × ℕ → X → Type 0) → Row → Option X → Type 0
+  StepBy g bits pred next ranges row result =
+      MatchOption result ((finished ≡ true) × same)
+      (λ piece. (finished ≡ false) × ((found : Option ℕ) × Asked g bits pred row.asks found next
+      × MatchOption found (all piece) (λ j. ranges (row.piece j) (row.keeps j) piece)))
+
+-- A counted split gives nothing where it may give no piece more; the last that it may give is all that is
+-- left, unasked; any other it gives as the plain split does. Each piece takes one from the count.
+abbrev pub CountedBy : {S X : Type 0} → (S → Bool) → (S → X → S → Type 0) → (S → X → S → Type 0) → Limited S → Option X → Limited S → Type 0
+CountedBy finished rest next s result t =
+    MatchOption result (((s.count ≡ 0) ⊎ (finished s.left ≡ true)) × (t ≡ s))
+    (λ piece. (0 < s.count) × (t.count ≡ s.count - 1)
+    × MatchBool (s.count == 1) (rest s.left piece t.left)
+    (next s.left piece t.left))
+
+module _ {T P : Type 0} where
+  -- all that is left is the last piece
+  pub record GivesAll (s : Left T P) (piece : Seen T) (t : Left T P) : Type 0 where
+    pub gives : piece ≡ s.rest
+    pub keeps : t.rest ≡ s.rest
+    pub finished : t.finished ≡ true
+
+  -- and is given unasked
+  abbrev pub SplitRest : Left T P → Option (Seen T) → Left T P → Type 0
+  SplitRest s result t = RestBy s.finished (t ≡ s) (λ piece. GivesAll s piece t) (t.pred ≡ s.pred) result
+
 module _ {T P : Type 0} (b : ℕ) where
   -- one range of what is left is the piece, another is left; an inclusive split that has none left is finished
   pub record GivesRange (inclusive : Bool) (range rest : ℕ × ℕ) (s : Left T P) (piece : Seen T) (t : Left T P) : Type 0 where
@@ -85,13 +135,10 @@ module _ {T P : Type 0} (b : ℕ) where
     pub finished : t.finished ≡ (inclusive && (t.rest.window.len == 0))
 
 module _ {T P : Type 0} (b : ℕ) (g : Mut P (ℕ × (Bor Bool × Unit {0})) Bool) where
-  -- A finished split gives nothing, and asks nothing. Any other asks as the row says about the bits that
-  -- are left, and gives and keeps the row's ranges of them at the first yes; with no yes it gives all.
+  -- a call by a row
   abbrev pub SplitStep : Bool → Row → Left T P → Option (Seen T) → Left T P → Type 0
   SplitStep inclusive row s result t =
-      MatchOption result ((s.finished ≡ true) × (t ≡ s))
-      (λ piece. (s.finished ≡ false) × ((found : Option ℕ) × Asked g s.rest.bits s.pred row.asks found t.pred
-      × MatchOption found (GivesAll s piece t) (λ j. GivesRange b inclusive (row.piece j) (row.keeps j) s piece t)))
+      StepBy s.finished (t ≡ s) (λ piece. GivesAll s piece t) g s.rest.bits s.pred t.pred (λ range rest piece. GivesRange b inclusive range rest s piece t) row result
 
   -- a call from the front, and one from the back
   abbrev pub SplitNext : Bool → Bool → Left T P → Option (Seen T) → Left T P → Type 0
@@ -100,11 +147,7 @@ module _ {T P : Type 0} (b : ℕ) (g : Mut P (ℕ × (Bor Bool × Unit {0})) Boo
   abbrev pub SplitNextBack : Bool → Bool → Left T P → Option (Seen T) → Left T P → Type 0
   SplitNextBack inclusive reversed s result t = SplitStep inclusive (row_of inclusive (not reversed) s.rest.window.len) s result t
 
-  -- A counted split gives nothing where it may give no piece more; the last that it may give is all that
-  -- is left, unasked; any other it gives as the plain split does. Each piece takes one from the count.
+  -- a call of a counted split
   abbrev pub CountedNext : Bool → Bool → Counted T P → Option (Seen T) → Counted T P → Type 0
   CountedNext inclusive reversed s result t =
-      MatchOption result (((s.count ≡ 0) ⊎ (s.left.finished ≡ true)) × (t ≡ s))
-      (λ piece. (0 < s.count) × (t.count ≡ s.count - 1)
-      × MatchBool (s.count == 1) (SplitRest s.left (Some piece) t.left)
-      (SplitNext inclusive reversed s.left (Some piece) t.left))
+      CountedBy (λ left. left.finished) (λ left piece rest. SplitRest left (Some piece) rest) (λ left piece rest. SplitNext inclusive reversed left (Some piece) rest) s result t

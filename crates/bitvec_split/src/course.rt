@@ -4,12 +4,11 @@ ghost use Rattle.bitvec_slice.specs.Seen.{shown};
 ghost use Rattle.bitvec_slice.specs.Views.{seen};
 ghost use Rattle.bitvec_slice.specs.base.Window.{max_bits};
 ghost use Rattle.bitvec_split.specs.Courses.{left_on};
-ghost use Rattle.bitvec_split.specs.Lent.{CountedStepIn, MayGoOnIn, SplitNextBackIn, SplitNextIn, SplitRestIn, SplitStepIn, StaysIn, least_in, most_in, unsplit_in};
-ghost use Rattle.bitvec_split.specs.Splits.{back, front};
+ghost use Rattle.bitvec_split.specs.Lent.{CountedStepIn, MayGoOnIn, SplitNextBackIn, SplitNextIn, SplitRestIn, SplitStepIn, StaysIn, least_in, most_in, uncut_in, unsplit_in};
+ghost use Rattle.bitvec_split.specs.Splits.{row_of};
 
 use crate::Way;
-use crate::asking::{ask_down, ask_up};
-use crate::ways::{asked_behind, end_of};
+use crate::rows::{ask_row, cut_row};
 use bitvec_slice::BitSlice;
 use bitvec_slice::base::BitOrder;
 use bitvec_slice::store::BitStore;
@@ -24,6 +23,32 @@ pub(crate) struct Course<P, W> {
     pub(crate) finished: bool,
     pub(crate) pred: P,
     pub(crate) way: PhantomData<W>,
+}
+
+impl<P, W> Course<P, W> {
+    // The range of the view that no piece has yet.
+    fn range<T: BitStore, O: BitOrder>(&self, bits: BitSlice<'_, T, O>) -> Range<usize>
+        ensures start { result.start ≡ (left_on (seen bits.entry) self.now).from }
+        ensures end { result.end ≡ (left_on (seen bits.entry) self.now).to }
+        ensures order { result.start ≤ result.end }
+        ensures inside { result.end ≤ (seen bits.entry).window.len }
+    {
+        let end = self.to.min(bits.len());
+        self.from.min(end)..end
+    }
+
+    /// The bits of which pieces are still to come.
+    pub(crate) fn uncut<'s, T: BitStore, O: BitOrder>(
+        &self,
+        bits: BitSlice<'s, T, O>,
+    ) -> BitSlice<'s, T, O>
+        ensures { (seen result).bits ≡ uncut_in (left_on (seen bits.entry) self.now) }
+    {
+        if self.finished {
+            return BitSlice::empty();
+        }
+        bits.into_part(self.range(bits))
+    }
 }
 
 impl<P: FnMut(usize, &bool) -> bool, W: Way> Course<P, W> {
@@ -41,65 +66,31 @@ impl<P: FnMut(usize, &bool) -> bool, W: Way> Course<P, W> {
         }
     }
 
-    // The range of the view that no piece has yet.
-    fn range<T: BitStore, O: BitOrder>(&self, bits: BitSlice<'_, T, O>) -> Range<usize>
-        ensures start { result.start ≡ (left_on (seen bits.entry) self.now).from }
-        ensures end { result.end ≡ (left_on (seen bits.entry) self.now).to }
-        ensures order { result.start ≤ result.end }
-        ensures inside { result.end ≤ (seen bits.entry).window.len }
-    {
-        let end = self.to.min(bits.len());
-        self.from.min(end)..end
-    }
-
-    // The next piece from the front of what is left, as a range of the view.
+    // The next piece from the front of what is left, or from the back, as a range of the view.
     #[tactic(auto, using(crate::specs::AskedLaws::may_ask_of_fewer, crate::specs::AskedLaws::may_ask_either))]
-    fn step_front<T: BitStore, O: BitOrder>(
+    fn step_from<T: BitStore, O: BitOrder>(
         &mut self,
         bits: BitSlice<'_, T, O>,
+        back: bool,
     ) -> Option<Range<usize>>
         requires { MayGoOnIn P.FnMut (left_on (seen bits) self.old) }
         ensures stays { StaysIn (left_on (seen bits.entry) self.old) result (left_on (seen bits.entry) self.new) }
-        ensures piece { SplitStepIn P.FnMut W.INCLUSIVE (front W.INCLUSIVE ((left_on (seen bits.entry) self.old).to - (left_on (seen bits.entry) self.old).from)) (left_on (seen bits.entry) self.old) result (left_on (seen bits.entry) self.new) }
+        ensures piece { SplitStepIn P.FnMut W.INCLUSIVE (row_of W.INCLUSIVE back ((left_on (seen bits.entry) self.old).to - (left_on (seen bits.entry) self.old).from)) (left_on (seen bits.entry) self.old) result (left_on (seen bits.entry) self.new) }
     {
         if self.finished {
             return None;
         }
         let Range { start, end } = self.range(bits);
-        let rest = bits.into_part(start..end);
-        let Some(index) = ask_up(rest, &mut self.pred) else {
+        let Some(index) = ask_row::<W, T, O, P>(bits.into_part(start..end), back, &mut self.pred)
+        else {
             self.finished = true;
             return Some(start..end);
         };
-        self.from = start + index + 1;
-        self.to = end;
-        self.finished = W::INCLUSIVE && self.from == end;
-        Some(start..start + end_of::<W>(index))
-    }
-
-    // The next piece from the back of what is left, as a range of the view.
-    #[tactic(auto, using(crate::specs::AskedLaws::may_ask_of_fewer, crate::specs::AskedLaws::may_ask_either))]
-    fn step_back<T: BitStore, O: BitOrder>(
-        &mut self,
-        bits: BitSlice<'_, T, O>,
-    ) -> Option<Range<usize>>
-        requires { MayGoOnIn P.FnMut (left_on (seen bits) self.old) }
-        ensures stays { StaysIn (left_on (seen bits.entry) self.old) result (left_on (seen bits.entry) self.new) }
-        ensures piece { SplitStepIn P.FnMut W.INCLUSIVE (back W.INCLUSIVE ((left_on (seen bits.entry) self.old).to - (left_on (seen bits.entry) self.old).from)) (left_on (seen bits.entry) self.old) result (left_on (seen bits.entry) self.new) }
-    {
-        if self.finished {
-            return None;
-        }
-        let Range { start, end } = self.range(bits);
-        let rest = bits.into_part(start..end);
-        let asked = asked_behind::<W>(end - start);
-        let Some(index) = ask_down(rest, asked, &mut self.pred) else {
-            self.finished = true;
-            return Some(start..end);
-        };
-        self.from = start;
-        self.to = start + end_of::<W>(index);
-        Some(start + index + 1..end)
+        let (piece, rest) = cut_row::<W>(end - start, back, index);
+        self.from = start + rest.start;
+        self.to = start + rest.end;
+        self.finished = W::INCLUSIVE && self.from == self.to;
+        Some(start + piece.start..start + piece.end)
     }
 
     /// The next piece, as a range of the view.
@@ -111,11 +102,7 @@ impl<P: FnMut(usize, &bool) -> bool, W: Way> Course<P, W> {
         ensures stays { StaysIn (left_on (seen bits.entry) self.old) result (left_on (seen bits.entry) self.new) }
         ensures piece { SplitNextIn P.FnMut W.INCLUSIVE W.REVERSED (left_on (seen bits.entry) self.old) result (left_on (seen bits.entry) self.new) }
     {
-        if W::REVERSED {
-            self.step_back(bits)
-        } else {
-            self.step_front(bits)
-        }
+        self.step_from(bits, W::REVERSED)
     }
 
     /// The same from the other end.
@@ -127,11 +114,7 @@ impl<P: FnMut(usize, &bool) -> bool, W: Way> Course<P, W> {
         ensures stays { StaysIn (left_on (seen bits.entry) self.old) result (left_on (seen bits.entry) self.new) }
         ensures piece { SplitNextBackIn P.FnMut W.INCLUSIVE W.REVERSED (left_on (seen bits.entry) self.old) result (left_on (seen bits.entry) self.new) }
     {
-        if W::REVERSED {
-            self.step_front(bits)
-        } else {
-            self.step_back(bits)
-        }
+        self.step_from(bits, !W::REVERSED)
     }
 
     /// All that is left, unasked, as a range of the view.

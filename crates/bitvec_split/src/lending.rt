@@ -21,7 +21,7 @@ pub struct SplitsMut<'a, T: BitStore, O: BitOrder, P, W> {
     pub(crate) elements: &'a mut [T],
     pub(crate) head: usize,
     pub(crate) len: usize,
-    course: Course<P, W>,
+    pub(crate) course: Course<P, W>,
     found: Range<usize>,
     mark: PhantomData<(O, &'a mut T)>,
     ghost inside: { head + len ≤ T.BITS * length elements.now },

@@ -3,8 +3,7 @@ ghost use Rattle.std.specs.Prelude.{◌≡◌, ◌<◌, IfSome, Some, option_map
 ghost use Rattle.std.specs.Iterator.{UpTo, at_most};
 ghost use Rattle.std.specs.Iterator.SizeHint.{IsWithinCount};
 
-use crate::asking::{ask_down, ask_up};
-use crate::ways::{asked_behind, end_of};
+use crate::rows::{ask_row, cut_row};
 use crate::{Forward, Inclusive, Reversed, Way};
 use bitvec_slice::BitSlice;
 use bitvec_slice::base::BitOrder;
@@ -36,7 +35,7 @@ pub type RSplit<'a, T, O, P> = Splits<'a, T, O, P, Reversed>;
 
 impl<'a, T: BitStore, O: BitOrder, P: FnMut(usize, &bool) -> bool, W: Way> Splits<'a, T, O, P, W> {
     ghost use Rattle.bitvec_slice.specs.Views.{seen};
-    ghost use Rattle.bitvec_split.specs.Splits.{MayGoOn, SplitRest, SplitStep, back, front, least, most, unsplit};
+    ghost use Rattle.bitvec_split.specs.Splits.{MayGoOn, SplitRest, SplitStep, least, most, row_of, unsplit};
     ghost use Rattle.bitvec_split.specs.Views.{left_of};
 
     /// The pieces of a view, which last as long as what it borrows. The crate has no such call.
@@ -73,11 +72,11 @@ impl<'a, T: BitStore, O: BitOrder, P: FnMut(usize, &bool) -> bool, W: Way> Split
         Some(self.rest)
     }
 
-    // The next piece from the front of what is left.
+    // The next piece from the front of what is left, or from the back.
     #[tactic(auto, using(crate::specs::AskedLaws::may_ask_of_fewer, crate::specs::AskedLaws::may_ask_either))]
-    fn next_front(&mut self) -> Option<BitSlice<'a, T, O>>
+    fn next_from(&mut self, back: bool) -> Option<BitSlice<'a, T, O>>
         requires { MayGoOn P.FnMut (left_of self.old) }
-        ensures piece { SplitStep T.BITS P.FnMut W.INCLUSIVE (front W.INCLUSIVE (left_of self.old).rest.window.len) (left_of self.old) (option_map seen result) (left_of self.new) }
+        ensures piece { SplitStep T.BITS P.FnMut W.INCLUSIVE (row_of W.INCLUSIVE back (left_of self.old).rest.window.len) (left_of self.old) (option_map seen result) (left_of self.new) }
         ensures callable { MayGoOn P.FnMut (left_of self.new) }
         ensures fewer { IfSome result (λ _. most (left_of self.new) < most (left_of self.old)) }
     {
@@ -85,34 +84,14 @@ impl<'a, T: BitStore, O: BitOrder, P: FnMut(usize, &bool) -> bool, W: Way> Split
             return None;
         }
         let rest = self.rest;
-        let Some(index) = ask_up(rest, &mut self.pred) else {
+        let Some(index) = ask_row::<W, T, O, P>(rest, back, &mut self.pred) else {
             self.finished = true;
             return Some(rest);
         };
-        self.rest = rest.into_part(index + 1..rest.len());
+        let (piece, left) = cut_row::<W>(rest.len(), back, index);
+        self.rest = rest.into_part(left);
         self.finished = W::INCLUSIVE && self.rest.is_empty();
-        Some(rest.into_part(0..end_of::<W>(index)))
-    }
-
-    // The next piece from the back of what is left.
-    #[tactic(auto, using(crate::specs::AskedLaws::may_ask_of_fewer, crate::specs::AskedLaws::may_ask_either))]
-    fn next_last(&mut self) -> Option<BitSlice<'a, T, O>>
-        requires { MayGoOn P.FnMut (left_of self.old) }
-        ensures piece { SplitStep T.BITS P.FnMut W.INCLUSIVE (back W.INCLUSIVE (left_of self.old).rest.window.len) (left_of self.old) (option_map seen result) (left_of self.new) }
-        ensures callable { MayGoOn P.FnMut (left_of self.new) }
-        ensures fewer { IfSome result (λ _. most (left_of self.new) < most (left_of self.old)) }
-    {
-        if self.finished {
-            return None;
-        }
-        let rest = self.rest;
-        let asked = asked_behind::<W>(rest.len());
-        let Some(index) = ask_down(rest, asked, &mut self.pred) else {
-            self.finished = true;
-            return Some(rest);
-        };
-        self.rest = rest.into_part(0..end_of::<W>(index));
-        Some(rest.into_part(index + 1..rest.len()))
+        Some(rest.into_part(piece))
     }
 }
 
@@ -131,11 +110,7 @@ impl<'a, T: BitStore, O: BitOrder, P: FnMut(usize, &bool) -> bool, W: Way> Itera
     ghost remaining = { λ s. at_most (most (left_of s)) };
 
     fn next(&mut self) -> Option<BitSlice<'a, T, O>> {
-        if W::REVERSED {
-            self.next_last()
-        } else {
-            self.next_front()
-        }
+        self.next_from(W::REVERSED)
     }
 
     fn size_hint(&self) -> (usize, Option<usize>)
@@ -159,10 +134,6 @@ impl<'a, T: BitStore, O: BitOrder, P: FnMut(usize, &bool) -> bool, W: Way> Doubl
     ghost next_back_gives = { λ s r t. SplitNextBack T.BITS P.FnMut W.INCLUSIVE W.REVERSED (left_of s) (option_map seen r) (left_of t) };
 
     fn next_back(&mut self) -> Option<BitSlice<'a, T, O>> {
-        if W::REVERSED {
-            self.next_front()
-        } else {
-            self.next_last()
-        }
+        self.next_from(!W::REVERSED)
     }
 }

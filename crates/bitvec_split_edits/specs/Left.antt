@@ -1,10 +1,9 @@
 -- What is left of a view while its pieces are edited in place.
-use Rattle.std.specs.Prelude.{◌≡◌, ℕ, ◌+◌, ◌-◌, ◌<◌, ◌≤◌, ◌⊎◌, Bool, true, false, MatchOption, Option, if◌then◌else◌}
+use Rattle.std.specs.Prelude.{◌≡◌, ℕ, ◌+◌, ◌-◌, ◌<◌, ◌≤◌, ◌⊎◌, true, false, MatchOption, Option, if◌then◌else◌}
 use Rattle.std.specs.declared.ops.Range.{Range}
 use Rattle.bitvec_pieces.specs.slice.Seen.{Seen}
 use Rattle.bitvec_pieces.specs.Shown.{Shown}
 use Rattle.bitvec_split.specs.Lent.{CountedIn, LeftIn}
-use Rattle.bitvec_split.specs.Splits.{asked_behind}
 use Rattle.bitvec_split_edits.specs.declared.left.ToSplit.{ToSplit}
 
 -- as a split has it of the view
@@ -22,10 +21,6 @@ pub record IsLeftOf (view : Shown) (left : ToSplit) : Type 0 where
 -- how many pieces it may still give
 abbrev pub most_left : ToSplit → ℕ
 most_left left = if left.finished then 0 else left.to - left.from + 1
-
--- how many of n bits a call asks about at most
-abbrev pub asked_of : Bool → Bool → ℕ → ℕ
-asked_of inclusive reversed n = if reversed then asked_behind inclusive n else n
 
 -- of what was left one range is the piece, and another, beside it, is left for fewer pieces
 pub record TakesFrom (before : ToSplit) (piece : Range ℕ) (after : ToSplit) : Type 0 where

@@ -5,13 +5,13 @@ ghost use Rattle.bitvec_pieces.specs.slice.Indices.{HasRange};
 ghost use Rattle.bitvec_pieces.specs.slice.Seen.{Seen};
 ghost use Rattle.bitvec_split.specs.Asked.{Asked, MayAsk};
 ghost use Rattle.bitvec_split.specs.Lent.{CountedNextIn, MayGoOnIn, SplitNextIn, unsplit_in};
-ghost use Rattle.bitvec_split.specs.Splits.{row_of};
-ghost use Rattle.bitvec_split_edits.specs.Left.{IsLeftOf, TakesFrom, asked_of, counted_at, left_at};
+ghost use Rattle.bitvec_split.specs.Splits.{asked_of, row_of};
+ghost use Rattle.bitvec_split_edits.specs.Left.{IsLeftOf, TakesFrom, counted_at, left_at};
 ghost use Rattle.bitvec_split_edits.specs.SplitEdits.{EditsGiven, IsSeenOf, MayEditGiven};
 
 use crate::ToSplit;
 use bitvec_pieces::{EditParts, Inside};
-use bitvec_split::{Forward, Inclusive, Reversed, Way, end_of};
+use bitvec_split::{Forward, Inclusive, Reversed, Way, cut_row};
 use std::ops::Range;
 
 /// Edits of the pieces of a writable view that a predicate splits, by closures, which take the view
@@ -71,15 +71,11 @@ pub trait EditSplits<T>: EditParts {
             left.finished = true;
             return Some(from..to);
         };
-        let piece = if W::REVERSED {
-            left.to = from + end_of::<W>(index);
-            from + index + 1..to
-        } else {
-            left.from = from + index + 1;
-            from..from + end_of::<W>(index)
-        };
+        let (piece, rest) = cut_row::<W>(to - from, W::REVERSED, index);
+        left.from = from + rest.start;
+        left.to = from + rest.end;
         left.finished = W::INCLUSIVE && left.from == left.to;
-        Some(piece)
+        Some(from + piece.start..from + piece.end)
     }
 
     /// Calls `edit` on each piece of a split in turn, and its number. Conditions: `pred` may be asked

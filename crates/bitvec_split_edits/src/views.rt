@@ -6,7 +6,7 @@ use crate::EditSplits;
 use bitvec_pieces::base::BitOrder;
 use bitvec_pieces::slice::BitSliceMut;
 use bitvec_pieces::store::BitStore;
-use bitvec_split::{Way, ask_down, ask_up, asked_behind};
+use bitvec_split::{Way, ask_row};
 use std::ops::Range;
 
 impl<'a, T: BitStore, O: BitOrder> EditSplits<T> for BitSliceMut<'a, T, O> {
@@ -19,11 +19,6 @@ impl<'a, T: BitStore, O: BitOrder> EditSplits<T> for BitSliceMut<'a, T, O> {
         range: Range<usize>,
         pred: &mut P,
     ) -> Option<usize> {
-        let bits = self.as_ref().into_part(range);
-        if W::REVERSED {
-            ask_down(bits, asked_behind::<W>(bits.len()), pred)
-        } else {
-            ask_up(bits, pred)
-        }
+        ask_row::<W, T, O, P>(self.as_ref().into_part(range), W::REVERSED, pred)
     }
 }

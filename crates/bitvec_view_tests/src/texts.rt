@@ -1,9 +1,10 @@
 //! What views and splits print.
 
 use bitvec_owned::query::base::{Lsb0, Msb0};
-use bitvec_owned::query::slice::BitSlice;
-use bitvec_split::SplitCalls;
+use bitvec_owned::query::slice::{BitSlice, BitSliceMut};
+use bitvec_split::{SplitCalls, SplitCallsMut};
 use bitvec_text::{Binary, LowerHex, Octal, UpperHex};
+use std::alloc::Global;
 use std::test::Fail;
 
 #[test]
@@ -95,6 +96,46 @@ fn splits(rt: HostRuntime) -> Result<(), Fail> {
     assert_eq!(rt;
         format!(in rt.alloc(); "{counted:?}")?.as_str(),
         "SplitsN([0, 1, 0, 0], 1)"
+    );
+    Ok(())
+}
+
+/// The text of a split that lends, once `found` pieces were found.
+fn text_of_split(alloc: Global, bytes: &mut [u8; 1], found: usize) -> Result<String, Fail> {
+    let mut view = BitSliceMut::<u8, Lsb0>::from_slice_mut(bytes).into_part(0..6);
+    let mut split = view.split_mut(|_, bit| *bit);
+    for _ in 0..found {
+        let _some = split.advance();
+    }
+    Ok(format!(in alloc; "{split:?}")?)
+}
+
+/// The text of a counted split that lends, once its first piece from the end was found.
+fn text_of_counted(alloc: Global, bytes: &mut [u8; 1]) -> Result<String, Fail> {
+    let mut view = BitSliceMut::<u8, Lsb0>::from_slice_mut(bytes).into_part(0..6);
+    let mut counted = view.rsplitn_mut(2, |_, bit| *bit);
+    let _some = counted.advance();
+    Ok(format!(in alloc; "{counted:?}")?)
+}
+
+#[test]
+fn splits_that_lend(rt: HostRuntime) -> Result<(), Fail> {
+    let mut bytes = [0b0001_0010u8];
+    assert_eq!(rt;
+        text_of_split(rt.alloc(), &mut bytes, 0)?.as_str(),
+        "SplitsMut([0, 1, 0, 0, 1, 0])"
+    );
+    assert_eq!(rt;
+        text_of_split(rt.alloc(), &mut bytes, 1)?.as_str(),
+        "SplitsMut([0, 0, 1, 0])"
+    );
+    assert_eq!(rt;
+        text_of_split(rt.alloc(), &mut bytes, 3)?.as_str(),
+        "SplitsMut([])"
+    );
+    assert_eq!(rt;
+        text_of_counted(rt.alloc(), &mut bytes)?.as_str(),
+        "SplitsNMut([0, 1, 0, 0], 1)"
     );
     Ok(())
 }

@@ -12,8 +12,8 @@ invariant-loop-test g l =
     let xs = g.C.CellsRead.numbers l.fn.left in
     let ys = g.D.CellsRead.numbers l.fn.right in
     record {
-      same : same_bits (list_in b at xs (window_after (l.test * 32 * b) l.left_window)) (list_in b at ys (window_after (l.test * 32 * b) l.right_window))
+      same : same_bits (list_in b at xs (window_after (l.test * l.span * b) l.left_window)) (list_in b at ys (window_after (l.test * l.span * b) l.right_window))
           ≡ same_bits (list_in b at xs l.left_window) (list_in b at ys l.right_window);
-      reads : OnlyReads g.C.CellsRead l.fn.left l.left (l.test * 32);
-      right : OnlyReads g.D.CellsRead l.fn.right l.right (l.test * 32);
+      reads : OnlyReads g.C.CellsRead l.fn.left l.left (l.test * l.span);
+      right : OnlyReads g.D.CellsRead l.fn.right l.right (l.test * l.span);
     }

@@ -1,0 +1,57 @@
+use Rattle.std.proofs.Common.{◌≡◌, ◌≤◌, ℕ, ◌-◌, arith, rules, ap, sym, ◌∙◌, take}
+use Rattle.std.proofs.Math.Nat.{min-eq_right}
+use Rattle.bitvec_words.specs.base.Memory.{list_in}
+use Rattle.bitvec_words.specs.base.Parts.{first_part_of}
+use Rattle.bitvec_words.specs.base.Window.{window_after}
+use Rattle.bitvec_words.specs.base.WritesLaws.{Writes-is, length-list}
+use Rattle.bitvec_segments.specs.Segments.{stored_be}
+use Rattle.bitvec_segments.specs.StoreLaws.{length-stored_be}
+use Rattle.bitvec_words.specs.store.WidthLaws.{width_some}
+use Rattle.bitvec_words.specs.walk.WalkLaws.{Walked-start, Walked-next, Writes-none_passed, edge_loads-next, touched-next, touched-none}
+use Rattle.bitvec_segments.proofs.WalkLemmas.{LeftBe-next, LeftBe-start, Writes-all, Writes-next_be, edge-len, whole-elements, whole-less, whole-some}
+use Rattle.bitvec_segments.proofs.whole.store_whole_be.Goals as goal
+
+pub loop-rest-init : goal.loop-rest-init
+loop-rest-init g c =
+    let window = c.args.window in
+    let target = stored_be g.O.WordOrder.HIGH g.C.Elem.BitStore.BITS window.start c.args.number (list_in g.C.Elem.BitStore.BITS g.O.BitOrder.at (g.C.CellsRead.numbers c.args.cells.now) window) in
+    let none : window.start - window.start ≡ 0 = omega arith in
+    let empty = touched-none g.C.Elem.BitStore.BITS window.start in
+    let at_edge = whole-elements g.C.Elem.BitStore.BITS window.start c.requires.edge in
+    record {
+      edge = rw c.BITS-bits.ensures at_edge;
+      whole = c.requires.whole;
+      walk = Walked-start _ _;
+      writes = Writes-is _ _ _ _ _ _ _ (Writes-none_passed _ _ _ _ c.requires.window) (ap (λ (n : ℕ). take n target) (sym none));
+      left = LeftBe-start _ _ _ window _;
+      cost = search rules;
+    }
+
+pub loop-rest-preserved : goal.loop-rest-preserved
+loop-rest-preserved g c =
+    let inv = c.loop-rest.invariant in
+    let more = c.loop-rest-test.true in
+    let b = g.C.Elem.BitStore.BITS in
+    let window = c.args.window in
+    let rest = c.loop-rest.rest in
+    let some = width_some _ g.met.C.Elem.BitStore.width_law in
+    let part : c.whole_part-part.result ≡ first_part_of b rest = c.whole_part-part.ensures ∙ ap (λ (n : ℕ). first_part_of n rest) c.BITS-bits.ensures in
+    let all : b ≤ rest.len = whole-some b rest.len more inv.whole in
+    let step : b ≡ (first_part_of b rest).to - (first_part_of b rest).from = sym (min-eq_right all) ∙ edge-len b c.loop-rest.element rest some inv.edge in
+    let after : c.after-rest.result ≡ window_after b rest = c.after-rest.ensures ∙ ap (λ (n : ℕ). window_after n rest) c.BITS-bits.ensures in
+    let edges = edge_loads-next b window rest b some more step inv.walk in
+    let each = touched-next b window rest b some more (omega arith) (omega arith) inv.walk in
+    let stored = rw (part, after) at c.store_part_number.ensures in
+    rw after (record {
+      edge = omega arith;
+      whole = whole-less b rest.len all inv.whole;
+      walk = Walked-next _ _ _ _ some more step inv.walk;
+      writes = Writes-next_be _ _ _ _ window rest _ _ _ some more step c.requires.window inv.walk _ _ inv.writes inv.left stored.writes;
+      left = LeftBe-next _ _ _ _ window rest _ _ _ some more step c.requires.window inv.walk inv.left;
+      cost = record { borrow = search rules; loads = omega arith; stores = omega arith };
+    })
+
+pub returns-clause-writes : goal.returns-clause-writes
+returns-clause-writes g c =
+    let none = c.loop-rest-test.false in
+    Writes-all _ _ _ _ _ _ _ (omega arith) (length-stored_be _ _ _ _ _ ∙ length-list _ _ _ _ c.requires.window) c.loop-rest.invariant.walk c.loop-rest.invariant.writes

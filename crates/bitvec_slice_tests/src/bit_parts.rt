@@ -1,0 +1,174 @@
+//! What a caller knows of the parts of a view that is cut at the edges of elements.
+ghost use Rattle.std.specs.Prelude.{◌≡◌, ◌≤◌, ℕ, count_by};
+ghost use Rattle.std.specs.Option.{option_map};
+ghost use Rattle.bitvec_edit.specs.domain.Cuts.{cut_of};
+ghost use Rattle.bitvec_query.specs.slice.Domains.{enclave_view, region_views, views_in};
+ghost use Rattle.bitvec_query.specs.slice.Views.{seen, seen_mut};
+
+use bitvec_edit::BitEdits;
+use bitvec_query::BitQueries;
+use bitvec_query::base::{BitOrder, Lsb0, Msb0};
+use bitvec_query::engine::SliceOrder;
+use bitvec_query::slice::{BitSlice, BitSliceMut};
+use bitvec_query::store::BitStore;
+
+/// How many bits a view has, where it touches neither edge of the one element that it lies in.
+fn enclave_len<T: BitStore, O: BitOrder>(view: BitSlice<'_, T, O>) -> Option<usize>
+    ensures { let cut = views_in T.BITS O.at T.value (seen view.entry).elements (cut_of T.BITS (seen view.entry).window) in
+        result ≡ option_map (λ part. part.window.len) (enclave_view cut) }
+{
+    match view.bit_domain().enclave() {
+        Some(part) => Some(part.len()),
+        None => None,
+    }
+}
+
+/// The same of a writable view.
+fn enclave_len_mut<T: BitStore, O: BitOrder>(view: &mut BitSliceMut<'_, T, O>) -> Option<usize>
+    ensures { let cut = views_in T.BITS O.at T.value (seen_mut view.old).elements (cut_of T.BITS (seen_mut view.old).window) in
+        result ≡ option_map (λ part. part.window.len) (enclave_view cut) }
+{
+    match view.bit_domain_mut().enclave() {
+        Some(part) => Some(part.len()),
+        None => None,
+    }
+}
+
+/// How many bits the head, the body and the tail of a region have.
+fn region_lens<T: BitStore, O: BitOrder>(view: BitSlice<'_, T, O>) -> Option<(usize, usize, usize)>
+    ensures { let cut = views_in T.BITS O.at T.value (seen view.entry).elements (cut_of T.BITS (seen view.entry).window) in
+        option_map {U = ℕ × (ℕ × ℕ)} (λ lens. (lens.0, (lens.1, lens.2))) result
+        ≡ option_map {U = ℕ × (ℕ × ℕ)} (λ parts. (parts.0.window.len, (parts.1.0.window.len, parts.1.1.window.len))) (region_views cut) }
+{
+    match view.bit_domain().region() {
+        Some((head, body, tail)) => Some((head.len(), body.len(), tail.len())),
+        None => None,
+    }
+}
+
+/// The same of a writable view.
+fn region_lens_mut<T: BitStore, O: BitOrder>(
+    view: &mut BitSliceMut<'_, T, O>,
+) -> Option<(usize, usize, usize)>
+    ensures { let cut = views_in T.BITS O.at T.value (seen_mut view.old).elements (cut_of T.BITS (seen_mut view.old).window) in
+        option_map {U = ℕ × (ℕ × ℕ)} (λ lens. (lens.0, (lens.1, lens.2))) result
+        ≡ option_map {U = ℕ × (ℕ × ℕ)} (λ parts. (parts.0.window.len, (parts.1.0.window.len, parts.1.1.window.len))) (region_views cut) }
+{
+    match view.bit_domain_mut().region() {
+        Some((head, body, tail)) => Some((head.len(), body.len(), tail.len())),
+        None => None,
+    }
+}
+
+/// How many bits are 1, added up over the parts.
+fn ones_by_parts<T: BitStore, O: SliceOrder>(view: BitSlice<'_, T, O>) -> usize
+    ensures { result ≡ count_by (λ bit. bit) (seen view.entry).bits }
+{
+    let mut ones = 0;
+    for part in view.bit_domain() {
+        ones += part.count_ones();
+    }
+    ones
+}
+
+/// The same of a writable view.
+fn ones_by_parts_mut<T: BitStore, O: SliceOrder>(view: &mut BitSliceMut<'_, T, O>) -> usize
+    ensures { result ≡ count_by (λ bit. bit) (seen_mut view.old).bits }
+{
+    let mut ones = 0;
+    for part in view.bit_domain_mut() {
+        ones += part.count_ones();
+    }
+    ones
+}
+
+/// A view of a range of three bytes.
+fn range_of(cells: &[u8; 3], from: usize, to: usize) -> BitSlice<'_, u8, Msb0>
+    requires order { from ≤ to }
+    requires bound { to ≤ 24 }
+{
+    BitSlice::from_slice(cells).into_part(from..to)
+}
+
+/// How many bits the one part of a range of three bytes has, or each of the three.
+fn lens_mut(
+    cells: &mut [u8; 3],
+    from: usize,
+    to: usize,
+) -> (Option<usize>, Option<(usize, usize, usize)>)
+    requires order { from ≤ to }
+    requires bound { to ≤ 24 }
+{
+    let mut view = BitSliceMut::<u8, Msb0>::from_slice_mut(cells).into_part(from..to);
+    let inside = enclave_len_mut(&mut view);
+    (inside, region_lens_mut(&mut view))
+}
+
+/// How many bits of a range of three bytes are 1, added up over its writable parts.
+fn ones_mut(cells: &mut [u8; 3], from: usize, to: usize) -> usize
+    requires order { from ≤ to }
+    requires bound { to ≤ 24 }
+{
+    let mut view = BitSliceMut::<u8, Msb0>::from_slice_mut(cells).into_part(from..to);
+    ones_by_parts_mut(&mut view)
+}
+
+#[test]
+fn an_enclave_is_a_part_within_one_element(rt: HostRuntime) {
+    let mut cells = [0x0Fu8, 0x12, 0x80];
+    assert_eq!(rt; enclave_len(range_of(&cells, 9, 15)), Some(6));
+    assert_eq!(rt; enclave_len(range_of(&cells, 8, 15)), None);
+    assert_eq!(rt; enclave_len(range_of(&cells, 4, 17)), None);
+    assert_eq!(rt; region_lens(range_of(&cells, 9, 15)), None);
+    assert_eq!(rt; region_lens(range_of(&cells, 8, 15)), Some((0, 0, 7)));
+    assert_eq!(rt; region_lens(range_of(&cells, 4, 17)), Some((4, 8, 1)));
+    assert_eq!(rt; region_lens(range_of(&cells, 5, 5)), Some((0, 0, 0)));
+    assert_eq!(rt; lens_mut(&mut cells, 1, 7), (Some(6), None));
+    assert_eq!(rt; lens_mut(&mut cells, 4, 23), (None, Some((4, 8, 7))));
+}
+
+#[test]
+fn the_ones_of_the_parts_are_those_of_the_view(rt: HostRuntime) {
+    let mut cells = [0x0Fu8, 0x12, 0x80];
+    assert_eq!(rt; ones_by_parts(range_of(&cells, 4, 17)), 7);
+    assert_eq!(rt; ones_by_parts(range_of(&cells, 9, 12)), 1);
+    assert_eq!(rt; ones_by_parts(range_of(&cells, 3, 3)), 0);
+    assert_eq!(rt; ones_mut(&mut cells, 5, 16), 5);
+    assert_eq!(rt; ones_mut(&mut cells, 9, 12), 1);
+}
+
+/// Fills the last part, and then flips the first of those that are left.
+fn fill_some(cells: &mut [u8; 3], from: usize, to: usize)
+    requires order { from ≤ to }
+    requires bound { to ≤ 24 }
+{
+    let mut view = BitSliceMut::<u8, Lsb0>::from_slice_mut(cells).into_part(from..to);
+    let mut parts = view.bit_domain_mut().parts();
+    if let Some(mut last) = parts.next_back() {
+        last.fill(true);
+    }
+    if let Some(mut first) = parts.next() {
+        first.invert();
+    }
+}
+
+#[test]
+fn parts_come_from_both_ends(rt: HostRuntime) {
+    let mut cells = [0u8; 3];
+    fill_some(&mut cells, 4, 20);
+    assert_eq!(rt; cells, [0xF0, 0, 0x0F]);
+    let mut cells = [0xFFu8; 3];
+    fill_some(&mut cells, 4, 24);
+    assert_eq!(rt; cells, [0x0F, 0xFF, 0xFF]);
+    let mut cells = [0u8; 3];
+    fill_some(&mut cells, 9, 12);
+    assert_eq!(rt; cells, [0, 0x0E, 0]);
+}
+
+#[test]
+fn each_part_comes_also_where_it_is_empty(rt: HostRuntime) {
+    let cells = [0u8; 3];
+    assert_eq!(rt; range_of(&cells, 5, 5).bit_domain().parts().count(), 3);
+    assert_eq!(rt; range_of(&cells, 0, 24).bit_domain().parts().count(), 3);
+    assert_eq!(rt; range_of(&cells, 9, 12).bit_domain().parts().count(), 1);
+}

@@ -1,0 +1,51 @@
+//! The texts of splits that lend their pieces.
+ghost use Rattle.std.specs.Prelude.{◌++◌, Some, codes};
+ghost use Rattle.std.specs.Fmt.{WritesOnOk, debug_variant, decimal};
+ghost use Rattle.bitvec_slice.specs.traits.Listing.{bits_text, comma};
+ghost use Rattle.bitvec_split.specs.Lent.{uncut_in};
+
+use crate::course::look;
+use crate::{SplitsMut, SplitsNMut};
+use bitvec_slice::base::BitOrder;
+use bitvec_slice::store::BitStore;
+use bitvec_slice::write_named;
+use std::fmt;
+
+/// The bits that no piece has yet, as `SplitsMut([0, 1, 0])`: none once the last piece was found.
+impl<'a, T: BitStore, O: BitOrder, P, W> fmt::Debug for SplitsMut<'a, T, O, P, W> {
+    ghost use Rattle.bitvec_split.specs.LentViews.{left_in};
+
+    ghost debug_output = { λ s. debug_variant (codes "SplitsMut") (Some (bits_text (uncut_in (left_in s)))) };
+
+    fn fmt<V: fmt::Write>(&self, f: &mut fmt::Formatter<V>) -> fmt::Result {
+        let bits = look::<T, O>(&self.elements, self.head, self.len);
+        write_named("SplitsMut", self.course.uncut(bits), f)
+    }
+}
+
+/// The bits that no piece has yet, and how many pieces may come, as `SplitsNMut([0, 1, 0], 2)`.
+impl<'a, T: BitStore, O: BitOrder, P, W> fmt::Debug for SplitsNMut<'a, T, O, P, W> {
+    ghost use Rattle.bitvec_split.specs.LentViews.{counted_in};
+
+    ghost debug_output = { λ s. debug_variant (codes "SplitsNMut") (Some (bits_text (uncut_in (counted_in s).left) ++ (comma ++ decimal (counted_in s).count))) };
+
+    fn fmt<V: fmt::Write>(&self, f: &mut fmt::Formatter<V>) -> fmt::Result {
+        f.write_str("SplitsNMut")?;
+        f.write_str("(")?;
+        self.write_left(f)?;
+        f.write_str(")")
+    }
+}
+
+impl<'a, T: BitStore, O: BitOrder, P, W> SplitsNMut<'a, T, O, P, W> {
+    ghost use Rattle.bitvec_split.specs.LentViews.{counted_in};
+
+    fn write_left<V: fmt::Write>(&self, f: &mut fmt::Formatter<V>) -> fmt::Result
+        ensures { WritesOnOk V.write_str_gives f.old result (bits_text (uncut_in (counted_in self.now).left) ++ (comma ++ decimal (counted_in self.now).count)) f.new }
+    {
+        let bits = look::<T, O>(&self.elements, self.head, self.len);
+        fmt::Display::fmt(&self.course.uncut(bits), f)?;
+        f.write_str(", ")?;
+        fmt::Display::fmt(&self.count, f)
+    }
+}
