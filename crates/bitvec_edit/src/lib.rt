@@ -17,17 +17,17 @@ pub mod cells {
     pub use bitvec_slice::cells::{Cells, CellsRead, Exclusive, Shared, fits_max_bits, has_window};
 }
 
-/// What crates above name of `bitvec_combine`.
+/// The operators of `bitvec_combine` that crates above name.
 pub mod combine {
     pub use bitvec_slice::combine::combine;
 }
 
-/// What crates above name of `bitvec_compare`.
+/// The comparison of `bitvec_combine` that crates above name.
 pub mod comparisons {
     pub use bitvec_slice::comparisons::equal;
 }
 
-/// What crates above name of `bitvec_copy`.
+/// The copies of `bitvec_move` that crates above name.
 pub mod copy {
     pub use bitvec_slice::copy::{copy, copy_within};
 }
@@ -62,7 +62,7 @@ pub mod engine {
     };
 }
 
-/// What crates above name of `bitvec_exchange`.
+/// The exchanges of `bitvec_move` that crates above name.
 pub mod exchange {
     pub use bitvec_slice::exchange::{reverse, swap};
 }

@@ -37,17 +37,17 @@ pub mod cells {
     };
 }
 
-/// What crates above name of `bitvec_combine`.
+/// The operators of `bitvec_combine` that crates above name.
 pub mod combine {
     pub use bitvec_engine::combine::combine;
 }
 
-/// What crates above name of `bitvec_compare`.
+/// The comparison of `bitvec_combine` that crates above name.
 pub mod comparisons {
     pub use bitvec_engine::comparisons::equal;
 }
 
-/// What crates above name of `bitvec_copy`.
+/// The copies of `bitvec_move` that crates above name.
 pub mod copy {
     pub use bitvec_engine::copy::{copy, copy_within};
 }
@@ -63,7 +63,7 @@ pub mod engine {
     };
 }
 
-/// What crates above name of `bitvec_exchange`.
+/// The exchanges of `bitvec_move` that crates above name.
 pub mod exchange {
     pub use bitvec_engine::exchange::{reverse, swap};
 }

@@ -2,16 +2,16 @@
 use Rattle.std.specs.Prelude.{◌≡◌, ℕ, ◌+◌, ◌-◌, ◌%◌, ◌^◌, ◌<◌, ◌≤◌, Bool, cond, List, ◌++◌, count_by, count_ones, slice_index, refl}
 use Rattle.std.proofs.Common.{sym, ◌∙◌, ap}
 use Rattle.std.proofs.lemmas.List.Sums.{sum_by-append}
-use Rattle.bitvec_copy.specs.base.CountLaws.{ones_within}
-use Rattle.bitvec_copy.specs.base.declared.window.Window.{Window}
-use Rattle.bitvec_copy.specs.base.Memory.{HasWindow, element_bits, list_in}
-use Rattle.bitvec_copy.specs.base.Order.{Permutes}
-use Rattle.bitvec_copy.specs.base.Parts.{first_part_of, part_window}
-use Rattle.bitvec_copy.specs.base.Window.{window_after}
-use Rattle.bitvec_copy.specs.base.WritesLaws.{length-list}
-use Rattle.bitvec_copy.specs.walk.ElementLaws.{element-count}
-use Rattle.bitvec_copy.specs.words.Elements.{elements_window, tail_of, whole_of}
-use Rattle.bitvec_copy.specs.words.FieldLaws.{list-element, list-head, list-tail}
+use Rattle.bitvec_move.specs.base.CountLaws.{ones_within}
+use Rattle.bitvec_move.specs.base.declared.window.Window.{Window}
+use Rattle.bitvec_move.specs.base.Memory.{HasWindow, element_bits, list_in}
+use Rattle.bitvec_move.specs.base.Order.{Permutes}
+use Rattle.bitvec_move.specs.base.Parts.{first_part_of, part_window}
+use Rattle.bitvec_move.specs.base.Window.{window_after}
+use Rattle.bitvec_move.specs.base.WritesLaws.{length-list}
+use Rattle.bitvec_move.specs.walk.ElementLaws.{element-count}
+use Rattle.bitvec_move.specs.words.Elements.{elements_window, tail_of, whole_of}
+use Rattle.bitvec_move.specs.words.FieldLaws.{list-element, list-head, list-tail}
 
 count-parts : (front rest whole : List Bool) (m n : ℕ) → front ++ rest ≡ whole → m ≡ count_by (λ (bit : Bool). bit) front → n ≡ count_by (λ (bit : Bool). bit) rest → m + n ≡ count_by (λ (bit : Bool). bit) whole
 count-parts front rest whole m n next first second =

@@ -1,13 +1,13 @@
 //! The same of two windows of any element widths and orders, bit by bit.
 ghost use Rattle.std.specs.Prelude.{◌≡◌, ◌+◌, ◌*◌, ◌-◌};
-ghost use Rattle.bitvec_copy.specs.base.Lists.{is_prefix, is_suffix, stands_in};
-ghost use Rattle.bitvec_copy.specs.base.Memory.{HasWindow, list_in};
-ghost use Rattle.bitvec_copy.specs.cells.Access.{OnlyReadsAtMost};
+ghost use Rattle.bitvec_move.specs.base.Lists.{is_prefix, is_suffix, stands_in};
+ghost use Rattle.bitvec_move.specs.base.Memory.{HasWindow, list_in};
+ghost use Rattle.bitvec_move.specs.cells.Access.{OnlyReadsAtMost};
 
 use crate::comparing::bits_eq;
-use bitvec_copy::base::{BitOrder, Window};
-use bitvec_copy::cells::CellsRead;
-use bitvec_copy::store::BitStore;
+use bitvec_move::base::{BitOrder, Window};
+use bitvec_move::cells::CellsRead;
+use bitvec_move::store::BitStore;
 
 /// Whether the needle's bits begin those of the window. Condition: as of [`starts_with`]. It loads at
 /// most once a bit of the needle and side.

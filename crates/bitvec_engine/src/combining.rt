@@ -1,15 +1,15 @@
 //! Each bit of a window with the one at its index in another.
 ghost use Rattle.std.specs.Prelude.{◌≡◌, ◌*◌, false, min, slice_index_or, nat_lt, if◌then◌else◌};
-ghost use Rattle.bitvec_copy.specs.base.Lists.{combined};
-ghost use Rattle.bitvec_copy.specs.base.Memory.{HasWindow, Writes, list_in};
-ghost use Rattle.bitvec_copy.specs.cells.Access.{Costs, OnlyReads};
-ghost use Rattle.bitvec_copy.specs.words.Operator.{operator};
+ghost use Rattle.bitvec_move.specs.base.Lists.{combined};
+ghost use Rattle.bitvec_move.specs.base.Memory.{HasWindow, Writes, list_in};
+ghost use Rattle.bitvec_move.specs.cells.Access.{Costs, OnlyReads};
+ghost use Rattle.bitvec_move.specs.words.Operator.{operator};
 
-use bitvec_copy::base::{BitOrder, Window};
-use bitvec_copy::cells::{Cells, CellsRead};
-use bitvec_copy::store::BitStore;
-use bitvec_copy::walk::{get_bit, replace_bit};
-use bitvec_copy::words::BitOp;
+use bitvec_move::base::{BitOrder, Window};
+use bitvec_move::cells::{Cells, CellsRead};
+use bitvec_move::store::BitStore;
+use bitvec_move::walk::{get_bit, replace_bit};
+use bitvec_move::words::BitOp;
 
 /// Replaces each bit of a window by what the operator makes of it and the one at its index in a
 /// window of another memory, of any element width and order, which counts as 0 past that window's

@@ -1,13 +1,13 @@
 //! The bits of a window copied to another place of it.
 ghost use Rattle.std.specs.Prelude.{◌≡◌, ℕ, ◌-◌, ◌*◌, ◌<◌, ◌≤◌, false, slice_set, slice_index_or};
-ghost use Rattle.bitvec_copy.specs.base.Lists.{FitsWithin, copied_within};
-ghost use Rattle.bitvec_copy.specs.base.Memory.{Edits, HasWindow, Writes, list_in};
-ghost use Rattle.bitvec_copy.specs.cells.Access.{Costs};
+ghost use Rattle.bitvec_move.specs.base.Lists.{FitsWithin, copied_within};
+ghost use Rattle.bitvec_move.specs.base.Memory.{Edits, HasWindow, Writes, list_in};
+ghost use Rattle.bitvec_move.specs.cells.Access.{Costs};
 
-use bitvec_copy::base::{BitOrder, Window};
-use bitvec_copy::cells::{Cells, CellsRead};
-use bitvec_copy::store::BitStore;
-use bitvec_copy::walk::{get_bit, replace_bit};
+use bitvec_move::base::{BitOrder, Window};
+use bitvec_move::cells::{Cells, CellsRead};
+use bitvec_move::store::BitStore;
+use bitvec_move::walk::{get_bit, replace_bit};
 
 /// Copies one bit of a window to another place of it.
 fn copy_bit<O: BitOrder, C: Cells>(cells: &mut C, window: Window, from: usize, dest: usize)

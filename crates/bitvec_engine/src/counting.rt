@@ -1,14 +1,14 @@
 //! How many bits of a window are 1, or 0.
 ghost use Rattle.std.specs.Prelude.{◌≡◌, ℕ, ◌+◌, ◌*◌, ◌/◌, ◌%◌, ◌<◌, ◌≤◌, not, count_by};
-ghost use Rattle.bitvec_copy.specs.base.Memory.{HasWindow, list_in};
-ghost use Rattle.bitvec_copy.specs.cells.Access.{OnlyReads};
-ghost use Rattle.bitvec_copy.specs.walk.Cost.{touched};
-ghost use Rattle.bitvec_copy.specs.words.Elements.{elements_window};
+ghost use Rattle.bitvec_move.specs.base.Memory.{HasWindow, list_in};
+ghost use Rattle.bitvec_move.specs.cells.Access.{OnlyReads};
+ghost use Rattle.bitvec_move.specs.walk.Cost.{touched};
+ghost use Rattle.bitvec_move.specs.words.Elements.{elements_window};
 
-use bitvec_copy::base::{BitOrder, Part, Window, first_part};
-use bitvec_copy::cells::CellsRead;
-use bitvec_copy::store::BitStore;
-use bitvec_copy::walk::count_part;
+use bitvec_move::base::{BitOrder, Part, Window, first_part};
+use bitvec_move::cells::CellsRead;
+use bitvec_move::store::BitStore;
+use bitvec_move::walk::count_part;
 
 /// How many bits of a window are 1. Condition: the memory has at most `MAX_BITS` bits, and the
 /// window lies in it. It loads each element that the window touches once.

@@ -1,16 +1,16 @@
 //! The first bits of a window as a word.
 ghost use Rattle.std.specs.Prelude.{◌≡◌, ◌+◌, ◌<◌, ◌≤◌, slice_range};
-ghost use Rattle.bitvec_copy.specs.base.Memory.{HasWindow, element_bits, list_in};
-ghost use Rattle.bitvec_copy.specs.cells.Access.{OnlyReads};
+ghost use Rattle.bitvec_move.specs.base.Memory.{HasWindow, element_bits, list_in};
+ghost use Rattle.bitvec_move.specs.cells.Access.{OnlyReads};
 ghost use Rattle.bitvec_engine.specs.Front.{IsFront, front_window};
-ghost use Rattle.bitvec_copy.specs.walk.Cost.{touched};
-ghost use Rattle.bitvec_copy.specs.words.Field.{padded};
+ghost use Rattle.bitvec_move.specs.walk.Cost.{touched};
+ghost use Rattle.bitvec_move.specs.words.Field.{padded};
 
-use bitvec_copy::base::{BitOrder, Lsb0, Part, Window, first_part};
-use bitvec_copy::cells::CellsRead;
-use bitvec_copy::store::BitStore;
-use bitvec_copy::words::{WORD_BITS, WordOrder, moved};
-use bitvec_exchange::load_elements;
+use bitvec_move::base::{BitOrder, Lsb0, Part, Window, first_part};
+use bitvec_move::cells::CellsRead;
+use bitvec_move::load_elements;
+use bitvec_move::store::BitStore;
+use bitvec_move::words::{WORD_BITS, WordOrder, moved};
 
 /// The first bits of a window as the first bits of a word, and how many they are: 64 where it begins
 /// with an element that isn't wider and has so many, else those of the first element, up to 64.

@@ -22,44 +22,44 @@ mod swapping;
 
 /// What crates above name of `bitvec_base`.
 pub mod base {
-    pub use bitvec_copy::base::{
+    pub use bitvec_move::base::{
         BitOrder, BitSpanError, HiLo, Lsb0, MAX_BITS, Msb0, Part, Window, first_part, last_part,
     };
 }
 
 /// What crates above name of `bitvec_cells`.
 pub mod cells {
-    pub use bitvec_copy::cells::{Cells, CellsRead, Exclusive, Shared, fits_max_bits, has_window};
+    pub use bitvec_move::cells::{Cells, CellsRead, Exclusive, Shared, fits_max_bits, has_window};
 }
 
-/// What crates above name of `bitvec_combine`.
+/// The operators of `bitvec_combine` that crates above name.
 pub mod combine {
     pub use bitvec_combine::combine;
 }
 
-/// What crates above name of `bitvec_compare`.
+/// The comparison of `bitvec_combine` that crates above name.
 pub mod comparisons {
-    pub use bitvec_compare::equal;
+    pub use bitvec_combine::equal;
 }
 
-/// What crates above name of `bitvec_copy`.
+/// The copies of `bitvec_move` that crates above name.
 pub mod copy {
-    pub use bitvec_copy::{copy, copy_within};
+    pub use bitvec_move::{copy, copy_within};
 }
 
-/// What crates above name of `bitvec_exchange`.
+/// The exchanges of `bitvec_move` that crates above name.
 pub mod exchange {
-    pub use bitvec_exchange::{reverse, swap};
+    pub use bitvec_move::{reverse, swap};
 }
 
 /// What crates above name of `bitvec_store`.
 pub mod store {
-    pub use bitvec_copy::store::BitStore;
+    pub use bitvec_move::store::BitStore;
 }
 
 /// What crates above name of `bitvec_cells`.
 pub mod walk {
-    pub use bitvec_copy::walk::{
+    pub use bitvec_move::walk::{
         count_part, fill_part, filled, first_in_element, first_in_part, invert_part,
         last_in_element, last_in_part, sought,
     };
@@ -67,15 +67,15 @@ pub mod walk {
 
 /// What crates above name of `bitvec_words`.
 pub mod words {
-    pub use bitvec_copy::words::{
+    pub use bitvec_move::words::{
         WORD_BITS, WordOrder, field, field_after, joined, load_field, merged, moved, reversed,
         same_between, store_field, store_part, toward_end, toward_start,
     };
 }
 
 pub use bit_needles::{bits_contains, bits_ends_with, bits_starts_with};
-pub use bitvec_copy::walk::{get_bit, replace_bit, swap_bits};
-pub use bitvec_copy::words::{BitOp, fill, invert};
+pub use bitvec_move::walk::{get_bit, replace_bit, swap_bits};
+pub use bitvec_move::words::{BitOp, fill, invert};
 pub use combining::bits_op;
 pub use comparing::{bits_eq, compare};
 pub use copying::bits_copy;

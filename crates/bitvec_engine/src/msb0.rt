@@ -6,13 +6,11 @@ ghost use Rattle.std.specs.Prelude.{refl, true};
 use crate::fronts::words_load_front;
 use crate::scanning_words::words_scan_first;
 use crate::slice_order::{ByWords, SliceOrder};
-use bitvec_combine::combine;
-use bitvec_compare::equal;
-use bitvec_copy::base::{Msb0, Window};
-use bitvec_copy::cells::{Cells, CellsRead};
-use bitvec_copy::words::{BitOp, reversed};
-use bitvec_copy::{copy, copy_within};
-use bitvec_exchange::{reverse, swap};
+use bitvec_combine::{combine, equal};
+use bitvec_move::base::{Msb0, Window};
+use bitvec_move::cells::{Cells, CellsRead};
+use bitvec_move::words::{BitOp, reversed};
+use bitvec_move::{copy, copy_within, reverse, swap};
 
 impl SliceOrder for Msb0 {
     ghost WORDS = { true };

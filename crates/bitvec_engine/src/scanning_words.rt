@@ -1,20 +1,20 @@
 //! Searches of a window by blocks of words.
 ghost use Rattle.std.specs.Prelude.{◌≡◌, ◌+◌, ◌*◌, ◌/◌, ◌%◌, ◌<◌, ◌≤◌, ◌++◌};
-ghost use Rattle.bitvec_copy.specs.base.Lists.{first_place};
-ghost use Rattle.bitvec_copy.specs.base.Memory.{HasWindow, element_bits, list_in};
-ghost use Rattle.bitvec_copy.specs.base.Window.{window_range};
-ghost use Rattle.bitvec_copy.specs.cells.Access.{OnlyReads, OnlyReadsAtMost};
-ghost use Rattle.bitvec_copy.specs.walk.Cost.{touched};
-ghost use Rattle.bitvec_copy.specs.words.Elements.{elements_window};
+ghost use Rattle.bitvec_move.specs.base.Lists.{first_place};
+ghost use Rattle.bitvec_move.specs.base.Memory.{HasWindow, element_bits, list_in};
+ghost use Rattle.bitvec_move.specs.base.Window.{window_range};
+ghost use Rattle.bitvec_move.specs.cells.Access.{OnlyReads, OnlyReadsAtMost};
+ghost use Rattle.bitvec_move.specs.walk.Cost.{touched};
+ghost use Rattle.bitvec_move.specs.words.Elements.{elements_window};
 
 use crate::fronts::words_load_front;
 use crate::scanning::bits_scan_first;
-use bitvec_copy::base::{BitOrder, Part, Window};
-use bitvec_copy::cells::CellsRead;
-use bitvec_copy::store::BitStore;
-use bitvec_copy::walk::{filled, first_in_element};
-use bitvec_copy::words::{WORD_BITS, WordOrder};
-use bitvec_exchange::load_elements;
+use bitvec_move::base::{BitOrder, Part, Window};
+use bitvec_move::cells::CellsRead;
+use bitvec_move::load_elements;
+use bitvec_move::store::BitStore;
+use bitvec_move::walk::{filled, first_in_element};
+use bitvec_move::words::{WORD_BITS, WordOrder};
 
 /// The bits of a block, which is four words.
 const BLOCK_BITS: usize = 4 * WORD_BITS;

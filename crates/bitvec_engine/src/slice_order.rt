@@ -1,18 +1,18 @@
 //! How an order works on whole windows.
 ghost use Rattle.std.specs.Prelude.{◌≡◌, ◌-◌, ◌<◌, Bool, reverse, true};
-ghost use Rattle.bitvec_copy.specs.base.Lists.{FitsWithin, combined, copied_within, first_place, last_place, same_bits};
-ghost use Rattle.bitvec_copy.specs.base.Memory.{Edits, HasWindow, Writes, element_bits, list_in};
-ghost use Rattle.bitvec_copy.specs.cells.Access.{CostsAtMost, OnlyReads, OnlyReadsAtMost};
+ghost use Rattle.bitvec_move.specs.base.Lists.{FitsWithin, combined, copied_within, first_place, last_place, same_bits};
+ghost use Rattle.bitvec_move.specs.base.Memory.{Edits, HasWindow, Writes, element_bits, list_in};
+ghost use Rattle.bitvec_move.specs.cells.Access.{CostsAtMost, OnlyReads, OnlyReadsAtMost};
 ghost use Rattle.bitvec_engine.specs.Front.{IsFront};
-ghost use Rattle.bitvec_copy.specs.words.Operator.{operator};
-ghost use Rattle.bitvec_copy.specs.walk.Cost.{edit_loads, equal_loads, first_loads, last_loads, read_loads, reverse_loads, reverse_stores, touched, write_loads, write_stores};
+ghost use Rattle.bitvec_move.specs.words.Operator.{operator};
+ghost use Rattle.bitvec_move.specs.walk.Cost.{edit_loads, equal_loads, first_loads, last_loads, read_loads, reverse_loads, reverse_stores, touched, write_loads, write_stores};
 
 use crate::fronts::{bits_load_front, bits_lowest_first};
 use crate::scanning::{bits_scan_first, bits_scan_last};
-use bitvec_copy::base::{BitOrder, Window};
-use bitvec_copy::cells::{Cells, CellsRead};
-use bitvec_copy::store::BitStore;
-use bitvec_copy::words::BitOp;
+use bitvec_move::base::{BitOrder, Window};
+use bitvec_move::cells::{Cells, CellsRead};
+use bitvec_move::store::BitStore;
+use bitvec_move::words::BitOp;
 
 /// A bit order with its way of working on whole windows.
 ///

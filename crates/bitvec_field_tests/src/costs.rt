@@ -1,8 +1,7 @@
 //! How many loads and stores a step with a number takes.
 use bitvec_field::base::Lsb0;
 use bitvec_field::cells::{Exclusive, Shared};
-use bitvec_run_fields::commands::{RunError, Window};
-use bitvec_run_fields::{FieldOp, FieldStep, run_fields};
+use bitvec_run::{FieldOp, FieldStep, RunError, Window, run_fields};
 use bitvec_test_support::Counted;
 use std::alloc::Allocator;
 use std::test::Fail;

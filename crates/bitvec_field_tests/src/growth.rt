@@ -1,8 +1,7 @@
 //! A run with numbers for whose replies there is no room.
 use bitvec_field::base::Lsb0;
 use bitvec_field::cells::{Exclusive, Shared};
-use bitvec_run_fields::commands::{Reply, RunError, Window};
-use bitvec_run_fields::{FieldOp, FieldStep, run_fields};
+use bitvec_run::{FieldOp, FieldStep, Reply, RunError, Window, run_fields};
 use std::alloc::Global;
 use std::mem::size_of;
 use test_streams::Refusing;

@@ -1,8 +1,7 @@
 //! Worked rows of runs with numbers.
 use bitvec_field::base::Lsb0;
 use bitvec_field::cells::{Exclusive, Shared};
-use bitvec_run_fields::commands::{Op, Refusal, Reply, Window};
-use bitvec_run_fields::{FieldOp, FieldStep, run_fields};
+use bitvec_run::{FieldOp, FieldStep, Op, Refusal, Reply, Window, run_fields};
 use std::test::Fail;
 
 fn step(from: usize, to: usize, op: FieldOp) -> FieldStep {

@@ -1,12 +1,12 @@
 -- One step of a run with numbers: refused for its range, or carried out as a command on the bits of its range.
 use Rattle.std.proofs.Common.{◌≡◌, ℕ, ◌+◌, ◌-◌, ◌≤◌, Bool, false, List, length, slice_range, refl, ap, sym, ◌∙◌}
 use Rattle.std.proofs.lemmas.Bool.{le-leb, and_from}
-use Rattle.bitvec_run_fields.specs.FieldRows.{field_list, field_outcome, field_reply, field_row, field_step_row}
-use Rattle.bitvec_run_fields.specs.commands.base.Window.{write_at}
-use Rattle.bitvec_run_fields.specs.commands.base.WriteLaws.{length-slice_range}
-use Rattle.bitvec_run_fields.specs.commands.declared.command.Refusal.TheVariants.{Range}
-use Rattle.bitvec_run_fields.specs.commands.Rows.{Row, on_range, outcome, range_lies, refused}
-use Rattle.bitvec_run_fields.specs.declared.field_step.FieldStep.{FieldStep}
+use Rattle.bitvec_run.specs.FieldRows.{field_list, field_outcome, field_reply, field_row, field_step_row}
+use Rattle.bitvec_run.specs.base.Window.{write_at}
+use Rattle.bitvec_run.specs.base.WriteLaws.{length-slice_range}
+use Rattle.bitvec_run.specs.declared.command.Refusal.TheVariants.{Range}
+use Rattle.bitvec_run.specs.Rows.{Row, on_range, outcome, range_lies, refused}
+use Rattle.bitvec_run.specs.declared.field_step.FieldStep.{FieldStep}
 use Rattle.bitvec_plain.proofs.Steps.{range-list, range-reply}
 use Rattle.bitvec_plain.specs.Field.{field_command_list, field_command_reply}
 

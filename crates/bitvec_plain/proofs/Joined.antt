@@ -3,9 +3,9 @@ use Rattle.std.proofs.Common.{◌≡◌, ℕ, ◌+◌, ◌-◌, ◌*◌, ◌%◌
 use Rattle.std.proofs.lemmas.Bool.Decides.{nat_tests}
 use Rattle.std.proofs.lemmas.List.{drop_all, take_rest}
 use Rattle.std.proofs.Math.Nat.{mod-eq_of_lt}
-use Rattle.bitvec_run_fields.specs.segments.LoadLaws.{loaded_be-below, loaded_be-first, loaded_be-none, loaded_le-below, loaded_le-first, loaded_le-none}
-use Rattle.bitvec_run_fields.specs.segments.Segments.{loaded_be, loaded_le, segment_number}
-use Rattle.bitvec_run_fields.specs.segments.SegmentsLaws.{first_len}
+use Rattle.bitvec_run.specs.segments.LoadLaws.{loaded_be-below, loaded_be-first, loaded_be-none, loaded_le-below, loaded_le-first, loaded_le-none}
+use Rattle.bitvec_run.specs.segments.Segments.{loaded_be, loaded_le, segment_number}
+use Rattle.bitvec_run.specs.segments.SegmentsLaws.{first_len}
 use Rattle.bitvec_plain.proofs.Sums.{below_128}
 
 -- a number of no bits

@@ -2,11 +2,11 @@
 use Rattle.std.proofs.Common.{◌≡◌, ℕ, ◌+◌, ◌-◌, ◌≤◌, Bool, List, [], length, nat_le, sym, ap, ◌∙◌, Option, None}
 use Rattle.std.specs.List.{copy_within}
 use Rattle.std.proofs.lemmas.Bool.{le-leb, and_from, cond-true}
-use Rattle.bitvec_run_fields.specs.commands.base.CopyLaws.{copied_within-copy_within}
-use Rattle.bitvec_run_fields.specs.commands.declared.command.Op.TheVariants.{CopyWithin}
-use Rattle.bitvec_run_fields.specs.commands.declared.command.Refusal.{Refusal}
-use Rattle.bitvec_run_fields.specs.commands.Commands.{op_refusal, op_row}
-use Rattle.bitvec_run_fields.specs.commands.Rows.{or_else, range_lies, unless, unless_refused}
+use Rattle.bitvec_run.specs.base.CopyLaws.{copied_within-copy_within}
+use Rattle.bitvec_run.specs.declared.command.Op.TheVariants.{CopyWithin}
+use Rattle.bitvec_run.specs.declared.command.Refusal.{Refusal}
+use Rattle.bitvec_run.specs.Commands.{op_refusal, op_row}
+use Rattle.bitvec_run.specs.Rows.{or_else, range_lies, unless, unless_refused}
 use Rattle.bitvec_plain.specs.Command.{command_list}
 
 pub copy_within-carried : (list : List Bool) (start end dest : ℕ) → start ≤ end → end ≤ length list → dest + (end - start) ≤ length list → copy_within list start end dest ≡ command_list [] list (CopyWithin start end dest)

@@ -3,8 +3,8 @@ use Rattle.std.proofs.Common.{◌≡◌, ℕ, ◌+◌, ◌*◌, ◌/◌, ◌^◌
 use Rattle.std.specs.List.{range_with_len}
 use Rattle.std.proofs.lemmas.List.FromFn.{map-range_with_len_more}
 use Rattle.std.proofs.lemmas.Nat.Bits.{shr_and_one}
-use Rattle.bitvec_run_fields.specs.commands.base.Memory.{place_bit, memory_bits}
-use Rattle.bitvec_run_fields.specs.commands.base.MemoryLaws.{place_bit-element}
+use Rattle.bitvec_run.specs.base.Memory.{place_bit, memory_bits}
+use Rattle.bitvec_run.specs.base.MemoryLaws.{place_bit-element}
 
 -- a place as the code reads it: from the element's number, by a shift
 place_bit-shift : (b : ℕ) (at : ℕ → ℕ → ℕ) (xs : List ℕ) (element index number : ℕ) → index < b → number ≡ get_or xs element 0 → place_bit b at xs (element * b + index) ≡ (bit_and (number / 2 ^ at b index) 1 == 1)

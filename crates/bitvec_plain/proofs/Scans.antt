@@ -2,8 +2,8 @@
 use Rattle.std.proofs.Common.{◌≡◌, ◌≢◌, ℕ, ◌+◌, ◌<◌, ◌≤◌, Bool, false, List, length, slice_index_or, Option, Some, None, arith, sym, ⊎_elim, subst}
 use Rattle.std.specs.Option.{MatchOption}
 use Rattle.std.proofs.lemmas.Bool.{cases_eq}
-use Rattle.bitvec_run_fields.specs.commands.base.Lists.{last_place}
-use Rattle.bitvec_run_fields.specs.commands.base.ListsLaws.{last_place-found, last_place-none}
+use Rattle.bitvec_run.specs.base.Lists.{last_place}
+use Rattle.bitvec_run.specs.base.ListsLaws.{last_place-found, last_place-none}
 
 -- the bit stands at no place from one place up to another
 abbrev pub Misses : Bool → List Bool → ℕ → ℕ → Type 0

@@ -3,15 +3,15 @@ use Rattle.std.proofs.Common.{◌≡◌, ℕ, ◌-◌, ◌<◌, ◌≤◌, ◌�
 use Rattle.std.proofs.lemmas.List.{drop-drop}
 use Rattle.std.proofs.lemmas.Bool.{le-leb, lt-leb, and_from, and_left, and_right}
 use borrow.Rule.Slice.PartMut.{put_mid}
-use Rattle.bitvec_run_fields.specs.commands.base.Window.{write_at}
-use Rattle.bitvec_run_fields.specs.commands.base.WriteLaws.{length-slice_range, write_at-same}
-use Rattle.bitvec_run_fields.specs.commands.declared.command.Step.{Step}
-use Rattle.bitvec_run_fields.specs.commands.declared.command.Refusal.{Refusal}
-use Rattle.bitvec_run_fields.specs.commands.declared.command.Refusal.TheVariants.{Range}
-use Rattle.bitvec_run_fields.specs.commands.Commands.{op_row}
-use Rattle.bitvec_run_fields.specs.commands.Rows.{Row, on_range, outcome, range_lies, refused, unless_refused}
-use Rattle.bitvec_run_fields.specs.commands.Runs.{step_list, step_outcome, step_reply}
-use Rattle.bitvec_run_fields.specs.commands.RunsLaws.{step_row-inside, step_row-outside}
+use Rattle.bitvec_run.specs.base.Window.{write_at}
+use Rattle.bitvec_run.specs.base.WriteLaws.{length-slice_range, write_at-same}
+use Rattle.bitvec_run.specs.declared.command.Step.{Step}
+use Rattle.bitvec_run.specs.declared.command.Refusal.{Refusal}
+use Rattle.bitvec_run.specs.declared.command.Refusal.TheVariants.{Range}
+use Rattle.bitvec_run.specs.Commands.{op_row}
+use Rattle.bitvec_run.specs.Rows.{Row, on_range, outcome, range_lies, refused, unless_refused}
+use Rattle.bitvec_run.specs.Runs.{step_list, step_outcome, step_reply}
+use Rattle.bitvec_run.specs.RunsLaws.{step_row-inside, step_row-outside}
 use Rattle.bitvec_plain.specs.Command.{command_reply, command_list}
 
 -- whether the range lies in a window of n bits, by its two tests

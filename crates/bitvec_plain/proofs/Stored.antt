@@ -3,9 +3,9 @@ use Rattle.std.proofs.Common.{◌≡◌, ℕ, ◌+◌, ◌-◌, ◌/◌, ◌^◌
 use Rattle.std.proofs.lemmas.Bool.Decides.{nat_tests}
 use Rattle.std.proofs.lemmas.List.{append-nil, drop_all, length-take, take_rest}
 use borrow.Rule.Slice.PartMut.{put_mid}
-use Rattle.bitvec_run_fields.specs.segments.Segments.{segment_bits, stored_be, stored_le}
-use Rattle.bitvec_run_fields.specs.segments.SegmentsLaws.{first_len}
-use Rattle.bitvec_run_fields.specs.segments.StoreLaws.{front-dropped, front-taken, length-segment_bits, stored_be-first, stored_be-none, stored_le-first, stored_le-none}
+use Rattle.bitvec_run.specs.segments.Segments.{segment_bits, stored_be, stored_le}
+use Rattle.bitvec_run.specs.segments.SegmentsLaws.{first_len}
+use Rattle.bitvec_run.specs.segments.StoreLaws.{front-dropped, front-taken, length-segment_bits, stored_be-first, stored_be-none, stored_le-first, stored_le-none}
 
 pub le-stores_nothing : (high : Bool) (b s v : ℕ) (list : List Bool) → true ≡ (length list == 0) → list ≡ stored_le high b s v list
 le-stores_nothing high b s v [] none = sym (stored_le-none high b s v)

@@ -4,10 +4,10 @@ use Rattle.std.proofs.lemmas.List.{length-take, take_all, take_more}
 use Rattle.std.proofs.Math.Pow.{pow_mono}
 use Rattle.std.proofs.Math.Nat.{mod-eq_of_lt}
 use Rattle.std.proofs.lemmas.Nat.{pow-add, pow_pos}
-use Rattle.bitvec_run_fields.specs.segments.LoadLaws.{joined_below}
-use Rattle.bitvec_run_fields.specs.segments.NumberLaws.{segment_number-below}
-use Rattle.bitvec_run_fields.specs.segments.PlainLaws.{append-highest, append-lowest}
-use Rattle.bitvec_run_fields.specs.segments.Segments.{bit_number, segment_number}
+use Rattle.bitvec_run.specs.segments.LoadLaws.{joined_below}
+use Rattle.bitvec_run.specs.segments.NumberLaws.{segment_number-below}
+use Rattle.bitvec_run.specs.segments.PlainLaws.{append-highest, append-lowest}
+use Rattle.bitvec_run.specs.segments.Segments.{bit_number, segment_number}
 
 -- the bits below an index, each by its number
 abbrev pub sum_below : Bool → List Bool → ℕ → ℕ

@@ -1,13 +1,13 @@
 -- One command, refused or carried out, on the list of its bits.
 use Rattle.std.specs.Prelude.{Bool, ◌&&◌, ◌||◌, List, length}
-use Rattle.bitvec_run_fields.specs.commands.base.declared.window.Window.{Window}
-use Rattle.bitvec_run_fields.specs.commands.base.Lists.{combined, differs}
-use Rattle.bitvec_run_fields.specs.commands.base.Window.{window_of}
-use Rattle.bitvec_run_fields.specs.commands.declared.command.Op.{Op}
-use Rattle.bitvec_run_fields.specs.commands.declared.command.Reply.{Reply}
-use Rattle.bitvec_run_fields.specs.commands.Commands.{op_row, right_refusal}
-use Rattle.bitvec_run_fields.specs.commands.Costs.{operator_cost}
-use Rattle.bitvec_run_fields.specs.commands.Rows.{Row, edits, outcome}
+use Rattle.bitvec_run.specs.base.declared.window.Window.{Window}
+use Rattle.bitvec_run.specs.base.Lists.{combined, differs}
+use Rattle.bitvec_run.specs.base.Window.{window_of}
+use Rattle.bitvec_run.specs.declared.command.Op.{Op}
+use Rattle.bitvec_run.specs.declared.command.Reply.{Reply}
+use Rattle.bitvec_run.specs.Commands.{op_row, right_refusal}
+use Rattle.bitvec_run.specs.Costs.{operator_cost}
+use Rattle.bitvec_run.specs.Rows.{Row, edits, outcome}
 use Rattle.bitvec_plain.specs.declared.command.part.Operator.{Operator}
 use Rattle.bitvec_plain.specs.declared.command.part.Operator.TheVariants.{And, Or, Xor}
 

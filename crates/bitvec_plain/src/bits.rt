@@ -1,9 +1,9 @@
 //! Lists of truth values, for tests.
 ghost use Rattle.std.specs.Prelude.{◌≡◌, ◌↔◌, IfOk, IsTrue, map};
-ghost use Rattle.bitvec_run_fields.specs.commands.base.Memory.{memory_bits};
+ghost use Rattle.bitvec_run.specs.base.Memory.{memory_bits};
 
-use bitvec_run_fields::commands::base::BitOrder;
-use bitvec_run_fields::commands::store::BitStore;
+use bitvec_run::base::BitOrder;
+use bitvec_run::store::BitStore;
 use std::alloc::{AllocError, Allocator};
 
 /// The bits of a memory, place by place. Err: out of memory.

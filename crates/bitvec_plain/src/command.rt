@@ -8,7 +8,7 @@ mod part;
 mod right;
 mod scans;
 
-use bitvec_run_fields::commands::{Op, Reply};
+use bitvec_run::{Op, Reply};
 use edits::{fill, get, invert, replace, reverse, set, swap};
 use moves::{copy_within, rotate_left, rotate_right, shift_end, shift_start};
 use part::Operator;

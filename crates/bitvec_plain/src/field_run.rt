@@ -1,12 +1,11 @@
 //! A run of commands with loads and stores of numbers among them, a step at a time.
 ghost use Rattle.std.specs.Prelude.{◌≡◌, ◌<◌, ◌^◌, IfOk};
-ghost use Rattle.bitvec_run_fields.specs.FieldRows.{field_list, field_reply};
-ghost use Rattle.bitvec_run_fields.specs.commands.Fold.{list_after, replies_of};
+ghost use Rattle.bitvec_run.specs.FieldRows.{field_list, field_reply};
+ghost use Rattle.bitvec_run.specs.Fold.{list_after, replies_of};
 
 use crate::fields::{Layout, apply_field};
 use crate::run::PlainRun;
-use bitvec_run_fields::FieldStep;
-use bitvec_run_fields::commands::{Refusal, Reply};
+use bitvec_run::{FieldStep, Refusal, Reply};
 use std::alloc::{AllocError, Allocator};
 
 /// Runs the steps in order on a copy of the window's bits, which begin at `place`; `right` are the

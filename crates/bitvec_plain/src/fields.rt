@@ -6,8 +6,7 @@ mod numbers;
 mod segment;
 
 use crate::command::apply;
-use bitvec_run_fields::FieldOp;
-use bitvec_run_fields::commands::{Refusal, Reply};
+use bitvec_run::{FieldOp, Refusal, Reply};
 pub use numbers::Layout;
 use numbers::{load_be, load_le, store_be, store_le};
 

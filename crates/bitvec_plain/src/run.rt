@@ -1,10 +1,10 @@
 //! A run of commands, a step at a time.
 ghost use Rattle.std.specs.Prelude.{◌≡◌, IfOk};
-ghost use Rattle.bitvec_run_fields.specs.commands.Fold.{list_after, replies_of};
-ghost use Rattle.bitvec_run_fields.specs.commands.Runs.{step_list, step_reply};
+ghost use Rattle.bitvec_run.specs.Fold.{list_after, replies_of};
+ghost use Rattle.bitvec_run.specs.Runs.{step_list, step_reply};
 
 use crate::command::apply;
-use bitvec_run_fields::commands::{Refusal, Reply, Step};
+use bitvec_run::{Refusal, Reply, Step};
 use std::alloc::{AllocError, Allocator};
 
 /// What a run replied, a reply a step, and the bits that it left.

@@ -2,6 +2,8 @@ pub mod Cited
 pub mod Commands
 pub mod CommandsLaws
 pub mod Costs
+pub mod FieldRows
+pub mod FieldRowsLaws
 pub mod Fold
 pub mod FoldLaws
 pub mod Follows
@@ -15,3 +17,4 @@ pub use Rattle.bitvec_engine.specs.base as base
 pub use Rattle.bitvec_engine.specs.cells as cells
 pub use Rattle.bitvec_engine.specs.store as store
 pub use Rattle.bitvec_engine.specs.walk as walk
+pub use Rattle.bitvec_segments.specs as segments

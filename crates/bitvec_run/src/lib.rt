@@ -1,8 +1,11 @@
-//! Lists of commands run through a window of a memory.
+//! Lists of commands, and of loads and stores of numbers, run through a window of a memory.
 #![tactic(auto)]
 
 mod command;
 mod edit;
+mod field_runner;
+mod field_step;
+mod field_stepping;
 mod query;
 mod refusal;
 mod right;
@@ -28,6 +31,11 @@ pub mod engine {
     };
 }
 
+/// What crates above name of `bitvec_segments`.
+pub mod segments {
+    pub use bitvec_segments::FieldOrder;
+}
+
 /// What crates above name of `bitvec_store`.
 pub mod store {
     pub use bitvec_engine::store::BitStore;
@@ -35,5 +43,7 @@ pub mod store {
 
 pub use bitvec_engine::base::Window;
 pub use command::{Op, Refusal, Reply, RunError, Step};
+pub use field_runner::run_fields;
+pub use field_step::{FieldOp, FieldStep};
 pub use runner::{run, whole};
 pub use step::carry_out;

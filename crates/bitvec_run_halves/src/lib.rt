@@ -6,7 +6,7 @@ mod runner;
 
 /// What crates above name of `bitvec_run`.
 pub mod commands {
-    pub use bitvec_run::{Op, Refusal, Reply, RunError, Step, run};
+    pub use bitvec_run::{FieldOp, FieldStep, Op, Refusal, Reply, RunError, Step, run, run_fields};
 }
 
 pub use bitvec_run::{Op, Refusal, Reply, Step};

@@ -41,17 +41,17 @@ pub mod cells {
     };
 }
 
-/// What crates above name of `bitvec_combine`.
+/// The operators of `bitvec_combine` that crates above name.
 pub mod combine {
     pub use bitvec_elements::combine::combine;
 }
 
-/// What crates above name of `bitvec_compare`.
+/// The comparison of `bitvec_combine` that crates above name.
 pub mod comparisons {
     pub use bitvec_elements::comparisons::equal;
 }
 
-/// What crates above name of `bitvec_copy`.
+/// The copies of `bitvec_move` that crates above name.
 pub mod copy {
     pub use bitvec_elements::copy::{copy, copy_within};
 }
@@ -86,7 +86,7 @@ pub mod engine {
     };
 }
 
-/// What crates above name of `bitvec_exchange`.
+/// The exchanges of `bitvec_move` that crates above name.
 pub mod exchange {
     pub use bitvec_elements::exchange::{reverse, swap};
 }

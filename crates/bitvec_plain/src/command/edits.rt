@@ -2,7 +2,7 @@
 ghost use Rattle.std.specs.Prelude.{◌≡◌, []};
 ghost use Rattle.bitvec_plain.specs.Command.{command_reply, command_list};
 
-use bitvec_run_fields::commands::{Op, Refusal, Reply};
+use bitvec_run::{Op, Refusal, Reply};
 
 pub(super) fn get(list: &[bool], index: usize) -> Reply
     ensures { result ≡ command_reply [] list.now (Op.Get index) }

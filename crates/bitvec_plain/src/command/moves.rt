@@ -2,9 +2,9 @@
 ghost use Rattle.std.specs.Prelude.{◌≡◌, []};
 ghost use Rattle.bitvec_plain.specs.Command.{command_reply, command_list};
 
-use bitvec_run_fields::commands::{Op, Refusal, Reply};
+use bitvec_run::{Op, Refusal, Reply};
 
-#[tactic(auto, unfolding(bitvec_run_fields::specs::Cited::shifted_start))]
+#[tactic(auto, unfolding(bitvec_run::specs::Cited::shifted_start))]
 pub(super) fn shift_start(list: &mut [bool], by: usize) -> Reply
     ensures reply { result ≡ command_reply [] list.old (Op.ShiftStart by) }
     ensures list { list.new ≡ command_list [] list.old (Op.ShiftStart by) }
@@ -18,7 +18,7 @@ pub(super) fn shift_start(list: &mut [bool], by: usize) -> Reply
     Reply::Done
 }
 
-#[tactic(auto, unfolding(bitvec_run_fields::specs::Cited::shifted_end))]
+#[tactic(auto, unfolding(bitvec_run::specs::Cited::shifted_end))]
 pub(super) fn shift_end(list: &mut [bool], by: usize) -> Reply
     ensures reply { result ≡ command_reply [] list.old (Op.ShiftEnd by) }
     ensures list { list.new ≡ command_list [] list.old (Op.ShiftEnd by) }
@@ -31,7 +31,7 @@ pub(super) fn shift_end(list: &mut [bool], by: usize) -> Reply
     Reply::Done
 }
 
-#[tactic(auto, unfolding(bitvec_run_fields::specs::Cited::rotated_left))]
+#[tactic(auto, unfolding(bitvec_run::specs::Cited::rotated_left))]
 pub(super) fn rotate_left(list: &mut [bool], by: usize) -> Reply
     ensures reply { result ≡ command_reply [] list.old (Op.RotateLeft by) }
     ensures list { list.new ≡ command_list [] list.old (Op.RotateLeft by) }
@@ -43,7 +43,7 @@ pub(super) fn rotate_left(list: &mut [bool], by: usize) -> Reply
     Reply::Done
 }
 
-#[tactic(auto, unfolding(bitvec_run_fields::specs::Cited::rotated_right))]
+#[tactic(auto, unfolding(bitvec_run::specs::Cited::rotated_right))]
 pub(super) fn rotate_right(list: &mut [bool], by: usize) -> Reply
     ensures reply { result ≡ command_reply [] list.old (Op.RotateRight by) }
     ensures list { list.new ≡ command_list [] list.old (Op.RotateRight by) }

@@ -1,6 +1,6 @@
 //! A list of bits against another.
 ghost use Rattle.std.specs.Prelude.{◌≡◌, ◌≤◌, Bool, false, length, slice_index_or};
-ghost use Rattle.bitvec_run_fields.specs.commands.base.Lists.{combined, is_prefix, is_suffix, stands_at, stands_in};
+ghost use Rattle.bitvec_run.specs.base.Lists.{combined, is_prefix, is_suffix, stands_at, stands_in};
 ghost use Rattle.bitvec_plain.specs.Command.{bit_of};
 
 /// What is made of each bit and the one at its index in another list.

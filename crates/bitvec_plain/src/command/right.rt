@@ -1,12 +1,12 @@
 //! Commands on the bits of a right window.
 ghost use Rattle.std.specs.Prelude.{◌≡◌, true, false, length, MatchOption};
-ghost use Rattle.bitvec_run_fields.specs.commands.base.Window.{window_of};
-ghost use Rattle.bitvec_run_fields.specs.commands.Rows.{lies_in};
+ghost use Rattle.bitvec_run.specs.base.Window.{window_of};
+ghost use Rattle.bitvec_run.specs.Rows.{lies_in};
 ghost use Rattle.bitvec_plain.specs.Command.{command_reply, command_list, operator_outcome};
 
 use super::part::{self, Operator};
-use bitvec_run_fields::commands::base::Window;
-use bitvec_run_fields::commands::{Op, Refusal, Reply};
+use bitvec_run::base::Window;
+use bitvec_run::{Op, Refusal, Reply};
 
 /// The bits in a window, unless it doesn't lie there.
 fn part_of(bits: &[bool], window: Window) -> Option<&[bool]>

@@ -1,9 +1,9 @@
 //! Commands that look for bits.
 ghost use Rattle.std.specs.Prelude.{◌≡◌, [], Bool, true, false};
-ghost use Rattle.bitvec_run_fields.specs.commands.base.Lists.{first_place, last_place};
+ghost use Rattle.bitvec_run.specs.base.Lists.{first_place, last_place};
 ghost use Rattle.bitvec_plain.specs.Command.{command_reply};
 
-use bitvec_run_fields::commands::{Op, Reply};
+use bitvec_run::{Op, Reply};
 
 pub(super) fn count_ones(list: &[bool]) -> Reply
     ensures { result ≡ command_reply [] list.now Op.CountOnes }

@@ -1,11 +1,11 @@
 //! Numbers in lists of bits, which are cut at the edges of elements.
 ghost use Rattle.std.specs.Prelude.{◌≡◌, ◌+◌, ◌<◌, ◌≤◌, ◌^◌, length};
-ghost use Rattle.bitvec_run_fields.specs.segments.Segments.{loaded_be, loaded_le, stored_be, stored_le};
-ghost use Rattle.bitvec_run_fields.specs.segments.SegmentsLaws.{first_len};
+ghost use Rattle.bitvec_run.specs.segments.Segments.{loaded_be, loaded_le, stored_be, stored_le};
+ghost use Rattle.bitvec_run.specs.segments.SegmentsLaws.{first_len};
 
 use super::segment::{give_number, segment_number};
-use bitvec_run_fields::segments::FieldOrder;
-use bitvec_run_fields::store::BitStore;
+use bitvec_run::segments::FieldOrder;
+use bitvec_run::store::BitStore;
 
 /// How the elements of a memory hold its bits.
 #[derive(Clone, Copy)]

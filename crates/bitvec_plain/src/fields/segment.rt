@@ -1,6 +1,6 @@
 //! The number of a list of bits that stand in one element.
 ghost use Rattle.std.specs.Prelude.{◌≡◌, ◌-◌, ◌<◌, ◌≤◌, length};
-ghost use Rattle.bitvec_run_fields.specs.segments.Segments.{bit_number, segment_bits, segment_number};
+ghost use Rattle.bitvec_run.specs.segments.Segments.{bit_number, segment_bits, segment_number};
 
 /// Which bit of the number of `len` bits stands at an index, where the first bit is the highest, or
 /// else the lowest.

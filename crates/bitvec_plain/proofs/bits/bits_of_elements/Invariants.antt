@@ -1,6 +1,6 @@
 use Rattle.std.proofs.Common.{◌≡◌, ◌+◌, ◌*◌, map}
 use Rattle.std.specs.List.{range_with_len}
-use Rattle.bitvec_run_fields.specs.commands.base.Memory.{place_bit}
+use Rattle.bitvec_run.specs.base.Memory.{place_bit}
 use Rattle.bitvec_plain.proofs.bits.bits_of_elements.Given as goal
 
 abbrev pub invariant-loop-index : goal.invariant-loop-index

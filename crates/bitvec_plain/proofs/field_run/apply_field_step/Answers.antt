@@ -1,6 +1,6 @@
 use Rattle.std.proofs.Common.{◌≡◌, length, inl, inr, sym, false, ◌∙◌, ap}
-use Rattle.bitvec_run_fields.specs.commands.base.Window.{write_at}
-use Rattle.bitvec_run_fields.specs.commands.Rows.{Row, range_lies}
+use Rattle.bitvec_run.specs.base.Window.{write_at}
+use Rattle.bitvec_run.specs.Rows.{Row, range_lies}
 use Rattle.bitvec_plain.proofs.FieldSteps.{field_list-in, field_reply-in, field_step-out}
 use Rattle.bitvec_plain.proofs.Steps.{out_of_range, put_mid-write_at}
 use Rattle.bitvec_plain.proofs.field_run.apply_field_step.Goals as goal

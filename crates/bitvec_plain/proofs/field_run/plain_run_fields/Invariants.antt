@@ -1,6 +1,6 @@
 use Rattle.std.proofs.Common.{◌≡◌, ◌++◌, drop}
-use Rattle.bitvec_run_fields.specs.FieldRows.{field_list, field_reply}
-use Rattle.bitvec_run_fields.specs.commands.Fold.{list_after, replies_of}
+use Rattle.bitvec_run.specs.FieldRows.{field_list, field_reply}
+use Rattle.bitvec_run.specs.Fold.{list_after, replies_of}
 use Rattle.bitvec_plain.proofs.field_run.plain_run_fields.Given as goal
 
 -- what was replied and what will be is the run's, and the bits so far lead to the run's

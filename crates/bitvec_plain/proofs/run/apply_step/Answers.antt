@@ -1,6 +1,6 @@
 use Rattle.std.proofs.Common.{◌≡◌, length, inl, inr, sym, false, ◌∙◌, ap}
-use Rattle.bitvec_run_fields.specs.commands.base.Window.{write_at}
-use Rattle.bitvec_run_fields.specs.commands.Rows.{Row, range_lies}
+use Rattle.bitvec_run.specs.base.Window.{write_at}
+use Rattle.bitvec_run.specs.Rows.{Row, range_lies}
 use Rattle.bitvec_plain.proofs.Steps.{out_of_range, step-out, step_reply-in, step_list-in, put_mid-write_at}
 use Rattle.bitvec_plain.proofs.run.apply_step.Goals as goal
 use Rattle.bitvec_plain.proofs.run.apply_step.Goals.{Joined-then-step, then-step-via-then-step, then-step-via-else-step+then-step-list}

@@ -1,5 +1,5 @@
 use Rattle.std.proofs.Common.{arith}
-use Rattle.bitvec_run_fields.specs.commands.base.ListsLaws.{combined-is}
+use Rattle.bitvec_run.specs.base.ListsLaws.{combined-is}
 use Rattle.bitvec_plain.proofs.command.part.combine.Goals as goal
 
 pub returns : goal.returns

@@ -1,5 +1,5 @@
 use Rattle.std.proofs.Common.{sym, ◌∙◌}
-use Rattle.bitvec_run_fields.specs.commands.base.ListsLaws.{is_prefix-long, is_prefix-fits}
+use Rattle.bitvec_run.specs.base.ListsLaws.{is_prefix-long, is_prefix-fits}
 use Rattle.bitvec_plain.proofs.command.part.is_prefix.Goals as goal
 
 pub returns-then-part-list : goal.returns-then-part-list

@@ -1,7 +1,7 @@
 use Rattle.std.proofs.Common.{◌-◌, length, ap, sym, ◌∙◌}
 use Rattle.std.proofs.lemmas.List.{take_rest}
-use Rattle.bitvec_run_fields.specs.commands.base.Lists.{same_bits}
-use Rattle.bitvec_run_fields.specs.commands.base.ListsLaws.{is_suffix-long, is_suffix-fits}
+use Rattle.bitvec_run.specs.base.Lists.{same_bits}
+use Rattle.bitvec_run.specs.base.ListsLaws.{is_suffix-long, is_suffix-fits}
 use Rattle.bitvec_plain.proofs.command.part.is_suffix.Goals as goal
 
 pub returns-then-part-list : goal.returns-then-part-list

@@ -1,5 +1,5 @@
 use Rattle.std.proofs.Common.{sym, ◌∙◌, arith}
-use Rattle.bitvec_run_fields.specs.commands.base.ListsLaws.{stands_at-long, stands_at-fits}
+use Rattle.bitvec_run.specs.base.ListsLaws.{stands_at-long, stands_at-fits}
 use Rattle.bitvec_plain.proofs.command.part.stands_at.Goals as goal
 
 pub returns-then-part-list : goal.returns-then-part-list

@@ -1,5 +1,5 @@
 use Rattle.std.proofs.Common.{sym, ◌∙◌, arith}
-use Rattle.bitvec_run_fields.specs.commands.base.ListsLaws.{stands_in-found, stands_in-none}
+use Rattle.bitvec_run.specs.base.ListsLaws.{stands_in-found, stands_in-none}
 use Rattle.bitvec_plain.proofs.command.part.stands_in.Goals as goal
 
 pub returns-then-stands_at : goal.returns-then-stands_at

@@ -1,7 +1,7 @@
 use Rattle.std.proofs.Common.{◌+◌, refl, arith}
 use Rattle.std.proofs.lemmas.Bool.{le-leb, and_from}
-use Rattle.bitvec_run_fields.specs.commands.base.Window.{window_of}
-use Rattle.bitvec_run_fields.specs.commands.base.WriteLaws.{length-slice_range}
+use Rattle.bitvec_run.specs.base.Window.{window_of}
+use Rattle.bitvec_run.specs.base.WriteLaws.{length-slice_range}
 use Rattle.bitvec_plain.proofs.command.right.part_of.Goals as goal
 
 pub returns : goal.returns

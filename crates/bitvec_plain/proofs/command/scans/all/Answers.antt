@@ -1,7 +1,7 @@
 use Rattle.std.proofs.Common.{ap, rules, tests}
 use Rattle.std.proofs.lemmas.Iterator.{YieldsList-from_slice}
 use Rattle.std.proofs.lemmas.Iterator.Search.{all_from_yields_List}
-use Rattle.bitvec_run_fields.specs.commands.declared.command.Reply.TheVariants.{Bit}
+use Rattle.bitvec_run.specs.declared.command.Reply.TheVariants.{Bit}
 use Rattle.bitvec_plain.proofs.command.scans.all.Goals as goal
 
 pub returns : goal.returns

@@ -1,7 +1,7 @@
 use Rattle.std.proofs.Common.{ap, sym, arith}
 use Rattle.std.specs.Cmp.{booleans_Decides}
-use Rattle.bitvec_run_fields.specs.commands.base.ListsLaws.{first_place-found, first_place-none}
-use Rattle.bitvec_run_fields.specs.commands.declared.command.Reply.TheVariants.{Index}
+use Rattle.bitvec_run.specs.base.ListsLaws.{first_place-found, first_place-none}
+use Rattle.bitvec_run.specs.declared.command.Reply.TheVariants.{Index}
 use Rattle.bitvec_plain.proofs.command.scans.first.Goals as goal
 
 pub returns-then-bit-wanted : goal.returns-then-bit-wanted

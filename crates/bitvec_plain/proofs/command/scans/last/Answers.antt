@@ -1,7 +1,7 @@
 use Rattle.std.proofs.Common.{ap, arith}
 use Rattle.std.specs.Cmp.{booleans_Decides}
 use Rattle.std.proofs.lemmas.Bool.{both_ways}
-use Rattle.bitvec_run_fields.specs.commands.declared.command.Reply.TheVariants.{Index}
+use Rattle.bitvec_run.specs.declared.command.Reply.TheVariants.{Index}
 use Rattle.bitvec_plain.proofs.Scans.{found-more, other-more, found-all}
 use Rattle.bitvec_plain.proofs.command.scans.last.Goals as goal
 use Rattle.bitvec_plain.proofs.command.scans.last.Goals.{then-bit-wanted, else-bit-wanted}

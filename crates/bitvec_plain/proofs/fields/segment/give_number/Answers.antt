@@ -1,7 +1,7 @@
 use Rattle.std.proofs.Common.{◌∙◌, sym, false, length, arith}
 use Rattle.std.proofs.lemmas.List.{get_or_default, same_lists}
-use Rattle.bitvec_run_fields.specs.segments.Segments.{bit_number}
-use Rattle.bitvec_run_fields.specs.commands.base.MemoryLaws.{length-element_bits, get-element_bits}
+use Rattle.bitvec_run.specs.segments.Segments.{bit_number}
+use Rattle.bitvec_run.specs.base.MemoryLaws.{length-element_bits, get-element_bits}
 use Rattle.bitvec_plain.proofs.fields.segment.give_number.Goals as goal
 
 pub returns : goal.returns

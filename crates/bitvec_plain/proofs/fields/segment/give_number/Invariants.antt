@@ -1,6 +1,6 @@
 use Rattle.std.proofs.Common.{◌≡◌, ◌==◌, ℕ, ◌<◌, false, length, get_or}
 use Rattle.std.specs.Int.{bit_at}
-use Rattle.bitvec_run_fields.specs.segments.Segments.{bit_number}
+use Rattle.bitvec_run.specs.segments.Segments.{bit_number}
 use Rattle.bitvec_plain.proofs.fields.segment.give_number.Given as goal
 
 -- each bit so far has the number's

@@ -1,0 +1,14 @@
+use Rattle.std.proofs.Common.{sym, ◌∙◌}
+use Rattle.bitvec_words.specs.base.CompareLaws.{same-unequal}
+use Rattle.bitvec_words.specs.base.WritesLaws.{length-list}
+use Rattle.bitvec_words.specs.WholeLaws.{same-empty}
+use Rattle.bitvec_combine.proofs.comparing.equal.Goals as goal
+
+pub returns-then-left_window-right_window-clause-value : goal.returns-then-left_window-right_window-clause-value
+returns-then-left_window-right_window-clause-value g c =
+    same-unequal _ _ _ _ (length-list _ _ _ _ c.requires.window) (length-list _ _ _ _ c.requires.right_window) c.if-left_window-right_window.true
+
+pub returns-then-left_window-eq0-clause-value : goal.returns-then-left_window-eq0-clause-value
+returns-then-left_window-eq0-clause-value g c =
+    let none = c.if-left_window-eq0.true in
+    same-empty _ _ _ _ _ _ none (sym c.if-left_window-right_window.false ∙ none)

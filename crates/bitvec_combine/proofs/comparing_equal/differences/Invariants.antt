@@ -1,0 +1,17 @@
+use Rattle.std.specs.Prelude.{◌≡◌, ◌==◌}
+use Rattle.bitvec_words.specs.base.Lists.{same_bits}
+use Rattle.bitvec_words.specs.base.Memory.{list_in}
+use Rattle.bitvec_words.specs.cells.Access.{OnlyReads}
+use Rattle.bitvec_words.specs.Elements.{elements_window}
+use Rattle.bitvec_combine.proofs.comparing_equal.differences.Given as goal
+
+abbrev pub invariant-loop-step : goal.invariant-loop-step
+invariant-loop-step g l =
+    let b = g.C.Elem.BitStore.BITS in
+    let at = g.O.BitOrder.at in
+    record {
+      found : (g.C.Elem.BitStore.value l.found == 0)
+          ≡ same_bits (list_in b at (g.C.CellsRead.numbers l.fn.left) (elements_window b l.first l.step)) (list_in b at (g.D.CellsRead.numbers l.fn.right) (elements_window b l.source l.step));
+      reads : OnlyReads g.C.CellsRead l.fn.left l.left l.step;
+      right : OnlyReads g.D.CellsRead l.fn.right l.right l.step;
+    }

@@ -1,0 +1,125 @@
+use Rattle.std.proofs.Common.{◌≡◌, ◌≤◌, ℕ, ◌+◌, ◌*◌, ◌/◌, arith, rules, ◌∙◌}
+use Rattle.std.proofs.Math.Nat.{mul-le-mul_left}
+use Rattle.std.proofs.lemmas.Nat.{div-add-mod'}
+use Rattle.bitvec_words.specs.Elements.{elements_window}
+use Rattle.bitvec_words.specs.store.WidthLaws.{width_some}
+use Rattle.bitvec_words.specs.SameLaws.{found-none, found-some, same-apart, same-then}
+use Rattle.bitvec_words.specs.TouchedLaws.{touched-after}
+use Rattle.bitvec_words.specs.WholeLaws.{HasWindow-part, list-elements, long-elements, whole_fits}
+use Rattle.bitvec_combine.proofs.comparing_equal.equal_aligned.Goals as goal
+
+pub differences-found-requires-clause-window : goal.differences-found-requires-clause-window
+differences-found-requires-clause-window g c =
+    let b = g.C.Elem.BitStore.BITS in
+    let k = c.elements_per_test-span.result in
+    let more = rw c.BITS-bits.ensures at c.loop-test-test.true in
+    let room = whole_fits k (c.args.left_window.len / b) (c.loop-test.test + 1) (omega arith) in
+    let fits = whole_fits b c.args.left_window.len (c.loop-test.test * k + k) (omega arith) in
+    let place = div-add-mod' c.args.left_window.start b in
+    let lengths = c.requires.lengths in
+    rw (c.BITS-bits.ensures, c.loop-test.invariant.reads.numbers) (HasWindow-part b (g.C.CellsRead.numbers c.args.left.now) c.args.left_window (elements_window b (c.args.left_window.start / b + c.loop-test.test * k) k) c.requires.window (omega arith) (omega arith))
+
+pub differences-found-requires-clause-right_window : goal.differences-found-requires-clause-right_window
+differences-found-requires-clause-right_window g c =
+    let b = g.C.Elem.BitStore.BITS in
+    let k = c.elements_per_test-span.result in
+    let more = rw (c.BITS-bits.ensures, c.requires.lengths) at c.loop-test-test.true in
+    let room = whole_fits k (c.args.right_window.len / b) (c.loop-test.test + 1) (omega arith) in
+    let fits = whole_fits b c.args.right_window.len (c.loop-test.test * k + k) (omega arith) in
+    let place = div-add-mod' c.args.right_window.start b in
+    let lengths = c.requires.lengths in
+    rw (c.BITS-bits.ensures, c.loop-test.invariant.right.numbers) (HasWindow-part b (g.D.CellsRead.numbers c.args.right.now) c.args.right_window (elements_window b (c.args.right_window.start / b + c.loop-test.test * k) k) c.requires.right_window (omega arith) (omega arith))
+
+pub returns-then-to_u128-ne0-clause-value : goal.returns-then-to_u128-ne0-clause-value
+returns-then-to_u128-ne0-clause-value g c =
+    let b = g.C.Elem.BitStore.BITS in
+    let inv = c.loop-test.invariant in
+    let k = c.elements_per_test-span.result in
+    let passed : ℕ = c.loop-test.test * k in
+    let more = rw c.BITS-bits.ensures at c.loop-test-test.true in
+    let room = whole_fits k (c.args.left_window.len / b) (c.loop-test.test + 1) (omega arith) in
+    let fits = whole_fits b c.args.left_window.len (passed + k) (omega arith) in
+    let lengths = c.requires.lengths in
+    let other_fits : (passed + k) * b ≤ c.args.right_window.len = omega arith in
+    let told = rw (c.BITS-bits.ensures, inv.reads.numbers, inv.right.numbers) at c.differences-found.ensures.value in
+    same-apart _ _ _ _ _ _
+    (long-elements _ _ _ _ _ _ passed k c.requires.window c.requires.right_window c.requires.edge c.requires.right_edge fits other_fits)
+    (list-elements _ _ _ _ passed k c.requires.window c.requires.edge fits)
+    (list-elements _ _ _ _ passed k c.requires.right_window c.requires.right_edge other_fits)
+    (found-some _ _ _ c.to_u128.ensures.number c.if-to_u128-ne0.true told)
+    ∙ inv.same
+
+pub returns-then-to_u128-ne0-clause-reads : goal.returns-then-to_u128-ne0-clause-reads
+returns-then-to_u128-ne0-clause-reads g c =
+    let b = g.C.Elem.BitStore.BITS in
+    let k = c.elements_per_test-span.result in
+    let passed : ℕ = c.loop-test.test * k in
+    let more = rw c.BITS-bits.ensures at c.loop-test-test.true in
+    let room = whole_fits k (c.args.left_window.len / b) (c.loop-test.test + 1) (omega arith) in
+    let fits = whole_fits b c.args.left_window.len (passed + k) (omega arith) in
+    let all = touched-after b c.args.left_window.start c.args.left_window.len (passed + k) (width_some _ g.met.C.Elem.BitStore.width_law) c.requires.edge fits in
+    let before = c.loop-test.invariant.reads in
+    record { numbers = search rules; borrow = search rules; loads = omega arith; stores = search rules }
+
+pub returns-then-to_u128-ne0-clause-right : goal.returns-then-to_u128-ne0-clause-right
+returns-then-to_u128-ne0-clause-right g c =
+    let b = g.C.Elem.BitStore.BITS in
+    let k = c.elements_per_test-span.result in
+    let passed : ℕ = c.loop-test.test * k in
+    let more = rw (c.BITS-bits.ensures, c.requires.lengths) at c.loop-test-test.true in
+    let room = whole_fits k (c.args.right_window.len / b) (c.loop-test.test + 1) (omega arith) in
+    let fits = whole_fits b c.args.right_window.len (passed + k) (omega arith) in
+    let all = touched-after b c.args.right_window.start c.args.right_window.len (passed + k) (width_some _ g.met.C.Elem.BitStore.width_law) c.requires.right_edge fits in
+    let before = c.loop-test.invariant.right in
+    record { numbers = search rules; borrow = search rules; loads = omega arith; stores = search rules }
+
+pub loop-test-preserved : goal.loop-test-preserved
+loop-test-preserved g c =
+    let b = g.C.Elem.BitStore.BITS in
+    let inv = c.loop-test.invariant in
+    let k = c.elements_per_test-span.result in
+    let passed : ℕ = c.loop-test.test * k in
+    let more = rw c.BITS-bits.ensures at c.loop-test-test.true in
+    let room = whole_fits k (c.args.left_window.len / b) (c.loop-test.test + 1) (omega arith) in
+    let fits = whole_fits b c.args.left_window.len (passed + k) (omega arith) in
+    let lengths = c.requires.lengths in
+    let other_fits : (passed + k) * b ≤ c.args.right_window.len = omega arith in
+    let told = rw (c.BITS-bits.ensures, inv.reads.numbers, inv.right.numbers) at c.differences-found.ensures.value in
+    let next : (c.loop-test.test + 1) * k ≡ c.loop-test.test * k + k = omega arith in
+    record {
+      same = rw next
+          (same-then _ _ _ _ _ _
+          (long-elements _ _ _ _ _ _ passed k c.requires.window c.requires.right_window c.requires.edge c.requires.right_edge fits other_fits)
+          (list-elements _ _ _ _ passed k c.requires.window c.requires.edge fits)
+          (list-elements _ _ _ _ passed k c.requires.right_window c.requires.right_edge other_fits)
+          (found-none _ _ _ c.to_u128.ensures.number c.if-to_u128-ne0.false told)
+          ∙ inv.same);
+      reads = search rules;
+      right = search rules;
+    }
+
+pub returns-clause-reads : goal.returns-clause-reads
+returns-clause-reads g c =
+    let b = g.C.Elem.BitStore.BITS in
+    let k = c.elements_per_test-span.result in
+    let passed : ℕ = c.args.left_window.len / b / k * k in
+    let room = whole_fits k (c.args.left_window.len / b) (c.args.left_window.len / b / k) (omega arith) in
+    let fits = whole_fits b c.args.left_window.len passed (omega arith) in
+    let all = touched-after b c.args.left_window.start c.args.left_window.len passed (width_some _ g.met.C.Elem.BitStore.width_law) c.requires.edge fits in
+    let last = mul-le-mul_left k (rw c.BITS-bits.ensures at c.loop-test.auto.test-end) in
+    let before = c.loop-test.invariant.reads in
+    let rest = rw (c.after.ensures, c.BITS-bits.ensures) at c.equal_aligned_rest.ensures.reads in
+    record { numbers = search rules; borrow = search rules; loads = omega arith; stores = search rules }
+
+pub returns-clause-right : goal.returns-clause-right
+returns-clause-right g c =
+    let b = g.C.Elem.BitStore.BITS in
+    let k = c.elements_per_test-span.result in
+    let passed : ℕ = c.args.right_window.len / b / k * k in
+    let room = whole_fits k (c.args.right_window.len / b) (c.args.right_window.len / b / k) (omega arith) in
+    let fits = whole_fits b c.args.right_window.len passed (omega arith) in
+    let all = touched-after b c.args.right_window.start c.args.right_window.len passed (width_some _ g.met.C.Elem.BitStore.width_law) c.requires.right_edge fits in
+    let last = mul-le-mul_left k (rw (c.BITS-bits.ensures, c.requires.lengths) at c.loop-test.auto.test-end) in
+    let before = c.loop-test.invariant.right in
+    let rest = rw (c.after-2.ensures, c.BITS-bits.ensures, c.requires.lengths) at c.equal_aligned_rest.ensures.right in
+    record { numbers = search rules; borrow = search rules; loads = omega arith; stores = search rules }

@@ -1,0 +1,72 @@
+use Rattle.std.proofs.Common.{◌/◌, arith, rules, refl, ◌∙◌}
+use Rattle.bitvec_words.specs.store.WidthLaws.{width_some}
+use Rattle.bitvec_words.specs.FieldLaws.{list-tail}
+use Rattle.bitvec_words.specs.SameLaws.{found-none, found-some, same-apart, same-then}
+use Rattle.bitvec_words.specs.TouchedLaws.{touched-after, touched-more}
+use Rattle.bitvec_words.specs.WholeLaws.{long-whole, whole_fits}
+use Rattle.bitvec_combine.proofs.comparing_equal.equal_aligned_rest.Goals as goal
+
+pub returns-then-to_u128-ne0-clause-value : goal.returns-then-to_u128-ne0-clause-value
+returns-then-to_u128-ne0-clause-value g c =
+    let told = rw c.BITS-bits.ensures at c.differences-found.ensures.value in
+    same-apart _ _ _ _ _ _
+    (long-whole _ _ _ _ _ _ c.requires.window c.requires.right_window c.requires.edge c.requires.right_edge c.requires.lengths)
+    (list-tail _ _ _ _ _ c.requires.window c.requires.edge refl)
+    (list-tail _ _ _ _ _ c.requires.right_window c.requires.right_edge c.requires.lengths)
+    (found-some _ _ _ c.to_u128.ensures.number c.if-to_u128-ne0.true told)
+
+pub returns-then-to_u128-ne0-clause-reads : goal.returns-then-to_u128-ne0-clause-reads
+returns-then-to_u128-ne0-clause-reads g c =
+    let b = g.C.Elem.BitStore.BITS in
+    let n = c.args.left_window.len in
+    let all = touched-after b c.args.left_window.start n (n / b) (width_some _ g.met.C.Elem.BitStore.width_law) c.requires.edge (whole_fits b n (n / b) (omega arith)) in
+    let reads = rw c.BITS-bits.ensures at c.differences-found.ensures.reads in
+    record { numbers = search rules; borrow = search rules; loads = omega arith; stores = search rules }
+
+pub returns-then-to_u128-ne0-clause-right : goal.returns-then-to_u128-ne0-clause-right
+returns-then-to_u128-ne0-clause-right g c =
+    let b = g.C.Elem.BitStore.BITS in
+    let n = c.args.right_window.len in
+    let all = touched-after b c.args.right_window.start n (n / b) (width_some _ g.met.C.Elem.BitStore.width_law) c.requires.right_edge (whole_fits b n (n / b) (omega arith)) in
+    let reads = rw (c.BITS-bits.ensures, c.requires.lengths) at c.differences-found.ensures.right in
+    record { numbers = search rules; borrow = search rules; loads = omega arith; stores = search rules }
+
+pub returns-then-rest-eq0-clause-reads : goal.returns-then-rest-eq0-clause-reads
+returns-then-rest-eq0-clause-reads g c =
+    let b = g.C.Elem.BitStore.BITS in
+    let n = c.args.left_window.len in
+    let all = touched-after b c.args.left_window.start n (n / b) (width_some _ g.met.C.Elem.BitStore.width_law) c.requires.edge (whole_fits b n (n / b) (omega arith)) in
+    let reads = rw c.BITS-bits.ensures at c.differences-found.ensures.reads in
+    record { numbers = search rules; borrow = search rules; loads = omega arith; stores = search rules }
+
+pub returns-then-rest-eq0-clause-right : goal.returns-then-rest-eq0-clause-right
+returns-then-rest-eq0-clause-right g c =
+    let b = g.C.Elem.BitStore.BITS in
+    let n = c.args.right_window.len in
+    let all = touched-after b c.args.right_window.start n (n / b) (width_some _ g.met.C.Elem.BitStore.width_law) c.requires.right_edge (whole_fits b n (n / b) (omega arith)) in
+    let reads = rw (c.BITS-bits.ensures, c.requires.lengths) at c.differences-found.ensures.right in
+    record { numbers = search rules; borrow = search rules; loads = omega arith; stores = search rules }
+
+pub returns-clause-value : goal.returns-clause-value
+returns-clause-value g c =
+    let told = rw c.BITS-bits.ensures at c.differences-found.ensures.value in
+    let tail = rw (c.BITS-bits.ensures, c.differences-found.ensures.reads.numbers, c.differences-found.ensures.right.numbers) at c.equal_part.ensures.value in
+    tail ∙ same-then _ _ _ _ _ _
+    (long-whole _ _ _ _ _ _ c.requires.window c.requires.right_window c.requires.edge c.requires.right_edge c.requires.lengths)
+    (list-tail _ _ _ _ _ c.requires.window c.requires.edge refl)
+    (list-tail _ _ _ _ _ c.requires.right_window c.requires.right_edge c.requires.lengths)
+    (found-none _ _ _ c.to_u128.ensures.number c.if-to_u128-ne0.false told)
+
+pub returns-clause-reads : goal.returns-clause-reads
+returns-clause-reads g c =
+    let left = rw c.BITS-bits.ensures at c.if-rest-eq0.false in
+    let all = touched-more g.C.Elem.BitStore.BITS c.args.left_window.start c.args.left_window.len (width_some _ g.met.C.Elem.BitStore.width_law) c.requires.edge (omega arith) in
+    let reads = rw c.BITS-bits.ensures at c.differences-found.ensures.reads in
+    record { numbers = search rules; borrow = search rules; loads = omega arith; stores = search rules }
+
+pub returns-clause-right : goal.returns-clause-right
+returns-clause-right g c =
+    let left = rw (c.BITS-bits.ensures, c.requires.lengths) at c.if-rest-eq0.false in
+    let all = touched-more g.C.Elem.BitStore.BITS c.args.right_window.start c.args.right_window.len (width_some _ g.met.C.Elem.BitStore.width_law) c.requires.right_edge (omega arith) in
+    let reads = rw (c.BITS-bits.ensures, c.requires.lengths) at c.differences-found.ensures.right in
+    record { numbers = search rules; borrow = search rules; loads = omega arith; stores = search rules }

@@ -1,0 +1,82 @@
+use Rattle.std.proofs.Common.{◌≡◌, ◌≢◌, ℕ, ◌-◌, ◌%◌, min, arith, rules, sym, refl, ◌∙◌, ap}
+use Rattle.bitvec_words.specs.base.declared.part.Part.{Part}
+use Rattle.bitvec_words.specs.base.Parts.{first_part_of}
+use Rattle.bitvec_words.specs.store.WidthLaws.{width_some}
+use Rattle.bitvec_words.specs.FieldLaws.{first_part-long, list-head}
+use Rattle.bitvec_words.specs.SameLaws.{same-apart, same-then}
+use Rattle.bitvec_words.specs.TouchedLaws.{touched-first, touched-rest}
+use Rattle.bitvec_words.specs.WholeLaws.{long-head}
+use Rattle.bitvec_combine.proofs.comparing_equal.equal_unshifted.Goals as goal
+
+pub returns-then-not-equal_part-clause-value : goal.returns-then-not-equal_part-clause-value
+returns-then-not-equal_part-clause-value g c =
+    let b = g.C.Elem.BitStore.BITS in
+    let some = width_some _ g.met.C.Elem.BitStore.width_law in
+    let head : c.first_part-head.result ≡ first_part_of b c.args.left_window = c.first_part-head.ensures ∙ ap (λ (n : ℕ). first_part_of n c.args.left_window) c.BITS-bits.ensures in
+    let t : ℕ = (first_part_of b c.args.left_window).to - (first_part_of b c.args.left_window).from in
+    let told = rw (head, c.BITS-bits.ensures) at c.equal_part.ensures.value in
+    same-apart _ _ _ _ _ _
+    (long-head _ _ _ _ _ _ some c.requires.some c.requires.lengths c.requires.phases c.requires.window c.requires.right_window)
+    (list-head _ _ _ _ _ t some c.requires.some refl refl refl c.requires.window)
+    (list-head _ _ _ _ _ t some c.requires.some refl c.requires.lengths c.requires.phases c.requires.right_window)
+    (sym c.if-not-equal_part.true ∙ told)
+
+pub returns-then-not-equal_part-clause-reads : goal.returns-then-not-equal_part-clause-reads
+returns-then-not-equal_part-clause-reads g c =
+    let all = touched-first g.C.Elem.BitStore.BITS c.args.left_window.start c.args.left_window.len c.requires.some in
+    record { numbers = search rules; borrow = search rules; loads = omega arith; stores = search rules }
+
+pub returns-then-not-equal_part-clause-right : goal.returns-then-not-equal_part-clause-right
+returns-then-not-equal_part-clause-right g c =
+    let lengths = c.requires.lengths in
+    let some = c.requires.some in
+    let all = touched-first g.C.Elem.BitStore.BITS c.args.right_window.start c.args.right_window.len (omega arith) in
+    record { numbers = search rules; borrow = search rules; loads = omega arith; stores = search rules }
+
+pub returns-then-passed-left_window-clause-reads : goal.returns-then-passed-left_window-clause-reads
+returns-then-passed-left_window-clause-reads g c =
+    let all = touched-first g.C.Elem.BitStore.BITS c.args.left_window.start c.args.left_window.len c.requires.some in
+    record { numbers = search rules; borrow = search rules; loads = omega arith; stores = search rules }
+
+pub returns-then-passed-left_window-clause-right : goal.returns-then-passed-left_window-clause-right
+returns-then-passed-left_window-clause-right g c =
+    let lengths = c.requires.lengths in
+    let some = c.requires.some in
+    let all = touched-first g.C.Elem.BitStore.BITS c.args.right_window.start c.args.right_window.len (omega arith) in
+    record { numbers = search rules; borrow = search rules; loads = omega arith; stores = search rules }
+
+pub returns-clause-value : goal.returns-clause-value
+returns-clause-value g c =
+    let b = g.C.Elem.BitStore.BITS in
+    let some = width_some _ g.met.C.Elem.BitStore.width_law in
+    let head : c.first_part-head.result ≡ first_part_of b c.args.left_window = c.first_part-head.ensures ∙ ap (λ (n : ℕ). first_part_of n c.args.left_window) c.BITS-bits.ensures in
+    let step = c.len-passed.ensures ∙ ap (λ (p : Part). p.to - p.from) head in
+    let told = rw (head, c.BITS-bits.ensures) at c.equal_part.ensures.value in
+    let rest = rw (c.after.ensures, c.after-2.ensures, c.equal_part.ensures.reads.numbers, c.equal_part.ensures.right.numbers) at c.equal_aligned.ensures.value in
+    rest ∙ same-then _ _ _ _ _ _
+    (long-head _ _ _ _ _ _ some c.requires.some c.requires.lengths c.requires.phases c.requires.window c.requires.right_window)
+    (list-head _ _ _ _ _ _ some c.requires.some step refl refl c.requires.window)
+    (list-head _ _ _ _ _ _ some c.requires.some step c.requires.lengths c.requires.phases c.requires.right_window)
+    (sym c.if-not-equal_part.false ∙ told)
+
+pub returns-clause-reads : goal.returns-clause-reads
+returns-clause-reads g c =
+    let b = g.C.Elem.BitStore.BITS in
+    let some = width_some _ g.met.C.Elem.BitStore.width_law in
+    let step = first_part-long c.len-passed.result b c.BITS-bits.result c.args.left_window c.first_part-head.result c.len-passed.ensures c.first_part-head.ensures c.BITS-bits.ensures in
+    let all = touched-rest b c.args.left_window.start c.len-passed.result c.args.left_window.len some c.requires.some step c.if-passed-left_window.false in
+    let rest = rw c.after.ensures at c.equal_aligned.ensures.reads in
+    record { numbers = search rules; borrow = search rules; loads = omega arith; stores = search rules }
+
+pub returns-clause-right : goal.returns-clause-right
+returns-clause-right g c =
+    let b = g.C.Elem.BitStore.BITS in
+    let some = width_some _ g.met.C.Elem.BitStore.width_law in
+    let step = first_part-long c.len-passed.result b c.BITS-bits.result c.args.left_window c.first_part-head.result c.len-passed.ensures c.first_part-head.ensures c.BITS-bits.ensures in
+    let lengths = c.requires.lengths in
+    let more = c.requires.some in
+    let same : c.len-passed.result ≡ min c.args.right_window.len (b - c.args.right_window.start % b) = rw (c.requires.lengths, c.requires.phases) at step in
+    let left : c.len-passed.result ≢ c.args.right_window.len = λ e. c.if-passed-left_window.false (omega arith) in
+    let all = touched-rest b c.args.right_window.start c.len-passed.result c.args.right_window.len some (omega arith) same left in
+    let rest = rw c.after-2.ensures at c.equal_aligned.ensures.right in
+    record { numbers = search rules; borrow = search rules; loads = omega arith; stores = search rules }

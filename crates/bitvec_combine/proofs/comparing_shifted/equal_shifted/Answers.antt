@@ -1,0 +1,111 @@
+use Rattle.std.proofs.Common.{◌≡◌, ◌≤◌, ℕ, ◌+◌, ◌-◌, ◌/◌, arith, rules, sym, refl, ◌∙◌, ap, slice_index}
+use Rattle.std.proofs.lemmas.Nat.{mod_below}
+use Rattle.bitvec_words.specs.base.declared.part.Part.{Part}
+use Rattle.bitvec_words.specs.base.Parts.{first_part_of}
+use Rattle.bitvec_words.specs.store.WidthLaws.{width_some}
+use Rattle.bitvec_words.specs.walk.WalkLaws.{touched-less}
+use Rattle.bitvec_words.specs.FieldLaws.{first_part-long, list-head, list-parted}
+use Rattle.bitvec_words.specs.SameLaws.{same-apart, same-then}
+use Rattle.bitvec_words.specs.TouchedLaws.{apart_edge, inside_element, touched-first, touched-inside, touched-rest}
+use Rattle.bitvec_words.specs.WholeLaws.{long-parted}
+use Rattle.bitvec_combine.proofs.comparing_shifted.equal_shifted.Goals as goal
+
+pub returns-then-left_window-bits-eq0-clause-right : goal.returns-then-left_window-bits-eq0-clause-right
+returns-then-left_window-bits-eq0-clause-right g c =
+    let lengths = c.requires.lengths in
+    let some = c.requires.some in
+    let first = touched-first g.C.Elem.BitStore.BITS c.args.right_window.start c.args.right_window.len (omega arith) in
+    record { numbers = search rules; borrow = search rules; loads = omega arith; stores = search rules }
+
+pub returns-then-not-same-clause-value : goal.returns-then-not-same-clause-value
+returns-then-not-same-clause-value g c =
+    let b = g.C.Elem.BitStore.BITS in
+    let some = width_some _ g.met.C.Elem.BitStore.width_law in
+    let head : c.first_part-head.result ≡ first_part_of b c.args.left_window = c.first_part-head.ensures ∙ ap (λ (n : ℕ). first_part_of n c.args.left_window) c.BITS-bits.ensures in
+    let long = c.len-passed.ensures ∙ ap (λ (p : Part). p.to - p.from) head in
+    let step = first_part-long c.len-passed.result b c.BITS-bits.result c.args.left_window c.first_part-head.result c.len-passed.ensures c.first_part-head.ensures c.BITS-bits.ensures in
+    let lengths = c.requires.lengths in
+    let fits : c.len-passed.result ≤ c.args.right_window.len = omega arith in
+    let told = rw (head, c.until-beginning.ensures) at c.equal_shifted_head-same.ensures.value in
+    same-apart _ _ _ _ _ _
+    (long-parted _ _ _ _ _ _ c.len-passed.result some c.requires.some long c.requires.lengths c.requires.window c.requires.right_window)
+    (list-head _ _ _ _ _ c.len-passed.result some c.requires.some long refl refl c.requires.window)
+    (list-parted _ _ _ _ c.len-passed.result c.requires.right_window fits)
+    (sym c.if-not-same.true ∙ told)
+
+pub returns-then-not-same-clause-reads : goal.returns-then-not-same-clause-reads
+returns-then-not-same-clause-reads g c =
+    let all = touched-first g.C.Elem.BitStore.BITS c.args.left_window.start c.args.left_window.len c.requires.some in
+    record { numbers = search rules; borrow = search rules; loads = omega arith; stores = search rules }
+
+pub returns-then-not-same-clause-right : goal.returns-then-not-same-clause-right
+returns-then-not-same-clause-right g c =
+    let b = g.C.Elem.BitStore.BITS in
+    let some = width_some _ g.met.C.Elem.BitStore.width_law in
+    let step = first_part-long c.len-passed.result b c.BITS-bits.result c.args.left_window c.first_part-head.result c.len-passed.ensures c.first_part-head.ensures c.BITS-bits.ensures in
+    let lengths = c.requires.lengths in
+    let long : c.args.right_window.len - (c.args.right_window.len - c.len-passed.result) ≡ c.len-passed.result = omega arith in
+    let most = touched-less b c.args.right_window.start c.len-passed.result c.args.right_window.len some (omega arith) in
+    let first = rw (c.until-beginning.ensures, long) at c.equal_shifted_head-same.ensures.right in
+    record { numbers = search rules; borrow = search rules; loads = omega arith; stores = search rules }
+
+pub returns-then-passed-left_window-clause-reads : goal.returns-then-passed-left_window-clause-reads
+returns-then-passed-left_window-clause-reads g c =
+    let all = touched-first g.C.Elem.BitStore.BITS c.args.left_window.start c.args.left_window.len c.requires.some in
+    record { numbers = search rules; borrow = search rules; loads = omega arith; stores = search rules }
+
+pub equal_carried-requires-2-clause-carry : goal.equal_carried-requires-2-clause-carry
+equal_carried-requires-2-clause-carry g c =
+    let b = g.C.Elem.BitStore.BITS in
+    let some = width_some _ g.met.C.Elem.BitStore.width_law in
+    let step = first_part-long c.len-passed.result b c.BITS-bits.result c.args.left_window c.first_part-head.result c.len-passed.ensures c.first_part-head.ensures c.BITS-bits.ensures in
+    let inside = apart_edge b c.args.left_window.start c.args.right_window.start c.len-passed.result c.args.left_window.len some step c.if-passed-left_window.false c.requires.phases in
+    let same = inside_element b c.args.right_window.start c.len-passed.result some inside in
+    let lengths = c.requires.lengths in
+    let end : c.args.right_window.start + (c.args.right_window.len - (c.args.right_window.len - c.len-passed.result)) - 1 ≡ c.args.right_window.start + c.len-passed.result - 1 = omega arith in
+    let last = rw c.until-beginning.ensures at c.equal_shifted_head-same.ensures.last in
+    rw (c.after-2.ensures, c.equal_shifted_head-same.ensures.right.numbers)
+    (last ∙ ap (λ (m : ℕ). slice_index (g.D.CellsRead.numbers c.args.right.now) (m / b)) end ∙ ap (slice_index (g.D.CellsRead.numbers c.args.right.now)) same)
+
+pub returns-clause-value : goal.returns-clause-value
+returns-clause-value g c =
+    let b = g.C.Elem.BitStore.BITS in
+    let some = width_some _ g.met.C.Elem.BitStore.width_law in
+    let head : c.first_part-head.result ≡ first_part_of b c.args.left_window = c.first_part-head.ensures ∙ ap (λ (n : ℕ). first_part_of n c.args.left_window) c.BITS-bits.ensures in
+    let long = c.len-passed.ensures ∙ ap (λ (p : Part). p.to - p.from) head in
+    let step = first_part-long c.len-passed.result b c.BITS-bits.result c.args.left_window c.first_part-head.result c.len-passed.ensures c.first_part-head.ensures c.BITS-bits.ensures in
+    let lengths = c.requires.lengths in
+    let fits : c.len-passed.result ≤ c.args.right_window.len = omega arith in
+    let told = rw (head, c.until-beginning.ensures) at c.equal_shifted_head-same.ensures.value in
+    let rest = rw (c.after.ensures, c.after-2.ensures, c.equal_shifted_head-same.ensures.reads.numbers, c.equal_shifted_head-same.ensures.right.numbers) at c.equal_carried-2.ensures.value in
+    rest ∙ same-then _ _ _ _ _ _
+    (long-parted _ _ _ _ _ _ c.len-passed.result some c.requires.some long c.requires.lengths c.requires.window c.requires.right_window)
+    (list-head _ _ _ _ _ c.len-passed.result some c.requires.some long refl refl c.requires.window)
+    (list-parted _ _ _ _ c.len-passed.result c.requires.right_window fits)
+    (sym c.if-not-same.false ∙ told)
+
+pub returns-clause-reads : goal.returns-clause-reads
+returns-clause-reads g c =
+    let b = g.C.Elem.BitStore.BITS in
+    let some = width_some _ g.met.C.Elem.BitStore.width_law in
+    let step = first_part-long c.len-passed.result b c.BITS-bits.result c.args.left_window c.first_part-head.result c.len-passed.ensures c.first_part-head.ensures c.BITS-bits.ensures in
+    let all = touched-rest b c.args.left_window.start c.len-passed.result c.args.left_window.len some c.requires.some step c.if-passed-left_window.false in
+    let rest = rw c.after.ensures at c.equal_carried-2.ensures.reads in
+    record { numbers = search rules; borrow = search rules; loads = omega arith; stores = search rules }
+
+pub returns-clause-right : goal.returns-clause-right
+returns-clause-right g c =
+    let b = g.C.Elem.BitStore.BITS in
+    let some = width_some _ g.met.C.Elem.BitStore.width_law in
+    let step = first_part-long c.len-passed.result b c.BITS-bits.result c.args.left_window c.first_part-head.result c.len-passed.ensures c.first_part-head.ensures c.BITS-bits.ensures in
+    let inside = apart_edge b c.args.left_window.start c.args.right_window.start c.len-passed.result c.args.left_window.len some step c.if-passed-left_window.false c.requires.phases in
+    let head = mod_below c.args.left_window.start b some in
+    let lengths = c.requires.lengths in
+    let more = c.requires.some in
+    let left = c.if-passed-left_window.false in
+    let whole : c.len-passed.result + (c.args.right_window.len - c.len-passed.result) ≡ c.args.right_window.len = omega arith in
+    let all = rw whole at (touched-inside b c.args.right_window.start c.len-passed.result (c.args.right_window.len - c.len-passed.result) some (omega arith) inside) in
+    let long : c.args.right_window.len - (c.args.right_window.len - c.len-passed.result) ≡ c.len-passed.result = omega arith in
+    let first = rw (c.until-beginning.ensures, long) at c.equal_shifted_head-same.ensures.right in
+    let rest = rw c.after-2.ensures at c.equal_carried-2.ensures.right in
+    record { numbers = search rules; borrow = search rules; loads = omega arith; stores = search rules }

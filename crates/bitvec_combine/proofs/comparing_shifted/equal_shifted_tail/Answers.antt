@@ -1,0 +1,14 @@
+use Rattle.std.proofs.Common.{sym, ◌∙◌, refl, arith}
+use Rattle.bitvec_words.specs.base.declared.part.Part.{Part}
+use Rattle.bitvec_words.specs.base.SliceLaws.{range-from_start}
+use Rattle.bitvec_words.specs.FieldLaws.{list-part}
+use Rattle.bitvec_words.specs.SameLaws.{same-lists}
+use Rattle.bitvec_combine.proofs.comparing_shifted.equal_shifted_tail.Goals as goal
+
+pub returns-clause-value : goal.returns-clause-value
+returns-clause-value g c =
+    let part : Part = record { element = c.args.element; from = 0; to = c.args.window.len } in
+    let same = rw c.load-beginning.ensures.value at c.same_between.ensures in
+    same ∙ same-lists _ _ _ _
+    (sym (list-part _ _ _ part (record { element = c.requires.element; order = omega arith; bound = c.requires.bound })))
+    (range-from_start _ _ _ refl ∙ c.field_after-front.ensures.value)

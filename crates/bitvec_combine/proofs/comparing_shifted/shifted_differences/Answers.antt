@@ -1,0 +1,47 @@
+use Rattle.std.proofs.Common.{◌==◌, ℕ, List, Bool, ◌++◌, arith, rules, ◌∙◌, ap, slice_index}
+use Rattle.std.proofs.Math.Nat.{mul-le-mul_left}
+use Rattle.bitvec_words.specs.store.WidthLaws.{width_some}
+use Rattle.bitvec_words.specs.base.Memory.{element_bits, list_in}
+use Rattle.bitvec_words.specs.Elements.{elements_window, elements_window_from}
+use Rattle.bitvec_words.specs.FieldLaws.{list-element, list-joined}
+use Rattle.bitvec_words.specs.SameLaws.{same-element}
+use Rattle.bitvec_words.specs.WholeLaws.{HasWindow-part, same-empty, same-length}
+use Rattle.bitvec_combine.proofs.comparing_shifted.shifted_differences.Goals as goal
+
+pub loop-step-init : goal.loop-step-init
+loop-step-init g c = record {
+  found = ap (λ (n : ℕ). n == 0) (ap g.C.Elem.BitStore.value c.ZERO-found.ensures ∙ g.met.C.Elem.BitStore.zero_law)
+      ∙ same-empty _ _ _ _ _ _ (omega arith) (omega arith);
+  carried = c.requires.carry ∙ ap (slice_index (g.D.CellsRead.numbers c.args.right.now)) (omega arith);
+  reads = search rules;
+  right = search rules;
+}
+
+pub loop-step-preserved : goal.loop-step-preserved
+loop-step-preserved g c =
+    let b = g.C.Elem.BitStore.BITS in
+    let at = g.O.BitOrder.at in
+    let xs = g.C.CellsRead.numbers c.args.left.now in
+    let ys = g.D.CellsRead.numbers c.args.right.now in
+    let step = c.loop-step.step in
+    let inv = c.loop-step.invariant in
+    let some = width_some _ g.met.C.Elem.BitStore.width_law in
+    let more = c.loop-step-test.true in
+    let order = mul-le-mul_left b more in
+    let value = rw inv.reads.numbers at c.load-element.ensures.value in
+    let next = rw inv.right.numbers at c.load-next.ensures.value in
+    let joined = rw (inv.carried, next) at c.joined-other.ensures in
+    let number = rw c.xor.ensures at c.or-found.ensures in
+    let long = same-length b at xs ys (elements_window b c.args.first step) (elements_window_from b c.args.source c.args.skip step)
+    (HasWindow-part b xs (elements_window b c.args.first c.args.count) (elements_window b c.args.first step) c.requires.window (omega arith) (omega arith))
+    (HasWindow-part b ys (elements_window_from b c.args.source c.args.skip c.args.count) (elements_window_from b c.args.source c.args.skip step) c.requires.right_window (omega arith) (omega arith))
+    (omega arith) in
+    record {
+      found = same-element b at (g.met.O.BitOrder.permutes _ g.met.C.Elem.BitStore.width_law) _ _ _ _ _ _ _ _ c.load-element.ensures.in_range c.in_range.ensures long number
+          (ap (λ (n : ℕ). list_in b at xs (elements_window b c.args.first step) ++ element_bits b at n) value ∙ list-element b at xs c.args.first c.args.count step some c.requires.window more)
+          (ap (λ (l : List Bool). list_in b at ys (elements_window_from b c.args.source c.args.skip step) ++ l) joined ∙ list-joined b at ys c.args.source c.args.skip c.args.count step c.requires.some c.requires.bound c.requires.right_window more)
+          inv.found;
+      carried = next ∙ ap (slice_index ys) (omega arith);
+      reads = search rules;
+      right = search rules;
+    }

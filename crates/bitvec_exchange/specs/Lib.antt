@@ -1,8 +1,0 @@
-pub mod Ends
-pub mod MirrorLaws
-pub mod ReversalLaws
-pub mod Settled
-pub mod SettledLaws
-pub mod SwapLaws
-pub mod WaitingLaws
-pub mod WordLaws

@@ -1,0 +1,43 @@
+use Rattle.std.proofs.Common.{◌/◌, ◌+◌, ◌%◌, arith, rules}
+use Rattle.bitvec_words.specs.store.WidthLaws.{width_some}
+use Rattle.bitvec_words.specs.base.WritesLaws.{Writes-is}
+use Rattle.bitvec_words.specs.FieldLaws.{Writes-tail, list-tail}
+use Rattle.bitvec_words.specs.TouchedLaws.{part_loads-most, touched-full, touched-more}
+use Rattle.bitvec_move.proofs.copying_equal.copy_aligned.Goals as goal
+
+pub returns-then-rest-eq0-clause-cost : goal.returns-then-rest-eq0-clause-cost
+returns-then-rest-eq0-clause-cost g c =
+    let full = rw c.BITS-bits.ensures at c.if-rest-eq0.true in
+    let all = touched-full g.C.Elem.BitStore.BITS c.args.to.start c.args.to.len (width_some _ g.met.C.Elem.BitStore.width_law) c.requires.edge full in
+    let cost = rw c.BITS-bits.ensures at c.copy_whole.ensures.cost in
+    record { borrow = search rules; loads = omega arith; stores = omega arith }
+
+pub returns-then-rest-eq0-clause-right : goal.returns-then-rest-eq0-clause-right
+returns-then-rest-eq0-clause-right g c =
+    let full = rw (c.BITS-bits.ensures, c.requires.lengths) at c.if-rest-eq0.true in
+    let all = touched-full g.C.Elem.BitStore.BITS c.args.from.start c.args.from.len (width_some _ g.met.C.Elem.BitStore.width_law) c.requires.right_edge full in
+    rw (all, ← c.requires.lengths) (rw c.BITS-bits.ensures at c.copy_whole.ensures.right)
+
+pub returns-clause-writes : goal.returns-clause-writes
+returns-clause-writes g c =
+    let first = rw c.BITS-bits.ensures at c.copy_whole.ensures.writes in
+    let second = rw (c.BITS-bits.ensures, c.copy_whole.ensures.right.numbers) at c.copy_part.ensures.writes in
+    Writes-is _ _ _ _ _ _ _
+    (Writes-tail _ _ _ _ _ _ _ _ c.requires.window c.requires.edge first second)
+    (list-tail _ _ _ _ _ c.requires.right_window c.requires.right_edge c.requires.lengths)
+
+pub returns-clause-cost : goal.returns-clause-cost
+returns-clause-cost g c =
+    let left = rw c.BITS-bits.ensures at c.if-rest-eq0.false in
+    let all = touched-more g.C.Elem.BitStore.BITS c.args.to.start c.args.to.len (width_some _ g.met.C.Elem.BitStore.width_law) c.requires.edge (omega arith) in
+    let cost = rw c.BITS-bits.ensures at c.copy_whole.ensures.cost in
+    let tail = rw c.BITS-bits.ensures at c.copy_part.ensures.cost in
+    let most = part_loads-most g.C.Elem.BitStore.BITS (record { element = c.args.to.start / g.C.Elem.BitStore.BITS + c.args.to.len / g.C.Elem.BitStore.BITS; from = 0; to = c.args.to.len % g.C.Elem.BitStore.BITS }) in
+    record { borrow = search rules; loads = omega arith; stores = omega arith }
+
+pub returns-clause-right : goal.returns-clause-right
+returns-clause-right g c =
+    let left = rw (c.BITS-bits.ensures, c.requires.lengths) at c.if-rest-eq0.false in
+    let all = touched-more g.C.Elem.BitStore.BITS c.args.from.start c.args.from.len (width_some _ g.met.C.Elem.BitStore.width_law) c.requires.right_edge (omega arith) in
+    let whole = rw (c.BITS-bits.ensures, c.requires.lengths) at c.copy_whole.ensures.right in
+    record { numbers = search rules; borrow = search rules; loads = omega arith; stores = search rules }

@@ -1,0 +1,62 @@
+use Rattle.std.proofs.Common.{◌≡◌, ◌≢◌, ℕ, ◌-◌, ◌%◌, min, arith, rules, ◌∙◌, ap}
+use Rattle.bitvec_words.specs.base.declared.part.Part.{Part}
+use Rattle.bitvec_words.specs.base.Parts.{first_part_of}
+use Rattle.bitvec_words.specs.base.WritesLaws.{Writes-is}
+use Rattle.bitvec_words.specs.store.WidthLaws.{width_some}
+use Rattle.bitvec_words.specs.walk.Cost.{touched}
+use Rattle.bitvec_words.specs.FieldLaws.{Writes-head, first_part-long, list-head}
+use Rattle.bitvec_words.specs.TouchedLaws.{part_loads-most, touched-head, touched-rest}
+use Rattle.bitvec_move.proofs.copying_equal.copy_equal.Goals as goal
+
+pub returns-then-passed-to-clause-cost : goal.returns-then-passed-to-clause-cost
+returns-then-passed-to-clause-cost g c =
+    let b = g.C.Elem.BitStore.BITS in
+    let some = width_some _ g.met.C.Elem.BitStore.width_law in
+    let step = first_part-long c.len-passed.result b c.BITS-bits.result c.args.to c.first_part-head.result c.len-passed.ensures c.first_part-head.ensures c.BITS-bits.ensures in
+    let one = touched-head b c.args.to.start c.len-passed.result c.args.to.len some c.requires.some step in
+    let all = ap (touched b c.args.to.start) c.if-passed-to.true in
+    let most = part_loads-most b c.first_part-head.result in
+    record { borrow = search rules; loads = omega arith; stores = omega arith }
+
+pub returns-then-passed-to-clause-right : goal.returns-then-passed-to-clause-right
+returns-then-passed-to-clause-right g c =
+    let b = g.C.Elem.BitStore.BITS in
+    let some = width_some _ g.met.C.Elem.BitStore.width_law in
+    let step = first_part-long c.len-passed.result b c.BITS-bits.result c.args.to c.first_part-head.result c.len-passed.ensures c.first_part-head.ensures c.BITS-bits.ensures in
+    let same : c.len-passed.result ≡ min c.args.from.len (b - c.args.from.start % b) = rw (c.requires.lengths, c.requires.phases) at step in
+    let one = touched-head b c.args.from.start c.len-passed.result c.args.from.len some (omega arith) same in
+    let all = ap (touched b c.args.from.start) (c.if-passed-to.true ∙ c.requires.lengths) in
+    record { numbers = search rules; borrow = search rules; loads = omega arith; stores = search rules }
+
+pub returns-clause-writes : goal.returns-clause-writes
+returns-clause-writes g c =
+    let b = g.C.Elem.BitStore.BITS in
+    let some = width_some _ g.met.C.Elem.BitStore.width_law in
+    let head : c.first_part-head.result ≡ first_part_of b c.args.to = c.first_part-head.ensures ∙ ap (λ (n : ℕ). first_part_of n c.args.to) c.BITS-bits.ensures in
+    let step = c.len-passed.ensures ∙ ap (λ (p : Part). p.to - p.from) head in
+    let first = rw (head, c.BITS-bits.ensures) at c.copy_part.ensures.writes in
+    let rest = rw (c.after.ensures, c.after-2.ensures, c.copy_part.ensures.right.numbers) at c.copy_aligned.ensures.writes in
+    Writes-is _ _ _ _ _ _ _
+    (Writes-head _ _ _ _ _ _ _ _ _ some c.requires.some step c.requires.window first rest)
+    (list-head _ _ _ _ _ _ some c.requires.some step c.requires.lengths c.requires.phases c.requires.right_window)
+
+pub returns-clause-cost : goal.returns-clause-cost
+returns-clause-cost g c =
+    let b = g.C.Elem.BitStore.BITS in
+    let some = width_some _ g.met.C.Elem.BitStore.width_law in
+    let step = first_part-long c.len-passed.result b c.BITS-bits.result c.args.to c.first_part-head.result c.len-passed.ensures c.first_part-head.ensures c.BITS-bits.ensures in
+    let all = touched-rest b c.args.to.start c.len-passed.result c.args.to.len some c.requires.some step c.if-passed-to.false in
+    let most = part_loads-most b c.first_part-head.result in
+    let rest = rw c.after.ensures at c.copy_aligned.ensures.cost in
+    record { borrow = search rules; loads = omega arith; stores = omega arith }
+
+pub returns-clause-right : goal.returns-clause-right
+returns-clause-right g c =
+    let b = g.C.Elem.BitStore.BITS in
+    let some = width_some _ g.met.C.Elem.BitStore.width_law in
+    let step = first_part-long c.len-passed.result b c.BITS-bits.result c.args.to c.first_part-head.result c.len-passed.ensures c.first_part-head.ensures c.BITS-bits.ensures in
+    let same : c.len-passed.result ≡ min c.args.from.len (b - c.args.from.start % b) = rw (c.requires.lengths, c.requires.phases) at step in
+    let left : c.len-passed.result ≢ c.args.from.len = λ e. c.if-passed-to.false (omega arith) in
+    let all = touched-rest b c.args.from.start c.len-passed.result c.args.from.len some (omega arith) same left in
+    let rest = rw c.after-2.ensures at c.copy_aligned.ensures.right in
+    record { numbers = search rules; borrow = search rules; loads = omega arith; stores = search rules }

@@ -1,0 +1,79 @@
+use Rattle.std.proofs.Common.{◌≡◌, ◌≤◌, ◌+◌, ℕ, ◌-◌, ◌/◌, arith, rules, ◌∙◌, ap, slice_index}
+use Rattle.std.proofs.lemmas.Nat.{mod_below}
+use Rattle.bitvec_words.specs.base.declared.part.Part.{Part}
+use Rattle.bitvec_words.specs.base.Parts.{first_part_of}
+use Rattle.bitvec_words.specs.base.WritesLaws.{Writes-is}
+use Rattle.bitvec_words.specs.store.WidthLaws.{width_some}
+use Rattle.bitvec_words.specs.walk.Cost.{touched}
+use Rattle.bitvec_words.specs.FieldLaws.{Writes-head, first_part-long, list-parted}
+use Rattle.bitvec_words.specs.TouchedLaws.{apart_edge, inside_element, part_loads-most, touched-first, touched-head, touched-inside, touched-rest}
+use Rattle.bitvec_move.proofs.copying_shifted.copy_shifted.Goals as goal
+
+pub returns-then-to-bits-eq0-clause-right : goal.returns-then-to-bits-eq0-clause-right
+returns-then-to-bits-eq0-clause-right g c =
+    let first = touched-first g.C.Elem.BitStore.BITS c.args.from.start c.args.from.len (omega arith) in
+    record { numbers = search rules; borrow = search rules; loads = omega arith; stores = search rules }
+
+pub returns-then-passed-to-clause-cost : goal.returns-then-passed-to-clause-cost
+returns-then-passed-to-clause-cost g c =
+    let b = g.C.Elem.BitStore.BITS in
+    let some = width_some _ g.met.C.Elem.BitStore.width_law in
+    let step = first_part-long c.len-passed.result b c.BITS-bits.result c.args.to c.first_part-head.result c.len-passed.ensures c.first_part-head.ensures c.BITS-bits.ensures in
+    let one = touched-head b c.args.to.start c.len-passed.result c.args.to.len some c.requires.some step in
+    let all = ap (touched b c.args.to.start) c.if-passed-to.true in
+    let most = part_loads-most b c.first_part-head.result in
+    record { borrow = search rules; loads = omega arith; stores = omega arith }
+
+pub copy_rest-requires-2-clause-carry : goal.copy_rest-requires-2-clause-carry
+copy_rest-requires-2-clause-carry g c =
+    let b = g.C.Elem.BitStore.BITS in
+    let some = width_some _ g.met.C.Elem.BitStore.width_law in
+    let step = first_part-long c.len-passed.result b c.BITS-bits.result c.args.to c.first_part-head.result c.len-passed.ensures c.first_part-head.ensures c.BITS-bits.ensures in
+    let inside = apart_edge b c.args.to.start c.args.from.start c.len-passed.result c.args.to.len some step c.if-passed-to.false c.requires.phases in
+    let same = inside_element b c.args.from.start c.len-passed.result some inside in
+    let lengths = c.requires.lengths in
+    let end : c.args.from.start + (c.args.from.len - (c.args.from.len - c.len-passed.result)) - 1 ≡ c.args.from.start + c.len-passed.result - 1 = omega arith in
+    let last = rw c.until.ensures at c.shift_head-carry.ensures.last in
+    rw (c.after-2.ensures, c.shift_head-carry.ensures.right.numbers)
+    (last ∙ ap (λ (m : ℕ). slice_index (g.D.CellsRead.numbers c.args.right.now) (m / b)) end ∙ ap (slice_index (g.D.CellsRead.numbers c.args.right.now)) same)
+
+pub returns-clause-writes : goal.returns-clause-writes
+returns-clause-writes g c =
+    let b = g.C.Elem.BitStore.BITS in
+    let some = width_some _ g.met.C.Elem.BitStore.width_law in
+    let head : c.first_part-head.result ≡ first_part_of b c.args.to = c.first_part-head.ensures ∙ ap (λ (n : ℕ). first_part_of n c.args.to) c.BITS-bits.ensures in
+    let long = c.len-passed.ensures ∙ ap (λ (p : Part). p.to - p.from) head in
+    let step = first_part-long c.len-passed.result b c.BITS-bits.result c.args.to c.first_part-head.result c.len-passed.ensures c.first_part-head.ensures c.BITS-bits.ensures in
+    let lengths = c.requires.lengths in
+    let fits : c.len-passed.result ≤ c.args.from.len = omega arith in
+    let first = rw (head, c.until.ensures) at c.shift_head-carry.ensures.writes in
+    let rest = rw (c.after.ensures, c.after-2.ensures, c.shift_head-carry.ensures.right.numbers) at c.copy_rest-2.ensures.writes in
+    Writes-is _ _ _ _ _ _ _
+    (Writes-head _ _ _ _ _ _ _ _ _ some c.requires.some long c.requires.window first rest)
+    (list-parted _ _ _ _ _ c.requires.right_window fits)
+
+pub returns-clause-cost : goal.returns-clause-cost
+returns-clause-cost g c =
+    let b = g.C.Elem.BitStore.BITS in
+    let some = width_some _ g.met.C.Elem.BitStore.width_law in
+    let step = first_part-long c.len-passed.result b c.BITS-bits.result c.args.to c.first_part-head.result c.len-passed.ensures c.first_part-head.ensures c.BITS-bits.ensures in
+    let all = touched-rest b c.args.to.start c.len-passed.result c.args.to.len some c.requires.some step c.if-passed-to.false in
+    let most = part_loads-most b c.first_part-head.result in
+    let rest = rw c.after.ensures at c.copy_rest-2.ensures.cost in
+    record { borrow = search rules; loads = omega arith; stores = omega arith }
+
+pub returns-clause-right : goal.returns-clause-right
+returns-clause-right g c =
+    let b = g.C.Elem.BitStore.BITS in
+    let some = width_some _ g.met.C.Elem.BitStore.width_law in
+    let step = first_part-long c.len-passed.result b c.BITS-bits.result c.args.to c.first_part-head.result c.len-passed.ensures c.first_part-head.ensures c.BITS-bits.ensures in
+    let inside = apart_edge b c.args.to.start c.args.from.start c.len-passed.result c.args.to.len some step c.if-passed-to.false c.requires.phases in
+    let head = mod_below c.args.to.start b some in
+    let lengths = c.requires.lengths in
+    let left = c.if-passed-to.false in
+    let whole : c.len-passed.result + (c.args.from.len - c.len-passed.result) ≡ c.args.from.len = omega arith in
+    let all = rw whole at (touched-inside b c.args.from.start c.len-passed.result (c.args.from.len - c.len-passed.result) some (omega arith) inside) in
+    let long : c.args.from.len - (c.args.from.len - c.len-passed.result) ≡ c.len-passed.result = omega arith in
+    let first = rw (c.until.ensures, long) at c.shift_head-carry.ensures.right in
+    let rest = rw c.after-2.ensures at c.copy_rest-2.ensures.right in
+    record { numbers = search rules; borrow = search rules; loads = omega arith; stores = search rules }

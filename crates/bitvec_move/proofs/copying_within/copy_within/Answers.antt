@@ -1,0 +1,21 @@
+use Rattle.std.proofs.Common.{◌+◌, ◌-◌, arith}
+use Rattle.bitvec_words.specs.base.Lists.{copied_within}
+use Rattle.bitvec_words.specs.base.WritesLaws.{HasWindow-range, Writes-is, Writes-range, list-range}
+use Rattle.bitvec_move.proofs.copying_within.copy_within.Goals as goal
+
+pub move_window-requires-clause-window : goal.move_window-requires-clause-window
+move_window-requires-clause-window g c =
+    rw c.range-target.ensures (HasWindow-range _ _ _ c.args.dest (c.args.dest + (c.args.to - c.args.from)) c.requires.window (omega arith) c.requires.fits.room)
+
+pub move_window-requires-clause-source : goal.move_window-requires-clause-source
+move_window-requires-clause-source g c =
+    rw c.range-source.ensures (HasWindow-range _ _ _ c.args.from c.args.to c.requires.window c.requires.fits.order c.requires.fits.source)
+
+pub returns-clause-writes : goal.returns-clause-writes
+unfolding copied_within
+returns-clause-writes g c =
+    let fits = c.requires.fits in
+    let dest = c.args.dest in
+    let moved = rw (c.range-target.ensures, c.range-source.ensures) at c.move_window.ensures.writes in
+    Writes-range _ _ _ _ _ dest (dest + (c.args.to - c.args.from)) _ c.requires.window (omega arith) fits.room
+    (Writes-is _ _ _ _ _ _ _ moved (list-range _ _ _ _ c.args.from c.args.to c.requires.window fits.order fits.source))

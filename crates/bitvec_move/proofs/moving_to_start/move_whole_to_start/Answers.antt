@@ -1,0 +1,28 @@
+use Rattle.std.proofs.Common.{◌+◌, arith, rules}
+use Rattle.bitvec_words.specs.store.WidthLaws.{width_some}
+use Rattle.bitvec_words.specs.base.WritesLaws.{Writes-is}
+use Rattle.bitvec_words.specs.FieldLaws.{Writes-element, Writes-no_element, list-element}
+use Rattle.bitvec_move.specs.WithinLaws.{element-left}
+use Rattle.bitvec_move.proofs.moving_to_start.move_whole_to_start.Goals as goal
+
+pub loop-step-init : goal.loop-step-init
+loop-step-init g c = record {
+  writes = Writes-no_element _ _ _ _ _ _ _ c.requires.window (omega arith);
+  cost = search rules;
+}
+
+pub loop-step-preserved : goal.loop-step-preserved
+loop-step-preserved g c =
+    let step = c.loop-step.step in
+    let inv = c.loop-step.invariant in
+    let some = width_some _ g.met.C.Elem.BitStore.width_law in
+    let more = c.loop-step-test.true in
+    let towards = c.requires.towards_start in
+    let kept = element-left _ _ _ _ c.args.first c.args.count step (c.args.source + step) _ c.requires.window (omega arith) (omega arith) inv.writes in
+    record {
+      writes = rw (c.store.ensures.numbers, c.load-element.ensures.numbers, c.load-element.ensures.value)
+          (Writes-is _ _ _ _ _ _ _
+          (Writes-element _ _ _ _ _ _ _ _ _ some c.requires.window more inv.writes)
+          (rw kept (list-element _ _ _ _ _ _ some c.requires.source more)));
+      cost = search rules;
+    }

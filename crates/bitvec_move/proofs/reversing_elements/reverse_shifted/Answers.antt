@@ -1,0 +1,127 @@
+use Rattle.std.proofs.Common.{◌≡◌, ℕ, ◌+◌, ◌-◌, ◌*◌, ◌/◌, ◌<◌, ◌≤◌, arith, rules, ap, ◌∙◌}
+use Rattle.std.proofs.Math.Nat.{mul-le-mul_left}
+use Rattle.bitvec_words.specs.store.WidthLaws.{width_some}
+use Rattle.bitvec_words.specs.base.Memory.{element_bits, list_in}
+use Rattle.bitvec_words.specs.base.SliceLaws.{range-same}
+use Rattle.bitvec_words.specs.base.WritesLaws.{length-list}
+use Rattle.bitvec_words.specs.Elements.{elements_window}
+use Rattle.bitvec_move.specs.Settled.{front_reversed}
+use Rattle.bitvec_move.specs.SettledLaws.{Settled-left, Settled-pair, Settled-rest, Settled-start, element-before, element-inside, length-front_reversed, reversed-behind, reversed-first, reversed-last, reversed-start, settled-all}
+use Rattle.bitvec_move.proofs.reversing_elements.reverse_shifted.Goals as goal
+
+pub loop-pair-init : goal.loop-pair-init
+loop-pair-init g c =
+    let b = g.C.Elem.BitStore.BITS in
+    let at = g.O.BitOrder.at in
+    let old = g.C.CellsRead.numbers c.args.cells.now in
+    let count = c.args.count in
+    let last : ℕ = count - 0 - 1 in
+    let n : ℕ = (count - 1) * b + c.args.part in
+    let list = list_in b at old (elements_window b c.args.first count) in
+    let has = c.requires.window in
+    let some = width_some _ g.met.C.Elem.BitStore.width_law in
+    let long = length-list b at old _ has in
+    let same = length-front_reversed n list in
+    let whole = element-before count b c.requires.count in
+    let all : (count - 0) * b ≡ count * b = ap (λ (m : ℕ). m * b) (omega arith) in
+    let before : last * b ≡ (count - 1) * b = ap (λ (m : ℕ). m * b) (omega arith) in
+    let bound = c.requires.bound in
+    let high = ap (element_bits b at) c.load-high.ensures.value ∙ element-inside b at old c.args.first count last (c.args.first + count - 1) some has (omega arith) (omega arith) in
+    record {
+      writes = rw c.load-high.ensures.numbers (Settled-start b at old c.args.first count (0 * b) ((count - 0) * b) (front_reversed n list) has (same ∙ long) (omega arith) all);
+      high = high;
+      behind = rw (c.toward_start-behind.ensures, high) (reversed-start list (last * b) b c.args.part n (omega arith) bound (omega arith));
+      cost = search rules;
+    }
+
+pub loop-pair-preserved : goal.loop-pair-preserved
+loop-pair-preserved g c =
+    let b = g.C.Elem.BitStore.BITS in
+    let at = g.O.BitOrder.at in
+    let old = g.C.CellsRead.numbers c.args.cells.now in
+    let mid = g.C.CellsRead.numbers c.loop-pair.cells in
+    let first = c.args.first in
+    let count = c.args.count in
+    let part = c.args.part in
+    let pair = c.loop-pair.pair in
+    let last : ℕ = count - pair - 1 in
+    let next : ℕ = count - (pair + 1) - 1 in
+    let n : ℕ = (count - 1) * b + part in
+    let list = list_in b at old (elements_window b first count) in
+    let target = front_reversed n list in
+    let has = c.requires.window in
+    let bound = c.requires.bound in
+    let some = width_some _ g.met.C.Elem.BitStore.width_law in
+    let long = length-list b at old _ has in
+    let same = length-front_reversed n list in
+    let more = c.loop-pair-test.true in
+    let inv = c.loop-pair.invariant in
+    let high = element-before (count - pair) b (omega arith) in
+    let whole = element-before count b c.requires.count in
+    let before_last : last * b ≡ next * b + b = ap (λ (m : ℕ). m * b) (let e : last ≡ next + 1 = omega arith in e) ∙ omega arith in
+    let next_high : (count - (pair + 1)) * b ≡ last * b = ap (λ (m : ℕ). m * b) (omega arith) in
+    let all : (count - 1) * b ≡ pair * b + last * b = ap (λ (m : ℕ). m * b) (let e : count - 1 ≡ pair + last = omega arith in e) ∙ omega arith in
+    let order : pair * b + b ≤ last * b = omega (arith, mul-le-mul_left b (let e : pair < last = omega arith in e)) in
+    let low_left = Settled-left b at old mid first count (pair * b) ((count - pair) * b) pair (first + pair) target some has (same ∙ long) (omega arith) (omega arith) (omega arith) (omega arith) (omega arith) inv.writes in
+    let next_left = Settled-left b at old mid first count (pair * b) ((count - pair) * b) next (first + count - 1 - pair - 1) target some has (same ∙ long) (omega arith) (omega arith) (omega arith) (omega arith) (omega arith) inv.writes in
+    let next_bits = ap (element_bits b at) (rw c.load-low.ensures.numbers at c.load-next.ensures.value) ∙ next_left in
+    let next_range = next_bits ∙ range-same list (next * b) (next * b + b) (last * b - b) (last * b) (omega arith) (omega arith) in
+    let front = rw (c.joined-front.ensures, next_range, inv.high) at c.reversed.ensures in
+    let turned = rw (c.load-low.ensures.value, low_left) at c.reversed-turned.ensures in
+    let back = rw (c.BITS-bits.ensures, turned, inv.behind) at c.joined.ensures in
+    record {
+      writes = rw (c.store-in-loop-pair.ensures.numbers, c.store.ensures.numbers, c.load-next.ensures.numbers, c.load-low.ensures.numbers)
+          (Settled-pair b at old mid first count pair last (first + pair) (first + count - 1 - pair) _ _ (pair * b) ((count - pair) * b) ((pair + 1) * b) ((count - (pair + 1)) * b) target some has (same ∙ long) (omega arith) (omega arith)
+          (omega arith) (omega arith) (omega arith) high (omega arith) next_high
+          (front ∙ reversed-first list (pair * b) (last * b) b part n (omega arith) (omega arith) (omega arith) bound (omega arith))
+          (back ∙ reversed-last list (pair * b) (last * b) b part n (omega arith) (omega arith) bound (omega arith) (omega arith)) inv.writes);
+      high = next_bits;
+      behind = rw turned
+          (reversed-behind list (pair * b) (last * b) b part n (omega arith) (omega arith) (omega arith) bound (omega arith)
+          ∙ range-same target (last * b - b + part) (last * b) (next * b + part) (next * b + b) (omega arith) (omega arith));
+      cost = search rules;
+    }
+
+pub returns-then-count-eq1-clause-writes : goal.returns-then-count-eq1-clause-writes
+returns-then-count-eq1-clause-writes g c =
+    let b = g.C.Elem.BitStore.BITS in
+    let at = g.O.BitOrder.at in
+    let old = g.C.CellsRead.numbers c.args.cells.now in
+    let mid = g.C.CellsRead.numbers c.loop-pair.cells in
+    let first = c.args.first in
+    let count = c.args.count in
+    let part = c.args.part in
+    let pair = c.loop-pair.pair in
+    let last : ℕ = count - pair - 1 in
+    let n : ℕ = (count - 1) * b + part in
+    let list = list_in b at old (elements_window b first count) in
+    let target = front_reversed n list in
+    let has = c.requires.window in
+    let bound = c.requires.bound in
+    let some = width_some _ g.met.C.Elem.BitStore.width_law in
+    let long = length-list b at old _ has in
+    let same = length-front_reversed n list in
+    let inv = c.loop-pair.invariant in
+    let middle : pair ≡ last = omega arith in
+    let place : pair * b ≡ last * b = ap (λ (m : ℕ). m * b) middle in
+    let high = element-before (count - pair) b (omega arith) in
+    let whole = element-before count b c.requires.count in
+    let all : (count - 1) * b ≡ last * b + last * b = ap (λ (m : ℕ). m * b) (let e : count - 1 ≡ last + last = omega arith in e) ∙ omega arith in
+    let turned = rw inv.high at c.reversed-turned-then-count-eq1.ensures in
+    let made = rw (c.BITS-bits.ensures, turned, inv.behind) at c.joined-middle.ensures in
+    rw c.store-then-count-eq1.ensures.numbers
+    (Settled-rest b at old mid first count last (first + count / 2) _ (pair * b) ((count - pair) * b) target some has (same ∙ long) (omega arith) (omega arith) place high
+    (made ∙ reversed-last list (last * b) (last * b) b part n (omega arith) (omega arith) bound (omega arith) (omega arith)) inv.writes)
+
+pub returns-else-count-eq1-clause-writes : goal.returns-else-count-eq1-clause-writes
+returns-else-count-eq1-clause-writes g c =
+    let b = g.C.Elem.BitStore.BITS in
+    let at = g.O.BitOrder.at in
+    let count = c.args.count in
+    let pair = c.loop-pair.pair in
+    let list = list_in b at (g.C.CellsRead.numbers c.args.cells.now) (elements_window b c.args.first count) in
+    let long = length-list b at _ _ c.requires.window in
+    let n : ℕ = (count - 1) * b + c.args.part in
+    let high : (count - pair) * b ≡ pair * b = ap (λ (m : ℕ). m * b) (let e : count - pair ≡ pair = omega arith in e) in
+    let all : count * b ≡ pair * b + pair * b = ap (λ (m : ℕ). m * b) (let e : count ≡ pair + pair = omega arith in e) ∙ omega arith in
+    rw (← settled-all (front_reversed n list) list (pair * b) ((count - pair) * b) (length-front_reversed n list) (omega arith) (omega arith)) c.loop-pair.invariant.writes

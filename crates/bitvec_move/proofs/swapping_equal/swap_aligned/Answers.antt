@@ -1,0 +1,53 @@
+use Rattle.std.proofs.Common.{arith, rules, refl}
+use Rattle.bitvec_words.specs.store.WidthLaws.{width_some}
+use Rattle.bitvec_move.specs.SwapLaws.{Writes-exchanged, beside-tail}
+use Rattle.bitvec_words.specs.TouchedLaws.{touched-full, touched-more}
+use Rattle.bitvec_move.proofs.swapping_equal.swap_aligned.Goals as goal
+
+pub returns-then-rest-eq0-clause-cost : goal.returns-then-rest-eq0-clause-cost
+returns-then-rest-eq0-clause-cost g c =
+    let b = g.C.Elem.BitStore.BITS in
+    let full = rw c.BITS-bits.ensures at c.if-rest-eq0.true in
+    let all = touched-full b c.args.left_window.start c.args.left_window.len (width_some _ g.met.C.Elem.BitStore.width_law) c.requires.edge full in
+    rw all (rw c.BITS-bits.ensures at c.swap_whole.ensures.cost)
+
+pub returns-then-rest-eq0-clause-right_cost : goal.returns-then-rest-eq0-clause-right_cost
+returns-then-rest-eq0-clause-right_cost g c =
+    let b = g.C.Elem.BitStore.BITS in
+    let full = rw (c.BITS-bits.ensures, c.requires.lengths) at c.if-rest-eq0.true in
+    let all = touched-full b c.args.right_window.start c.args.right_window.len (width_some _ g.met.C.Elem.BitStore.width_law) c.requires.right_edge full in
+    rw (all, ← c.requires.lengths) (rw c.BITS-bits.ensures at c.swap_whole.ensures.right_cost)
+
+pub returns-clause-writes : goal.returns-clause-writes
+returns-clause-writes g c =
+    let b = g.C.Elem.BitStore.BITS in
+    let whole = rw c.BITS-bits.ensures at c.swap_whole.ensures in
+    let part = rw c.BITS-bits.ensures at c.swap_part.ensures in
+    Writes-exchanged _ _ _ _ _ _ _ _ _ _ _ _ _ _ c.requires.window c.requires.right_window
+    (beside-tail b c.args.left_window c.args.left_window.len c.requires.edge refl)
+    (beside-tail b c.args.right_window c.args.left_window.len c.requires.right_edge c.requires.lengths)
+    whole.writes part.writes whole.right_writes
+
+pub returns-clause-cost : goal.returns-clause-cost
+returns-clause-cost g c =
+    let left = rw c.BITS-bits.ensures at c.if-rest-eq0.false in
+    let all = touched-more g.C.Elem.BitStore.BITS c.args.left_window.start c.args.left_window.len (width_some _ g.met.C.Elem.BitStore.width_law) c.requires.edge (omega arith) in
+    let cost = rw c.BITS-bits.ensures at c.swap_whole.ensures.cost in
+    record { borrow = search rules; loads = omega arith; stores = omega arith }
+
+pub returns-clause-right_writes : goal.returns-clause-right_writes
+returns-clause-right_writes g c =
+    let b = g.C.Elem.BitStore.BITS in
+    let whole = rw c.BITS-bits.ensures at c.swap_whole.ensures in
+    let part = rw c.BITS-bits.ensures at c.swap_part.ensures in
+    Writes-exchanged _ _ _ _ _ _ _ _ _ _ _ _ _ _ c.requires.right_window c.requires.window
+    (beside-tail b c.args.right_window c.args.left_window.len c.requires.right_edge c.requires.lengths)
+    (beside-tail b c.args.left_window c.args.left_window.len c.requires.edge refl)
+    whole.right_writes part.right_writes whole.writes
+
+pub returns-clause-right_cost : goal.returns-clause-right_cost
+returns-clause-right_cost g c =
+    let left = rw (c.BITS-bits.ensures, c.requires.lengths) at c.if-rest-eq0.false in
+    let all = touched-more g.C.Elem.BitStore.BITS c.args.right_window.start c.args.right_window.len (width_some _ g.met.C.Elem.BitStore.width_law) c.requires.right_edge (omega arith) in
+    let cost = rw (c.BITS-bits.ensures, c.requires.lengths) at c.swap_whole.ensures.right_cost in
+    record { borrow = search rules; loads = omega arith; stores = omega arith }

@@ -1,0 +1,74 @@
+use Rattle.std.proofs.Common.{◌≡◌, ◌≢◌, ℕ, ◌-◌, ◌%◌, min, arith, rules, ◌∙◌, ap, refl}
+use Rattle.bitvec_words.specs.base.declared.part.Part.{Part}
+use Rattle.bitvec_words.specs.base.Parts.{first_part_of}
+use Rattle.bitvec_words.specs.store.WidthLaws.{width_some}
+use Rattle.bitvec_words.specs.walk.Cost.{touched}
+use Rattle.bitvec_words.specs.FieldLaws.{first_part-long}
+use Rattle.bitvec_move.specs.SwapLaws.{Writes-exchanged, beside-head}
+use Rattle.bitvec_words.specs.TouchedLaws.{touched-head, touched-rest}
+use Rattle.bitvec_move.proofs.swapping_equal.swap_equal.Goals as goal
+
+pub returns-then-passed-left_window-clause-cost : goal.returns-then-passed-left_window-clause-cost
+returns-then-passed-left_window-clause-cost g c =
+    let b = g.C.Elem.BitStore.BITS in
+    let some = width_some _ g.met.C.Elem.BitStore.width_law in
+    let step = first_part-long c.len-passed.result b c.BITS-bits.result c.args.left_window c.first_part-head.result c.len-passed.ensures c.first_part-head.ensures c.BITS-bits.ensures in
+    let one = touched-head b c.args.left_window.start c.len-passed.result c.args.left_window.len some c.requires.some step in
+    let all = ap (touched b c.args.left_window.start) c.if-passed-left_window.true in
+    record { borrow = search rules; loads = omega arith; stores = omega arith }
+
+pub returns-then-passed-left_window-clause-right_cost : goal.returns-then-passed-left_window-clause-right_cost
+returns-then-passed-left_window-clause-right_cost g c =
+    let b = g.C.Elem.BitStore.BITS in
+    let some = width_some _ g.met.C.Elem.BitStore.width_law in
+    let step = first_part-long c.len-passed.result b c.BITS-bits.result c.args.left_window c.first_part-head.result c.len-passed.ensures c.first_part-head.ensures c.BITS-bits.ensures in
+    let same : c.len-passed.result ≡ min c.args.right_window.len (b - c.args.right_window.start % b) = rw (c.requires.lengths, c.requires.phases) at step in
+    let one = touched-head b c.args.right_window.start c.len-passed.result c.args.right_window.len some (omega arith) same in
+    let all = ap (touched b c.args.right_window.start) (c.if-passed-left_window.true ∙ c.requires.lengths) in
+    record { borrow = search rules; loads = omega arith; stores = omega arith }
+
+pub returns-clause-writes : goal.returns-clause-writes
+returns-clause-writes g c =
+    let b = g.C.Elem.BitStore.BITS in
+    let some = width_some _ g.met.C.Elem.BitStore.width_law in
+    let head : c.first_part-head.result ≡ first_part_of b c.args.left_window = c.first_part-head.ensures ∙ ap (λ (n : ℕ). first_part_of n c.args.left_window) c.BITS-bits.ensures in
+    let step = c.len-passed.ensures ∙ ap (λ (p : Part). p.to - p.from) head in
+    let first = rw (head, c.BITS-bits.ensures) at c.swap_part.ensures in
+    let rest = rw (c.after-rest.ensures, c.after-behind.ensures) at c.swap_aligned.ensures in
+    Writes-exchanged _ _ _ _ _ _ _ _ _ _ _ _ _ _ c.requires.window c.requires.right_window
+    (beside-head b c.args.left_window c.args.left_window c.len-passed.result some c.requires.some step refl refl)
+    (beside-head b c.args.left_window c.args.right_window c.len-passed.result some c.requires.some step c.requires.lengths c.requires.phases)
+    first.writes rest.writes first.right_writes
+
+pub returns-clause-cost : goal.returns-clause-cost
+returns-clause-cost g c =
+    let b = g.C.Elem.BitStore.BITS in
+    let some = width_some _ g.met.C.Elem.BitStore.width_law in
+    let step = first_part-long c.len-passed.result b c.BITS-bits.result c.args.left_window c.first_part-head.result c.len-passed.ensures c.first_part-head.ensures c.BITS-bits.ensures in
+    let all = touched-rest b c.args.left_window.start c.len-passed.result c.args.left_window.len some c.requires.some step c.if-passed-left_window.false in
+    let rest = rw c.after-rest.ensures at c.swap_aligned.ensures.cost in
+    record { borrow = search rules; loads = omega arith; stores = omega arith }
+
+pub returns-clause-right_writes : goal.returns-clause-right_writes
+returns-clause-right_writes g c =
+    let b = g.C.Elem.BitStore.BITS in
+    let some = width_some _ g.met.C.Elem.BitStore.width_law in
+    let head : c.first_part-head.result ≡ first_part_of b c.args.left_window = c.first_part-head.ensures ∙ ap (λ (n : ℕ). first_part_of n c.args.left_window) c.BITS-bits.ensures in
+    let step = c.len-passed.ensures ∙ ap (λ (p : Part). p.to - p.from) head in
+    let first = rw (head, c.BITS-bits.ensures) at c.swap_part.ensures in
+    let rest = rw (c.after-rest.ensures, c.after-behind.ensures) at c.swap_aligned.ensures in
+    Writes-exchanged _ _ _ _ _ _ _ _ _ _ _ _ _ _ c.requires.right_window c.requires.window
+    (beside-head b c.args.left_window c.args.right_window c.len-passed.result some c.requires.some step c.requires.lengths c.requires.phases)
+    (beside-head b c.args.left_window c.args.left_window c.len-passed.result some c.requires.some step refl refl)
+    first.right_writes rest.right_writes first.writes
+
+pub returns-clause-right_cost : goal.returns-clause-right_cost
+returns-clause-right_cost g c =
+    let b = g.C.Elem.BitStore.BITS in
+    let some = width_some _ g.met.C.Elem.BitStore.width_law in
+    let step = first_part-long c.len-passed.result b c.BITS-bits.result c.args.left_window c.first_part-head.result c.len-passed.ensures c.first_part-head.ensures c.BITS-bits.ensures in
+    let same : c.len-passed.result ≡ min c.args.right_window.len (b - c.args.right_window.start % b) = rw (c.requires.lengths, c.requires.phases) at step in
+    let left : c.len-passed.result ≢ c.args.right_window.len = λ e. c.if-passed-left_window.false (omega arith) in
+    let all = touched-rest b c.args.right_window.start c.len-passed.result c.args.right_window.len some (omega arith) same left in
+    let rest = rw c.after-behind.ensures at c.swap_aligned.ensures.right_cost in
+    record { borrow = search rules; loads = omega arith; stores = omega arith }

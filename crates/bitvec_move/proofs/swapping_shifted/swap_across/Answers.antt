@@ -1,0 +1,54 @@
+use Rattle.std.proofs.Common.{◌∙◌, ◌+◌, arith, rules, ap, slice_index}
+use Rattle.bitvec_words.specs.store.WidthLaws.{width_some}
+use Rattle.bitvec_words.specs.base.Memory.{element_bits}
+use Rattle.bitvec_words.specs.base.MemoryLaws.{length-element_bits}
+use Rattle.bitvec_words.specs.base.Window.{write_at}
+use Rattle.bitvec_words.specs.FieldLaws.{Writes-no_element}
+use Rattle.bitvec_move.specs.SwapLaws.{next_element}
+use Rattle.bitvec_move.specs.WaitingLaws.{across-bits, across-element, across-next, across-none, ends-joined, ends-next, ends-start, range-carried}
+use Rattle.bitvec_move.proofs.swapping_shifted.swap_across.Goals as goal
+
+pub loop-step-init : goal.loop-step-init
+loop-step-init g c = record {
+  writes = Writes-no_element _ _ _ _ _ _ _ c.requires.window (omega arith);
+  cost = search rules;
+  right_writes = across-none _ _ _ _ _ _ _ _ _ c.requires.right_window;
+  right_cost = search rules;
+  ends = ends-start _ _ _ _ (length-element_bits _ _ _) c.requires.bound (rw c.BITS.ensures at c.toward_end-before.ensures);
+}
+
+pub load-element-requires : goal.load-element-requires
+load-element-requires g c =
+    next_element _ _ _ _ _ _ (width_some _ g.met.C.Elem.BitStore.width_law) c.requires.window c.loop-step-test.true c.loop-step.invariant.writes.elements
+
+pub load-next-requires : goal.load-next-requires
+load-next-requires g c =
+    across-next _ _ _ _ _ _ _ _ _ _ _ c.requires.some c.requires.right_window c.loop-step-test.true c.loop-step.invariant.right_writes
+
+pub loop-step-preserved : goal.loop-step-preserved
+loop-step-preserved g c =
+    let b = g.C.Elem.BitStore.BITS in
+    let at = g.O.BitOrder.at in
+    let inv = c.loop-step.invariant in
+    let some = width_some _ g.met.C.Elem.BitStore.width_law in
+    let below = c.requires.bound in
+    let more = c.loop-step-test.true in
+    let element = element_bits b at (slice_index (g.C.CellsRead.numbers c.loop-step.left) (c.args.first + c.loop-step.step)) in
+    let long = length-element_bits b at (slice_index (g.C.CellsRead.numbers c.loop-step.left) (c.args.first + c.loop-step.step)) in
+    let next = element_bits b at (slice_index (g.D.CellsRead.numbers c.loop-step.right) (c.args.source + c.loop-step.step + 1)) in
+    let next_long = length-element_bits b at (slice_index (g.D.CellsRead.numbers c.loop-step.right) (c.args.source + c.loop-step.step + 1)) in
+    let joined = rw (c.load-next.ensures.value, ← inv.ends.rest) at c.joined.ensures in
+    let met = rw (c.BITS.ensures, c.load-element.ensures.value) at c.joined-in-loop-step.ensures in
+    let carried = rw (c.load-element.ensures.value, c.BITS.ensures) at c.toward_start-carried.ensures in
+    let merged = rw (c.load-next.ensures.value, carried) at c.merged-last.ensures in
+    let waits = merged ∙ ap (write_at next 0) (range-carried element b c.args.skip long below) in
+    record {
+      writes = rw (c.store.ensures.numbers, c.load-element.ensures.numbers)
+          (across-element _ _ _ _ _ _ _ _ _ _ _ _ _ _ _ some c.requires.some below c.requires.window c.requires.right_window more joined inv.writes inv.right_writes);
+      cost = search rules;
+      right_writes = rw (c.store-in-loop-step.ensures.numbers, c.load-next.ensures.numbers)
+          (across-bits _ _ _ _ _ _ _ _ _ _ _ _ _ _ _ some c.requires.some below c.requires.window c.requires.right_window more
+          (met ∙ ends-joined b c.args.skip _ _ _ element (length-element_bits _ _ _) long below inv.ends) waits inv.writes inv.right_writes);
+      right_cost = search rules;
+      ends = rw (c.load-element.ensures.value, c.load-next.ensures.value) (ends-next b c.args.skip _ element next long next_long below waits);
+    }

@@ -1,0 +1,96 @@
+use Rattle.std.proofs.Common.{◌≡◌, ◌≤◌, ℕ, ◌+◌, ◌-◌, arith, rules, ◌∙◌, ap, refl}
+use Rattle.std.proofs.lemmas.List.{set-get_or}
+use Rattle.std.proofs.lemmas.Nat.{mod_below}
+use Rattle.bitvec_words.specs.base.declared.part.Part.{Part}
+use Rattle.bitvec_words.specs.base.Parts.{first_part_of}
+use Rattle.bitvec_words.specs.store.WidthLaws.{width_some}
+use Rattle.bitvec_words.specs.walk.Cost.{touched}
+use Rattle.bitvec_words.specs.FieldLaws.{first_part-long}
+use Rattle.bitvec_move.specs.SwapLaws.{Writes-exchanged, beside-head, beside-parted}
+use Rattle.bitvec_words.specs.TouchedLaws.{apart_edge, inside_element, touched-first, touched-head, touched-inside, touched-rest}
+use Rattle.bitvec_move.proofs.swapping_shifted.swap_shifted.Goals as goal
+
+pub returns-then-passed-left_window-clause-cost : goal.returns-then-passed-left_window-clause-cost
+returns-then-passed-left_window-clause-cost g c =
+    let b = g.C.Elem.BitStore.BITS in
+    let some = width_some _ g.met.C.Elem.BitStore.width_law in
+    let step = first_part-long c.len-passed.result b c.BITS-bits.result c.args.left_window c.first_part-head.result c.len-passed.ensures c.first_part-head.ensures c.BITS-bits.ensures in
+    let one = touched-head b c.args.left_window.start c.len-passed.result c.args.left_window.len some c.requires.some step in
+    let all = ap (touched b c.args.left_window.start) c.if-passed-left_window.true in
+    record { borrow = search rules; loads = omega arith; stores = omega arith }
+
+pub returns-then-passed-left_window-clause-right_cost : goal.returns-then-passed-left_window-clause-right_cost
+returns-then-passed-left_window-clause-right_cost g c =
+    let b = g.C.Elem.BitStore.BITS in
+    let lengths = c.requires.lengths in
+    let long : c.args.right_window.len - (c.args.right_window.len - c.len-passed.result) ≡ c.args.right_window.len = let all = c.if-passed-left_window.true in omega arith in
+    let some = c.requires.some in
+    let more = touched-first b c.args.right_window.start c.args.right_window.len (omega arith) in
+    let head = rw (c.until-met.ensures, long) at c.swap_waiting-last.ensures.right_cost in
+    record { borrow = search rules; loads = omega arith; stores = omega arith }
+
+pub returns-clause-writes : goal.returns-clause-writes
+returns-clause-writes g c =
+    let b = g.C.Elem.BitStore.BITS in
+    let some = width_some _ g.met.C.Elem.BitStore.width_law in
+    let lengths = c.requires.lengths in
+    let start : c.first_part-head.result ≡ first_part_of b c.args.left_window = c.first_part-head.ensures ∙ ap (λ (n : ℕ). first_part_of n c.args.left_window) c.BITS-bits.ensures in
+    let long = c.len-passed.ensures ∙ ap (λ (p : Part). p.to - p.from) start in
+    let step = first_part-long c.len-passed.result b c.BITS-bits.result c.args.left_window c.first_part-head.result c.len-passed.ensures c.first_part-head.ensures c.BITS-bits.ensures in
+    let fits : c.len-passed.result ≤ c.args.right_window.len = omega arith in
+    let inside = apart_edge b c.args.left_window.start c.args.right_window.start c.len-passed.result c.args.left_window.len some step c.if-passed-left_window.false c.requires.phases in
+    let same = inside_element b c.args.right_window.start c.len-passed.result some inside in
+    let met : c.args.right_window.len - (c.args.right_window.len - c.len-passed.result) ≡ c.len-passed.result = omega arith in
+    let first = rw (start, c.until-met.ensures, c.load-waiting.ensures.numbers, c.load-waiting.ensures.value, c.BITS-bits.ensures, set-get_or, met, same) at c.swap_waiting-last.ensures in
+    let rest = rw (c.after-rest.ensures, c.after-behind.ensures) at c.swap_rest.ensures in
+    Writes-exchanged _ _ _ _ _ _ _ _ _ _ _ _ _ _ c.requires.window c.requires.right_window
+    (beside-head b c.args.left_window c.args.left_window c.len-passed.result some c.requires.some long refl refl)
+    (rw met at (beside-parted c.args.right_window c.len-passed.result fits))
+    first.writes rest.writes first.right_writes
+
+pub returns-clause-cost : goal.returns-clause-cost
+returns-clause-cost g c =
+    let b = g.C.Elem.BitStore.BITS in
+    let some = width_some _ g.met.C.Elem.BitStore.width_law in
+    let step = first_part-long c.len-passed.result b c.BITS-bits.result c.args.left_window c.first_part-head.result c.len-passed.ensures c.first_part-head.ensures c.BITS-bits.ensures in
+    let all = touched-rest b c.args.left_window.start c.len-passed.result c.args.left_window.len some c.requires.some step c.if-passed-left_window.false in
+    let rest = rw c.after-rest.ensures at c.swap_rest.ensures.cost in
+    record { borrow = search rules; loads = omega arith; stores = omega arith }
+
+pub returns-clause-right_writes : goal.returns-clause-right_writes
+returns-clause-right_writes g c =
+    let b = g.C.Elem.BitStore.BITS in
+    let some = width_some _ g.met.C.Elem.BitStore.width_law in
+    let lengths = c.requires.lengths in
+    let start : c.first_part-head.result ≡ first_part_of b c.args.left_window = c.first_part-head.ensures ∙ ap (λ (n : ℕ). first_part_of n c.args.left_window) c.BITS-bits.ensures in
+    let long = c.len-passed.ensures ∙ ap (λ (p : Part). p.to - p.from) start in
+    let step = first_part-long c.len-passed.result b c.BITS-bits.result c.args.left_window c.first_part-head.result c.len-passed.ensures c.first_part-head.ensures c.BITS-bits.ensures in
+    let fits : c.len-passed.result ≤ c.args.right_window.len = omega arith in
+    let inside = apart_edge b c.args.left_window.start c.args.right_window.start c.len-passed.result c.args.left_window.len some step c.if-passed-left_window.false c.requires.phases in
+    let same = inside_element b c.args.right_window.start c.len-passed.result some inside in
+    let met : c.args.right_window.len - (c.args.right_window.len - c.len-passed.result) ≡ c.len-passed.result = omega arith in
+    let first = rw (start, c.until-met.ensures, c.load-waiting.ensures.numbers, c.load-waiting.ensures.value, c.BITS-bits.ensures, set-get_or, met, same) at c.swap_waiting-last.ensures in
+    let rest = rw (c.after-rest.ensures, c.after-behind.ensures) at c.swap_rest.ensures in
+    Writes-exchanged _ _ _ _ _ _ _ _ _ _ _ _ _ _ c.requires.right_window c.requires.window
+    (rw met at (beside-parted c.args.right_window c.len-passed.result fits))
+    (beside-head b c.args.left_window c.args.left_window c.len-passed.result some c.requires.some long refl refl)
+    first.right_writes rest.right_writes first.writes
+
+pub returns-clause-right_cost : goal.returns-clause-right_cost
+returns-clause-right_cost g c =
+    let b = g.C.Elem.BitStore.BITS in
+    let some = width_some _ g.met.C.Elem.BitStore.width_law in
+    let step = first_part-long c.len-passed.result b c.BITS-bits.result c.args.left_window c.first_part-head.result c.len-passed.ensures c.first_part-head.ensures c.BITS-bits.ensures in
+    let inside = apart_edge b c.args.left_window.start c.args.right_window.start c.len-passed.result c.args.left_window.len some step c.if-passed-left_window.false c.requires.phases in
+    let head = mod_below c.args.left_window.start b some in
+    let lengths = c.requires.lengths in
+    let left = c.if-passed-left_window.false in
+    let more = c.requires.some in
+    let whole : c.len-passed.result + (c.args.right_window.len - c.len-passed.result) ≡ c.args.right_window.len = omega arith in
+    let all = rw whole at (touched-inside b c.args.right_window.start c.len-passed.result (c.args.right_window.len - c.len-passed.result) some (omega arith) inside) in
+    let met : c.args.right_window.len - (c.args.right_window.len - c.len-passed.result) ≡ c.len-passed.result = omega arith in
+    let front = touched-first b c.args.right_window.start c.len-passed.result (omega arith) in
+    let behind = touched-first b (c.args.right_window.start + c.len-passed.result) (c.args.right_window.len - c.len-passed.result) (omega arith) in
+    let first = rw (c.until-met.ensures, met) at c.swap_waiting-last.ensures.right_cost in
+    let rest = rw c.after-behind.ensures at c.swap_rest.ensures.right_cost in
+    record { borrow = search rules; loads = omega arith; stores = omega arith }

@@ -1,0 +1,56 @@
+use Rattle.std.proofs.Common.{◌≡◌, ℕ, ◌+◌, ◌-◌, ◌*◌, ◌/◌, ◌%◌, ◌<◌, ◌≤◌, arith, ap, sym, ◌∙◌, length, slice_range}
+use Rattle.std.proofs.lemmas.Nat.{div-add-mod', mod_below}
+use Rattle.bitvec_words.specs.store.WidthLaws.{width_some}
+use Rattle.bitvec_words.specs.base.Memory.{element_bits, memory_bits}
+use Rattle.bitvec_words.specs.base.MemoryLaws.{element-range, element_fits, length-memory_bits}
+use Rattle.bitvec_words.specs.base.Window.{window_of}
+use Rattle.bitvec_words.specs.FieldLaws.{element_of}
+use Rattle.bitvec_move.specs.WordLaws.{word-across, word_span, word_whole}
+use Rattle.bitvec_move.proofs.word_elements.load_word.Goals as goal
+
+pub returns-then-skip-eq0-clause-reads : goal.returns-then-skip-eq0-clause-reads
+returns-then-skip-eq0-clause-reads g c =
+    let span = word_span g.C.Elem.BitStore.BITS (width_some _ g.met.C.Elem.BitStore.width_law) in
+    let reads = c.load_elements-word.ensures.reads in
+    record { numbers = reads.numbers; borrow = reads.borrow; loads = omega arith; stores = reads.stores }
+
+pub returns-clause-value : goal.returns-clause-value
+unfolding window_of
+returns-clause-value g c =
+    let b = g.C.Elem.BitStore.BITS in
+    let at = g.O.BitOrder.at in
+    let old = g.C.CellsRead.numbers c.args.cells.now in
+    let bits = memory_bits b at old in
+    let window = c.args.window in
+    let first : ℕ = window.start / b in
+    let skip : ℕ = window.start % b in
+    let has = c.requires.window in
+    let low = has.within.start in
+    let high = has.within.len in
+    let size = c.requires.size in
+    let narrow = c.requires.narrow in
+    let some = width_some _ g.met.C.Elem.BitStore.width_law in
+    let whole = word_whole b g.met.C.Elem.BitStore.width_law (omega arith) in
+    let place = div-add-mod' window.start b in
+    let below = mod_below window.start b some in
+    let left = rw c.BITS-bits.ensures at c.if-skip-eq0.false in
+    let long = length-memory_bits b at old in
+    let sum : (first + 64 / b) * b ≡ first * b + 64 = omega arith in
+    let inside : first + 64 / b < length old = element_of b (first + 64 / b) (skip - 1) (length old) (omega arith) in
+    let fits : first * b + 64 + b ≤ b * length old = omega (arith, element_fits b (first + 64 / b) (length old) inside) in
+    let word = (rw c.BITS-bits.ensures at c.load_elements-word.ensures.value) ∙ ap (λ (n : ℕ). slice_range bits (first * b) (first * b + n)) whole in
+    let next = rw (c.BITS-bits.ensures, c.load_elements-word.ensures.reads.numbers) at c.load-next.ensures.value in
+    let next_bits = ap (element_bits b at) next ∙ sym (rw sum at (element-range b at old (first + 64 / b) inside)) in
+    let behind = rw (c.BITS-bits.ensures, next_bits) at c.moved-behind.ensures in
+    let joined = rw (c.BITS-bits.ensures, word, behind) at c.joined.ensures in
+    joined
+    ∙ word-across bits (first * b) b skip below narrow (omega arith)
+    ∙ ap (λ (s : ℕ). slice_range bits s (s + 64)) place
+    ∙ ap (λ (n : ℕ). slice_range bits window.start (window.start + n)) (sym size)
+
+pub returns-clause-reads : goal.returns-clause-reads
+returns-clause-reads g c =
+    let span = word_span g.C.Elem.BitStore.BITS (width_some _ g.met.C.Elem.BitStore.width_law) in
+    let reads = c.load_elements-word.ensures.reads in
+    let next = c.load-next.ensures in
+    record { numbers = next.numbers ∙ reads.numbers; borrow = next.borrow ∙ reads.borrow; loads = omega arith; stores = next.stores ∙ reads.stores }

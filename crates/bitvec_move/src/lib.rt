@@ -1,0 +1,57 @@
+//! Bits that change places, many at a time: copied from window to window and within one window, two windows exchanged, one
+//! put in the opposite order.
+#![tactic(auto)]
+
+mod copying;
+mod copying_equal;
+mod copying_shifted;
+mod copying_within;
+mod moving_edge;
+mod moving_to_end;
+mod moving_to_start;
+mod reversing;
+mod reversing_elements;
+mod reversing_words;
+mod swapping;
+mod swapping_equal;
+mod swapping_shifted;
+mod word_elements;
+
+/// What crates above name of `bitvec_base`.
+pub mod base {
+    pub use bitvec_words::base::{
+        BitOrder, BitSpanError, HiLo, Lsb0, MAX_BITS, Msb0, Part, Window, first_part, last_part,
+    };
+}
+
+/// What crates above name of `bitvec_cells`.
+pub mod cells {
+    pub use bitvec_words::cells::{Cells, CellsRead, Exclusive, Shared, fits_max_bits, has_window};
+}
+
+/// What crates above name of `bitvec_store`.
+pub mod store {
+    pub use bitvec_words::store::BitStore;
+}
+
+/// What crates above name of `bitvec_cells`.
+pub mod walk {
+    pub use bitvec_words::walk::{
+        count_part, fill_part, filled, first_in_element, first_in_part, get_bit, invert_part,
+        last_in_element, last_in_part, replace_bit, sought, swap_bits,
+    };
+}
+
+/// What crates above name of `bitvec_words`.
+pub mod words {
+    pub use bitvec_words::{
+        BitOp, WORD_BITS, WordOrder, field, field_after, fill, invert, joined, load_field, merged,
+        moved, reversed, same_between, store_field, store_part, toward_end, toward_start,
+    };
+}
+
+pub use copying::copy;
+pub use copying_within::copy_within;
+pub use reversing::reverse;
+pub use swapping::swap;
+pub use word_elements::load_elements;

@@ -1,0 +1,56 @@
+-- What steps with numbers mean on plain lists of truth values.
+--
+-- `s` is the place of the window's first bit in a memory of b-bit elements, under an order that is `high` or not; `right` is the right
+-- list, and the window's list has n bits.
+use Rattle.std.specs.Prelude.{ℕ, ◌+◌, ◌-◌, ◌≤◌, Bool, ◌&&◌, nat_le, if◌then◌else◌, Option, List, ⊤}
+use Rattle.bitvec_run.specs.declared.command.Refusal.{Refusal}
+use Rattle.bitvec_run.specs.declared.command.Reply.{Reply}
+use Rattle.bitvec_run.specs.declared.command.Reply.TheVariants.{Number}
+use Rattle.bitvec_run.specs.Commands.{op_row}
+use Rattle.bitvec_run.specs.Costs.{Cost, Place, fill_cost, scan_cost}
+use Rattle.bitvec_run.specs.Rows.{Row, asks, edits, on_range, outcome, range_lies, refused, row_list, row_reply, unless}
+use Rattle.bitvec_run.specs.declared.field_step.FieldOp.{FieldOp}
+use Rattle.bitvec_run.specs.declared.field_step.FieldOp.TheVariants.{LoadBe, LoadLe, Plain, StoreBe, StoreLe}
+use Rattle.bitvec_run.specs.declared.field_step.FieldStep.{FieldStep}
+use Rattle.bitvec_segments.specs.Segments.{loaded_be, loaded_le, stored_be, stored_le}
+
+-- a field has 1 to 128 bits
+abbrev pub width_refusal : ℕ → Option Refusal
+width_refusal m = unless (nat_le 1 m && nat_le m 128) Refusal.Width
+
+-- a command on m bits, the first of which stands at the place s
+abbrev pub field_row : Bool → ℕ → ℕ → List Bool → ℕ → FieldOp → Row
+field_row high b s right m (Plain op) = op_row right m op
+field_row high b s right m LoadLe = asks (width_refusal m) (λ list. Number (loaded_le high b s list)) (scan_cost m)
+field_row high b s right m LoadBe = asks (width_refusal m) (λ list. Number (loaded_be high b s list)) (scan_cost m)
+field_row high b s right m (StoreLe v) = edits (width_refusal m) (stored_le high b s v) (fill_cost m)
+field_row high b s right m (StoreBe v) = edits (width_refusal m) (stored_be high b s v) (fill_cost m)
+
+-- it loads or stores a number
+abbrev pub IsTransfer : FieldOp → Type 0
+IsTransfer (Plain op) = ⊥
+IsTransfer _ = ⊤
+
+-- the bits from..to of a list of n are a field
+pub record FitsTransfer (n from to : ℕ) : Type 0 where
+  pub order : from ≤ to
+  pub bound : to ≤ n
+  pub some : 1 ≤ to - from
+  pub most : to - from ≤ 128
+
+-- a step is its command on its range, cut by the places of the memory; the range is tested before the command's own condition
+unfoldable pub field_step_row : Bool → ℕ → ℕ → List Bool → ℕ → FieldStep → Row
+field_step_row high b s right n step =
+    if range_lies n step.from step.to then on_range step.from step.to (field_row high b (s + step.from) right (step.to - step.from) step.op) else refused Refusal.Range
+
+abbrev pub field_outcome : Bool → ℕ → ℕ → List Bool → ℕ → FieldStep → Row
+field_outcome high b s right n step = outcome (field_step_row high b s right n step)
+
+abbrev pub field_reply : Bool → ℕ → ℕ → List Bool → List Bool → FieldStep → Reply
+field_reply high b s right = row_reply (field_outcome high b s right)
+
+abbrev pub field_list : Bool → ℕ → ℕ → List Bool → List Bool → FieldStep → List Bool
+field_list high b s right = row_list (field_outcome high b s right)
+
+abbrev pub field_cost : Bool → ℕ → ℕ → List Bool → ℕ → Place → FieldStep → Cost
+field_cost high b s right n place step = (field_outcome high b s right n step).cost place
