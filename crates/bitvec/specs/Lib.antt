@@ -27,10 +27,10 @@ pub use Rattle.bitvec_iter.specs.Left
 pub use Rattle.bitvec_iter.specs.Parts as PieceParts
 pub use Rattle.bitvec_owned.specs.edit.lends.Kept
 pub use Rattle.bitvec_owned.specs.edit.lends.RefillLaws
-pub use Rattle.bitvec_lent.specs.Bits as LentBits
-pub use Rattle.bitvec_lent.specs.Halves
-pub use Rattle.bitvec_lent.specs.Pieces as LentPieces
-pub use Rattle.bitvec_lent.specs.Walk as LentWalk
+pub use Rattle.bitvec_iter.specs.LentBits
+pub use Rattle.bitvec_iter.specs.Halves
+pub use Rattle.bitvec_iter.specs.LentPieces
+pub use Rattle.bitvec_iter.specs.LentWalk
 pub use Rattle.bitvec_ones.specs.Indices as OnesLeft
 pub use Rattle.bitvec_owned.specs.Copies
 pub use Rattle.bitvec_owned.specs.Owned

@@ -1,7 +1,6 @@
 //! What most programs use.
 pub use bitvec_field::{BitField, BitFieldMut, FieldOrder, Integral};
-pub use bitvec_iter::IterCalls;
-pub use bitvec_lent::PieceCallsMut;
+pub use bitvec_iter::{IterCalls, PieceCallsMut};
 pub use bitvec_ones::OnesCalls;
 pub use bitvec_ones::query::BitQueries;
 pub use bitvec_owned::edit::BitEdits;

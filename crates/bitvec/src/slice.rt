@@ -1,11 +1,9 @@
 //! Views of bits, their indices, their walks and pieces, and the traits of their questions and edits.
 pub use bitvec_iter::{
-    Chunks, ChunksExact, Cutting, ExactCutting, InChunks, InChunksFromEnd, InExactChunks,
-    InExactChunksFromEnd, InWindows, IterCalls, PieceWalk, Pieces, RChunks, RChunksExact, Windows,
-};
-pub use bitvec_lent::{
-    ChunksExactMut, ChunksMut, HalvesMut, IterMut, PieceCallsMut, PiecesMut, RChunksExactMut,
-    RChunksMut,
+    Chunks, ChunksExact, ChunksExactMut, ChunksMut, Cutting, ExactCutting, HalvesMut, InChunks,
+    InChunksFromEnd, InExactChunks, InExactChunksFromEnd, InWindows, IterCalls, IterMut,
+    PieceCallsMut, PieceWalk, Pieces, PiecesMut, RChunks, RChunksExact, RChunksExactMut,
+    RChunksMut, Windows,
 };
 pub use bitvec_ones::query::BitQueries;
 pub use bitvec_ones::{IndexWalk, IterOnes, IterZeros, Ones, OnesCalls, Places, Wanted, Zeros};

@@ -2,7 +2,7 @@
 use bitvec_field::base::Msb0;
 use bitvec_field::slice::BitSliceMut;
 use bitvec_field::{BitField, BitFieldMut};
-use bitvec_lent::PieceCallsMut;
+use bitvec_iter::PieceCallsMut;
 
 /// Stores 0, 4, 8 and so on in the chunks of five bits, the first segment highest; how many there were.
 fn store_fours(cells: &mut [u8; 5]) -> usize {

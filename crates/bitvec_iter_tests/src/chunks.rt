@@ -1,6 +1,6 @@
 //! Chunks of a view, from both ends.
 use bitvec_edit::BitEdits;
-use bitvec_lent::PieceCallsMut;
+use bitvec_iter::PieceCallsMut;
 use bitvec_query::base::{Lsb0, Msb0};
 use bitvec_query::slice::BitSliceMut;
 

@@ -2,7 +2,7 @@
 ghost use Rattle.std.specs.Prelude.{◌≤◌};
 
 use bitvec_edit::BitEdits;
-use bitvec_lent::PieceCallsMut;
+use bitvec_iter::PieceCallsMut;
 use bitvec_query::base::{Lsb0, Msb0, Window};
 use bitvec_query::engine::SliceOrder;
 use bitvec_query::slice::BitSliceMut;

@@ -1,11 +1,11 @@
 //! What a caller knows of a view once pieces of it were lent.
 ghost use Rattle.std.specs.Prelude.{◌≡◌, ◌≤◌, length};
 ghost use Rattle.bitvec_query.specs.slice.Views.{name_of, seen_mut};
-ghost use Rattle.bitvec_lent.specs.Bits.{WritesLeft, bits_in_place, bits_left, bits_to_come, past_bits};
+ghost use Rattle.bitvec_iter.specs.LentBits.{WritesLeft, bits_in_place, bits_left, bits_to_come, past_bits};
 ghost use Rattle.bitvec_edit.specs.elements.Asked.{RefillsWith};
 
 use bitvec_edit::BitEdits;
-use bitvec_lent::{IterMut, PieceCallsMut};
+use bitvec_iter::{IterMut, PieceCallsMut};
 use bitvec_query::base::BitOrder;
 use bitvec_query::engine::SliceOrder;
 use bitvec_query::slice::BitSliceMut;

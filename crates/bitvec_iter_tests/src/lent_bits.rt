@@ -1,5 +1,5 @@
 //! Single bits of a view.
-use bitvec_lent::PieceCallsMut;
+use bitvec_iter::PieceCallsMut;
 use bitvec_query::base::Lsb0;
 use bitvec_query::slice::BitSliceMut;
 

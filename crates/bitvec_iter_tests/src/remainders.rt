@@ -1,6 +1,6 @@
 //! What no exact chunk has.
 use bitvec_edit::BitEdits;
-use bitvec_lent::PieceCallsMut;
+use bitvec_iter::PieceCallsMut;
 use bitvec_query::base::Lsb0;
 use bitvec_query::slice::BitSliceMut;
 

@@ -1,7 +1,6 @@
 //! What is printed of walks and of lenders: their name, and what is left.
 
-use bitvec_iter::IterCalls;
-use bitvec_lent::PieceCallsMut;
+use bitvec_iter::{IterCalls, PieceCallsMut};
 use bitvec_query::base::Lsb0;
 use bitvec_query::slice::{BitSlice, BitSliceMut};
 use std::alloc::Global;

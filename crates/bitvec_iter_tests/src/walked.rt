@@ -2,8 +2,7 @@
 //! places: each call gives the same piece or none, and leaves as many. What a call lends is flipped, and
 //! the bytes are compared at the end. Of 30 rounds many go past the end.
 
-use bitvec_iter::Cutting;
-use bitvec_lent::{IterMut, PieceCallsMut, PiecesMut};
+use bitvec_iter::{Cutting, IterMut, PieceCallsMut, PiecesMut};
 use bitvec_query::base::Lsb0;
 use bitvec_query::slice::BitSliceMut;
 use std::process::Abort;

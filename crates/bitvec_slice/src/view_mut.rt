@@ -23,7 +23,7 @@ use std::ops::Range;
 /// [`crate::BitSliceIndex`]. References to one bit: `bit_mut`, `into_bit`, `first_mut`, `last_mut`, and
 /// by an index `get_mut` and its kin. Elements and parts of them: `domain_mut`, and as views
 /// `bit_domain_mut`. In crates above: halves, walks and splits, which lend such views and references one
-/// at a time (`PieceCallsMut` of `bitvec_lent`, `SplitCallsMut` of `bitvec_split`), and the view itself,
+/// at a time (`PieceCallsMut` of `bitvec_iter`, `SplitCallsMut` of `bitvec_split`), and the view itself,
 /// which a closure gets moved to a part of it, and owes to leave there (`EditParts` of
 /// `bitvec_pieces`).
 ///

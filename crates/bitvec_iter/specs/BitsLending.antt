@@ -1,0 +1,59 @@
+-- What a writable walk over single bits ends as, where a bit was lent.
+use Rattle.std.specs.Prelude.{◌≡◌, ℕ, ◌+◌, ◌-◌, ◌*◌, ◌≤◌, List, length}
+use Rattle.std.specs.Borrow.{Fml, GName, MutBor, RattleType, Array, follows}
+use Rattle.std.proofs.Common.{arith, subst, ◌∙◌, ap}
+use Rattle.std.proofs.Math.Bridge.{le_prop}
+use Rattle.bitvec_slice.specs.lends.Refill.{refilled, length_refilled, of_lender, with_range}
+use Rattle.bitvec_slice.specs.store.declared.store.BitStore.{Ghosts as Store}
+use Rattle.bitvec_slice.specs.base.declared.order.BitOrder.{Ghosts as Order}
+use Rattle.bitvec_slice.specs.base.Window.{max_bits}
+use Rattle.bitvec_slice.specs.Touched.{end_touched, first_touched}
+use Rattle.bitvec_iter.specs.declared.lent_bits.IterMut.{IterMut}
+use Rattle.bitvec_iter.specs.contracts.bits.IterMut.{the_row}
+
+module _ {T O : Type 0} {t : Store T} {o : Order O} where
+  -- the walk as before, but for its elements, which are xs, cut or filled up to as many as before
+  abbrev pub with_elements : IterMut T O t o → List T → IterMut T O t o
+  with_elements i xs =
+      record i {
+        elements = refilled i.elements xs;
+        inside = subst (λ (n : ℕ). i.head + i.len ≤ t.BITS * n) (length_refilled i.elements xs) i.inside;
+        bounded = subst (λ (n : ℕ). t.BITS * n ≤ max_bits) (length_refilled i.elements xs) i.bounded;
+      }
+
+  -- the walk without its first bit, and without its last
+  abbrev pub without_first : IterMut T O t o → IterMut T O t o
+  without_first i = record i { front = i.front + 1 }
+
+  abbrev pub without_last : IterMut T O t o → IterMut T O t o
+  without_last i = record i { back = i.back - 1; numbered = omega (arith, i.numbered) }
+
+  -- a walk is what its fields that aren't facts are
+  module _ (i : IterMut T O t o) (front back : ℕ) where
+    abbrev pub at : i.head + i.len ≤ t.BITS * length i.elements.now → t.BITS * length i.elements.now ≤ max_bits → back ≤ i.len → IterMut T O t o
+    at inside bounded numbered = record i { front = front; back = back; inside = inside; bounded = bounded; numbered = numbered }
+
+    pub same-with : (inside inside' : i.head + i.len ≤ t.BITS * length i.elements.now) (bounded bounded' : t.BITS * length i.elements.now ≤ max_bits) (numbered numbered' : back ≤ i.len) (xs : List T)
+        → with_elements (at inside bounded numbered) xs ≡ with_elements (at inside' bounded' numbered') xs
+    same-with inside inside' bounded bounded' numbered numbered' xs =
+        ap (λ q. with_elements q xs)
+        (ap (λ f. at f bounded numbered) (le_prop inside inside') ∙ ap (λ f. at inside' f numbered) (le_prop bounded bounded') ∙ ap (λ f. at inside' bounded' f) (le_prop numbered numbered'))
+
+module _ (T O : RattleType) {t : Store T.Denot} {o : Order O.Denot} where
+  -- the elements from `start` up to `end` were lent under this name, and the walk ends with what is left there and its other elements, and besides as `next` says
+  abbrev pub lends_range : MutBor (IterMut T.Denot O.Denot t o) → IterMut T.Denot O.Denot t o → ℕ → ℕ → GName → Fml
+  lends_range i next start end name = follows (the_row of_lender T O t o) (Array T 0) i.ghost_name name (λ ws. with_elements next (with_range i.now.elements.now start end ws))
+
+  abbrev pub lends_part : MutBor (IterMut T.Denot O.Denot t o) → ℕ → ℕ → GName → Fml
+  lends_part i start end name = lends_range i i.now start end name
+
+  -- those that the bits from the index `from` up to `to` touch
+  abbrev pub lends_bits : MutBor (IterMut T.Denot O.Denot t o) → ℕ → ℕ → GName → Fml
+  lends_bits i from to name = lends_part i (first_touched t.BITS (i.now.head + from)) (end_touched t.BITS (i.now.head + to)) name
+
+  -- that of the first bit that is left, and of the last
+  abbrev pub lends_first : MutBor (IterMut T.Denot O.Denot t o) → GName → Fml
+  lends_first i name = lends_range i (without_first i.now) (first_touched t.BITS (i.now.head + i.now.front)) (end_touched t.BITS (i.now.head + (i.now.front + 1))) name
+
+  abbrev pub lends_last : MutBor (IterMut T.Denot O.Denot t o) → GName → Fml
+  lends_last i name = lends_range i (without_last i.now) (first_touched t.BITS (i.now.head + (i.now.back - 1))) (end_touched t.BITS (i.now.head + (i.now.back - 1 + 1))) name

@@ -1,0 +1,24 @@
+-- A walk is what its fields that aren't facts are.
+use Rattle.std.specs.Prelude.{◌≡◌, ℕ, ◌+◌, ◌*◌, ◌≤◌, Bool, List, length}
+use Rattle.std.proofs.Common.{◌∙◌, ap}
+use Rattle.std.proofs.Math.Bridge.{le_prop}
+use Rattle.bitvec_slice.specs.store.declared.store.BitStore.{Ghosts as Store}
+use Rattle.bitvec_slice.specs.base.declared.order.BitOrder.{Ghosts as Order}
+use Rattle.bitvec_slice.specs.base.Window.{max_bits}
+use Rattle.bitvec_cutting.specs.declared.cutting.Cutting.{Ghosts as Cuts}
+use Rattle.bitvec_iter.specs.PiecesLending.{with_elements}
+use Rattle.bitvec_iter.specs.declared.lent_pieces.PiecesMut.{PiecesMut}
+
+module _ {T O C : Type 0} {t : Store T} {o : Order O} {c : Cuts C} (p : PiecesMut T O C t o c) (front back : ℕ) (taken : Bool) where
+  -- the walk at other numbers, with these facts
+  abbrev pub at : p.head + p.len ≤ t.BITS * length p.elements.now → t.BITS * length p.elements.now ≤ max_bits → back ≤ c.pieces p.cutting p.len → PiecesMut T O C t o c
+  at inside bounded numbered = record p { front = front; back = back; taken = taken; inside = inside; bounded = bounded; numbered = numbered }
+
+  same-walk : (inside inside' : p.head + p.len ≤ t.BITS * length p.elements.now) (bounded bounded' : t.BITS * length p.elements.now ≤ max_bits) (numbered numbered' : back ≤ c.pieces p.cutting p.len)
+      → at inside bounded numbered ≡ at inside' bounded' numbered'
+  same-walk inside inside' bounded bounded' numbered numbered' =
+      ap (λ i. at i bounded numbered) (le_prop inside inside') ∙ ap (λ b. at inside' b numbered) (le_prop bounded bounded') ∙ ap (λ n. at inside' bounded' n) (le_prop numbered numbered')
+
+  pub same-with : (inside inside' : p.head + p.len ≤ t.BITS * length p.elements.now) (bounded bounded' : t.BITS * length p.elements.now ≤ max_bits) (numbered numbered' : back ≤ c.pieces p.cutting p.len) (xs : List T)
+      → with_elements (at inside bounded numbered) xs ≡ with_elements (at inside' bounded' numbered') xs
+  same-with inside inside' bounded bounded' numbered numbered' xs = ap (λ q. with_elements q xs) (same-walk inside inside' bounded bounded' numbered numbered')

@@ -1,0 +1,64 @@
+-- What a writable walk over pieces ends as, where a piece was lent.
+use Rattle.std.specs.Prelude.{ℕ, ◌+◌, ◌-◌, ◌*◌, ◌≤◌, List, true}
+use Rattle.std.specs.Borrow.{Fml, GName, MutBor, RattleType, Array, follows}
+use Rattle.std.specs.declared.ops.Range.{Range}
+use Rattle.std.proofs.Common.{arith, subst}
+use Rattle.bitvec_slice.specs.lends.Refill.{refilled, length_refilled, of_lender, with_range}
+use Rattle.bitvec_slice.specs.store.declared.store.BitStore.{Ghosts as Store}
+use Rattle.bitvec_slice.specs.base.declared.order.BitOrder.{Ghosts as Order}
+use Rattle.bitvec_slice.specs.base.Window.{max_bits}
+use Rattle.bitvec_cutting.specs.declared.cutting.Cutting.{Ghosts as Cuts}
+use Rattle.bitvec_slice.specs.Touched.{end_touched, first_touched}
+use Rattle.bitvec_iter.specs.LentPieces.{walk_of}
+use Rattle.bitvec_iter.specs.LentWalk.{rest_of}
+use Rattle.bitvec_iter.specs.declared.lent_pieces.PiecesMut.{PiecesMut}
+use Rattle.bitvec_iter.specs.contracts.pieces.PiecesMut.{the_row}
+
+module _ {T O C : Type 0} {t : Store T} {o : Order O} {c : Cuts C} where
+  -- the walk as before, but for its elements, which are xs, cut or filled up to as many as before
+  abbrev pub with_elements : PiecesMut T O C t o c → List T → PiecesMut T O C t o c
+  with_elements p xs =
+      record p {
+        elements = refilled p.elements xs;
+        inside = subst (λ (n : ℕ). p.head + p.len ≤ t.BITS * n) (length_refilled p.elements xs) p.inside;
+        bounded = subst (λ (n : ℕ). t.BITS * n ≤ max_bits) (length_refilled p.elements xs) p.bounded;
+      }
+
+  -- the walk without its first piece, and without its last
+  abbrev pub without_first : PiecesMut T O C t o c → PiecesMut T O C t o c
+  without_first p = record p { front = p.front + 1 }
+
+  abbrev pub without_last : PiecesMut T O C t o c → PiecesMut T O C t o c
+  without_last p = record p { back = p.back - 1; numbered = omega (arith, p.numbered) }
+
+  -- the walk, of which what no piece has was taken
+  abbrev pub without_rest : PiecesMut T O C t o c → PiecesMut T O C t o c
+  without_rest p = record p { taken = true }
+
+-- the elements from `start` up to `end` were lent under this name, and the walk ends with what is left there and its other elements
+abbrev pub lends_part : (T O C : RattleType) {t : Store T.Denot} {o : Order O.Denot} {c : Cuts C.Denot} → MutBor (PiecesMut T.Denot O.Denot C.Denot t o c) → ℕ → ℕ → GName → Fml
+lends_part T O C {t} {o} {c} p start end name =
+    follows (the_row of_lender T O C t o c) (Array T 0) p.ghost_name name (λ ws. with_elements p.now (with_range p.now.elements.now start end ws))
+
+-- those were lent so that the bits from the index `from` up to `to` touch
+abbrev pub lends_bits : (T O C : RattleType) {t : Store T.Denot} {o : Order O.Denot} {c : Cuts C.Denot} → MutBor (PiecesMut T.Denot O.Denot C.Denot t o c) → ℕ → ℕ → GName → Fml
+lends_bits T O C {t} {o} {c} p from to name = lends_part T O C p (first_touched t.BITS (p.now.head + from)) (end_touched t.BITS (p.now.head + to)) name
+
+-- the elements that the bits of this range touch were lent so, and the walk ends besides as `next` says
+abbrev pub lends_range : (T O C : RattleType) {t : Store T.Denot} {o : Order O.Denot} {c : Cuts C.Denot} → MutBor (PiecesMut T.Denot O.Denot C.Denot t o c)
+    → PiecesMut T.Denot O.Denot C.Denot t o c → Range ℕ → GName → Fml
+lends_range T O C {t} {o} {c} p next range name =
+    let start = first_touched t.BITS (p.now.head + range.start) in
+    let end = end_touched t.BITS (p.now.head + range.end) in
+    follows (the_row of_lender T O C t o c) (Array T 0) p.ghost_name name (λ ws. with_elements next (with_range p.now.elements.now start end ws))
+
+module _ (T O C : RattleType) {t : Store T.Denot} {o : Order O.Denot} {c : Cuts C.Denot} where
+  -- the first piece that is left, the last, and what no piece has
+  abbrev pub lends_first : (C.Denot → ℕ → ℕ → Range ℕ) → MutBor (PiecesMut T.Denot O.Denot C.Denot t o c) → GName → Fml
+  lends_first place p name = lends_range T O C p (without_first p.now) (place p.now.cutting p.now.len p.now.front) name
+
+  abbrev pub lends_last : (C.Denot → ℕ → ℕ → Range ℕ) → MutBor (PiecesMut T.Denot O.Denot C.Denot t o c) → GName → Fml
+  lends_last place p name = lends_range T O C p (without_last p.now) (place p.now.cutting p.now.len (p.now.back - 1)) name
+
+  abbrev pub lends_rest : (C.Denot → ℕ → Range ℕ) → MutBor (PiecesMut T.Denot O.Denot C.Denot t o c) → GName → Fml
+  lends_rest left_over p name = lends_range T O C p (without_rest p.now) (rest_of left_over (walk_of p.now)) name

@@ -1,0 +1,171 @@
+//! The calls on writable views that lend pieces.
+ghost use Rattle.std.specs.Prelude.{◌≡◌, ◌-◌, ◌<◌, ◌≤◌, List};
+ghost use Rattle.std.specs.Borrow.{Array, follows, sem};
+ghost use Rattle.bitvec_cutting.specs.Cutting.{chunk_count, whole_count};
+
+use crate::{
+    ChunksExactMut, ChunksMut, HalvesMut, IterMut, PiecesMut, RChunksExactMut, RChunksMut,
+};
+use bitvec_cutting::{InChunks, InChunksFromEnd, InExactChunks, InExactChunksFromEnd};
+use bitvec_slice::BitSliceMut;
+use bitvec_slice::base::BitOrder;
+use bitvec_slice::store::BitStore;
+
+/// The crate's calls on a `&mut BitSlice` that give pieces of it for writing, lent one at a time.
+/// Indices and widths are in bits.
+pub trait PieceCallsMut<T: BitStore, O: BitOrder> {
+    ghost use Rattle.bitvec_slice.specs.Seen.{IsGiven, Seen};
+    ghost use Rattle.bitvec_iter.specs.LentBits.{IsAllOf, bits_left, name_of_bits};
+    ghost use Rattle.bitvec_iter.specs.Halves.{IsCutOf, name_of_halves};
+    ghost use Rattle.bitvec_iter.specs.LentPieces.{name_of_pieces, walk_of};
+    ghost use Rattle.bitvec_iter.specs.LentWalk.{IsWalkOf};
+
+    // What contracts see of the view.
+    ghost shows: { Self → Seen T };
+
+    // The view as before, but for its elements, which are these, cut or filled up to as many.
+    ghost with_elements: { Self → List T → Self };
+
+    /// The bits.
+    ///
+    /// ```
+    /// let mut view = BitSliceMut::<u8, Lsb0>::from_slice_mut(bytes);
+    /// let mut bits = view.iter_mut();
+    /// ```
+    fn iter_mut(&mut self) -> IterMut<'_, T, O>
+        ensures* writes_back { sem 𝓛 (follows Self.row (Array T.row 0) self.entry.ghost_name (name_of_bits result) (with_elements self.old)) }
+        ensures walk { IsAllOf (shows self.old) (bits_left result) };
+
+    /// The bits before the index `mid`, and those from it on. Condition: `mid` is at most `len`.
+    ///
+    /// ```
+    /// let mut view = BitSliceMut::<u8, O>::from_slice_mut(bytes);
+    /// let mut halves = view.split_at_mut(mid);
+    /// ```
+    fn split_at_mut(&mut self, mid: usize) -> HalvesMut<'_, T, O>
+        requires { mid ≤ (shows self.old).window.len }
+        ensures* writes_back { sem 𝓛 (follows Self.row (Array T.row 0) self.entry.ghost_name (name_of_halves result) (with_elements self.old)) }
+        ensures halves { IsCutOf (shows self.old) mid result };
+
+    /// The same as [`PieceCallsMut::split_at_mut`], under the same condition.
+    fn split_at_unchecked_mut(&mut self, mid: usize) -> HalvesMut<'_, T, O>
+        requires { mid ≤ (shows self.old).window.len }
+        ensures* writes_back { sem 𝓛 (follows Self.row (Array T.row 0) self.entry.ghost_name (name_of_halves result) (with_elements self.old)) }
+        ensures halves { IsCutOf (shows self.old) mid result };
+
+    /// The first bit as the left half, and the others: `None` exactly where there is no bit.
+    fn split_first_mut(&mut self) -> Option<HalvesMut<'_, T, O>>
+        ensures { IsGiven (0 < (shows self.old).window.len) (IsCutOf (shows self.old) 1) result };
+
+    /// The last bit as the right half, and the others: `None` exactly where there is no bit.
+    fn split_last_mut(&mut self) -> Option<HalvesMut<'_, T, O>>
+        ensures { IsGiven (0 < (shows self.old).window.len)
+            (IsCutOf (shows self.old) ((shows self.old).window.len - 1)) result };
+
+    /// The chunks of `width` bits from the first bit on: the last may be shorter. Condition: `width` is
+    /// not 0.
+    ///
+    /// ```
+    /// let mut view = BitSliceMut::<u8, Lsb0>::from_slice_mut(bytes);
+    /// let mut chunks = view.chunks_mut(3);
+    /// ```
+    fn chunks_mut(&mut self, width: usize) -> ChunksMut<'_, T, O>
+        requires { 0 < width }
+        ensures* writes_back { sem 𝓛 (follows Self.row (Array T.row 0) self.entry.ghost_name (name_of_pieces result) (with_elements self.old)) }
+        ensures walk { IsWalkOf (shows self.old) (chunk_count width (shows self.old).window.len) (walk_of result) }
+        ensures width { (walk_of result).cutting.width ≡ width };
+
+    /// The whole chunks of `width` bits from the first bit on: the others are the remainder. Condition:
+    /// `width` is not 0.
+    ///
+    /// ```
+    /// let mut view = BitSliceMut::<u8, Msb0>::from_slice_mut(bytes);
+    /// let mut chunks = view.chunks_exact_mut(4);
+    /// ```
+    fn chunks_exact_mut(&mut self, width: usize) -> ChunksExactMut<'_, T, O>
+        requires { 0 < width }
+        ensures* writes_back { sem 𝓛 (follows Self.row (Array T.row 0) self.entry.ghost_name (name_of_pieces result) (with_elements self.old)) }
+        ensures walk { IsWalkOf (shows self.old) (whole_count width (shows self.old).window.len) (walk_of result) }
+        ensures width { (walk_of result).cutting.width ≡ width };
+
+    /// The chunks of `width` bits from the last bit on: the last, which begins the view, may be shorter.
+    /// Condition: `width` is not 0.
+    ///
+    /// ```
+    /// let mut view = BitSliceMut::<u8, Lsb0>::from_slice_mut(bytes);
+    /// let mut chunks = view.rchunks_mut(3);
+    /// ```
+    fn rchunks_mut(&mut self, width: usize) -> RChunksMut<'_, T, O>
+        requires { 0 < width }
+        ensures* writes_back { sem 𝓛 (follows Self.row (Array T.row 0) self.entry.ghost_name (name_of_pieces result) (with_elements self.old)) }
+        ensures walk { IsWalkOf (shows self.old) (chunk_count width (shows self.old).window.len) (walk_of result) }
+        ensures width { (walk_of result).cutting.width ≡ width };
+
+    /// The whole chunks of `width` bits from the last bit on: the others are the remainder. Condition:
+    /// `width` is not 0.
+    ///
+    /// ```
+    /// let chunks = view.rchunks_exact_mut(3);
+    /// let mut rest = chunks.into_remainder();
+    /// rest.fill(true);
+    /// ```
+    fn rchunks_exact_mut(&mut self, width: usize) -> RChunksExactMut<'_, T, O>
+        requires { 0 < width }
+        ensures* writes_back { sem 𝓛 (follows Self.row (Array T.row 0) self.entry.ghost_name (name_of_pieces result) (with_elements self.old)) }
+        ensures walk { IsWalkOf (shows self.old) (whole_count width (shows self.old).window.len) (walk_of result) }
+        ensures width { (walk_of result).cutting.width ≡ width };
+}
+
+impl<'a, T: BitStore, O: BitOrder> PieceCallsMut<T, O> for BitSliceMut<'a, T, O> {
+    ghost use Rattle.bitvec_slice.specs.Lending.{with_elements};
+    ghost use Rattle.bitvec_slice.specs.Views.{seen_mut};
+
+    ghost shows = { seen_mut };
+
+    ghost with_elements = { with_elements };
+
+    fn iter_mut(&mut self) -> IterMut<'_, T, O> {
+        IterMut::new(self)
+    }
+
+    fn split_at_mut(&mut self, mid: usize) -> HalvesMut<'_, T, O> {
+        HalvesMut::new(self, mid)
+    }
+
+    fn split_at_unchecked_mut(&mut self, mid: usize) -> HalvesMut<'_, T, O> {
+        HalvesMut::new(self, mid)
+    }
+
+    fn split_first_mut(&mut self) -> Option<HalvesMut<'_, T, O>> {
+        if self.is_empty() {
+            None
+        } else {
+            Some(HalvesMut::new(self, 1))
+        }
+    }
+
+    fn split_last_mut(&mut self) -> Option<HalvesMut<'_, T, O>> {
+        if self.is_empty() {
+            None
+        } else {
+            let mid = self.len() - 1;
+            Some(HalvesMut::new(self, mid))
+        }
+    }
+
+    fn chunks_mut(&mut self, width: usize) -> ChunksMut<'_, T, O> {
+        PiecesMut::new(self, InChunks { width })
+    }
+
+    fn chunks_exact_mut(&mut self, width: usize) -> ChunksExactMut<'_, T, O> {
+        PiecesMut::new(self, InExactChunks { width })
+    }
+
+    fn rchunks_mut(&mut self, width: usize) -> RChunksMut<'_, T, O> {
+        PiecesMut::new(self, InChunksFromEnd { width })
+    }
+
+    fn rchunks_exact_mut(&mut self, width: usize) -> RChunksExactMut<'_, T, O> {
+        PiecesMut::new(self, InExactChunksFromEnd { width })
+    }
+}

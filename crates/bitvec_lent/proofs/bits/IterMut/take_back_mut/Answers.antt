@@ -1,9 +1,0 @@
-use Rattle.std.specs.Prelude.{◌-◌}
-use Rattle.std.proofs.Common.{rules}
-use Rattle.bitvec_lent.specs.BitsLending.{same-with}
-use Rattle.bitvec_lent.proofs.bits.IterMut.take_back_mut.Goals as goal
-
-pub returns : goal.returns
-returns g c =
-    let i = c.args.self.now in
-    ((search rules, λ w. same-with i i.front (i.back - 1) _ _ _ _ _ _ _), record { writes_back = tt; bit = c.bit_mut.ensures.bit })
