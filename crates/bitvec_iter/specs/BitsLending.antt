@@ -9,7 +9,7 @@ use Rattle.bitvec_slice.specs.base.declared.order.BitOrder.{Ghosts as Order}
 use Rattle.bitvec_slice.specs.base.Window.{max_bits}
 use Rattle.bitvec_slice.specs.Touched.{end_touched, first_touched}
 use Rattle.bitvec_iter.specs.declared.lent_bits.IterMut.{IterMut}
-use Rattle.bitvec_iter.specs.contracts.bits.IterMut.{the_row}
+use Rattle.bitvec_iter.specs.contracts.lent_bits.IterMut.{the_row}
 
 module _ {T O : Type 0} {t : Store T} {o : Order O} where
   -- the walk as before, but for its elements, which are xs, cut or filled up to as many as before

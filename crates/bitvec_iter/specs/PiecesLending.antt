@@ -12,7 +12,7 @@ use Rattle.bitvec_slice.specs.Touched.{end_touched, first_touched}
 use Rattle.bitvec_iter.specs.LentPieces.{walk_of}
 use Rattle.bitvec_iter.specs.LentWalk.{rest_of}
 use Rattle.bitvec_iter.specs.declared.lent_pieces.PiecesMut.{PiecesMut}
-use Rattle.bitvec_iter.specs.contracts.pieces.PiecesMut.{the_row}
+use Rattle.bitvec_iter.specs.contracts.lent_pieces.PiecesMut.{the_row}
 
 module _ {T O C : Type 0} {t : Store T} {o : Order O} {c : Cuts C} where
   -- the walk as before, but for its elements, which are xs, cut or filled up to as many as before

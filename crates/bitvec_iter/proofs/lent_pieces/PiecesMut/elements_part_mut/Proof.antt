@@ -2,8 +2,8 @@
 use Rattle.bitvec_slice.specs.lends.Steps.{refl, [], ◌∷◌, full_share, a_type, dcons, dnil, erased, NamedLft, layout, bounded, copied, param, copied_copy, copied_laws, copy_told, param_laws, part_apart, tail, behind_ty, behind, lends_range}
 use Rattle.bitvec_slice.specs.lends.Arity.{of_three}
 use Rattle.bitvec_iter.specs.PiecesLending.{with_elements}
-use Rattle.bitvec_iter.specs.contracts.pieces.PiecesMut.{struct, the_type, the_row}
-use Rattle.bitvec_iter.specs.contracts.pieces.PiecesMut.elements_part_mut.Key.{name as #self}
+use Rattle.bitvec_iter.specs.contracts.lent_pieces.PiecesMut.{struct, the_type, the_row}
+use Rattle.bitvec_iter.specs.contracts.lent_pieces.PiecesMut.elements_part_mut.Key.{name as #self}
 use Rattle.bitvec_iter.proofs.lent_pieces.PiecesMut.TheLaws.{lowered, lowers, the_loose}
 use Rattle.bitvec_iter.proofs.lent_pieces.PiecesMut.elements_part_mut.Statement.{statement}
 use Rattle.bitvec_iter.proofs.lent_pieces.PiecesMut.elements_part_mut.Code as code
