@@ -2,15 +2,9 @@
 #![tactic(auto)]
 
 #[cfg(test)]
-mod bit_domains;
-#[cfg(test)]
-mod bit_parts;
-#[cfg(test)]
 mod callers;
 #[cfg(test)]
 mod constructors;
-#[cfg(test)]
-mod domains;
 #[cfg(test)]
 mod edits;
 #[cfg(test)]
@@ -21,10 +15,6 @@ mod equality;
 mod indices;
 #[cfg(test)]
 mod lends;
-#[cfg(test)]
-mod lent_domains;
-#[cfg(test)]
-mod parts;
 #[cfg(test)]
 mod ranges;
 #[cfg(test)]

@@ -1,9 +1,7 @@
-//! Questions to views, their order, hash and texts, copies and repeats, owned sequences, and splits:
+//! Questions to views, their order, hash and texts, copies and repeats, and owned sequences:
 //! callers, and what no clause says.
 #![tactic(auto)]
 
-#[cfg(test)]
-mod asked;
 #[cfg(test)]
 mod callers;
 #[cfg(test)]
@@ -11,21 +9,13 @@ mod comparing;
 #[cfg(test)]
 mod copies;
 #[cfg(test)]
-mod found_splits;
-#[cfg(test)]
 mod hashing;
 #[cfg(test)]
 mod laws;
 #[cfg(test)]
-mod lent;
-#[cfg(test)]
-mod lent_splits;
-#[cfg(test)]
 mod needles;
 #[cfg(test)]
 mod owned;
-#[cfg(test)]
-mod pieces;
 #[cfg(test)]
 mod refusals;
 #[cfg(test)]

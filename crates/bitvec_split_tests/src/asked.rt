@@ -1,8 +1,8 @@
 //! Which indices a predicate is asked about, by predicates that keep a state.
 
-use bitvec_owned::query::base::{BitOrder, Lsb0, Msb0};
-use bitvec_owned::query::slice::BitSlice;
-use bitvec_owned::query::store::BitStore;
+use bitvec_query::base::{BitOrder, Lsb0, Msb0};
+use bitvec_query::slice::BitSlice;
+use bitvec_query::store::BitStore;
 use bitvec_split::SplitCalls;
 use std::test::Fail;
 

@@ -3,8 +3,8 @@
 //! same indices, with the same bits. What a call lends is flipped, and the bytes are compared at the end.
 //! Of 30 calls many go past the end.
 
-use bitvec_owned::query::base::Lsb0;
-use bitvec_owned::query::slice::BitSliceMut;
+use bitvec_query::base::Lsb0;
+use bitvec_query::slice::BitSliceMut;
 use bitvec_split::SplitCallsMut;
 use std::process::Abort;
 use test_bits::{MEMORIES, bits_of, flip};

@@ -2,7 +2,7 @@ use Rattle.std.proofs.Common.{◌≡◌, ◌+◌, ◌≤◌, count_by, sum_by}
 use Rattle.bitvec_query.specs.base.Window.{max_bits}
 use Rattle.bitvec_query.specs.slice.BitParts.{parts_left}
 use Rattle.bitvec_query.specs.slice.Views.{seen}
-use Rattle.bitvec_slice_tests.proofs.bit_parts.ones_by_parts.Given as goal
+use Rattle.bitvec_domain_tests.proofs.bit_parts.ones_by_parts.Given as goal
 
 abbrev pub invariant-loop-part : goal.invariant-loop-part
 invariant-loop-part g l =

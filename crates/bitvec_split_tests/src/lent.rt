@@ -1,10 +1,10 @@
 //! Pieces that are lent: each is flipped in its place.
 ghost use Rattle.std.specs.Prelude.{◌*◌, ◌≤◌, length};
-ghost use Rattle.bitvec_owned.specs.query.base.Window.{max_bits};
+ghost use Rattle.bitvec_query.specs.base.Window.{max_bits};
 
-use bitvec_owned::query::base::{BitOrder, Lsb0, Msb0};
-use bitvec_owned::query::slice::BitSliceMut;
-use bitvec_owned::query::store::BitStore;
+use bitvec_query::base::{BitOrder, Lsb0, Msb0};
+use bitvec_query::slice::BitSliceMut;
+use bitvec_query::store::BitStore;
 use bitvec_split::SplitCallsMut;
 
 /// Flips the first pieces between ones, some from the front and then one from the back, and gives how

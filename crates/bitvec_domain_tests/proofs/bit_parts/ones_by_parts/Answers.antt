@@ -1,7 +1,7 @@
 use Rattle.std.proofs.Common.{arith, ◌∙◌, ap, count_by, sum_by}
 use Rattle.bitvec_query.specs.slice.Views.{seen}
-use Rattle.bitvec_slice_tests.proofs.PartCounts.{few_counted, parts_counted}
-use Rattle.bitvec_slice_tests.proofs.bit_parts.ones_by_parts.Goals as goal
+use Rattle.bitvec_domain_tests.proofs.PartCounts.{few_counted, parts_counted}
+use Rattle.bitvec_domain_tests.proofs.bit_parts.ones_by_parts.Goals as goal
 
 pub loop-part-init : goal.loop-part-init
 loop-part-init g c =

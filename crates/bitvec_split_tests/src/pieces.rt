@@ -1,9 +1,9 @@
 //! The pieces of views, from both ends, and how many may come.
 ghost use Rattle.std.specs.Iterator.{IsFinite};
 
-use bitvec_owned::query::base::{BitOrder, Lsb0, Msb0};
-use bitvec_owned::query::slice::{BitSlice, BitSliceMut};
-use bitvec_owned::query::store::BitStore;
+use bitvec_query::base::{BitOrder, Lsb0, Msb0};
+use bitvec_query::slice::{BitSlice, BitSliceMut};
+use bitvec_query::store::BitStore;
 use bitvec_split::SplitCalls;
 use std::test::Fail;
 use test_bits::{stays_ended, stays_ended_at_both};

@@ -2,8 +2,8 @@
 //! give the same pieces and ask the same questions, and `is_finished` says when none is left.
 
 use crate::lent_splits::{Asked, Ends, Kind, Lengths, split_list, split_list_into};
-use bitvec_owned::query::base::Lsb0;
-use bitvec_owned::query::slice::BitSliceMut;
+use bitvec_query::base::Lsb0;
+use bitvec_query::slice::BitSliceMut;
 use bitvec_split::SplitCallsMut;
 use std::process::Abort;
 use test_bits::{MEMORIES, bits_of};
