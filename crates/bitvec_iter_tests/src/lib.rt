@@ -1,5 +1,4 @@
-//! Callers of the walks over views, and of pieces of writable views that are lent one at a time:
-//! what they know afterwards, and what no clause says.
+//! Callers of the walks over views: what they know afterwards, and what no clause says.
 #![tactic(auto)]
 
 #[cfg(test)]
@@ -7,24 +6,13 @@ mod bits;
 #[cfg(test)]
 mod callers;
 #[cfg(test)]
-mod chunks;
-#[cfg(test)]
-mod halves;
-pub mod known;
-#[cfg(test)]
-mod lent_bits;
-#[cfg(test)]
 mod pieces;
 #[cfg(test)]
 mod reading;
 #[cfg(test)]
-mod remainders;
-#[cfg(test)]
 mod runs;
 #[cfg(test)]
 mod shown;
-#[cfg(test)]
-mod walked;
 #[cfg(test)]
 mod widths;
 

@@ -7,19 +7,11 @@ mod answers;
 #[cfg(test)]
 mod device;
 #[cfg(test)]
-mod edits_composed;
-#[cfg(test)]
-mod edits_known;
-#[cfg(test)]
 mod filled;
 #[cfg(test)]
 mod guide;
 #[cfg(test)]
-mod lends_known;
-#[cfg(test)]
 mod number_set;
-#[cfg(test)]
-mod numbers_known;
 #[cfg(test)]
 mod own_element;
 #[cfg(test)]
@@ -31,10 +23,4 @@ mod runs_known;
 #[cfg(test)]
 mod slots;
 #[cfg(test)]
-mod split_edits;
-#[cfg(test)]
-mod splits_known;
-#[cfg(test)]
 mod transfers;
-#[cfg(test)]
-mod walks_known;

@@ -7,7 +7,7 @@ use Rattle.bitvec.specs.SplitLaws.{first-piece}
 use Rattle.bitvec.specs.SplitViews.{left_of}
 use Rattle.bitvec.specs.Splits.{Left, SplitNext}
 use Rattle.bitvec.specs.Views.{seen}
-use Rattle.bitvec_tests.proofs.walks_known.first_token.Goals as goal
+use Rattle.bitvec_known_tests.proofs.walks_known.first_token.Goals as goal
 
 -- the first piece, where there is one, has as many bits as stand before the first 1
 first-of : {T P X : Type 0} (b : ℕ) (s t : Left T P) (see : X → Seen T) (view : Seen T) → s.rest ≡ view → (r : Option X) (g : Mut P (ℕ × (Bor Bool × Unit {0})) Bool)
