@@ -5,7 +5,7 @@ use crate::BitOrder;
 use crate::ones::{highest, lowest, ones, single};
 use bitvec_store::BitStore;
 
-/// The order in which index `i` is bit `i`: the least significant bit first, as in the crate.
+/// The order in which index `i` is bit `i`: the least significant bit first, as in `bitvec`.
 #[derive(Clone, Copy)]
 pub struct Lsb0;
 

@@ -7,7 +7,7 @@ ghost use Rattle.bitvec_store.specs.Width.{IsWidth};
 
 use bitvec_store::BitStore;
 
-/// An order of the bits of an element: the crate's `BitOrder`.
+/// An order of the bits of an element: `bitvec`'s `BitOrder`.
 ///
 /// Contracts see an order as `at`, which gives for a width and an index the number of the bit
 /// that stands there. By law each bit number below the width is that of exactly one index.

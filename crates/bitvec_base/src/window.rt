@@ -1,7 +1,7 @@
 //! A window: the bits of a memory that a call works on.
 ghost use Rattle.std.specs.Prelude.{◌≡◌, ℕ, ◌+◌, ◌-◌, ◌≤◌, ◌<◌, ◌^◌, ◌↔◌, IsTrue};
 
-/// The most bits that a memory may have: the crate's `BitSlice::MAX_BITS`.
+/// The most bits that a memory may have: `bitvec`'s `BitSlice::MAX_BITS`.
 pub const MAX_BITS: usize = usize::MAX / 8;
 
 /// Bits `start` up to, without, `start + len` of a memory, counted from its first bit under an

@@ -11,7 +11,7 @@ use crate::cut::Cut;
 use bitvec_base::store::BitStore;
 use bitvec_base::{BitOrder, Part, Window};
 
-/// The elements that a view touches, in their order: the crate's `Domain` over shared elements.
+/// The elements that a view touches, in their order: `bitvec`'s `Domain` over shared elements.
 #[derive(Drop)]
 pub enum Domain<'a, T: BitStore, O: BitOrder> {
     /// Bits of one element that touch neither of its edges.

@@ -12,7 +12,7 @@ use crate::cut::Cut;
 use bitvec_base::store::BitStore;
 use bitvec_base::{BitOrder, Part, Window};
 
-/// The elements that a writable view touches, in their order: the crate's `Domain` over exclusive
+/// The elements that a writable view touches, in their order: `bitvec`'s `Domain` over exclusive
 /// elements.
 #[derive(Drop)]
 pub enum DomainMut<'a, T: BitStore, O: BitOrder> {

@@ -8,7 +8,7 @@ use bitvec_base::BitOrder;
 use bitvec_base::store::BitStore;
 use std::marker::PhantomData;
 
-/// Bits of one element that is borrowed for reading: the crate's `PartialElement` over a shared
+/// Bits of one element that is borrowed for reading: `bitvec`'s `PartialElement` over a shared
 /// element.
 #[derive(Drop)]
 pub struct PartialElement<'a, T: BitStore, O: BitOrder> {

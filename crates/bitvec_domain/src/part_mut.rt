@@ -8,7 +8,7 @@ use bitvec_base::BitOrder;
 use bitvec_base::store::BitStore;
 use std::marker::PhantomData;
 
-/// Bits of one element that is borrowed for writing: the crate's `PartialElement` over an
+/// Bits of one element that is borrowed for writing: `bitvec`'s `PartialElement` over an
 /// exclusive element.
 #[derive(Drop)]
 pub struct PartialElementMut<'a, T: BitStore, O: BitOrder> {

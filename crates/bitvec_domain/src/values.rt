@@ -24,7 +24,7 @@ pub struct DomainValues<'a, T: BitStore, O: BitOrder> {
 impl<'a, T: BitStore, O: BitOrder> Domain<'a, T, O> {
     ghost use Rattle.bitvec_domain.specs.Values.{YieldsValues, values_left};
 
-    /// The values of the elements, in their order: what the crate's `Domain` gives, which is an iterator.
+    /// The values of the elements, in their order: what `bitvec`'s `Domain` gives, which is an iterator.
     pub fn values(self) -> DomainValues<'a, T, O>
         ensures values { values_left result ≡ numbers_of_pieces T.BITS O.at T.value (pieces_of self.entry) }
         ensures runs { YieldsValues result }

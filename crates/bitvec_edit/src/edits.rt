@@ -65,7 +65,7 @@ pub trait BitEdits<T> {
     fn fill(&mut self, bit: bool)
         ensures { writes self.old self.new (replicate (shows self.old).window.len bit) };
 
-    /// Flips each bit: what `!` does of the crate.
+    /// Flips each bit: `!` of `bitvec`.
     ///
     /// ```
     /// let mut view = BitSliceMut::<T, O>::from_slice_mut(elements);

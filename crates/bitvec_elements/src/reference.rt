@@ -7,7 +7,7 @@ use std::alloc::AllocError;
 use std::marker::PhantomData;
 use std::ops::Deref;
 
-/// One bit of a view, read by `*`: it stands for the crate's `BitRef<'a, Const, T, O>`.
+/// One bit of a view, read by `*`: it stands for `bitvec`'s `BitRef<'a, Const, T, O>`.
 pub struct BitRef<'a, T: BitStore, O: BitOrder> {
     bit: &'a bool,
     mark: PhantomData<(T, O)>,

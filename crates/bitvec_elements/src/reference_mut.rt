@@ -9,7 +9,7 @@ use bitvec_engine::store::BitStore;
 use std::marker::PhantomData;
 use std::ops::Deref;
 
-/// One bit of a view that is borrowed for writing: it stands for the crate's
+/// One bit of a view that is borrowed for writing: it stands for `bitvec`'s
 /// `BitRef<'a, Mut, T, O>`. It is read by `*` and written at once.
 ///
 /// Contracts see it as the memory that it borrows, by name and as bits, and as a place there.

@@ -12,7 +12,7 @@ use bitvec_move::store::BitStore;
 use bitvec_move::walk::get_bit;
 use std::cmp::Ordering;
 
-/// Whether two windows have the same bits, of any element widths and orders: `==` of the crate.
+/// Whether two windows have the same bits, of any element widths and orders: `==` of `bitvec`.
 /// Condition: each memory has at most `MAX_BITS` bits, and each window lies in its memory. It loads
 /// at most once a bit and side, and not at all where the windows aren't as long.
 pub fn bits_eq<O: BitOrder, P: BitOrder, C: CellsRead, D: CellsRead>(
@@ -42,7 +42,7 @@ pub fn bits_eq<O: BitOrder, P: BitOrder, C: CellsRead, D: CellsRead>(
 }
 
 /// How the bits of two windows compare, from the first index on, as lists of truth values do:
-/// `cmp` of the crate. Condition: as of [`bits_eq`]. It loads at most once a bit that both have,
+/// `cmp` of `bitvec`. Condition: as of [`bits_eq`]. It loads at most once a bit that both have,
 /// a side.
 pub fn compare<O: BitOrder, P: BitOrder, C: CellsRead, D: CellsRead>(
     left: &mut C,

@@ -63,7 +63,7 @@ fn copy_descending<O: BitOrder, C: Cells>(
 }
 
 /// Copies the bits `from..to` of a window to `dest` on, also where they overlap, going bit by bit;
-/// all other bits of the memory stay. It is `copy_within` of the crate's `BitSlice`. Condition: the
+/// all other bits of the memory stay. It is `copy_within` of `bitvec`'s `BitSlice`. Condition: the
 /// memory has at most `MAX_BITS` bits, the window lies in it, and both the bits read and those
 /// written lie in the window. It loads twice and stores once for each bit that is copied.
 pub fn bits_copy_within<O: BitOrder, C: Cells>(

@@ -10,7 +10,7 @@ use bitvec_move::base::Window;
 use bitvec_move::cells::CellsRead;
 use bitvec_move::store::BitStore;
 
-/// Whether the needle's bits begin those of the window: `starts_with` of the crate. Condition: each
+/// Whether the needle's bits begin those of the window: `starts_with` of `bitvec`. Condition: each
 /// memory has at most `MAX_BITS` bits, and each window lies in its memory. It takes one equality of
 /// the needle's bits, and no load where these are more.
 pub fn starts_with<O: SliceOrder, C: CellsRead, D: CellsRead<Elem = C::Elem>>(
@@ -32,7 +32,7 @@ pub fn starts_with<O: SliceOrder, C: CellsRead, D: CellsRead<Elem = C::Elem>>(
     O::block_eq::<C, D>(cells, window.range(0, needle.len), right, needle)
 }
 
-/// Whether the needle's bits end those of the window: `ends_with` of the crate. Condition and
+/// Whether the needle's bits end those of the window: `ends_with` of `bitvec`. Condition and
 /// loads: as of [`starts_with`].
 pub fn ends_with<O: SliceOrder, C: CellsRead, D: CellsRead<Elem = C::Elem>>(
     cells: &mut C,

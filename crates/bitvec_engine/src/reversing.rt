@@ -11,7 +11,7 @@ use bitvec_move::store::BitStore;
 use bitvec_move::walk::swap_bits;
 
 /// Reverses the bits of a window, going bit by bit; all other bits of the memory stay: `reverse`
-/// of the crate's `BitSlice`. Condition: the memory has at most `MAX_BITS` bits, and the window
+/// of `bitvec`'s `BitSlice`. Condition: the memory has at most `MAX_BITS` bits, and the window
 /// lies in it. It takes at most two loads and one store for each bit.
 pub fn bits_reverse<O: BitOrder, C: Cells>(cells: &mut C, window: Window)
     requires { HasWindow C.Elem.BITS (C.numbers cells.old) window }

@@ -25,7 +25,7 @@ fn reverse_range<O: SliceOrder, C: Cells>(cells: &mut C, window: Window, from: u
 }
 
 /// Rotates the bits of a window so that the bit at `by` comes first; all other bits of the memory
-/// stay: `rotate_left` of the crate's `BitSlice`. Condition: the memory has at most `MAX_BITS` bits,
+/// stay: `rotate_left` of `bitvec`'s `BitSlice`. Condition: the memory has at most `MAX_BITS` bits,
 /// the window lies in it, and `by` is at most the window's length. It costs three reversals: of the
 /// first `by` bits, of the others, and of all.
 pub fn rotate_left<O: SliceOrder, C: Cells>(cells: &mut C, window: Window, by: usize)
@@ -41,7 +41,7 @@ pub fn rotate_left<O: SliceOrder, C: Cells>(cells: &mut C, window: Window, by: u
 }
 
 /// Rotates the bits of a window so that the last `by` come first; all other bits of the memory
-/// stay: `rotate_right` of the crate's `BitSlice`. Condition and cost: as of [`rotate_left`], by
+/// stay: `rotate_right` of `bitvec`'s `BitSlice`. Condition and cost: as of [`rotate_left`], by
 /// the bits that are not the last `by`.
 pub fn rotate_right<O: SliceOrder, C: Cells>(cells: &mut C, window: Window, by: usize)
     requires window { HasWindow C.Elem.BITS (C.numbers cells.old) window }

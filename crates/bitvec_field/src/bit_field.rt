@@ -4,7 +4,7 @@ ghost use Rattle.bitvec_field.specs.Integers.{integer_of, remainder_of};
 
 use crate::Integral;
 
-/// The bits of a view as an integer: the loads of the crate's `BitField`, for both view types.
+/// The bits of a view as an integer: the loads of `bitvec`'s `BitField`, for both view types.
 ///
 /// A view's segments are its bits cut at the edges of elements. Under `Lsb0` the first bit of a
 /// segment is its lowest, under `Msb0` its highest. Condition of all: the view has from 1 to
@@ -56,7 +56,7 @@ pub trait BitField {
     }
 }
 
-/// An integer in the bits of a view: the stores of the crate's `BitField`. Conditions are as of
+/// An integer in the bits of a view: the stores of `bitvec`'s `BitField`. Conditions are as of
 /// [`BitField`]. Of a value with more bits than the view has the lowest are stored.
 pub trait BitFieldMut: BitField {
     // Holds of the view before and after a call that gave it the bits with this number, modulo

@@ -2,7 +2,7 @@
 ghost use Rattle.std.specs.Prelude.{◌≡◌, ℕ, ◌^◌, ◌<◌, ◌≤◌, Bool, ℤ};
 ghost use Rattle.bitvec_field.specs.Integers.{integer_of, remainder_of};
 
-/// An integer that is loaded from bits and stored in bits: the crate's `funty::Integral`, as far as
+/// An integer that is loaded from bits and stored in bits: `bitvec`'s `funty::Integral`, as far as
 /// `BitField` needs it.
 ///
 /// Contracts see it as a whole number, `value`. A type of a user's own may implement the trait too.

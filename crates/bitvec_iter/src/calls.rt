@@ -8,7 +8,7 @@ use crate::PieceWalk;
 use bitvec_cutting::{InChunks, InChunksFromEnd, InExactChunks, InExactChunksFromEnd, InWindows};
 use bitvec_slice::store::BitStore;
 
-/// The walks of the crate's `BitSlice` over its parts, for both view types: of a `BitSlice` they live as
+/// The walks of `bitvec`'s `BitSlice` over its parts, for both view types: of a `BitSlice` they live as
 /// long as its elements, of a `&BitSliceMut` as long as that borrow. Widths are in bits.
 pub trait IterCalls<T: BitStore> {
     ghost use Rattle.bitvec_slice.specs.Seen.{Seen};

@@ -150,7 +150,7 @@ impl<'a, T: BitStore, O: BitOrder> IterMut<'a, T, O> {
     /// there: `f` is called once for each, in ascending order, with numbers from 0 on, and what it keeps goes
     /// from each call to the next. No bit is left then, and all others stay as they are. Condition: `f` may be
     /// called for each number and the bit there, once the calls for those before it are done, whatever they
-    /// answered. It stands for `for` over the crate's iterator.
+    /// answered. It stands for `for` over `bitvec`'s iterator.
     ///
     /// ```
     /// bits.pass(2);

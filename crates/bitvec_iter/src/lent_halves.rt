@@ -7,7 +7,7 @@ use bitvec_slice::store::BitStore;
 use bitvec_slice::{BitSliceMut, RawElements, touched};
 use std::marker::PhantomData;
 
-/// A writable view's bits, cut in two: it stands for the pair that the crate's `split_at_mut` gives,
+/// A writable view's bits, cut in two: it stands for the pair that `bitvec`'s `split_at_mut` gives,
 /// and lends one half at a time.
 ///
 /// A half is a view of the elements that it touches. An element that both halves touch is lent with

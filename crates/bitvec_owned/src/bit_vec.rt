@@ -13,7 +13,7 @@ use std::marker::PhantomData;
 /// A sequence of bits in memory of its own.
 ///
 /// It has just the elements that its bits touch, and the index in the first of them at which it begins.
-/// Contracts see it as they see a view of its bits. It has as many bits as it was made with: the crate's
+/// Contracts see it as they see a view of its bits. It has as many bits as it was made with: `bitvec`'s
 /// calls that add or take bits are not here.
 #[derive(Drop)]
 pub struct BitVec<T: BitStore, O: BitOrder, A: Allocator> {
@@ -98,7 +98,7 @@ impl<T: BitStore, O: BitOrder, A: Allocator> BitVec<T, O, A> {
         self.elements.as_mut_slice()
     }
 
-    /// Ends the sequence, and gives its elements: `into_vec` of the crate.
+    /// Ends the sequence, and gives its elements: `into_vec` of `bitvec`.
     pub fn into_elements(self) -> Vec<T, A>
         ensures { result.items ≡ (owned self).elements }
     {

@@ -15,7 +15,7 @@ use bitvec_edit::slice::{BitSlice, BitSliceMut};
 use bitvec_edit::store::BitStore;
 use std::alloc::{AllocError, Allocator};
 
-/// The calls of the crate's `BitSlice` that make an owned sequence, for both view types and for owned
+/// The calls of `bitvec`'s `BitSlice` that make an owned sequence, for both view types and for owned
 /// sequences.
 pub trait ToBitVec<T: BitStore, O: SliceOrder> {
     ghost use Rattle.bitvec_edit.specs.slice.Seen.{Seen};

@@ -17,7 +17,7 @@ use bitvec_slice::engine::SliceOrder;
 use bitvec_slice::store::BitStore;
 use std::cmp::Ordering;
 
-/// The questions that the crate's `BitSlice` answers about its bits, for both view types. A needle,
+/// The questions that `bitvec`'s `BitSlice` answers about its bits, for both view types. A needle,
 /// or what a view is compared with, may have any element type and order. Indices and counts are in
 /// bits.
 pub trait BitQueries<T: BitStore, O: SliceOrder> {
@@ -187,7 +187,7 @@ pub trait BitQueries<T: BitStore, O: SliceOrder> {
         self.any() && self.not_all()
     }
 
-    /// Whether the other view has the same bits: `==` of the crate, which compares views of any types.
+    /// Whether the other view has the same bits: `==` of `bitvec`, which compares views of any types.
     ///
     /// ```
     /// let high = [0x84u8];

@@ -13,7 +13,7 @@ use bitvec_domain::Cut;
 use bitvec_elements::base::{BitOrder, Part, Window};
 use bitvec_elements::store::BitStore;
 
-/// A view, cut at the edges of elements: the crate's `BitDomain`, over the type of the parts, which is
+/// A view, cut at the edges of elements: `bitvec`'s `BitDomain`, over the type of the parts, which is
 /// [`BitSlice`] of `bit_domain` and [`BitSliceMut`] of `bit_domain_mut`. In a `for` it gives them in their
 /// order, as `parts` does.
 #[derive(Clone, Copy, Debug, PartialEq, Eq, Drop)]

@@ -40,7 +40,7 @@ pub trait ViewedMut: Drop {
         ensures { result ≡ (sees self.now).window.len };
 }
 
-/// An index of a view, or a range of its indices, in bits: it stands for the crate's
+/// An index of a view, or a range of its indices, in bits: it stands for `bitvec`'s
 /// `BitSliceIndex<'a, T, O>`, at the view `BitSlice<'a, T, O>`.
 ///
 /// That a view has the index is the condition of the calls that give no `Option`.

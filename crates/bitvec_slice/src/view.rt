@@ -12,12 +12,12 @@ use std::alloc::AllocError;
 use std::marker::PhantomData;
 use std::ops::Range;
 
-/// Bits of a borrowed slice of elements, in an order: it stands for the crate's `&BitSlice<T, O>`.
+/// Bits of a borrowed slice of elements, in an order: it stands for `bitvec`'s `&BitSlice<T, O>`.
 ///
 /// A view keeps the elements that its bits touch, and the index in the first of them at which it
 /// begins; so does each of its parts. Contracts see it as its memory, which is the bits of those
 /// elements, and as its window there. Its own bits are the memory's in the window. Lengths, indices
-/// and ranges are in bits. A call has the name and the meaning of the crate's, unless its text says
+/// and ranges are in bits. A call has the name and the meaning of `bitvec`'s, unless its text says
 /// what it stands for.
 pub struct BitSlice<'a, T: BitStore, O: BitOrder> {
     elements: &'a [T],
@@ -104,7 +104,7 @@ impl<'a, T: BitStore, O: BitOrder> BitSlice<'a, T, O> {
         self.elements
     }
 
-    /// The same view: `&*bits` of the crate, as [`crate::BitSliceMut::as_ref`] gives it.
+    /// The same view: `&*bits` of `bitvec`, as [`crate::BitSliceMut::as_ref`] gives it.
     pub fn as_ref(&self) -> BitSlice<'_, T, O>
         ensures { seen result ≡ seen self.now }
     {

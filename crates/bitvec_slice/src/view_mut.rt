@@ -119,7 +119,7 @@ impl<'a, T: BitStore, O: BitOrder> BitSliceMut<'a, T, O> {
         elements
     }
 
-    /// A shared view of the same bits: `&*bits` of the crate.
+    /// A shared view of the same bits: `&*bits` of `bitvec`.
     ///
     /// ```
     /// let other = BitSlice::<u16, Msb0>::from_slice(&words);
@@ -131,7 +131,7 @@ impl<'a, T: BitStore, O: BitOrder> BitSliceMut<'a, T, O> {
         BitSlice::from_parts(&*self.elements, self.head, self.len)
     }
 
-    /// A view of the same bits for a shorter time: `&mut *bits` of the crate.
+    /// A view of the same bits for a shorter time: `&mut *bits` of `bitvec`.
     ///
     /// ```
     /// inner.invert();

@@ -48,7 +48,7 @@ pub trait SplitCalls<T, P> {
 
     /// The same pieces, each with the bit behind it. No empty piece follows a yes at the last bit, and a
     /// call from the back doesn't ask about the last bit. An empty view has no piece, as std's slices have none,
-    /// where the crate gives one.
+    /// where `bitvec` gives one.
     ///
     /// ```
     /// let pieces = view.split_inclusive(|_, bit| *bit);

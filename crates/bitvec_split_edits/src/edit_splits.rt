@@ -152,7 +152,7 @@ pub trait EditSplits<T>: EditParts {
 
     /// Calls `edit` on each piece between the bits at which `pred` says yes, in ascending order. No piece has
     /// such a bit; with no yes all that is left is the last piece, also an empty one. It stands for `for` over
-    /// the crate's `split_mut`.
+    /// `bitvec`'s `split_mut`.
     ///
     /// ```
     /// view.for_each_split_mut(pred, |_number, piece| piece.invert());

@@ -4,7 +4,7 @@ ghost use Rattle.std.specs.Int.Count.{count_leading_zeros, count_trailing_zeros}
 ghost use Rattle.std.specs.Mem.{FitsInMemory};
 ghost use Rattle.bitvec_store.specs.Width.{IsWidth};
 
-/// An unsigned element of a memory, as `u8` or `usize`: the crate's `BitStore`.
+/// An unsigned element of a memory, as `u8` or `usize`: `bitvec`'s `BitStore`.
 ///
 /// Contracts see an element as its number, `value`. Bit `p` of an element is the one of weight
 /// `2^p`. A type of a user's own may implement the trait too.

@@ -7,8 +7,8 @@ use bitvec_slice::base::BitOrder;
 use bitvec_slice::store::BitStore;
 use std::fmt;
 
-/// A view that prints a digit for each bit, as `[0100, 0010]`: `{:b}` of the crate. There is a text for
-/// each part of the view in one element. This and its sisters stand for the crate's impls of the traits
+/// A view that prints a digit for each bit, as `[0100, 0010]`: `{:b}` of `bitvec`. There is a text for
+/// each part of the view in one element. This and its sisters stand for `bitvec`'s impls of the traits
 /// of these names.
 #[derive(Clone, Copy)]
 pub struct Binary<'a, T: BitStore, O: BitOrder>(pub BitSlice<'a, T, O>);
@@ -19,12 +19,12 @@ pub struct Binary<'a, T: BitStore, O: BitOrder>(pub BitSlice<'a, T, O>);
 pub struct Octal<'a, T: BitStore, O: BitOrder>(pub BitSlice<'a, T, O>);
 
 /// A view that prints a digit, as `a`, for four bits of a part, counted from the part's end: `{:x}` of
-/// the crate.
+/// `bitvec`.
 #[derive(Clone, Copy)]
 pub struct LowerHex<'a, T: BitStore, O: BitOrder>(pub BitSlice<'a, T, O>);
 
 /// A view that prints a digit, as `A`, for four bits of a part, counted from the part's end: `{:X}` of
-/// the crate.
+/// `bitvec`.
 #[derive(Clone, Copy)]
 pub struct UpperHex<'a, T: BitStore, O: BitOrder>(pub BitSlice<'a, T, O>);
 

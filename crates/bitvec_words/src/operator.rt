@@ -10,11 +10,11 @@ use bitvec_cells::store::BitStore;
 /// What is made of two bits.
 #[derive(Clone, Copy, PartialEq, Eq, Debug)]
 pub enum BitOp {
-    /// 1 if both are: `&=` of the crate.
+    /// 1 if both are: `&=` of `bitvec`.
     And,
-    /// 1 if one or both are: `|=` of the crate.
+    /// 1 if one or both are: `|=` of `bitvec`.
     Or,
-    /// 1 if they differ: `^=` of the crate.
+    /// 1 if they differ: `^=` of `bitvec`.
     Xor,
 }
 
