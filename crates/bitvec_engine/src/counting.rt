@@ -5,10 +5,12 @@ ghost use Rattle.bitvec_move.specs.cells.Access.{OnlyReads};
 ghost use Rattle.bitvec_move.specs.walk.Cost.{touched};
 ghost use Rattle.bitvec_move.specs.words.Elements.{elements_window};
 
-use bitvec_move::base::{BitOrder, Part, Window, first_part};
+use bitvec_move::base::{BitOrder, Lsb0, Part, Window, first_part};
 use bitvec_move::cells::CellsRead;
+use bitvec_move::load_elements;
 use bitvec_move::store::BitStore;
 use bitvec_move::walk::count_part;
+use bitvec_move::words::WORD_BITS;
 
 /// How many bits of a window are 1. Condition: the memory has at most `MAX_BITS` bits, and the
 /// window lies in it. It loads each element that the window touches once.
@@ -53,8 +55,46 @@ fn count_aligned<O: BitOrder, C: CellsRead>(cells: &mut C, window: Window) -> us
     ones + count_part::<O, C>(cells, tail)
 }
 
-/// How many bits of `count` whole elements are 1. It loads each element once.
+/// How many bits of `count` whole elements are 1, of elements narrower than a word by the word. It loads
+/// each element once.
 fn count_whole<O: BitOrder, C: CellsRead>(cells: &mut C, first: usize, count: usize) -> usize
+    requires { HasWindow C.Elem.BITS (C.numbers cells.old) (elements_window C.Elem.BITS first count) }
+    ensures value { result
+        ≡ count_by (λ bit. bit) (list_in C.Elem.BITS O.at (C.numbers cells.old) (elements_window C.Elem.BITS first count)) }
+    ensures reads { OnlyReads C.CellsRead cells.old cells.new count }
+{
+    let bits = C::Elem::BITS as usize;
+    if bits >= WORD_BITS {
+        return count_elements::<O, C>(cells, first, count);
+    }
+    let elements = WORD_BITS / bits;
+    let words = count / elements;
+    let passed = words * elements;
+    let ones = count_words::<C>(cells, first, words);
+    ones + count_elements::<O, C>(cells, first + passed, count - passed)
+}
+
+/// How many bits of the elements of `count` words are 1: as many as the words have, which are gathered
+/// in one order, since a whole element has as many in each. Condition: the elements are narrower than a
+/// word. It loads each element once.
+fn count_words<C: CellsRead>(cells: &mut C, first: usize, count: usize) -> usize
+    requires window { HasWindow C.Elem.BITS (C.numbers cells.old) (elements_window C.Elem.BITS first (count * (64 / C.Elem.BITS))) }
+    requires narrow { C.Elem.BITS ≤ 64 }
+    ensures value { result
+        ≡ count_by (λ bit. bit) (list_in C.Elem.BITS (λ b i. i) (C.numbers cells.old) (elements_window C.Elem.BITS first (count * (64 / C.Elem.BITS)))) }
+    ensures reads { OnlyReads C.CellsRead cells.old cells.new (count * (64 / C.Elem.BITS)) }
+{
+    let elements = WORD_BITS / C::Elem::BITS as usize;
+    let mut ones = 0;
+    for step in 0..count {
+        let word = load_elements::<Lsb0, C>(cells, first + step * elements);
+        ones += word.count_ones() as usize;
+    }
+    ones
+}
+
+/// How many bits of `count` whole elements are 1, one element at a time. It loads each element once.
+fn count_elements<O: BitOrder, C: CellsRead>(cells: &mut C, first: usize, count: usize) -> usize
     requires { HasWindow C.Elem.BITS (C.numbers cells.old) (elements_window C.Elem.BITS first count) }
     ensures value { result
         ≡ count_by (λ bit. bit) (list_in C.Elem.BITS O.at (C.numbers cells.old) (elements_window C.Elem.BITS first count)) }
