@@ -1,2 +1,1 @@
-pub mod FieldPlaces
 pub mod Places

