@@ -8,7 +8,7 @@ use Rattle.std.proofs.lemmas.List.Sums.{sum_by-cons}
 use Rattle.std.proofs.Math.Nat.{mul-le-mul_left}
 use Rattle.std.proofs.lemmas.Nat.{pow-add}
 use Rattle.bitvec_segments.specs.NumberLaws.{segment_number-below}
-use Rattle.bitvec_segments.specs.Segments.{be_number, in_first, le_number, loaded_be, loaded_le, segment_number, segments}
+use Rattle.bitvec_segments.specs.Segments.{end_number, in_first, loaded, loaded_be, loaded_le, lower_bits, segment_number, segments}
 use Rattle.bitvec_segments.specs.SegmentsLaws.{first_len, segments-first, segments-phase}
 
 -- ---- all bits are in segments
@@ -38,90 +38,99 @@ joined_below v w j k high low =
     let power = pow-add 2 k j in
     omega arith
 
-le_number-below : (high : Bool) (list : List (List Bool)) → le_number high list < 2 ^ sum_by length list
-unfolding le_number
-le_number-below high [] = omega arith
-le_number-below high (segment ∷ rest) =
+end_number-below : (big high : Bool) (list : List (List Bool)) → end_number big high list < 2 ^ sum_by length list
+unfolding end_number
+end_number-below big high [] = omega arith
+end_number-below false high (segment ∷ rest) =
     let total = sum_by-cons length segment rest in
-    rw total (joined_below _ _ (sum_by length rest) (length segment) (le_number-below high rest) (segment_number-below high segment))
-
-be_number-below : (high : Bool) (list : List (List Bool)) → be_number high list < 2 ^ sum_by length list
-unfolding be_number
-be_number-below high [] = omega arith
-be_number-below high (segment ∷ rest) =
+    let below = joined_below _ _ (sum_by length rest) (length segment) (end_number-below false high rest) (segment_number-below high segment) in
+    rw total (omega arith)
+end_number-below true high (segment ∷ rest) =
     let total : sum_by length (segment ∷ rest) ≡ sum_by length rest + length segment = sum_by-cons length segment rest ∙ omega arith in
-    rw total (joined_below _ _ (length segment) (sum_by length rest) (segment_number-below high segment) (be_number-below high rest))
+    let below = joined_below _ _ (length segment) (sum_by length rest) (segment_number-below high segment) (end_number-below true high rest) in
+    rw total (omega arith)
 
-pub loaded_le-below : (high : Bool) (b s : ℕ) (list : List Bool) → loaded_le high b s list < 2 ^ length list
-unfolding loaded_le
-loaded_le-below high b s list = let total = segments-total b s list in rw (← total) (le_number-below high (segments b s list))
-
-pub loaded_be-below : (high : Bool) (b s : ℕ) (list : List Bool) → loaded_be high b s list < 2 ^ length list
-unfolding loaded_be
-loaded_be-below high b s list = let total = segments-total b s list in rw (← total) (be_number-below high (segments b s list))
+pub loaded-below : (big high : Bool) (b s : ℕ) (list : List Bool) → loaded big high b s list < 2 ^ length list
+unfolding loaded
+loaded-below big high b s list = let total = segments-total b s list in rw (← total) (end_number-below big high (segments b s list))
 
 -- ---- the first segment and the rest
 
-pub loaded_le-none : (high : Bool) (b s : ℕ) → loaded_le high b s [] ≡ 0
-unfolding loaded_le le_number segments
-loaded_le-none high b s = refl
+pub loaded-none : (big high : Bool) (b s : ℕ) → loaded big high b s [] ≡ 0
+unfolding loaded end_number segments
+loaded-none big high b s = refl
 
-pub loaded_be-none : (high : Bool) (b s : ℕ) → loaded_be high b s [] ≡ 0
-unfolding loaded_be be_number segments
-loaded_be-none high b s = refl
-
-first_fits : (b s n k : ℕ) → k ≡ first_len b s n → k ≤ n
-first_fits b s n k is = omega arith
-
-pub loaded_le-first : (high : Bool) (b s : ℕ) (list : List Bool) (k : ℕ) → 0 < b → 0 < length list → k ≡ first_len b s (length list)
-    → loaded_le high b s list ≡ loaded_le high b (s + k) (drop k list) * 2 ^ k + segment_number high (take k list)
-unfolding loaded_le le_number
-loaded_le-first high b s list k some more is =
+pub loaded-first : (big high : Bool) (b s : ℕ) (list : List Bool) (k : ℕ) → 0 < b → 0 < length list → k ≡ first_len b s (length list)
+    → loaded big high b s list ≡ segment_number high (take k list) * 2 ^ lower_bits big 0 (length list - k) + loaded big high b (s + k) (drop k list) * 2 ^ lower_bits big k 0
+unfolding loaded end_number
+loaded-first big high b s list k some more is =
+    let first : ℕ = segment_number high (take k list) in
+    let rest : List (List Bool) = segments b (s + k) (drop k list) in
     let long : length (take k list) ≡ k = length-take k list ∙ omega arith in
-    ap (le_number high) (segments-first b s list k some more is)
-    ∙ ap (λ (n : ℕ). le_number high (segments b (s + k) (drop k list)) * 2 ^ n + segment_number high (take k list)) long
-
-pub loaded_be-first : (high : Bool) (b s : ℕ) (list : List Bool) (k : ℕ) → 0 < b → 0 < length list → k ≡ first_len b s (length list)
-    → loaded_be high b s list ≡ segment_number high (take k list) * 2 ^ (length list - k) + loaded_be high b (s + k) (drop k list)
-unfolding loaded_be be_number
-loaded_be-first high b s list k some more is =
-    let left : sum_by length (segments b (s + k) (drop k list)) ≡ length list - k = segments-total b (s + k) (drop k list) ∙ length-drop k list in
-    ap (be_number high) (segments-first b s list k some more is)
-    ∙ ap (λ (n : ℕ). segment_number high (take k list) * 2 ^ n + be_number high (segments b (s + k) (drop k list))) left
+    let left : sum_by length rest ≡ length list - k = segments-total b (s + k) (drop k list) ∙ length-drop k list in
+    ap (end_number big high) (segments-first b s list k some more is)
+    ∙ ap (λ (n : ℕ). first * 2 ^ lower_bits big 0 n + end_number big high rest * 2 ^ lower_bits big (length (take k list)) 0) left
+    ∙ ap (λ (n : ℕ). first * 2 ^ lower_bits big 0 (length list - k) + end_number big high rest * 2 ^ lower_bits big n 0) long
 
 -- ---- a list in one element
 
 one_len : (b s n : ℕ) → s % b + n ≤ b → n ≡ first_len b s n
 one_len b s n inside = omega arith
 
-loaded_le-one : (high : Bool) (b s : ℕ) (list : List Bool) → 0 < b → 0 < length list → s % b + length list ≤ b → loaded_le high b s list ≡ segment_number high list
-loaded_le-one high b s list some more inside =
-    let all = take_all (length list) list (omega arith) in
-    let none = drop_all (length list) list (omega arith) in
-    let zero_left = loaded_le-none high b (s + length list) in
-    loaded_le-first high b s list (length list) some more (one_len b s (length list) inside)
-    ∙ rw (all, none, zero_left) (omega arith)
+-- nothing is lower than what is alone
+pub alone : (big : Bool) (v n : ℕ) → v * 2 ^ lower_bits big 0 0 + 0 * 2 ^ lower_bits big n 0 ≡ v
+alone true v n = omega arith
+alone false v n = omega arith
 
-loaded_be-one : (high : Bool) (b s : ℕ) (list : List Bool) → 0 < b → 0 < length list → s % b + length list ≤ b → loaded_be high b s list ≡ segment_number high list
-loaded_be-one high b s list some more inside =
-    let all = take_all (length list) list (omega arith) in
-    let none = drop_all (length list) list (omega arith) in
-    let zero_left = loaded_be-none high b (s + length list) in
-    let left : length list - length list ≡ 0 = omega arith in
-    loaded_be-first high b s list (length list) some more (one_len b s (length list) inside)
-    ∙ rw (all, none, zero_left, left) (omega arith)
+loaded-some : (big high : Bool) (b s : ℕ) (list : List Bool) → 0 < b → 0 < length list → s % b + length list ≤ b → loaded big high b s list ≡ segment_number high list
+loaded-some big high b s list some more inside =
+    let n : ℕ = length list in
+    let all = take_all n list (omega arith) in
+    let none = drop_all n list (omega arith) in
+    let zero_left = loaded-none big high b (s + n) in
+    let left : n - n ≡ 0 = omega arith in
+    loaded-first big high b s list n some more (one_len b s n inside)
+    ∙ rw (all, none, zero_left, left) (alone big (segment_number high list) n)
 
--- where the list lies in one element, both numbers are the segment's
+-- its number is the segment's
+pub loaded-segment : (big high : Bool) (b s : ℕ) (list : List Bool) → 0 < b → s % b + length list ≤ b → loaded big high b s list ≡ segment_number high list
+unfolding segment_number
+loaded-segment big high b s [] some inside = loaded-none big high b s
+loaded-segment big high b s (bit ∷ list) some inside = loaded-some big high b s (bit ∷ list) some (omega arith) inside
+
+-- so it is one from both ends
 pub loaded-one : (high : Bool) (b s : ℕ) (list : List Bool) → 0 < b → s % b + length list ≤ b → loaded_le high b s list ≡ loaded_be high b s list
-loaded-one high b s [] some inside = loaded_le-none high b s ∙ sym (loaded_be-none high b s)
-loaded-one high b s (bit ∷ list) some inside =
-    loaded_le-one high b s (bit ∷ list) some (omega arith) inside ∙ sym (loaded_be-one high b s (bit ∷ list) some (omega arith) inside)
+loaded-one high b s list some inside = loaded-segment false high b s list some inside ∙ sym (loaded-segment true high b s list some inside)
 
 -- the place of the first bit counts as far as its index in its element does
+pub loaded-phase : (big high : Bool) (b s t : ℕ) (list : List Bool) → s % b ≡ t % b → loaded big high b s list ≡ loaded big high b t list
+unfolding loaded
+loaded-phase big high b s t list same = ap (end_number big high) (segments-phase b s t list same)
+
+-- ---- from either end
+
+pub loaded_le-below : (high : Bool) (b s : ℕ) (list : List Bool) → loaded_le high b s list < 2 ^ length list
+loaded_le-below = loaded-below false
+
+pub loaded_be-below : (high : Bool) (b s : ℕ) (list : List Bool) → loaded_be high b s list < 2 ^ length list
+loaded_be-below = loaded-below true
+
+pub loaded_le-none : (high : Bool) (b s : ℕ) → loaded_le high b s [] ≡ 0
+loaded_le-none = loaded-none false
+
+pub loaded_be-none : (high : Bool) (b s : ℕ) → loaded_be high b s [] ≡ 0
+loaded_be-none = loaded-none true
+
+pub loaded_le-first : (high : Bool) (b s : ℕ) (list : List Bool) (k : ℕ) → 0 < b → 0 < length list → k ≡ first_len b s (length list)
+    → loaded_le high b s list ≡ loaded_le high b (s + k) (drop k list) * 2 ^ k + segment_number high (take k list)
+loaded_le-first high b s list k some more is = loaded-first false high b s list k some more is ∙ omega arith
+
+pub loaded_be-first : (high : Bool) (b s : ℕ) (list : List Bool) (k : ℕ) → 0 < b → 0 < length list → k ≡ first_len b s (length list)
+    → loaded_be high b s list ≡ segment_number high (take k list) * 2 ^ (length list - k) + loaded_be high b (s + k) (drop k list)
+loaded_be-first high b s list k some more is = loaded-first true high b s list k some more is ∙ omega arith
+
 pub loaded_le-phase : (high : Bool) (b s t : ℕ) (list : List Bool) → s % b ≡ t % b → loaded_le high b s list ≡ loaded_le high b t list
-unfolding loaded_le
-loaded_le-phase high b s t list same = ap (le_number high) (segments-phase b s t list same)
+loaded_le-phase = loaded-phase false
 
 pub loaded_be-phase : (high : Bool) (b s t : ℕ) (list : List Bool) → s % b ≡ t % b → loaded_be high b s list ≡ loaded_be high b t list
-unfolding loaded_be
-loaded_be-phase high b s t list same = ap (be_number high) (segments-phase b s t list same)
+loaded_be-phase = loaded-phase true

@@ -32,37 +32,41 @@ segment_number true (bit ∷ rest) = (if bit then 1 else 0) * 2 ^ length rest + 
 abbrev pub segment_bits : Bool → ℕ → ℕ → List Bool
 segment_bits high k v = element_bits k (bit_number high) v
 
--- ---- the number of many, the first one lowest, or the first one highest
+-- ---- the number of many: from the big end (the first one is the highest), or from the little end (the first one is the lowest)
 
-unfoldable pub le_number : Bool → List (List Bool) → ℕ
-le_number high [] = 0
-le_number high (segment ∷ rest) = le_number high rest * 2 ^ length segment + segment_number high segment
+-- how many bits of a number are lower than those of a part of it: those behind it, or those before it
+abbrev pub lower_bits : Bool → ℕ → ℕ → ℕ
+lower_bits big before behind = if big then behind else before
 
-unfoldable pub be_number : Bool → List (List Bool) → ℕ
-be_number high [] = 0
-be_number high (segment ∷ rest) = segment_number high segment * 2 ^ sum_by length rest + be_number high rest
+unfoldable pub end_number : Bool → Bool → List (List Bool) → ℕ
+end_number big high [] = 0
+end_number big high (segment ∷ rest) = segment_number high segment * 2 ^ lower_bits big 0 (sum_by length rest) + end_number big high rest * 2 ^ lower_bits big (length segment) 0
 
 -- the bits of segments as long as these, whose number is v modulo two to the power of the bits they have
-unfoldable pub le_bits : Bool → ℕ → List (List Bool) → List Bool
-le_bits high v [] = []
-le_bits high v (segment ∷ rest) = segment_bits high (length segment) v ++ le_bits high (v / 2 ^ length segment) rest
-
-unfoldable pub be_bits : Bool → ℕ → List (List Bool) → List Bool
-be_bits high v [] = []
-be_bits high v (segment ∷ rest) = segment_bits high (length segment) (v / 2 ^ sum_by length rest) ++ be_bits high v rest
+unfoldable pub end_bits : Bool → Bool → ℕ → List (List Bool) → List Bool
+end_bits big high v [] = []
+end_bits big high v (segment ∷ rest) = segment_bits high (length segment) (v / 2 ^ lower_bits big 0 (sum_by length rest)) ++ end_bits big high (v / 2 ^ lower_bits big (length segment) 0) rest
 
 -- ---- lists at a place
 
 -- the number that a load gives
-unfoldable pub loaded_le : Bool → ℕ → ℕ → List Bool → ℕ
-loaded_le high b s list = le_number high (segments b s list)
-
-unfoldable pub loaded_be : Bool → ℕ → ℕ → List Bool → ℕ
-loaded_be high b s list = be_number high (segments b s list)
+unfoldable pub loaded : Bool → Bool → ℕ → ℕ → List Bool → ℕ
+loaded big high b s list = end_number big high (segments b s list)
 
 -- the list that a store of v leaves
-unfoldable pub stored_le : Bool → ℕ → ℕ → ℕ → List Bool → List Bool
-stored_le high b s v list = le_bits high v (segments b s list)
+unfoldable pub stored : Bool → Bool → ℕ → ℕ → ℕ → List Bool → List Bool
+stored big high b s v list = end_bits big high v (segments b s list)
 
-unfoldable pub stored_be : Bool → ℕ → ℕ → ℕ → List Bool → List Bool
-stored_be high b s v list = be_bits high v (segments b s list)
+-- ---- both from either end
+
+abbrev pub loaded_le : Bool → ℕ → ℕ → List Bool → ℕ
+loaded_le high b s list = loaded false high b s list
+
+abbrev pub loaded_be : Bool → ℕ → ℕ → List Bool → ℕ
+loaded_be high b s list = loaded true high b s list
+
+abbrev pub stored_le : Bool → ℕ → ℕ → ℕ → List Bool → List Bool
+stored_le high b s v list = stored false high b s v list
+
+abbrev pub stored_be : Bool → ℕ → ℕ → ℕ → List Bool → List Bool
+stored_be high b s v list = stored true high b s v list

@@ -5,6 +5,7 @@ ghost use Rattle.bitvec_words.specs.cells.Access.{CostsAtMost, OnlyReads};
 ghost use Rattle.bitvec_segments.specs.Segments.{loaded_be, loaded_le, stored_be, stored_le};
 ghost use Rattle.bitvec_words.specs.walk.Cost.{fill_loads, touched};
 
+use crate::endian::{Big, Little};
 use crate::{loading, storing};
 use bitvec_words::WordOrder;
 use bitvec_words::base::{Lsb0, Msb0, Window};
@@ -28,7 +29,7 @@ pub trait FieldOrder: WordOrder {
             ≡ loaded_le Self.HIGH C.Elem.BITS window.start (list_in C.Elem.BITS Self.at (C.numbers cells.old) window) }
         ensures reads { OnlyReads C.CellsRead cells.old cells.new (touched C.Elem.BITS window.start window.len) }
     {
-        loading::load_le::<Self, C>(cells, window)
+        loading::load::<Little, Self, C>(cells, window)
     }
 
     /// The number of a window, its first segment highest. It loads each element that the window
@@ -40,7 +41,7 @@ pub trait FieldOrder: WordOrder {
             ≡ loaded_be Self.HIGH C.Elem.BITS window.start (list_in C.Elem.BITS Self.at (C.numbers cells.old) window) }
         ensures reads { OnlyReads C.CellsRead cells.old cells.new (touched C.Elem.BITS window.start window.len) }
     {
-        loading::load_be::<Self, C>(cells, window)
+        loading::load::<Big, Self, C>(cells, window)
     }
 
     /// Gives a window of `n` bits those for which `load_le` gives the number modulo `2^n`. It stores
@@ -52,7 +53,7 @@ pub trait FieldOrder: WordOrder {
             (stored_le Self.HIGH C.Elem.BITS window.start number) }
         ensures cost { CostsAtMost C.CellsRead cells.old cells.new (fill_loads window.len) (touched C.Elem.BITS window.start window.len) }
     {
-        storing::store_le::<Self, C>(cells, window, number);
+        storing::store::<Little, Self, C>(cells, window, number);
     }
 
     /// Gives a window of `n` bits those for which `load_be` gives the number modulo `2^n`. It stores
@@ -64,7 +65,7 @@ pub trait FieldOrder: WordOrder {
             (stored_be Self.HIGH C.Elem.BITS window.start number) }
         ensures cost { CostsAtMost C.CellsRead cells.old cells.new (fill_loads window.len) (touched C.Elem.BITS window.start window.len) }
     {
-        storing::store_be::<Self, C>(cells, window, number);
+        storing::store::<Big, Self, C>(cells, window, number);
     }
 }
 

@@ -3,6 +3,7 @@
 #![tactic(auto)]
 
 mod cutting;
+mod endian;
 mod field_order;
 mod joining;
 mod loading;

@@ -2,10 +2,11 @@
 ghost use Rattle.std.specs.Prelude.{◌≡◌, ◌%◌, ◌≤◌};
 ghost use Rattle.bitvec_words.specs.base.Memory.{Edits, HasWindow};
 ghost use Rattle.bitvec_words.specs.cells.Access.{CostsAtMost};
-ghost use Rattle.bitvec_segments.specs.Segments.{stored_be, stored_le};
+ghost use Rattle.bitvec_segments.specs.Segments.{stored};
 ghost use Rattle.bitvec_words.specs.walk.Cost.{fill_loads, touched};
 
 use crate::cutting::whole_part;
+use crate::endian::{Endian, lower_bits};
 use crate::part::store_part_number;
 use bitvec_words::WordOrder;
 use bitvec_words::base::Window;
@@ -24,16 +25,20 @@ pub(crate) fn of_len(window: Window, len: usize) -> Window
     }
 }
 
-/// `store_le` of a window of whole elements. Where the machine code knows the window's length, it has no
+/// `store` of a window of whole elements. Where the machine code knows the window's length, it has no
 /// loop, no mask and no test.
 #[inline(always)]
-pub(crate) fn store_whole_le<O: WordOrder, C: Cells>(cells: &mut C, window: Window, number: u128)
+pub(crate) fn store_whole<E: Endian, O: WordOrder, C: Cells>(
+    cells: &mut C,
+    window: Window,
+    number: u128,
+)
     requires window { HasWindow C.Elem.BITS (C.numbers cells.old) window }
     requires edge { window.start % C.Elem.BITS ≡ 0 }
     requires whole { window.len % C.Elem.BITS ≡ 0 }
     requires size { window.len ≤ 128 }
     ensures writes { Edits C.Elem.BITS O.at (C.numbers cells.old) (C.numbers cells.new) window
-        (stored_le O.HIGH C.Elem.BITS window.start number) }
+        (stored E.BIG O.HIGH C.Elem.BITS window.start number) }
     ensures cost { CostsAtMost C.CellsRead cells.old cells.new (fill_loads window.len) (touched C.Elem.BITS window.start window.len) }
 {
     let bits = C::Elem::BITS as usize;
@@ -41,30 +46,10 @@ pub(crate) fn store_whole_le<O: WordOrder, C: Cells>(cells: &mut C, window: Wind
     let mut rest = window;
     while rest.len > 0 {
         let part = whole_part(bits, rest, element);
-        store_part_number::<O, C>(cells, part, number >> (window.len - rest.len));
-        rest = rest.after(bits);
-        element += 1;
-    }
-}
-
-/// The same with `store_be` in place of `store_le`.
-#[inline(always)]
-pub(crate) fn store_whole_be<O: WordOrder, C: Cells>(cells: &mut C, window: Window, number: u128)
-    requires window { HasWindow C.Elem.BITS (C.numbers cells.old) window }
-    requires edge { window.start % C.Elem.BITS ≡ 0 }
-    requires whole { window.len % C.Elem.BITS ≡ 0 }
-    requires size { window.len ≤ 128 }
-    ensures writes { Edits C.Elem.BITS O.at (C.numbers cells.old) (C.numbers cells.new) window
-        (stored_be O.HIGH C.Elem.BITS window.start number) }
-    ensures cost { CostsAtMost C.CellsRead cells.old cells.new (fill_loads window.len) (touched C.Elem.BITS window.start window.len) }
-{
-    let bits = C::Elem::BITS as usize;
-    let mut element = window.start / bits;
-    let mut rest = window;
-    while rest.len > 0 {
-        let part = whole_part(bits, rest, element);
-        rest = rest.after(bits);
-        store_part_number::<O, C>(cells, part, number >> rest.len);
+        let left = rest.after(bits);
+        let below = lower_bits::<E>(window.len - rest.len, left.len);
+        store_part_number::<O, C>(cells, part, number >> below);
+        rest = left;
         element += 1;
     }
 }

@@ -5,8 +5,8 @@ use Rattle.bitvec_words.specs.base.Parts.{first_part_of}
 use Rattle.bitvec_words.specs.base.Window.{window_after}
 use Rattle.bitvec_words.specs.base.WritesLaws.{HasWindow-kept}
 use Rattle.bitvec_words.specs.store.WidthLaws.{width_some}
-use Rattle.bitvec_segments.proofs.WalkLemmas.{edge-len, edge-most, store_be-joined, store_be-one, touched-first, whole-none}
-use Rattle.bitvec_segments.proofs.storing.store_few_be.Goals as goal
+use Rattle.bitvec_segments.proofs.WalkLemmas.{edge-len, edge-most, stored-joined, stored-one, touched-first, whole-none}
+use Rattle.bitvec_segments.proofs.storing.store_few.Goals as goal
 
 pub returns-then-window-bits-clause-writes : goal.returns-then-window-bits-clause-writes
 returns-then-window-bits-clause-writes g c =
@@ -16,7 +16,7 @@ returns-then-window-bits-clause-writes g c =
     let short = rw c.BITS-bits.ensures at c.if-window-bits.true in
     let part : c.edge_part.result ≡ first_part_of b window = c.edge_part.ensures ∙ ap (λ (n : ℕ). first_part_of n window) c.BITS-bits.ensures in
     let step = edge-len b c.args.element window some c.requires.edge in
-    store_be-one _ _ _ _ window (min window.len b) _ some c.requires.some step c.requires.window _ (omega arith) (rw part at c.store_part_number.ensures.writes)
+    stored-one _ _ _ _ _ window (min window.len b) _ some c.requires.some step c.requires.window _ (omega arith) (rw part at c.store_part_number.ensures.writes)
 
 pub returns-then-window-bits-clause-cost : goal.returns-then-window-bits-clause-cost
 returns-then-window-bits-clause-cost g c =
@@ -47,11 +47,11 @@ returns-clause-writes g c =
     let start = c.requires.window.within.start in
     let end = c.requires.window.within.len in
     let has : HasWindow b _ rest = record { fits = c.requires.window.fits; within = record { start = omega arith; len = omega arith } } in
-    let first = rw (part, after) at c.store_part_number-2.ensures.writes in
-    let second = rw next at c.store_part_number-3.ensures.writes in
+    let first = rw (part, c.lower_bits.ensures.bits, after) at c.store_part_number-2.ensures.writes in
+    let second = rw (next, c.lower_bits-2.ensures.bits, c.BITS-bits.ensures) at c.store_part_number-3.ensures.writes in
     let left = edge-len b (c.args.element + 1) rest some (omega arith) in
-    store_be-joined _ _ _ _ window b c.args.number some c.requires.some step c.requires.window _ _ first
-    (store_be-one _ _ _ _ rest (min rest.len b) _ some (omega arith) left (HasWindow-kept _ _ _ rest has first.elements) _ (omega arith) second)
+    stored-joined _ _ _ _ _ window b c.args.number some c.requires.some step c.requires.window _ _ first
+    (stored-one _ _ _ _ _ rest (min rest.len b) _ some (omega arith) left (HasWindow-kept _ _ _ rest has first.elements) _ (omega arith) second)
 
 pub returns-clause-cost : goal.returns-clause-cost
 returns-clause-cost g c =

@@ -4,16 +4,16 @@ use Rattle.bitvec_words.specs.base.Window.{window_after}
 use Rattle.bitvec_words.specs.base.WritesLaws.{Writes-empty, Writes-is}
 use Rattle.bitvec_words.specs.store.WidthLaws.{width_some}
 use Rattle.bitvec_words.specs.walk.WalkLaws.{first-len}
-use Rattle.bitvec_segments.specs.Segments.{stored_le}
-use Rattle.bitvec_segments.specs.StoreLaws.{stored_le-none}
-use Rattle.bitvec_segments.proofs.WalkLemmas.{edge-most, fill-two, list-empty, store_le-joined, store_le-one, touched-first}
-use Rattle.bitvec_segments.proofs.storing.store_le.Goals as goal
+use Rattle.bitvec_segments.specs.Segments.{stored}
+use Rattle.bitvec_segments.specs.StoreLaws.{stored-none}
+use Rattle.bitvec_segments.proofs.WalkLemmas.{edge-most, fill-two, list-empty, stored-joined, stored-one, touched-first}
+use Rattle.bitvec_segments.proofs.storing.store.Goals as goal
 
 pub returns-then-window-eq0-clause-writes : goal.returns-then-window-eq0-clause-writes
 returns-then-window-eq0-clause-writes g c =
     let none : c.args.window.len ≡ 0 = let zero_len = c.if-window-eq0.true in omega arith in
     Writes-is _ _ _ _ _ _ _ (Writes-empty _ _ _ _ _ c.requires.window none refl)
-    (sym (ap (stored_le _ _ _ _) (list-empty _ _ _ c.args.window none) ∙ stored_le-none _ _ _ _))
+    (sym (ap (stored _ _ _ _ _) (list-empty _ _ _ c.args.window none) ∙ stored-none _ _ _ _ _))
 
 pub returns-then-window-head-clause-writes : goal.returns-then-window-head-clause-writes
 returns-then-window-head-clause-writes g c =
@@ -25,7 +25,7 @@ returns-then-window-head-clause-writes g c =
     let len = first-len b window some more in
     let step : window.len ≡ (first_part_of b window).to - (first_part_of b window).from = omega arith in
     let part : c.only_part.result ≡ first_part_of b window = c.only_part.ensures ∙ ap (λ (n : ℕ). first_part_of n window) c.BITS-bits.ensures in
-    store_le-one _ _ _ _ window window.len _ some more step c.requires.window _ (omega arith) (rw part at c.store_part_number.ensures.writes)
+    stored-one _ _ _ _ _ window window.len _ some more step c.requires.window _ (omega arith) (rw part at c.store_part_number.ensures.writes)
 
 pub returns-then-window-head-clause-cost : goal.returns-then-window-head-clause-cost
 returns-then-window-head-clause-cost g c =
@@ -53,8 +53,8 @@ returns-clause-writes g c =
     let step : head ≡ (first_part_of b window).to - (first_part_of b window).from = omega arith in
     let part : c.head_part.result ≡ first_part_of b window = c.head_part.ensures ∙ ap (λ (n : ℕ). first_part_of n window) c.BITS-bits.ensures in
     let after : c.after-rest.result ≡ window_after head window = c.after-rest.ensures ∙ ap (λ (n : ℕ). window_after (n - window.start % n) window) c.BITS-bits.ensures in
-    store_le-joined _ _ _ _ window head c.args.number some more step c.requires.window _ _
-    (rw part at c.store_part_number-2.ensures.writes) (rw (after, c.BITS-bits.ensures) at c.store_few_le.ensures.writes)
+    stored-joined _ _ _ _ _ window head c.args.number some more step c.requires.window _ _
+    (rw (part, c.lower_bits.ensures.bits, after) at c.store_part_number-2.ensures.writes) (rw (after, c.lower_bits-2.ensures.bits, c.BITS-bits.ensures) at c.store_few.ensures.writes)
 
 pub returns-clause-cost : goal.returns-clause-cost
 returns-clause-cost g c =
@@ -71,7 +71,7 @@ returns-clause-cost g c =
     let filled = fill-two window.len more in
     let edge = edge-most b c.head_part.result in
     let first = c.store_part_number-2.ensures.cost in
-    let later = rw after at c.store_few_le.ensures.cost in
+    let later = rw after at c.store_few.ensures.cost in
     let first_loads = first.loads in
     let later_loads = later.loads in
     let first_stores = first.stores in

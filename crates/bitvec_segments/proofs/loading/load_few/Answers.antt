@@ -3,8 +3,8 @@ use Rattle.bitvec_words.specs.base.declared.part.Part.{Part}
 use Rattle.bitvec_words.specs.base.Parts.{first_part_of}
 use Rattle.bitvec_words.specs.store.WidthLaws.{width_some}
 use Rattle.bitvec_words.specs.walk.WalkLaws.{touched-none}
-use Rattle.bitvec_segments.proofs.WalkLemmas.{be-only, touched-first}
-use Rattle.bitvec_segments.proofs.loading.load_few_be.Goals as goal
+use Rattle.bitvec_segments.proofs.WalkLemmas.{number-only, touched-first}
+use Rattle.bitvec_segments.proofs.loading.load_few.Goals as goal
 
 pub returns-then-len-window-clause-value : goal.returns-then-len-window-clause-value
 returns-then-len-window-clause-value g c =
@@ -13,7 +13,7 @@ returns-then-len-window-clause-value g c =
     let part : c.first_part-part.result ≡ first_part_of g.C.Elem.BitStore.BITS window = c.first_part-part.ensures ∙ ap (λ (n : ℕ). first_part_of n window) c.BITS.ensures in
     let step = c.len.ensures ∙ ap (λ (p : Part). p.to - p.from) part in
     let all = c.if-len-window.true in
-    rw part at c.part_number.ensures.value ∙ be-only _ _ _ _ window _ some c.requires.some step c.requires.window (omega arith)
+    rw part at c.part_number.ensures.value ∙ number-only _ _ _ _ _ window _ some c.requires.some step c.requires.window (omega arith)
 
 pub returns-then-len-window-clause-reads : goal.returns-then-len-window-clause-reads
 returns-then-len-window-clause-reads g c =

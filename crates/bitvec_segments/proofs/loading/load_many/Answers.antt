@@ -3,8 +3,8 @@ use Rattle.bitvec_words.specs.base.declared.part.Part.{Part}
 use Rattle.bitvec_words.specs.base.Parts.{first_part_of}
 use Rattle.bitvec_words.specs.store.WidthLaws.{width_some}
 use Rattle.bitvec_words.specs.walk.WalkLaws.{Walked-start, Walked-next, first-len, touched-next, touched-none}
-use Rattle.bitvec_segments.proofs.WalkLemmas.{LoadedBe-all, LoadedBe-fits, LoadedBe-next, part_kept}
-use Rattle.bitvec_segments.proofs.loading.load_many_be.Goals as goal
+use Rattle.bitvec_segments.proofs.WalkLemmas.{Loaded-all, Loaded-fits, Loaded-next, Loaded-start, parts_kept}
+use Rattle.bitvec_segments.proofs.loading.load_many.Goals as goal
 
 pub loop-rest-init : goal.loop-rest-init
 loop-rest-init g c =
@@ -14,7 +14,7 @@ loop-rest-init g c =
     let empty = touched-none g.C.Elem.BitStore.BITS window.start in
     record {
       walk = Walked-start _ _;
-      value = omega arith;
+      value = Loaded-start _ _ _ _ _ window;
       reads = rw none (record { numbers = refl; borrow = refl; loads = omega arith; stores = refl });
     }
 
@@ -29,10 +29,10 @@ overflow_add-number g c =
     let some = width_some _ g.met.C.Elem.BitStore.width_law in
     let part : c.first_part-part.result ≡ first_part_of b rest = c.first_part-part.ensures ∙ ap (λ (n : ℕ). first_part_of n rest) c.BITS-bits.ensures in
     let number = rw (part, inv.reads.numbers) at c.part_number.ensures.value in
-    let next = LoadedBe-next _ _ at _ window rest _ _ _ some more (c.len.ensures ∙ ap (λ (p : Part). p.to - p.from) part) c.requires.window inv.walk number inv.value in
-    let fits = LoadedBe-fits _ _ at _ window _ _ c.requires.window c.requires.size next in
-    let kept = part_kept _ _ _ fits in
-    rw (c.after-rest.ensures, kept) (record { fits = fits })
+    let next = Loaded-next _ _ _ at _ window rest _ _ _ some more (c.len.ensures ∙ ap (λ (p : Part). p.to - p.from) part) c.requires.window inv.walk number inv.value in
+    let fits = Loaded-fits _ _ _ at _ window _ _ c.requires.window c.requires.size next in
+    let kept = (parts_kept _ _ fits).1 in
+    rw (c.lower_bits-below.ensures.bits, c.after-left.ensures, kept) (record { fits = fits })
 
 pub loop-rest-preserved : goal.loop-rest-preserved
 loop-rest-preserved g c =
@@ -48,16 +48,17 @@ loop-rest-preserved g c =
     let len = first-len b rest some more in
     let each = touched-next b window rest c.len.result some more (omega arith) (omega arith) inv.walk in
     let number = rw (part, inv.reads.numbers) at c.part_number.ensures.value in
-    let next = LoadedBe-next _ _ at _ window rest _ _ _ some more step c.requires.window inv.walk number inv.value in
-    let fits = LoadedBe-fits _ _ at _ window _ _ c.requires.window c.requires.size next in
-    let kept = part_kept _ _ _ fits in
-    rw c.after-rest.ensures (record {
+    let next = Loaded-next _ _ _ at _ window rest _ _ _ some more step c.requires.window inv.walk number inv.value in
+    let fits = Loaded-fits _ _ _ at _ window _ _ c.requires.window c.requires.size next in
+    let kept = (parts_kept _ _ fits).1 in
+    let below = rw c.after-left.ensures at c.lower_bits-below.ensures.bits in
+    rw c.after-left.ensures (record {
       walk = Walked-next _ _ _ _ some more step inv.walk;
-      value = rw kept next;
+      value = rw (below, kept) next;
       reads = record { numbers = c.part_number.ensures.reads.numbers ∙ inv.reads.numbers; borrow = c.part_number.ensures.reads.borrow ∙ inv.reads.borrow; loads = omega arith; stores = c.part_number.ensures.reads.stores ∙ inv.reads.stores };
     })
 
 pub returns-clause-value : goal.returns-clause-value
 returns-clause-value g c =
     let none = c.loop-rest-test.false in
-    LoadedBe-all _ _ _ _ c.args.window _ _ (omega arith) c.loop-rest.invariant.value
+    Loaded-all _ _ _ _ _ c.args.window _ _ (omega arith) c.loop-rest.invariant.value

@@ -3,15 +3,15 @@ use Rattle.bitvec_words.specs.base.declared.part.Part.{Part}
 use Rattle.bitvec_words.specs.base.Parts.{first_part_of}
 use Rattle.bitvec_words.specs.store.WidthLaws.{width_some}
 use Rattle.bitvec_words.specs.walk.WalkLaws.{touched-none}
-use Rattle.bitvec_segments.specs.LoadLaws.{loaded_be-none}
-use Rattle.bitvec_segments.specs.Segments.{loaded_be}
-use Rattle.bitvec_segments.proofs.WalkLemmas.{be-fits, be-joined, be-only, list-empty, part_kept, touched-first}
-use Rattle.bitvec_segments.proofs.loading.load_parts_be.Goals as goal
+use Rattle.bitvec_segments.specs.LoadLaws.{loaded-none}
+use Rattle.bitvec_segments.specs.Segments.{loaded}
+use Rattle.bitvec_segments.proofs.WalkLemmas.{list-empty, loaded-fits, number-joined, number-only, parts_kept, touched-first}
+use Rattle.bitvec_segments.proofs.loading.load_parts.Goals as goal
 
 pub returns-then-window-eq0-clause-value : goal.returns-then-window-eq0-clause-value
 returns-then-window-eq0-clause-value g c =
     let none = c.if-window-eq0.true in
-    sym (ap (loaded_be _ _ _) (list-empty _ _ _ c.args.window (omega arith)) ∙ loaded_be-none _ _ _)
+    sym (ap (loaded _ _ _ _) (list-empty _ _ _ c.args.window (omega arith)) ∙ loaded-none _ _ _ _)
 
 pub returns-then-window-eq0-clause-reads : goal.returns-then-window-eq0-clause-reads
 returns-then-window-eq0-clause-reads g c =
@@ -27,7 +27,7 @@ returns-then-len-window-clause-value g c =
     let part : c.first_part-first.result ≡ first_part_of b window = c.first_part-first.ensures ∙ ap (λ (n : ℕ). first_part_of n window) c.BITS.ensures in
     let step = c.len-len.ensures ∙ ap (λ (p : Part). p.to - p.from) part in
     let all = c.if-len-window.true in
-    rw part at c.part_number-number.ensures.value ∙ be-only _ _ _ _ window _ some more step c.requires.window (omega arith)
+    rw part at c.part_number-number.ensures.value ∙ number-only _ _ _ _ _ window _ some more step c.requires.window (omega arith)
 
 pub returns-then-len-window-clause-reads : goal.returns-then-len-window-clause-reads
 returns-then-len-window-clause-reads g c =
@@ -51,11 +51,11 @@ overflow_add-result g c =
     let part : c.first_part-first.result ≡ first_part_of b window = c.first_part-first.ensures ∙ ap (λ (n : ℕ). first_part_of n window) c.BITS.ensures in
     let step = c.len-len.ensures ∙ ap (λ (p : Part). p.to - p.from) part in
     let number = rw part at c.part_number-number.ensures.value in
-    let later = rw (c.after-rest.ensures, c.part_number-number.ensures.reads.numbers) at c.load_few_be.ensures.value in
-    let joined = be-joined _ _ _ _ window _ some more step c.requires.window _ _ number later in
-    let fits = rw (← joined) at (be-fits g.O.WordOrder.HIGH b g.O.BitOrder.at _ window c.requires.window c.requires.size) in
-    let kept = part_kept _ _ _ fits in
-    rw (c.after-rest.ensures, kept) (record { fits = fits })
+    let later = rw (c.after-rest.ensures, c.part_number-number.ensures.reads.numbers) at c.load_few-others.ensures.value in
+    let joined = number-joined _ _ _ _ _ window _ some more step c.requires.window _ _ number later in
+    let fits = rw (← joined) at (loaded-fits g.E.Endian.BIG g.O.WordOrder.HIGH b g.O.BitOrder.at _ window c.requires.window c.requires.size) in
+    let kept = parts_kept _ _ fits in
+    rw (c.lower_bits.ensures.bits, c.lower_bits-2.ensures.bits, c.after-rest.ensures, kept.0, kept.1) (record { fits = fits })
 
 pub returns-clause-value : goal.returns-clause-value
 returns-clause-value g c =
@@ -66,11 +66,11 @@ returns-clause-value g c =
     let part : c.first_part-first.result ≡ first_part_of b window = c.first_part-first.ensures ∙ ap (λ (n : ℕ). first_part_of n window) c.BITS.ensures in
     let step = c.len-len.ensures ∙ ap (λ (p : Part). p.to - p.from) part in
     let number = rw part at c.part_number-number.ensures.value in
-    let later = rw (c.after-rest.ensures, c.part_number-number.ensures.reads.numbers) at c.load_few_be.ensures.value in
-    let joined = be-joined _ _ _ _ window _ some more step c.requires.window _ _ number later in
-    let fits = rw (← joined) at (be-fits g.O.WordOrder.HIGH b g.O.BitOrder.at _ window c.requires.window c.requires.size) in
-    let kept = part_kept _ _ _ fits in
-    rw (c.after-rest.ensures, kept) joined
+    let later = rw (c.after-rest.ensures, c.part_number-number.ensures.reads.numbers) at c.load_few-others.ensures.value in
+    let joined = number-joined _ _ _ _ _ window _ some more step c.requires.window _ _ number later in
+    let fits = rw (← joined) at (loaded-fits g.E.Endian.BIG g.O.WordOrder.HIGH b g.O.BitOrder.at _ window c.requires.window c.requires.size) in
+    let kept = parts_kept _ _ fits in
+    rw (c.lower_bits.ensures.bits, c.lower_bits-2.ensures.bits, c.after-rest.ensures, kept.0, kept.1) joined
 
 pub returns-clause-reads : goal.returns-clause-reads
 returns-clause-reads g c =
@@ -81,7 +81,7 @@ returns-clause-reads g c =
     let part : c.first_part-first.result ≡ first_part_of b window = c.first_part-first.ensures ∙ ap (λ (n : ℕ). first_part_of n window) c.BITS.ensures in
     let step = c.len-len.ensures ∙ ap (λ (p : Part). p.to - p.from) part in
     let first = c.part_number-number.ensures.reads in
-    let later = rw c.after-rest.ensures at c.load_few_be.ensures.reads in
+    let later = rw c.after-rest.ensures at c.load_few-others.ensures.reads in
     let each = touched-first b window _ some more step in
     let loads = later.loads in
     let first_loads = first.loads in

@@ -4,17 +4,17 @@ use Rattle.bitvec_words.specs.base.Memory.{list_in}
 use Rattle.bitvec_words.specs.base.Parts.{first_part_of}
 use Rattle.bitvec_words.specs.base.Window.{window_after}
 use Rattle.bitvec_words.specs.base.WritesLaws.{Writes-is, length-list}
-use Rattle.bitvec_segments.specs.Segments.{stored_le}
-use Rattle.bitvec_segments.specs.StoreLaws.{length-stored_le}
+use Rattle.bitvec_segments.specs.Segments.{stored}
+use Rattle.bitvec_segments.specs.StoreLaws.{length-stored}
 use Rattle.bitvec_words.specs.store.WidthLaws.{width_some}
 use Rattle.bitvec_words.specs.walk.WalkLaws.{Walked-start, Walked-next, Writes-none_passed, edge_loads-next, touched-next, touched-none}
-use Rattle.bitvec_segments.proofs.WalkLemmas.{LeftLe-next, LeftLe-start, Writes-all, Writes-next_le, edge-len, whole-elements, whole-less, whole-some}
-use Rattle.bitvec_segments.proofs.whole.store_whole_le.Goals as goal
+use Rattle.bitvec_segments.proofs.WalkLemmas.{Left-next, Left-start, Writes-all, Writes-next, edge-len, whole-elements, whole-less, whole-some}
+use Rattle.bitvec_segments.proofs.whole.store_whole.Goals as goal
 
 pub loop-rest-init : goal.loop-rest-init
 loop-rest-init g c =
     let window = c.args.window in
-    let target = stored_le g.O.WordOrder.HIGH g.C.Elem.BitStore.BITS window.start c.args.number (list_in g.C.Elem.BitStore.BITS g.O.BitOrder.at (g.C.CellsRead.numbers c.args.cells.now) window) in
+    let target = stored g.E.Endian.BIG g.O.WordOrder.HIGH g.C.Elem.BitStore.BITS window.start c.args.number (list_in g.C.Elem.BitStore.BITS g.O.BitOrder.at (g.C.CellsRead.numbers c.args.cells.now) window) in
     let none : window.start - window.start ≡ 0 = omega arith in
     let empty = touched-none g.C.Elem.BitStore.BITS window.start in
     let at_edge = whole-elements g.C.Elem.BitStore.BITS window.start c.requires.edge in
@@ -23,7 +23,7 @@ loop-rest-init g c =
       whole = c.requires.whole;
       walk = Walked-start _ _;
       writes = Writes-is _ _ _ _ _ _ _ (Writes-none_passed _ _ _ _ c.requires.window) (ap (λ (n : ℕ). take n target) (sym none));
-      left = LeftLe-start _ _ _ window _;
+      left = Left-start _ _ _ _ window _;
       cost = search rules;
     }
 
@@ -38,20 +38,20 @@ loop-rest-preserved g c =
     let part : c.whole_part-part.result ≡ first_part_of b rest = c.whole_part-part.ensures ∙ ap (λ (n : ℕ). first_part_of n rest) c.BITS-bits.ensures in
     let all : b ≤ rest.len = whole-some b rest.len more inv.whole in
     let step : b ≡ (first_part_of b rest).to - (first_part_of b rest).from = sym (min-eq_right all) ∙ edge-len b c.loop-rest.element rest some inv.edge in
-    let after : c.after-rest.result ≡ window_after b rest = c.after-rest.ensures ∙ ap (λ (n : ℕ). window_after n rest) c.BITS-bits.ensures in
+    let after : c.after-left.result ≡ window_after b rest = c.after-left.ensures ∙ ap (λ (n : ℕ). window_after n rest) c.BITS-bits.ensures in
     let edges = edge_loads-next b window rest b some more step inv.walk in
     let each = touched-next b window rest b some more (omega arith) (omega arith) inv.walk in
-    let stored = rw part at c.store_part_number.ensures in
+    let stored = rw (part, c.lower_bits-below.ensures.bits, after) at c.store_part_number.ensures in
     rw after (record {
       edge = omega arith;
       whole = whole-less b rest.len all inv.whole;
       walk = Walked-next _ _ _ _ some more step inv.walk;
-      writes = Writes-next_le _ _ _ _ window rest _ _ _ some more step c.requires.window inv.walk _ _ inv.writes inv.left stored.writes;
-      left = LeftLe-next _ _ _ _ window rest _ _ _ some more step c.requires.window inv.walk inv.left;
+      writes = Writes-next _ _ _ _ _ window rest _ _ _ some more step c.requires.window inv.walk _ _ inv.writes inv.left stored.writes;
+      left = Left-next _ _ _ _ _ window rest _ _ _ some more step c.requires.window inv.walk inv.left;
       cost = record { borrow = search rules; loads = omega arith; stores = omega arith };
     })
 
 pub returns-clause-writes : goal.returns-clause-writes
 returns-clause-writes g c =
     let none = c.loop-rest-test.false in
-    Writes-all _ _ _ _ _ _ _ (omega arith) (length-stored_le _ _ _ _ _ ∙ length-list _ _ _ _ c.requires.window) c.loop-rest.invariant.walk c.loop-rest.invariant.writes
+    Writes-all _ _ _ _ _ _ _ (omega arith) (length-stored _ _ _ _ _ _ ∙ length-list _ _ _ _ c.requires.window) c.loop-rest.invariant.walk c.loop-rest.invariant.writes

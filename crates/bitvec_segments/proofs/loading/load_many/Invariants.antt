@@ -1,8 +1,8 @@
 use Rattle.bitvec_words.specs.cells.Access.{OnlyReads}
 use Rattle.bitvec_words.specs.walk.Cost.{touched}
 use Rattle.bitvec_words.specs.walk.Walk.{Walked, passed}
-use Rattle.bitvec_segments.proofs.WalkLemmas.{LoadedLe}
-use Rattle.bitvec_segments.proofs.loading.load_many_le.Given as goal
+use Rattle.bitvec_segments.proofs.WalkLemmas.{Loaded}
+use Rattle.bitvec_segments.proofs.loading.load_many.Given as goal
 
 abbrev pub invariant-loop-rest : goal.invariant-loop-rest
 invariant-loop-rest g l =
@@ -10,7 +10,7 @@ invariant-loop-rest g l =
     let part = passed l.fn.window l.rest in
     record {
       walk : Walked b l.fn.window l.rest;
-      value : LoadedLe g.O.WordOrder.HIGH b g.O.BitOrder.at (g.C.CellsRead.numbers l.fn.cells) l.fn.window l.rest l.number;
+      value : Loaded g.E.Endian.BIG g.O.WordOrder.HIGH b g.O.BitOrder.at (g.C.CellsRead.numbers l.fn.cells) l.fn.window l.rest l.number;
       reads : OnlyReads g.C.CellsRead l.fn.cells l.cells (touched b part.start part.len);
     }
 

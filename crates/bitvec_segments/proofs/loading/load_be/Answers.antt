@@ -1,7 +1,0 @@
-use Rattle.std.proofs.Common.{sym, ◌∙◌}
-use Rattle.bitvec_segments.specs.PlainLaws.{loaded_be-plain}
-use Rattle.bitvec_segments.proofs.loading.load_be.Goals as goal
-
-pub returns-then-fits_word-clause-value : goal.returns-then-fits_word-clause-value
-returns-then-fits_word-clause-value g c =
-    c.joined_number.ensures.value ∙ sym (loaded_be-plain _ _ _ _ (sym c.HIGH.ensures ∙ c.if-HIGH.true))

@@ -1,0 +1,39 @@
+//! From which end of a number the segments of a window go.
+ghost use Rattle.std.specs.Prelude.{◌≡◌, ◌+◌, ◌≤◌, Bool, false, true};
+ghost use Rattle.bitvec_segments.specs.Segments.{lower_bits};
+
+/// The end of a number at which the first segment is.
+pub(crate) trait Endian {
+    ghost BIG: { Bool };
+
+    /// Whether the first segment is the highest, and not the lowest.
+    const BIG: bool;
+}
+
+/// The first segment is the lowest.
+pub(crate) enum Little {}
+
+/// The first segment is the highest.
+pub(crate) enum Big {}
+
+impl Endian for Little {
+    ghost BIG = { false };
+
+    const BIG: bool = false;
+}
+
+impl Endian for Big {
+    ghost BIG = { true };
+
+    const BIG: bool = true;
+}
+
+/// How many bits of a number are lower than those of a part of it that has so many bits before it and
+/// behind it.
+#[inline(always)]
+pub(crate) fn lower_bits<E: Endian>(before: usize, behind: usize) -> usize
+    ensures bits { result ≡ lower_bits E.BIG before behind }
+    ensures most { result ≤ before + behind }
+{
+    if E::BIG { behind } else { before }
+}
