@@ -68,7 +68,7 @@ pub use Rattle.bitvec_split_edits.specs.SplitEdits
 pub use Rattle.bitvec_split_edits.specs.SplitEditsLaws
 pub use Rattle.bitvec_owned.specs.edit.store.Width
 pub use Rattle.bitvec_owned.specs.edit.store.WidthLaws
-pub use Rattle.bitvec_text.specs.Radix
+pub use Rattle.bitvec_field.specs.Radix
 pub use Rattle.bitvec_owned.specs.edit.traits.Feeding
 pub use Rattle.bitvec_owned.specs.edit.traits.Listing
 pub use Rattle.bitvec_ones.specs.turns.Loads

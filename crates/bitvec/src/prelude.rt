@@ -1,5 +1,7 @@
 //! What most programs use.
-pub use bitvec_field::{BitField, BitFieldMut, FieldOrder, Integral};
+pub use bitvec_field::{
+    Binary, BitField, BitFieldMut, FieldOrder, Integral, LowerHex, Octal, UpperHex,
+};
 pub use bitvec_iter::{IterCalls, PieceCallsMut};
 pub use bitvec_ones::OnesCalls;
 pub use bitvec_ones::query::BitQueries;
@@ -14,4 +16,3 @@ pub use bitvec_owned::{BitVec, RepeatError, ToBitVec};
 pub use bitvec_split_edits::EditSplits;
 pub use bitvec_split_edits::pieces::EditParts;
 pub use bitvec_split_edits::split::{SplitCalls, SplitCallsMut};
-pub use bitvec_text::{Binary, LowerHex, Octal, UpperHex};

@@ -20,4 +20,4 @@ pub use bitvec_split_edits::split::{
     SplitCalls, SplitCallsMut, SplitInclusive, SplitInclusiveMut, SplitMut, SplitN, SplitNMut,
     SplitWalk, Splits, SplitsMut, SplitsN, SplitsNMut, Way,
 };
-pub use bitvec_text::{Binary, LowerHex, Octal, UpperHex};
+pub use bitvec_field::{Binary, LowerHex, Octal, UpperHex};

@@ -1,0 +1,3 @@
+mod Numbers
+mod SegmentsFrom
+mod Written

@@ -6,3 +6,4 @@ pub mod words
 pub mod Fields
 pub mod Integers
 pub mod IntegersLaws
+pub mod Radix

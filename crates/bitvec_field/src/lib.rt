@@ -1,8 +1,12 @@
-//! Integers in views: loaded from the bits of a view, and stored in them.
+//! Views' bits as numbers: integers loaded from the bits of a view and stored in them, and the bits
+//! written with a digit for one, three or four of them.
 #![tactic(auto)]
 
 mod bit_field;
+mod digits;
 mod integral;
+mod radix;
+mod segments;
 mod signed;
 mod slices;
 mod unsigned;
@@ -44,3 +48,4 @@ pub mod store {
 pub use bit_field::{BitField, BitFieldMut};
 pub use bitvec_segments::FieldOrder;
 pub use integral::Integral;
+pub use radix::{Binary, LowerHex, Octal, UpperHex};

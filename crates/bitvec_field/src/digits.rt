@@ -4,7 +4,7 @@ ghost use Rattle.std.specs.Fmt.{WritesOnOk, digits};
 ghost use Rattle.bitvec_segments.specs.Segments.{segment_number};
 ghost use Rattle.bitvec_segments.specs.SegmentsLaws.{first_len};
 ghost use Rattle.bitvec_slice.specs.Views.{seen};
-ghost use Rattle.bitvec_text.specs.Radix.{digits_text};
+ghost use Rattle.bitvec_field.specs.Radix.{digits_text};
 
 use bitvec_slice::BitSlice;
 use bitvec_slice::base::BitOrder;

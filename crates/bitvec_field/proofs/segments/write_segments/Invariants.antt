@@ -3,11 +3,11 @@ use Rattle.std.specs.Fmt.{IsPlainFormatter}
 use Rattle.std.specs.List.{join_by}
 use Rattle.bitvec_segments.specs.Segments.{segments}
 use Rattle.bitvec_slice.specs.Views.{seen}
-use Rattle.bitvec_text.specs.Radix.{digits_text}
-use Rattle.bitvec_text.proofs.SegmentsFrom.{joined_from, segments_from}
-use Rattle.bitvec_text.proofs.Written.{WrittenBut}
+use Rattle.bitvec_field.specs.Radix.{digits_text}
+use Rattle.bitvec_field.proofs.SegmentsFrom.{joined_from, segments_from}
+use Rattle.bitvec_field.proofs.Written.{WrittenBut}
 use Rattle.bitvec_slice.specs.traits.Listing.{comma}
-use Rattle.bitvec_text.proofs.segments.write_segments.Given as goal
+use Rattle.bitvec_field.proofs.segments.write_segments.Given as goal
 
 abbrev pub invariant-loop-from : goal.invariant-loop-from
 invariant-loop-from g l =

@@ -4,7 +4,7 @@ ghost use Rattle.std.specs.Fmt.{WritesOnOk};
 ghost use Rattle.std.specs.List.{join_by};
 ghost use Rattle.bitvec_segments.specs.Segments.{segments};
 ghost use Rattle.bitvec_slice.specs.Views.{seen};
-ghost use Rattle.bitvec_text.specs.Radix.{digits_text, radix_text};
+ghost use Rattle.bitvec_field.specs.Radix.{digits_text, radix_text};
 ghost use Rattle.bitvec_slice.specs.traits.Listing.{comma};
 
 use crate::digits::{bits_in_element, write_digits};

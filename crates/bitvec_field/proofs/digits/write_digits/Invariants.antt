@@ -2,10 +2,10 @@ use Rattle.std.proofs.Common.{◌-◌, ◌*◌, ◌≤◌, length}
 use Rattle.std.specs.Fmt.{IsPlainFormatter}
 use Rattle.std.specs.List.{flat_map}
 use Rattle.bitvec_slice.specs.Views.{seen}
-use Rattle.bitvec_text.specs.Radix.{digit_text, digits_text}
-use Rattle.bitvec_text.proofs.SegmentsFrom.{segments_from}
-use Rattle.bitvec_text.proofs.Written.{WrittenBut}
-use Rattle.bitvec_text.proofs.digits.write_digits.Given as goal
+use Rattle.bitvec_field.specs.Radix.{digit_text, digits_text}
+use Rattle.bitvec_field.proofs.SegmentsFrom.{segments_from}
+use Rattle.bitvec_field.proofs.Written.{WrittenBut}
+use Rattle.bitvec_field.proofs.digits.write_digits.Given as goal
 
 abbrev pub invariant-loop-from : goal.invariant-loop-from
 invariant-loop-from g l =

@@ -30,7 +30,7 @@ pub struct UpperHex<'a, T: BitStore, O: BitOrder>(pub BitSlice<'a, T, O>);
 
 impl<'a, T: BitStore, O: BitOrder> fmt::Display for Binary<'a, T, O> {
     ghost use Rattle.bitvec_slice.specs.Views.{seen};
-    ghost use Rattle.bitvec_text.specs.Radix.{radix_text};
+    ghost use Rattle.bitvec_field.specs.Radix.{radix_text};
 
     ghost output = { λ text. Some (radix_text T.BITS (seen text.0).window.start 1 false (seen text.0).bits) };
 
@@ -41,7 +41,7 @@ impl<'a, T: BitStore, O: BitOrder> fmt::Display for Binary<'a, T, O> {
 
 impl<'a, T: BitStore, O: BitOrder> fmt::Display for Octal<'a, T, O> {
     ghost use Rattle.bitvec_slice.specs.Views.{seen};
-    ghost use Rattle.bitvec_text.specs.Radix.{radix_text};
+    ghost use Rattle.bitvec_field.specs.Radix.{radix_text};
 
     ghost output = { λ text. Some (radix_text T.BITS (seen text.0).window.start 3 false (seen text.0).bits) };
 
@@ -52,7 +52,7 @@ impl<'a, T: BitStore, O: BitOrder> fmt::Display for Octal<'a, T, O> {
 
 impl<'a, T: BitStore, O: BitOrder> fmt::Display for LowerHex<'a, T, O> {
     ghost use Rattle.bitvec_slice.specs.Views.{seen};
-    ghost use Rattle.bitvec_text.specs.Radix.{radix_text};
+    ghost use Rattle.bitvec_field.specs.Radix.{radix_text};
 
     ghost output = { λ text. Some (radix_text T.BITS (seen text.0).window.start 4 false (seen text.0).bits) };
 
@@ -63,7 +63,7 @@ impl<'a, T: BitStore, O: BitOrder> fmt::Display for LowerHex<'a, T, O> {
 
 impl<'a, T: BitStore, O: BitOrder> fmt::Display for UpperHex<'a, T, O> {
     ghost use Rattle.bitvec_slice.specs.Views.{seen};
-    ghost use Rattle.bitvec_text.specs.Radix.{radix_text};
+    ghost use Rattle.bitvec_field.specs.Radix.{radix_text};
 
     ghost output = { λ text. Some (radix_text T.BITS (seen text.0).window.start 4 true (seen text.0).bits) };
 

@@ -4,10 +4,10 @@ use Rattle.std.proofs.Output.{has_written_of_eq}
 use Rattle.bitvec_segments.specs.Segments.{segment_number}
 use Rattle.std.specs.List.{flat_map}
 use Rattle.bitvec_slice.specs.Views.{seen}
-use Rattle.bitvec_text.specs.Radix.{digit_text, digits_text}
-use Rattle.bitvec_text.proofs.SegmentsFrom.{segments_from-end, segments_from-next, segments_from-start}
-use Rattle.bitvec_text.proofs.Written.{written-all, written-next, written-none}
-use Rattle.bitvec_text.proofs.digits.write_digits.Goals as goal
+use Rattle.bitvec_field.specs.Radix.{digit_text, digits_text}
+use Rattle.bitvec_field.proofs.SegmentsFrom.{segments_from-end, segments_from-next, segments_from-start}
+use Rattle.bitvec_field.proofs.Written.{written-all, written-next, written-none}
+use Rattle.bitvec_field.proofs.digits.write_digits.Goals as goal
 
 pub loop-from-init : goal.loop-from-init
 unfolding digits_text

@@ -4,10 +4,10 @@ use Rattle.std.proofs.Output.{has_written_append, has_written_of_eq}
 use Rattle.bitvec_slice.specs.store.WidthLaws.{width_some}
 use Rattle.bitvec_slice.specs.traits.Listing.{separator}
 use Rattle.bitvec_slice.specs.Views.{seen}
-use Rattle.bitvec_text.specs.Radix.{digits_text}
-use Rattle.bitvec_text.proofs.SegmentsFrom.{joined_from, joined_from-end, joined_from-next, joined_from-start, segments_from-end, segments_from-later, segments_from-next, segments_from-start}
-use Rattle.bitvec_text.proofs.Written.{written-all, written-next, written-none}
-use Rattle.bitvec_text.proofs.segments.write_segments.Goals as goal
+use Rattle.bitvec_field.specs.Radix.{digits_text}
+use Rattle.bitvec_field.proofs.SegmentsFrom.{joined_from, joined_from-end, joined_from-next, joined_from-start, segments_from-end, segments_from-later, segments_from-next, segments_from-start}
+use Rattle.bitvec_field.proofs.Written.{written-all, written-next, written-none}
+use Rattle.bitvec_field.proofs.segments.write_segments.Goals as goal
 
 pub loop-from-init : goal.loop-from-init
 loop-from-init g c =

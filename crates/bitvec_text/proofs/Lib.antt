@@ -1,3 +1,0 @@
-mod Numbers
-mod SegmentsFrom
-mod Written
