@@ -54,8 +54,8 @@ pub fn ends_with<O: SliceOrder, C: CellsRead, D: CellsRead<Elem = C::Elem>>(
     O::block_eq::<C, D>(cells, tail, right, needle)
 }
 
-/// Whether the needle's bits stand in those of the window, from some index on: `contains` of the
-/// crate. Condition: as of [`starts_with`]. It takes at most one equality of the needle's bits at
+/// Whether the needle's bits stand in those of the window, from some index on: `contains` of
+/// `bitvec`. Condition: as of [`starts_with`]. It takes at most one equality of the needle's bits at
 /// each index where they may stand, and no load where there is no such index.
 pub fn contains<O: SliceOrder, C: CellsRead, D: CellsRead<Elem = C::Elem>>(
     cells: &mut C,

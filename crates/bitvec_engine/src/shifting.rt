@@ -12,8 +12,8 @@ use bitvec_move::store::BitStore;
 use bitvec_move::words::fill;
 
 /// Shifts the bits of a window by `by` places towards its start: the first `by` are lost, and as
-/// many zeros follow the others; all other bits of the memory stay. It is `shift_start` of the
-/// crate's `BitSlice`. Condition: the memory has at most `MAX_BITS` bits, the window lies in it,
+/// many zeros follow the others; all other bits of the memory stay. It is `shift_start` of
+/// `bitvec`'s `BitSlice`. Condition: the memory has at most `MAX_BITS` bits, the window lies in it,
 /// and `by` is at most the window's length. It costs a copy of the bits kept and a fill of `by`
 /// bits.
 pub fn shift_start<O: SliceOrder, C: Cells>(cells: &mut C, window: Window, by: usize)
@@ -30,8 +30,8 @@ pub fn shift_start<O: SliceOrder, C: Cells>(cells: &mut C, window: Window, by: u
 }
 
 /// Shifts the bits of a window by `by` places towards its end: the last `by` are lost, and as many
-/// zeros stand before the others; all other bits of the memory stay. It is `shift_end` of the
-/// crate's `BitSlice`. Condition and cost: as of [`shift_start`].
+/// zeros stand before the others; all other bits of the memory stay. It is `shift_end` of
+/// `bitvec`'s `BitSlice`. Condition and cost: as of [`shift_start`].
 pub fn shift_end<O: SliceOrder, C: Cells>(cells: &mut C, window: Window, by: usize)
     requires window { HasWindow C.Elem.BITS (C.numbers cells.old) window }
     requires by { by ≤ window.len }

@@ -13,8 +13,8 @@ use std::fmt;
 #[derive(Clone, Copy)]
 pub struct Binary<'a, T: BitStore, O: BitOrder>(pub BitSlice<'a, T, O>);
 
-/// A view that prints a digit for three bits of a part, counted from the part's end: `{:o}` of the
-/// crate.
+/// A view that prints a digit for three bits of a part, counted from the part's end: `{:o}` of
+/// `bitvec`.
 #[derive(Clone, Copy)]
 pub struct Octal<'a, T: BitStore, O: BitOrder>(pub BitSlice<'a, T, O>);
 

@@ -206,8 +206,8 @@ pub trait BitQueries<T: BitStore, O: SliceOrder> {
         )
     }
 
-    /// How the bits compare with the other view's, as lists of truth values do: `partial_cmp` of the
-    /// crate, which always has an answer.
+    /// How the bits compare with the other view's, as lists of truth values do: `partial_cmp` of
+    /// `bitvec`, which always has an answer.
     fn cmp_bits<'b, U: BitStore, P: BitOrder>(&self, other: BitSlice<'b, U, P>) -> Ordering
         ensures { result ≡ slice_cmp bool_cmp (shows self.now).bits (seen other.entry).bits }
     {

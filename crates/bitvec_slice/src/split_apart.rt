@@ -13,7 +13,7 @@ impl<'a, T: BitStore, O: BitOrder> BitSliceMut<'a, T, O> {
 
     /// The bits before the index `mid` and those from it on, both for writing, if they share no
     /// element: exactly where the first of the latter begins an element, or there are none of the
-    /// ones or the others. Condition: `mid` is at most `len`. The crate's `split_at_mut` cuts
+    /// ones or the others. Condition: `mid` is at most `len`. `bitvec`'s `split_at_mut` cuts
     /// anywhere, by two views of the element that is cut.
     pub fn split_apart_mut(
         &mut self,

@@ -15,8 +15,8 @@ use std::ops::Range;
 /// crate's `&mut BitSlice<T, O>`.
 ///
 /// Contracts see it as they see a [`BitSlice`], and besides know its memory by its name among
-/// borrows. Lengths, indices and ranges are in bits. A call has the name and the meaning of the
-/// crate's, unless its text says what it stands for.
+/// borrows. Lengths, indices and ranges are in bits. A call has the name and the meaning of
+/// `bitvec`'s, unless its text says what it stands for.
 ///
 /// What is written through comes from these calls alone. Views: `as_mut`, `part_mut`, `into_part`,
 /// `split_apart_mut`, `!`, and by a range `get_mut`, `get_unchecked_mut` and the calls of
