@@ -14,7 +14,7 @@ use bitvec_slice::store::BitStore;
 use bitvec_slice::{BitSlice, BitSliceMut};
 use std::ops::Range;
 
-/// The crate's edits of a `&mut BitSlice`: those of single bits and of all, those that move its bits,
+/// `bitvec`'s edits of a `&mut BitSlice`: those of single bits and of all, those that move its bits,
 /// take those of another view, which may have any element type and order, or ask a closure for them.
 /// With a view of the same type, [`BitSliceMut`] has `copy_from_bitslice`, `swap_with_bitslice` and the
 /// operators. Indices and amounts are in bits.

@@ -1,4 +1,4 @@
-//! The crate's `BitField`, its loads and its stores.
+//! `bitvec`'s `BitField`, its loads and its stores.
 ghost use Rattle.std.specs.Prelude.{◌≡◌, ℕ, ◌<◌, ◌≤◌};
 ghost use Rattle.bitvec_field.specs.Integers.{integer_of, remainder_of};
 

@@ -11,7 +11,7 @@ use bitvec_slice::BitSliceMut;
 use bitvec_slice::base::BitOrder;
 use bitvec_slice::store::BitStore;
 
-/// The crate's calls on a `&mut BitSlice` that give pieces of it for writing, lent one at a time.
+/// `bitvec`'s calls on a `&mut BitSlice` that give pieces of it for writing, lent one at a time.
 /// Indices and widths are in bits.
 pub trait PieceCallsMut<T: BitStore, O: BitOrder> {
     ghost use Rattle.bitvec_slice.specs.Seen.{IsGiven, Seen};

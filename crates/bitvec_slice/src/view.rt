@@ -51,7 +51,7 @@ impl<'a, T: BitStore, O: BitOrder> BitSlice<'a, T, O> {
     /// The most bits that a view's memory may have.
     pub const MAX_BITS: usize = MAX_BITS;
 
-    /// The crate's constant: one more than the elements that `MAX_BITS` bits take. No view here touches
+    /// `bitvec`'s constant: one more than the elements that `MAX_BITS` bits take. No view here touches
     /// as many, since `MAX_BITS` bounds its memory.
     pub const MAX_ELTS: usize = (MAX_BITS + T::BITS as usize - 1) / (T::BITS as usize) + 1;
 

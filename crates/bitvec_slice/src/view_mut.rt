@@ -11,8 +11,8 @@ use bitvec_elements::store::BitStore;
 use std::marker::PhantomData;
 use std::ops::Range;
 
-/// Bits of a slice of elements that is borrowed for writing, in an order: it stands for the
-/// crate's `&mut BitSlice<T, O>`.
+/// Bits of a slice of elements that is borrowed for writing, in an order: it stands for
+/// `bitvec`'s `&mut BitSlice<T, O>`.
 ///
 /// Contracts see it as they see a [`BitSlice`], and besides know its memory by its name among
 /// borrows. Lengths, indices and ranges are in bits. A call has the name and the meaning of
