@@ -17,8 +17,8 @@ use Rattle.bitvec_words.specs.base.WritesLaws.{Writes-is, Writes-join, length-li
 use Rattle.bitvec_words.specs.walk.Cost.{fill_loads, part_loads, touched}
 use Rattle.bitvec_words.specs.walk.Walk.{Walked, passed}
 use Rattle.bitvec_words.specs.walk.WalkLaws.{Walked-next, Walked-start, Writes-next_part, Writes-none_passed, div-order, first-len, first-place, touched-none, touched-until}
-use Rattle.bitvec_segments.specs.LoadLaws.{alone, loaded-below, loaded-first, loaded-none}
-use Rattle.bitvec_segments.specs.Segments.{loaded, lower_bits, segment_bits, segment_number, stored}
+use Rattle.bitvec_segments.specs.LoadLaws.{alone, loaded-below, loaded-first, loaded-none, lower_bits}
+use Rattle.bitvec_segments.specs.Segments.{loaded, segment_bits, segment_number, stored}
 use Rattle.bitvec_segments.specs.SegmentsLaws.{first_len}
 use Rattle.bitvec_segments.specs.StoreLaws.{front-dropped, front-taken, length-segment_bits, length-stored, stored-first}
 

@@ -1,5 +1,5 @@
 -- The numbers of a list, a segment at a time.
-use Rattle.std.specs.Prelude.{◌≡◌, ℕ, ◌+◌, ◌-◌, ◌*◌, ◌%◌, ◌^◌, ◌<◌, ◌≤◌, ◌==◌, Bool, true, false, List, [], ◌∷◌, length, take, drop, refl, suc}
+use Rattle.std.specs.Prelude.{◌≡◌, ℕ, ◌+◌, ◌-◌, ◌*◌, ◌%◌, ◌^◌, ◌<◌, ◌≤◌, ◌==◌, if◌then◌else◌, Bool, true, false, List, [], ◌∷◌, length, take, drop, refl, suc}
 use Rattle.std.specs.List.{sum_by}
 use Rattle.std.proofs.Common.{arith, sym, ◌∙◌, ap, ⊎_elim, length-drop}
 use Rattle.std.proofs.lemmas.Bool.{cases_Bool, cond-true, cond-false}
@@ -8,7 +8,7 @@ use Rattle.std.proofs.lemmas.List.Sums.{sum_by-cons}
 use Rattle.std.proofs.Math.Nat.{mul-le-mul_left}
 use Rattle.std.proofs.lemmas.Nat.{pow-add}
 use Rattle.bitvec_segments.specs.NumberLaws.{segment_number-below}
-use Rattle.bitvec_segments.specs.Segments.{end_number, in_first, loaded, loaded_be, loaded_le, lower_bits, segment_number, segments}
+use Rattle.bitvec_segments.specs.Segments.{end_number, in_first, loaded, loaded_be, loaded_le, segment_number, segments}
 use Rattle.bitvec_segments.specs.SegmentsLaws.{first_len, segments-first, segments-phase}
 
 -- ---- all bits are in segments
@@ -43,12 +43,10 @@ unfolding end_number
 end_number-below big high [] = omega arith
 end_number-below false high (segment ∷ rest) =
     let total = sum_by-cons length segment rest in
-    let below = joined_below _ _ (sum_by length rest) (length segment) (end_number-below false high rest) (segment_number-below high segment) in
-    rw total (omega arith)
+    rw total (joined_below _ _ (sum_by length rest) (length segment) (end_number-below false high rest) (segment_number-below high segment))
 end_number-below true high (segment ∷ rest) =
     let total : sum_by length (segment ∷ rest) ≡ sum_by length rest + length segment = sum_by-cons length segment rest ∙ omega arith in
-    let below = joined_below _ _ (length segment) (sum_by length rest) (segment_number-below high segment) (end_number-below true high rest) in
-    rw total (omega arith)
+    rw total (joined_below _ _ (length segment) (sum_by length rest) (segment_number-below high segment) (end_number-below true high rest))
 
 pub loaded-below : (big high : Bool) (b s : ℕ) (list : List Bool) → loaded big high b s list < 2 ^ length list
 unfolding loaded
@@ -60,15 +58,26 @@ pub loaded-none : (big high : Bool) (b s : ℕ) → loaded big high b s [] ≡ 0
 unfolding loaded end_number segments
 loaded-none big high b s = refl
 
+-- how many bits of a number are lower than those of a part of it: those behind the part, or those before it
+abbrev pub lower_bits : Bool → ℕ → ℕ → ℕ
+lower_bits big before behind = if big then behind else before
+
+pub end_number-first : (big high : Bool) (segment : List Bool) (rest : List (List Bool))
+    → end_number big high (segment ∷ rest) ≡ segment_number high segment * 2 ^ lower_bits big 0 (sum_by length rest) + end_number big high rest * 2 ^ lower_bits big (length segment) 0
+unfolding end_number
+end_number-first true high segment rest = omega arith
+end_number-first false high segment rest = omega arith
+
 pub loaded-first : (big high : Bool) (b s : ℕ) (list : List Bool) (k : ℕ) → 0 < b → 0 < length list → k ≡ first_len b s (length list)
     → loaded big high b s list ≡ segment_number high (take k list) * 2 ^ lower_bits big 0 (length list - k) + loaded big high b (s + k) (drop k list) * 2 ^ lower_bits big k 0
-unfolding loaded end_number
+unfolding loaded
 loaded-first big high b s list k some more is =
     let first : ℕ = segment_number high (take k list) in
     let rest : List (List Bool) = segments b (s + k) (drop k list) in
     let long : length (take k list) ≡ k = length-take k list ∙ omega arith in
     let left : sum_by length rest ≡ length list - k = segments-total b (s + k) (drop k list) ∙ length-drop k list in
     ap (end_number big high) (segments-first b s list k some more is)
+    ∙ end_number-first big high (take k list) rest
     ∙ ap (λ (n : ℕ). first * 2 ^ lower_bits big 0 n + end_number big high rest * 2 ^ lower_bits big (length (take k list)) 0) left
     ∙ ap (λ (n : ℕ). first * 2 ^ lower_bits big 0 (length list - k) + end_number big high rest * 2 ^ lower_bits big n 0) long
 

@@ -5,9 +5,9 @@ use Rattle.std.proofs.Common.{arith, sym, ◌∙◌, ap, ⊎_elim, length-append
 use Rattle.std.proofs.lemmas.Bool.{cases_Bool, cond-true, cond-false}
 use Rattle.std.proofs.lemmas.List.Sums.{sum_by-cons}
 use Rattle.std.proofs.lemmas.Nat.{pow-add}
-use Rattle.bitvec_segments.specs.LoadLaws.{segments-total}
+use Rattle.bitvec_segments.specs.LoadLaws.{end_number-first, lower_bits, segments-total}
 use Rattle.bitvec_segments.specs.NumberLaws.{segment-told, segment_bits-mod}
-use Rattle.bitvec_segments.specs.Segments.{end_number, in_first, loaded, loaded_be, loaded_le, lower_bits, segment_bits, segment_number, segments, stored, stored_be, stored_le}
+use Rattle.bitvec_segments.specs.Segments.{end_number, in_first, loaded, loaded_be, loaded_le, segment_bits, segment_number, segments, stored, stored_be, stored_le}
 use Rattle.bitvec_segments.specs.StoreLaws.{length-stored, stored-loads}
 
 lower_bit : (x v c p q : ℕ) → q ≡ p * 2 → x * q + (v * 2 + c) ≡ (x * p + v) * 2 + c
@@ -45,6 +45,7 @@ joined high b s (bit ∷ list) =
     (λ (edge : (s + 1) % b == 0 ≡ true). ap (end_number high high) (cond-true _ _ _ edge))
     (λ (inside : (s + 1) % b == 0 ≡ false). ap (end_number high high) (cond-false _ _ _ inside) ∙ bit_before high bit rest)
     (cases_Bool ((s + 1) % b == 0))
+    ∙ end_number-first high high (bit ∷ []) rest
     ∙ ap (λ (n : ℕ). segment_number high (bit ∷ []) * 2 ^ lower_bits high 0 n + end_number high high rest * 2 ^ lower_bits high 1 0) (segments-total b (s + 1) list)
     ∙ ap (λ (n : ℕ). segment_number high (bit ∷ []) * 2 ^ lower_bits high 0 (length list) + n * 2 ^ lower_bits high 1 0) (joined high b (s + 1) list)
     ∙ bit_alone high bit list

@@ -32,20 +32,18 @@ segment_number true (bit ∷ rest) = (if bit then 1 else 0) * 2 ^ length rest + 
 abbrev pub segment_bits : Bool → ℕ → ℕ → List Bool
 segment_bits high k v = element_bits k (bit_number high) v
 
--- ---- the number of many: from the big end (the first one is the highest), or from the little end (the first one is the lowest)
-
--- how many bits of a number are lower than those of a part of it: those behind it, or those before it
-abbrev pub lower_bits : Bool → ℕ → ℕ → ℕ
-lower_bits big before behind = if big then behind else before
+-- ---- the number of many: from the big end the first one is the highest, from the little end the lowest
 
 unfoldable pub end_number : Bool → Bool → List (List Bool) → ℕ
 end_number big high [] = 0
-end_number big high (segment ∷ rest) = segment_number high segment * 2 ^ lower_bits big 0 (sum_by length rest) + end_number big high rest * 2 ^ lower_bits big (length segment) 0
+end_number false high (segment ∷ rest) = end_number false high rest * 2 ^ length segment + segment_number high segment
+end_number true high (segment ∷ rest) = segment_number high segment * 2 ^ sum_by length rest + end_number true high rest
 
 -- the bits of segments as long as these, whose number is v modulo two to the power of the bits they have
 unfoldable pub end_bits : Bool → Bool → ℕ → List (List Bool) → List Bool
 end_bits big high v [] = []
-end_bits big high v (segment ∷ rest) = segment_bits high (length segment) (v / 2 ^ lower_bits big 0 (sum_by length rest)) ++ end_bits big high (v / 2 ^ lower_bits big (length segment) 0) rest
+end_bits false high v (segment ∷ rest) = segment_bits high (length segment) v ++ end_bits false high (v / 2 ^ length segment) rest
+end_bits true high v (segment ∷ rest) = segment_bits high (length segment) (v / 2 ^ sum_by length rest) ++ end_bits true high v rest
 
 -- ---- lists at a place
 
@@ -53,17 +51,15 @@ end_bits big high v (segment ∷ rest) = segment_bits high (length segment) (v /
 unfoldable pub loaded : Bool → Bool → ℕ → ℕ → List Bool → ℕ
 loaded big high b s list = end_number big high (segments b s list)
 
--- the list that a store of v leaves
-unfoldable pub stored : Bool → Bool → ℕ → ℕ → ℕ → List Bool → List Bool
-stored big high b s v list = end_bits big high v (segments b s list)
-
--- ---- both from either end
-
 abbrev pub loaded_le : Bool → ℕ → ℕ → List Bool → ℕ
 loaded_le high b s list = loaded false high b s list
 
 abbrev pub loaded_be : Bool → ℕ → ℕ → List Bool → ℕ
 loaded_be high b s list = loaded true high b s list
+
+-- the list that a store of v leaves
+unfoldable pub stored : Bool → Bool → ℕ → ℕ → ℕ → List Bool → List Bool
+stored big high b s v list = end_bits big high v (segments b s list)
 
 abbrev pub stored_le : Bool → ℕ → ℕ → ℕ → List Bool → List Bool
 stored_le high b s v list = stored false high b s v list

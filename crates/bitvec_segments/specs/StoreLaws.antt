@@ -8,10 +8,13 @@ use Rattle.std.proofs.lemmas.Nat.{div-mul-add, mod-pow-add, mod_below, pow-add, 
 use Rattle.std.proofs.Math.Nat.{mul-add-div_right, mul-add-mod_self_right}
 use Rattle.std.proofs.Math.Seq.{take-append_seam, drop-append_seam}
 use Rattle.bitvec_words.specs.base.MemoryLaws.{length-element_bits}
-use Rattle.bitvec_segments.specs.LoadLaws.{loaded-below, loaded-first, loaded-none, segments-total}
+use Rattle.bitvec_segments.specs.LoadLaws.{loaded-below, loaded-first, loaded-none, lower_bits, segments-total}
 use Rattle.bitvec_segments.specs.NumberLaws.{segment-number, segment-told, segment_bits-mod, segment_number-below}
-use Rattle.bitvec_segments.specs.Segments.{bit_number, end_bits, loaded, loaded_be, loaded_le, lower_bits, segment_bits, segment_number, segments, stored, stored_be, stored_le}
+use Rattle.bitvec_segments.specs.Segments.{bit_number, end_bits, loaded, loaded_be, loaded_le, segment_bits, segment_number, segments, stored, stored_be, stored_le}
 use Rattle.bitvec_segments.specs.SegmentsLaws.{first_len, segments-first}
+
+unmoved : (v : ℕ) → v / 2 ^ 0 ≡ v
+unmoved v = omega arith
 
 -- a segment has bits
 first-some : (b s n : ℕ) → 0 < b → 0 < n → 0 < first_len b s n
@@ -21,6 +24,12 @@ first-some b s n some more = let below = mod_below s b some in omega arith
 
 pub length-segment_bits : (high : Bool) (k v : ℕ) → length (segment_bits high k v) ≡ k
 length-segment_bits high k v = length-element_bits k (bit_number high) v
+
+end_bits-first : (big high : Bool) (v : ℕ) (segment : List Bool) (rest : List (List Bool))
+    → end_bits big high v (segment ∷ rest) ≡ segment_bits high (length segment) (v / 2 ^ lower_bits big 0 (sum_by length rest)) ++ end_bits big high (v / 2 ^ lower_bits big (length segment) 0) rest
+unfolding end_bits
+end_bits-first true high v segment rest = ap (λ (w : ℕ). segment_bits high (length segment) (v / 2 ^ sum_by length rest) ++ end_bits true high w rest) (sym (unmoved v))
+end_bits-first false high v segment rest = ap (λ (w : ℕ). segment_bits high (length segment) w ++ end_bits false high (v / 2 ^ length segment) rest) (sym (unmoved v))
 
 length-end_bits : (big high : Bool) (v : ℕ) (list : List (List Bool)) → length (end_bits big high v list) ≡ sum_by length list
 unfolding end_bits
@@ -32,7 +41,7 @@ length-end_bits big high v (segment ∷ rest) =
     let others = length-end_bits big high u rest in
     let both = length-append (segment_bits high (length segment) w) (end_bits big high u rest) in
     let total = sum_by-cons length segment rest in
-    omega arith
+    ap (λ (l : List Bool). length l) (end_bits-first big high v segment rest) ∙ omega arith
 
 pub length-stored : (big high : Bool) (b s v : ℕ) (list : List Bool) → length (stored big high b s v list) ≡ length list
 unfolding stored
@@ -46,12 +55,13 @@ stored-none big high b s v = refl
 
 pub stored-first : (big high : Bool) (b s v : ℕ) (list : List Bool) (k : ℕ) → 0 < b → 0 < length list → k ≡ first_len b s (length list)
     → stored big high b s v list ≡ segment_bits high k (v / 2 ^ lower_bits big 0 (length list - k)) ++ stored big high b (s + k) (v / 2 ^ lower_bits big k 0) (drop k list)
-unfolding stored end_bits
+unfolding stored
 stored-first big high b s v list k some more is =
     let rest : List (List Bool) = segments b (s + k) (drop k list) in
     let long : length (take k list) ≡ k = length-take k list ∙ omega arith in
     let left : sum_by length rest ≡ length list - k = segments-total b (s + k) (drop k list) ∙ length-drop k list in
     ap (end_bits big high v) (segments-first b s list k some more is)
+    ∙ end_bits-first big high v (take k list) rest
     ∙ ap (λ (n : ℕ). segment_bits high n (v / 2 ^ lower_bits big 0 (sum_by length rest)) ++ end_bits big high (v / 2 ^ lower_bits big n 0) rest) long
     ∙ ap (λ (n : ℕ). segment_bits high k (v / 2 ^ lower_bits big 0 n) ++ end_bits big high (v / 2 ^ lower_bits big k 0) rest) left
 
@@ -60,9 +70,6 @@ stored-first big high b s v list k some more is =
 segment_bits-more : (high : Bool) (k x v : ℕ) → segment_bits high k (x * 2 ^ k + v) ≡ segment_bits high k v
 segment_bits-more high k x v =
     sym (segment_bits-mod high k (x * 2 ^ k + v)) ∙ ap (segment_bits high k) (mul-add-mod_self_right x (2 ^ k) v) ∙ segment_bits-mod high k v
-
-unmoved : (v : ℕ) → v / 2 ^ 0 ≡ v
-unmoved v = omega arith
 
 end_bits-more : (high : Bool) (x v : ℕ) (list : List (List Bool)) → end_bits true high (x * 2 ^ sum_by length list + v) list ≡ end_bits true high v list
 unfolding end_bits
@@ -74,10 +81,9 @@ end_bits-more high x v (segment ∷ rest) =
     let power = pow-add 2 k m in
     let split : x * 2 ^ sum_by length (segment ∷ rest) + v ≡ (x * 2 ^ k) * 2 ^ m + v = rw (total, power) (omega arith) in
     ap (λ (n : ℕ). end_bits true high n (segment ∷ rest)) split
-    ∙ ap (λ (l : List Bool). l ++ end_bits true high (((x * 2 ^ k) * 2 ^ m + v) / 2 ^ 0) rest)
+    ∙ ap (λ (l : List Bool). l ++ end_bits true high ((x * 2 ^ k) * 2 ^ m + v) rest)
     (ap (segment_bits high k) (mul-add-div_right (pow_pos m) (x * 2 ^ k) v) ∙ segment_bits-more high k x (v / 2 ^ m))
-    ∙ ap (λ (l : List Bool). segment_bits high k (v / 2 ^ m) ++ l)
-    (ap (λ (n : ℕ). end_bits true high n rest) (unmoved _) ∙ end_bits-more high (x * 2 ^ k) v rest ∙ ap (λ (n : ℕ). end_bits true high n rest) (sym (unmoved v)))
+    ∙ ap (λ (l : List Bool). segment_bits high k (v / 2 ^ m) ++ l) (end_bits-more high (x * 2 ^ k) v rest)
 
 stored-more : (high : Bool) (b s x v m : ℕ) (list : List Bool) → length list ≡ m → stored true high b s (x * 2 ^ m + v) list ≡ stored true high b s v list
 unfolding stored

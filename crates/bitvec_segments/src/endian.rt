@@ -1,6 +1,5 @@
 //! From which end of a number the segments of a window go.
-ghost use Rattle.std.specs.Prelude.{◌≡◌, ◌+◌, ◌≤◌, Bool, false, true};
-ghost use Rattle.bitvec_segments.specs.Segments.{lower_bits};
+ghost use Rattle.std.specs.Prelude.{◌≡◌, ◌+◌, ◌≤◌, if◌then◌else◌, Bool, false, true};
 
 /// The end of a number at which the first segment is.
 pub(crate) trait Endian {
@@ -32,7 +31,7 @@ impl Endian for Big {
 /// behind it.
 #[inline(always)]
 pub(crate) fn lower_bits<E: Endian>(before: usize, behind: usize) -> usize
-    ensures bits { result ≡ lower_bits E.BIG before behind }
+    ensures bits { result ≡ (if E.BIG then behind else before) }
     ensures most { result ≤ before + behind }
 {
     if E::BIG { behind } else { before }
