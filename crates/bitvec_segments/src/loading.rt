@@ -82,10 +82,10 @@ fn load_many<E: Endian, O: WordOrder, C: CellsRead>(cells: &mut C, window: Windo
     let mut rest = window;
     while rest.len > 0 {
         let part = first_part(bits, rest);
-        let left = rest.after(part.len());
-        let below = lower_bits::<E>(window.len - rest.len, left.len);
+        let len = part.len();
+        let below = lower_bits::<E>(window.len - rest.len, rest.len - len);
         number += part_number::<O, C>(cells, part) << below;
-        rest = left;
+        rest = rest.after(len);
     }
     number
 }

@@ -94,9 +94,9 @@ fn store_many<E: Endian, O: WordOrder, C: Cells>(cells: &mut C, window: Window, 
     let mut rest = window;
     while rest.len > 0 {
         let part = first_part(bits, rest);
-        let left = rest.after(part.len());
-        let below = lower_bits::<E>(window.len - rest.len, left.len);
+        let len = part.len();
+        let below = lower_bits::<E>(window.len - rest.len, rest.len - len);
         store_part_number::<O, C>(cells, part, number >> below);
-        rest = left;
+        rest = rest.after(len);
     }
 }

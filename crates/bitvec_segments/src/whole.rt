@@ -46,10 +46,9 @@ pub(crate) fn store_whole<E: Endian, O: WordOrder, C: Cells>(
     let mut rest = window;
     while rest.len > 0 {
         let part = whole_part(bits, rest, element);
-        let left = rest.after(bits);
-        let below = lower_bits::<E>(window.len - rest.len, left.len);
+        let below = lower_bits::<E>(window.len - rest.len, rest.len - bits);
         store_part_number::<O, C>(cells, part, number >> below);
-        rest = left;
+        rest = rest.after(bits);
         element += 1;
     }
 }

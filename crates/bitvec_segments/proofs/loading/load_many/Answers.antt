@@ -29,10 +29,10 @@ overflow_add-number g c =
     let some = width_some _ g.met.C.Elem.BitStore.width_law in
     let part : c.first_part-part.result ≡ first_part_of b rest = c.first_part-part.ensures ∙ ap (λ (n : ℕ). first_part_of n rest) c.BITS-bits.ensures in
     let number = rw (part, inv.reads.numbers) at c.part_number.ensures.value in
-    let next = Loaded-next _ _ _ at _ window rest _ _ _ some more (c.len.ensures ∙ ap (λ (p : Part). p.to - p.from) part) c.requires.window inv.walk number inv.value in
+    let next = Loaded-next _ _ _ at _ window rest _ _ _ some more (c.len-len.ensures ∙ ap (λ (p : Part). p.to - p.from) part) c.requires.window inv.walk number inv.value in
     let fits = Loaded-fits _ _ _ at _ window _ _ c.requires.window c.requires.size next in
     let kept = (parts_kept _ _ fits).1 in
-    rw (c.lower_bits-below.ensures.bits, c.after-left.ensures, kept) (record { fits = fits })
+    rw (c.lower_bits-below.ensures.bits, kept) (record { fits = fits })
 
 pub loop-rest-preserved : goal.loop-rest-preserved
 loop-rest-preserved g c =
@@ -44,17 +44,16 @@ loop-rest-preserved g c =
     let rest = c.loop-rest.rest in
     let some = width_some _ g.met.C.Elem.BitStore.width_law in
     let part : c.first_part-part.result ≡ first_part_of b rest = c.first_part-part.ensures ∙ ap (λ (n : ℕ). first_part_of n rest) c.BITS-bits.ensures in
-    let step = c.len.ensures ∙ ap (λ (p : Part). p.to - p.from) part in
+    let step = c.len-len.ensures ∙ ap (λ (p : Part). p.to - p.from) part in
     let len = first-len b rest some more in
-    let each = touched-next b window rest c.len.result some more (omega arith) (omega arith) inv.walk in
+    let each = touched-next b window rest c.len-len.result some more (omega arith) (omega arith) inv.walk in
     let number = rw (part, inv.reads.numbers) at c.part_number.ensures.value in
     let next = Loaded-next _ _ _ at _ window rest _ _ _ some more step c.requires.window inv.walk number inv.value in
     let fits = Loaded-fits _ _ _ at _ window _ _ c.requires.window c.requires.size next in
     let kept = (parts_kept _ _ fits).1 in
-    let below = rw c.after-left.ensures at c.lower_bits-below.ensures.bits in
-    rw c.after-left.ensures (record {
+    rw c.after-rest.ensures (record {
       walk = Walked-next _ _ _ _ some more step inv.walk;
-      value = rw (below, kept) next;
+      value = rw (c.lower_bits-below.ensures.bits, kept) next;
       reads = record { numbers = c.part_number.ensures.reads.numbers ∙ inv.reads.numbers; borrow = c.part_number.ensures.reads.borrow ∙ inv.reads.borrow; loads = omega arith; stores = c.part_number.ensures.reads.stores ∙ inv.reads.stores };
     })
 

@@ -32,12 +32,12 @@ loop-rest-preserved g c =
     let rest = c.loop-rest.rest in
     let some = width_some _ g.met.C.Elem.BitStore.width_law in
     let part : c.first_part-part.result ≡ first_part_of b rest = c.first_part-part.ensures ∙ ap (λ (n : ℕ). first_part_of n rest) c.BITS-bits.ensures in
-    let step = c.len.ensures ∙ ap (λ (p : Part). p.to - p.from) part in
+    let step = c.len-len.ensures ∙ ap (λ (p : Part). p.to - p.from) part in
     let len = first-len b rest some more in
-    let edges = edge_loads-next b window rest c.len.result some more step inv.walk in
-    let each = touched-next b window rest c.len.result some more (omega arith) (omega arith) inv.walk in
-    let stored = rw (part, c.lower_bits-below.ensures.bits, c.after-left.ensures) at c.store_part_number.ensures in
-    rw c.after-left.ensures (record {
+    let edges = edge_loads-next b window rest c.len-len.result some more step inv.walk in
+    let each = touched-next b window rest c.len-len.result some more (omega arith) (omega arith) inv.walk in
+    let stored = rw (part, c.lower_bits-below.ensures.bits) at c.store_part_number.ensures in
+    rw c.after-rest.ensures (record {
       walk = Walked-next _ _ _ _ some more step inv.walk;
       writes = Writes-next _ _ _ _ _ window rest _ _ _ some more step c.requires.window inv.walk _ _ inv.writes inv.left stored.writes;
       left = Left-next _ _ _ _ _ window rest _ _ _ some more step c.requires.window inv.walk inv.left;

@@ -38,10 +38,10 @@ loop-rest-preserved g c =
     let part : c.whole_part-part.result ≡ first_part_of b rest = c.whole_part-part.ensures ∙ ap (λ (n : ℕ). first_part_of n rest) c.BITS-bits.ensures in
     let all : b ≤ rest.len = whole-some b rest.len more inv.whole in
     let step : b ≡ (first_part_of b rest).to - (first_part_of b rest).from = sym (min-eq_right all) ∙ edge-len b c.loop-rest.element rest some inv.edge in
-    let after : c.after-left.result ≡ window_after b rest = c.after-left.ensures ∙ ap (λ (n : ℕ). window_after n rest) c.BITS-bits.ensures in
+    let after : c.after-rest.result ≡ window_after b rest = c.after-rest.ensures ∙ ap (λ (n : ℕ). window_after n rest) c.BITS-bits.ensures in
     let edges = edge_loads-next b window rest b some more step inv.walk in
     let each = touched-next b window rest b some more (omega arith) (omega arith) inv.walk in
-    let stored = rw (part, c.lower_bits-below.ensures.bits, after) at c.store_part_number.ensures in
+    let stored = rw (part, c.lower_bits-below.ensures.bits, c.BITS-bits.ensures) at c.store_part_number.ensures in
     rw after (record {
       edge = omega arith;
       whole = whole-less b rest.len all inv.whole;
