@@ -1,4 +1,3 @@
-use Rattle.std.proofs.Common.{◌≡◌, ap, sym, length, ◌∙◌}
 use Rattle.bitvec.specs.Lists.{places_of}
 use Rattle.sieve.proofs.TextLaws.{count-primes, list-primes}
 use Rattle.sieve.proofs.print.print_form.Goals as goal

@@ -1,4 +1,4 @@
-use Rattle.std.proofs.Common.{◌≡◌, map, string_bytes, Global, ap, sym, arith}
+use Rattle.std.proofs.Common.{string_bytes, Global, sym, arith}
 use Rattle.std.proofs.lemmas.List.{length-map}
 use Rattle.sieve.specs.Requests.{request_of}
 use Rattle.sieve.proofs.RequestLaws.{request_of-other, three, two}
