@@ -1,0 +1,4 @@
+mod BitsLaws
+mod Divisors
+mod RequestLaws
+mod TextLaws

@@ -1,0 +1,4 @@
+pub mod Primes
+pub mod Requests
+pub mod Sieving
+pub mod Texts
