@@ -5,7 +5,7 @@
 set -euo pipefail
 cd "$(dirname "$0")/.."
 if [ $# = 0 ]; then
-  (cd crates/slots && rt run -- map show)
+  (cd crates/slots && rt run -- data/map show)
 fi
 program=$(realpath "${1:-crates/slots/out/slots}")
 folder=$(mktemp -d)
@@ -40,14 +40,15 @@ expect() {
 cp before map
 strace -f -o trace "$program" map take 3 > printed
 cmp -s map after || fail 'another map'
-sed -n 's/^[0-9]* *\([a-z0-9_]*\)(.*/\1/p' trace > calls
+sed -n 's/^[0-9]* *\([a-z0-9_]*\)(.*/\1/p' trace | grep -vx execve > calls
 kills=0 old=0 new=0 told=0
 for call in $(sort -u calls); do
   for number in $(seq "$(grep -cx "$call" calls)"); do
     cp before map
     rm -f map.new
     got=0
-    strace -f -o /dev/null -e inject="$call:signal=KILL:when=$number" "$program" map take 3 > printed 2> complaints || got=$?
+    { strace -f -o /dev/null -e inject="$call:signal=KILL:when=$number" "$program" map take 3 > printed || got=$?; } 2> /dev/null
+    [ $got = 137 ] || fail "not killed at $call $number: status $got"
     if cmp -s map before; then
       old=$((old + 1))
       [ ! -s printed ] || fail "killed at $call $number: told of places that aren't taken"
@@ -67,7 +68,12 @@ for call in $(sort -u calls); do
 done
 [ $old != 0 ] && [ $new != 0 ] || fail "the old map $old times, the new one $new times"
 echo "killed at each of $kills system calls: the old map $old times, the new one $new times, and told $told times"
-rm -f map.new
+cp before map
+got=0
+{ (ulimit -f 2; exec "$program" map take 3) > printed || got=$?; } 2> /dev/null
+[ $got = 153 ] && [ ! -s printed ] && cmp -s map before && [ "$(stat -c %s map.new)" = 2048 ] || fail "killed in mid-write: status $got"
+"$program" map take 3 > printed && cmp -s map after || fail 'killed in mid-write: the next call failed'
+echo 'killed when half of the new map was written: the old map, and the next call goes on'
 
 # ---- files and streams that fail
 

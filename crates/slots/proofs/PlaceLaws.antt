@@ -8,11 +8,11 @@ use Rattle.std.proofs.lemmas.List.Elements.{All-get_or, All-from_get_or}
 use Rattle.std.proofs.lemmas.List.Sums.{AllPass-from_list_all, list_all-from_AllPass}
 use Rattle.std.proofs.Math.Logic.{⊎_elim}
 use Rattle.bitvec.specs.Indices.{HasRange}
-use Rattle.bitvec.specs.Lists.{first_place, last_place}
+use Rattle.bitvec.specs.Lists.{last_place}
 use Rattle.bitvec.specs.Pieces.{range_of}
-use Rattle.bitvec.specs.PlacesLaws.{first_place-absent, first_place-before, first_place-below, first_place-bit, last_place-absent, last_place-below, last_place-bit}
+use Rattle.bitvec.specs.PlacesLaws.{last_place-absent, last_place-below, last_place-bit}
 use Rattle.bitvec.specs.WriteLaws.{get-slice_range, length-slice_range}
-use Rattle.slots.specs.Places.{HasNoFit, HasNoFitBefore, Holds, IsFirstFit, IsFree, IsTaken}
+use Rattle.slots.specs.Places.{HasNoFit, HasNoFitBefore, IsFree, IsTaken}
 
 pub only_false : (bit : Bool) → bit ≢ true → bit ≡ false
 only_false true h = absurd (h refl)

@@ -1,5 +1,5 @@
 -- The runs of taken places, as searches find them.
-use Rattle.std.proofs.Common.{◌≡◌, ◌≢◌, ℕ, ◌+◌, ◌-◌, ◌<◌, ◌≤◌, Bool, true, false, List, [], ◌∷◌, ◌++◌, length, Option, Some, None, refl, sym, ap, subst, ◌∙◌, arith, append-nil, append_assoc}
+use Rattle.std.proofs.Common.{◌≡◌, ◌≢◌, ℕ, ◌+◌, ◌-◌, ◌<◌, ◌≤◌, Bool, true, false, List, [], ◌∷◌, ◌++◌, length, Option, Some, None, sym, ap, subst, ◌∙◌, arith, append-nil, append_assoc}
 use Rattle.std.specs.Prelude.{slice_index_or, slice_range}
 use Rattle.std.specs.Io.KnownBytes.{Appends}
 use Rattle.std.proofs.KnownBytes.{Appends-nil, Appends-trans}
@@ -11,7 +11,7 @@ use Rattle.bitvec.specs.Lists.{first_place}
 use Rattle.bitvec.specs.Pieces.{range_of}
 use Rattle.bitvec.specs.PlacesLaws.{first_place-absent, first_place-before, first_place-below, first_place-bit}
 use Rattle.bitvec.specs.WriteLaws.{get-slice_range, length-slice_range}
-use Rattle.slots.specs.Places.{IsFree, IsTaken}
+use Rattle.slots.specs.Places.{IsFree}
 use Rattle.slots.specs.Runs.{AreRuns, IsNextRun, ShowsRuns, range_text}
 use Rattle.slots.proofs.PlaceLaws.{only_false, only_true, part-shows}
 

@@ -1,5 +1,5 @@
 -- The work on a map that is read and written as bytes, the lowest bit of the first byte being place 0.
-use Rattle.std.specs.Prelude.{◌≡◌, ℕ, ◌⊎◌, Bool, List, Option, IfSome}
+use Rattle.std.specs.Prelude.{◌≡◌, ℕ, ◌⊎◌, List, Option, IfSome}
 use Rattle.std.specs.Io.KnownBytes.{Appends}
 use Rattle.std.specs.declared.ops.Range.{Range}
 use Rattle.bitvec.specs.Arrays.{lsb0_bits}

@@ -1,4 +1,4 @@
-use Rattle.std.proofs.Common.{◌≡◌, ◌+◌, ◌<◌, Some, true, slice_range, sym, ap, ◌∙◌, arith}
+use Rattle.std.proofs.Common.{◌+◌, true, sym, ap, ◌∙◌, arith}
 use Rattle.bitvec.specs.Lists.{last_place}
 use Rattle.bitvec.specs.Views.{seen}
 use Rattle.slots.proofs.PlaceLaws.{fit-none, fit-past, free-part, last-within}

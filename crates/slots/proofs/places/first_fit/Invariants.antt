@@ -1,4 +1,4 @@
-use Rattle.std.proofs.Common.{◌-◌, ◌≤◌, length}
+use Rattle.std.proofs.Common.{◌-◌, ◌≤◌}
 use Rattle.bitvec.specs.Views.{seen}
 use Rattle.slots.specs.Places.{HasNoFitBefore}
 use Rattle.slots.proofs.places.first_fit.Given as goal

@@ -1,4 +1,4 @@
-use Rattle.std.proofs.Common.{◌≡◌, ◌≤◌, Bool, List, length, subst, arith}
+use Rattle.std.proofs.Common.{◌≡◌, Bool, List, length, subst, arith}
 use Rattle.bitvec.specs.Laws.{lengths}
 use Rattle.bitvec.specs.Views.{seen, seen_mut}
 use Rattle.slots.specs.Places.{HasNoFit, IsFirstFit}

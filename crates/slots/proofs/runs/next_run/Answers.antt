@@ -1,4 +1,4 @@
-use Rattle.std.proofs.Common.{◌+◌, true, false, length, sym, ap, ◌∙◌, arith}
+use Rattle.std.proofs.Common.{◌+◌, true, false, sym, ap, ◌∙◌, arith}
 use Rattle.bitvec.specs.Lists.{first_place}
 use Rattle.bitvec.specs.Views.{seen}
 use Rattle.slots.proofs.RunLaws.{first-taken, first-within, free-before, free-rest, run-to_end, run-to_free}
