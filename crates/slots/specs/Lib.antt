@@ -1,0 +1,5 @@
+pub mod Changes
+pub mod Faults
+pub mod Places
+pub mod Runs
+pub mod Work
