@@ -2,7 +2,9 @@ pub mod AssignmentLaws
 pub mod ByteLaws
 pub mod ChangeLaws
 pub mod DigitLaws
+pub mod EndLaws
 pub mod FieldLaws
+pub mod HeaderLaws
 pub mod PlaceLaws
 pub mod SumLaws
 pub mod WordLaws

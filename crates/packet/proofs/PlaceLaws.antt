@@ -1,17 +1,20 @@
 -- Places of fields, and values that fit them.
-use Rattle.std.proofs.Common.{◌≡◌, ℕ, ◌+◌, ◌^◌, ◌<◌, ◌≤◌, Bool, true, false, cond, not, List, [], ◌∷◌, get_or, length, map, Some, None, refl, sym, ap, ◌∙◌, arith}
+use Rattle.std.proofs.Common.{◌≡◌, ℕ, ◌+◌, ◌^◌, ◌<◌, ◌≤◌, Bool, true, cond, not, List, [], ◌∷◌, ◌++◌, get_or, length, map, Some, refl, sym, ap, subst, ◌∙◌, arith, below_more}
 use Rattle.std.specs.Prelude.{All, nat_lt, position}
 use Rattle.std.specs.List.{list_all, position_or_len}
 use Rattle.std.specs.Str.{bytes_eq}
 use Rattle.std.proofs.Math.Pow.{pow_mono}
 use Rattle.std.proofs.lemmas.Bool.Decides.{nat_tests}
-use Rattle.std.proofs.lemmas.List.{get_or-map, length-map}
+use Rattle.std.proofs.lemmas.List.{get_or-map, get_or_append_left, get_or_default, get_or_push, length-map}
 use Rattle.std.proofs.lemmas.List.Quantifiers.{position-Some}
 use Rattle.std.proofs.lemmas.List.Sums.{AllPass-from_list_all}
 use Rattle.bitrecord.specs.Layouts.{field_at, no_field}
 use Rattle.bitvec.specs.Types.{Window}
 use Rattle.packet.specs.Packets.{Place, place, places_of, windows_of}
-use Rattle.packet.specs.Resolved.{place_of}
+use Rattle.packet.specs.Arguments.{Named}
+use Rattle.packet.specs.Changes.{CanChange}
+use Rattle.packet.specs.Resolved.{AreChanges, IsChange, asked_at, place_of}
+use Rattle.packet.specs.declared.changes.Change.{Change}
 use Rattle.packet.specs.declared.field.Field.{Field}
 
 below-true : (m n : ℕ) → nat_lt m n ≡ true → m < n
@@ -46,3 +49,23 @@ pub window-at : (fields : List Field) (n : ℕ) (d : Field) → n < length field
 window-at fields n d low =
     get_or-map (λ (field : Place). field.window) (places_of fields) n (place d) no_field (omega (arith, length-map fields place))
     ∙ ap (λ (field : Place). field.window) (get_or-map place fields n d (place d) low)
+
+-- the windows of fields and of their places
+pub windows-of : (fields : List Field) → windows_of (places_of fields) ≡ map (λ (field : Field). field.window) fields
+windows-of [] = refl
+windows-of (field ∷ fields) = ap (λ (l : List Window). field.window ∷ l) (windows-of fields)
+
+-- one more change
+pub each-change : (fields : List Place) (list : List Named) (changes : List Change) (change : Change) (n : ℕ) → length changes ≡ n
+    → ((k : ℕ) → k < n → IsChange fields (asked_at list k) (get_or changes k (record { number = 0; value = 0 }))) → IsChange fields (asked_at list n) change
+    → (k : ℕ) → k < n + 1 → IsChange fields (asked_at list k) (get_or (changes ++ change ∷ []) k (record { number = 0; value = 0 }))
+each-change fields list changes change n long before here =
+    below_more (λ (k : ℕ). IsChange fields (asked_at list k) (get_or (changes ++ change ∷ []) k (record { number = 0; value = 0 }))) n
+    (λ k low. subst (IsChange fields (asked_at list k)) (sym (get_or_append_left changes (change ∷ []) (record { number = 0; value = 0 }) k (omega arith))) (before k low))
+    (subst (IsChange fields (asked_at list n)) (sym (get_or_push changes change (record { number = 0; value = 0 }) n long)) here)
+
+-- changes that can be made
+pub all-can : (fields : List Place) (list : List Named) (changes : List Change) → AreChanges fields list changes → All (CanChange (windows_of fields)) changes
+all-can fields list changes are k d low =
+    let count = are.count in
+    subst (CanChange (windows_of fields)) (get_or_default changes k (record { number = 0; value = 0 }) d low) (are.each k (omega arith)).can

@@ -1,5 +1,5 @@
 -- What the program does: words and an input in, a status and a text out.
-use Rattle.std.specs.Prelude.{◌≡◌, ℕ, ◌⊎◌, List, Option}
+use Rattle.std.specs.Prelude.{◌≡◌, ℕ, ◌<◌, ◌≤◌, ◌⊎◌, List, [], length, Option}
 use Rattle.std.specs.Io.KnownBytes.{Appends, Consumes, IsAtEnd}
 use Rattle.packet.specs.Arguments.{AreAssignments, Named}
 use Rattle.packet.specs.Changes.{SetsFields}
@@ -70,25 +70,32 @@ pub record PrintsFields (old new before after : Option (List ℕ)) : Type 0 wher
 
 -- a packet was read, the assigned fields were set, and its digits printed
 pub record PrintsPacket (list : List Named) (old new before after : Option (List ℕ)) : Type 0 where
-  pub bytes : List ℕ
-  pub made : IsChanged list old new bytes
-  pub printed : Appends before after (packet_text bytes)
+  pub made : List ℕ
+  pub changed : IsChanged list old new made
+  pub printed : Appends before after (packet_text made)
 
--- as the words ask for: assignments, of which there are some
-pub record PrintsChanged (words : List (List ℕ)) (old new before after : Option (List ℕ)) : Type 0 where
+-- nothing was printed but the line of a fault that comes, and the status is the fault's
+pub record PrintsFault (comes : Fault → Type 0) (before after : Option (List ℕ)) (status : ℕ) : Type 0 where
+  pub fault : Fault
+  pub came : comes fault
+  pub status_is : status ≡ status_of fault
+  pub printed : Appends before after (line_of (fault_text fault))
+
+-- with status 0 it was printed, with 2 and 3 a fault that comes, and with 1 the output failed
+pub record Ends (prints : Type 0) (comes : Fault → Type 0) (before after : Option (List ℕ)) (status : ℕ) : Type 0 where
+  pub known : status ≤ 3
+  pub printed : status ≡ 0 → prints
+  pub fault : 2 ≤ status → PrintsFault comes before after status
+
+-- the same of the words: they ask for no change, or for the assignments
+pub record PrintsAsked (words : List (List ℕ)) (old new before after : Option (List ℕ)) : Type 0 where
   pub list : List Named
   pub asked : AreAssignments words list
-  pub printed : PrintsPacket list old new before after
+  pub fields : list ≡ [] → PrintsFields old new before after
+  pub packet : 0 < length list → PrintsPacket list old new before after
 
--- the words are no assignments; or they are, and no packet is made
+-- the words are no assignments; or they are, and no packet is made; or memory is refused
 abbrev pub HasFault : List (List ℕ) → Option (List ℕ) → Option (List ℕ) → Fault → Type 0
 HasFault words old new fault =
     (fault ≡ Memory) ⊎ (((fault ≡ Arguments) × ((list : List Named) → AreAssignments words list → ⊥))
     ⊎ ((list : List Named) × AreAssignments words list × PacketFault list old new fault))
-
--- nothing was printed but the line of such a fault, and the status is the fault's
-pub record PrintsFault (words : List (List ℕ)) (old new before after : Option (List ℕ)) (status : ℕ) : Type 0 where
-  pub fault : Fault
-  pub comes : HasFault words old new fault
-  pub status_is : status ≡ status_of fault
-  pub printed : Appends before after (line_of (fault_text fault))

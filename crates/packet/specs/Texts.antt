@@ -16,10 +16,10 @@ field_line field number = line_of (field.name ++ codes " " ++ decimal field.wind
 abbrev pub field_text : List ℕ → Place → List ℕ
 field_text bytes field = field_line field (number_at bytes field.window)
 
--- whether the checksum is right
-abbrev pub verdict_text : List ℕ → List ℕ
-verdict_text bytes = line_of (codes "checksum " ++ (if nat_eq (sum_words (numbers_at bytes (header_windows bytes))) 65535 then codes "right" else codes "wrong"))
+-- whether the checksum is right, by the sum of the words
+abbrev pub verdict_text : ℕ → List ℕ
+verdict_text sum = line_of (codes "checksum " ++ (if nat_eq sum 65535 then codes "right" else codes "wrong"))
 
 -- all fields, in their order, and the verdict
-abbrev pub fields_text : List ℕ → List ℕ
-fields_text bytes = flat_map (field_text bytes) (packet_fields bytes) ++ verdict_text bytes
+unfoldable pub fields_text : List ℕ → List ℕ
+fields_text bytes = flat_map (field_text bytes) (packet_fields bytes) ++ verdict_text (sum_words (numbers_at bytes (header_windows bytes)))

@@ -2,10 +2,12 @@
 ghost use Rattle.std.specs.Prelude.{◌≡◌, ◌*◌, ◌^◌, ◌<◌, ◌≤◌, ◌⊎◌, ◌++◌, All, IfErr, IfOk, OnOk, length, map};
 ghost use Rattle.bitrecord.specs.Layouts.{IsLayout, field_at};
 ghost use Rattle.bitrecord.specs.Views.{bits_of, fields_of};
-ghost use Rattle.packet.specs.Packets.{HeaderFault, IsHeader, IsLayoutOf, IsShape, fields_by, number_at, placed_all, places_of, protocol_rows, row, windows_of, word_windows};
+ghost use Rattle.packet.specs.Packets.{HeaderFault, IsHeader, IsLayoutOf, IsShape, fields_by, internet_fields, number_at, placed_all, places_of, protocol_rows, row, windows_of, word_windows};
 
 use crate::fault::Fault;
-use crate::field::{DATAGRAM, Field, HEADER_LENGTH, INTERNET, PROTOCOL, Row, TRANSMISSION, VERSION};
+use crate::field::{
+    DATAGRAM, Field, HEADER_LENGTH, INTERNET, PROTOCOL, Row, TRANSMISSION, VERSION,
+};
 use bitrecord::bits::{BitSlice, Msb0, Window};
 use bitrecord::{Endian, Layout, LayoutError, decode_one};
 use std::alloc::Allocator;
@@ -20,11 +22,7 @@ pub struct Header<A: Allocator> {
 }
 
 /// The layout of windows of a packet. Condition: it has at most 65,535 bytes.
-fn make_layout<A: Allocator>(
-    alloc: A,
-    bytes: &[u8],
-    windows: &[Window],
-) -> Result<Layout<A>, Fault>
+fn make_layout<A: Allocator>(alloc: A, bytes: &[u8], windows: &[Window]) -> Result<Layout<A>, Fault>
     requires { length bytes.now ≤ 65535 }
     ensures layout { IfOk result (IsLayoutOf bytes.now windows.now) }
     ensures fault { IfErr result (λ fault. (fault ≡ Fault.Memory) ⊎ ((fault ≡ Fault.Truncated) × (IsLayout (8 * length bytes.now) windows.now → ⊥))) }
@@ -34,6 +32,15 @@ fn make_layout<A: Allocator>(
         Err(LayoutError::Memory) => Err(Fault::Memory),
         Err(_) => Err(Fault::Truncated),
     }
+}
+
+/// The windows of fields.
+fn list_windows<A: Allocator>(alloc: A, fields: &[Field]) -> Result<Vec<Window, A>, Fault>
+    ensures windows { IfOk result (λ windows. windows.items ≡ map (λ field. field.window) fields.now) }
+    ensures fault { IfErr result (λ fault. fault ≡ Fault.Memory) }
+{
+    let windows: Vec<Window, A> = fields.iter().map(|field| field.window).collect(alloc)?;
+    Ok(windows)
 }
 
 /// The layout of fields of a packet. Condition: it has at most 65,535 bytes.
@@ -46,7 +53,7 @@ fn layout_of<A: Allocator + Copy>(
     ensures layout { IfOk result (IsLayoutOf bytes.now (windows_of (places_of fields.now))) }
     ensures fault { IfErr result (λ fault. (fault ≡ Fault.Memory) ⊎ ((fault ≡ Fault.Truncated) × (IsLayout (8 * length bytes.now) (windows_of (places_of fields.now)) → ⊥))) }
 {
-    let windows: Vec<Window, A> = fields.iter().map(|field| field.window).collect(alloc)?;
+    let windows = list_windows(alloc, fields)?;
     make_layout(alloc, bytes, windows.as_slice())
 }
 
@@ -124,6 +131,16 @@ fn push_fields<A: Allocator>(
     Ok(())
 }
 
+/// The fields of the first header.
+fn list_internet<A: Allocator>(alloc: A) -> Result<Vec<Field, A>, Fault>
+    ensures fields { IfOk result (λ fields. places_of fields.items ≡ internet_fields) }
+    ensures fault { IfErr result (λ fault. fault ≡ Fault.Memory) }
+{
+    let mut fields = Vec::new(alloc);
+    push_fields(&mut fields, &INTERNET, 0)?;
+    Ok(fields)
+}
+
 /// How many words of 32 bits the first header has, and the protocol of the next. Condition: the packet
 /// has at most 65,535 bytes.
 fn read_shape<A: Allocator + Copy>(alloc: A, bytes: &[u8]) -> Result<(usize, u128), Fault>
@@ -131,8 +148,7 @@ fn read_shape<A: Allocator + Copy>(alloc: A, bytes: &[u8]) -> Result<(usize, u12
     ensures shape { IfOk result (λ shape. IsShape bytes.now shape.0 shape.1) }
     ensures fault { IfErr result (HeaderFault bytes.now) }
 {
-    let mut fields = Vec::new(alloc);
-    push_fields(&mut fields, &INTERNET, 0)?;
+    let fields = list_internet(alloc)?;
     let layout = layout_of(alloc, bytes, fields.as_slice())?;
     if read_field(&layout, bytes, VERSION) != 4 {
         return Err(Fault::Version);
@@ -155,8 +171,7 @@ fn list_fields<A: Allocator>(
     ensures fields { IfOk result (λ fields. places_of fields.items ≡ fields_by length protocol) }
     ensures fault { IfErr result (λ fault. fault ≡ Fault.Memory) }
 {
-    let mut fields = Vec::new(alloc);
-    push_fields(&mut fields, &INTERNET, 0)?;
+    let mut fields = list_internet(alloc)?;
     push_fields(&mut fields, transport(protocol), 32 * length)?;
     Ok(fields)
 }

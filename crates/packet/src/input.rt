@@ -10,7 +10,10 @@ use std::io::{ErrorKind, Read};
 const CHUNK: usize = 1024;
 
 /// All bytes of the input. A fault of the reader, whatever its kind, isn't want of memory.
-pub(crate) fn read_bytes<R: Read, A: Allocator>(alloc: A, input: &mut R) -> Result<Vec<u8, A>, Fault>
+pub(crate) fn read_bytes<R: Read, A: Allocator>(
+    alloc: A,
+    input: &mut R,
+) -> Result<Vec<u8, A>, Fault>
     ensures bytes { IfOk result (λ bytes.
         Consumes (R.remaining input.old) (R.remaining input.new) bytes.items) }
     ensures end { OnOk result (IsAtEnd (R.remaining input.new)) }

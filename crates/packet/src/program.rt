@@ -1,12 +1,9 @@
 //! The whole program, but for what a process is.
-ghost use Rattle.std.specs.Prelude.{◌≡◌, ◌≢◌, ◌≤◌, ◌⊎◌, ◌<◌, IfErr, IfOk, OnOk, [], length, map, string_bytes};
+ghost use Rattle.std.specs.Prelude.{◌≡◌, ◌⊎◌, IfErr, IfOk, map, string_bytes};
 ghost use Rattle.std.specs.Io.KnownBytes.{Appends};
 ghost use Rattle.packet.specs.Arguments.{named};
-ghost use Rattle.packet.specs.Changes.{SetsFields};
 ghost use Rattle.packet.specs.Faults.{fault_text, status_of};
-ghost use Rattle.packet.specs.Packets.{header_windows, packet_fields, packet_windows};
-ghost use Rattle.packet.specs.Program.{HasHeaderFault, HasTextFault, IsChanged, IsRead, PacketFault, PrintsChanged, PrintsFault, PrintsFields, PrintsPacket, ReadFault};
-ghost use Rattle.packet.specs.Resolved.{ChangesFault};
+ghost use Rattle.packet.specs.Program.{Ends, HasFault, IsChanged, IsRead, PacketFault, PrintsAsked, PrintsFields, PrintsPacket, ReadFault};
 ghost use Rattle.packet.specs.Texts.{line_of};
 
 use crate::arguments::{Assignment, parse_arguments};
@@ -73,7 +70,10 @@ fn report<W: Write>(output: &mut W, fault: Fault) -> u8
 }
 
 /// Prints the fields of the packet of the input. The result is the status.
-fn show<A: Allocator + Copy, R: Read, W: Write>(alloc: A, input: &mut R, output: &mut W) -> u8 {
+fn show<A: Allocator + Copy, R: Read, W: Write>(alloc: A, input: &mut R, output: &mut W) -> u8
+    ensures { Ends (PrintsFields (R.remaining input.old) (R.remaining input.new) (W.contents output.old) (W.contents output.new))
+        (ReadFault (R.remaining input.old) (R.remaining input.new)) (W.contents output.old) (W.contents output.new) result }
+{
     match read_packet(alloc, input) {
         Ok(packet) => match print_fields(output, &packet.header, packet.bytes.as_slice()) {
             Ok(()) => 0,
@@ -89,7 +89,11 @@ fn change<A: Allocator + Copy, R: Read, W: Write>(
     assignments: &[Assignment<'_>],
     input: &mut R,
     output: &mut W,
-) -> u8 {
+) -> u8
+    ensures { let list = map named assignments.now in
+        Ends (PrintsPacket list (R.remaining input.old) (R.remaining input.new) (W.contents output.old) (W.contents output.new))
+        (PacketFault list (R.remaining input.old) (R.remaining input.new)) (W.contents output.old) (W.contents output.new) result }
+{
     match change_packet(alloc, assignments, input) {
         Ok(bytes) => match print_packet(output, bytes.as_slice()) {
             Ok(()) => 0,
@@ -109,10 +113,16 @@ pub fn work<A: Allocator + Copy, R: Read, W: Write>(
     words: &[String],
     input: &mut R,
     output: &mut W,
-) -> u8 {
-    match parse_arguments(alloc, words) {
-        Ok(assignments) if assignments.is_empty() => show(alloc, input, output),
-        Ok(assignments) => change(alloc, assignments.as_slice(), input, output),
-        Err(fault) => report(output, fault),
+) -> u8
+    ensures { Ends (PrintsAsked (map string_bytes words.now) (R.remaining input.old) (R.remaining input.new) (W.contents output.old) (W.contents output.new))
+        (HasFault (map string_bytes words.now) (R.remaining input.old) (R.remaining input.new)) (W.contents output.old) (W.contents output.new) result }
+{
+    let assignments = match parse_arguments(alloc, words) {
+        Ok(assignments) => assignments,
+        Err(fault) => return report(output, fault),
+    };
+    if assignments.is_empty() {
+        return show(alloc, input, output);
     }
+    change(alloc, assignments.as_slice(), input, output)
 }

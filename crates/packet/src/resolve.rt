@@ -14,7 +14,10 @@ use std::alloc::Allocator;
 fn fits(value: u128, len: usize) -> bool
     ensures { IsTrue result ↔ value < 2 ^ len }
 {
-    len >= 128 || value < 1u128 << (len as u32)
+    if len >= 128 {
+        return true;
+    }
+    value < 1u128 << (len as u32)
 }
 
 /// Whether the field of a number can't be set: it says where others lie, or is computed.
@@ -32,11 +35,7 @@ fn find_field(fields: &[Field], name: &str) -> Option<usize>
 }
 
 /// The change of an assignment, whose index is told from 0 on.
-fn resolve_one(
-    fields: &[Field],
-    assignment: Assignment<'_>,
-    index: usize,
-) -> Result<Change, Fault>
+fn resolve_one(fields: &[Field], assignment: Assignment<'_>, index: usize) -> Result<Change, Fault>
     requires { index + 1 < 2 ^ 64 }
     ensures change { IfOk result (IsChange (places_of fields.now) (named assignment.entry)) }
     ensures fault { IfErr result (ChangeFault (places_of fields.now) (named assignment.entry) (index + 1)) }

@@ -13,8 +13,7 @@ const OPENING: &str = "45 00 00 30 0f 41 40 00 80 06 91 eb 91 fe a0 ed 41 d0 e4 
 0d 2c 00 50 38 af fe 13 00 00 00 00 70 02 22 38 c3 0c 00 00 02 04 05 b4 01 01 04 02\n";
 
 /// The reply behind four bytes of options.
-const OPTIONS: &str =
-    "46000077000040004011b55cc0a80001c0a800c7010101000035e97c005f279f";
+const OPTIONS: &str = "46000077000040004011b55cc0a80001c0a800c7010101000035e97c005f279f";
 
 /// What is printed of the reply.
 const REPLY_TEXT: &str = "ip.version 0 4 4
@@ -107,7 +106,11 @@ fn expect<R: Abort + AllocGlobal>(
     let mut bytes = input.as_bytes();
     let mut output = Vec::new(rt.alloc());
     let got = work(rt.alloc(), words.as_slice(), &mut bytes, &mut output);
-    assert_eq!(rt; str::from_utf8(output.as_slice())?, printed, "on {args:?} and {input:?}");
+    assert_eq!(rt;
+        str::from_utf8(output.as_slice())?,
+        printed,
+        "on {args:?} and {input:?}"
+    );
     assert_eq!(rt; got, ended, "on {args:?} and {input:?}");
     Ok(())
 }
@@ -166,16 +169,48 @@ fn what_is_wrong_is_one_line(rt: HostRuntime) -> Result<(), Fail> {
         ("", "4500 0g73", "bad digit\n"),
         ("", "4500 007", "odd number of digits\n"),
         ("", "", "packet truncated\n"),
-        ("", "4500 0073 0000 4000 4011 b861 c0a8 0001 c0a8 00", "packet truncated\n"),
-        ("", "4500 0073 0000 4000 4011 b861 c0a8 0001 c0a8 00c7 0035 e97c 005f 27", "packet truncated\n"),
-        ("", "4600 0073 0000 4000 4001 b861 c0a8 0001 c0a8 00c7", "packet truncated\n"),
-        ("", "6500 0073 0000 4000 4011 b861 c0a8 0001 c0a8 00c7", "version is not 4\n"),
-        ("", "4400 0073 0000 4000 4011 b861 c0a8 0001 c0a8 00c7", "header length below 5\n"),
+        (
+            "",
+            "4500 0073 0000 4000 4011 b861 c0a8 0001 c0a8 00",
+            "packet truncated\n",
+        ),
+        (
+            "",
+            "4500 0073 0000 4000 4011 b861 c0a8 0001 c0a8 00c7 0035 e97c 005f 27",
+            "packet truncated\n",
+        ),
+        (
+            "",
+            "4600 0073 0000 4000 4001 b861 c0a8 0001 c0a8 00c7",
+            "packet truncated\n",
+        ),
+        (
+            "",
+            "6500 0073 0000 4000 4011 b861 c0a8 0001 c0a8 00c7",
+            "version is not 4\n",
+        ),
+        (
+            "",
+            "4400 0073 0000 4000 4011 b861 c0a8 0001 c0a8 00c7",
+            "header length below 5\n",
+        ),
         ("--set tcp.window=1", REPLY, "change 1: no such field\n"),
-        ("--set ip.flags=7 --set ip.header_checksum=1", REPLY, "change 2: field can't be set\n"),
-        ("--set ip.header_length=5", REPLY, "change 1: field can't be set\n"),
+        (
+            "--set ip.flags=7 --set ip.header_checksum=1",
+            REPLY,
+            "change 2: field can't be set\n",
+        ),
+        (
+            "--set ip.header_length=5",
+            REPLY,
+            "change 1: field can't be set\n",
+        ),
         ("--set ip.flags=8", REPLY, "change 1: value too large\n"),
-        ("--set ip.time_to_live=0x100", REPLY, "change 1: value too large\n"),
+        (
+            "--set ip.time_to_live=0x100",
+            REPLY,
+            "change 1: value too large\n",
+        ),
     ] {
         expect(&rt, args, input, 2, printed)?;
     }
