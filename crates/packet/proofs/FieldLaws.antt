@@ -1,0 +1,73 @@
+-- One field of a list of bits written: what the numbers of all fields are then.
+use Rattle.std.specs.Prelude.{◌≡◌, ℕ, ◌+◌, ◌^◌, ◌<◌, ◌≤◌, ◌⊎◌, Bool, List, length, slice_index_or, slice_set, refl}
+use Rattle.std.proofs.Common.{arith, sym, ◌∙◌, ap, inl, inr, ⊎_elim}
+use Rattle.std.proofs.lemmas.List.{get_or-map, get_or-set_other, get_or-set_same, get_or_default, length-map, length-set, same_lists}
+use Rattle.bitvec.specs.Types.{Window}
+use Rattle.bitvec.specs.Window.{IsWithin, window_of}
+use Rattle.bitvec.specs.WindowLaws.{get-window, length-window}
+use Rattle.bitrecord.specs.Layouts.{AreApart, IsLayout, Overlap, field_at, no_field}
+use Rattle.bitrecord.specs.RecordLaws.{number-fits}
+use Rattle.bitrecord.specs.Records.{IsBeside, number_in, number_of, record_in}
+use Rattle.bitrecord.specs.declared.endian.Endian.{Endian}
+
+less_or_not : (m n : ℕ) → (m < n) ⊎ (n ≤ m)
+less_or_not m n = grind arith
+
+three_ways : (k n : ℕ) → (k < n) ⊎ ((k ≡ n) ⊎ (n < k))
+three_ways k n = grind arith
+
+same-or-not : (k n : ℕ) → (k ≡ n) ⊎ (k ≡ n → ⊥)
+same-or-not k n = grind arith
+
+-- of two fields that are apart one ends before the other begins
+apart-sides : (x y : Window) → AreApart x y → (x.start + x.len ≤ y.start) ⊎ (y.start + y.len ≤ x.start)
+apart-sides x y apart =
+    ⊎_elim (λ (front : y.start < x.start + x.len).
+    ⊎_elim (λ (behind : x.start < y.start + y.len). absurd (apart (record { first = front; second = behind })))
+    (λ (ends : y.start + y.len ≤ x.start). inr ends) (less_or_not x.start (y.start + y.len)))
+    (λ (ends : x.start + x.len ≤ y.start). inl ends) (less_or_not y.start (x.start + x.len))
+
+beside-side : (other field : Window) (i : ℕ) → i < other.len → (other.start + other.len ≤ field.start) ⊎ (field.start + field.len ≤ other.start) → IsBeside field (other.start + i)
+beside-side other field i low sides =
+    ⊎_elim (λ (front : other.start + other.len ≤ field.start). inl (omega arith)) (λ (behind : field.start + field.len ≤ other.start). inr (omega arith)) sides
+
+-- a window apart from that which was written has the bits that it had
+pub window-kept : (before after : List Bool) (field other : Window) → AreApart other field → IsWithin other (length before) → IsWithin other (length after)
+    → ((place : ℕ) (d : Bool) → IsBeside field place → slice_index_or after place d ≡ slice_index_or before place d) → window_of after other ≡ window_of before other
+window-kept before after field other apart inside also kept =
+    let old = length-window before other inside in
+    let new = length-window after other also in
+    same_lists _ _ (omega arith) (λ i d low.
+    let inner : i < other.len = omega arith in
+    get-window after other i d inner ∙ kept (other.start + i) d (beside-side other field i inner (apart-sides other field apart)) ∙ sym (get-window before other i d inner))
+
+apart-from : (bits : ℕ) (fields : List Window) (k n : ℕ) → IsLayout bits fields → k < length fields → n < length fields → (k ≡ n → ⊥) → AreApart (field_at fields k) (field_at fields n)
+apart-from bits fields k n layout low below other =
+    ⊎_elim (λ (less : k < n). layout.apart k low n (omega arith) below)
+    (λ (not : (k ≡ n) ⊎ (n < k)). ⊎_elim (λ (same : k ≡ n). absurd (other same))
+    (λ (more : n < k). λ over. layout.apart n below k (omega arith) low (record { first = over.second; second = over.first })) not) (three_ways k n)
+
+-- the numbers of all fields where one has a number and the bits beside it are as before
+module _ (endian : Endian) (high : Bool) (b s : ℕ) where
+  pub numbers-set : (bits n value : ℕ) (fields : List Window) (before after : List Bool) → IsLayout bits fields → length before ≡ bits → length after ≡ bits → n < length fields
+      → number_in endian high b s after (field_at fields n) ≡ value
+      → ((place : ℕ) (d : Bool) → IsBeside (field_at fields n) place → slice_index_or after place d ≡ slice_index_or before place d)
+      → record_in endian high b s after fields ≡ slice_set (record_in endian high b s before fields) n value
+  numbers-set bits n value fields before after layout long also below is kept =
+      let many = length-map fields (number_in endian high b s before) in
+      let more = length-map fields (number_in endian high b s after) in
+      let size = length-set (record_in endian high b s before fields) n value in
+      same_lists _ _ (omega arith) (λ k d low.
+      let few : k < length fields = omega arith in
+      get_or-map (number_in endian high b s after) fields k no_field d few
+      ∙ ⊎_elim (λ (same : k ≡ n). rw same (is ∙ sym (get_or-set_same (record_in endian high b s before fields) n value d (omega arith))))
+      (λ (other : k ≡ n → ⊥).
+      ap (number_of endian high b (s + (field_at fields k).start)) (window-kept before after (field_at fields n) (field_at fields k) (apart-from bits fields k n layout few below other)
+      (rw long (layout.inside k few)) (rw also (layout.inside k few)) kept)
+      ∙ sym (get_or-map (number_in endian high b s before) fields k no_field d few) ∙ sym (get_or-set_other (record_in endian high b s before fields) n k value d other)) (same-or-not k n))
+
+  -- a field's number has no more bits than the field
+  pub number-below : (bits n : ℕ) (fields : List Window) (list : List Bool) → IsLayout bits fields → length list ≡ bits → n < length fields
+      → number_in endian high b s list (field_at fields n) < 2 ^ (field_at fields n).len
+  number-below bits n fields list layout long below =
+      rw (length-window list (field_at fields n) (rw long (layout.inside n below))) at (number-fits endian high b (s + (field_at fields n).start) (window_of list (field_at fields n)))

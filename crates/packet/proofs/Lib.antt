@@ -1,0 +1,10 @@
+pub mod AssignmentLaws
+pub mod ByteLaws
+pub mod ChangeLaws
+pub mod DigitLaws
+pub mod EndLaws
+pub mod FieldLaws
+pub mod HeaderLaws
+pub mod PlaceLaws
+pub mod SumLaws
+pub mod WordLaws

@@ -1,0 +1,13 @@
+use Rattle.std.proofs.Common.{◌≡◌, ℕ, length, map, sym, ◌∙◌, arith, eqb-true}
+use Rattle.std.specs.Prelude.{string_bytes}
+use Rattle.std.proofs.lemmas.List.{length-map}
+use Rattle.packet.specs.Arguments.{named}
+use Rattle.packet.proofs.EndLaws.{ends-fields}
+use Rattle.packet.proofs.program.work.Goals as goal
+
+pub returns-then-is_empty : goal.returns-then-is_empty
+returns-then-is_empty g c =
+    let many = length-map c.in-Ok.assignments.items named in
+    let empty = eqb-true _ _ (sym c.is_empty.ensures ∙ c.if-is_empty.true) in
+    let none : length (map named c.in-Ok.assignments.items) ≡ 0 = omega arith in
+    ends-fields (map string_bytes c.args.words.now) (map named c.in-Ok.assignments.items) _ _ _ _ c.show.result c.in-Ok.ensures.assignments none c.show.ensures

@@ -1,0 +1,9 @@
+pub mod Arguments
+pub mod Changes
+pub mod Checksums
+pub mod Digits
+pub mod Faults
+pub mod Packets
+pub mod Program
+pub mod Resolved
+pub mod Texts

@@ -1,0 +1,84 @@
+//! The words after the program's name: assignments.
+ghost use Rattle.std.specs.Prelude.{◌≡◌, ◌<◌, ◌≤◌, ◌⊎◌, IfOk, IfErr, List, map, string_bytes};
+ghost use Rattle.std.specs.Char.{is_digit};
+ghost use Rattle.std.specs.List.{list_all};
+ghost use Rattle.std.specs.Option.{option_map};
+ghost use Rattle.packet.specs.Arguments.{AreAssignments, Named, assignment_of, named, number_of, value_of};
+
+use crate::fault::Fault;
+use std::alloc::Allocator;
+
+/// A field that is to have a value.
+#[derive(Clone, Copy)]
+pub struct Assignment<'a> {
+    /// The field's name.
+    pub name: &'a str,
+    /// The value.
+    pub value: u128,
+}
+
+/// Whether each byte is a digit. Condition: there are digits of the radix.
+fn has_digits(word: &str, radix: u32) -> bool
+    requires low { 2 ≤ radix }
+    requires high { radix ≤ 36 }
+    ensures { result ≡ list_all (λ byte. is_digit byte radix) word.now }
+{
+    word.bytes().all(|byte| (byte as char).is_digit(radix))
+}
+
+/// The number of a word of one or more digits. None, if the word is another one or its number has
+/// more than 128 bits. Condition: there are digits of the radix.
+fn parse_number(word: &str, radix: u32) -> Option<u128>
+    requires low { 2 ≤ radix }
+    requires high { radix ≤ 36 }
+    ensures { result ≡ number_of radix word.now }
+{
+    if !has_digits(word, radix) {
+        return None;
+    }
+    u128::from_str_radix(word, radix).ok()
+}
+
+/// The number of a word of decimal digits, or of hexadecimal ones behind `0x`.
+fn parse_value(word: &str) -> Option<u128>
+    ensures { result ≡ value_of word.now }
+{
+    match word.strip_prefix("0x") {
+        Some(digits) => parse_number(digits, 16),
+        None => parse_number(word, 10),
+    }
+}
+
+/// The assignment of a word `FIELD=VALUE`.
+fn parse_assignment(word: &str) -> Option<Assignment<'_>>
+    ensures { option_map named result ≡ assignment_of word.now }
+{
+    let (name, value) = word.split_once('=')?;
+    let value = parse_value(value)?;
+    Some(Assignment { name, value })
+}
+
+/// The assignments of words, each behind a word `--set`.
+pub(crate) fn parse_arguments<'a, A: Allocator>(
+    alloc: A,
+    words: &'a [String],
+) -> Result<Vec<Assignment<'a>, A>, Fault>
+    ensures assignments { IfOk result (λ list. AreAssignments (map string_bytes words.now) (map named list.items)) }
+    ensures fault { IfErr result (λ fault. (fault ≡ Fault.Memory) ⊎ ((fault ≡ Fault.Arguments)
+        × ((list : List Named) → AreAssignments (map string_bytes words.now) list → ⊥))) }
+{
+    let mut assignments = Vec::new(alloc);
+    if words.len() % 2 != 0 {
+        return Err(Fault::Arguments);
+    }
+    for number in 0..words.len() / 2 {
+        if words[2 * number].as_str() != "--set" {
+            return Err(Fault::Arguments);
+        }
+        match parse_assignment(words[2 * number + 1].as_str()) {
+            Some(assignment) => assignments.push(assignment)?,
+            None => return Err(Fault::Arguments),
+        }
+    }
+    Ok(assignments)
+}
