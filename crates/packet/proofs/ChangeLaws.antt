@@ -4,11 +4,7 @@ use Rattle.std.proofs.Common.{Err, Ok, arith, sym, ◌∙◌, ap, subst}
 use Rattle.std.specs.declared.result.Result.{Result}
 use Rattle.std.proofs.lemmas.List.{get_or_append_left, get_or_push, get_or-map, length-map, length_push, set-set}
 use Rattle.std.proofs.lemmas.List.Sums.{fold_push}
-use Rattle.bitvec.specs.SeenLaws.{length_bits}
-use Rattle.bitvec.specs.Types.{BitSliceMut, Order, Store, Window}
-use Rattle.bitvec.specs.Views.{seen_mut}
-use Rattle.bitvec.specs.Writes.{WritesBits}
-use Rattle.bitvec.specs.WritesLaws.{written-none, written-then}
+use Rattle.bitrecord.specs.bits.{BitSliceMut, Order, Store, Window, WritesBits, length_bits, seen_mut, written-none, written-then}
 use Rattle.bitrecord.specs.Layouts.{IsLayout, field_at, no_field}
 use Rattle.bitrecord.specs.Records.{IsBeside, WritesField, number_in, record_in}
 use Rattle.bitrecord.specs.declared.endian.Endian.TheVariants.{Big}

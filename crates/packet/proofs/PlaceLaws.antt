@@ -9,7 +9,7 @@ use Rattle.std.proofs.lemmas.List.{get_or-map, get_or_append_left, get_or_defaul
 use Rattle.std.proofs.lemmas.List.Quantifiers.{position-Some}
 use Rattle.std.proofs.lemmas.List.Sums.{AllPass-from_list_all}
 use Rattle.bitrecord.specs.Layouts.{field_at, no_field}
-use Rattle.bitvec.specs.Types.{Window}
+use Rattle.bitrecord.specs.bits.{Window}
 use Rattle.packet.specs.Packets.{Place, place, places_of, windows_of}
 use Rattle.packet.specs.Arguments.{Named}
 use Rattle.packet.specs.Changes.{CanChange}

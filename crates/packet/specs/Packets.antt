@@ -2,8 +2,7 @@
 use denote.Ref.{Bor}
 use Rattle.std.specs.Prelude.{◌≡◌, ◌≢◌, ℕ, ◌+◌, ◌*◌, ◌<◌, ◌≤◌, Bool, true, ◌==◌, if◌then◌else◌, List, [], ◌++◌, length, map}
 use Rattle.std.specs.List.{range_with_len}
-use Rattle.bitvec.specs.Arrays.{msb0_bits}
-use Rattle.bitvec.specs.Types.{Window}
+use Rattle.bitrecord.specs.bits.{Window, msb0_bits}
 use Rattle.bitrecord.specs.Layouts.{IsLayout, field_at}
 use Rattle.bitrecord.specs.Records.{number_in, record_in}
 use Rattle.bitrecord.specs.declared.endian.Endian.TheVariants.{Big}

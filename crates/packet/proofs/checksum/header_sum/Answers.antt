@@ -1,7 +1,6 @@
 use Rattle.std.proofs.Common.{◌≡◌, ◌<◌, length, sym, subst, ◌∙◌}
 use Rattle.std.specs.Prelude.{All}
-use Rattle.bitvec.specs.SeenLaws.{length_bits}
-use Rattle.bitvec.specs.Views.{seen}
+use Rattle.bitrecord.specs.bits.{length_bits, seen}
 use Rattle.bitrecord.specs.RecordLaws.{is-layout}
 use Rattle.bitrecord.specs.Views.{bits_of, fields_of}
 use Rattle.packet.proofs.ChangeLaws.{words-below}

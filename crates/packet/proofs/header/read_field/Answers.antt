@@ -1,6 +1,5 @@
 use Rattle.std.proofs.Common.{◌≡◌, ℕ, ◌^◌, ◌<◌, length, sym, subst, ◌∙◌, true}
-use Rattle.bitvec.specs.SeenLaws.{length_bits}
-use Rattle.bitvec.specs.Views.{seen}
+use Rattle.bitrecord.specs.bits.{length_bits, seen}
 use Rattle.bitrecord.specs.Layouts.{field_at}
 use Rattle.bitrecord.specs.RecordLaws.{is-layout}
 use Rattle.bitrecord.specs.Views.{bits_of, fields_of}

@@ -1,6 +1,6 @@
 use Rattle.std.proofs.Common.{◌≡◌, ◌^◌, ◌<◌, [], length, Some, refl, sym, subst, ◌∙◌, arith}
 use Rattle.std.proofs.lemmas.List.{length-map}
-use Rattle.bitvec.specs.Types.{Window}
+use Rattle.bitrecord.specs.bits.{Window}
 use Rattle.packet.specs.Packets.{Place, place, places_of}
 use Rattle.packet.specs.Resolved.{place_of}
 use Rattle.packet.specs.declared.field.Field.{Field}
