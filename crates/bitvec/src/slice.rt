@@ -1,4 +1,5 @@
 //! Views of bits, their indices, their walks and pieces, and the traits of their questions and edits.
+pub use bitvec_field::{Binary, LowerHex, Octal, UpperHex};
 pub use bitvec_iter::{
     Chunks, ChunksExact, ChunksExactMut, ChunksMut, Cutting, ExactCutting, HalvesMut, InChunks,
     InChunksFromEnd, InExactChunks, InExactChunksFromEnd, InWindows, IterCalls, IterMut,
@@ -20,4 +21,3 @@ pub use bitvec_split_edits::split::{
     SplitCalls, SplitCallsMut, SplitInclusive, SplitInclusiveMut, SplitMut, SplitN, SplitNMut,
     SplitWalk, Splits, SplitsMut, SplitsN, SplitsNMut, Way,
 };
-pub use bitvec_field::{Binary, LowerHex, Octal, UpperHex};

@@ -1,9 +1,9 @@
 //! What views and splits print.
 
+use bitvec_field::{Binary, LowerHex, Octal, UpperHex};
 use bitvec_owned::query::base::{Lsb0, Msb0};
 use bitvec_owned::query::slice::{BitSlice, BitSliceMut};
 use bitvec_split::{SplitCalls, SplitCallsMut};
-use bitvec_field::{Binary, LowerHex, Octal, UpperHex};
 use std::alloc::Global;
 use std::test::Fail;
 
