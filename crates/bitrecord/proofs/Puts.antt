@@ -1,7 +1,6 @@
 -- A field written into a view, and one field after the other.
 use Rattle.std.specs.Prelude.{◌≡◌, ℕ, ◌+◌, ◌%◌, ◌^◌, ◌<◌, ◌≤◌, ◌⊎◌, Bool, List, length, slice_index, slice_index_or, slice_range, refl}
-use Rattle.std.proofs.Common.{arith, sym, ◌∙◌, ap, ⊎_elim, inl, inr, subst}
-use Rattle.std.proofs.lemmas.List.{same_lists}
+use Rattle.std.proofs.Common.{arith, sym, ◌∙◌, ap, ⊎_elim, subst}
 use Rattle.std.proofs.Math.Nat.{mod-eq_of_lt, mod-mod}
 use Rattle.std.proofs.Math.Pow.{pow_mono}
 use Rattle.bitvec.specs.LoadLaws.{loaded_be-phase, loaded_le-phase}
@@ -11,20 +10,18 @@ use Rattle.bitvec.specs.StoreLaws.{length-stored_be, length-stored_le, stored_be
 use Rattle.bitvec.specs.Types.{BitSliceMut, Order, Store, Window}
 use Rattle.bitvec.specs.Views.{seen_mut}
 use Rattle.bitvec.specs.Window.{IsWithin, window_of, write_at}
-use Rattle.bitvec.specs.WindowLaws.{get-window, length-window, window-written}
+use Rattle.bitvec.specs.WindowLaws.{window-written}
 use Rattle.bitvec.specs.WriteLaws.{get-write_at_above, get-write_at_below, length-slice_range}
 use Rattle.bitvec.specs.Writes.{WritesBits}
 use Rattle.bitvec.specs.WritesLaws.{written-then}
+use Rattle.bitrecord.specs.FieldLaws.{window-kept}
 use Rattle.bitrecord.specs.Layouts.{AreApart, HasWidth, IsLayout, field_at}
-use Rattle.bitrecord.specs.Records.{Fits, IsBeside, WritesField, WritesFields, number_in, number_of}
+use Rattle.bitrecord.specs.Records.{Fits, WritesField, WritesFields, number_in, number_of}
 use Rattle.bitrecord.specs.declared.endian.Endian.{Endian}
 use Rattle.bitrecord.specs.declared.endian.Endian.TheVariants.{Big as big, Little as little}
 
 earlier_or_this : (k n : ℕ) → k < n + 1 → (k < n) ⊎ (k ≡ n)
 earlier_or_this k n low = grind arith
-
-less_or_not : (m n : ℕ) → (m < n) ⊎ (n ≤ m)
-less_or_not m n = grind arith
 
 below-more : (a m n : ℕ) → a < m → m ≤ n → a < n
 below-more a m n low most = omega arith
@@ -50,17 +47,6 @@ pub take-be : (high : Bool) (b s start : ℕ) (list part : List Bool) (field : W
 take-be high b s start list part field is place =
     loaded_be-phase high b start (s + field.start) part (ap (λ (n : ℕ). n % b) place ∙ mod-mod (s + field.start) b)
     ∙ ap (loaded_be high b (s + field.start)) (is ∙ sym (field-slice list field))
-
--- of two fields that are apart one ends before the other begins
-apart-sides : (x y : Window) → AreApart x y → (x.start + x.len ≤ y.start) ⊎ (y.start + y.len ≤ x.start)
-apart-sides x y apart =
-    ⊎_elim (λ (front : y.start < x.start + x.len).
-    ⊎_elim (λ (behind : x.start < y.start + y.len). absurd (apart (record { first = front; second = behind })))
-    (λ (ends : y.start + y.len ≤ x.start). inr ends) (less_or_not x.start (y.start + y.len)))
-    (λ (ends : x.start + x.len ≤ y.start). inl ends) (less_or_not y.start (x.start + x.len))
-
-beside-side : (other field : Window) (k : ℕ) → k < other.len → (other.start + other.len ≤ field.start) ⊎ (field.start + field.len ≤ other.start) → IsBeside field (other.start + k)
-beside-side other field k low sides = ⊎_elim (λ (front : other.start + other.len ≤ field.start). inl (omega arith)) (λ (behind : field.start + field.len ≤ other.start). inr (omega arith)) sides
 
 module _ {T O : Type 0} {t : Store T} {o : Order O} (high : Bool) (before after : BitSliceMut T O t o) where
   long : (v : BitSliceMut T O t o) → length (seen_mut v).bits ≡ (seen_mut v).window.len
@@ -117,14 +103,9 @@ module _ {T O : Type 0} {t : Store T} {o : Order O} (high : Bool) (before after 
       let now = long after ∙ ap (λ (w : Window). w.len) wrote.written.window in
       let start = inside.start in
       let len = inside.len in
-      let old-long = length-window (seen_mut before).bits other (record { start = omega arith; len = omega arith }) in
-      let new-long = length-window (seen_mut after).bits other (record { start = omega arith; len = omega arith }) in
-      let beside : (k : ℕ) → k < other.len → IsBeside field (other.start + k) = λ k low. beside-side other field k low (apart-sides other field apart) in
-      let same : window_of (seen_mut after).bits other ≡ window_of (seen_mut before).bits other = same_lists _ _ (omega arith) (λ k d low.
-      let inner : k < other.len = omega arith in
-      get-window (seen_mut after).bits other k d inner ∙ wrote.others (other.start + k) d (beside k inner) ∙ sym (get-window (seen_mut before).bits other k d inner)) in
       ap (λ (w : Window). number_of endian high t.BITS (w.start + other.start) (window_of (seen_mut after).bits other)) wrote.written.window
-      ∙ ap (number_of endian high t.BITS ((seen_mut before).window.start + other.start)) same
+      ∙ ap (number_of endian high t.BITS ((seen_mut before).window.start + other.start))
+      (window-kept (seen_mut before).bits (seen_mut after).bits field other apart (record { start = omega arith; len = omega arith }) (record { start = omega arith; len = omega arith }) wrote.others)
 
 module _ {T O : Type 0} {t : Store T} {o : Order O} (high : Bool) (first now after : BitSliceMut T O t o) where
   -- the next field is written

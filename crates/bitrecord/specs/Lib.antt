@@ -1,4 +1,5 @@
 pub mod bits
+pub mod FieldLaws
 pub mod Layouts
 pub mod RecordLaws
 pub mod Records

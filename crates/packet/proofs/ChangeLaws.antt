@@ -13,7 +13,7 @@ use Rattle.packet.specs.Checksums.{checksum_of, checksum_word, sum_words}
 use Rattle.packet.specs.Packets.{AreFields, AreWords, numbers_at, packet_bits}
 use Rattle.packet.specs.declared.changes.Change.{Change}
 use Rattle.packet.specs.declared.field.TheConstants.{CHECKSUM}
-use Rattle.packet.proofs.FieldLaws.{number-below, numbers-set}
+use Rattle.bitrecord.specs.FieldLaws.{number-below, numbers-set}
 use Rattle.packet.proofs.SumLaws.{checksum-right}
 
 -- the words of a list of bits have 16 bits

@@ -3,7 +3,6 @@ pub mod ByteLaws
 pub mod ChangeLaws
 pub mod DigitLaws
 pub mod EndLaws
-pub mod FieldLaws
 pub mod HeaderLaws
 pub mod PlaceLaws
 pub mod SumLaws

@@ -4,7 +4,7 @@ use Rattle.bitrecord.specs.Layouts.{field_at}
 use Rattle.bitrecord.specs.RecordLaws.{is-layout}
 use Rattle.bitrecord.specs.Views.{bits_of, fields_of}
 use Rattle.bitrecord.specs.declared.endian.Endian.TheVariants.{Big}
-use Rattle.packet.proofs.FieldLaws.{number-below}
+use Rattle.bitrecord.specs.FieldLaws.{number-below}
 use Rattle.packet.proofs.header.read_field.Goals as goal
 
 pub returns-clause-below : goal.returns-clause-below
