@@ -1,6 +1,6 @@
 #!/bin/sh
 # Builds the library, its peers and the driver, and prints the tables that README.md explains.
-# What it builds goes to bench/out and to out/ of crates/bitvec_bench and crates/bitvec_times.
+# What it builds goes to bench/out and to out/ of crates/bitvec_bench, crates/bitvec_times and crates/sieve.
 set -eu
 cd "$(dirname "$0")"
 
@@ -22,6 +22,7 @@ fi
 mkdir -p out
 (cd ../crates/bitvec_bench && rt lib) >&2
 (cd ../crates/bitvec_times && rt run -- encode 8 0 0) >/dev/null
+(cd ../crates/sieve && rt run -- count 0) >/dev/null
 
 # rust NAME KIND SOURCE FLAGS..: compiles one crate of the peers
 rust() {
@@ -39,6 +40,7 @@ rust peers staticlib peers.rs --edition 2021 \
 g++ -std=c++17 -O3 "-march=$processor" -Wall -Wextra -Wno-stringop-overflow driver.cpp \
     ../crates/bitvec_bench/out/libbitvec_bench.a out/libpeers.a -lpthread -ldl -o out/driver
 g++ -std=c++17 -O3 "-march=$processor" -Wall -Wextra programs.cpp -o out/programs
+g++ -std=c++17 -O3 "-march=$processor" -Wall -Wextra sieve.cpp -o out/sieve
 
 echo "- machine: $(lscpu | sed -n 's/^Model name: *//p'), $(nproc) processors"
 echo "- kit: $(rt version)"
@@ -46,4 +48,5 @@ echo "- compilers: $(g++ --version | head -n 1), -O3 -march=$processor; $(rustc 
 echo "- load at the start: $(cut -d ' ' -f 1 /proc/loadavg)"
 echo
 out/driver
-exec out/programs ../crates/bitvec_times/out/bitvec_times
+out/programs ../crates/bitvec_times/out/bitvec_times
+exec out/sieve ../crates/sieve/out/sieve
