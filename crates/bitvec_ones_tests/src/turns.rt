@@ -31,7 +31,7 @@ fn turns_from_both_ends(rt: HostRuntime) {
     let mut out = [None; 5];
     let turns = [Front, Back, Front, Back, Front];
     let loads = walk::<Lsb0>(&[0x21, 0x00, 0x80], window, true, &turns, &mut out);
-    assert_eq!(rt; out, [Some(0), Some(23), Some(5), None, None]);
+    assert!(rt; out == [Some(0), Some(23), Some(5), None, None]);
     assert!(rt; loads <= 6);
 }
 
@@ -40,7 +40,7 @@ fn turns_under_another_order(rt: HostRuntime) {
     let window = Window { start: 0, len: 8 };
     let mut out = [None; 3];
     let loads = walk::<HiLo>(&[0xA5], window, true, &[Back, Front, Front], &mut out);
-    assert_eq!(rt; out, [Some(6), Some(1), Some(3)]);
+    assert!(rt; out == [Some(6), Some(1), Some(3)]);
     assert!(rt; loads <= 4);
 }
 
@@ -49,7 +49,7 @@ fn turns_over_zeros(rt: HostRuntime) {
     let window = Window { start: 2, len: 3 };
     let mut out = [Some(0); 2];
     let loads = walk::<Lsb0>(&[0xF7], window, false, &[Back, Back], &mut out);
-    assert_eq!(rt; out, [Some(1), None]);
+    assert!(rt; out == [Some(1), None]);
     assert!(rt; loads <= 2);
 }
 
@@ -57,5 +57,5 @@ fn turns_over_zeros(rt: HostRuntime) {
 fn no_turn(rt: HostRuntime) {
     let window = Window { start: 0, len: 8 };
     let loads = walk::<Lsb0>(&[0xFF], window, true, &[], &mut []);
-    assert_eq!(rt; loads, 0);
+    assert!(rt; loads == 0);
 }
