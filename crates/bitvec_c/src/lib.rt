@@ -9,3 +9,4 @@ mod of_u16;
 mod of_u32;
 mod of_u64;
 mod of_u8;
+mod ones;

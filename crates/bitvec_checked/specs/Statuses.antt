@@ -58,3 +58,7 @@ status_beside order b xs window ys op = or_next (memories_status order b xs wind
 -- a number has from 1 to 64 bits
 abbrev pub width_status : ℕ → ℕ
 width_status len = refusal_status (unless (nat_le 1 len && nat_le len 64) Width)
+
+-- a walk of a window begins at one of its indices, or at its end
+abbrev pub end_status : ℕ → ℕ → ℕ
+end_status from len = refusal_status (unless (nat_le from len) Index)

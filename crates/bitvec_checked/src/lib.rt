@@ -19,8 +19,12 @@ mod filling;
 mod moving;
 mod needles;
 mod numbers;
+mod operations;
+mod replies;
+mod running;
 mod scanning;
 mod status;
+mod steps;
 mod transfers;
 
 /// What crates above name of `bitvec_store`.
@@ -35,6 +39,11 @@ pub use filling::{fill, invert};
 pub use moving::{copy_within, reverse, rotate_left, rotate_right, shift_end, shift_start};
 pub use needles::{contains, ends_with, starts_with};
 pub use numbers::{load_be, load_le, store_be, store_le};
+pub use replies::RawReply;
+pub use running::run;
 pub use scanning::{first_one, first_zero, last_one, last_zero};
-pub use status::{DONE, LSB0, MSB0, NONE, OP, ORDER, ROOM, SIZE};
+pub use status::{
+    DONE, LSB0, MSB0, NONE, OP, ORDER, ROOM, SIZE, end_status, or_next, window_status,
+};
+pub use steps::RawStep;
 pub use transfers::{and, copy, or, swap, xor};

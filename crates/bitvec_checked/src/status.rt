@@ -5,7 +5,7 @@ ghost use Rattle.bitvec_run.specs.base.Memory.{FitsMaxBits, HasWindow};
 ghost use Rattle.bitvec_run.specs.Commands.{amount_refusal, index_refusal, op_refusal, right_refusal};
 ghost use Rattle.bitvec_run.specs.Rows.{unless};
 ghost use Rattle.bitvec_run.specs.declared.command.Op.TheVariants.{CopyFrom, CopyWithin, Swap};
-ghost use Rattle.bitvec_checked.specs.Statuses.{memories_status, or_next, refusal_status, status_beside, width_status, window_status};
+ghost use Rattle.bitvec_checked.specs.Statuses.{end_status, memories_status, or_next, refusal_status, status_beside, width_status, window_status};
 
 use bitvec_elements::base::Window;
 use bitvec_elements::cells::{CellsRead, Shared, fits_max_bits, has_window};
@@ -32,7 +32,7 @@ pub const ROOM: u32 = 13;
 
 /// The first of two statuses that isn't `DONE`.
 #[inline(always)]
-pub(crate) fn or_next(status: u32, next: u32) -> u32
+pub fn or_next(status: u32, next: u32) -> u32
     ensures value { result ≡ or_next status next }
     ensures done { result ≡ 0 → (status ≡ 0) × (next ≡ 0) }
 {
@@ -49,7 +49,7 @@ fn unless(test: bool, refusal: Refusal) -> u32
 
 /// What a call on one memory tests.
 #[inline(always)]
-pub(crate) fn window_status<T: BitStore>(order: u32, elements: &[T], window: Window) -> u32
+pub fn window_status<T: BitStore>(order: u32, elements: &[T], window: Window) -> u32
     ensures status { result ≡ window_status order T.BITS (map T.value elements.now) window }
     ensures order { result ≡ 0 → order ≤ 1 }
     ensures window { result ≡ 0 → HasWindow T.BITS (map T.value elements.now) window }
@@ -173,6 +173,15 @@ pub(crate) fn ranges_status(from: usize, to: usize, dest: usize, len: usize) -> 
         return Refusal::Source as u32;
     }
     unless(dest <= len - (to - from), Refusal::Dest)
+}
+
+/// Whether a walk of a window may begin at an index, which may be its end.
+#[inline(always)]
+pub fn end_status(from: usize, len: usize) -> u32
+    ensures status { result ≡ end_status from len }
+    ensures most { result ≡ 0 → from ≤ len }
+{
+    unless(from <= len, Refusal::Index)
 }
 
 /// Whether a number can have so many bits.
