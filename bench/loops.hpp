@@ -49,6 +49,11 @@ struct Loops {
         }
     }
 
+    // Whether the bit at an index of an element is a 1.
+    static bool has(Element x, unsigned index) {
+        return std::is_same_v<Order, Lsb0> ? x >> index & 1 : x >> (width - 1 - index) & 1;
+    }
+
     // Where the first 1 of an element that has one stands.
     static unsigned first_place(Element x) {
         if (std::is_same_v<Order, Lsb0>)
@@ -231,6 +236,28 @@ struct Loops {
         return last == 0 ? count * width : count * width + first_place(last) - start;
     }
 
+    // -1, 0 or 1: by the first bits that differ.
+    [[gnu::noinline]] static int compare(const Element *left, const Element *right, unsigned start, size_t count) {
+        for (size_t i = 0; i < count; ++i) {
+            const Element other = start == 0 ? right[i] : gather(right + i, start);
+            const Element differing = Element(left[i] ^ other);
+            if (differing != 0)
+                return has(left[i], first_place(differing)) ? 1 : -1;
+        }
+        return 0;
+    }
+
+    // Whether 32 bits, the first of which is the lowest of a number, stand together somewhere.
+    [[gnu::noinline]] static bool contains(const Element *p, unsigned start, size_t count, uint32_t needle) {
+        uint32_t seen = 0;
+        for (size_t i = start; i < start + count * width; ++i) {
+            seen = seen >> 1 | uint32_t(has(p[i / width], i % width)) << 31;
+            if (seen == needle && i >= start + 31)
+                return true;
+        }
+        return false;
+    }
+
     // The sum of the indices of the ones.
     [[gnu::noinline]] static size_t iter_ones(const Element *p, unsigned start, size_t count) {
         size_t sum = 0;
@@ -247,18 +274,49 @@ struct Loops {
         return sum;
     }
 
-    // A copy of `len` bits, at most an element's, by shifts and masks, between any two places.
+    // ---- `len` bits, at most an element's, by shifts and masks, at any place
+
     [[gnu::noinline]] static void copy_few(Element *to, size_t to_place, const Element *from, size_t from_place,
                                            unsigned len) {
-        unsigned read = from_place % width, written = to_place % width;
-        from += from_place / width;
-        to += to_place / width;
-        Element bits = to_front(from[0], read);
-        if (read + len > width)
-            bits |= to_back(from[1], width - read);
-        Element mask = len == width ? ones : first(len);
-        to[0] = blend(to[0], to_back(bits, written), to_back(mask, written));
-        if (written + len > width)
-            to[1] = blend(to[1], to_front(bits, width - written), to_front(mask, width - written));
+        write_few(to + to_place / width, to_place % width, read_few(from, from_place, len), len);
+    }
+
+    [[gnu::noinline]] static void fill_few(Element *p, size_t place, unsigned len, bool bit) {
+        write_few(p + place / width, place % width, bit ? ones : Element(0), len);
+    }
+
+    [[gnu::noinline]] static size_t count_few(const Element *p, size_t place, unsigned len) {
+        return size_t(__builtin_popcountll(Element(read_few(p, place, len) & mask_of(len))));
+    }
+
+    [[gnu::noinline]] static bool equal_few(const Element *left, size_t left_place, const Element *right,
+                                            size_t right_place, unsigned len) {
+        return Element((read_few(left, left_place, len) ^ read_few(right, right_place, len)) & mask_of(len)) == 0;
+    }
+
+    // ---- one bit
+
+    [[gnu::noinline]] static bool get(const Element *p, size_t place) { return has(p[place / width], place % width); }
+
+    [[gnu::noinline]] static void set(Element *p, size_t place, bool bit) {
+        write_few(p + place / width, place % width, bit ? ones : Element(0), 1);
+    }
+
+  private:
+    static Element mask_of(unsigned len) { return len == width ? ones : first(len); }
+
+    // The bits in front, and any others behind them.
+    static Element read_few(const Element *p, size_t place, unsigned len) {
+        const unsigned index = place % width;
+        p += place / width;
+        const Element bits = to_front(p[0], index);
+        return index + len <= width ? bits : Element(bits | to_back(p[1], width - index));
+    }
+
+    static void write_few(Element *p, unsigned index, Element bits, unsigned len) {
+        const Element mask = mask_of(len);
+        p[0] = blend(p[0], to_back(bits, index), to_back(mask, index));
+        if (index + len > width)
+            p[1] = blend(p[1], to_front(bits, width - index), to_front(mask, width - index));
     }
 };

@@ -9,6 +9,7 @@
 #include <boost/dynamic_bitset.hpp>
 #include <cstddef>
 #include <cstdint>
+#include <map>
 #include <random>
 #include <string>
 #include <vector>
@@ -32,6 +33,7 @@ void bit_vec_free(BitVec *);
 void bit_vec_copy(BitVec *, const BitVec *);
 void bit_vec_or(BitVec *, const BitVec *);
 bool bit_vec_equal(const BitVec *, const BitVec *);
+int bit_vec_compare(const BitVec *, const BitVec *);
 void bit_vec_fill(BitVec *, bool);
 void bit_vec_invert(BitVec *);
 size_t bit_vec_count_ones(const BitVec *);
@@ -39,14 +41,16 @@ size_t bit_vec_first_one(const BitVec *);
 size_t bit_vec_iter_ones(const BitVec *);
 }
 
-// The fastest peer of an operation, and how long one call of it takes.
+// The fastest peer of an operation, and how long one call of each takes.
 struct Best {
     std::string name = "none";
     double nanoseconds = 0;
+    std::map<std::string, double> all;
 
     template <class Call>
     void try_peer(const char *peer, Call call) {
         double taken = time_call(call);
+        all[peer] = taken;
         if (nanoseconds == 0 || taken < nanoseconds) {
             name = peer;
             nanoseconds = taken;
@@ -147,6 +151,43 @@ class Peers {
         } else {
             best.try_peer("dynamic_bitset", [&] { keep(left.bitset == shifted()); });
         }
+        return best;
+    }
+
+    // The order of equal bits; dynamic_bitset compares from the last bit on.
+    Best compare() {
+        std::copy(second(), second() + len, first());
+        Best best;
+        best.try_peer("vector<bool>", [&] {
+            auto end = first() + ptrdiff_t(len);
+            keep(std::lexicographical_compare(first(), end, second(), second() + ptrdiff_t(len)));
+        });
+        if (start != 0)
+            return best;
+        left.bitset = right.bitset;
+        bit_vec_copy(left.bit_vec, right.bit_vec);
+        best.try_peer("dynamic_bitset", [&] { keep(left.bitset < right.bitset); });
+        best.try_peer("bit-vec", [&] { keep(bit_vec_compare(left.bit_vec, right.bit_vec)); });
+        return best;
+    }
+
+    // Whether the bits begin with half as many that are equal.
+    Best starts_with() {
+        std::copy(second(), second() + len, first());
+        Best best;
+        best.try_peer("vector<bool>",
+                      [&] { keep(std::equal(second(), second() + ptrdiff_t(len / 2), first())); });
+        return best;
+    }
+
+    // Whether 32 ones stand together somewhere among others, where they don't.
+    Best contains() {
+        const std::vector<bool> needle(32, true);
+        Best best;
+        best.try_peer("vector<bool>", [&] {
+            auto end = second() + ptrdiff_t(len);
+            keep(std::search(second(), end, needle.begin(), needle.end()) == end);
+        });
         return best;
     }
 

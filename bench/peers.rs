@@ -95,6 +95,11 @@ pub extern "C" fn bit_vec_equal(left: &BitVec, right: &BitVec) -> bool {
 }
 
 #[no_mangle]
+pub extern "C" fn bit_vec_compare(left: &BitVec, right: &BitVec) -> i32 {
+    left.cmp(right) as i32
+}
+
+#[no_mangle]
 pub extern "C" fn bit_vec_fill(bits: &mut BitVec, bit: bool) {
     if bit {
         bits.set_all();

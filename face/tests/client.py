@@ -1,0 +1,227 @@
+"""Compares fehimbary.py with lists, on windows at random: client.py [WINDOWS]."""
+
+import array
+import random
+import sys
+
+import fehimbary
+from fehimbary import LSB0, MSB0, Bits, Refused, Reply, Step
+
+BITS = {"B": 8, "H": 16, "I": 32, "Q": 64}
+
+
+def status_of(call, *arguments):
+    """The status of a call by name, and its answer."""
+    try:
+        return "FB_DONE", call(*arguments)
+    except Refused as refused:
+        return str(refused), None
+
+
+def size_up_to(most):
+    """A size of at most `most`, and sometimes one that is too great."""
+    return random.choice([0, most, most + 1, 2**64 - 1] + 12 * [random.randint(0, most)])
+
+
+def expect(holds, what):
+    if not holds:
+        raise SystemExit(f"{what} differs")
+
+
+class Window:
+    """A memory with random elements, and some bits of it that stand together."""
+
+    def __init__(self, code, order):
+        count = random.randint(0, 400 // BITS[code])
+        self.code, self.order, self.bits = code, order, BITS[code] * count
+        numbers = [random.getrandbits(BITS[code]) for _ in range(count)]
+        self.memory = bytearray(numbers) if code == "B" and random.getrandbits(1) else array.array(code, numbers)
+        self.start = random.randint(0, self.bits)
+        self.stop = random.randint(self.start, self.bits)
+
+    def view(self):
+        return Bits(self.memory, self.order).part(self.start, self.stop)
+
+    def all_bits(self):
+        digits = (format(number, f"0{BITS[self.code]}b") for number in self.memory)
+        return [int(bit) for text in digits for bit in (text if self.order == MSB0 else text[::-1])]
+
+    def list(self):
+        return self.all_bits()[self.start : self.stop]
+
+    def with_list(self, bits):
+        """All bits of the memory, with these in the window."""
+        return self.all_bits()[: self.start] + bits + self.all_bits()[self.stop :]
+
+
+def check_edit(window, name, refusal, new, *arguments):
+    """A method that edits: refused, or what it leaves."""
+    wanted = window.with_list(window.list() if refusal else [int(bit) for bit in new()])
+    status, _ = status_of(getattr(window.view(), name), *arguments)
+    expect(status == (refusal or "FB_DONE"), f"the status of {name}")
+    expect(window.all_bits() == wanted, f"the memory after {name}")
+
+
+def check_single_bits(window):
+    bits, i, k, bit = window.list(), size_up_to(window.stop - window.start), size_up_to(3), random.getrandbits(1)
+    refusal = None if i < len(bits) else "FB_INDEX"
+    status, said = status_of(window.view().__getitem__, i)
+    expect((status, said) == (refusal or "FB_DONE", None if refusal else bits[i]), "a bit")
+    status, said = status_of(window.view().replace, i, bits[i] if not refusal else 0)
+    expect((status, said) == (refusal or "FB_DONE", None if refusal else bits[i]), "replace")
+    check_edit(window, "set", refusal, lambda: bits[:i] + [bit] + bits[i + 1 :], i, bit)
+
+    def exchanged():
+        new = window.list()
+        new[i], new[k] = new[k], new[i]
+        return new
+
+    check_edit(window, "swap_bits", None if i < len(bits) and k < len(bits) else "FB_INDEX", exchanged, i, k)
+
+
+def check_edits(window):
+    bits, length = window.list, window.stop - window.start
+    by, start, stop, dest = (size_up_to(length) for _ in range(4))
+    refusal = None if by <= length else "FB_AMOUNT"
+    check_edit(window, "invert", None, lambda: [1 - bit for bit in bits()])
+    check_edit(window, "reverse", None, lambda: bits()[::-1])
+    check_edit(window, "rotate_left", refusal, lambda: bits()[by:] + bits()[:by], by)
+    check_edit(window, "rotate_right", refusal, lambda: bits()[length - by :] + bits()[: length - by], by)
+    source = "FB_SOURCE" if start > stop or stop > length else None
+    refused = source or ("FB_DEST" if dest + (stop - start) > length else None)
+    check_edit(window, "copy_within", refused,
+               lambda: bits()[:dest] + bits()[start:stop] + bits()[dest + stop - start :], start, stop, dest)
+    shift, zeros = random.choice([("shift_start", lambda: bits()[by:] + by * [0]),
+                                  ("shift_end", lambda: by * [0] + bits()[: length - by])])
+    check_edit(window, shift, refusal, zeros, by)
+
+
+def check_transfers(left, right):
+    refusal = None if len(left.list()) == len(right.list()) else "FB_LENGTH"
+    before = right.all_bits()
+    for name, meaning in [("__ixor__", int.__xor__), ("__ior__", int.__or__), ("__iand__", int.__and__)]:
+        other = (right.list() + len(left.list()) * [0])[: len(left.list())]
+        check_edit(left, name, None, lambda: map(meaning, left.list(), other), right.view())
+    check_edit(left, "copy", refusal, right.list, right.view())
+    check_edit(left, "invert", None, lambda: [1 - bit for bit in left.list()])
+    expect(right.all_bits() == before, "the right memory")
+    swapped = before if refusal else right.with_list(left.list())
+    check_edit(left, "swap", refusal, right.list, right.view())
+    expect(right.all_bits() == swapped, "the right memory after swap")
+
+
+def index_of(bits, bit):
+    return bits.index(bit) if bit in bits else None
+
+
+def last_index_of(bits, bit):
+    return len(bits) - 1 - bits[::-1].index(bit) if bit in bits else None
+
+
+def check_questions(window):
+    bits, view = window.list(), window.view()
+    ones = [index for index, bit in enumerate(bits) if bit]
+    expect(len(view) == len(bits) and list(view) == bits, "the bits")
+    expect(view.count_ones() == len(ones) and view.count_zeros() == len(bits) - len(ones), "a count")
+    expect(view.any() == any(bits) and view.all() == all(bits), "any or all")
+    expect((view.first_one(), view.last_one()) == (index_of(bits, 1), last_index_of(bits, 1)), "a search for a one")
+    expect((view.first_zero(), view.last_zero()) == (index_of(bits, 0), last_index_of(bits, 0)), "a search for a zero")
+    start, room = size_up_to(len(bits)), random.randint(0, 9)
+    found = [index for index in ones if index >= start][:room]
+    wanted = ("FB_DONE", found) if start <= len(bits) else ("FB_INDEX", None)
+    expect(status_of(view.ones, start, room) == wanted, "ones")
+
+
+def check_comparisons(left, right):
+    if random.getrandbits(1):
+        right.stop = min(right.stop, right.start + 5)
+    view, other, bits, needle = left.view(), right.view(), left.list(), right.list()
+    places = [place for place in range(len(bits) - len(needle) + 1) if bits[place : place + len(needle)] == needle]
+    expect(view.equal(other) == (bits == needle) and view.equal(view), "equal")
+    expect(view.compare(other) == (bits > needle) - (bits < needle), "compare")
+    expect(view.starts_with(other) == (0 in places), "starts_with")
+    expect(view.ends_with(other) == (len(bits) - len(needle) in places), "ends_with")
+    expect(view.contains(other) == (places != []), "contains")
+
+
+def number_of(window, big):
+    """The number of a window's bits: its segments, from the lowest on."""
+    bits, segments = window.list(), []
+    for index, bit in enumerate(bits):
+        if index == 0 or (window.start + index) % BITS[window.code] == 0:
+            segments.append([])
+        segments[-1].append(bit)
+    lowest_first = [segment[::-1] if window.order == MSB0 else segment for segment in segments]
+    lows = [bit for segment in (lowest_first[::-1] if big else lowest_first) for bit in segment]
+    return sum(bit << weight for weight, bit in enumerate(lows))
+
+
+def check_numbers(window):
+    window.stop = min(window.stop, window.start + random.randint(0, 66))
+    length, number, outside = window.stop - window.start, random.getrandbits(64), window.with_list([])
+    refusal = "FB_DONE" if 1 <= length <= 64 else "FB_WIDTH"
+    for end, big in [("le", False), ("be", True)]:
+        status, said = status_of(getattr(window.view(), "load_" + end))
+        expect(status == refusal and said in (None, number_of(window, big)), "load_" + end)
+        status, _ = status_of(getattr(window.view(), "store_" + end), number)
+        expect(status == refusal, "the status of store_" + end)
+        expect(status != "FB_DONE" or number_of(window, big) == number % 2**length, "store_" + end)
+    expect(window.with_list([]) == outside, "the bits beside a number")
+
+
+def check_run(left, right):
+    length = len(left.list())
+    check_edit(left, "fill", None, lambda: length * [1], True)
+    steps = [Step(fehimbary.FILL, 0, length // 2), Step(fehimbary.GET, 0, length, first=length),
+             Step(fehimbary.COUNT_ONES, 0, length), Step(fehimbary.STARTS_WITH, 0, length, second=right.bits + 1)]
+    replies = left.view().run(right.view(), steps)
+    expect([fehimbary.STATUSES[reply.status] for reply in replies] == ["FB_DONE", "FB_INDEX", "FB_DONE", "FB_RIGHT"], "run")
+    expect(isinstance(replies[2], Reply) and replies[2].low == length - length // 2, "a reply")
+    expect(status_of(left.view().run, right.view(), [Step(33, 0, 0)])[0] == "FB_OP", "a run of no command")
+
+
+def raises(error, call, *arguments):
+    try:
+        call(*arguments)
+    except error:
+        return
+    raise SystemExit(f"{error.__name__} isn't raised")
+
+
+def check_faults():
+    """What C would take as something else."""
+    memory, other = bytearray(8), bytearray(8)
+    bits = Bits(memory)
+    raises(OverflowError, bits.set, 2**64, True)
+    raises(OverflowError, bits.rotate_left, -1)
+    raises(OverflowError, Step, fehimbary.GET, 0, 2**64)
+    raises(TypeError, Bits, b"1234")
+    raises(KeyError, Bits, array.array("b", [1]))
+    raises(TypeError, bits.equal, Bits(other, MSB0))
+    raises(ValueError, bits.part(0, 8).copy, bits.part(32, 40))
+    raises(BufferError, memory.append, 1)
+    expect(status_of(Bits(other, 2).invert)[0] == "FB_ORDER" and other == bytes(8), "an order that is none")
+    expect(status_of(bits.part, 5, 4)[0] == "FB_RANGE" and status_of(bits.part, 0, 65)[0] == "FB_RANGE", "a part")
+
+
+def main():
+    windows = int(sys.argv[1]) if len(sys.argv) > 1 else 100
+    random.seed(7)
+    check_faults()
+    for code in BITS:
+        for _ in range(windows):
+            for order in (LSB0, MSB0):
+                left, right = Window(code, order), Window(code, order)
+                if random.getrandbits(1):
+                    right.stop = min(right.start + left.stop - left.start, right.bits)
+                check_single_bits(left)
+                check_edits(left)
+                check_transfers(left, right)
+                check_questions(left)
+                check_comparisons(left, right)
+                check_run(left, right)
+                check_numbers(right)
+        print(f"elements of {BITS[code]} bits: every method on {2 * windows} views")
+
+
+main()
