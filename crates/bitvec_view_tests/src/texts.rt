@@ -23,19 +23,10 @@ fn two_elements(rt: HostRuntime) -> Result<(), Fail> {
     let view = BitSlice::<u8, Lsb0>::from_slice(&bits).into_part(4..12);
     let hex = UpperHex(view);
     let binary = Binary(view);
-    assert_eq!(rt; format!(in rt.alloc(); "{hex}")?.as_str(), "[4, 2]");
-    assert_eq!(rt;
-        format!(in rt.alloc(); "{binary}")?.as_str(),
-        "[0100, 0010]"
-    );
-    assert_eq!(rt;
-        format!(in rt.alloc(); "{view}")?.as_str(),
-        "[0, 1, 0, 0, 0, 0, 1, 0]"
-    );
-    assert_eq!(rt;
-        format!(in rt.alloc(); "{view:?}")?.as_str(),
-        "[0, 1, 0, 0, 0, 0, 1, 0]"
-    );
+    assert!(rt; format!(in rt.alloc(); "{hex}")?.as_str() == "[4, 2]");
+    assert!(rt; format!(in rt.alloc(); "{binary}")?.as_str() == "[0100, 0010]");
+    assert!(rt; format!(in rt.alloc(); "{view}")?.as_str() == "[0, 1, 0, 0, 0, 0, 1, 0]");
+    assert!(rt; format!(in rt.alloc(); "{view:?}")?.as_str() == "[0, 1, 0, 0, 0, 0, 1, 0]");
     Ok(())
 }
 
@@ -45,8 +36,8 @@ fn letters(rt: HostRuntime) -> Result<(), Fail> {
     let view = BitSlice::<u16, Msb0>::from_slice(&bits).into_part(2..32);
     let lower = LowerHex(view);
     let upper = UpperHex(view);
-    assert_eq!(rt; format!(in rt.alloc(); "{lower}")?.as_str(), "[2bcd, 00ef]");
-    assert_eq!(rt; format!(in rt.alloc(); "{upper}")?.as_str(), "[2BCD, 00EF]");
+    assert!(rt; format!(in rt.alloc(); "{lower}")?.as_str() == "[2bcd, 00ef]");
+    assert!(rt; format!(in rt.alloc(); "{upper}")?.as_str() == "[2BCD, 00EF]");
     Ok(())
 }
 
@@ -55,9 +46,9 @@ fn no_bits(rt: HostRuntime) -> Result<(), Fail> {
     let empty = BitSlice::<u8, Lsb0>::empty();
     let binary = Binary(empty);
     let hex = LowerHex(empty);
-    assert_eq!(rt; format!(in rt.alloc(); "{empty}")?.as_str(), "[]");
-    assert_eq!(rt; format!(in rt.alloc(); "{binary}")?.as_str(), "[]");
-    assert_eq!(rt; format!(in rt.alloc(); "{hex}")?.as_str(), "[]");
+    assert!(rt; format!(in rt.alloc(); "{empty}")?.as_str() == "[]");
+    assert!(rt; format!(in rt.alloc(); "{binary}")?.as_str() == "[]");
+    assert!(rt; format!(in rt.alloc(); "{hex}")?.as_str() == "[]");
     Ok(())
 }
 
@@ -67,13 +58,10 @@ fn a_wide_element(rt: HostRuntime) -> Result<(), Fail> {
     let view = BitSlice::<u128, Lsb0>::from_slice(&bits);
     let hex = LowerHex(view);
     let octal = Octal(view);
-    assert_eq!(rt;
-        format!(in rt.alloc(); "{hex}")?.as_str(),
-        "[80000000000000000000000000000000]"
-    );
-    assert_eq!(rt;
-        format!(in rt.alloc(); "{octal}")?.as_str(),
-        "[2000000000000000000000000000000000000000000]"
+    assert!(rt; format!(in rt.alloc(); "{hex}")?.as_str() == "[80000000000000000000000000000000]");
+    assert!(rt;
+        format!(in rt.alloc(); "{octal}")?.as_str()
+            == "[2000000000000000000000000000000000000000000]"
     );
     Ok(())
 }
@@ -84,19 +72,13 @@ fn splits(rt: HostRuntime) -> Result<(), Fail> {
     let view = BitSlice::<u8, Lsb0>::from_slice(&bits).into_part(0..6);
     let mut split = view.split(|_, bit| *bit);
     let _piece = split.next();
-    assert_eq!(rt;
-        format!(in rt.alloc(); "{split:?}")?.as_str(),
-        "Splits([0, 0, 1, 0])"
-    );
+    assert!(rt; format!(in rt.alloc(); "{split:?}")?.as_str() == "Splits([0, 0, 1, 0])");
     let _piece = split.next();
     let _piece = split.next();
-    assert_eq!(rt; format!(in rt.alloc(); "{split:?}")?.as_str(), "Splits([])");
+    assert!(rt; format!(in rt.alloc(); "{split:?}")?.as_str() == "Splits([])");
     let mut counted = view.rsplitn(2, |_, bit| *bit);
     let _piece = counted.next();
-    assert_eq!(rt;
-        format!(in rt.alloc(); "{counted:?}")?.as_str(),
-        "SplitsN([0, 1, 0, 0], 1)"
-    );
+    assert!(rt; format!(in rt.alloc(); "{counted:?}")?.as_str() == "SplitsN([0, 1, 0, 0], 1)");
     Ok(())
 }
 
@@ -121,21 +103,11 @@ fn text_of_counted(alloc: Global, bytes: &mut [u8; 1]) -> Result<String, Fail> {
 #[test]
 fn splits_that_lend(rt: HostRuntime) -> Result<(), Fail> {
     let mut bytes = [0b0001_0010u8];
-    assert_eq!(rt;
-        text_of_split(rt.alloc(), &mut bytes, 0)?.as_str(),
-        "SplitsMut([0, 1, 0, 0, 1, 0])"
+    assert!(rt;
+        text_of_split(rt.alloc(), &mut bytes, 0)?.as_str() == "SplitsMut([0, 1, 0, 0, 1, 0])"
     );
-    assert_eq!(rt;
-        text_of_split(rt.alloc(), &mut bytes, 1)?.as_str(),
-        "SplitsMut([0, 0, 1, 0])"
-    );
-    assert_eq!(rt;
-        text_of_split(rt.alloc(), &mut bytes, 3)?.as_str(),
-        "SplitsMut([])"
-    );
-    assert_eq!(rt;
-        text_of_counted(rt.alloc(), &mut bytes)?.as_str(),
-        "SplitsNMut([0, 1, 0, 0], 1)"
-    );
+    assert!(rt; text_of_split(rt.alloc(), &mut bytes, 1)?.as_str() == "SplitsMut([0, 0, 1, 0])");
+    assert!(rt; text_of_split(rt.alloc(), &mut bytes, 3)?.as_str() == "SplitsMut([])");
+    assert!(rt; text_of_counted(rt.alloc(), &mut bytes)?.as_str() == "SplitsNMut([0, 1, 0, 0], 1)");
     Ok(())
 }
