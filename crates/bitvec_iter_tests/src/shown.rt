@@ -5,22 +5,20 @@ use bitvec_query::base::Lsb0;
 use bitvec_query::slice::{BitSlice, BitSliceMut};
 use std::alloc::Global;
 use std::test::Fail;
+use test_bits::shows;
 
 #[test]
-fn walks_print_their_pieces(rt: HostRuntime) -> Result<(), Fail> {
+fn walks_print_their_pieces(rt: HostRuntime) {
     let bits = [0b1_0110u8];
     let view = BitSlice::<u8, Lsb0>::from_slice(&bits).into_part(0..5);
     let mut chunks = view.chunks(2);
-    assert!(rt; format!(in rt.alloc(); "{chunks:?}")?.as_str() == "Pieces([[0, 1], [1, 0], [1]])");
+    assert!(rt; shows(rt.alloc(), &chunks, "Pieces([[0, 1], [1, 0], [1]])"));
     let _first = chunks.next();
-    assert!(rt; format!(in rt.alloc(); "{chunks:?}")?.as_str() == "Pieces([[1, 0], [1]])");
+    assert!(rt; shows(rt.alloc(), &chunks, "Pieces([[1, 0], [1]])"));
     let windows = view.windows(4);
-    assert!(rt;
-        format!(in rt.alloc(); "{windows:?}")?.as_str() == "Pieces([[0, 1, 1, 0], [1, 1, 0, 1]])"
-    );
+    assert!(rt; shows(rt.alloc(), &windows, "Pieces([[0, 1, 1, 0], [1, 1, 0, 1]])"));
     let none = view.rchunks_exact(6);
-    assert!(rt; format!(in rt.alloc(); "{none:?}")?.as_str() == "Pieces([])");
-    Ok(())
+    assert!(rt; shows(rt.alloc(), &none, "Pieces([])"));
 }
 
 /// The text of the chunks of two bits from the end, but for `skipped` of them.

@@ -7,6 +7,7 @@ use bitvec_query::base::{Lsb0, Msb0};
 use bitvec_query::slice::{BitSlice, BitSliceMut};
 use std::alloc::Global;
 use std::test::Fail;
+use test_bits::shows;
 
 /// The two texts of a writable view of the bits.
 fn texts_of(alloc: Global, cells: &mut [u8; 1]) -> Result<String, Fail> {
@@ -71,21 +72,20 @@ fn writing_references_print_and_compare(rt: HostRuntime) -> Result<(), Fail> {
 }
 
 #[test]
-fn walks_over_bits_print_what_is_left(rt: HostRuntime) -> Result<(), Fail> {
+fn walks_over_bits_print_what_is_left(rt: HostRuntime) {
     let bits = [0b1101u8];
     let view = BitSlice::<u8, Lsb0>::from_slice(&bits).into_part(0..5);
     let mut walk = view.iter();
     let _first = walk.next();
     let _last = walk.next_back();
-    assert!(rt; format!(in rt.alloc(); "{walk:?}")?.as_str() == "Iter([0, 1, 1])");
+    assert!(rt; shows(rt.alloc(), &walk, "Iter([0, 1, 1])"));
     let refs = view.iter().by_refs();
-    assert!(rt; format!(in rt.alloc(); "{refs:?}")?.as_str() == "BitRefIter([1, 0, 1, 1, 0])");
+    assert!(rt; shows(rt.alloc(), &refs, "BitRefIter([1, 0, 1, 1, 0])"));
     let mut vals = view.iter().by_vals();
     for _ in 0..5 {
         let _bit = vals.next();
     }
-    assert!(rt; format!(in rt.alloc(); "{vals:?}")?.as_str() == "BitValIter([])");
-    Ok(())
+    assert!(rt; shows(rt.alloc(), &vals, "BitValIter([])"));
 }
 
 /// The value of a view's one part, and how many whole elements a region has.

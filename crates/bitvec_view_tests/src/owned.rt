@@ -11,6 +11,7 @@ use bitvec_owned::{BitVec, ToBitVec};
 use std::alloc::{AllocError, Global};
 use std::cmp::Ordering;
 use std::test::Fail;
+use test_bits::{prints, shows};
 
 type Bits = BitVec<u8, Lsb0, Global>;
 
@@ -203,8 +204,8 @@ fn a_clone_is_a_sequence_of_its_own(rt: HostRuntime) -> Result<(), Fail> {
 fn a_sequence_prints_as_its_view(rt: HostRuntime) -> Result<(), Fail> {
     let bits = sequence(rt.alloc(), &LIST)?;
     let text = "[1, 1, 0, 1, 0, 0, 1, 0, 0]";
-    assert!(rt; format!(in rt.alloc(); "{bits}")?.as_str() == text);
-    assert!(rt; format!(in rt.alloc(); "{bits:?}")?.as_str() == text);
+    assert!(rt; prints(rt.alloc(), &bits, text));
+    assert!(rt; shows(rt.alloc(), &bits, text));
     Ok(())
 }
 
@@ -212,7 +213,7 @@ fn a_sequence_prints_as_its_view(rt: HostRuntime) -> Result<(), Fail> {
 fn no_bits_are_a_sequence_too(rt: HostRuntime) -> Result<(), Fail> {
     let bits = BitSlice::<u8, Lsb0>::empty().to_bitvec(rt.alloc())?;
     assert!(rt; (bits.len(), bits.is_empty(), bits.any()) == (0, true, false));
-    assert!(rt; format!(in rt.alloc(); "{bits}")?.as_str() == "[]");
+    assert!(rt; prints(rt.alloc(), &bits, "[]"));
     assert!(rt; bits == bits.clone()?);
     assert!(rt; bits.into_elements().len() == 0);
     Ok(())
