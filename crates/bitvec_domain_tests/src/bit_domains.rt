@@ -107,12 +107,12 @@ fn the_edges_of_a_cut_are_where_they_were(rt: HostRuntime) {
     ] {
         let mut cells = [0u32; 3];
         fill_edges::<u32, Msb0>(&mut cells, from, to);
-        assert_eq!(rt; cells, after);
+        assert!(rt; cells == after);
     }
     for (from, to, after) in [(4, 16, [0xFFF0, 0]), (16, 20, [0, 0x000F]), (0, 32, [0, 0])] {
         let mut cells = [0u16; 2];
         fill_edges::<u16, Lsb0>(&mut cells, from, to);
-        assert_eq!(rt; cells, after);
+        assert!(rt; cells == after);
     }
 }
 

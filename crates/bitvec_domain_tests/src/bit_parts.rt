@@ -116,25 +116,25 @@ fn ones_mut(cells: &mut [u8; 3], from: usize, to: usize) -> usize
 #[test]
 fn an_enclave_is_a_part_within_one_element(rt: HostRuntime) {
     let mut cells = [0x0Fu8, 0x12, 0x80];
-    assert_eq!(rt; enclave_len(range_of(&cells, 9, 15)), Some(6));
-    assert_eq!(rt; enclave_len(range_of(&cells, 8, 15)), None);
-    assert_eq!(rt; enclave_len(range_of(&cells, 4, 17)), None);
-    assert_eq!(rt; region_lens(range_of(&cells, 9, 15)), None);
-    assert_eq!(rt; region_lens(range_of(&cells, 8, 15)), Some((0, 0, 7)));
-    assert_eq!(rt; region_lens(range_of(&cells, 4, 17)), Some((4, 8, 1)));
-    assert_eq!(rt; region_lens(range_of(&cells, 5, 5)), Some((0, 0, 0)));
-    assert_eq!(rt; lens_mut(&mut cells, 1, 7), (Some(6), None));
-    assert_eq!(rt; lens_mut(&mut cells, 4, 23), (None, Some((4, 8, 7))));
+    assert!(rt; enclave_len(range_of(&cells, 9, 15)) == Some(6));
+    assert!(rt; enclave_len(range_of(&cells, 8, 15)) == None);
+    assert!(rt; enclave_len(range_of(&cells, 4, 17)) == None);
+    assert!(rt; region_lens(range_of(&cells, 9, 15)) == None);
+    assert!(rt; region_lens(range_of(&cells, 8, 15)) == Some((0, 0, 7)));
+    assert!(rt; region_lens(range_of(&cells, 4, 17)) == Some((4, 8, 1)));
+    assert!(rt; region_lens(range_of(&cells, 5, 5)) == Some((0, 0, 0)));
+    assert!(rt; lens_mut(&mut cells, 1, 7) == (Some(6), None));
+    assert!(rt; lens_mut(&mut cells, 4, 23) == (None, Some((4, 8, 7))));
 }
 
 #[test]
 fn the_ones_of_the_parts_are_those_of_the_view(rt: HostRuntime) {
     let mut cells = [0x0Fu8, 0x12, 0x80];
-    assert_eq!(rt; ones_by_parts(range_of(&cells, 4, 17)), 7);
-    assert_eq!(rt; ones_by_parts(range_of(&cells, 9, 12)), 1);
-    assert_eq!(rt; ones_by_parts(range_of(&cells, 3, 3)), 0);
-    assert_eq!(rt; ones_mut(&mut cells, 5, 16), 5);
-    assert_eq!(rt; ones_mut(&mut cells, 9, 12), 1);
+    assert!(rt; ones_by_parts(range_of(&cells, 4, 17)) == 7);
+    assert!(rt; ones_by_parts(range_of(&cells, 9, 12)) == 1);
+    assert!(rt; ones_by_parts(range_of(&cells, 3, 3)) == 0);
+    assert!(rt; ones_mut(&mut cells, 5, 16) == 5);
+    assert!(rt; ones_mut(&mut cells, 9, 12) == 1);
 }
 
 /// Fills the last part, and then flips the first of those that are left.
@@ -156,19 +156,19 @@ fn fill_some(cells: &mut [u8; 3], from: usize, to: usize)
 fn parts_come_from_both_ends(rt: HostRuntime) {
     let mut cells = [0u8; 3];
     fill_some(&mut cells, 4, 20);
-    assert_eq!(rt; cells, [0xF0, 0, 0x0F]);
+    assert!(rt; cells == [0xF0, 0, 0x0F]);
     let mut cells = [0xFFu8; 3];
     fill_some(&mut cells, 4, 24);
-    assert_eq!(rt; cells, [0x0F, 0xFF, 0xFF]);
+    assert!(rt; cells == [0x0F, 0xFF, 0xFF]);
     let mut cells = [0u8; 3];
     fill_some(&mut cells, 9, 12);
-    assert_eq!(rt; cells, [0, 0x0E, 0]);
+    assert!(rt; cells == [0, 0x0E, 0]);
 }
 
 #[test]
 fn each_part_comes_also_where_it_is_empty(rt: HostRuntime) {
     let cells = [0u8; 3];
-    assert_eq!(rt; range_of(&cells, 5, 5).bit_domain().parts().count(), 3);
-    assert_eq!(rt; range_of(&cells, 0, 24).bit_domain().parts().count(), 3);
-    assert_eq!(rt; range_of(&cells, 9, 12).bit_domain().parts().count(), 1);
+    assert!(rt; range_of(&cells, 5, 5).bit_domain().parts().count() == 3);
+    assert!(rt; range_of(&cells, 0, 24).bit_domain().parts().count() == 3);
+    assert!(rt; range_of(&cells, 9, 12).bit_domain().parts().count() == 1);
 }

@@ -51,5 +51,5 @@ pub fn fill_range(words: &mut [u32], range: Range<usize>)
 fn other_words_are_kept(rt: HostRuntime) {
     let mut words = [7, 0, 0, 7];
     fill_range(&mut words, 40..68);
-    assert_eq!(rt; words, [7, 0xFFFF_FF00, 0xF, 7]);
+    assert!(rt; words == [7, 0xFFFF_FF00, 0xF, 7]);
 }

@@ -12,7 +12,7 @@ fn old_shifts(rt: HostRuntime) {
         view.shift_left(1);
         view.shift_right(3);
     }
-    assert_eq!(rt; bytes, [0x28]);
+    assert!(rt; bytes == [0x28]);
 }
 
 #[test]
@@ -22,12 +22,12 @@ fn old_copies(rt: HostRuntime) {
         let mut view = BitSliceMut::<u8, Lsb0>::from_slice_mut(&mut bytes);
         view.copy_from_slice(BitSlice::from_slice(&[0x3C]));
     }
-    assert_eq!(rt; bytes, [0x3C]);
+    assert!(rt; bytes == [0x3C]);
     {
         let mut view = BitSliceMut::<u8, Lsb0>::from_slice_mut(&mut bytes);
         view.clone_from_slice(BitSlice::<u8, Msb0>::from_slice(&[0x0E]));
     }
-    assert_eq!(rt; bytes, [0x70]);
+    assert!(rt; bytes == [0x70]);
 }
 
 #[test]
@@ -39,6 +39,6 @@ fn old_exchange(rt: HostRuntime) {
         let mut other = BitSliceMut::<u8, Lsb0>::from_slice_mut(&mut others);
         view.swap_with_slice(&mut other);
     }
-    assert_eq!(rt; bytes, [0x34]);
-    assert_eq!(rt; others, [0x12]);
+    assert!(rt; bytes == [0x34]);
+    assert!(rt; others == [0x12]);
 }

@@ -47,10 +47,7 @@ fn ranges_change_places(rt: HostRuntime) {
         for (first, second, width) in RANGES {
             let mut after = bytes;
             swap_ranges::<Lsb0>(&mut after, first, second, width);
-            assert_eq!(rt;
-                bits_of(after),
-                swapped(bits_of(bytes), first, second, width)
-            );
+            assert!(rt; bits_of(after) == swapped(bits_of(bytes), first, second, width));
         }
     }
 }
@@ -78,15 +75,15 @@ fn halves_change_places_twice(rt: HostRuntime) {
         swap_halves::<Lsb0>(&mut by_lsb0, start);
         assert!(rt; by_lsb0 != words);
         swap_halves::<Lsb0>(&mut by_lsb0, start);
-        assert_eq!(rt; by_lsb0, words);
+        assert!(rt; by_lsb0 == words);
         let mut by_msb0 = words;
         swap_halves::<Msb0>(&mut by_msb0, start);
         swap_halves::<Msb0>(&mut by_msb0, start);
-        assert_eq!(rt; by_msb0, words);
+        assert!(rt; by_msb0 == words);
         let mut by_hi_lo = words;
         swap_halves::<HiLo>(&mut by_hi_lo, start);
         swap_halves::<HiLo>(&mut by_hi_lo, start);
-        assert_eq!(rt; by_hi_lo, words);
+        assert!(rt; by_hi_lo == words);
     }
 }
 
@@ -97,7 +94,7 @@ fn words_change_places(rt: HostRuntime) {
     assert!(rt; words != [1, 2, 3, 4]);
     let mut plain = [1u64, 2, 3, 4];
     swap_words(&mut plain);
-    assert_eq!(rt; plain, [3, 4, 1, 2]);
+    assert!(rt; plain == [3, 4, 1, 2]);
 }
 
 /// Exchanges the first two elements with the last two.

@@ -27,12 +27,12 @@ fn a_number_takes_its_elements_once(rt: HostRuntime) -> Result<(), Fail> {
     let mut bytes = [0x03u8, 0xC0, 0xFF];
     let (loads, stores) = tallies(rt.alloc(), &mut bytes, 2, 14, FieldOp::StoreLe(0xABC))?;
     assert!(rt; loads <= 2 && stores <= 2);
-    assert_eq!(rt; bytes, [0xF3, 0xEA, 0xFF]);
+    assert!(rt; bytes == [0xF3, 0xEA, 0xFF]);
     let (loads, stores) = tallies(rt.alloc(), &mut bytes, 2, 14, FieldOp::LoadBe)?;
     assert!(rt; loads <= 2 && stores == 0);
     let (loads, stores) = tallies(rt.alloc(), &mut bytes, 4, 20, FieldOp::StoreBe(0))?;
     assert!(rt; loads <= 2 && stores <= 3);
-    assert_eq!(rt; bytes, [0x03, 0x00, 0xF0]);
+    assert!(rt; bytes == [0x03, 0x00, 0xF0]);
     Ok(())
 }
 
@@ -40,7 +40,7 @@ fn a_number_takes_its_elements_once(rt: HostRuntime) -> Result<(), Fail> {
 fn a_number_of_no_bits_takes_nothing(rt: HostRuntime) -> Result<(), Fail> {
     let mut bytes = [0x03u8, 0xC0, 0xFF];
     let taken = tallies(rt.alloc(), &mut bytes, 3, 3, FieldOp::StoreLe(1))?;
-    assert_eq!(rt; taken, (0, 0));
-    assert_eq!(rt; bytes, [0x03, 0xC0, 0xFF]);
+    assert!(rt; taken == (0, 0));
+    assert!(rt; bytes == [0x03, 0xC0, 0xFF]);
     Ok(())
 }

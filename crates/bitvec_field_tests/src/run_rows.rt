@@ -23,19 +23,19 @@ fn numbers_are_loaded_stored_and_refused(rt: HostRuntime) -> Result<(), Fail> {
     let mut right = Shared::new(&[]);
     let window = Window { start: 0, len: 16 };
     let replies = run_fields::<Lsb0, _, _, _>(rt.alloc(), &mut memory, window, &mut right, &steps)?;
-    assert_eq!(rt;
-        replies.as_slice(),
-        [
-            Reply::Number(235),
-            Reply::Number(190),
-            Reply::Done,
-            Reply::Number(12),
-            Reply::Refused(Refusal::Width),
-            Reply::Count(3),
-        ]
-        .as_slice()
+    assert!(rt;
+        replies.as_slice()
+            == [
+                Reply::Number(235),
+                Reply::Number(190),
+                Reply::Done,
+                Reply::Number(12),
+                Reply::Refused(Refusal::Width),
+                Reply::Count(3),
+            ]
+            .as_slice()
     );
-    assert_eq!(rt; cells, [0xB0, 0x6E]);
+    assert!(rt; cells == [0xB0, 0x6E]);
     Ok(())
 }
 
@@ -47,13 +47,13 @@ fn a_field_has_at_most_128_bits(rt: HostRuntime) -> Result<(), Fail> {
     let mut right = Shared::new(&[]);
     let window = Window { start: 0, len: 136 };
     let replies = run_fields::<Lsb0, _, _, _>(rt.alloc(), &mut memory, window, &mut right, &steps)?;
-    assert_eq!(rt;
-        replies.as_slice(),
-        [
-            Reply::Refused(Refusal::Width),
-            Reply::Number(0x8000_0000_0000_0000_0000_0000_0000_0001),
-        ]
-        .as_slice()
+    assert!(rt;
+        replies.as_slice()
+            == [
+                Reply::Refused(Refusal::Width),
+                Reply::Number(0x8000_0000_0000_0000_0000_0000_0000_0001),
+            ]
+            .as_slice()
     );
     Ok(())
 }
@@ -69,10 +69,9 @@ fn a_number_across_two_wide_elements(rt: HostRuntime) -> Result<(), Fail> {
     let mut right = Shared::new(&[]);
     let window = Window { start: 0, len: 256 };
     let replies = run_fields::<Lsb0, _, _, _>(rt.alloc(), &mut memory, window, &mut right, &steps)?;
-    assert_eq!(rt;
-        replies.as_slice(),
-        [Reply::Done, Reply::Number(18_446_744_073_709_551_616)].as_slice()
+    assert!(rt;
+        replies.as_slice() == [Reply::Done, Reply::Number(18_446_744_073_709_551_616)].as_slice()
     );
-    assert_eq!(rt; cells, [0, 1]);
+    assert!(rt; cells == [0, 1]);
     Ok(())
 }

@@ -57,7 +57,7 @@ fn a_number_that_is_loaded_and_stored_leaves_the_bits(rt: HostRuntime) {
     let mut cells = [0x0123_4567u32, 0x89AB_CDEF, 0];
     let mut view = BitSliceMut::<u32, Msb0>::from_slice_mut(&mut cells);
     loaded_then_stored_le::<u32, Msb0>(&mut view);
-    assert_eq!(rt; cells, [0x0123_4567, 0x89AB_CDEF, 0]);
+    assert!(rt; cells == [0x0123_4567, 0x89AB_CDEF, 0]);
 }
 
 #[test]
@@ -65,7 +65,7 @@ fn and_so_from_the_higher_end(rt: HostRuntime) {
     let mut cells = [0x0123_4567u32, 0x89AB_CDEF, 0];
     let mut view = BitSliceMut::<u32, Msb0>::from_slice_mut(&mut cells);
     loaded_then_stored_be::<u32, Msb0>(&mut view);
-    assert_eq!(rt; cells, [0x0123_4567, 0x89AB_CDEF, 0]);
+    assert!(rt; cells == [0x0123_4567, 0x89AB_CDEF, 0]);
 }
 
 #[test]
@@ -81,7 +81,7 @@ fn load_and_store_are_the_lower_end_first(rt: HostRuntime) {
     let mut view = BitSliceMut::<u16, Lsb0>::from_slice_mut(&mut cells);
     view.store::<u32>(0x0123_4567);
     assert!(rt; view.load::<u32>() == 0x0123_4567);
-    assert_eq!(rt; cells, [0x4567, 0x0123]);
+    assert!(rt; cells == [0x4567, 0x0123]);
 }
 
 #[test]

@@ -11,10 +11,10 @@ fn the_back_of_chunks(rt: HostRuntime) {
     let cells = [0x17u8];
     let view = BitSlice::<u8, Msb0>::from_slice(&cells);
     let mut chunks = view.chunks(3);
-    assert_eq!(rt; read(chunks.nth_back(0)), Some((2, 3)));
-    assert_eq!(rt; read(chunks.next_back()), Some((3, 5)));
-    assert_eq!(rt; read(chunks.next_back()), Some((3, 0)));
-    assert_eq!(rt; read(chunks.next_back()), None);
+    assert!(rt; read(chunks.nth_back(0)) == Some((2, 3)));
+    assert!(rt; read(chunks.next_back()) == Some((3, 5)));
+    assert!(rt; read(chunks.next_back()) == Some((3, 0)));
+    assert!(rt; read(chunks.next_back()) == None);
 }
 
 #[test]
@@ -22,10 +22,10 @@ fn both_ends_of_chunks(rt: HostRuntime) {
     let cells = [0x17u8];
     let view = BitSlice::<u8, Msb0>::from_slice(&cells);
     let mut chunks = view.chunks(3);
-    assert_eq!(rt; read(chunks.nth(1)), Some((3, 5)));
-    assert_eq!(rt; read(chunks.next_back()), Some((2, 3)));
-    assert_eq!(rt; read(chunks.next()), None);
-    assert_eq!(rt; read(chunks.next_back()), None);
+    assert!(rt; read(chunks.nth(1)) == Some((3, 5)));
+    assert!(rt; read(chunks.next_back()) == Some((2, 3)));
+    assert!(rt; read(chunks.next()) == None);
+    assert!(rt; read(chunks.next_back()) == None);
 }
 
 #[test]
@@ -34,9 +34,9 @@ fn whole_chunks_from_the_end(rt: HostRuntime) {
     let view = BitSlice::<u8, Msb0>::from_slice(&cells);
     let mut chunks = view.rchunks_exact(3);
     assert_eq!(rt; read(chunks.nth_back(1)), Some((3, 7)));
-    assert_eq!(rt; read(chunks.next()), None);
-    assert_eq!(rt; read(chunks.next_back()), None);
-    assert_eq!(rt; read(Some(chunks.remainder())), Some((2, 0)));
+    assert!(rt; read(chunks.next()) == None);
+    assert!(rt; read(chunks.next_back()) == None);
+    assert!(rt; read(Some(chunks.remainder())) == Some((2, 0)));
 }
 
 #[test]
@@ -44,12 +44,12 @@ fn a_clone_walks_alone(rt: HostRuntime) -> Result<(), Fail> {
     let cells = [0x17u8];
     let view = BitSlice::<u8, Msb0>::from_slice(&cells);
     let mut chunks = view.chunks(3);
-    assert_eq!(rt; read(chunks.next()), Some((3, 0)));
-    assert_eq!(rt; chunks.size_hint(), (2, Some(2)));
+    assert!(rt; read(chunks.next()) == Some((3, 0)));
+    assert!(rt; chunks.size_hint() == (2, Some(2)));
     let mut copy = chunks.clone()?;
-    assert_eq!(rt; read(copy.next()), Some((3, 5)));
-    assert_eq!(rt; read(copy.next()), Some((2, 3)));
-    assert_eq!(rt; read(chunks.next()), Some((3, 5)));
+    assert!(rt; read(copy.next()) == Some((3, 5)));
+    assert!(rt; read(copy.next()) == Some((2, 3)));
+    assert!(rt; read(chunks.next()) == Some((3, 5)));
     Ok(())
 }
 
@@ -59,9 +59,9 @@ fn chunks_from_the_end(rt: HostRuntime) {
     let view = BitSliceMut::<u8, Msb0>::from_slice_mut(&mut cells);
     let mut chunks = view.rchunks(3);
     assert_eq!(rt; read(chunks.next()), Some((3, 7)));
-    assert_eq!(rt; read(chunks.next()), Some((3, 2)));
-    assert_eq!(rt; read(chunks.next()), Some((2, 0)));
-    assert_eq!(rt; read(chunks.next()), None);
+    assert!(rt; read(chunks.next()) == Some((3, 2)));
+    assert!(rt; read(chunks.next()) == Some((2, 0)));
+    assert!(rt; read(chunks.next()) == None);
 }
 
 #[test]
@@ -70,12 +70,9 @@ fn whole_chunks(rt: HostRuntime) {
     let view = BitSliceMut::<u8, Msb0>::from_slice_mut(&mut cells);
     let mut front = view.chunks_exact(3);
     assert_eq!(rt; (read(front.next_back()), front.len()), (Some((3, 5)), 1));
-    assert_eq!(rt; read(Some(front.remainder())), Some((2, 3)));
+    assert!(rt; read(Some(front.remainder())) == Some((2, 3)));
     let mut back = view.rchunks_exact(3);
-    assert_eq!(rt;
-        (read(back.next()), read(back.next())),
-        (Some((3, 7)), Some((3, 2)))
-    );
+    assert!(rt; (read(back.next()), read(back.next())) == (Some((3, 7)), Some((3, 2))));
 }
 
 #[test]
@@ -84,20 +81,11 @@ fn windows_of_five_bits(rt: HostRuntime) -> Result<(), Fail> {
     let all = BitSlice::<u8, Msb0>::from_slice(&cells);
     let view = all.get(0..5).ok_or("no such bits")?;
     let mut forward = view.windows(3);
-    assert_eq!(rt;
-        (read(forward.next()), read(forward.next())),
-        (Some((3, 0)), Some((3, 1)))
-    );
-    assert_eq!(rt;
-        (read(forward.next()), read(forward.next())),
-        (Some((3, 2)), None)
-    );
+    assert!(rt; (read(forward.next()), read(forward.next())) == (Some((3, 0)), Some((3, 1))));
+    assert!(rt; (read(forward.next()), read(forward.next())) == (Some((3, 2)), None));
     let mut windows = view.windows(3);
-    assert_eq!(rt; read(windows.nth_back(1)), Some((3, 1)));
-    assert_eq!(rt;
-        (read(windows.next()), read(windows.next())),
-        (Some((3, 0)), None)
-    );
-    assert_eq!(rt; view.windows(6).len(), 0);
+    assert!(rt; read(windows.nth_back(1)) == Some((3, 1)));
+    assert!(rt; (read(windows.next()), read(windows.next())) == (Some((3, 0)), None));
+    assert!(rt; view.windows(6).len() == 0);
     Ok(())
 }

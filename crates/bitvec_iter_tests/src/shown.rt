@@ -5,29 +5,20 @@ use bitvec_query::base::Lsb0;
 use bitvec_query::slice::{BitSlice, BitSliceMut};
 use std::alloc::Global;
 use std::test::Fail;
+use test_bits::shows;
 
 #[test]
-fn walks_print_their_pieces(rt: HostRuntime) -> Result<(), Fail> {
+fn walks_print_their_pieces(rt: HostRuntime) {
     let bits = [0b1_0110u8];
     let view = BitSlice::<u8, Lsb0>::from_slice(&bits).into_part(0..5);
     let mut chunks = view.chunks(2);
-    assert_eq!(rt;
-        format!(in rt.alloc(); "{chunks:?}")?.as_str(),
-        "Pieces([[0, 1], [1, 0], [1]])"
-    );
+    assert!(rt; shows(rt.alloc(), &chunks, "Pieces([[0, 1], [1, 0], [1]])"));
     let _first = chunks.next();
-    assert_eq!(rt;
-        format!(in rt.alloc(); "{chunks:?}")?.as_str(),
-        "Pieces([[1, 0], [1]])"
-    );
+    assert!(rt; shows(rt.alloc(), &chunks, "Pieces([[1, 0], [1]])"));
     let windows = view.windows(4);
-    assert_eq!(rt;
-        format!(in rt.alloc(); "{windows:?}")?.as_str(),
-        "Pieces([[0, 1, 1, 0], [1, 1, 0, 1]])"
-    );
+    assert!(rt; shows(rt.alloc(), &windows, "Pieces([[0, 1, 1, 0], [1, 1, 0, 1]])"));
     let none = view.rchunks_exact(6);
-    assert_eq!(rt; format!(in rt.alloc(); "{none:?}")?.as_str(), "Pieces([])");
-    Ok(())
+    assert!(rt; shows(rt.alloc(), &none, "Pieces([])"));
 }
 
 /// The text of the chunks of two bits from the end, but for `skipped` of them.
@@ -57,25 +48,14 @@ fn text_of_halves(alloc: Global, bytes: &mut [u8; 1], mid: usize) -> Result<Stri
 #[test]
 fn lenders_print_what_is_left(rt: HostRuntime) -> Result<(), Fail> {
     let mut bytes = [0b1_0110u8];
-    assert_eq!(rt;
-        text_of_chunks(rt.alloc(), &mut bytes, 0)?.as_str(),
-        "PiecesMut([[0, 1], [1, 1], [0]])"
+    assert!(rt;
+        text_of_chunks(rt.alloc(), &mut bytes, 0)?.as_str() == "PiecesMut([[0, 1], [1, 1], [0]])"
     );
-    assert_eq!(rt;
-        text_of_chunks(rt.alloc(), &mut bytes, 2)?.as_str(),
-        "PiecesMut([[0]])"
-    );
-    assert_eq!(rt;
-        text_of_bits(rt.alloc(), &mut bytes, 1)?.as_str(),
-        "IterMut([1, 1, 0, 1])"
-    );
-    assert_eq!(rt;
-        text_of_bits(rt.alloc(), &mut bytes, 9)?.as_str(),
-        "IterMut([])"
-    );
-    assert_eq!(rt;
-        text_of_halves(rt.alloc(), &mut bytes, 2)?.as_str(),
-        "HalvesMut([0, 1], [1, 0, 1])"
+    assert!(rt; text_of_chunks(rt.alloc(), &mut bytes, 2)?.as_str() == "PiecesMut([[0]])");
+    assert!(rt; text_of_bits(rt.alloc(), &mut bytes, 1)?.as_str() == "IterMut([1, 1, 0, 1])");
+    assert!(rt; text_of_bits(rt.alloc(), &mut bytes, 9)?.as_str() == "IterMut([])");
+    assert!(rt;
+        text_of_halves(rt.alloc(), &mut bytes, 2)?.as_str() == "HalvesMut([0, 1], [1, 0, 1])"
     );
     Ok(())
 }

@@ -65,21 +65,18 @@ fn the_greatest_width(rt: HostRuntime) {
     let cells = [0x17u8];
     let view = BitSlice::<u8, Msb0>::from_slice(&cells);
     assert_eq!(rt; read(view.chunks(usize::MAX).next_back()), Some((8, 0x17)));
-    assert_eq!(rt; read(view.rchunks(usize::MAX).next()), Some((8, 0x17)));
-    assert_eq!(rt; view.windows(usize::MAX).len(), 0);
+    assert!(rt; read(view.rchunks(usize::MAX).next()) == Some((8, 0x17)));
+    assert!(rt; view.windows(usize::MAX).len() == 0);
     let whole = view.chunks_exact(usize::MAX);
-    assert_eq!(rt;
-        (whole.len(), read(Some(whole.remainder()))),
-        (0, Some((8, 0x17)))
-    );
+    assert!(rt; (whole.len(), read(Some(whole.remainder()))) == (0, Some((8, 0x17))));
 }
 
 #[test]
 fn a_view_without_bits(rt: HostRuntime) {
     let none: [u8; 0] = [];
     let view = BitSlice::<u8, Msb0>::from_slice(&none);
-    assert_eq!(rt; (view.iter().len(), view.windows(1).len()), (0, 0));
+    assert!(rt; (view.iter().len(), view.windows(1).len()) == (0, 0));
     assert!(rt; view.chunks(1).next().is_none() && view.rchunks(1).next_back().is_none());
     let whole = view.rchunks_exact(1);
-    assert_eq!(rt; (whole.len(), whole.remainder().len()), (0, 0));
+    assert!(rt; (whole.len(), whole.remainder().len()) == (0, 0));
 }

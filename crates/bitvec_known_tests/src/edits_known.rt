@@ -105,7 +105,7 @@ fn bits_are_moved(rt: HostRuntime) {
     if view.len() >= 8 {
         swap_fields(&mut view, 4);
     }
-    assert_eq!(rt; cells, [0b1011_1101]);
+    assert!(rt; cells == [0b1011_1101]);
 }
 
 /// Exchanges the first four bits of the bytes with those of others.
@@ -143,7 +143,7 @@ fn bits_are_exchanged(rt: HostRuntime) {
     let mut word = [0x8001u16];
     exchange_four(&mut left, &mut right);
     exchange_four_of_words(&mut left, &mut word);
-    assert_eq!(rt; left, [0x8F]);
-    assert_eq!(rt; right, [0x00]);
-    assert_eq!(rt; word, [0x8005]);
+    assert!(rt; left == [0x8F]);
+    assert!(rt; right == [0x00]);
+    assert!(rt; word == [0x8005]);
 }

@@ -117,17 +117,17 @@ fn one_bit_is_set(rt: HostRuntime) {
     let mut cells = [0u8; 3];
     let mut view = BitSliceMut::<u8, Lsb0>::from_slice_mut(&mut cells);
     set_in_place(&mut view, 11);
-    assert_eq!(rt; cells, [0, 8, 0]);
+    assert!(rt; cells == [0, 8, 0]);
 }
 
 #[test]
 fn chunks_are_taken(rt: HostRuntime) {
     let mut cells = [0xFFu8; 2];
     let mut view = BitSliceMut::<u8, Lsb0>::from_slice_mut(&mut cells);
-    assert_eq!(rt; clear_first(&mut view, 3), 5);
-    assert_eq!(rt; clear_last_chunk(&mut view, 3), 5);
-    assert_eq!(rt; clear_remainder(&mut view, 6), 2);
-    assert_eq!(rt; left_between(&mut view, 3, 2, 1), 3);
-    assert_eq!(rt; flip_first(&mut view, 5), 5);
-    assert_eq!(rt; cells, [0xE7, 0x0F]);
+    assert!(rt; clear_first(&mut view, 3) == 5);
+    assert!(rt; clear_last_chunk(&mut view, 3) == 5);
+    assert!(rt; clear_remainder(&mut view, 6) == 2);
+    assert!(rt; left_between(&mut view, 3, 2, 1) == 3);
+    assert!(rt; flip_first(&mut view, 5) == 5);
+    assert!(rt; cells == [0xE7, 0x0F]);
 }

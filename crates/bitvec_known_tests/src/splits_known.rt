@@ -57,7 +57,7 @@ fn the_next_piece_is_cleared(rt: HostRuntime) {
         assert!(rt; clear_next(&mut pieces));
         assert!(rt; !clear_next(&mut pieces));
     }
-    assert_eq!(rt; cells, [0x24]);
+    assert!(rt; cells == [0x24]);
 }
 
 #[test]
@@ -66,5 +66,5 @@ fn two_pieces_are_cleared(rt: HostRuntime) {
     let mut cells = [0xB6u8];
     let mut view = BitSliceMut::<u8, Lsb0>::from_slice_mut(&mut cells);
     assert!(rt; !clear_two(&mut view));
-    assert_eq!(rt; cells, [0xB0]);
+    assert!(rt; cells == [0xB0]);
 }

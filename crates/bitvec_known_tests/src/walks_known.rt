@@ -81,30 +81,30 @@ pub fn rows_either<T: BitStore, V: IterCalls<T>>(view: V, width: usize) -> V::Ch
 fn walks_leave_their_functions(rt: HostRuntime) {
     let bytes = [0x17u8, 0x80];
     let view = BitSlice::<u8, Msb0>::from_slice(&bytes);
-    assert_eq!(rt; first_token(view).map_or(99, |token| token.len()), 3);
-    assert_eq!(rt; rows(view).len(), 2);
-    assert_eq!(rt; pairs(&bytes).len(), 8);
-    assert_eq!(rt; rows_of(view, 5).len(), 4);
-    assert_eq!(rt; rows_either(view, 5).len(), 4);
+    assert!(rt; first_token(view).map_or(99, |token| token.len()) == 3);
+    assert!(rt; rows(view).len() == 2);
+    assert!(rt; pairs(&bytes).len() == 8);
+    assert!(rt; rows_of(view, 5).len() == 4);
+    assert!(rt; rows_either(view, 5).len() == 4);
 }
 
 #[test]
 fn walks_of_a_writable_view(rt: HostRuntime) {
     let mut bytes = [0x17u8, 0x80];
     let mut view = BitSliceMut::<u8, Msb0>::from_slice_mut(&mut bytes);
-    assert_eq!(rt; rows_in(&view, 5).len(), 4);
-    assert_eq!(rt; taken_in(&view).next_back(), Some(8));
-    assert_eq!(rt; rows_either(&view, 3).len(), 6);
+    assert!(rt; rows_in(&view, 5).len() == 4);
+    assert!(rt; taken_in(&view).next_back() == Some(8));
+    assert!(rt; rows_either(&view, 3).len() == 6);
     let lent = &mut view;
-    assert_eq!(rt; lent.rchunks(3).len(), 6);
-    assert_eq!(rt;
+    assert!(rt; lent.rchunks(3).len() == 6);
+    assert!(rt;
         lent.splitn(2, |_, bit| *bit)
             .next()
-            .map_or(99, |piece| piece.len()),
-        3
+            .map_or(99, |piece| piece.len())
+            == 3
     );
     lent.set(0, true);
-    assert_eq!(rt; view.iter_zeros().next(), Some(1));
+    assert!(rt; view.iter_zeros().next() == Some(1));
 }
 
 #[test]
@@ -112,6 +112,6 @@ fn walks_of_an_owned_sequence(rt: HostRuntime) -> Result<(), Fail> {
     let bytes = [0x17u8, 0x80];
     let copy = BitSlice::<u8, Msb0>::from_slice(&bytes).to_bitvec(rt.alloc())?;
     let chunks = copy.as_bitslice().chunks(5);
-    assert_eq!(rt; chunks.len(), 4);
+    assert!(rt; chunks.len() == 4);
     Ok(())
 }

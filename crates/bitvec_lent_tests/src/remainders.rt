@@ -24,8 +24,8 @@ fn set_remainder(bytes: &mut [u8; 1]) -> (usize, usize) {
 #[test]
 fn a_remainder_is_taken_once(rt: HostRuntime) {
     let mut bytes = [0x00];
-    assert_eq!(rt; set_remainder(&mut bytes), (2, 0));
-    assert_eq!(rt; bytes, [0xC0]);
+    assert!(rt; set_remainder(&mut bytes) == (2, 0));
+    assert!(rt; bytes == [0xC0]);
 }
 
 /// Takes the remainder, sets the first bit of each chunk that comes at three calls, and gives how many
@@ -62,9 +62,9 @@ fn left_at_the_end(view: &mut BitSliceMut<'_, u8, Lsb0>) -> usize {
 fn the_chunks_still_come(rt: HostRuntime) {
     let mut bytes = [0x00u8];
     let mut view = BitSliceMut::from_slice_mut(&mut bytes);
-    assert_eq!(rt; set_first_bits(&mut view), (2, 2));
-    assert_eq!(rt; left_at_the_end(&mut view), 0);
-    assert_eq!(rt; bytes, [0x09]);
+    assert!(rt; set_first_bits(&mut view) == (2, 2));
+    assert!(rt; left_at_the_end(&mut view) == 0);
+    assert!(rt; bytes == [0x09]);
 }
 
 /// Sets what is left before the chunks from the end.
@@ -79,5 +79,5 @@ fn chunks_from_the_end_leave_the_first_bits(rt: HostRuntime) {
     let mut bytes = [0x00u8];
     let mut view = BitSliceMut::from_slice_mut(&mut bytes);
     set_left_over(&mut view);
-    assert_eq!(rt; bytes, [0x03]);
+    assert!(rt; bytes == [0x03]);
 }

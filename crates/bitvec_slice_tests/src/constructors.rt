@@ -25,32 +25,20 @@ fn sizes_of_writable<T: BitStore, O: BitOrder>(view: BitSliceMut<'_, T, O>) -> (
 
 #[test]
 fn an_empty_view_has_no_bit(rt: HostRuntime) {
-    assert_eq!(rt; sizes(BitSlice::<u8, Lsb0>::empty()), (0, 0));
-    assert_eq!(rt; sizes(BitSlice::<u64, Msb0>::default()), (0, 0));
+    assert!(rt; sizes(BitSlice::<u8, Lsb0>::empty()) == (0, 0));
+    assert!(rt; sizes(BitSlice::<u64, Msb0>::default()) == (0, 0));
     assert!(rt; BitSlice::<u8, Lsb0>::empty().is_empty());
     assert!(rt; BitSliceMut::<u8, Lsb0>::empty_mut().is_empty());
-    assert_eq!(rt;
-        sizes_of_writable(BitSliceMut::<u16, Msb0>::empty_mut()),
-        (0, 0)
-    );
-    assert_eq!(rt;
-        sizes_of_writable(BitSliceMut::<u32, HiLo>::default()),
-        (0, 0)
-    );
+    assert!(rt; sizes_of_writable(BitSliceMut::<u16, Msb0>::empty_mut()) == (0, 0));
+    assert!(rt; sizes_of_writable(BitSliceMut::<u32, HiLo>::default()) == (0, 0));
 }
 
 #[test]
 fn an_element_is_viewed_in_its_order(rt: HostRuntime) {
     let view = BitSlice::<u8, Lsb0>::from_element(&0xF1);
-    assert_eq!(rt;
-        (view.len(), view.first_one(), view.last_zero()),
-        (8, Some(0), Some(3))
-    );
+    assert!(rt; (view.len(), view.first_one(), view.last_zero()) == (8, Some(0), Some(3)));
     let view = BitSlice::<u8, Msb0>::from_element(&0xF1);
-    assert_eq!(rt;
-        (view.len(), view.first_zero(), view.last_one()),
-        (8, Some(4), Some(7))
-    );
+    assert!(rt; (view.len(), view.first_zero(), view.last_one()) == (8, Some(4), Some(7)));
     let view = from_ref::<u32, Lsb0>(&0x8000_0000);
     assert_eq!(rt; (view.len(), view.first_one()), (32, Some(31)));
 }
@@ -73,16 +61,16 @@ fn invert<T: BitStore, O: SliceOrder>(element: &mut T) {
 fn an_element_is_written_through_its_view(rt: HostRuntime) {
     let mut byte = 0u8;
     set_bit::<u8, Lsb0>(&mut byte, 1);
-    assert_eq!(rt; byte, 0x02);
+    assert!(rt; byte == 0x02);
     set_bit::<u8, Msb0>(&mut byte, 1);
-    assert_eq!(rt; byte, 0x42);
+    assert!(rt; byte == 0x42);
     set_bit::<u8, Msb0>(&mut byte, 8);
-    assert_eq!(rt; byte, 0x42);
+    assert!(rt; byte == 0x42);
     invert::<u8, HiLo>(&mut byte);
-    assert_eq!(rt; byte, 0xBD);
+    assert!(rt; byte == 0xBD);
     let mut wide = 1u64;
     set_bit::<u64, Lsb0>(&mut wide, 63);
-    assert_eq!(rt; wide, 0x8000_0000_0000_0001);
+    assert!(rt; wide == 0x8000_0000_0000_0001);
 }
 
 /// How many bits a view has and where the last one is, if it was made.
@@ -101,15 +89,12 @@ fn a_slice_that_is_short_enough_is_viewed(rt: HostRuntime) {
     let view = BitSlice::<u8, Lsb0>::try_from_slice(&cells);
     assert_eq!(rt; found(view), Some((16, Some(8))));
     let view: Result<BitSlice<'_, u8, Msb0>, &[u8]> = BitSlice::try_from(&cells[..]);
-    assert_eq!(rt; found(view), Some((16, Some(15))));
+    assert!(rt; found(view) == Some((16, Some(15))));
     let none: [u8; 0] = [];
     let view = BitSlice::<u8, Lsb0>::try_from_slice(&none);
-    assert_eq!(rt; found(view), Some((0, None)));
-    assert_eq!(rt;
-        sizes(BitSlice::<u8, Lsb0>::from_slice_unchecked(&cells)),
-        (16, 2)
-    );
-    assert_eq!(rt; sizes(BitSlice::<u8, Lsb0>::from_slice(&none)), (0, 0));
+    assert!(rt; found(view) == Some((0, None)));
+    assert!(rt; sizes(BitSlice::<u8, Lsb0>::from_slice_unchecked(&cells)) == (16, 2));
+    assert!(rt; sizes(BitSlice::<u8, Lsb0>::from_slice(&none)) == (0, 0));
 }
 
 /// Fills the elements with ones, if they can be viewed.
@@ -135,9 +120,9 @@ fn clear<T: BitStore, O: SliceOrder>(elements: &mut [T]) -> bool {
 fn a_slice_that_is_short_enough_is_written(rt: HostRuntime) {
     let mut cells = [0u16, 3, 5];
     fill::<u16, Msb0>(&mut cells);
-    assert_eq!(rt; cells, [0xFFFF, 0xFFFF, 0xFFFF]);
+    assert!(rt; cells == [0xFFFF, 0xFFFF, 0xFFFF]);
     assert!(rt; clear::<u16, Lsb0>(&mut cells));
-    assert_eq!(rt; cells, [0, 0, 0]);
+    assert!(rt; cells == [0, 0, 0]);
     let mut view = BitSliceMut::<u16, Lsb0>::from_slice_unchecked_mut(&mut cells);
     view.set(17, true);
     assert_eq!(rt; view.into_slice()[1], 2);

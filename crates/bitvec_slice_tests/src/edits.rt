@@ -32,22 +32,22 @@ pub fn fill_range<T: BitStore, O: SliceOrder>(
 fn fill_leaves_the_neighbours(rt: HostRuntime) {
     let mut cells = [0u8, 0, 0];
     assert!(rt; fill_range::<u8, Lsb0>(&mut cells, 3, 21, true));
-    assert_eq!(rt; cells, [0xF8, 0xFF, 0x1F]);
+    assert!(rt; cells == [0xF8, 0xFF, 0x1F]);
     let mut cells = [0u8, 0, 0];
     assert!(rt; fill_range::<u8, Msb0>(&mut cells, 3, 21, true));
-    assert_eq!(rt; cells, [0x1F, 0xFF, 0xF8]);
+    assert!(rt; cells == [0x1F, 0xFF, 0xF8]);
     assert!(rt; fill_range::<u8, Msb0>(&mut cells, 11, 13, false));
-    assert_eq!(rt; cells, [0x1F, 0xE7, 0xF8]);
+    assert!(rt; cells == [0x1F, 0xE7, 0xF8]);
     let mut cells = [0u8];
     assert!(rt; fill_range::<u8, Lsb0>(&mut cells, 0, 5, true));
-    assert_eq!(rt; cells, [0x1F]);
+    assert!(rt; cells == [0x1F]);
 }
 
 #[test]
 fn fill_under_hilo_takes_the_high_half_first(rt: HostRuntime) {
     let mut cells = [0u8];
     assert!(rt; fill_range::<u8, HiLo>(&mut cells, 0, 3, true));
-    assert_eq!(rt; cells, [0x70]);
+    assert!(rt; cells == [0x70]);
 }
 
 /// Flips the bits 16 to 79, and of these flips 24 to 39 again.
@@ -74,7 +74,7 @@ fn not_twice(rt: HostRuntime) {
 
 #[test]
 fn the_constants_are_the_crates(rt: HostRuntime) {
-    assert_eq!(rt; BitSlice::<u8, Lsb0>::MAX_BITS, 0x1FFF_FFFF_FFFF_FFFF);
-    assert_eq!(rt; BitSlice::<u8, Lsb0>::MAX_ELTS, 0x0400_0000_0000_0001);
-    assert_eq!(rt; BitSlice::<u64, Msb0>::MAX_ELTS, 0x0080_0000_0000_0001);
+    assert!(rt; BitSlice::<u8, Lsb0>::MAX_BITS == 0x1FFF_FFFF_FFFF_FFFF);
+    assert!(rt; BitSlice::<u8, Lsb0>::MAX_ELTS == 0x0400_0000_0000_0001);
+    assert!(rt; BitSlice::<u64, Msb0>::MAX_ELTS == 0x0080_0000_0000_0001);
 }

@@ -45,17 +45,14 @@ fn ends_of_three_bits(rt: HostRuntime) {
     let cells = [0xF9u8];
     let view = BitSlice::<u8, Lsb0>::from_slice(&cells).into_part(0..3);
     let wanted = [Some((true, 2, 0)), Some((false, 2, 1))];
-    assert_eq!(rt; ends(view), ([Some(true), Some(false)], wanted));
+    assert!(rt; ends(view) == ([Some(true), Some(false)], wanted));
 }
 
 #[test]
 fn an_empty_view_has_no_ends(rt: HostRuntime) {
-    assert_eq!(rt;
-        ends(BitSlice::<u16, Msb0>::empty()),
-        ([None; 2], [None; 2])
-    );
+    assert!(rt; ends(BitSlice::<u16, Msb0>::empty()) == ([None; 2], [None; 2]));
     let mut view = BitSliceMut::<u16, Msb0>::empty_mut();
-    assert_eq!(rt; ends_of_writable(&view), ([None; 2], [None; 2]));
+    assert!(rt; ends_of_writable(&view) == ([None; 2], [None; 2]));
     assert!(rt; view.first_mut().is_none());
     assert!(rt; view.last_mut().is_none());
 }
@@ -65,10 +62,7 @@ fn ends_of_a_writable_view(rt: HostRuntime) {
     let mut cells = [0x80u8, 0x10];
     let view = BitSliceMut::<u8, Msb0>::from_slice_mut(&mut cells);
     let wanted = [Some((true, 15, 1)), Some((false, 15, 2))];
-    assert_eq!(rt;
-        ends_of_writable(&view),
-        ([Some(true), Some(false)], wanted)
-    );
+    assert!(rt; ends_of_writable(&view) == ([Some(true), Some(false)], wanted));
 }
 
 /// Flips the first and the last bit of an element.
@@ -88,8 +82,8 @@ fn flip_ends<T: BitStore, O: BitOrder>(element: &mut T) {
 fn ends_that_are_written(rt: HostRuntime) {
     let mut byte = 0xFEu8;
     flip_ends::<u8, Lsb0>(&mut byte);
-    assert_eq!(rt; byte, 0x7F);
+    assert!(rt; byte == 0x7F);
     let mut word = 0x0100u16;
     flip_ends::<u16, Msb0>(&mut word);
-    assert_eq!(rt; word, 0x8101);
+    assert!(rt; word == 0x8101);
 }

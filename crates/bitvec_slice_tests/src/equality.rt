@@ -25,7 +25,7 @@ fn a_clone_has_the_same_bits(rt: HostRuntime) -> Result<(), Fail> {
     let view = BitSlice::<u8, Lsb0>::from_slice(&cells).into_part(4..12);
     let copy = view.clone()?;
     assert!(rt; view == copy);
-    assert_eq!(rt; (copy.len(), copy.window()), (8, view.window()));
+    assert!(rt; (copy.len(), copy.window()) == (8, view.window()));
     Ok(())
 }
 

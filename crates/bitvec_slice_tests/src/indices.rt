@@ -44,7 +44,7 @@ fn each_kind_of_range_by_get_mut(rt: HostRuntime) {
     for (kind, after) in [0x0C, 0xC0, 0x01, 0x30, 0x07, 0xFF].into_iter().enumerate() {
         let mut cells = [0x00u8];
         fill::<u8, Lsb0>(&mut cells, kind);
-        assert_eq!(rt; cells, [after], "{kind}");
+        assert!(rt; cells == [after], "{kind}");
     }
 }
 
@@ -64,7 +64,7 @@ fn fill_index<'a, T: BitStore, O: SliceOrder>(
 fn a_range_by_value(rt: HostRuntime) {
     let mut cells = [0x00u8];
     fill_index::<u8, Lsb0>(&mut cells, 1..=2);
-    assert_eq!(rt; cells, [0x06]);
+    assert!(rt; cells == [0x06]);
 }
 
 /// Makes some of the first eight bits 1, by the calls that ask for them.
@@ -100,7 +100,7 @@ fn each_kind_of_range_by_index_mut(rt: HostRuntime) {
         .enumerate()
     {
         fill_some::<u8, Lsb0>(&mut cells, kind);
-        assert_eq!(rt; cells, [after], "{kind}");
+        assert!(rt; cells == [after], "{kind}");
     }
 }
 
@@ -108,8 +108,8 @@ fn each_kind_of_range_by_index_mut(rt: HostRuntime) {
 fn brackets_of_a_writable_view(rt: HostRuntime) {
     let mut cells = [0x05u8];
     let view = BitSliceMut::<u8, Lsb0>::from_slice_mut(&mut cells);
-    assert_eq!(rt; first_three(&view), (true, false, true));
-    assert_eq!(rt; view.get(8).is_none(), true);
+    assert!(rt; first_three(&view) == (true, false, true));
+    assert!(rt; view.get(8).is_none());
 }
 
 /// Fills the first ten bits, if there are as many, and gives how many there are in all.
@@ -126,8 +126,8 @@ fn fill_ten<T: BitStore, O: SliceOrder>(elements: &mut [T]) -> usize
 #[test]
 fn a_part_for_writing_leaves_the_others(rt: HostRuntime) {
     let mut cells = [0x00u8, 0x80];
-    assert_eq!(rt; fill_ten::<u8, Lsb0>(&mut cells), 16);
-    assert_eq!(rt; cells, [0xFF, 0x83]);
+    assert!(rt; fill_ten::<u8, Lsb0>(&mut cells) == 16);
+    assert!(rt; cells == [0xFF, 0x83]);
 }
 
 /// Where a range of three elements' bits stands among the elements that it keeps.
@@ -141,12 +141,12 @@ fn place_of(from: usize, to: usize) -> Option<(usize, usize)> {
 #[test]
 fn a_view_says_where_it_stands(rt: HostRuntime) {
     for (from, to, place) in [(5, 17, (5, 12)), (13, 17, (5, 4)), (11, 11, (3, 0))] {
-        assert_eq!(rt; place_of(from, to), Some(place));
+        assert!(rt; place_of(from, to) == Some(place));
     }
     let mut cells = [0u8; 3];
     let view = BitSliceMut::<u8, Lsb0>::from_slice_mut(&mut cells);
     assert_eq!(rt; view.window(), Window { start: 0, len: 24 });
-    assert_eq!(rt; (view.bit_len(), view.as_ref().bit_len()), (24, 24));
+    assert!(rt; (view.bit_len(), view.as_ref().bit_len()) == (24, 24));
 }
 
 #[test]

@@ -46,7 +46,7 @@ fn ranges_of_two_ends(rt: HostRuntime) {
         (4, 6, None),
         (4, 3, None),
     ] {
-        assert_eq!(rt; between(first, end), found, "{first} {end}");
+        assert!(rt; between(first, end) == found, "{first} {end}");
     }
     for (first, last, found) in [
         (1, 2, Some((2, 1))),
@@ -55,7 +55,7 @@ fn ranges_of_two_ends(rt: HostRuntime) {
         (2, 1, None),
         (0, usize::MAX, None),
     ] {
-        assert_eq!(rt; through(first, last), found, "{first} {last}");
+        assert!(rt; through(first, last) == found, "{first} {last}");
     }
 }
 
@@ -67,24 +67,24 @@ fn ranges_of_one_end(rt: HostRuntime) {
         (6, None),
         (usize::MAX, None),
     ] {
-        assert_eq!(rt; from(first), found, "{first}");
+        assert!(rt; from(first) == found, "{first}");
     }
     for (end, found) in [(4, Some((4, 1))), (6, None)] {
-        assert_eq!(rt; up_to(end), found, "{end}");
+        assert!(rt; up_to(end) == found, "{end}");
     }
     for (last, found) in [(1, Some((2, 1))), (5, None), (usize::MAX, None)] {
-        assert_eq!(rt; up_through(last), found, "{last}");
+        assert!(rt; up_through(last) == found, "{last}");
     }
 }
 
 #[test]
 fn a_pair_of_bits_and_all(rt: HostRuntime) -> Result<(), Fail> {
     let view = five_bits(&[0x12]).ok_or("no such bits")?;
-    assert_eq!(rt; counts(view.get(..)), Some((5, 2)));
-    assert_eq!(rt; view.get(5).is_none(), true);
-    assert_eq!(rt; *view.get(4).ok_or("no such bit")?, true);
+    assert!(rt; counts(view.get(..)) == Some((5, 2)));
+    assert!(rt; view.get(5).is_none());
+    assert!(rt; *view.get(4).ok_or("no such bit")?);
     let pair = view.get(1..=2).ok_or("no such bits")?;
-    assert_eq!(rt; (pair[0], pair[1]), (true, false));
+    assert!(rt; (pair[0], pair[1]) == (true, false));
     Ok(())
 }
 
@@ -106,7 +106,7 @@ fn ones_by_index(kind: usize) -> usize {
 #[test]
 fn each_kind_of_range_by_index(rt: HostRuntime) {
     for (kind, ones) in [2, 1, 2, 1, 1, 2, 1].into_iter().enumerate() {
-        assert_eq!(rt; ones_by_index(kind), ones, "{kind}");
+        assert!(rt; ones_by_index(kind) == ones, "{kind}");
     }
 }
 
@@ -114,6 +114,6 @@ fn each_kind_of_range_by_index(rt: HostRuntime) {
 fn a_bit_by_index(rt: HostRuntime) {
     let cells = [0x12u8];
     let view = BitSlice::<u8, Lsb0>::from_slice(&cells);
-    assert_eq!(rt; (*4.index(view), *view.get_unchecked(5)), (true, false));
-    assert_eq!(rt; (view[0], view[1], view[7]), (false, true, false));
+    assert!(rt; (*4.index(view), *view.get_unchecked(5)) == (true, false));
+    assert!(rt; (view[0], view[1], view[7]) == (false, true, false));
 }

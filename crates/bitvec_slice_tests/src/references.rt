@@ -37,8 +37,8 @@ fn a_reference_writes_at_once(rt: HostRuntime) {
         (0x04, 8, None, 0x04),
     ] {
         let mut cells = [byte];
-        assert_eq!(rt; write_thrice::<u8, Lsb0>(&mut cells, index), read);
-        assert_eq!(rt; cells, [after]);
+        assert!(rt; write_thrice::<u8, Lsb0>(&mut cells, index) == read);
+        assert!(rt; cells == [after]);
     }
 }
 
@@ -46,8 +46,8 @@ fn a_reference_writes_at_once(rt: HostRuntime) {
 fn a_reference_stands_where_the_order_says(rt: HostRuntime) {
     let mut cells = [0xFFFFu16, 0];
     let read = write_thrice::<u16, Msb0>(&mut cells, 17);
-    assert_eq!(rt; read, Some((false, true, false)));
-    assert_eq!(rt; cells, [0xFFFF, 0x4000]);
+    assert!(rt; read == Some((false, true, false)));
+    assert!(rt; cells == [0xFFFF, 0x4000]);
 }
 
 /// Clears the bit at an index through the call that gives no `Option`.
@@ -67,7 +67,7 @@ fn clear<T: BitStore, O: BitOrder>(elements: &mut [T], from: usize, index: usize
 fn the_bit_of_a_part(rt: HostRuntime) {
     let mut cells = [0xFFu8, 0xFF];
     clear::<u8, Lsb0>(&mut cells, 3, 7);
-    assert_eq!(rt; cells, [0xFF, 0xFB]);
+    assert!(rt; cells == [0xFF, 0xFB]);
 }
 
 /// A reference's bit, read through a copy.
@@ -81,8 +81,8 @@ fn a_shared_reference_is_copied(rt: HostRuntime) -> Result<(), Fail> {
     let cells = [0x12u8];
     let view = BitSlice::<u8, Lsb0>::from_slice(&cells);
     let one = view.get(1).ok_or("no such bit")?;
-    assert_eq!(rt; (*one, read_copy(&one)), (true, true));
+    assert!(rt; (*one, read_copy(&one)) == (true, true));
     let again = one.clone()?;
-    assert_eq!(rt; (*one, *again), (true, true));
+    assert!(rt; (*one, *again) == (true, true));
     Ok(())
 }

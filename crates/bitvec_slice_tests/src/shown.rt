@@ -7,6 +7,7 @@ use bitvec_query::base::{Lsb0, Msb0};
 use bitvec_query::slice::{BitSlice, BitSliceMut};
 use std::alloc::Global;
 use std::test::Fail;
+use test_bits::shows;
 
 /// The two texts of a writable view of the bits.
 fn texts_of(alloc: Global, cells: &mut [u8; 1]) -> Result<String, Fail> {
@@ -23,9 +24,9 @@ fn views_are_equal(cells: &mut [u8; 1], others: &mut [u8; 1]) -> bool {
 
 #[test]
 fn writable_views_print_and_compare(rt: HostRuntime) -> Result<(), Fail> {
-    assert_eq!(rt;
-        texts_of(rt.alloc(), &mut [0xA1])?.as_str(),
-        "[1, 0, 0, 0, 0, 1, 0, 1] [1, 0, 0, 0, 0, 1, 0, 1]"
+    assert!(rt;
+        texts_of(rt.alloc(), &mut [0xA1])?.as_str()
+            == "[1, 0, 0, 0, 0, 1, 0, 1] [1, 0, 0, 0, 0, 1, 0, 1]"
     );
     assert!(rt; views_are_equal(&mut [0xA1], &mut [0xA1]));
     assert!(rt; !views_are_equal(&mut [0xA1], &mut [0xA3]));
@@ -38,10 +39,7 @@ fn references_print_and_compare(rt: HostRuntime) -> Result<(), Fail> {
     let view = BitSlice::<u8, Lsb0>::from_slice(&bits);
     let first = view.get(0).ok_or("no bit")?;
     let second = view.get(1).ok_or("no bit")?;
-    assert_eq!(rt;
-        format!(in rt.alloc(); "{first} {second:?}")?.as_str(),
-        "true false"
-    );
+    assert!(rt; format!(in rt.alloc(); "{first} {second:?}")?.as_str() == "true false");
     assert!(rt; first != second);
     assert!(rt; Some(first) == view.get(2));
     Ok(())
@@ -67,37 +65,27 @@ fn first_bits_are_equal(cells: &mut [u8; 1], others: &mut [u8; 1]) -> bool {
 
 #[test]
 fn writing_references_print_and_compare(rt: HostRuntime) -> Result<(), Fail> {
-    assert_eq!(rt; texts_of_first(rt.alloc(), &mut [1])?.as_str(), "true true");
+    assert!(rt; texts_of_first(rt.alloc(), &mut [1])?.as_str() == "true true");
     assert!(rt; first_bits_are_equal(&mut [1], &mut [3]));
     assert!(rt; !first_bits_are_equal(&mut [1], &mut [2]));
     Ok(())
 }
 
 #[test]
-fn walks_over_bits_print_what_is_left(rt: HostRuntime) -> Result<(), Fail> {
+fn walks_over_bits_print_what_is_left(rt: HostRuntime) {
     let bits = [0b1101u8];
     let view = BitSlice::<u8, Lsb0>::from_slice(&bits).into_part(0..5);
     let mut walk = view.iter();
     let _first = walk.next();
     let _last = walk.next_back();
-    assert_eq!(rt;
-        format!(in rt.alloc(); "{walk:?}")?.as_str(),
-        "Iter([0, 1, 1])"
-    );
+    assert!(rt; shows(rt.alloc(), &walk, "Iter([0, 1, 1])"));
     let refs = view.iter().by_refs();
-    assert_eq!(rt;
-        format!(in rt.alloc(); "{refs:?}")?.as_str(),
-        "BitRefIter([1, 0, 1, 1, 0])"
-    );
+    assert!(rt; shows(rt.alloc(), &refs, "BitRefIter([1, 0, 1, 1, 0])"));
     let mut vals = view.iter().by_vals();
     for _ in 0..5 {
         let _bit = vals.next();
     }
-    assert_eq!(rt;
-        format!(in rt.alloc(); "{vals:?}")?.as_str(),
-        "BitValIter([])"
-    );
-    Ok(())
+    assert!(rt; shows(rt.alloc(), &vals, "BitValIter([])"));
 }
 
 /// The value of a view's one part, and how many whole elements a region has.
@@ -120,8 +108,8 @@ fn elements_of(cells: &[u8; 3], from: usize, to: usize) -> (Option<u8>, Option<u
 #[test]
 fn domains_tell_their_kind(rt: HostRuntime) {
     let cells = [0x0Fu8, 0x12, 0x80];
-    assert_eq!(rt; elements_of(&cells, 9, 15), (Some(0x12), None));
-    assert_eq!(rt; elements_of(&cells, 4, 17), (None, Some(1)));
+    assert!(rt; elements_of(&cells, 9, 15) == (Some(0x12), None));
+    assert!(rt; elements_of(&cells, 4, 17) == (None, Some(1)));
 }
 
 /// The values of the elements that a range of the bits touches, from the front, or from the back.
@@ -152,15 +140,15 @@ fn values_of(
 fn domains_give_their_values_in_order(rt: HostRuntime) -> Result<(), Fail> {
     let cells = [0xFFu8, 0x12, 0x34, 0xFF];
     let inside = values_of(rt.alloc(), &cells, 9, 12, false)?;
-    assert_eq!(rt; inside.as_slice(), [0x10].as_slice());
+    assert!(rt; inside.as_slice() == [0x10].as_slice());
     let across = values_of(rt.alloc(), &cells, 4, 28, false)?;
-    assert_eq!(rt; across.as_slice(), [0x0F, 0x12, 0x34, 0xF0].as_slice());
+    assert!(rt; across.as_slice() == [0x0F, 0x12, 0x34, 0xF0].as_slice());
     let from_end = values_of(rt.alloc(), &cells, 4, 28, true)?;
-    assert_eq!(rt; from_end.as_slice(), [0xF0, 0x34, 0x12, 0x0F].as_slice());
+    assert!(rt; from_end.as_slice() == [0xF0, 0x34, 0x12, 0x0F].as_slice());
     let whole = values_of(rt.alloc(), &cells, 8, 24, true)?;
-    assert_eq!(rt; whole.as_slice(), [0x34, 0x12].as_slice());
+    assert!(rt; whole.as_slice() == [0x34, 0x12].as_slice());
     let edge = values_of(rt.alloc(), &cells, 0, 11, false)?;
-    assert_eq!(rt; edge.as_slice(), [0xFF, 0x00].as_slice());
+    assert!(rt; edge.as_slice() == [0xFF, 0x00].as_slice());
     assert!(rt; values_of(rt.alloc(), &cells, 5, 5, false)?.is_empty());
     Ok(())
 }
@@ -206,8 +194,8 @@ fn writable_elements(cells: &mut [u8; 3], from: usize, to: usize) -> (Option<u8>
 #[test]
 fn writable_domains_tell_their_kind(rt: HostRuntime) {
     let mut cells = [0x0Fu8, 0x12, 0x80];
-    assert_eq!(rt; writable_lens(&mut cells, 9, 15), (6, 0));
-    assert_eq!(rt; writable_lens(&mut cells, 4, 17), (0, 13));
-    assert_eq!(rt; writable_elements(&mut cells, 9, 15), (Some(0x12), None));
-    assert_eq!(rt; writable_elements(&mut cells, 4, 17), (None, Some(1)));
+    assert!(rt; writable_lens(&mut cells, 9, 15) == (6, 0));
+    assert!(rt; writable_lens(&mut cells, 4, 17) == (0, 13));
+    assert!(rt; writable_elements(&mut cells, 9, 15) == (Some(0x12), None));
+    assert!(rt; writable_elements(&mut cells, 4, 17) == (None, Some(1)));
 }

@@ -22,15 +22,15 @@ fn halves_of_a_byte(rt: HostRuntime) {
     let view = BitSlice::<u8, Lsb0>::from_slice(&cells);
     assert_eq!(rt; counts(view.split_at(4)), [(4, 0), (4, 4)]);
     let view = BitSlice::<u8, Msb0>::from_slice(&cells);
-    assert_eq!(rt; counts(view.split_at_unchecked(3)), [(3, 3), (5, 1)]);
+    assert!(rt; counts(view.split_at_unchecked(3)) == [(3, 3), (5, 1)]);
 }
 
 #[test]
 fn a_cut_at_an_end_leaves_an_empty_part(rt: HostRuntime) {
     let cells = [1u16, 0];
     let view = BitSlice::<u16, Lsb0>::from_slice(&cells);
-    assert_eq!(rt; counts(view.split_at(0)), [(0, 0), (32, 1)]);
-    assert_eq!(rt; counts(view.split_at(32)), [(32, 1), (0, 0)]);
+    assert!(rt; counts(view.split_at(0)) == [(0, 0), (32, 1)]);
+    assert!(rt; counts(view.split_at(32)) == [(32, 1), (0, 0)]);
 }
 
 #[test]
@@ -39,5 +39,5 @@ fn a_writable_view_is_read_in_two_parts(rt: HostRuntime) {
     let view = BitSliceMut::<u8, Lsb0>::from_slice_mut(&mut cells);
     let (left, right) = view.split_at(4);
     assert!(rt; left.not_any() && right.all());
-    assert_eq!(rt; counts(view.split_at_unchecked(5)), [(5, 1), (3, 3)]);
+    assert!(rt; counts(view.split_at_unchecked(5)) == [(5, 1), (3, 3)]);
 }

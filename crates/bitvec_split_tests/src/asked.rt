@@ -57,9 +57,9 @@ fn indices_begin_at_0_in_what_is_left(rt: HostRuntime) -> Result<(), Fail> {
     let cells = [0x09u8];
     let all = BitSlice::<u8, Msb0>::from_slice(&cells);
     let view = all.get(3..8).ok_or("no such bits")?;
-    assert_eq!(rt; asked_in_front(view, 1), 12);
-    assert_eq!(rt; asked_in_front(view, 2), 12_123);
-    assert_eq!(rt; asked_in_front(view, 9), 12_123);
+    assert!(rt; asked_in_front(view, 1) == 12);
+    assert!(rt; asked_in_front(view, 2) == 12_123);
+    assert!(rt; asked_in_front(view, 9) == 12_123);
     Ok(())
 }
 
@@ -69,9 +69,9 @@ fn neither_the_last_bit_nor_the_last_piece_is_asked(rt: HostRuntime) -> Result<(
     let cells = [0x12u16];
     let all = BitSlice::<u16, Lsb0>::from_slice(&cells);
     let view = all.get(0..5).ok_or("no such bits")?;
-    assert_eq!(rt; asked_behind(view, 1), 432);
-    assert_eq!(rt; asked_behind(view, 9), 4321);
-    assert_eq!(rt; asked_in_two(view), 5);
+    assert!(rt; asked_behind(view, 1) == 432);
+    assert!(rt; asked_behind(view, 9) == 4321);
+    assert!(rt; asked_in_two(view) == 5);
     Ok(())
 }
 
@@ -91,11 +91,11 @@ fn each_second_asking_from_the_front(rt: HostRuntime) {
         asked = asked.wrapping_add(1);
         asked % 2 == 0
     });
-    assert_eq!(rt; place(pieces.next()), Some((0, 1)));
-    assert_eq!(rt; place(pieces.next()), Some((2, 1)));
-    assert_eq!(rt; place(pieces.next()), Some((4, 1)));
-    assert_eq!(rt; place(pieces.next()), Some((6, 0)));
-    assert_eq!(rt; (place(pieces.next()), place(pieces.next())), (None, None));
+    assert!(rt; place(pieces.next()) == Some((0, 1)));
+    assert!(rt; place(pieces.next()) == Some((2, 1)));
+    assert!(rt; place(pieces.next()) == Some((4, 1)));
+    assert!(rt; place(pieces.next()) == Some((6, 0)));
+    assert!(rt; (place(pieces.next()), place(pieces.next())) == (None, None));
 }
 
 #[test]
@@ -107,12 +107,9 @@ fn each_second_asking_from_both_ends(rt: HostRuntime) {
         asked = asked.wrapping_add(1);
         asked % 2 == 0
     });
-    assert_eq!(rt; place(pieces.next()), Some((0, 1)));
-    assert_eq!(rt; place(pieces.next_back()), Some((5, 1)));
-    assert_eq!(rt; place(pieces.next()), Some((2, 1)));
-    assert_eq!(rt; place(pieces.next_back()), Some((4, 0)));
-    assert_eq!(rt;
-        (place(pieces.next()), place(pieces.next_back())),
-        (None, None)
-    );
+    assert!(rt; place(pieces.next()) == Some((0, 1)));
+    assert!(rt; place(pieces.next_back()) == Some((5, 1)));
+    assert!(rt; place(pieces.next()) == Some((2, 1)));
+    assert!(rt; place(pieces.next_back()) == Some((4, 0)));
+    assert!(rt; (place(pieces.next()), place(pieces.next_back())) == (None, None));
 }

@@ -94,10 +94,10 @@ fn finds_as_list<R: Abort>(rt: &R, ends: Ends) {
                 Kind::Reversed => find_reversed(&mut after, ends),
             };
             let (wanted, model) = split_list(bytes, kind, ends);
-            assert_eq!(rt; lengths, wanted);
-            assert_eq!(rt; asked, model.asked);
-            assert_eq!(rt; bits_of(after), model.bits);
-            assert_eq!(rt; finished, model.ended);
+            assert!(rt; lengths == wanted);
+            assert!(rt; asked == model.asked);
+            assert!(rt; bits_of(after) == model.bits);
+            assert!(rt; finished == model.ended);
         }
     }
 }
@@ -143,9 +143,9 @@ fn counted_pieces_by_advance(rt: HostRuntime) {
             let mut after = bytes;
             let (lengths, asked, finished) = find_counted(&mut after, count);
             let (wanted, model) = split_list_into(bytes, count, false);
-            assert_eq!(rt; lengths, wanted, "{count}");
-            assert_eq!(rt; asked, model.asked, "{count}");
-            assert_eq!(rt; bits_of(after), model.bits, "{count}");
+            assert!(rt; lengths == wanted, "{count}");
+            assert!(rt; asked == model.asked, "{count}");
+            assert!(rt; bits_of(after) == model.bits, "{count}");
             assert!(rt; finished, "{count}");
         }
     }
@@ -179,6 +179,6 @@ fn lend_again(bytes: &mut [u8; 3]) -> (usize, usize, usize) {
 #[test]
 fn a_piece_is_lent_again(rt: HostRuntime) {
     let mut cells = [0x5A, 0xC3, 0x0F];
-    assert_eq!(rt; lend_again(&mut cells), (0, 7, 7));
-    assert_eq!(rt; cells, [0x5A, 0xC3, 0x0F]);
+    assert!(rt; lend_again(&mut cells) == (0, 7, 7));
+    assert!(rt; cells == [0x5A, 0xC3, 0x0F]);
 }

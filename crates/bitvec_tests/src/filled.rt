@@ -28,5 +28,5 @@ pub fn fill_all<T: BitStore, O: SliceOrder>(elements: &mut [T], bit: bool)
 fn elements_are_filled(rt: HostRuntime) {
     let mut cells = [0u16, 7];
     fill_all::<u16, HiLo>(&mut cells, true);
-    assert_eq!(rt; cells, [0xFFFF, 0xFFFF]);
+    assert!(rt; cells == [0xFFFF, 0xFFFF]);
 }

@@ -107,19 +107,10 @@ fn seats_are_taken(rt: HostRuntime) -> Result<(), Fail> {
 fn seats_are_counted(rt: HostRuntime) -> Result<(), Fail> {
     let bytes = [0b0000_0111u8, 0b0000_1111];
     let seats = BitSlice::<u8, Lsb0>::from_slice(&bytes);
-    assert_eq!(rt; taken(seats), 7);
-    assert_eq!(rt;
-        taken_seats(rt.alloc(), seats)?.as_slice(),
-        [0, 1, 2, 8, 9, 10, 11].as_slice()
-    );
-    assert_eq!(rt;
-        taken_by_row(rt.alloc(), seats, 6)?.as_slice(),
-        [3, 4, 0].as_slice()
-    );
-    assert_eq!(rt;
-        snapshot(rt.alloc(), seats)?.as_raw_slice(),
-        bytes.as_slice()
-    );
+    assert!(rt; taken(seats) == 7);
+    assert!(rt; taken_seats(rt.alloc(), seats)?.as_slice() == [0, 1, 2, 8, 9, 10, 11].as_slice());
+    assert!(rt; taken_by_row(rt.alloc(), seats, 6)?.as_slice() == [3, 4, 0].as_slice());
+    assert!(rt; snapshot(rt.alloc(), seats)?.as_raw_slice() == bytes.as_slice());
     Ok(())
 }
 

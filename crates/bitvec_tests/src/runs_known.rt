@@ -96,23 +96,20 @@ fn halves_are_run(rt: HostRuntime) {
     if view.len() == 8 {
         run_apart(&mut view, 3, &steps, &mut out);
     }
-    assert_eq!(rt; out, [Reply::Done, Reply::Count(2)]);
-    assert_eq!(rt; cells, [0b0101_0111]);
+    assert!(rt; out == [Reply::Done, Reply::Count(2)]);
+    assert!(rt; cells == [0b0101_0111]);
 }
 
 #[test]
 fn copies_are_made(rt: HostRuntime) -> Result<(), Fail> {
     let cells = [0x31u8];
     let view = BitSlice::<u8, Lsb0>::from_slice(&cells);
-    assert_eq!(rt;
-        twice(rt.alloc(), view)?.as_raw_slice(),
-        [0x31, 0x31].as_slice()
-    );
+    assert!(rt; twice(rt.alloc(), view)?.as_raw_slice() == [0x31, 0x31].as_slice());
     let (copy, ones) = flipped_copy(rt.alloc(), view)?;
-    assert_eq!(rt; copy.as_raw_slice(), [0xCE].as_slice());
-    assert_eq!(rt; ones, 3);
+    assert!(rt; copy.as_raw_slice() == [0xCE].as_slice());
+    assert!(rt; ones == 3);
     let mut filled = view.to_bitvec(rt.alloc())?;
     fill_elements(&mut filled, true);
-    assert_eq!(rt; filled.as_raw_slice(), [0xFF].as_slice());
+    assert!(rt; filled.as_raw_slice() == [0xFF].as_slice());
     Ok(())
 }

@@ -20,18 +20,18 @@ fn middle<O: SliceOrder>(alloc: Global, bytes: &[u8; 2]) -> Result<BitVec<u8, O,
 #[test]
 fn bits_around_a_copy_are_zero(rt: HostRuntime) -> Result<(), Fail> {
     let copy = middle::<Lsb0>(rt.alloc(), &[0xB4, 0x6E])?;
-    assert_eq!(rt; copy.as_raw_slice(), [0xB0u8, 0x0E].as_slice());
-    assert_eq!(rt; copy.len(), 8);
-    assert_eq!(rt; copy.as_bitslice().window().start, 4);
+    assert!(rt; copy.as_raw_slice() == [0xB0u8, 0x0E].as_slice());
+    assert!(rt; copy.len() == 8);
+    assert!(rt; copy.as_bitslice().window().start == 4);
     Ok(())
 }
 
 #[test]
 fn the_other_order(rt: HostRuntime) -> Result<(), Fail> {
     let copy = middle::<Msb0>(rt.alloc(), &[0xB4, 0x6E])?;
-    assert_eq!(rt; copy.as_raw_slice(), [0x04u8, 0x60].as_slice());
-    assert_eq!(rt; copy.len(), 8);
-    assert_eq!(rt; copy.as_bitslice().window().start, 4);
+    assert!(rt; copy.as_raw_slice() == [0x04u8, 0x60].as_slice());
+    assert!(rt; copy.len() == 8);
+    assert!(rt; copy.as_bitslice().window().start == 4);
     Ok(())
 }
 
@@ -40,9 +40,9 @@ fn the_old_name(rt: HostRuntime) -> Result<(), Fail> {
     let mut bytes = [0xB4u8, 0x6E];
     let view = BitSliceMut::<u8, Lsb0>::from_slice_mut(&mut bytes).into_part(4..12);
     let copy = view.to_vec(rt.alloc())?;
-    assert_eq!(rt; copy.as_raw_slice(), [0xB0u8, 0x0E].as_slice());
-    assert_eq!(rt; copy.len(), 8);
-    assert_eq!(rt; copy.as_bitslice().window().start, 4);
+    assert!(rt; copy.as_raw_slice() == [0xB0u8, 0x0E].as_slice());
+    assert!(rt; copy.len() == 8);
+    assert!(rt; copy.as_bitslice().window().start == 4);
     Ok(())
 }
 
@@ -51,8 +51,8 @@ fn no_bits_have_no_elements(rt: HostRuntime) -> Result<(), Fail> {
     let bytes = [0xFFu8; 2];
     let view = BitSlice::<u8, Lsb0>::from_slice(&bytes).into_part(5..5);
     let copy = view.to_bitvec(rt.alloc())?;
-    assert_eq!(rt; copy.as_raw_slice().len(), 0);
-    assert_eq!(rt; copy.as_bitslice().window().start, 0);
+    assert!(rt; copy.as_raw_slice().len() == 0);
+    assert!(rt; copy.as_bitslice().window().start == 0);
     Ok(())
 }
 
@@ -63,7 +63,7 @@ fn a_copy_is_written(rt: HostRuntime) -> Result<(), Fail> {
         let mut bits = copy.as_mut_bitslice();
         bits &= BitSlice::empty();
     }
-    assert_eq!(rt; copy.as_raw_slice(), [0u8, 0].as_slice());
+    assert!(rt; copy.as_raw_slice() == [0u8, 0].as_slice());
     Ok(())
 }
 
@@ -92,8 +92,8 @@ fn as_mut_bitslice_lends_the_bits_alone(rt: HostRuntime) -> Result<(), Fail> {
         let (window, bytes) = flipped_copy(rt.alloc(), &[0xA6, 0x3C, 0x59], index)?;
         let place = index.wrapping_add(3);
         let wanted = flipped([0xA0, 0x3C, 0x19], place, place.wrapping_add(1));
-        assert_eq!(rt; bits_of(bytes), wanted, "{index}");
-        assert_eq!(rt; window, Window { start: 3, len: 18 });
+        assert!(rt; bits_of(bytes) == wanted, "{index}");
+        assert!(rt; window == Window { start: 3, len: 18 });
     }
     Ok(())
 }

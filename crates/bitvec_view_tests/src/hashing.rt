@@ -14,11 +14,8 @@ fn each_bit_is_fed_without_their_number(rt: HostRuntime) {
     false.hash(&mut state);
     true.hash(&mut state);
     false.hash(&mut state);
-    assert_eq!(rt; hash_of(view), state.finish());
-    assert_eq!(rt;
-        hash_of(BitSlice::<u8, Lsb0>::empty()),
-        DefaultHasher::new().finish()
-    );
+    assert!(rt; hash_of(view) == state.finish());
+    assert!(rt; hash_of(BitSlice::<u8, Lsb0>::empty()) == DefaultHasher::new().finish());
 }
 
 #[test]
@@ -29,5 +26,5 @@ fn equal_views_at_other_places(rt: HostRuntime) {
     let high = bits.into_part(4..8);
     assert!(rt; low == high);
     assert!(rt; equal_views_hash_alike(low, high));
-    assert_eq!(rt; hash_of(low), hash_of(high));
+    assert!(rt; hash_of(low) == hash_of(high));
 }

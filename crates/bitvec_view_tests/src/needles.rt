@@ -96,9 +96,8 @@ fn finds_as_text<T: BitStore, O: SliceOrder, U: BitStore, P: BitOrder, R: Abort 
     let others = BitSlice::<U, P>::try_from_slice(&parts).map_err(|_| "too long")?;
     let end = needle.len().saturating_add(1);
     let part = others.get(1..end).ok_or("no such bits")?;
-    assert_eq!(rt;
-        by_views(view, part),
-        by_texts(text, needle),
+    assert!(rt;
+        by_views(view, part) == by_texts(text, needle),
         "{needle} in {text}"
     );
     Ok(())

@@ -11,6 +11,7 @@ use bitvec_owned::{BitVec, ToBitVec};
 use std::alloc::{AllocError, Global};
 use std::cmp::Ordering;
 use std::test::Fail;
+use test_bits::{prints, shows};
 
 type Bits = BitVec<u8, Lsb0, Global>;
 
@@ -146,7 +147,7 @@ fn bits_of_others_are_taken(rt: HostRuntime) -> Result<(), Fail> {
     let mut mine = elements_of_msb0(&LIST);
     bits.swap_with_bits(&mut BitSliceMut::<u8, Msb0>::from_slice_mut(&mut mine).into_part(4..13));
     assert!(rt; holds(&bits, &LIST));
-    assert_eq!(rt; mine, elements_of_msb0(&OTHER));
+    assert!(rt; mine == elements_of_msb0(&OTHER));
     Ok(())
 }
 
@@ -154,9 +155,9 @@ fn bits_of_others_are_taken(rt: HostRuntime) -> Result<(), Fail> {
 fn questions_are_answered(rt: HostRuntime) -> Result<(), Fail> {
     let bits = sequence(rt.alloc(), &LIST)?;
     let other = sequence(rt.alloc(), &OTHER)?;
-    assert_eq!(rt; (bits.len(), bits.is_empty()), (9, false));
-    assert_eq!(rt; (bits.count_ones(), bits.count_zeros()), (4, 5));
-    assert_eq!(rt; bits.cmp_bits(other.as_bitslice()), Ordering::Greater);
+    assert!(rt; (bits.len(), bits.is_empty()) == (9, false));
+    assert!(rt; (bits.count_ones(), bits.count_zeros()) == (4, 5));
+    assert!(rt; bits.cmp_bits(other.as_bitslice()) == Ordering::Greater);
     assert!(rt; !bits.eq_bits(other.as_bitslice()));
     assert!(rt; bits.starts_with(BitSlice::<u8, Msb0>::from_slice(&[0xD2])));
     assert!(rt; !bits.ends_with(BitSlice::<u8, Msb0>::from_slice(&[0xD2])));
@@ -171,8 +172,8 @@ fn a_for_loop_walks_the_bits(rt: HostRuntime) -> Result<(), Fail> {
     for bit in &bits {
         seen.push(*bit)?;
     }
-    assert_eq!(rt; seen.as_slice(), LIST.as_slice());
-    assert_eq!(rt; bits.iter().len(), 9);
+    assert!(rt; seen.as_slice() == LIST.as_slice());
+    assert!(rt; bits.iter().len() == 9);
     Ok(())
 }
 
@@ -180,7 +181,7 @@ fn a_for_loop_walks_the_bits(rt: HostRuntime) -> Result<(), Fail> {
 fn equal_bits_may_begin_at_other_places(rt: HostRuntime) -> Result<(), Fail> {
     let bits = sequence(rt.alloc(), &LIST)?;
     let same = bits.repeat(rt.alloc(), 1)?;
-    assert_eq!(rt; same.window().start, 0);
+    assert!(rt; same.window().start == 0);
     assert!(rt; bits == same);
     assert!(rt; bits != sequence(rt.alloc(), &OTHER)?);
     Ok(())
@@ -195,7 +196,7 @@ fn a_clone_is_a_sequence_of_its_own(rt: HostRuntime) -> Result<(), Fail> {
     assert!(rt; holds(&copy, &[true; 9]));
     assert!(rt; holds(&bits, &LIST));
     let elements = bits.to_bitvec(rt.alloc())?.into_elements();
-    assert_eq!(rt; elements.as_slice(), elements_of(&LIST).as_slice());
+    assert!(rt; elements.as_slice() == elements_of(&LIST).as_slice());
     Ok(())
 }
 
@@ -203,17 +204,17 @@ fn a_clone_is_a_sequence_of_its_own(rt: HostRuntime) -> Result<(), Fail> {
 fn a_sequence_prints_as_its_view(rt: HostRuntime) -> Result<(), Fail> {
     let bits = sequence(rt.alloc(), &LIST)?;
     let text = "[1, 1, 0, 1, 0, 0, 1, 0, 0]";
-    assert_eq!(rt; format!(in rt.alloc(); "{bits}")?.as_str(), text);
-    assert_eq!(rt; format!(in rt.alloc(); "{bits:?}")?.as_str(), text);
+    assert!(rt; prints(rt.alloc(), &bits, text));
+    assert!(rt; shows(rt.alloc(), &bits, text));
     Ok(())
 }
 
 #[test]
 fn no_bits_are_a_sequence_too(rt: HostRuntime) -> Result<(), Fail> {
     let bits = BitSlice::<u8, Lsb0>::empty().to_bitvec(rt.alloc())?;
-    assert_eq!(rt; (bits.len(), bits.is_empty(), bits.any()), (0, true, false));
-    assert_eq!(rt; format!(in rt.alloc(); "{bits}")?.as_str(), "[]");
+    assert!(rt; (bits.len(), bits.is_empty(), bits.any()) == (0, true, false));
+    assert!(rt; prints(rt.alloc(), &bits, "[]"));
     assert!(rt; bits == bits.clone()?);
-    assert_eq!(rt; bits.into_elements().len(), 0);
+    assert!(rt; bits.into_elements().len() == 0);
     Ok(())
 }

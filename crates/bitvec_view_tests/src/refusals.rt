@@ -33,15 +33,15 @@ fn a_copy_asks_once(rt: HostRuntime) {
         let refusing = Refusing::new(rt.alloc(), granted);
         match view.to_bitvec(&refusing) {
             Ok(copy) => {
-                assert_eq!(rt; copy.as_raw_slice(), COPY.as_slice());
+                assert!(rt; copy.as_raw_slice() == COPY.as_slice());
                 assert!(rt; asked_once(&refusing, 16));
                 needed = needed.or(Some(granted));
             }
             Err(AllocError) => assert!(rt; !refusing.granted_all()),
         }
     }
-    assert_eq!(rt; needed, Some(1));
-    assert_eq!(rt; bytes, BYTES);
+    assert!(rt; needed == Some(1));
+    assert!(rt; bytes == BYTES);
 }
 
 #[test]
@@ -53,15 +53,15 @@ fn the_old_name_of_a_copy_asks_once(rt: HostRuntime) {
         let view = BitSliceMut::<u8, Lsb0>::from_slice_mut(&mut bytes).into_part(4..124);
         match view.to_vec(&refusing) {
             Ok(copy) => {
-                assert_eq!(rt; copy.as_raw_slice(), COPY.as_slice());
+                assert!(rt; copy.as_raw_slice() == COPY.as_slice());
                 assert!(rt; asked_once(&refusing, 16));
                 needed = needed.or(Some(granted));
             }
             Err(AllocError) => assert!(rt; !refusing.granted_all()),
         }
-        assert_eq!(rt; bytes, BYTES);
+        assert!(rt; bytes == BYTES);
     }
-    assert_eq!(rt; needed, Some(1));
+    assert!(rt; needed == Some(1));
 }
 
 #[test]
@@ -73,18 +73,18 @@ fn a_repeat_asks_once(rt: HostRuntime) {
         let view = BitSliceMut::<u8, Lsb0>::from_slice_mut(&mut bytes).into_part(4..124);
         match view.repeat(&refusing, 3) {
             Ok(copies) => {
-                assert_eq!(rt; copies.as_raw_slice(), THREE_COPIES.as_slice());
+                assert!(rt; copies.as_raw_slice() == THREE_COPIES.as_slice());
                 assert!(rt; asked_once(&refusing, 45));
                 needed = needed.or(Some(granted));
             }
             Err(error) => {
-                assert_eq!(rt; error, RepeatError::Memory);
+                assert!(rt; error == RepeatError::Memory);
                 assert!(rt; !refusing.granted_all());
             }
         }
-        assert_eq!(rt; bytes, BYTES);
+        assert!(rt; bytes == BYTES);
     }
-    assert_eq!(rt; needed, Some(1));
+    assert!(rt; needed == Some(1));
 }
 
 /// What a sequence and its clone hold, whose allocator grants so many requests.
@@ -105,13 +105,13 @@ fn a_clone_asks_once(rt: HostRuntime) {
         match clone_of(&refusing) {
             Ok(holds) => {
                 assert!(rt; holds);
-                assert_eq!(rt; (refusing.granted(), refusing.bytes()), (2, 2 * 16));
+                assert!(rt; (refusing.granted(), refusing.bytes()) == (2, 2 * 16));
                 needed = needed.or(Some(granted));
             }
-            Err(AllocError) => assert_eq!(rt; refusing.refused(), 1),
+            Err(AllocError) => assert!(rt; refusing.refused() == 1),
         }
     }
-    assert_eq!(rt; needed, Some(2));
+    assert!(rt; needed == Some(2));
 }
 
 #[test]
@@ -139,13 +139,10 @@ fn the_longest_repeats_are_asked_for(rt: HostRuntime) {
     let most = BitSlice::<u8, Lsb0>::MAX_BITS;
     for copies in [most.saturating_sub(7), most.saturating_sub(6), most] {
         let refusing = Refusing::new(rt.alloc(), 0);
-        assert_eq!(rt; repeat_of_one(&refusing, copies), Some(RepeatError::Memory));
-        assert_eq!(rt; refusing.refused(), 1);
+        assert!(rt; repeat_of_one(&refusing, copies) == Some(RepeatError::Memory));
+        assert!(rt; refusing.refused() == 1);
     }
     let refusing = Refusing::new(rt.alloc(), 0);
-    assert_eq!(rt;
-        repeat_of_one(&refusing, most.saturating_add(1)),
-        Some(RepeatError::TooLong)
-    );
+    assert!(rt; repeat_of_one(&refusing, most.saturating_add(1)) == Some(RepeatError::TooLong));
     assert!(rt; refusing.granted_all());
 }

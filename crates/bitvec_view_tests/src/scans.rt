@@ -43,35 +43,35 @@ fn answers<T: BitStore, O: SliceOrder, V: BitQueries<T, O>>(view: &V) -> [bool; 
 fn runs_of_ones_and_zeros(rt: HostRuntime) {
     let cells = [0x0Bu8];
     let view = BitSlice::<u8, Lsb0>::from_slice(&cells).into_part(0..5);
-    assert_eq!(rt; runs(&view), [2, 0, 0, 1]);
-    assert_eq!(rt; places(&view), [Some(0), Some(2), Some(3), Some(4)]);
-    assert_eq!(rt; answers(&view), [true, false, false, true, true]);
+    assert!(rt; runs(&view) == [2, 0, 0, 1]);
+    assert!(rt; places(&view) == [Some(0), Some(2), Some(3), Some(4)]);
+    assert!(rt; answers(&view) == [true, false, false, true, true]);
 }
 
 #[test]
 fn a_bit_that_does_not_occur(rt: HostRuntime) {
     let zeros = [0u8; 2];
     let view = BitSlice::<u8, Msb0>::from_slice(&zeros);
-    assert_eq!(rt; runs(&view), [0, 16, 0, 16]);
-    assert_eq!(rt; places(&view), [None, Some(0), None, Some(15)]);
-    assert_eq!(rt; answers(&view), [false, false, true, true, false]);
+    assert!(rt; runs(&view) == [0, 16, 0, 16]);
+    assert!(rt; places(&view) == [None, Some(0), None, Some(15)]);
+    assert!(rt; answers(&view) == [false, false, true, true, false]);
 }
 
 #[test]
 fn a_writable_view_of_ones(rt: HostRuntime) {
     let mut ones = [0xFFu8; 2];
     let view = BitSliceMut::<u8, Msb0>::from_slice_mut(&mut ones);
-    assert_eq!(rt; runs(&view), [16, 0, 16, 0]);
-    assert_eq!(rt; places(&view), [Some(0), None, Some(15), None]);
-    assert_eq!(rt; answers(&view), [true, true, false, false, false]);
+    assert!(rt; runs(&view) == [16, 0, 16, 0]);
+    assert!(rt; places(&view) == [Some(0), None, Some(15), None]);
+    assert!(rt; answers(&view) == [true, true, false, false, false]);
 }
 
 #[test]
 fn the_empty_view(rt: HostRuntime) {
     let view = BitSlice::<u8, Lsb0>::empty();
-    assert_eq!(rt; runs(&view), [0, 0, 0, 0]);
-    assert_eq!(rt; places(&view), [None, None, None, None]);
-    assert_eq!(rt; answers(&view), [false, true, true, false, false]);
+    assert!(rt; runs(&view) == [0, 0, 0, 0]);
+    assert!(rt; places(&view) == [None, None, None, None]);
+    assert!(rt; answers(&view) == [false, true, true, false, false]);
 }
 
 /// Whether a view contains the bits `from` up to `to` of another, begins with them, and ends with
@@ -106,7 +106,10 @@ fn needles_of_another_width_and_order(rt: HostRuntime) {
         (4, 4, [true, true, true]),
         (0, 16, [false, false, false]),
     ] {
-        assert_eq!(rt; stand(view, needles, from, to), Some(found), "{from} {to}");
+        assert!(rt;
+            stand(view, needles, from, to) == Some(found),
+            "{from} {to}"
+        );
     }
 }
 
@@ -133,9 +136,9 @@ fn what_a_needle_leaves_of_five_bits(rt: HostRuntime) -> Result<(), Fail> {
     assert!(rt; view.strip_prefix(one_zero).is_none());
     assert!(rt; view.strip_suffix(one_zero).is_none());
     let rest = view.strip_prefix(zero_one);
-    assert_eq!(rt; is_left(rest, part(&[0x12], 2, 5)), Some(true));
+    assert!(rt; is_left(rest, part(&[0x12], 2, 5)) == Some(true));
     let rest = view.strip_suffix(zero_one);
-    assert_eq!(rt; is_left(rest, part(&[0x12], 0, 3)), Some(true));
+    assert!(rt; is_left(rest, part(&[0x12], 0, 3)) == Some(true));
     Ok(())
 }
 
@@ -150,7 +153,7 @@ fn a_writable_view_without_its_ends(rt: HostRuntime) -> Result<(), Fail> {
     assert!(rt; view.strip_suffix(zero_one).is_none());
     let zeros = part(&[0x02], 2, 5).ok_or("no such bits")?;
     let rest = view.strip_suffix(zeros);
-    assert_eq!(rt; is_left(rest, part(&[0x12], 0, 5)), Some(true));
+    assert!(rt; is_left(rest, part(&[0x12], 0, 5)) == Some(true));
     Ok(())
 }
 
@@ -168,7 +171,7 @@ fn views_in_order(rt: HostRuntime) {
         ((1, 2), (0, 2), Ordering::Greater),
         ((0, 3), (0, 3), Ordering::Equal),
     ] {
-        assert_eq!(rt; compare(&[0x02], range, other), Some(order));
+        assert!(rt; compare(&[0x02], range, other) == Some(order));
     }
 }
 

@@ -6,6 +6,7 @@ use bitvec_owned::query::slice::{BitSlice, BitSliceMut};
 use bitvec_split::{SplitCalls, SplitCallsMut};
 use std::alloc::Global;
 use std::test::Fail;
+use test_bits::{prints, shows};
 
 #[test]
 fn one_element(rt: HostRuntime) -> Result<(), Fail> {
@@ -18,86 +19,66 @@ fn one_element(rt: HostRuntime) -> Result<(), Fail> {
 }
 
 #[test]
-fn two_elements(rt: HostRuntime) -> Result<(), Fail> {
+fn two_elements(rt: HostRuntime) {
     let bits = [0x21u8, 0x84];
     let view = BitSlice::<u8, Lsb0>::from_slice(&bits).into_part(4..12);
     let hex = UpperHex(view);
     let binary = Binary(view);
-    assert_eq!(rt; format!(in rt.alloc(); "{hex}")?.as_str(), "[4, 2]");
-    assert_eq!(rt;
-        format!(in rt.alloc(); "{binary}")?.as_str(),
-        "[0100, 0010]"
-    );
-    assert_eq!(rt;
-        format!(in rt.alloc(); "{view}")?.as_str(),
-        "[0, 1, 0, 0, 0, 0, 1, 0]"
-    );
-    assert_eq!(rt;
-        format!(in rt.alloc(); "{view:?}")?.as_str(),
-        "[0, 1, 0, 0, 0, 0, 1, 0]"
-    );
-    Ok(())
+    assert!(rt; prints(rt.alloc(), &hex, "[4, 2]"));
+    assert!(rt; prints(rt.alloc(), &binary, "[0100, 0010]"));
+    assert!(rt; prints(rt.alloc(), &view, "[0, 1, 0, 0, 0, 0, 1, 0]"));
+    assert!(rt; shows(rt.alloc(), &view, "[0, 1, 0, 0, 0, 0, 1, 0]"));
 }
 
 #[test]
-fn letters(rt: HostRuntime) -> Result<(), Fail> {
+fn letters(rt: HostRuntime) {
     let bits = [0xABCDu16, 0x00EF];
     let view = BitSlice::<u16, Msb0>::from_slice(&bits).into_part(2..32);
     let lower = LowerHex(view);
     let upper = UpperHex(view);
-    assert_eq!(rt; format!(in rt.alloc(); "{lower}")?.as_str(), "[2bcd, 00ef]");
-    assert_eq!(rt; format!(in rt.alloc(); "{upper}")?.as_str(), "[2BCD, 00EF]");
-    Ok(())
+    assert!(rt; prints(rt.alloc(), &lower, "[2bcd, 00ef]"));
+    assert!(rt; prints(rt.alloc(), &upper, "[2BCD, 00EF]"));
 }
 
 #[test]
-fn no_bits(rt: HostRuntime) -> Result<(), Fail> {
+fn no_bits(rt: HostRuntime) {
     let empty = BitSlice::<u8, Lsb0>::empty();
     let binary = Binary(empty);
     let hex = LowerHex(empty);
-    assert_eq!(rt; format!(in rt.alloc(); "{empty}")?.as_str(), "[]");
-    assert_eq!(rt; format!(in rt.alloc(); "{binary}")?.as_str(), "[]");
-    assert_eq!(rt; format!(in rt.alloc(); "{hex}")?.as_str(), "[]");
-    Ok(())
+    assert!(rt; prints(rt.alloc(), &empty, "[]"));
+    assert!(rt; prints(rt.alloc(), &binary, "[]"));
+    assert!(rt; prints(rt.alloc(), &hex, "[]"));
 }
 
 #[test]
-fn a_wide_element(rt: HostRuntime) -> Result<(), Fail> {
+fn a_wide_element(rt: HostRuntime) {
     let bits = [1u128];
     let view = BitSlice::<u128, Lsb0>::from_slice(&bits);
     let hex = LowerHex(view);
     let octal = Octal(view);
-    assert_eq!(rt;
-        format!(in rt.alloc(); "{hex}")?.as_str(),
-        "[80000000000000000000000000000000]"
+    assert!(rt; prints(rt.alloc(), &hex, "[80000000000000000000000000000000]"));
+    assert!(rt;
+        prints(
+            rt.alloc(),
+            &octal,
+            "[2000000000000000000000000000000000000000000]"
+        )
     );
-    assert_eq!(rt;
-        format!(in rt.alloc(); "{octal}")?.as_str(),
-        "[2000000000000000000000000000000000000000000]"
-    );
-    Ok(())
 }
 
 #[test]
-fn splits(rt: HostRuntime) -> Result<(), Fail> {
+fn splits(rt: HostRuntime) {
     let bits = [0b0001_0010u8];
     let view = BitSlice::<u8, Lsb0>::from_slice(&bits).into_part(0..6);
     let mut split = view.split(|_, bit| *bit);
     let _piece = split.next();
-    assert_eq!(rt;
-        format!(in rt.alloc(); "{split:?}")?.as_str(),
-        "Splits([0, 0, 1, 0])"
-    );
+    assert!(rt; shows(rt.alloc(), &split, "Splits([0, 0, 1, 0])"));
     let _piece = split.next();
     let _piece = split.next();
-    assert_eq!(rt; format!(in rt.alloc(); "{split:?}")?.as_str(), "Splits([])");
+    assert!(rt; shows(rt.alloc(), &split, "Splits([])"));
     let mut counted = view.rsplitn(2, |_, bit| *bit);
     let _piece = counted.next();
-    assert_eq!(rt;
-        format!(in rt.alloc(); "{counted:?}")?.as_str(),
-        "SplitsN([0, 1, 0, 0], 1)"
-    );
-    Ok(())
+    assert!(rt; shows(rt.alloc(), &counted, "SplitsN([0, 1, 0, 0], 1)"));
 }
 
 /// The text of a split that lends, once `found` pieces were found.
@@ -121,21 +102,11 @@ fn text_of_counted(alloc: Global, bytes: &mut [u8; 1]) -> Result<String, Fail> {
 #[test]
 fn splits_that_lend(rt: HostRuntime) -> Result<(), Fail> {
     let mut bytes = [0b0001_0010u8];
-    assert_eq!(rt;
-        text_of_split(rt.alloc(), &mut bytes, 0)?.as_str(),
-        "SplitsMut([0, 1, 0, 0, 1, 0])"
+    assert!(rt;
+        text_of_split(rt.alloc(), &mut bytes, 0)?.as_str() == "SplitsMut([0, 1, 0, 0, 1, 0])"
     );
-    assert_eq!(rt;
-        text_of_split(rt.alloc(), &mut bytes, 1)?.as_str(),
-        "SplitsMut([0, 0, 1, 0])"
-    );
-    assert_eq!(rt;
-        text_of_split(rt.alloc(), &mut bytes, 3)?.as_str(),
-        "SplitsMut([])"
-    );
-    assert_eq!(rt;
-        text_of_counted(rt.alloc(), &mut bytes)?.as_str(),
-        "SplitsNMut([0, 1, 0, 0], 1)"
-    );
+    assert!(rt; text_of_split(rt.alloc(), &mut bytes, 1)?.as_str() == "SplitsMut([0, 0, 1, 0])");
+    assert!(rt; text_of_split(rt.alloc(), &mut bytes, 3)?.as_str() == "SplitsMut([])");
+    assert!(rt; text_of_counted(rt.alloc(), &mut bytes)?.as_str() == "SplitsNMut([0, 1, 0, 0], 1)");
     Ok(())
 }

@@ -45,9 +45,8 @@ fn words_are_a_request_or_none(rt: HostRuntime) -> Result<(), Fail> {
     ] {
         let words = words(rt.alloc(), text)?;
         let arguments = Arguments::parse(words.as_slice());
-        assert_eq!(rt;
-            arguments.map(|arguments| arguments.request),
-            request,
+        assert!(rt;
+            arguments.map(|arguments| arguments.request) == request,
             "{text}"
         );
     }
@@ -66,8 +65,8 @@ fn expect<R: Abort + AllocGlobal>(
     let mut new = Vec::new(rt.alloc());
     let changed = change_map(rt.alloc(), change, &mut old, &mut new);
     let changed = changed.map(|range| (range.start, range.end));
-    assert_eq!(rt; changed, outcome, "{change:?} of {map:?}");
-    assert_eq!(rt; new.as_slice(), written, "{change:?} of {map:?}");
+    assert!(rt; changed == outcome, "{change:?} of {map:?}");
+    assert!(rt; new.as_slice() == written, "{change:?} of {map:?}");
 }
 
 #[test]
@@ -159,8 +158,8 @@ fn runs_of_taken_places_are_printed(rt: HostRuntime) -> Result<(), Fail> {
     ] {
         let mut bytes = map;
         let mut output = Vec::new(rt.alloc());
-        assert_eq!(rt; show_map(rt.alloc(), &mut bytes, &mut output), Ok(()));
-        assert_eq!(rt; str::from_utf8(output.as_slice())?, printed);
+        assert!(rt; show_map(rt.alloc(), &mut bytes, &mut output) == Ok(()));
+        assert!(rt; str::from_utf8(output.as_slice())? == printed);
     }
     Ok(())
 }
