@@ -16,7 +16,7 @@ use bitvec_segments::FieldOrder;
 /// One step of a run in a window, whose right list is the one that `source` holds: it replies, and
 /// leaves in the window the list after it. Condition: each memory has at most `MAX_BITS` bits, and
 /// each window lies in its memory.
-pub(crate) fn field_step<O, C, D>(
+pub fn field_step<O, C, D>(
     cells: &mut C,
     window: Window,
     right: &mut D,

@@ -45,5 +45,6 @@ pub use bitvec_engine::base::Window;
 pub use command::{Op, Refusal, Reply, RunError, Step};
 pub use field_runner::run_fields;
 pub use field_step::{FieldOp, FieldStep};
+pub use field_stepping::field_step as carry_out_field;
 pub use runner::{run, whole};
 pub use step::carry_out;

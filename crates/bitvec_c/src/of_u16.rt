@@ -1,0 +1,590 @@
+//! The exports over elements of 16 bits.
+ghost use Rattle.bitvec_checked.specs.commands.declared.command.Op.TheVariants.{All, And, Any, Cmp, Contains, CopyFrom, CopyWithin, CountOnes, CountZeros, EndsWith, Eq, Fill, FirstOne, FirstZero, Get, Invert, LastOne, LastZero, Or, Replace, Reverse, RotateLeft, RotateRight, Set, ShiftEnd, ShiftStart, StartsWith, Swap, Xor};
+ghost use Rattle.bitvec_checked.specs.commands.segments.Segments.{loaded_be, loaded_le, stored_be, stored_le};
+ghost use Rattle.bitvec_checked.specs.Calls.{Asks, AsksBeside, Edits, EditsBeside, Loads, Seeks, Stores, Swaps};
+ghost use Rattle.bitvec_checked.specs.Replies.{bit_of, count_of, order_of};
+ghost use Rattle.bitvec_checked.specs.Runs.{Runs};
+ghost use Rattle.bitvec_checked.specs.Statuses.{bits_from};
+ghost use Rattle.bitvec_c.specs.Ones.{Lists};
+
+use crate::ones::ones;
+use bitvec_checked::{RawReply, RawStep};
+
+/// The bit at an index of a window.
+#[unsafe(no_mangle)]
+pub extern "C" fn fb_u16_get(
+    order: u32,
+    elements: &[u16],
+    start: usize,
+    len: usize,
+    index: usize,
+    bit: &mut bool,
+) -> u32
+    ensures { Asks order 16 (λ x. x) (Get index) bit_of (bits_from start len) elements.now bit.old bit.new result }
+{
+    bitvec_checked::get(order, elements, start, len, index, bit)
+}
+
+/// Makes the bit at an index of a window `bit`.
+#[unsafe(no_mangle)]
+pub extern "C" fn fb_u16_set(
+    order: u32,
+    elements: &mut [u16],
+    start: usize,
+    len: usize,
+    index: usize,
+    bit: bool,
+) -> u32
+    ensures { Edits order 16 (λ x. x) (Set index bit) (bits_from start len) elements.old elements.new result }
+{
+    bitvec_checked::set(order, elements, start, len, index, bit)
+}
+
+/// Makes the bit at an index of a window `bit`, and gives the old one.
+#[unsafe(no_mangle)]
+pub extern "C" fn fb_u16_replace(
+    order: u32,
+    elements: &mut [u16],
+    start: usize,
+    len: usize,
+    index: usize,
+    bit: bool,
+    old: &mut bool,
+) -> u32
+    ensures value { Asks order 16 (λ x. x) (Replace index bit) bit_of (bits_from start len) elements.old old.old old.new result }
+    ensures writes { Edits order 16 (λ x. x) (Replace index bit) (bits_from start len) elements.old elements.new result }
+{
+    bitvec_checked::replace(order, elements, start, len, index, bit, old)
+}
+
+/// Exchanges the bits at two indices of a window.
+#[unsafe(no_mangle)]
+pub extern "C" fn fb_u16_swap_bits(
+    order: u32,
+    elements: &mut [u16],
+    start: usize,
+    len: usize,
+    first: usize,
+    second: usize,
+) -> u32
+    ensures { Edits order 16 (λ x. x) (Swap first second) (bits_from start len) elements.old elements.new result }
+{
+    bitvec_checked::swap_bits(order, elements, start, len, first, second)
+}
+
+/// Makes each bit of a window `bit`.
+#[unsafe(no_mangle)]
+pub extern "C" fn fb_u16_fill(
+    order: u32,
+    elements: &mut [u16],
+    start: usize,
+    len: usize,
+    bit: bool,
+) -> u32
+    ensures { Edits order 16 (λ x. x) (Fill bit) (bits_from start len) elements.old elements.new result }
+{
+    bitvec_checked::fill(order, elements, start, len, bit)
+}
+
+/// Flips each bit of a window.
+#[unsafe(no_mangle)]
+pub extern "C" fn fb_u16_invert(order: u32, elements: &mut [u16], start: usize, len: usize) -> u32
+    ensures { Edits order 16 (λ x. x) Invert (bits_from start len) elements.old elements.new result }
+{
+    bitvec_checked::invert(order, elements, start, len)
+}
+
+/// Puts the bits of a window in the opposite order.
+#[unsafe(no_mangle)]
+pub extern "C" fn fb_u16_reverse(order: u32, elements: &mut [u16], start: usize, len: usize) -> u32
+    ensures { Edits order 16 (λ x. x) Reverse (bits_from start len) elements.old elements.new result }
+{
+    bitvec_checked::reverse(order, elements, start, len)
+}
+
+/// Shifts the bits of a window towards its start: as many zeros as were lost follow the others.
+#[unsafe(no_mangle)]
+pub extern "C" fn fb_u16_shift_start(
+    order: u32,
+    elements: &mut [u16],
+    start: usize,
+    len: usize,
+    by: usize,
+) -> u32
+    ensures { Edits order 16 (λ x. x) (ShiftStart by) (bits_from start len) elements.old elements.new result }
+{
+    bitvec_checked::shift_start(order, elements, start, len, by)
+}
+
+/// Shifts the bits of a window towards its end: as many zeros as were lost stand before the others.
+#[unsafe(no_mangle)]
+pub extern "C" fn fb_u16_shift_end(
+    order: u32,
+    elements: &mut [u16],
+    start: usize,
+    len: usize,
+    by: usize,
+) -> u32
+    ensures { Edits order 16 (λ x. x) (ShiftEnd by) (bits_from start len) elements.old elements.new result }
+{
+    bitvec_checked::shift_end(order, elements, start, len, by)
+}
+
+/// Rotates the bits of a window so that the one at `by` comes first.
+#[unsafe(no_mangle)]
+pub extern "C" fn fb_u16_rotate_left(
+    order: u32,
+    elements: &mut [u16],
+    start: usize,
+    len: usize,
+    by: usize,
+) -> u32
+    ensures { Edits order 16 (λ x. x) (RotateLeft by) (bits_from start len) elements.old elements.new result }
+{
+    bitvec_checked::rotate_left(order, elements, start, len, by)
+}
+
+/// Rotates the bits of a window so that the last `by` come first.
+#[unsafe(no_mangle)]
+pub extern "C" fn fb_u16_rotate_right(
+    order: u32,
+    elements: &mut [u16],
+    start: usize,
+    len: usize,
+    by: usize,
+) -> u32
+    ensures { Edits order 16 (λ x. x) (RotateRight by) (bits_from start len) elements.old elements.new result }
+{
+    bitvec_checked::rotate_right(order, elements, start, len, by)
+}
+
+/// Copies the bits `from` up to, without, `to` of a window to those from `dest` on.
+#[unsafe(no_mangle)]
+pub extern "C" fn fb_u16_copy_within(
+    order: u32,
+    elements: &mut [u16],
+    start: usize,
+    len: usize,
+    from: usize,
+    to: usize,
+    dest: usize,
+) -> u32
+    ensures { Edits order 16 (λ x. x) (CopyWithin from to dest) (bits_from start len) elements.old elements.new result }
+{
+    bitvec_checked::copy_within(order, elements, start, len, from, to, dest)
+}
+
+/// Copies the bits of the right window, which is as long.
+#[unsafe(no_mangle)]
+pub extern "C" fn fb_u16_copy(
+    order: u32,
+    elements: &mut [u16],
+    start: usize,
+    len: usize,
+    right: &[u16],
+    right_start: usize,
+    right_len: usize,
+) -> u32
+    ensures { EditsBeside order 16 (λ x. x) (CopyFrom (bits_from right_start right_len)) (bits_from start len) elements.old elements.new right.now result }
+{
+    bitvec_checked::copy(order, elements, start, len, right, right_start, right_len)
+}
+
+/// Makes each bit of a window that bit and the right one at its index, 0 past the right window's
+/// end.
+#[unsafe(no_mangle)]
+pub extern "C" fn fb_u16_and(
+    order: u32,
+    elements: &mut [u16],
+    start: usize,
+    len: usize,
+    right: &[u16],
+    right_start: usize,
+    right_len: usize,
+) -> u32
+    ensures { EditsBeside order 16 (λ x. x) (And (bits_from right_start right_len)) (bits_from start len) elements.old elements.new right.now result }
+{
+    bitvec_checked::and(order, elements, start, len, right, right_start, right_len)
+}
+
+/// Makes each bit of a window that bit or the right one at its index, 0 past the right window's
+/// end.
+#[unsafe(no_mangle)]
+pub extern "C" fn fb_u16_or(
+    order: u32,
+    elements: &mut [u16],
+    start: usize,
+    len: usize,
+    right: &[u16],
+    right_start: usize,
+    right_len: usize,
+) -> u32
+    ensures { EditsBeside order 16 (λ x. x) (Or (bits_from right_start right_len)) (bits_from start len) elements.old elements.new right.now result }
+{
+    bitvec_checked::or(order, elements, start, len, right, right_start, right_len)
+}
+
+/// Makes each bit of a window whether it differs from the right one at its index, 0 past the right
+/// window's end.
+#[unsafe(no_mangle)]
+pub extern "C" fn fb_u16_xor(
+    order: u32,
+    elements: &mut [u16],
+    start: usize,
+    len: usize,
+    right: &[u16],
+    right_start: usize,
+    right_len: usize,
+) -> u32
+    ensures { EditsBeside order 16 (λ x. x) (Xor (bits_from right_start right_len)) (bits_from start len) elements.old elements.new right.now result }
+{
+    bitvec_checked::xor(order, elements, start, len, right, right_start, right_len)
+}
+
+/// Exchanges the bits of two windows, which are as long.
+#[unsafe(no_mangle)]
+pub extern "C" fn fb_u16_swap(
+    order: u32,
+    elements: &mut [u16],
+    start: usize,
+    len: usize,
+    right: &mut [u16],
+    right_start: usize,
+    right_len: usize,
+) -> u32
+    ensures { Swaps order 16 (λ x. x) (bits_from start len) (bits_from right_start right_len) elements.old elements.new right.old right.new result }
+{
+    bitvec_checked::swap(order, elements, start, len, right, right_start, right_len)
+}
+
+/// Whether two windows have the same bits.
+#[unsafe(no_mangle)]
+pub extern "C" fn fb_u16_equal(
+    order: u32,
+    elements: &[u16],
+    start: usize,
+    len: usize,
+    right: &[u16],
+    right_start: usize,
+    right_len: usize,
+    answer: &mut bool,
+) -> u32
+    ensures { AsksBeside order 16 (λ x. x) (Eq (bits_from right_start right_len)) bit_of (bits_from start len) elements.now right.now answer.old answer.new result }
+{
+    bitvec_checked::equal(
+        order,
+        elements,
+        start,
+        len,
+        right,
+        right_start,
+        right_len,
+        answer,
+    )
+}
+
+/// How the bits of two windows compare, as lists of truth values do: -1, 0 or 1.
+#[unsafe(no_mangle)]
+pub extern "C" fn fb_u16_compare(
+    order: u32,
+    elements: &[u16],
+    start: usize,
+    len: usize,
+    right: &[u16],
+    right_start: usize,
+    right_len: usize,
+    ordering: &mut i32,
+) -> u32
+    ensures { AsksBeside order 16 (λ x. x) (Cmp (bits_from right_start right_len)) order_of (bits_from start len) elements.now right.now ordering.old ordering.new result }
+{
+    bitvec_checked::compare(
+        order,
+        elements,
+        start,
+        len,
+        right,
+        right_start,
+        right_len,
+        ordering,
+    )
+}
+
+/// Whether the right bits begin those of a window.
+#[unsafe(no_mangle)]
+pub extern "C" fn fb_u16_starts_with(
+    order: u32,
+    elements: &[u16],
+    start: usize,
+    len: usize,
+    right: &[u16],
+    right_start: usize,
+    right_len: usize,
+    answer: &mut bool,
+) -> u32
+    ensures { AsksBeside order 16 (λ x. x) (StartsWith (bits_from right_start right_len)) bit_of (bits_from start len) elements.now right.now answer.old answer.new result }
+{
+    bitvec_checked::starts_with(
+        order,
+        elements,
+        start,
+        len,
+        right,
+        right_start,
+        right_len,
+        answer,
+    )
+}
+
+/// Whether the right bits end those of a window.
+#[unsafe(no_mangle)]
+pub extern "C" fn fb_u16_ends_with(
+    order: u32,
+    elements: &[u16],
+    start: usize,
+    len: usize,
+    right: &[u16],
+    right_start: usize,
+    right_len: usize,
+    answer: &mut bool,
+) -> u32
+    ensures { AsksBeside order 16 (λ x. x) (EndsWith (bits_from right_start right_len)) bit_of (bits_from start len) elements.now right.now answer.old answer.new result }
+{
+    bitvec_checked::ends_with(
+        order,
+        elements,
+        start,
+        len,
+        right,
+        right_start,
+        right_len,
+        answer,
+    )
+}
+
+/// Whether the right bits stand together somewhere among those of a window.
+#[unsafe(no_mangle)]
+pub extern "C" fn fb_u16_contains(
+    order: u32,
+    elements: &[u16],
+    start: usize,
+    len: usize,
+    right: &[u16],
+    right_start: usize,
+    right_len: usize,
+    answer: &mut bool,
+) -> u32
+    ensures { AsksBeside order 16 (λ x. x) (Contains (bits_from right_start right_len)) bit_of (bits_from start len) elements.now right.now answer.old answer.new result }
+{
+    bitvec_checked::contains(
+        order,
+        elements,
+        start,
+        len,
+        right,
+        right_start,
+        right_len,
+        answer,
+    )
+}
+
+/// How many bits of a window are 1.
+#[unsafe(no_mangle)]
+pub extern "C" fn fb_u16_count_ones(
+    order: u32,
+    elements: &[u16],
+    start: usize,
+    len: usize,
+    ones: &mut usize,
+) -> u32
+    ensures { Asks order 16 (λ x. x) CountOnes count_of (bits_from start len) elements.now ones.old ones.new result }
+{
+    bitvec_checked::count_ones(order, elements, start, len, ones)
+}
+
+/// How many bits of a window are 0.
+#[unsafe(no_mangle)]
+pub extern "C" fn fb_u16_count_zeros(
+    order: u32,
+    elements: &[u16],
+    start: usize,
+    len: usize,
+    zeros: &mut usize,
+) -> u32
+    ensures { Asks order 16 (λ x. x) CountZeros count_of (bits_from start len) elements.now zeros.old zeros.new result }
+{
+    bitvec_checked::count_zeros(order, elements, start, len, zeros)
+}
+
+/// The index of the first bit of a window that is 1.
+#[unsafe(no_mangle)]
+pub extern "C" fn fb_u16_first_one(
+    order: u32,
+    elements: &[u16],
+    start: usize,
+    len: usize,
+    index: &mut usize,
+) -> u32
+    ensures { Seeks order 16 (λ x. x) FirstOne (bits_from start len) elements.now index.old index.new result }
+{
+    bitvec_checked::first_one(order, elements, start, len, index)
+}
+
+/// The index of the first bit of a window that is 0.
+#[unsafe(no_mangle)]
+pub extern "C" fn fb_u16_first_zero(
+    order: u32,
+    elements: &[u16],
+    start: usize,
+    len: usize,
+    index: &mut usize,
+) -> u32
+    ensures { Seeks order 16 (λ x. x) FirstZero (bits_from start len) elements.now index.old index.new result }
+{
+    bitvec_checked::first_zero(order, elements, start, len, index)
+}
+
+/// The index of the last bit of a window that is 1.
+#[unsafe(no_mangle)]
+pub extern "C" fn fb_u16_last_one(
+    order: u32,
+    elements: &[u16],
+    start: usize,
+    len: usize,
+    index: &mut usize,
+) -> u32
+    ensures { Seeks order 16 (λ x. x) LastOne (bits_from start len) elements.now index.old index.new result }
+{
+    bitvec_checked::last_one(order, elements, start, len, index)
+}
+
+/// The index of the last bit of a window that is 0.
+#[unsafe(no_mangle)]
+pub extern "C" fn fb_u16_last_zero(
+    order: u32,
+    elements: &[u16],
+    start: usize,
+    len: usize,
+    index: &mut usize,
+) -> u32
+    ensures { Seeks order 16 (λ x. x) LastZero (bits_from start len) elements.now index.old index.new result }
+{
+    bitvec_checked::last_zero(order, elements, start, len, index)
+}
+
+/// Whether some bit of a window is 1.
+#[unsafe(no_mangle)]
+pub extern "C" fn fb_u16_any(
+    order: u32,
+    elements: &[u16],
+    start: usize,
+    len: usize,
+    answer: &mut bool,
+) -> u32
+    ensures { Asks order 16 (λ x. x) Any bit_of (bits_from start len) elements.now answer.old answer.new result }
+{
+    bitvec_checked::any(order, elements, start, len, answer)
+}
+
+/// Whether each bit of a window is 1.
+#[unsafe(no_mangle)]
+pub extern "C" fn fb_u16_all(
+    order: u32,
+    elements: &[u16],
+    start: usize,
+    len: usize,
+    answer: &mut bool,
+) -> u32
+    ensures { Asks order 16 (λ x. x) All bit_of (bits_from start len) elements.now answer.old answer.new result }
+{
+    bitvec_checked::all(order, elements, start, len, answer)
+}
+
+/// The number of the bits of a window, the first segment lowest.
+#[unsafe(no_mangle)]
+pub extern "C" fn fb_u16_load_le(
+    order: u32,
+    elements: &[u16],
+    start: usize,
+    len: usize,
+    number: &mut u64,
+) -> u32
+    ensures { Loads order 16 (λ x. x) loaded_le (bits_from start len) elements.now number.old number.new result }
+{
+    bitvec_checked::load_le(order, elements, start, len, number)
+}
+
+/// The number of the bits of a window, the first segment highest.
+#[unsafe(no_mangle)]
+pub extern "C" fn fb_u16_load_be(
+    order: u32,
+    elements: &[u16],
+    start: usize,
+    len: usize,
+    number: &mut u64,
+) -> u32
+    ensures { Loads order 16 (λ x. x) loaded_be (bits_from start len) elements.now number.old number.new result }
+{
+    bitvec_checked::load_be(order, elements, start, len, number)
+}
+
+/// Gives the bits of a window a number modulo `2^len`, the first segment lowest.
+#[unsafe(no_mangle)]
+pub extern "C" fn fb_u16_store_le(
+    order: u32,
+    elements: &mut [u16],
+    start: usize,
+    len: usize,
+    number: u64,
+) -> u32
+    ensures { Stores order 16 (λ x. x) stored_le number (bits_from start len) elements.old elements.new result }
+{
+    bitvec_checked::store_le(order, elements, start, len, number)
+}
+
+/// Gives the bits of a window a number modulo `2^len`, the first segment highest.
+#[unsafe(no_mangle)]
+pub extern "C" fn fb_u16_store_be(
+    order: u32,
+    elements: &mut [u16],
+    start: usize,
+    len: usize,
+    number: u64,
+) -> u32
+    ensures { Stores order 16 (λ x. x) stored_be number (bits_from start len) elements.old elements.new result }
+{
+    bitvec_checked::store_be(order, elements, start, len, number)
+}
+
+/// Carries out steps on a window, one after the other, with all bits of the right memory as the
+/// right list, and writes the reply to each.
+#[unsafe(no_mangle)]
+pub extern "C" fn fb_u16_run(
+    order: u32,
+    elements: &mut [u16],
+    start: usize,
+    len: usize,
+    right: &[u16],
+    steps: &[RawStep],
+    replies: &mut [RawReply],
+) -> u32
+    ensures { Runs order 16 (λ x. x) (bits_from start len) elements.old elements.new right.now steps.now replies.old replies.new result }
+{
+    bitvec_checked::run(order, elements, start, len, right, steps, replies)
+}
+
+/// The indices, from `from` on, of the bits of a window that are 1, ascending, as many as there are
+/// places for, and how many these are.
+#[unsafe(no_mangle)]
+pub extern "C" fn fb_u16_ones(
+    order: u32,
+    elements: &[u16],
+    start: usize,
+    len: usize,
+    from: usize,
+    indices: &mut [usize],
+    found: &mut usize,
+) -> u32
+    ensures { Lists order 16 (λ x. x) from (bits_from start len) elements.now indices.old indices.new found.old found.new result }
+{
+    ones(order, elements, start, len, from, indices, found)
+}

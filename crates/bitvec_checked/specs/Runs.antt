@@ -1,0 +1,37 @@
+-- What a run does, by its status.
+use Rattle.std.specs.Prelude.{◌≡◌, ◌≢◌, ℕ, Bool, List, ◌++◌, drop, if◌then◌else◌, length, map, nat_le, nat_lt}
+use Rattle.std.specs.List.{list_all}
+use Rattle.bitvec_run.specs.base.declared.window.Window.{Window}
+use Rattle.bitvec_run.specs.base.Memory.{Writes, list_in, memory_bits}
+use Rattle.bitvec_run.specs.FieldRows.{field_list, field_reply}
+use Rattle.bitvec_run.specs.Fold.{list_after, replies_of}
+use Rattle.bitvec_checked.specs.declared.replies.RawReply.{RawReply}
+use Rattle.bitvec_checked.specs.declared.steps.RawStep.{RawStep}
+use Rattle.bitvec_checked.specs.Calls.{Under}
+use Rattle.bitvec_checked.specs.Statuses.{memories_status, or_next}
+use Rattle.bitvec_checked.specs.Steps.{raw_reply, step_of}
+
+-- there is an operation of the number of each step
+abbrev pub are_steps : List RawStep → Bool
+are_steps steps = list_all (λ step. nat_lt step.op 33) steps
+
+-- and a place for each reply
+abbrev pub steps_status : List RawStep → ℕ → ℕ
+steps_status steps room = if are_steps steps then (if nat_le (length steps) room then 0 else 13) else 12
+
+-- the replies of steps on a list, beside a right list, and the list after them; `s` is the place of the list's first bit in the memory
+abbrev pub raw_replies : Bool → ℕ → ℕ → List Bool → List Bool → List RawStep → List RawReply
+raw_replies high b s right list steps = map raw_reply (replies_of (field_reply high b s right) (field_list high b s right) list (map step_of steps))
+
+abbrev pub list_after_steps : Bool → ℕ → ℕ → List Bool → List Bool → List RawStep → List Bool
+list_after_steps high b s right list steps = list_after (field_list high b s right) list (map step_of steps)
+
+module _ {E : Type 0} (order b : ℕ) (value : E → ℕ) where
+  -- the right list is that of all bits of the right memory; places without a step stay
+  pub record Runs (window : Window) (old new right : List E) (steps : List RawStep) (replies_old replies_new : List RawReply) (status : ℕ) : Type 0 where
+    pub status_is : status ≡ or_next (memories_status order b (map value old) window (map value right)) (steps_status steps (length replies_old))
+    pub replies : status ≡ 0 → Under order (λ at high.
+        replies_new ≡ raw_replies high b window.start (memory_bits b at (map value right)) (list_in b at (map value old) window) steps ++ drop (length steps) replies_old)
+    pub writes : status ≡ 0 → Under order (λ at high.
+        Writes b at (map value old) (map value new) window (list_after_steps high b window.start (memory_bits b at (map value right)) (list_in b at (map value old) window) steps))
+    pub unchanged : status ≢ 0 → (new ≡ old) × (replies_new ≡ replies_old)

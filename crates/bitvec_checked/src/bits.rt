@@ -1,0 +1,100 @@
+//! Single bits of a window.
+ghost use Rattle.bitvec_run.specs.declared.command.Op.TheVariants.{Get, Replace, Set, Swap};
+ghost use Rattle.bitvec_checked.specs.Calls.{Asks, Edits};
+ghost use Rattle.bitvec_checked.specs.Replies.{bit_of};
+ghost use Rattle.bitvec_checked.specs.Statuses.{bits_from};
+
+use crate::status::{DONE, index_status, indices_status, or_next, window_status};
+use bitvec_elements::base::Window;
+use bitvec_elements::store::BitStore;
+use bitvec_elements::{bit_in, replace_in, set_in, swap_in};
+
+/// The bit at an index of a window.
+pub fn get<T: BitStore>(
+    order: u32,
+    elements: &[T],
+    start: usize,
+    len: usize,
+    index: usize,
+    bit: &mut bool,
+) -> u32
+    ensures { Asks order T.BITS T.value (Get index) bit_of (bits_from start len) elements.now bit.old bit.new result }
+{
+    let window = Window { start, len };
+    let status = or_next(
+        window_status(order, elements, window),
+        index_status(index, len),
+    );
+    if status == DONE {
+        *bit = under!(order, bit_in::<T>(elements, window, index));
+    }
+    status
+}
+
+/// Makes the bit at an index of a window `bit`.
+pub fn set<T: BitStore>(
+    order: u32,
+    elements: &mut [T],
+    start: usize,
+    len: usize,
+    index: usize,
+    bit: bool,
+) -> u32
+    ensures { Edits order T.BITS T.value (Set index bit) (bits_from start len) elements.old elements.new result }
+{
+    let window = Window { start, len };
+    let status = or_next(
+        window_status(order, elements, window),
+        index_status(index, len),
+    );
+    if status == DONE {
+        under!(order, set_in::<T>(elements, window, index, bit));
+    }
+    status
+}
+
+/// Makes the bit at an index of a window `bit`, and gives the old one.
+pub fn replace<T: BitStore>(
+    order: u32,
+    elements: &mut [T],
+    start: usize,
+    len: usize,
+    index: usize,
+    bit: bool,
+    old: &mut bool,
+) -> u32
+    ensures value { Asks order T.BITS T.value (Replace index bit) bit_of (bits_from start len) elements.old old.old old.new result }
+    ensures writes { Edits order T.BITS T.value (Replace index bit) (bits_from start len) elements.old elements.new result }
+{
+    let window = Window { start, len };
+    let status = or_next(
+        window_status(order, elements, window),
+        index_status(index, len),
+    );
+    if status == DONE {
+        *old = under!(order, replace_in::<T>(elements, window, index, bit));
+    }
+    status
+}
+
+/// Exchanges the bits at two indices of a window.
+pub fn swap_bits<T: BitStore>(
+    order: u32,
+    elements: &mut [T],
+    start: usize,
+    len: usize,
+    first: usize,
+    second: usize,
+) -> u32
+    ensures { Edits order T.BITS T.value (Swap first second) (bits_from start len) elements.old elements.new result }
+{
+    let window = Window { start, len };
+    let status = or_next(
+        window_status(order, elements, window),
+        indices_status(first, second, len),
+    );
+    if status == DONE {
+        under!(order, swap_in::<T>(elements, window, first, second));
+    }
+    status
+}

@@ -1,0 +1,93 @@
+//! How many bits of a window are 1, or 0, and whether any or all are 1.
+ghost use Rattle.std.specs.Prelude.{◌≡◌, count_by, map, not};
+ghost use Rattle.bitvec_run.specs.base.Memory.{HasWindow, list_in};
+ghost use Rattle.bitvec_run.specs.declared.command.Op.TheVariants.{All, Any, CountOnes, CountZeros};
+ghost use Rattle.bitvec_checked.specs.Calls.{Asks};
+ghost use Rattle.bitvec_checked.specs.Replies.{bit_of, count_of};
+ghost use Rattle.bitvec_checked.specs.Statuses.{bits_from};
+
+use crate::status::{DONE, window_status};
+use bitvec_elements::base::{BitOrder, Window};
+use bitvec_elements::cells::Shared;
+use bitvec_elements::store::BitStore;
+use bitvec_elements::{all_in, any_in, count_in, engine};
+
+/// How many bits of a window are 1.
+pub fn count_ones<T: BitStore>(
+    order: u32,
+    elements: &[T],
+    start: usize,
+    len: usize,
+    ones: &mut usize,
+) -> u32
+    ensures { Asks order T.BITS T.value CountOnes count_of (bits_from start len) elements.now ones.old ones.new result }
+{
+    let window = Window { start, len };
+    let status = window_status(order, elements, window);
+    if status == DONE {
+        *ones = under!(order, count_in::<T>(elements, window));
+    }
+    status
+}
+
+/// How many bits of a window are 0.
+pub fn count_zeros<T: BitStore>(
+    order: u32,
+    elements: &[T],
+    start: usize,
+    len: usize,
+    zeros: &mut usize,
+) -> u32
+    ensures { Asks order T.BITS T.value CountZeros count_of (bits_from start len) elements.now zeros.old zeros.new result }
+{
+    let window = Window { start, len };
+    let status = window_status(order, elements, window);
+    if status == DONE {
+        *zeros = under!(order, count_zeros_in::<T>(elements, window));
+    }
+    status
+}
+
+fn count_zeros_in<T: BitStore, O: BitOrder>(elements: &[T], window: Window) -> usize
+    requires window { HasWindow T.BITS (map T.value elements.now) window }
+    ensures { result ≡ count_by not (list_in T.BITS O.at (map T.value elements.now) window) }
+{
+    let mut cells = Shared::new(elements);
+    engine::count_zeros::<O, Shared<T>>(&mut cells, window)
+}
+
+/// Whether some bit of a window is 1.
+pub fn any<T: BitStore>(
+    order: u32,
+    elements: &[T],
+    start: usize,
+    len: usize,
+    answer: &mut bool,
+) -> u32
+    ensures { Asks order T.BITS T.value Any bit_of (bits_from start len) elements.now answer.old answer.new result }
+{
+    let window = Window { start, len };
+    let status = window_status(order, elements, window);
+    if status == DONE {
+        *answer = under!(order, any_in::<T>(elements, window));
+    }
+    status
+}
+
+/// Whether each bit of a window is 1.
+pub fn all<T: BitStore>(
+    order: u32,
+    elements: &[T],
+    start: usize,
+    len: usize,
+    answer: &mut bool,
+) -> u32
+    ensures { Asks order T.BITS T.value All bit_of (bits_from start len) elements.now answer.old answer.new result }
+{
+    let window = Window { start, len };
+    let status = window_status(order, elements, window);
+    if status == DONE {
+        *answer = under!(order, all_in::<T>(elements, window));
+    }
+    status
+}

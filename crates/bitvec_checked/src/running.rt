@@ -1,0 +1,114 @@
+//! Runs of whole lists of steps.
+ghost use Rattle.std.specs.Prelude.{◌≡◌, ◌++◌, ◌≤◌, drop, length, map, true};
+ghost use Rattle.bitvec_run.specs.base.Memory.{FitsMaxBits, HasWindow, Writes, list_in, memory_bits};
+ghost use Rattle.bitvec_run.specs.Runs.{whole_window};
+ghost use Rattle.bitvec_checked.specs.Runs.{Runs, are_steps, list_after_steps, raw_replies, steps_status};
+ghost use Rattle.bitvec_checked.specs.Statuses.{bits_from};
+
+use crate::operations::OPERATIONS;
+use crate::replies::RawReply;
+use crate::status::{DONE, OP, ROOM, memories_status, or_next};
+use crate::steps::RawStep;
+use bitvec_elements::base::Window;
+use bitvec_elements::cells::{Cells, CellsRead, Exclusive, Shared};
+use bitvec_elements::engine::SliceOrder;
+use bitvec_elements::store::BitStore;
+use bitvec_run::segments::FieldOrder;
+use bitvec_run::{carry_out_field, whole};
+
+/// Carries out steps on a window, one after the other, with all bits of the right memory as the right
+/// list, and writes the reply to each. A step whose condition fails changes nothing and is told in its
+/// reply; the run goes on.
+pub fn run<T: BitStore>(
+    order: u32,
+    elements: &mut [T],
+    start: usize,
+    len: usize,
+    right: &[T],
+    steps: &[RawStep],
+    replies: &mut [RawReply],
+) -> u32
+    ensures { Runs order T.BITS T.value (bits_from start len) elements.old elements.new right.now steps.now replies.old replies.new result }
+{
+    let window = Window { start, len };
+    let status = or_next(
+        memories_status(order, elements, window, right),
+        steps_status(steps, replies.len()),
+    );
+    if status == DONE {
+        under!(order, run_in::<T>(elements, window, right, steps, replies));
+    }
+    status
+}
+
+/// Whether each step has an operation, and each a place for its reply.
+fn steps_status(steps: &[RawStep], room: usize) -> u32
+    ensures status { result ≡ steps_status steps.now room }
+    ensures known { result ≡ 0 → are_steps steps.now ≡ true }
+    ensures room { result ≡ 0 → length steps.now ≤ room }
+{
+    if !are_steps(steps) {
+        OP
+    } else if steps.len() > room {
+        ROOM
+    } else {
+        DONE
+    }
+}
+
+/// Whether each step has an operation.
+fn are_steps(steps: &[RawStep]) -> bool
+    ensures { result ≡ are_steps steps.now }
+{
+    steps.iter().all(|step| step.op < OPERATIONS)
+}
+
+/// The run under one order. Conditions: each memory has at most `MAX_BITS` bits, the window lies in its
+/// memory, and each step has an operation and a place for its reply.
+fn run_in<T: BitStore, O: SliceOrder + FieldOrder>(
+    elements: &mut [T],
+    window: Window,
+    right: &[T],
+    steps: &[RawStep],
+    replies: &mut [RawReply],
+)
+    requires window { HasWindow T.BITS (map T.value elements.old) window }
+    requires right { FitsMaxBits T.BITS (map T.value right.now) }
+    requires known { are_steps steps.now ≡ true }
+    requires room { length steps.now ≤ length replies.old }
+    ensures replies { replies.new ≡ raw_replies O.HIGH T.BITS window.start (memory_bits T.BITS O.at (map T.value right.now)) (list_in T.BITS O.at (map T.value elements.old) window) steps.now ++ drop (length steps.now) replies.old }
+    ensures writes { Writes T.BITS O.at (map T.value elements.old) (map T.value elements.new) window
+        (list_after_steps O.HIGH T.BITS window.start (memory_bits T.BITS O.at (map T.value right.now)) (list_in T.BITS O.at (map T.value elements.old) window) steps.now) }
+{
+    let mut cells = Exclusive::new(elements);
+    let mut beside = Shared::new(right);
+    run_steps::<O, Exclusive<T>, Shared<T>>(&mut cells, window, &mut beside, steps, replies);
+}
+
+/// The same by accessors.
+fn run_steps<O, C, D>(
+    cells: &mut C,
+    window: Window,
+    right: &mut D,
+    steps: &[RawStep],
+    replies: &mut [RawReply],
+)
+where
+    O: SliceOrder + FieldOrder,
+    C: Cells,
+    D: CellsRead<Elem = C::Elem>,
+    requires window { HasWindow C.Elem.BITS (C.numbers cells.old) window }
+    requires right { FitsMaxBits C.Elem.BITS (D.numbers right.old) }
+    requires known { are_steps steps.now ≡ true }
+    requires room { length steps.now ≤ length replies.old }
+    ensures replies { replies.new ≡ raw_replies O.HIGH C.Elem.BITS window.start (memory_bits C.Elem.BITS O.at (D.numbers right.old)) (list_in C.Elem.BITS O.at (C.numbers cells.old) window) steps.now ++ drop (length steps.now) replies.old }
+    ensures writes { Writes C.Elem.BITS O.at (C.numbers cells.old) (C.numbers cells.new) window
+        (list_after_steps O.HIGH C.Elem.BITS window.start (memory_bits C.Elem.BITS O.at (D.numbers right.old)) (list_in C.Elem.BITS O.at (C.numbers cells.old) window) steps.now) }
+    ensures borrow { C.borrow cells.new ≡ C.borrow cells.old }
+{
+    let source = whole(right);
+    for index in 0..steps.len() {
+        let reply = carry_out_field::<O, C, D>(cells, window, right, source, steps[index].step());
+        replies[index] = RawReply::new(reply);
+    }
+}

@@ -1,0 +1,194 @@
+//! Whether a call is carried out, and if not, why: its status, a number.
+ghost use Rattle.std.specs.Prelude.{◌≡◌, ◌*◌, ◌<◌, ◌≤◌, [], false, length, map, replicate};
+ghost use Rattle.bitvec_run.specs.base.Lists.{FitsWithin};
+ghost use Rattle.bitvec_run.specs.base.Memory.{FitsMaxBits, HasWindow};
+ghost use Rattle.bitvec_run.specs.Commands.{amount_refusal, index_refusal, op_refusal, right_refusal};
+ghost use Rattle.bitvec_run.specs.Rows.{unless};
+ghost use Rattle.bitvec_run.specs.declared.command.Op.TheVariants.{CopyFrom, CopyWithin, Swap};
+ghost use Rattle.bitvec_checked.specs.Statuses.{end_status, memories_status, or_next, refusal_status, status_beside, width_status, window_status};
+
+use bitvec_elements::base::Window;
+use bitvec_elements::cells::{CellsRead, Shared, fits_max_bits, has_window};
+use bitvec_elements::store::BitStore;
+use bitvec_run::Refusal;
+
+/// The order that begins with the least significant bit of an element.
+pub const LSB0: u32 = 0;
+/// The order that begins with the most significant bit of an element.
+pub const MSB0: u32 = 1;
+
+/// The call was carried out.
+pub const DONE: u32 = 0;
+/// There is no order of that number.
+pub const ORDER: u32 = 9;
+/// A memory has more than `MAX_BITS` bits.
+pub const SIZE: u32 = 10;
+/// There is no bit such as was looked for.
+pub const NONE: u32 = 11;
+/// A step has the number of no operation.
+pub const OP: u32 = 12;
+/// A run has fewer places for replies than steps.
+pub const ROOM: u32 = 13;
+
+/// The first of two statuses that isn't `DONE`.
+#[inline(always)]
+pub fn or_next(status: u32, next: u32) -> u32
+    ensures value { result ≡ or_next status next }
+    ensures done { result ≡ 0 → (status ≡ 0) × (next ≡ 0) }
+{
+    if status == DONE { next } else { status }
+}
+
+/// `DONE` where the test holds, and else the refusal's number.
+#[inline(always)]
+fn unless(test: bool, refusal: Refusal) -> u32
+    ensures { result ≡ refusal_status (unless test refusal) }
+{
+    if test { DONE } else { refusal as u32 }
+}
+
+/// What a call on one memory tests.
+#[inline(always)]
+pub fn window_status<T: BitStore>(order: u32, elements: &[T], window: Window) -> u32
+    ensures status { result ≡ window_status order T.BITS (map T.value elements.now) window }
+    ensures order { result ≡ 0 → order ≤ 1 }
+    ensures window { result ≡ 0 → HasWindow T.BITS (map T.value elements.now) window }
+{
+    let cells = Shared::new(elements);
+    if order > MSB0 {
+        ORDER
+    } else if !fits_max_bits(&cells) {
+        SIZE
+    } else {
+        unless(has_window(&cells, window), Refusal::Range)
+    }
+}
+
+/// What a call on two memories tests.
+#[inline(always)]
+pub(crate) fn memories_status<T: BitStore>(
+    order: u32,
+    elements: &[T],
+    window: Window,
+    right: &[T],
+) -> u32
+    ensures status { result ≡ memories_status order T.BITS (map T.value elements.now) window (map T.value right.now) }
+    ensures order { result ≡ 0 → order ≤ 1 }
+    ensures window { result ≡ 0 → HasWindow T.BITS (map T.value elements.now) window }
+    ensures right { result ≡ 0 → FitsMaxBits T.BITS (map T.value right.now) }
+{
+    let cells = Shared::new(elements);
+    let beside = Shared::new(right);
+    if order > MSB0 {
+        ORDER
+    } else if !fits_max_bits(&cells) || !fits_max_bits(&beside) {
+        SIZE
+    } else {
+        unless(has_window(&cells, window), Refusal::Range)
+    }
+}
+
+/// What a call tests that works with a window of a right memory.
+#[inline(always)]
+pub(crate) fn windows_status<T: BitStore>(
+    order: u32,
+    elements: &[T],
+    window: Window,
+    right: &[T],
+    right_window: Window,
+) -> u32
+    ensures status { let xs = map T.value elements.now in let ys = map T.value right.now in
+        result ≡ or_next (memories_status order T.BITS xs window ys) (refusal_status (right_refusal (replicate (T.BITS * length ys) false) right_window)) }
+    ensures order { result ≡ 0 → order ≤ 1 }
+    ensures window { result ≡ 0 → HasWindow T.BITS (map T.value elements.now) window }
+    ensures right_window { result ≡ 0 → HasWindow T.BITS (map T.value right.now) right_window }
+{
+    let status = memories_status(order, elements, window, right);
+    if status != DONE {
+        return status;
+    }
+    unless(
+        has_window(&Shared::new(right), right_window),
+        Refusal::Right,
+    )
+}
+
+/// The same of a call that needs windows of one length.
+#[inline(always)]
+pub(crate) fn equal_windows_status<T: BitStore>(
+    order: u32,
+    elements: &[T],
+    window: Window,
+    right: &[T],
+    right_window: Window,
+) -> u32
+    ensures status { result ≡ status_beside order T.BITS (map T.value elements.now) window (map T.value right.now) (CopyFrom right_window) }
+    ensures order { result ≡ 0 → order ≤ 1 }
+    ensures window { result ≡ 0 → HasWindow T.BITS (map T.value elements.now) window }
+    ensures right_window { result ≡ 0 → HasWindow T.BITS (map T.value right.now) right_window }
+    ensures lengths { result ≡ 0 → window.len ≡ right_window.len }
+{
+    let status = windows_status(order, elements, window, right, right_window);
+    if status != DONE {
+        return status;
+    }
+    unless(right_window.len == window.len, Refusal::Length)
+}
+
+/// Whether an index is below the length of a window.
+#[inline(always)]
+pub(crate) fn index_status(index: usize, len: usize) -> u32
+    ensures status { result ≡ refusal_status (index_refusal len index) }
+    ensures below { result ≡ 0 → index < len }
+{
+    unless(index < len, Refusal::Index)
+}
+
+/// Whether two indices are.
+#[inline(always)]
+pub(crate) fn indices_status(first: usize, second: usize, len: usize) -> u32
+    ensures status { result ≡ refusal_status (op_refusal [] len (Swap first second)) }
+    ensures first { result ≡ 0 → first < len }
+    ensures second { result ≡ 0 → second < len }
+{
+    unless(first < len && second < len, Refusal::Index)
+}
+
+/// Whether a window can be shifted or rotated by so much.
+#[inline(always)]
+pub(crate) fn amount_status(by: usize, len: usize) -> u32
+    ensures status { result ≡ refusal_status (amount_refusal len by) }
+    ensures most { result ≡ 0 → by ≤ len }
+{
+    unless(by <= len, Refusal::Amount)
+}
+
+/// Whether the bits from `from` up to `to` of a window can be copied to those from `dest` on.
+#[inline(always)]
+pub(crate) fn ranges_status(from: usize, to: usize, dest: usize, len: usize) -> u32
+    ensures status { result ≡ refusal_status (op_refusal [] len (CopyWithin from to dest)) }
+    ensures fits { result ≡ 0 → FitsWithin from to dest len }
+{
+    if from > to || to > len {
+        return Refusal::Source as u32;
+    }
+    unless(dest <= len - (to - from), Refusal::Dest)
+}
+
+/// Whether a walk of a window may begin at an index, which may be its end.
+#[inline(always)]
+pub fn end_status(from: usize, len: usize) -> u32
+    ensures status { result ≡ end_status from len }
+    ensures most { result ≡ 0 → from ≤ len }
+{
+    unless(from <= len, Refusal::Index)
+}
+
+/// Whether a number can have so many bits.
+#[inline(always)]
+pub(crate) fn width_status(len: usize) -> u32
+    ensures status { result ≡ width_status len }
+    ensures most { result ≡ 0 → len ≤ 64 }
+{
+    unless(1 <= len && len <= 64, Refusal::Width)
+}

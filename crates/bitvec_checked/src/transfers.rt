@@ -1,0 +1,146 @@
+//! Bits of a window copied from a window of another memory, combined with its bits, or exchanged for them.
+ghost use Rattle.bitvec_run.specs.declared.command.Op.TheVariants.{And, CopyFrom, Or, Xor};
+ghost use Rattle.bitvec_checked.specs.Calls.{EditsBeside, Swaps};
+ghost use Rattle.bitvec_checked.specs.Statuses.{bits_from};
+
+use crate::status::{DONE, equal_windows_status, windows_status};
+use bitvec_elements::base::Window;
+use bitvec_elements::engine::BitOp;
+use bitvec_elements::store::BitStore;
+use bitvec_elements::{combine_block_in, copy_from_block_in, swap_with_block_in};
+
+/// Copies the bits of the right window, which is as long.
+pub fn copy<T: BitStore>(
+    order: u32,
+    elements: &mut [T],
+    start: usize,
+    len: usize,
+    right: &[T],
+    right_start: usize,
+    right_len: usize,
+) -> u32
+    ensures { EditsBeside order T.BITS T.value (CopyFrom (bits_from right_start right_len)) (bits_from start len) elements.old elements.new right.now result }
+{
+    let window = Window { start, len };
+    let right_window = Window {
+        start: right_start,
+        len: right_len,
+    };
+    let status = equal_windows_status(order, elements, window, right, right_window);
+    if status == DONE {
+        under!(
+            order,
+            copy_from_block_in::<T>(elements, window, right, right_window)
+        );
+    }
+    status
+}
+
+/// Makes each bit of a window that bit and the one at its index in the right window, 0 past its end.
+pub fn and<T: BitStore>(
+    order: u32,
+    elements: &mut [T],
+    start: usize,
+    len: usize,
+    right: &[T],
+    right_start: usize,
+    right_len: usize,
+) -> u32
+    ensures { EditsBeside order T.BITS T.value (And (bits_from right_start right_len)) (bits_from start len) elements.old elements.new right.now result }
+{
+    let window = Window { start, len };
+    let right_window = Window {
+        start: right_start,
+        len: right_len,
+    };
+    let status = windows_status(order, elements, window, right, right_window);
+    if status == DONE {
+        under!(
+            order,
+            combine_block_in::<T>(elements, window, right, right_window, BitOp::And)
+        );
+    }
+    status
+}
+
+/// Makes each bit of a window that bit or the one at its index in the right window, 0 past its end.
+pub fn or<T: BitStore>(
+    order: u32,
+    elements: &mut [T],
+    start: usize,
+    len: usize,
+    right: &[T],
+    right_start: usize,
+    right_len: usize,
+) -> u32
+    ensures { EditsBeside order T.BITS T.value (Or (bits_from right_start right_len)) (bits_from start len) elements.old elements.new right.now result }
+{
+    let window = Window { start, len };
+    let right_window = Window {
+        start: right_start,
+        len: right_len,
+    };
+    let status = windows_status(order, elements, window, right, right_window);
+    if status == DONE {
+        under!(
+            order,
+            combine_block_in::<T>(elements, window, right, right_window, BitOp::Or)
+        );
+    }
+    status
+}
+
+/// Makes each bit of a window whether it differs from the one at its index in the right window, 0 past its
+/// end.
+pub fn xor<T: BitStore>(
+    order: u32,
+    elements: &mut [T],
+    start: usize,
+    len: usize,
+    right: &[T],
+    right_start: usize,
+    right_len: usize,
+) -> u32
+    ensures { EditsBeside order T.BITS T.value (Xor (bits_from right_start right_len)) (bits_from start len) elements.old elements.new right.now result }
+{
+    let window = Window { start, len };
+    let right_window = Window {
+        start: right_start,
+        len: right_len,
+    };
+    let status = windows_status(order, elements, window, right, right_window);
+    if status == DONE {
+        under!(
+            order,
+            combine_block_in::<T>(elements, window, right, right_window, BitOp::Xor)
+        );
+    }
+    status
+}
+
+/// Exchanges the bits of two windows, which are as long.
+pub fn swap<T: BitStore>(
+    order: u32,
+    elements: &mut [T],
+    start: usize,
+    len: usize,
+    right: &mut [T],
+    right_start: usize,
+    right_len: usize,
+) -> u32
+    ensures { Swaps order T.BITS T.value (bits_from start len) (bits_from right_start right_len) elements.old elements.new right.old right.new result }
+{
+    let window = Window { start, len };
+    let right_window = Window {
+        start: right_start,
+        len: right_len,
+    };
+    let status = equal_windows_status(order, elements, window, right, right_window);
+    if status == DONE {
+        under!(
+            order,
+            swap_with_block_in::<T>(elements, window, right, right_window)
+        );
+    }
+    status
+}
