@@ -85,9 +85,7 @@ class Checks {
     }
 
     // Whether a place is one that the plain loops are for.
-    static bool has_loop(Place at) {
-        return at.len != 0 && at.len % width == 0 && at.left == 0 && at.right < width;
-    }
+    static bool has_loop(Place at) { return at.len != 0 && at.len % width == 0 && at.left == 0 && at.right < width; }
 
     // Whether it is one for those whose two sides begin inside an element.
     static bool has_inner_loop(Place at) {
@@ -304,7 +302,8 @@ class Checks {
         const int order = list < other ? -1 : list == other ? 0 : 1;
         int answer = Call::compare(left.data(), left.size(), at.left, right.data(), right.size(), at.right, at.len);
         expect(answer == order, "compare", at);
-        bool starts = Call::starts_with(left.data(), left.size(), at.left, right.data(), right.size(), at.right, at.len);
+        bool starts =
+            Call::starts_with(left.data(), left.size(), at.left, right.data(), right.size(), at.right, at.len);
         expect(starts == std::equal(other.begin(), other.begin() + ptrdiff_t(at.len / 2), list.begin()), "starts_with",
                at);
         if (has_loop(at))
@@ -314,8 +313,7 @@ class Checks {
 
     void one_equality(Place at, const Memory &left, const Memory &right, bool wanted) {
         one_order(at, left, right);
-        bool answer =
-            Call::equal(left.data(), left.size(), at.left, right.data(), right.size(), at.right, at.len);
+        bool answer = Call::equal(left.data(), left.size(), at.left, right.data(), right.size(), at.right, at.len);
         expect(answer == wanted, "equal", at);
         auto equal = has_inner_loop(at) ? Loop::inner_equal : Loop::equal;
         if (has_loop(at) || has_inner_loop(at))

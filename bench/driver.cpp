@@ -1,5 +1,5 @@
-// Tests the library against loops over single bits, then times it beside its peers, and prints tables; with the word `plot`
-// it prints the speeds that plot.py draws.
+// Tests the library against loops over single bits, then times it beside its peers, and prints tables; with the word
+// `plot` it prints the speeds that plot.py draws.
 #include "checks.hpp"
 #include "fields.hpp"
 #include "library.hpp"
@@ -102,8 +102,8 @@ class Timed {
 
   public:
     Timed(size_t len, size_t start, bool inner)
-        : len(len), start(start), first(inner ? start : 0), inner(inner), count(len / width), size(count + 1), left(size),
-          right(size), room(2 * count) {
+        : len(len), start(start), first(inner ? start : 0), inner(inner), count(len / width), size(count + 1),
+          left(size), right(size), room(2 * count) {
         std::mt19937_64 random(3);
         for (Element &element : left)
             element = Element(random());
@@ -302,9 +302,9 @@ void measure(size_t len, Phase phase, bool pairs_alone, PeerTimes &peers, Report
     Timed<Element, Order> timed(len, start, inner);
     auto row = [&](const char *operation, const std::string &place, Times times, auto best) {
         report({operation, elements, place, len, times, peers.of(operation + kind, [&] {
-                   Peers sets(len, peer_start, inner);
-                   return best(sets);
-               })});
+                    Peers sets(len, peer_start, inner);
+                    return best(sets);
+                })});
     };
     row("copy", two, timed.copy(), [](Peers &p) { return p.copy(); });
     row("or", two, timed.combine(), [](Peers &p) { return p.combine(); });
@@ -456,14 +456,16 @@ void print_operations() {
 }
 
 void print_few() {
-    std::printf("\n### Few bits, in ns\n\n| operation | bits | elements | phase | library | by hand | library / by hand |\n");
+    std::printf(
+        "\n### Few bits, in ns\n\n| operation | bits | elements | phase | library | by hand | library / by hand |\n");
     std::printf("|---|---|---|---|---|---|---|\n");
     measure_few<uint64_t, Lsb0>();
     measure_few<uint64_t, Msb0>();
     measure_few<uint8_t, Lsb0>();
     measure_few<uint8_t, Msb0>();
-    std::printf("\n### Single bits, in ns a bit\n\n| operation | elements | library | `vector<bool>` | by hand | library / "
-                "vector |\n|---|---|---|---|---|---|\n");
+    std::printf(
+        "\n### Single bits, in ns a bit\n\n| operation | elements | library | `vector<bool>` | by hand | library / "
+        "vector |\n|---|---|---|---|---|---|\n");
     measure_single<uint64_t, Lsb0>();
     measure_single<uint64_t, Msb0>();
     measure_single<uint8_t, Lsb0>();

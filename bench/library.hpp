@@ -77,7 +77,9 @@ struct Library {
         Call::shift_start(order, p, size, start, len, by);
     }
 
-    static void reverse(Element *p, size_t size, size_t start, size_t len) { Call::reverse(order, p, size, start, len); }
+    static void reverse(Element *p, size_t size, size_t start, size_t len) {
+        Call::reverse(order, p, size, start, len);
+    }
 
     static void rotate_left(Element *p, size_t size, size_t start, size_t len, size_t by) {
         Call::rotate_left(order, p, size, start, len, by);
