@@ -85,9 +85,7 @@ class Checks {
     }
 
     // Whether a place is one that the plain loops are for.
-    static bool has_loop(Place at) {
-        return at.len != 0 && at.len % width == 0 && at.left == 0 && at.right < width;
-    }
+    static bool has_loop(Place at) { return at.len != 0 && at.len % width == 0 && at.left == 0 && at.right < width; }
 
     // Whether it is one for those whose two sides begin inside an element.
     static bool has_inner_loop(Place at) {
@@ -115,11 +113,8 @@ class Checks {
         Call::swap(to.data(), to.size(), at.left, from.data(), from.size(), at.right, at.len);
         expect(to == swapped && from == swapped_right, "swap", at);
 
-        if (at.len <= width) {
-            to = left;
-            Loop::copy_few(to.data(), at.left, right.data(), at.right, unsigned(at.len));
-            expect(to == copied, "copy of few by a plain loop", at);
-        }
+        if (at.len > 0 && at.len <= width)
+            few(at, left, right, copied);
         if (!has_loop(at) && !has_inner_loop(at))
             return;
         const bool inner = has_inner_loop(at);
@@ -133,6 +128,39 @@ class Checks {
         from = right;
         (inner ? Loop::inner_swap : Loop::swap)(to.data(), from.data(), unsigned(at.right), at.len / width);
         expect(to == swapped && from == swapped_right, "swap by a plain loop", at);
+    }
+
+    // Few bits by hand.
+    static void few(Place at, const Memory &left, const Memory &right, const Memory &copied) {
+        const unsigned len = unsigned(at.len);
+        const List list = Bits::read(left, at.left, at.len), other = Bits::read(right, at.right, at.len);
+        Memory to = left;
+        Loop::copy_few(to.data(), at.left, right.data(), at.right, len);
+        expect(to == copied, "copy of few by hand", at);
+        expect(Loop::equal_few(to.data(), at.left, right.data(), at.right, len), "equality of few by hand", at);
+        expect(Loop::equal_few(left.data(), at.left, right.data(), at.right, len) == (list == other),
+               "equality of few by hand", at);
+        expect(Loop::count_few(left.data(), at.left, len) == size_t(std::count(list.begin(), list.end(), 1)),
+               "count of few by hand", at);
+        Loop::fill_few(to.data(), at.left, len, true);
+        expect(Bits::read(to, at.left, at.len) == List(at.len, 1), "fill of few by hand", at);
+        Bits::write(to, at.left, list);
+        expect(to == left, "the bits beside few", at);
+        single(at, left, list);
+    }
+
+    // Single bits, by the library and by hand.
+    static void single(Place at, const Memory &left, const List &list) {
+        Memory by_call(left.size()), by_hand(left.size()), wanted(left.size());
+        Bits::write(wanted, at.left, list);
+        for (size_t i = 0; i < list.size(); ++i) {
+            const size_t place = at.left + i;
+            expect(Call::get(left.data(), left.size(), place) == bool(list[i]), "get", at);
+            expect(Loop::get(left.data(), place) == bool(list[i]), "get by hand", at);
+            Call::set(by_call.data(), by_call.size(), place, list[i]);
+            Loop::set(by_hand.data(), place, list[i]);
+        }
+        expect(by_call == wanted && by_hand == wanted, "set", at);
     }
 
     // One edit of the bits at the left start, by the library and, where there is one, by a plain loop
@@ -211,6 +239,7 @@ class Checks {
         expect(Call::count_ones(left.data(), left.size(), at.left, at.len) == ones, "count_ones", at);
         expect(Call::first_one(left.data(), left.size(), at.left, at.len) == place, "first_one", at);
         expect(Call::iter_ones(left.data(), left.size(), at.left, at.len) == sum_of_ones(list), "iter_ones", at);
+        one_needle(at, left, list);
         Memory same = right;
         Bits::write(same, at.right, list);
         one_equality(at, left, same, true);
@@ -246,9 +275,45 @@ class Checks {
         }
     }
 
+    // The 32 bits of a list from an index on, or others, as a needle.
+    void one_needle(Place at, const Memory &left, const List &list) {
+        List bits(32);
+        for (char &bit : bits)
+            bit = random() & 1;
+        if (list.size() >= bits.size() && random() % 2 == 0) {
+            auto from = list.begin() + ptrdiff_t(random() % (list.size() - bits.size() + 1));
+            std::copy(from, from + ptrdiff_t(bits.size()), bits.begin());
+        }
+        const bool wanted = std::search(list.begin(), list.end(), bits.begin(), bits.end()) != list.end();
+        Memory needle((bits.size() + width - 1) / width);
+        Bits::write(needle, 0, bits);
+        bool answer = Call::contains(left.data(), left.size(), at.left, at.len, needle.data(), needle.size());
+        expect(answer == wanted, "contains", at);
+        uint32_t number = 0;
+        for (size_t i = 0; i < bits.size(); ++i)
+            number |= uint32_t(bits[i]) << i;
+        if (at.len % width == 0 && at.left < width)
+            expect(Loop::contains(left.data(), unsigned(at.left), at.len / width, number) == wanted,
+                   "contains by a plain loop", at);
+    }
+
+    void one_order(Place at, const Memory &left, const Memory &right) {
+        const List list = Bits::read(left, at.left, at.len), other = Bits::read(right, at.right, at.len);
+        const int order = list < other ? -1 : list == other ? 0 : 1;
+        int answer = Call::compare(left.data(), left.size(), at.left, right.data(), right.size(), at.right, at.len);
+        expect(answer == order, "compare", at);
+        bool starts =
+            Call::starts_with(left.data(), left.size(), at.left, right.data(), right.size(), at.right, at.len);
+        expect(starts == std::equal(other.begin(), other.begin() + ptrdiff_t(at.len / 2), list.begin()), "starts_with",
+               at);
+        if (has_loop(at))
+            expect(Loop::compare(left.data(), right.data(), unsigned(at.right), at.len / width) == order,
+                   "compare by a plain loop", at);
+    }
+
     void one_equality(Place at, const Memory &left, const Memory &right, bool wanted) {
-        bool answer =
-            Call::equal(left.data(), left.size(), at.left, right.data(), right.size(), at.right, at.len);
+        one_order(at, left, right);
+        bool answer = Call::equal(left.data(), left.size(), at.left, right.data(), right.size(), at.right, at.len);
         expect(answer == wanted, "equal", at);
         auto equal = has_inner_loop(at) ? Loop::inner_equal : Loop::equal;
         if (has_loop(at) || has_inner_loop(at))

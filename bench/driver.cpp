@@ -1,4 +1,5 @@
-// Tests the library against loops over single bits, then times it beside its peers, and prints tables.
+// Tests the library against loops over single bits, then times it beside its peers, and prints tables; with the word
+// `plot` it prints the speeds that plot.py draws.
 #include "checks.hpp"
 #include "fields.hpp"
 #include "library.hpp"
@@ -14,10 +15,11 @@
 namespace {
 
 constexpr size_t sizes[] = {size_t(1) << 20, size_t(1) << 10};
+constexpr size_t plot_sizes[] = {size_t(1) << 6, size_t(1) << 10, size_t(1) << 14, size_t(1) << 20, size_t(1) << 26};
 
 // The bit of an element at which a shifted side starts, and by how far shifts go beside whole elements.
 template <class Element>
-constexpr size_t middle = sizeof(Element) == 1 ? 3 : 29;
+constexpr size_t middle = sizeof(Element) == 1 ? 3 : sizeof(Element) == 2 ? 13 : 29;
 
 template <class Element, class Order>
 void check() {
@@ -100,8 +102,8 @@ class Timed {
 
   public:
     Timed(size_t len, size_t start, bool inner)
-        : len(len), start(start), first(inner ? start : 0), inner(inner), count(len / width), size(count + 1), left(size),
-          right(size), room(2 * count) {
+        : len(len), start(start), first(inner ? start : 0), inner(inner), count(len / width), size(count + 1),
+          left(size), right(size), room(2 * count) {
         std::mt19937_64 random(3);
         for (Element &element : left)
             element = Element(random());
@@ -144,6 +146,34 @@ class Timed {
         t.loop = time_call([&] { keep(loop(l(), r(), unsigned(start), count)); });
         if (start == 0)
             t.libc = time_call([&] { keep(std::memcmp(l(), r(), len / 8)); });
+        return t;
+    }
+
+    // Of equal bits.
+    Times compare() {
+        Loop::copy(l(), r(), unsigned(start), count);
+        Times t;
+        t.library = time_call([&] { keep(Call::compare(l(), size, first, r(), size, start, len)); });
+        t.loop = time_call([&] { keep(Loop::compare(l(), r(), unsigned(start), count)); });
+        return t;
+    }
+
+    // With the first half of equal bits.
+    Times starts_with() {
+        Loop::copy(l(), r(), unsigned(start), count);
+        Times t;
+        t.library = time_call([&] { keep(Call::starts_with(l(), size, first, r(), size, start, len)); });
+        if (count >= 2)
+            t.loop = time_call([&] { keep(Loop::equal(l(), r(), unsigned(start), count / 2)); });
+        return t;
+    }
+
+    // Of 32 ones, which don't stand there.
+    Times contains() {
+        const std::vector<Element> needle((32 + width - 1) / width, Element(~Element(0)));
+        Times t;
+        t.library = time_call([&] { keep(Call::contains(r(), size, start, len, needle.data(), needle.size())); });
+        t.loop = time_call([&] { keep(Loop::contains(r(), unsigned(start), count, 0xFFFFFFFF)); });
         return t;
     }
 
@@ -257,8 +287,10 @@ class PeerTimes {
 // both inside at the same bit.
 enum class Phase { edges, shifted, inner };
 
-template <class Element, class Order>
-void measure(size_t len, Phase phase, PeerTimes &peers) {
+// Every operation on so many bits, or only copies, operators, exchanges and equality of two windows.
+
+template <class Element, class Order, class Report>
+void measure(size_t len, Phase phase, bool pairs_alone, PeerTimes &peers, Report report) {
     const size_t width = 8 * sizeof(Element);
     const bool at_edge = phase == Phase::edges, inner = phase == Phase::inner;
     const size_t start = at_edge ? 0 : middle<Element>, peer_start = at_edge ? 0 : 29;
@@ -269,17 +301,20 @@ void measure(size_t len, Phase phase, PeerTimes &peers) {
     const std::string kind = at_edge ? "" : inner ? " inner" : " shifted";
     Timed<Element, Order> timed(len, start, inner);
     auto row = [&](const char *operation, const std::string &place, Times times, auto best) {
-        print({operation, elements, place, len, times, peers.of(operation + kind, [&] {
-                   Peers sets(len, peer_start, inner);
-                   return best(sets);
-               })});
+        report({operation, elements, place, len, times, peers.of(operation + kind, [&] {
+                    Peers sets(len, peer_start, inner);
+                    return best(sets);
+                })});
     };
     row("copy", two, timed.copy(), [](Peers &p) { return p.copy(); });
     row("or", two, timed.combine(), [](Peers &p) { return p.combine(); });
     row("swap", two, timed.swap(), [](Peers &p) { return p.swap(); });
     row("equality", two, timed.equal(), [](Peers &p) { return p.equal(); });
-    if (inner)
+    if (pairs_alone)
         return;
+    row("compare", two, timed.compare(), [](Peers &p) { return p.compare(); });
+    row("starts_with", two, timed.starts_with(), [](Peers &p) { return p.starts_with(); });
+    row("contains", one, timed.contains(), [](Peers &p) { return p.contains(); });
     row("copy_within", "by " + std::to_string(by), timed.copy_within(by),
         [&](Peers &p) { return p.copy_within(peer_by); });
     row("shift_start", "by " + std::to_string(by), timed.shift_start(by),
@@ -295,23 +330,76 @@ void measure(size_t len, Phase phase, PeerTimes &peers) {
     row("iter_ones 1/2", one, timed.iter_ones(2), [](Peers &p) { return p.iter_ones(2); });
 }
 
-// Copies of few bits, in nanoseconds, with starts that the compiler doesn't know.
+// Work on few bits, in nanoseconds, with starts that the compiler doesn't know.
 template <class Element, class Order>
 void measure_few() {
     using Call = Library<Element, Order>;
     using Loop = Loops<Element, Order>;
     const unsigned width = 8 * sizeof(Element);
-    std::vector<Element> to(160 / width), from(160 / width, Element(0x5A));
-    for (unsigned len : {8u, 64u}) {
-        if (len > width)
-            continue;
+    std::vector<Element> to(160 / width, Element(0x5A)), from(160 / width, Element(0x5A));
+    Element *t = to.data();
+    const Element *f = from.data();
+    const size_t size = to.size();
+    for (unsigned len : {2u, 8u, 16u, 64u})
         for (size_t start : {size_t(0), middle<Element>}) {
-            double library = time_call([&] { Call::copy(to.data(), to.size(), 0, from.data(), from.size(), start, len); });
-            double by_hand = time_call([&] { Loop::copy_few(to.data(), 0, from.data(), start, len); });
-            std::printf("| %u | u%u %s | 0, %zu | %s | %s | %s |\n", len, width, Order::name, start,
-                        number(library).c_str(), number(by_hand).c_str(), ratio(by_hand, library).c_str());
+            auto row = [&](const char *operation, const char *place, double library, double by_hand) {
+                std::printf("| %s | %u | u%u %s | %s%zu | %s | %s | %s |\n", operation, len, width, Order::name, place,
+                            start, number(library).c_str(), number(by_hand).c_str(), ratio(by_hand, library).c_str());
+            };
+            if (len > width)
+                continue;
+            row("copy", "0, ", time_call([&] { Call::copy(t, size, 0, f, size, start, len); }),
+                time_call([&] { Loop::copy_few(t, 0, f, start, len); }));
+            row("equality", "0, ", time_call([&] { keep(Call::equal(t, size, 0, f, size, start, len)); }),
+                time_call([&] { keep(Loop::equal_few(t, 0, f, start, len)); }));
+            row("fill", "", time_call([&] { Call::fill(t, size, start, len, true); }),
+                time_call([&] { Loop::fill_few(t, start, len, true); }));
+            row("count_ones", "", time_call([&] { keep(Call::count_ones(f, size, start, len)); }),
+                time_call([&] { keep(Loop::count_few(f, start, len)); }));
         }
-    }
+}
+
+// Single bits one after the other and at random, in nanoseconds a bit.
+template <class Element, class Order>
+void measure_single() {
+    using Call = Library<Element, Order>;
+    using Loop = Loops<Element, Order>;
+    const unsigned width = 8 * sizeof(Element);
+    const size_t len = size_t(1) << 20, some = size_t(1) << 14;
+    std::vector<Element> memory(len / width, Element(0x5A));
+    std::vector<bool> vector(len, true);
+    std::vector<size_t> places(some);
+    std::mt19937_64 random(3);
+    for (size_t &place : places)
+        place = random() % len;
+    Element *p = memory.data();
+    const size_t size = memory.size();
+    // Does an act on so many bits.
+    auto each = [&](bool at_random, auto act) {
+        return [&, at_random, act] {
+            size_t sum = 0;
+            for (size_t i = 0; i < some; ++i)
+                sum += act(at_random ? places[i] : i);
+            keep(sum);
+        };
+    };
+    auto row = [&](const char *operation, bool at_random, auto library, auto by_vector, auto by_hand) {
+        const double times[] = {time_call(each(at_random, library)), time_call(each(at_random, by_vector)),
+                                time_call(each(at_random, by_hand))};
+        std::printf("| %s | u%u %s | %s | %s | %s | %s |\n", operation, width, Order::name,
+                    number(times[0] / double(some)).c_str(), number(times[1] / double(some)).c_str(),
+                    number(times[2] / double(some)).c_str(), ratio(times[1], times[0]).c_str());
+    };
+    auto get = [&](size_t i) { return Call::get(p, size, i); };
+    auto get_of_vector = [&](size_t i) { return bool(vector[i]); };
+    auto get_by_hand = [&](size_t i) { return Loop::get(p, i); };
+    row("get, in a row", false, get, get_of_vector, get_by_hand);
+    row("get, at random", true, get, get_of_vector, get_by_hand);
+    auto set = [&](size_t i) { return Call::set(p, size, i, i % 3 == 0), 0; };
+    auto set_of_vector = [&](size_t i) { return vector[i] = i % 3 == 0, 0; };
+    auto set_by_hand = [&](size_t i) { return Loop::set(p, i, i % 3 == 0), 0; };
+    row("set, in a row", false, set, set_of_vector, set_by_hand);
+    row("set, at random", true, set, set_of_vector, set_by_hand);
 }
 
 // Fields of 12 bits that follow one another, in nanoseconds a field.
@@ -338,11 +426,11 @@ void measure_fields() {
     }
 }
 
-} // namespace
-
-int main() {
+void check_all() {
     check<uint8_t, Lsb0>();
     check<uint8_t, Msb0>();
+    check<uint16_t, Lsb0>();
+    check<uint16_t, Msb0>();
     check<uint64_t, Lsb0>();
     check<uint64_t, Msb0>();
     check_fields<uint8_t, Lsb0>();
@@ -350,22 +438,41 @@ int main() {
     check_fields<uint32_t, Lsb0>();
     check_fields<uint32_t, Msb0>();
     std::printf("The library's results are those of the loops over single bits.\n");
+}
+
+void print_operations() {
     for (size_t len : sizes) {
         PeerTimes peers;
         print_head(len);
         for (Phase phase : {Phase::edges, Phase::shifted, Phase::inner}) {
-            measure<uint64_t, Lsb0>(len, phase, peers);
-            measure<uint64_t, Msb0>(len, phase, peers);
-            measure<uint8_t, Lsb0>(len, phase, peers);
-            measure<uint8_t, Msb0>(len, phase, peers);
+            measure<uint64_t, Lsb0>(len, phase, phase == Phase::inner, peers, print);
+            measure<uint64_t, Msb0>(len, phase, phase == Phase::inner, peers, print);
+            measure<uint16_t, Lsb0>(len, phase, phase == Phase::inner, peers, print);
+            measure<uint16_t, Msb0>(len, phase, phase == Phase::inner, peers, print);
+            measure<uint8_t, Lsb0>(len, phase, phase == Phase::inner, peers, print);
+            measure<uint8_t, Msb0>(len, phase, phase == Phase::inner, peers, print);
         }
     }
-    std::printf("\n### Copies of few bits, in ns\n\n| bits | elements | phase | library | by hand | library / by hand |\n");
-    std::printf("|---|---|---|---|---|---|\n");
+}
+
+void print_few() {
+    std::printf(
+        "\n### Few bits, in ns\n\n| operation | bits | elements | phase | library | by hand | library / by hand |\n");
+    std::printf("|---|---|---|---|---|---|---|\n");
     measure_few<uint64_t, Lsb0>();
     measure_few<uint64_t, Msb0>();
     measure_few<uint8_t, Lsb0>();
     measure_few<uint8_t, Msb0>();
+    std::printf(
+        "\n### Single bits, in ns a bit\n\n| operation | elements | library | `vector<bool>` | by hand | library / "
+        "vector |\n|---|---|---|---|---|---|\n");
+    measure_single<uint64_t, Lsb0>();
+    measure_single<uint64_t, Msb0>();
+    measure_single<uint8_t, Lsb0>();
+    measure_single<uint8_t, Msb0>();
+}
+
+void print_fields() {
     std::printf("\n### Fields of 12 bits in a row, in ns a field\n\n"
                 "| operation | elements | start | library | by hand | library / by hand |\n");
     std::printf("|---|---|---|---|---|---|\n");
@@ -373,4 +480,45 @@ int main() {
     measure_fields<uint8_t, Msb0>();
     measure_fields<uint32_t, Lsb0>();
     measure_fields<uint32_t, Msb0>();
+}
+
+// A line for the library in these elements, and where these are of 64 bits for each other that takes part.
+void print_for_plot(const Row &row, const std::string &kind) {
+    const std::string operation = row.operation + kind;
+    auto line = [&](const std::string &name, double nanoseconds) {
+        if (nanoseconds != 0)
+            std::printf("%s\t%s\t%zu\t%g\n", operation.c_str(), name.c_str(), row.len, nanoseconds);
+    };
+    line(row.element.substr(0, row.element.find(' ')), row.times.library);
+    if (row.element != "u64 Lsb0")
+        return;
+    line("loop", row.times.loop);
+    line("libc", row.times.libc);
+    for (const auto &[name, nanoseconds] : row.best.all)
+        line(name, nanoseconds);
+}
+
+void print_plot() {
+    for (size_t len : plot_sizes) {
+        PeerTimes peers;
+        for (Phase phase : {Phase::edges, Phase::shifted}) {
+            auto report = [&](const Row &row) { print_for_plot(row, phase == Phase::edges ? "" : ", shifted"); };
+            measure<uint64_t, Lsb0>(len, phase, phase == Phase::shifted, peers, report);
+            measure<uint16_t, Lsb0>(len, phase, phase == Phase::shifted, peers, report);
+            measure<uint8_t, Lsb0>(len, phase, phase == Phase::shifted, peers, report);
+        }
+    }
+}
+
+} // namespace
+
+int main(int count, char **words) {
+    if (count > 1 && std::strcmp(words[1], "plot") == 0) {
+        print_plot();
+        return 0;
+    }
+    check_all();
+    print_operations();
+    print_few();
+    print_fields();
 }

@@ -42,10 +42,10 @@ struct Loops {
             v = (v >> 2 & 0x3333333333333333) | (v & 0x3333333333333333) << 2;
             return (v >> 1 & 0x5555555555555555) | (v & 0x5555555555555555) << 1;
         } else {
-            unsigned v = x;
-            v = (v >> 4) | (v & 0x0F) << 4;
-            v = (v >> 2 & 0x33) | (v & 0x33) << 2;
-            return Element((v >> 1 & 0x55) | (v & 0x55) << 1);
+            unsigned v = width == 16 ? __builtin_bswap16(uint16_t(x)) : x;
+            v = (v >> 4 & 0x0F0F) | (v & 0x0F0F) << 4;
+            v = (v >> 2 & 0x3333) | (v & 0x3333) << 2;
+            return Element((v >> 1 & 0x5555) | (v & 0x5555) << 1);
         }
     }
 

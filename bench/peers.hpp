@@ -107,9 +107,8 @@ class Peers {
 
     Best combine() {
         Best best;
-        best.try_peer("vector<bool>", [&] {
-            std::transform(second(), second() + len, first(), first(), std::logical_or<>());
-        });
+        best.try_peer("vector<bool>",
+                      [&] { std::transform(second(), second() + len, first(), first(), std::logical_or<>()); });
         if (inner)
             return best;
         if (start == 0) {
@@ -175,8 +174,7 @@ class Peers {
     Best starts_with() {
         std::copy(second(), second() + len, first());
         Best best;
-        best.try_peer("vector<bool>",
-                      [&] { keep(std::equal(second(), second() + ptrdiff_t(len / 2), first())); });
+        best.try_peer("vector<bool>", [&] { keep(std::equal(second(), second() + ptrdiff_t(len / 2), first())); });
         return best;
     }
 

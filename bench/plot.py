@@ -1,11 +1,11 @@
-"""Draws the speeds that the driver prints for a plot: `plot.py < speeds > speeds.svg`.
+"""Draws the speeds that the driver prints for a plot: `out/driver plot | plot.py > speeds.svg`.
 
 A line of the input is an operation, a name, a number of bits and the nanoseconds of a call, with tabs between. Each operation
 has a panel, each name a line, both axes are logarithmic: the bits of a call from left to right, the bits per ns upwards."""
 import math
 import sys
 
-COLUMNS, WIDTH, HEIGHT, MARGIN, HEAD = 4, 250, 190, 38, 56
+COLUMNS, WIDTH, HEIGHT, MARGIN, HEAD = 4, 230, 170, 50, 40
 LEAST, MOST = -2, 3  # powers of ten of the bits per ns
 STYLES = {
     "u64": 'stroke="#0b3d91" stroke-width="2.5"',
@@ -65,7 +65,7 @@ class Panel:
 
 def legend(names):
     for number, name in enumerate(names):
-        x, y = MARGIN + number * 125, 44
+        x, y = MARGIN + number * 120, 44
         yield f'<polyline points="{x},{y - 4} {x + 24},{y - 4}" fill="none" {STYLES[name]}/>'
         yield text(x + 30, y, name)
 

@@ -1,6 +1,6 @@
 #!/bin/sh
-# Builds the library, its peers and the driver, and prints the tables that README.md explains.
-# What it builds goes to bench/out and to out/ of crates/bitvec_bench, crates/bitvec_times and crates/sieve.
+# Builds the library, its peers and the driver, prints the tables that README.md explains, and draws speeds.svg.
+# What it builds goes to bench/out and to out/ of crates/bitvec_c, crates/bitvec_times and crates/sieve.
 set -eu
 cd "$(dirname "$0")"
 
@@ -8,7 +8,7 @@ processor=x86-64-v2
 registry=/usr/share/cargo/registry
 
 missing=
-for package in g++ libboost-dev librust-fixedbitset-dev librust-bit-vec-dev; do
+for package in g++ python3 libboost-dev librust-fixedbitset-dev librust-bit-vec-dev; do
     dpkg-query -W -f '${Status}' "$package" 2>/dev/null | grep -q ' installed' || missing="$missing $package"
 done
 command -v rustc >/dev/null || missing="$missing rustc"
@@ -20,7 +20,7 @@ if [ -n "$missing" ]; then
 fi
 
 mkdir -p out
-(cd ../crates/bitvec_bench && rt lib) >&2
+(cd ../crates/bitvec_c && rt lib) >&2
 (cd ../crates/bitvec_times && rt run -- encode 8 0 0) >/dev/null
 (cd ../crates/sieve && rt run -- count 0) >/dev/null
 
@@ -38,7 +38,7 @@ rust peers staticlib peers.rs --edition 2021 \
 
 # gcc takes the lists of checks.hpp for ones that could be as long as the memory
 g++ -std=c++17 -O3 "-march=$processor" -Wall -Wextra -Wno-stringop-overflow driver.cpp \
-    ../crates/bitvec_bench/out/libbitvec_bench.a out/libpeers.a -lpthread -ldl -o out/driver
+    ../crates/bitvec_c/out/libbitvec_c.a out/libpeers.a -lpthread -ldl -o out/driver
 g++ -std=c++17 -O3 "-march=$processor" -Wall -Wextra programs.cpp -o out/programs
 g++ -std=c++17 -O3 "-march=$processor" -Wall -Wextra sieve.cpp -o out/sieve
 
@@ -48,5 +48,6 @@ echo "- compilers: $(g++ --version | head -n 1), -O3 -march=$processor; $(rustc 
 echo "- load at the start: $(cut -d ' ' -f 1 /proc/loadavg)"
 echo
 out/driver
+out/driver plot | python3 plot.py > speeds.svg
 out/programs ../crates/bitvec_times/out/bitvec_times
 exec out/sieve ../crates/sieve/out/sieve

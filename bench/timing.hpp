@@ -27,7 +27,7 @@ double time_calls(Call &call, size_t calls) {
 }
 
 // The time of one call, in nanoseconds: the best of 31 rounds, each of as many calls as take 50
-// microseconds; of fewer rounds, at least 3, where these take longer than a second in all.
+// microseconds; of fewer rounds where these take longer than a second in all.
 template <class Call>
 double time_call(Call call) {
     size_t calls = 1;
@@ -35,7 +35,7 @@ double time_call(Call call) {
         calls *= 2;
     double best = std::numeric_limits<double>::infinity();
     double total = 0;
-    for (int round = 0; round < rounds && (round < 3 || total < most_nanoseconds); ++round) {
+    for (int round = 0; round < rounds && total < most_nanoseconds; ++round) {
         double taken = time_calls(call, calls);
         best = std::min(best, taken / double(calls));
         total += taken;

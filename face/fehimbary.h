@@ -81,10 +81,12 @@ enum {
 
 /* ---- Single bits ---- */
 
-/* Reads the bit at an index below n. FB_INDEX. One load. */
+/* Reads the bit at an index below n.
+ * FB_INDEX. One load. */
 FB_DECLARE(get, FB_SEEN, size_t index, bool *bit)
 
-/* Writes the bit at an index below n. FB_INDEX. One load, one store. */
+/* Writes the bit at an index below n.
+ * FB_INDEX. One load, one store. */
 FB_DECLARE(set, FB_EDITED, size_t index, bool bit)
 
 /* Writes the bit at an index below n, and gives the old one.
@@ -105,7 +107,8 @@ FB_DECLARE(fill, FB_EDITED, bool bit)
  * At most ceil(n / 64) word steps: each element is loaded and stored once. */
 FB_DECLARE_PLAIN(invert, FB_EDITED)
 
-/* Puts the bits in the opposite order. At most ceil(n / 64) + 1 word steps. */
+/* Puts the bits in the opposite order.
+ * At most ceil(n / 64) + 1 word steps. */
 FB_DECLARE_PLAIN(reverse, FB_EDITED)
 
 /* Moves the bits by `by` places, at most n, towards the start; the last `by` bits become 0.
@@ -152,10 +155,12 @@ FB_DECLARE_PLAIN(swap, FB_BOTH_EDITED)
 
 /* ---- Questions about one window ---- */
 
-/* How many bits are 1. At most ceil(n / 64) word steps: each element is loaded once. */
+/* How many bits are 1.
+ * At most ceil(n / 64) word steps: each element is loaded once. */
 FB_DECLARE(count_ones, FB_SEEN, size_t *ones)
 
-/* How many bits are 0. At most ceil(n / 64) word steps: each element is loaded once. */
+/* How many bits are 0.
+ * At most ceil(n / 64) word steps: each element is loaded once. */
 FB_DECLARE(count_zeros, FB_SEEN, size_t *zeros)
 
 /* The least index of a 1.
@@ -198,10 +203,12 @@ FB_DECLARE(equal, FB_SEEN_BESIDE, bool *answer)
  * At most min(n, r) loads of each memory. */
 FB_DECLARE(compare, FB_SEEN_BESIDE, int32_t *answer)
 
-/* Whether the window begins with the right bits. At most ceil(r / 64) word steps; none where r > n. */
+/* Whether the window begins with the right bits.
+ * At most ceil(r / 64) word steps; none where r > n. */
 FB_DECLARE(starts_with, FB_SEEN_BESIDE, bool *answer)
 
-/* Whether the window ends with the right bits. At most ceil(r / 64) word steps; none where r > n. */
+/* Whether the window ends with the right bits.
+ * At most ceil(r / 64) word steps; none where r > n. */
 FB_DECLARE(ends_with, FB_SEEN_BESIDE, bool *answer)
 
 /* Whether the right bits stand together somewhere in the window; no bits do in each.

@@ -1,7 +1,7 @@
-// Fehimbary for C++17: views of the bits of any memory, which are a pointer and two numbers. A call that is refused throws,
-// and has written nothing. What each does and costs is said at the C function of its name (fehimbary.h), with what a caller
-// has to keep: the memory is there as long as the view is used, nobody writes it meanwhile, and two views of one call share
-// no element.
+// Fehimbary for C++17: views of the bits of any memory, which are a pointer and two numbers. A call that is refused
+// throws, and has written nothing. What each does and costs is said at the C function of its name (fehimbary.h), with
+// what a caller has to keep: the memory is there as long as the view is used, nobody writes it meanwhile, and two views
+// of one call share no element.
 #ifndef FEHIMBARY_HPP
 #define FEHIMBARY_HPP
 
@@ -26,8 +26,9 @@ struct Msb0 {
 };
 
 inline const char *name_of(fb_status status) {
-    constexpr const char *names[] = {"FB_DONE",  "FB_RANGE",  "FB_INDEX", "FB_AMOUNT", "FB_SOURCE", "FB_DEST", "FB_RIGHT",
-                                     "FB_LENGTH", "FB_WIDTH", "FB_ORDER", "FB_SIZE",   "FB_NONE",   "FB_OP",   "FB_ROOM"};
+    constexpr const char *names[] = {"FB_DONE", "FB_RANGE", "FB_INDEX",  "FB_AMOUNT", "FB_SOURCE",
+                                     "FB_DEST", "FB_RIGHT", "FB_LENGTH", "FB_WIDTH",  "FB_ORDER",
+                                     "FB_SIZE", "FB_NONE",  "FB_OP",     "FB_ROOM"};
     return status < sizeof names / sizeof *names ? names[status] : "no status";
 }
 
@@ -45,45 +46,45 @@ class Refused : public std::logic_error {
 template <class Element>
 struct Functions;
 
-#define FEHIMBARY_FUNCTIONS(Element, type)                       \
-    template <>                                                  \
-    struct Functions<Element> {                                  \
-        static constexpr auto get = fb_##type##_get;             \
-        static constexpr auto set = fb_##type##_set;             \
-        static constexpr auto replace = fb_##type##_replace;     \
-        static constexpr auto swap_bits = fb_##type##_swap_bits; \
-        static constexpr auto fill = fb_##type##_fill;           \
-        static constexpr auto invert = fb_##type##_invert;       \
-        static constexpr auto reverse = fb_##type##_reverse;     \
-        static constexpr auto shift_start = fb_##type##_shift_start;   \
-        static constexpr auto shift_end = fb_##type##_shift_end;       \
-        static constexpr auto rotate_left = fb_##type##_rotate_left;   \
-        static constexpr auto rotate_right = fb_##type##_rotate_right; \
-        static constexpr auto copy_within = fb_##type##_copy_within;   \
-        static constexpr auto copy = fb_##type##_copy;                 \
-        static constexpr auto and_with = fb_##type##_and;              \
-        static constexpr auto or_with = fb_##type##_or;                \
-        static constexpr auto xor_with = fb_##type##_xor;              \
-        static constexpr auto swap = fb_##type##_swap;                 \
-        static constexpr auto count_ones = fb_##type##_count_ones;     \
-        static constexpr auto count_zeros = fb_##type##_count_zeros;   \
-        static constexpr auto first_one = fb_##type##_first_one;       \
-        static constexpr auto first_zero = fb_##type##_first_zero;     \
-        static constexpr auto last_one = fb_##type##_last_one;         \
-        static constexpr auto last_zero = fb_##type##_last_zero;       \
-        static constexpr auto any = fb_##type##_any;                   \
-        static constexpr auto all = fb_##type##_all;                   \
-        static constexpr auto ones = fb_##type##_ones;                 \
-        static constexpr auto equal = fb_##type##_equal;               \
-        static constexpr auto compare = fb_##type##_compare;           \
-        static constexpr auto starts_with = fb_##type##_starts_with;   \
-        static constexpr auto ends_with = fb_##type##_ends_with;       \
-        static constexpr auto contains = fb_##type##_contains;         \
-        static constexpr auto load_le = fb_##type##_load_le;           \
-        static constexpr auto load_be = fb_##type##_load_be;           \
-        static constexpr auto store_le = fb_##type##_store_le;         \
-        static constexpr auto store_be = fb_##type##_store_be;         \
-        static constexpr auto run = fb_##type##_run;                   \
+#define FEHIMBARY_FUNCTIONS(Element, type)                                                                             \
+    template <>                                                                                                        \
+    struct Functions<Element> {                                                                                        \
+        static constexpr auto get = fb_##type##_get;                                                                   \
+        static constexpr auto set = fb_##type##_set;                                                                   \
+        static constexpr auto replace = fb_##type##_replace;                                                           \
+        static constexpr auto swap_bits = fb_##type##_swap_bits;                                                       \
+        static constexpr auto fill = fb_##type##_fill;                                                                 \
+        static constexpr auto invert = fb_##type##_invert;                                                             \
+        static constexpr auto reverse = fb_##type##_reverse;                                                           \
+        static constexpr auto shift_start = fb_##type##_shift_start;                                                   \
+        static constexpr auto shift_end = fb_##type##_shift_end;                                                       \
+        static constexpr auto rotate_left = fb_##type##_rotate_left;                                                   \
+        static constexpr auto rotate_right = fb_##type##_rotate_right;                                                 \
+        static constexpr auto copy_within = fb_##type##_copy_within;                                                   \
+        static constexpr auto copy = fb_##type##_copy;                                                                 \
+        static constexpr auto and_with = fb_##type##_and;                                                              \
+        static constexpr auto or_with = fb_##type##_or;                                                                \
+        static constexpr auto xor_with = fb_##type##_xor;                                                              \
+        static constexpr auto swap = fb_##type##_swap;                                                                 \
+        static constexpr auto count_ones = fb_##type##_count_ones;                                                     \
+        static constexpr auto count_zeros = fb_##type##_count_zeros;                                                   \
+        static constexpr auto first_one = fb_##type##_first_one;                                                       \
+        static constexpr auto first_zero = fb_##type##_first_zero;                                                     \
+        static constexpr auto last_one = fb_##type##_last_one;                                                         \
+        static constexpr auto last_zero = fb_##type##_last_zero;                                                       \
+        static constexpr auto any = fb_##type##_any;                                                                   \
+        static constexpr auto all = fb_##type##_all;                                                                   \
+        static constexpr auto ones = fb_##type##_ones;                                                                 \
+        static constexpr auto equal = fb_##type##_equal;                                                               \
+        static constexpr auto compare = fb_##type##_compare;                                                           \
+        static constexpr auto starts_with = fb_##type##_starts_with;                                                   \
+        static constexpr auto ends_with = fb_##type##_ends_with;                                                       \
+        static constexpr auto contains = fb_##type##_contains;                                                         \
+        static constexpr auto load_le = fb_##type##_load_le;                                                           \
+        static constexpr auto load_be = fb_##type##_load_be;                                                           \
+        static constexpr auto store_le = fb_##type##_store_le;                                                         \
+        static constexpr auto store_be = fb_##type##_store_be;                                                         \
+        static constexpr auto run = fb_##type##_run;                                                                   \
     };
 
 FEHIMBARY_FUNCTIONS(std::uint8_t, u8)
@@ -92,7 +93,8 @@ FEHIMBARY_FUNCTIONS(std::uint32_t, u32)
 FEHIMBARY_FUNCTIONS(std::uint64_t, u64)
 #undef FEHIMBARY_FUNCTIONS
 
-// Bits that stand together in a memory: `Bits<const Element>` is only read. As with a pointer, who has the view may write.
+// Bits that stand together in a memory: `Bits<const Element>` is only read. As with a pointer, who has the view may
+// write.
 template <class Element, class Order = Lsb0>
 class Bits {
     using Value = std::remove_const_t<Element>;
@@ -135,7 +137,9 @@ class Bits {
     void shift_end(std::size_t by) const { call(Call::shift_end, by); }
     void rotate_left(std::size_t by) const { call(Call::rotate_left, by); }
     void rotate_right(std::size_t by) const { call(Call::rotate_right, by); }
-    void copy_within(std::size_t from, std::size_t to, std::size_t dest) const { call(Call::copy_within, from, to, dest); }
+    void copy_within(std::size_t from, std::size_t to, std::size_t dest) const {
+        call(Call::copy_within, from, to, dest);
+    }
 
     void copy(Seen right) const { call_with(Call::copy, right); }
     void swap(Bits right) const { call_with(Call::swap, right); }
@@ -166,8 +170,8 @@ class Bits {
     void store_le(std::uint64_t number) const { call(Call::store_le, number); }
     void store_be(std::uint64_t number) const { call(Call::store_be, number); }
 
-    void run(const Value *right, std::size_t right_count, const fb_step *steps, std::size_t step_count, fb_reply *replies,
-             std::size_t reply_count) const {
+    void run(const Value *right, std::size_t right_count, const fb_step *steps, std::size_t step_count,
+             fb_reply *replies, std::size_t reply_count) const {
         call(Call::run, right, right_count, steps, step_count, replies, reply_count);
     }
 

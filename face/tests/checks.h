@@ -45,12 +45,13 @@ static void NAME(scatter)(struct NAME(memory) memory) {
     size_t kind = random_below(6);
     for (size_t i = 0; i < memory.count; ++i) {
         ELEMENT few = random_below(8) == 0 ? (ELEMENT)((ELEMENT)1 << random_below(WIDTH)) : 0;
-        ELEMENT kinds[] = {0, (ELEMENT)~(ELEMENT)0, few, (ELEMENT)~few};
+        ELEMENT kinds[] = {0, (ELEMENT) ~(ELEMENT)0, few, (ELEMENT)~few};
         memory.elements[i] = kind < 4 ? kinds[kind] : (ELEMENT)random_number();
     }
 }
 
-/* Gives the right window bits of the left one that begin at its start or its end or somewhere, or all but one of them. */
+/* Gives the right window bits of the left one that begin at its start or its end or somewhere, or all but one of them.
+ */
 static void NAME(make_alike)(struct NAME(memory) right, fb_order order, const struct list *list, const fb_step *step) {
     if (!lies_in(step->first, step->second, right.count * WIDTH) || step->second > list->len)
         return;
@@ -193,8 +194,8 @@ static void NAME(check_ones)(struct NAME(memory) left) {
     free(indices);
 }
 
-/* What a run of the steps has to answer, and, where that is FB_DONE, the replies, and what it has to leave in the wanted
- * memory. */
+/* What a run of the steps has to answer, and, where that is FB_DONE, the replies, and what it has to leave in the
+ * wanted memory. */
 static fb_status NAME(wanted_run)(struct NAME(memory) left, struct NAME(memory) right, const struct call *at,
                                   const struct steps *run, fb_reply *replies) {
     static struct list list, right_list;
@@ -229,8 +230,10 @@ static void NAME(check_run)(struct NAME(memory) left, struct NAME(memory) right)
     for (size_t i = 0; i < run.reply_count; ++i)
         said[i] = wanted[i] = (fb_reply){random_number(), random_number(), (uint32_t)i, (uint32_t)random_number()};
     fb_status status = NAME(wanted_run)(left, right, &at, &run, wanted);
-    expect(FB(run)(at.order, left.elements, at.left_count, at.start, at.len, right.elements, at.right_count, run.steps,
-                   run.count, said, run.reply_count) == status,
+    const fb_step *steps = run.count != 0 || random_below(2) == 0 ? run.steps : NULL;
+    fb_reply *replies = run.reply_count != 0 || random_below(2) == 0 ? said : NULL;
+    expect(FB(run)(at.order, left.elements, at.left_count, at.start, at.len, right.elements, at.right_count, steps,
+                   run.count, replies, run.reply_count) == status,
            "the status of run", WIDTH, &at, &run.steps[0]);
     for (size_t i = 0; i < run.reply_count; ++i)
         expect(said[i].low == wanted[i].low && said[i].high == wanted[i].high && said[i].kind == wanted[i].kind &&

@@ -258,8 +258,12 @@ class Checks {
         std::vector<size_t> places[2];
         for (size_t i = 0; i < list.size(); ++i)
             places[list[i]].push_back(i);
-        const auto first = [](const std::vector<size_t> &l) { return l.empty() ? std::nullopt : std::optional(l.front()); };
-        const auto last = [](const std::vector<size_t> &l) { return l.empty() ? std::nullopt : std::optional(l.back()); };
+        const auto first = [](const std::vector<size_t> &l) {
+            return l.empty() ? std::nullopt : std::optional(l.front());
+        };
+        const auto last = [](const std::vector<size_t> &l) {
+            return l.empty() ? std::nullopt : std::optional(l.back());
+        };
         expect(view.first_one() == first(places[1]) && view.last_one() == last(places[1]), "a search for a one");
         expect(view.first_zero() == first(places[0]) && view.last_zero() == last(places[0]), "a search for a zero");
         std::vector<size_t> found, some(1 + below(9));
@@ -336,8 +340,10 @@ class Checks {
         const size_t len = list.size(), half = len / 2;
         edit(
             "fill", FB_DONE, [](View view) { view.fill(true); }, [&](List &l) { l.assign(len, true); });
-        const fb_step steps[] = {{0, len + 1, 0, 0, 0, FB_FILL, 0},   {half, len, 0, 0, 0, FB_INVERT, 0},
-                                 {0, len, 0, 0, 0, FB_REVERSE, 0},    {0, len, 0, 0, 0, FB_COUNT_ONES, 0},
+        const fb_step steps[] = {{0, len + 1, 0, 0, 0, FB_FILL, 0},
+                                 {half, len, 0, 0, 0, FB_INVERT, 0},
+                                 {0, len, 0, 0, 0, FB_REVERSE, 0},
+                                 {0, len, 0, 0, 0, FB_COUNT_ONES, 0},
                                  {0, len - half, 0, 0, 0, FB_LAST_ONE, 0}};
         fb_reply replies[5];
         const Element *elements = right.memory.data();

@@ -17,23 +17,17 @@ uint32_t kind_of(uint32_t op) {
     case FB_ENDS_WITH:
     case FB_CONTAINS:
     case FB_ANY:
-    case FB_ALL:
-        return FB_REPLY_BIT;
+    case FB_ALL: return FB_REPLY_BIT;
     case FB_COUNT_ONES:
-    case FB_COUNT_ZEROS:
-        return FB_REPLY_COUNT;
+    case FB_COUNT_ZEROS: return FB_REPLY_COUNT;
     case FB_FIRST_ONE:
     case FB_FIRST_ZERO:
     case FB_LAST_ONE:
-    case FB_LAST_ZERO:
-        return FB_REPLY_INDEX;
-    case FB_COMPARE:
-        return FB_REPLY_ORDER;
+    case FB_LAST_ZERO: return FB_REPLY_INDEX;
+    case FB_COMPARE: return FB_REPLY_ORDER;
     case FB_LOAD_LE:
-    case FB_LOAD_BE:
-        return FB_REPLY_NUMBER;
-    default:
-        return FB_REPLY_DONE;
+    case FB_LOAD_BE: return FB_REPLY_NUMBER;
+    default: return FB_REPLY_DONE;
     }
 }
 
@@ -57,24 +51,18 @@ static fb_status refusal(size_t len, size_t right_len, const fb_step *step, unsi
     switch (step->op) {
     case FB_GET:
     case FB_SET:
-    case FB_REPLACE:
-        return unless(step->first < len, FB_INDEX);
-    case FB_SWAP_BITS:
-        return unless(step->first < len && step->second < len, FB_INDEX);
+    case FB_REPLACE: return unless(step->first < len, FB_INDEX);
+    case FB_SWAP_BITS: return unless(step->first < len && step->second < len, FB_INDEX);
     case FB_SHIFT_START:
     case FB_SHIFT_END:
     case FB_ROTATE_LEFT:
-    case FB_ROTATE_RIGHT:
-        return unless(step->first <= len, FB_AMOUNT);
-    case FB_COPY_WITHIN:
-        return copy_within_refusal(len, step);
+    case FB_ROTATE_RIGHT: return unless(step->first <= len, FB_AMOUNT);
+    case FB_COPY_WITHIN: return copy_within_refusal(len, step);
     case FB_LOAD_LE:
     case FB_LOAD_BE:
     case FB_STORE_LE:
-    case FB_STORE_BE:
-        return unless(1 <= len && len <= widest, FB_WIDTH);
-    default:
-        return FB_COPY <= step->op && step->op <= FB_CONTAINS ? right_refusal(len, right_len, step) : FB_DONE;
+    case FB_STORE_BE: return unless(1 <= len && len <= widest, FB_WIDTH);
+    default: return FB_COPY <= step->op && step->op <= FB_CONTAINS ? right_refusal(len, right_len, step) : FB_DONE;
     }
 }
 
@@ -117,28 +105,18 @@ static bool edited_bit(const struct list *old, const fb_step *step, size_t index
     size_t len = old->len, by = step->first;
     switch (step->op) {
     case FB_SET:
-    case FB_REPLACE:
-        return index == step->first ? step->bit != 0 : old->bits[index];
+    case FB_REPLACE: return index == step->first ? step->bit != 0 : old->bits[index];
     case FB_SWAP_BITS:
         return old->bits[index == step->first ? step->second : index == step->second ? step->first : index];
-    case FB_FILL:
-        return step->bit != 0;
-    case FB_INVERT:
-        return !old->bits[index];
-    case FB_REVERSE:
-        return old->bits[len - 1 - index];
-    case FB_SHIFT_START:
-        return by < len - index && old->bits[index + by];
-    case FB_SHIFT_END:
-        return by <= index && old->bits[index - by];
-    case FB_ROTATE_LEFT:
-        return old->bits[(index + by) % len];
-    case FB_ROTATE_RIGHT:
-        return old->bits[(index + len - by) % len];
-    case FB_COPY_WITHIN:
-        return copied_bit(old, step, index);
-    default:
-        return old->bits[index];
+    case FB_FILL: return step->bit != 0;
+    case FB_INVERT: return !old->bits[index];
+    case FB_REVERSE: return old->bits[len - 1 - index];
+    case FB_SHIFT_START: return by < len - index && old->bits[index + by];
+    case FB_SHIFT_END: return by <= index && old->bits[index - by];
+    case FB_ROTATE_LEFT: return old->bits[(index + by) % len];
+    case FB_ROTATE_RIGHT: return old->bits[(index + len - by) % len];
+    case FB_COPY_WITHIN: return copied_bit(old, step, index);
+    default: return old->bits[index];
     }
 }
 
@@ -146,19 +124,13 @@ static bool edited_bit(const struct list *old, const fb_step *step, size_t index
 static bool new_bit(const struct list *old, struct place place, const struct list *right, const fb_step *step,
                     size_t index) {
     switch (step->op) {
-    case FB_COPY:
-        return right_bit(right, step, index);
-    case FB_AND:
-        return old->bits[index] && right_bit(right, step, index);
-    case FB_OR:
-        return old->bits[index] || right_bit(right, step, index);
-    case FB_XOR:
-        return old->bits[index] != right_bit(right, step, index);
+    case FB_COPY: return right_bit(right, step, index);
+    case FB_AND: return old->bits[index] && right_bit(right, step, index);
+    case FB_OR: return old->bits[index] || right_bit(right, step, index);
+    case FB_XOR: return old->bits[index] != right_bit(right, step, index);
     case FB_STORE_LE:
-    case FB_STORE_BE:
-        return number_bit(step, weight(index, old->len, place, step->op == FB_STORE_BE));
-    default:
-        return edited_bit(old, step, index);
+    case FB_STORE_BE: return number_bit(step, weight(index, old->len, place, step->op == FB_STORE_BE));
+    default: return edited_bit(old, step, index);
     }
 }
 
@@ -224,28 +196,17 @@ static unsigned compare(const struct list *list, const struct list *right, const
 static uint64_t answer(const struct list *list, const struct list *right, const fb_step *step) {
     switch (step->op) {
     case FB_GET:
-    case FB_REPLACE:
-        return list->bits[step->first];
-    case FB_EQUAL:
-        return list->len == step->second && stand_at(list, right, step, 0);
-    case FB_COMPARE:
-        return compare(list, right, step);
-    case FB_STARTS_WITH:
-        return stand_at(list, right, step, 0);
-    case FB_ENDS_WITH:
-        return step->second <= list->len && stand_at(list, right, step, list->len - step->second);
-    case FB_CONTAINS:
-        return contains(list, right, step);
-    case FB_COUNT_ONES:
-        return count(list, true);
-    case FB_COUNT_ZEROS:
-        return count(list, false);
-    case FB_ANY:
-        return count(list, true) != 0;
-    case FB_ALL:
-        return count(list, false) == 0;
-    default:
-        return 0;
+    case FB_REPLACE: return list->bits[step->first];
+    case FB_EQUAL: return list->len == step->second && stand_at(list, right, step, 0);
+    case FB_COMPARE: return compare(list, right, step);
+    case FB_STARTS_WITH: return stand_at(list, right, step, 0);
+    case FB_ENDS_WITH: return step->second <= list->len && stand_at(list, right, step, list->len - step->second);
+    case FB_CONTAINS: return contains(list, right, step);
+    case FB_COUNT_ONES: return count(list, true);
+    case FB_COUNT_ZEROS: return count(list, false);
+    case FB_ANY: return count(list, true) != 0;
+    case FB_ALL: return count(list, false) == 0;
+    default: return 0;
     }
 }
 
@@ -261,12 +222,9 @@ static fb_reply number(const struct list *list, struct place place, bool big) {
 
 static fb_reply reply(const struct list *list, struct place place, const struct list *right, const fb_step *step) {
     switch (kind_of(step->op)) {
-    case FB_REPLY_INDEX:
-        return search(list, step->op);
-    case FB_REPLY_NUMBER:
-        return number(list, place, step->op == FB_LOAD_BE);
-    default:
-        return (fb_reply){.low = answer(list, right, step), .kind = kind_of(step->op)};
+    case FB_REPLY_INDEX: return search(list, step->op);
+    case FB_REPLY_NUMBER: return number(list, place, step->op == FB_LOAD_BE);
+    default: return (fb_reply){.low = answer(list, right, step), .kind = kind_of(step->op)};
     }
 }
 

@@ -16,20 +16,14 @@ size_t random_below(size_t limit) { return limit == 0 ? random_number() : random
 
 size_t random_size(size_t most) {
     switch (random_below(36)) {
-    case 0:
-        return most + 1 + random_below(3);
-    case 1:
-        return SIZE_MAX / 2 + random_below(5) - 1;
-    case 2:
-        return SIZE_MAX - random_below(most + 2);
+    case 0: return most + 1 + random_below(3);
+    case 1: return SIZE_MAX / 2 + random_below(5) - 1;
+    case 2: return SIZE_MAX - random_below(most + 2);
     case 3:
-    case 4:
-        return 0;
+    case 4: return 0;
     case 5:
-    case 6:
-        return most;
-    default:
-        return random_below(most + 1);
+    case 6: return most;
+    default: return random_below(most + 1);
     }
 }
 

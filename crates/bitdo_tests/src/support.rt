@@ -37,8 +37,8 @@ pub(crate) fn expect_read<R: Abort + AllocGlobal, I: Read>(
     let args = words(rt.alloc(), args)?;
     let mut output = Vec::new(rt.alloc());
     let got = status(rt.alloc(), args.as_slice(), input, &mut output);
-    assert!(rt; output.as_slice() == printed);
-    assert!(rt; got == ended);
+    assert_eq!(rt; output.as_slice(), printed);
+    assert_eq!(rt; got, ended);
     Ok(())
 }
 
@@ -60,8 +60,8 @@ pub(crate) fn is_enough<R: Abort + AllocGlobal>(
     } else {
         (3, b"run error: memory\n".as_slice())
     };
-    assert!(rt; output.as_slice() == printed, "after {requests}");
-    assert!(rt; got == ended, "after {requests}");
+    assert_eq!(rt; output.as_slice(), printed, "after {requests}");
+    assert_eq!(rt; got, ended, "after {requests}");
     Ok(ended == 0)
 }
 
@@ -77,11 +77,8 @@ pub(crate) fn expect<R: Abort + AllocGlobal>(
     let mut bytes = input.as_bytes();
     let mut output = Vec::new(rt.alloc());
     let got = status(rt.alloc(), args.as_slice(), &mut bytes, &mut output);
-    assert!(rt;
-        str::from_utf8(output.as_slice())? == printed,
-        "on {input:?}"
-    );
-    assert!(rt; got == ended, "on {input:?}");
+    assert_eq!(rt; str::from_utf8(output.as_slice())?, printed, "on {input:?}");
+    assert_eq!(rt; got, ended, "on {input:?}");
     Ok(())
 }
 

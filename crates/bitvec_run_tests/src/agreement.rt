@@ -72,8 +72,9 @@ fn agrees<T: BitStore, O: SliceOrder, R: Abort + AllocGlobal>(
 ) -> Result<(), Fail> {
     let run = by_run::<T, O>(rt.alloc(), left, right, window, steps)?;
     let plain = by_lists::<T, O>(rt.alloc(), left, right, window, steps)?;
-    assert!(rt;
-        run.replies.as_slice() == plain.replies.as_slice(),
+    assert_eq!(rt;
+        run.replies.as_slice(),
+        plain.replies.as_slice(),
         "{window:?}"
     );
     assert!(rt; same_bits(&run.bits, &plain.bits), "{window:?}");

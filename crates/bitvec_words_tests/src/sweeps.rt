@@ -135,7 +135,7 @@ fn equality_agrees<T: BitStore, O: SliceOrder, R: Abort + AllocGlobal>(
         flip::<T, O>(&mut left, place);
         let outside = place < to.start || place >= end;
         let equal = are_equal::<T, O, R>(rt, &left, to, &right, from);
-        assert!(rt; equal == outside, "{place} {to:?} {from:?}");
+        assert_eq!(rt; equal, outside, "{place} {to:?} {from:?}");
         flip::<T, O>(&mut left, place);
     }
     Ok(())
