@@ -17,6 +17,9 @@ use Rattle.bitrecord.specs.declared.endian.Endian.{Endian}
 pub earlier_or_this : (k n : ℕ) → k < n + 1 → (k < n) ⊎ (k ≡ n)
 earlier_or_this k n low = grind arith
 
+pub earlier_or_not : (k n : ℕ) → (k < n) ⊎ (n ≤ k)
+earlier_or_not k n = grind arith
+
 -- one number more is written
 pub read-next : (f : ℕ → ℕ) (out : List ℕ) (n v : ℕ) → n < length out → v ≡ f n → ((k : ℕ) → k < n → slice_index out k ≡ f k) → (k : ℕ) → k < n + 1 → slice_index (slice_set out n v) k ≡ f k
 read-next f out n v below is told k low =
