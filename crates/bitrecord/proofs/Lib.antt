@@ -1,1 +1,5 @@
+mod Digits
+mod Exponents
+mod Numbers
 mod Puts
+mod RunLaws

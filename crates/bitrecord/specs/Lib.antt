@@ -3,4 +3,5 @@ pub mod FieldLaws
 pub mod Layouts
 pub mod RecordLaws
 pub mod Records
+pub mod Runs
 pub mod Views

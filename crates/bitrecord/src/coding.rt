@@ -1,40 +1,18 @@
-//! Records written into views, and read from them.
-ghost use Rattle.std.specs.Prelude.{◌≡◌, ℕ, ◌+◌, ◌%◌, ◌^◌, ◌<◌, ◌≤◌, ◌↔◌, IfErr, IfNone, IfSome, OnErr, OnOk, IsOk, true, length, slice_range};
+//! One field of a record written into a view, and read from it.
+ghost use Rattle.std.specs.Prelude.{◌≡◌, ℕ, ◌+◌, ◌%◌, ◌^◌, ◌<◌, ◌↔◌, IfErr, OnErr, OnOk, IsOk, length, slice_range};
 ghost use Rattle.bitvec.specs.Views.{seen, seen_mut};
 ghost use Rattle.bitvec.specs.Segments.{stored_be, stored_le};
 ghost use Rattle.bitvec.specs.Window.{IsWithin, write_at};
 ghost use Rattle.bitvec.specs.Writes.{WritesBits};
 ghost use Rattle.bitrecord.specs.Layouts.{HasWidth, field_at};
 ghost use Rattle.bitrecord.specs.declared.encode_error.EncodeError.TheVariants.{Range};
-ghost use Rattle.bitrecord.specs.Records.{AreEncodable, Fits, IsFirstTooLarge, IsOutside, IsRefusal, WritesField, WritesRecord, number_in, record_in};
+ghost use Rattle.bitrecord.specs.Records.{Fits, WritesField, number_in};
 ghost use Rattle.bitrecord.specs.Views.{bits_of, fields_of};
 
-use crate::{EncodeError, Endian, Layout};
+use crate::{EncodeError, Endian, Layout, fits};
 use bitvec::index::Window;
 use bitvec::prelude::*;
 use std::alloc::Allocator;
-
-/// Whether a value has at most so many bits. Condition: these are at most 128.
-fn fits(value: u128, len: usize) -> bool
-    requires { len ≤ 128 }
-    ensures { result ≡ true ↔ (value < 2 ^ len) }
-{
-    len == 128 || value < 1u128 << (len as u32)
-}
-
-/// The first value that has more bits than its field.
-fn first_too_large<A: Allocator>(layout: &Layout<A>, values: &[u128]) -> Option<usize>
-    requires { length values.now ≡ length (fields_of layout.now) }
-    ensures found { IfSome result (λ i. IsFirstTooLarge (fields_of layout.now) values.now i) }
-    ensures none { IfNone result (AreEncodable (fields_of layout.now) values.now) }
-{
-    for number in 0..layout.len() {
-        if !fits(values[number], layout.field(number).len) {
-            return Some(number);
-        }
-    }
-    None
-}
 
 /// Writes a number into a field, the first segment lowest. Conditions: the field has a width and lies
 /// in the view.
@@ -64,7 +42,7 @@ fn put_be<T: BitStore, O: FieldOrder>(field: Window, value: u128, out: &mut BitS
 
 /// Writes a number into a field. Conditions: the field has a width and lies in the view; the number
 /// fits it.
-fn put<T: BitStore, O: FieldOrder>(
+pub(crate) fn put<T: BitStore, O: FieldOrder>(
     endian: Endian,
     field: Window,
     value: u128,
@@ -82,7 +60,11 @@ fn put<T: BitStore, O: FieldOrder>(
 }
 
 /// The number of a field. Conditions: the field has a width and lies in the view.
-fn take<T: BitStore, O: FieldOrder>(endian: Endian, field: Window, view: BitSlice<'_, T, O>) -> u128
+pub(crate) fn take<T: BitStore, O: FieldOrder>(
+    endian: Endian,
+    field: Window,
+    view: BitSlice<'_, T, O>,
+) -> u128
     requires width { HasWidth field }
     requires inside { IsWithin field (seen view).window.len }
     ensures { result ≡ number_in endian O.HIGH T.BITS (seen view.entry).window.start (seen view.entry).bits field }
@@ -92,34 +74,6 @@ fn take<T: BitStore, O: FieldOrder>(endian: Endian, field: Window, view: BitSlic
         Endian::Little => part.load_le::<u128>(),
         Endian::Big => part.load_be::<u128>(),
     }
-}
-
-/// Writes a value into each field; every other bit is as before. It is refused where there isn't one
-/// value a field, and by the first value that has more bits than its field; nothing is written then.
-/// Condition: the view has as many bits as a record.
-pub fn encode<T: BitStore, O: FieldOrder, A: Allocator>(
-    layout: &Layout<A>,
-    endian: Endian,
-    values: &[u128],
-    out: &mut BitSliceMut<'_, T, O>,
-) -> Result<(), EncodeError>
-    requires { (seen_mut out.old).window.len ≡ bits_of layout.now }
-    ensures accepted { OnOk result (AreEncodable (fields_of layout.now) values.now) }
-    ensures refused { IfErr result (IsRefusal (fields_of layout.now) values.now) }
-    ensures kept { OnErr result (out.new ≡ out.old) }
-    ensures numbers { OnOk result (record_in endian O.HIGH T.BITS (seen_mut out.new).window.start (seen_mut out.new).bits (fields_of layout.now) ≡ values.now) }
-    ensures encoded { OnOk result (WritesRecord endian O.HIGH (fields_of layout.now) values.now out.old out.new) }
-{
-    if values.len() != layout.len() {
-        return Err(EncodeError::Count);
-    }
-    if let Some(number) = first_too_large(layout, values) {
-        return Err(EncodeError::Range(number));
-    }
-    for number in 0..layout.len() {
-        put(endian, layout.field(number), values[number], out);
-    }
-    Ok(())
 }
 
 /// Writes a value into one field; every other bit is as before. It is refused where the value has
@@ -147,24 +101,7 @@ pub fn encode_one<T: BitStore, O: FieldOrder, A: Allocator>(
     Ok(())
 }
 
-/// Reads the number of each field. Conditions: the view has as many bits as a record, and `out` one
-/// place a field.
-pub fn decode<T: BitStore, O: FieldOrder, A: Allocator>(
-    layout: &Layout<A>,
-    endian: Endian,
-    view: BitSlice<'_, T, O>,
-    out: &mut [u128],
-)
-    requires bits { (seen view).window.len ≡ bits_of layout.now }
-    requires places { length out.old ≡ length (fields_of layout.now) }
-    ensures { out.new ≡ record_in endian O.HIGH T.BITS (seen view.entry).window.start (seen view.entry).bits (fields_of layout.now) }
-{
-    for number in 0..layout.len() {
-        out[number] = take(endian, layout.field(number), view);
-    }
-}
-
-/// The number of one field. Conditions: the view has as many bits as a record, and there is such a
+/// The number of one field, which has no more bits than the field. Conditions: the view has as many bits as a record, and there is such a
 /// field.
 pub fn decode_one<T: BitStore, O: FieldOrder, A: Allocator>(
     layout: &Layout<A>,
@@ -174,7 +111,8 @@ pub fn decode_one<T: BitStore, O: FieldOrder, A: Allocator>(
 ) -> u128
     requires bits { (seen view).window.len ≡ bits_of layout.now }
     requires field { number < length (fields_of layout.now) }
-    ensures { result ≡ number_in endian O.HIGH T.BITS (seen view.entry).window.start (seen view.entry).bits (field_at (fields_of layout.now) number) }
+    ensures value { result ≡ number_in endian O.HIGH T.BITS (seen view.entry).window.start (seen view.entry).bits (field_at (fields_of layout.now) number) }
+    ensures fits { Fits (field_at (fields_of layout.now) number) result }
 {
     take(endian, layout.field(number), view)
 }

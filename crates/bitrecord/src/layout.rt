@@ -1,8 +1,10 @@
 //! Layouts of records.
 ghost use Rattle.std.specs.Prelude.{◌≡◌, ◌<◌, IfErr, IfOk, IsOk, IsTrue, ◌↔◌, [], length};
 ghost use Rattle.bitrecord.specs.Layouts.{IsFault, IsLayout, field_at};
+ghost use Rattle.bitrecord.specs.Runs.{AreRuns, IsRun};
 
 use crate::LayoutError;
+use crate::runs::{KEPT, runs_of};
 use crate::testing::{first_outside, first_overlap, first_without_width};
 use bitvec::index::Window;
 use std::alloc::Allocator;
@@ -13,7 +15,9 @@ use std::alloc::Allocator;
 pub struct Layout<A: Allocator> {
     bits: usize,
     fields: Vec<Window, A>,
+    runs: [u8; KEPT],
     ghost layout: { IsLayout bits fields.items },
+    ghost plan: { AreRuns fields.items runs },
 }
 
 impl<A: Allocator> Layout<A> {
@@ -36,9 +40,14 @@ impl<A: Allocator> Layout<A> {
         if let Some((field, other)) = first_overlap(fields, bits) {
             return Err(LayoutError::Overlap(field, other));
         }
+        let runs = runs_of(fields, bits);
         let mut kept = Vec::new(alloc);
         match kept.extend_from_slice(fields) {
-            Ok(()) => Ok(Layout { bits, fields: kept }),
+            Ok(()) => Ok(Layout {
+                bits,
+                fields: kept,
+                runs,
+            }),
             Err(_) => Err(LayoutError::Memory),
         }
     }
@@ -77,5 +86,18 @@ impl<A: Allocator> Layout<A> {
         ensures { result ≡ field_at (fields_of self.now) number }
     {
         self.fields[number]
+    }
+
+    /// The last field of the run that begins with the field of the number; the field itself where none is
+    /// kept. Condition: there is such a field.
+    pub(crate) fn last_in_run(&self, number: usize) -> usize
+        requires { number < length (fields_of self.now) }
+        ensures { IsRun (fields_of self.now) number result }
+    {
+        if number < KEPT {
+            number + self.runs[number] as usize
+        } else {
+            number
+        }
     }
 }

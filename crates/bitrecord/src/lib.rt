@@ -6,14 +6,23 @@
 
 pub mod bits;
 mod coding;
+mod decoding;
 mod encode_error;
+mod encoding;
 mod endian;
+mod fitting;
 mod layout;
 mod layout_error;
+mod powers;
+mod runs;
 mod testing;
+mod words;
 
-pub use coding::{decode, decode_one, encode, encode_one};
+pub use coding::{decode_one, encode_one};
+pub use decoding::decode;
 pub use encode_error::EncodeError;
+pub use encoding::encode;
 pub use endian::Endian;
+pub use fitting::fits;
 pub use layout::Layout;
 pub use layout_error::LayoutError;

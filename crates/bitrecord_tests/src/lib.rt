@@ -9,3 +9,5 @@ mod laws;
 mod memory;
 #[cfg(test)]
 mod records;
+#[cfg(test)]
+mod words;

@@ -1,9 +1,8 @@
--- Places of fields, and values that fit them.
+-- Places of fields.
 use Rattle.std.proofs.Common.{◌≡◌, ℕ, ◌+◌, ◌^◌, ◌<◌, ◌≤◌, Bool, true, cond, not, List, [], ◌∷◌, ◌++◌, get_or, length, map, Some, refl, sym, ap, subst, ◌∙◌, arith, below_more}
 use Rattle.std.specs.Prelude.{All, nat_lt, position}
 use Rattle.std.specs.List.{list_all, position_or_len}
 use Rattle.std.specs.Str.{bytes_eq}
-use Rattle.std.proofs.Math.Pow.{pow_mono}
 use Rattle.std.proofs.lemmas.Bool.Decides.{nat_tests}
 use Rattle.std.proofs.lemmas.List.{get_or-map, get_or_append_left, get_or_default, get_or_push, length-map}
 use Rattle.std.proofs.lemmas.List.Quantifiers.{position-Some}
@@ -23,9 +22,6 @@ below-true m n h = grind (arith, nat_tests)
 -- rows whose places pass the test
 pub small-rows : {X : Type 0} (from : X → ℕ) (rows : List X) → list_all (λ (row : X). nat_lt (from row) 1024) rows ≡ true → All (λ (row : X). from row < 1024) rows
 small-rows {X} from rows h = λ k d low. below-true _ _ (AllPass-from_list_all (λ (row : X). nat_lt (from row) 1024) rows h k d low)
-
-pub wide-enough : (value len : ℕ) → value < 2 ^ 128 → 128 ≤ len → value < 2 ^ len
-wide-enough value len fits wide = let more : 2 ^ 128 ≤ 2 ^ len = pow_mono wide in omega arith
 
 -- the first place of what is made of a list
 position_or_len-map : {X Y : Type 0} (p : Y → Bool) (f : X → Y) (xs : List X) → position_or_len p (map f xs) ≡ position_or_len (λ (x : X). p (f x)) xs

@@ -1,5 +1,5 @@
 //! Which changes assignments are.
-ghost use Rattle.std.specs.Prelude.{◌≡◌, ◌+◌, ◌^◌, ◌<◌, ◌⊎◌, ◌↔◌, IfErr, IfOk, IsTrue, map};
+ghost use Rattle.std.specs.Prelude.{◌≡◌, ◌+◌, ◌^◌, ◌<◌, ◌⊎◌, IfErr, IfOk, map};
 ghost use Rattle.packet.specs.Arguments.{named};
 ghost use Rattle.packet.specs.Packets.{places_of};
 ghost use Rattle.packet.specs.Resolved.{AreChanges, ChangeFault, ChangesFault, IsChange, is_fixed, place_of};
@@ -8,17 +8,8 @@ use crate::arguments::Assignment;
 use crate::changes::Change;
 use crate::fault::Fault;
 use crate::field::{CHECKSUM, Field, HEADER_LENGTH, VERSION};
+use bitrecord::fits;
 use std::alloc::Allocator;
-
-/// Whether a value has at most so many bits.
-fn fits(value: u128, len: usize) -> bool
-    ensures { IsTrue result ↔ value < 2 ^ len }
-{
-    if len >= 128 {
-        return true;
-    }
-    value < 1u128 << (len as u32)
-}
 
 /// Whether the field of a number can't be set: it says where others lie, or is computed.
 fn is_fixed_field(number: usize) -> bool

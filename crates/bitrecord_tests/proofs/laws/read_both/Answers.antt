@@ -17,5 +17,5 @@ returns g c =
     λ same. record-determines c.args.endian g.O.WordOrder.HIGH b x.window.start fields x.bits y.bits (width_some _ g.met.T.BitStore.width_law)
     (long ∙ sym (ap (λ (w : Window). w.len) c.requires.window) ∙ sym also)
     (λ k low. rw (long ∙ c.requires.bits) ((is-layout c.args.layout.now).inside k low))
-    (sym c.decode.ensures ∙ same ∙ c.decode-2.ensures ∙ ap (λ (w : Window). record_in c.args.endian g.O.WordOrder.HIGH b w.start y.bits fields) c.requires.window)
+    (sym c.decode.ensures.numbers ∙ same ∙ c.decode-2.ensures.numbers ∙ ap (λ (w : Window). record_in c.args.endian g.O.WordOrder.HIGH b w.start y.bits fields) c.requires.window)
     c.requires.outside

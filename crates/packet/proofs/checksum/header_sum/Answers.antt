@@ -11,5 +11,5 @@ add_up-requires g c =
     let words = c.args.words.now in
     let view = c.args.view in
     let long : length (seen view).bits ≡ (seen view).window.len = length_bits 8 _ (λ x. x) view.elements.now view.head view.len view.inside in
-    subst (All (λ word. word < 65536)) (sym c.decode.ensures)
+    subst (All (λ word. word < 65536)) (sym c.decode.ensures.numbers)
     (words-below (bits_of words) 8 (seen view).window.start (fields_of words) (seen view).bits (is-layout words) (long ∙ c.requires.bits) c.requires.words)

@@ -12,6 +12,6 @@ returns-clause-below g c =
     let layout = c.args.layout.now in
     let view = c.from_slice-view.result in
     let long : length (seen view).bits ≡ (seen view).window.len = length_bits 8 _ (λ x. x) view.elements.now view.head view.len view.inside in
-    subst (λ (n : ℕ). n < 2 ^ (field_at (fields_of layout) c.args.number).len) (sym c.decode_one.ensures)
+    subst (λ (n : ℕ). n < 2 ^ (field_at (fields_of layout) c.args.number).len) (sym c.decode_one.ensures.value)
     (number-below Big true 8 (seen view).window.start (bits_of layout) c.args.number (fields_of layout) (seen view).bits (is-layout layout)
     (long ∙ c.from_slice-view.ensures.len ∙ sym c.requires.bits) c.requires.field)

@@ -1,7 +1,7 @@
 use Rattle.std.proofs.Common.{arith, refl}
 use Rattle.bitvec.specs.WritesLaws.{written-none}
 use Rattle.bitrecord.proofs.Puts.{next-field}
-use Rattle.bitrecord.proofs.coding.encode.Goals as goal
+use Rattle.bitrecord.proofs.encoding.encode.Goals as goal
 
 pub loop-number-init : goal.loop-number-init
 loop-number-init g c = record { numbers = λ k low. absurd (omega arith); others = λ place d outside. refl; written = written-none c.args.out.now }

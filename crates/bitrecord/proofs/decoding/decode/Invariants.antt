@@ -2,7 +2,7 @@ use Rattle.std.proofs.Common.{◌≡◌, ℕ, ◌<◌, slice_index}
 use Rattle.bitvec.specs.Views.{seen}
 use Rattle.bitrecord.specs.Layouts.{field_at}
 use Rattle.bitrecord.specs.Records.{number_in}
-use Rattle.bitrecord.proofs.coding.decode.Given as goal
+use Rattle.bitrecord.proofs.decoding.decode.Given as goal
 
 abbrev pub invariant-loop-number : goal.invariant-loop-number
 invariant-loop-number g l =

@@ -1,0 +1,66 @@
+-- Numbers of fields that follow one another, split off one number.
+use Rattle.std.specs.Prelude.{◌≡◌, ℕ, ◌+◌, ◌-◌, ◌*◌, ◌^◌, ◌<◌, ◌≤◌, if◌then◌else◌, Bool, true, false, List, ◌++◌, length, slice_range, refl}
+use Rattle.std.proofs.Common.{arith, rules, sym, ◌∙◌, ap, subst}
+use Rattle.std.proofs.lemmas.List.{places, same_lists}
+use Rattle.std.proofs.lemmas.Nat.{pow-add, same_from_place, shl_below}
+use Rattle.bitvec.specs.LoadLaws.{loaded_be-below, loaded_le-below}
+use Rattle.bitvec.specs.PlainLaws.{append-highest, append-lowest, loaded_be-plain, loaded_le-plain}
+use Rattle.bitvec.specs.Segments.{segment_number}
+use Rattle.bitvec.specs.Types.{Window}
+use Rattle.bitvec.specs.Window.{IsWithin, window_of}
+use Rattle.bitvec.specs.WindowLaws.{length-window}
+use Rattle.bitrecord.specs.Records.{number_in}
+use Rattle.bitrecord.specs.Runs.{IsSeamless, SplitsOff, aligned, plain_number}
+use Rattle.bitrecord.specs.declared.endian.Endian.{Endian}
+use Rattle.bitrecord.specs.declared.endian.Endian.TheVariants as end
+
+-- where segments join without a seam, a number is as of one
+pub seamless-number : (endian : Endian) (high : Bool) (b s : ℕ) (list : List Bool) (field : Window) → IsSeamless endian high → number_in endian high b s list field ≡ plain_number high list field
+seamless-number end.Little high b s list field is = loaded_le-plain high b (s + field.start) (window_of list field) is
+seamless-number end.Big high b s list field is = loaded_be-plain high b (s + field.start) (window_of list field) is
+
+pub plain-below : (high : Bool) (list : List Bool) (field : Window) → IsWithin field (length list) → plain_number high list field < 2 ^ field.len
+plain-below false list field inside = rw (loaded_le-plain false 1 0 (window_of list field) refl, length-window list field inside) at (loaded_le-below false 1 0 (window_of list field))
+plain-below true list field inside = rw (loaded_be-plain true 1 0 (window_of list field) refl, length-window list field inside) at (loaded_be-below true 1 0 (window_of list field))
+
+slices-joined : (list : List Bool) (a m n : ℕ) → a + (m + n) ≤ length list → slice_range list a (a + (m + n)) ≡ slice_range list a (a + m) ++ slice_range list (a + m) (a + m + n)
+slices-joined list a m n within = same_lists _ _ (search (rules, places)) (λ k d inside. grind (arith, places))
+
+windows-joined : (list : List Bool) (x y all : Window) → IsWithin all (length list) → x.start ≡ all.start → y.start ≡ all.start + x.len → all.len ≡ x.len + y.len → window_of list all ≡ window_of list x ++ window_of list y
+unfolding window_of
+windows-joined list x y all inside start next len =
+    let from = inside.start in
+    let most = inside.len in
+    rw (start, next, len) (slices-joined list all.start x.len y.len (omega arith))
+
+-- the number of two windows, one behind the other
+pub number-joined : (high : Bool) (list : List Bool) (x y all : Window) → IsWithin all (length list) → x.start ≡ all.start → y.start ≡ all.start + x.len → all.len ≡ x.len + y.len
+    → plain_number high list all ≡ (if high then plain_number high list x * 2 ^ y.len + plain_number high list y else plain_number high list y * 2 ^ x.len + plain_number high list x)
+number-joined true list x y all inside start next len =
+    let from = inside.start in
+    let most = inside.len in
+    let long = length-window list y (record { start = omega arith; len = omega arith }) in
+    ap (segment_number true) (windows-joined list x y all inside start next len) ∙ append-highest (window_of list x) (window_of list y) ∙ rw long refl
+number-joined false list x y all inside start next len =
+    let from = inside.start in
+    let most = inside.len in
+    let long = length-window list x (record { start = omega arith; len = omega arith }) in
+    ap (segment_number false) (windows-joined list x y all inside start next len) ∙ append-lowest (window_of list x) (window_of list y) ∙ rw long refl
+
+moved_up : (x y a b c w : ℕ) → a * (b * c) ≡ w → (x * a + y) * b * c ≡ x * w + y * (b * c)
+moved_up x y a b c w is = rw (← is) (omega arith)
+
+-- what is split off is the first of two numbers, and what is left the second
+pub split-joined : (high : Bool) (word both x y m n number left : ℕ) → word ≡ aligned high both (m + n) → both ≡ (if high then x * 2 ^ n + y else y * 2 ^ m + x) → x < 2 ^ m → y < 2 ^ n → m + n ≤ 64
+    → SplitsOff high word m number left → (number ≡ x) × (left ≡ aligned high y n)
+split-joined true word both x y m n number left is sum few less bound split =
+    let up : ℕ = 64 - (m + n) in
+    let power : 2 ^ n * (2 ^ up * 2 ^ m) ≡ 2 ^ 64 = ap (λ (k : ℕ). 2 ^ n * k) (sym (pow-add 2 up m)) ∙ sym (pow-add 2 n (up + m)) ∙ ap (λ (k : ℕ). 2 ^ k) (let e : n + (up + m) ≡ 64 = omega arith in e) in
+    let rest : 2 ^ up * 2 ^ m ≡ 2 ^ (64 - n) = sym (pow-add 2 up m) ∙ ap (λ (k : ℕ). 2 ^ k) (let e : up + m ≡ 64 - n = omega arith in e) in
+    let low : y * 2 ^ (64 - n) < 2 ^ 64 = subst (λ (k : ℕ). y * 2 ^ (64 - n) < 2 ^ k) (let e : n + (64 - n) ≡ 64 = omega arith in e) (shl_below y n (64 - n) less) in
+    let whole : word * 2 ^ m ≡ x * 2 ^ 64 + y * 2 ^ (64 - n) =
+    ap (λ (k : ℕ). k * 2 ^ m) (is ∙ ap (λ (k : ℕ). k * 2 ^ up) sum) ∙ moved_up x y (2 ^ n) (2 ^ up) (2 ^ m) (2 ^ 64) power ∙ ap (λ (k : ℕ). x * 2 ^ 64 + y * k) rest in
+    same_from_place number left x (y * 2 ^ (64 - n)) (2 ^ 64) split.1 low (sym split.0 ∙ whole)
+split-joined false word both x y m n number left is sum few less bound split =
+    let same = same_from_place left number y x (2 ^ m) split.1 few (sym split.0 ∙ is ∙ sum) in
+    (same.1, same.0)

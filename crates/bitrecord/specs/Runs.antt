@@ -1,0 +1,47 @@
+-- Runs: fields that follow one another, of at most 64 bits together, and the numbers that lists of bits have there.
+use Rattle.std.specs.Prelude.{◌≡◌, ℕ, ◌+◌, ◌-◌, ◌*◌, ◌^◌, ◌<◌, ◌≤◌, if◌then◌else◌, Bool, false, true, List, length, slice_index}
+use Rattle.bitvec.specs.Segments.{segment_number}
+use Rattle.bitvec.specs.Types.{Window}
+use Rattle.bitvec.specs.Window.{window_of}
+use Rattle.bitrecord.specs.Layouts.{field_at}
+use Rattle.bitrecord.specs.declared.endian.Endian.{Endian}
+use Rattle.bitrecord.specs.declared.endian.Endian.TheVariants as end
+
+abbrev pub end_of : List Window → ℕ → ℕ
+end_of fields k = (field_at fields k).start + (field_at fields k).len
+
+-- the fields from the first to the last follow one another; where they are several, they have at most 64 bits together
+pub record IsRun (fields : List Window) (first last : ℕ) : Type 0 where
+  pub order : first ≤ last
+  pub below : last < length fields
+  pub next : (k : ℕ) → first ≤ k → k < last → end_of fields k ≡ (field_at fields (k + 1)).start
+  pub front : (k : ℕ) → first ≤ k → k ≤ last → (field_at fields first).start ≤ (field_at fields k).start
+  pub behind : (k : ℕ) → first ≤ k → k ≤ last → end_of fields k ≤ end_of fields last
+  pub few : last + (field_at fields first).start < first + end_of fields last
+  pub bound : first < last → end_of fields last ≤ (field_at fields first).start + 64
+
+-- the numbers tell how many fields follow each of the first fields in its run
+abbrev pub AreRuns : List Window → List ℕ → Type 0
+AreRuns fields runs = (n : ℕ) → n < length fields → n < 64 → IsRun fields n (n + slice_index runs n)
+
+-- the bits of fields that follow one another
+abbrev pub across : List Window → ℕ → ℕ → Window
+across fields first last = record { start = (field_at fields first).start; len = end_of fields last - (field_at fields first).start }
+
+-- the first bit of a list counts as its first segment does, so that its segments join without a seam
+abbrev pub IsSeamless : Endian → Bool → Type 0
+IsSeamless end.Little high = high ≡ false
+IsSeamless end.Big high = high ≡ true
+
+-- the number of a window of a list, as of one segment
+abbrev pub plain_number : Bool → List Bool → Window → ℕ
+plain_number high list window = segment_number high (window_of list window)
+
+-- a number of so many bits, whose highest bit is that of a word of 64 bits where the first of its parts is the highest
+abbrev pub aligned : Bool → ℕ → ℕ → ℕ
+aligned high number len = if high then number * 2 ^ (64 - len) else number
+
+-- the first bits of the word are a number, and the rest is left: the highest bits, so that what is left moves up, or the lowest
+abbrev pub SplitsOff : Bool → ℕ → ℕ → ℕ → ℕ → Type 0
+SplitsOff true word len number left = (word * 2 ^ len ≡ number * 2 ^ 64 + left) × (left < 2 ^ 64)
+SplitsOff false word len number left = (word ≡ left * 2 ^ len + number) × (number < 2 ^ len)

@@ -1,0 +1,104 @@
+//! Records read from views.
+ghost use Rattle.std.specs.Prelude.{◌≡◌, ℕ, ◌<◌, ◌≤◌, ◌↔◌, IsTrue, length, slice_index};
+ghost use Rattle.bitvec.specs.Views.{seen};
+ghost use Rattle.bitrecord.specs.Layouts.{field_at};
+ghost use Rattle.bitrecord.specs.Records.{AreEncodable, number_in, record_in};
+ghost use Rattle.bitrecord.specs.Runs.{IsRun, IsSeamless};
+ghost use Rattle.bitrecord.specs.Views.{bits_of, fields_of};
+
+use crate::coding::take;
+use crate::words::{split_off, to_split};
+use crate::{Endian, Layout};
+use bitvec::index::Window;
+use bitvec::prelude::*;
+use std::alloc::Allocator;
+
+/// Whether numbers that are read from the end, under the order, are those of one segment: then the
+/// number of several fields that follow one another is made of theirs.
+#[inline(always)]
+pub(crate) fn is_seamless<O: FieldOrder>(endian: Endian) -> bool
+    ensures { IsTrue result ↔ IsSeamless endian O.HIGH }
+{
+    match endian {
+        Endian::Little => !O::HIGH,
+        Endian::Big => O::HIGH,
+    }
+}
+
+/// Reads the numbers of the fields of a run, of which there are several, from one word. Conditions: as
+/// of `decode`, and the run is one of the layout, whose numbers are made of one another.
+fn decode_run<T: BitStore, O: FieldOrder, A: Allocator>(
+    layout: &Layout<A>,
+    endian: Endian,
+    first: usize,
+    last: usize,
+    view: BitSlice<'_, T, O>,
+    out: &mut [u128],
+)
+    requires bits { (seen view).window.len ≡ bits_of layout.now }
+    requires places { length out.old ≡ length (fields_of layout.now) }
+    requires run { IsRun (fields_of layout.now) first last }
+    requires several { first < last }
+    requires seamless { IsSeamless endian O.HIGH }
+    ensures done { (k : ℕ) → first ≤ k → k ≤ last → slice_index out.new k
+        ≡ number_in endian O.HIGH T.BITS (seen view.entry).window.start (seen view.entry).bits (field_at (fields_of layout.now) k) }
+    ensures kept { (k : ℕ) → k < first → slice_index out.new k ≡ slice_index out.old k }
+{
+    let start = layout.field(first).start;
+    let end = layout.field(last);
+    let len = end.start + end.len - start;
+    let number = take(endian, Window { start, len }, view);
+    let mut word = to_split::<O>(number as u64, len);
+    for field in first..last + 1 {
+        let (number, rest) = split_off::<O>(word, layout.field(field).len);
+        out[field] = u128::from(number);
+        word = rest;
+    }
+}
+
+/// `decode` by words, where the numbers of fields that follow one another are made of one another.
+fn decode_words<T: BitStore, O: FieldOrder, A: Allocator>(
+    layout: &Layout<A>,
+    endian: Endian,
+    view: BitSlice<'_, T, O>,
+    out: &mut [u128],
+)
+    requires bits { (seen view).window.len ≡ bits_of layout.now }
+    requires places { length out.old ≡ length (fields_of layout.now) }
+    requires seamless { IsSeamless endian O.HIGH }
+    ensures { out.new ≡ record_in endian O.HIGH T.BITS (seen view.entry).window.start (seen view.entry).bits (fields_of layout.now) }
+{
+    let mut number = 0;
+    while number < layout.len() {
+        let last = layout.last_in_run(number);
+        if last == number {
+            out[number] = take(endian, layout.field(number), view);
+        } else {
+            decode_run(layout, endian, number, last, view, out);
+        }
+        number = last + 1;
+    }
+}
+
+/// Reads the number of each field, which has no more bits than the field. Conditions: the view has as
+/// many bits as a record, and `out` one place a field.
+pub fn decode<T: BitStore, O: FieldOrder, A: Allocator>(
+    layout: &Layout<A>,
+    endian: Endian,
+    view: BitSlice<'_, T, O>,
+    out: &mut [u128],
+)
+    requires bits { (seen view).window.len ≡ bits_of layout.now }
+    requires places { length out.old ≡ length (fields_of layout.now) }
+    ensures numbers { out.new ≡ record_in endian O.HIGH T.BITS (seen view.entry).window.start (seen view.entry).bits (fields_of layout.now) }
+    ensures fit { AreEncodable (fields_of layout.now) out.new }
+{
+    if is_seamless::<O>(endian) {
+        decode_words(layout, endian, view, out);
+        return;
+    }
+    for number in 0..layout.len() {
+        let field = layout.field(number);
+        out[number] = take(endian, field, view);
+    }
+}
