@@ -3,12 +3,10 @@ ghost use Rattle.bitvec_checked.specs.commands.declared.command.Op.TheVariants.{
 ghost use Rattle.bitvec_checked.specs.commands.segments.Segments.{loaded_be, loaded_le, stored_be, stored_le};
 ghost use Rattle.bitvec_checked.specs.Calls.{Asks, AsksBeside, Edits, EditsBeside, Loads, Seeks, Stores, Swaps};
 ghost use Rattle.bitvec_checked.specs.Replies.{bit_of, count_of, order_of};
-ghost use Rattle.bitvec_checked.specs.Runs.{Runs};
 ghost use Rattle.bitvec_checked.specs.Statuses.{bits_from};
 ghost use Rattle.bitvec_c.specs.Ones.{Lists};
 
 use crate::ones::ones;
-use bitvec_checked::{RawReply, RawStep};
 
 /// The bit at an index of a window.
 #[unsafe(no_mangle)]
@@ -553,23 +551,6 @@ pub extern "C" fn fb_u64_store_be(
     ensures { Stores order 64 (λ x. x) stored_be number (bits_from start len) elements.old elements.new result }
 {
     bitvec_checked::store_be(order, elements, start, len, number)
-}
-
-/// Carries out steps on a window, one after the other, with all bits of the right memory as the
-/// right list, and writes the reply to each.
-#[unsafe(no_mangle)]
-pub extern "C" fn fb_u64_run(
-    order: u32,
-    elements: &mut [u64],
-    start: usize,
-    len: usize,
-    right: &[u64],
-    steps: &[RawStep],
-    replies: &mut [RawReply],
-) -> u32
-    ensures { Runs order 64 (λ x. x) (bits_from start len) elements.old elements.new right.now steps.now replies.old replies.new result }
-{
-    bitvec_checked::run(order, elements, start, len, right, steps, replies)
 }
 
 /// The indices, from `from` on, of the bits of a window that are 1, ascending, as many as there are
