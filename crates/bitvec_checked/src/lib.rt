@@ -25,6 +25,8 @@ mod running;
 mod scanning;
 mod status;
 mod steps;
+#[cfg(test)]
+mod tests;
 mod transfers;
 
 /// What crates above name of `bitvec_store`.
