@@ -6,12 +6,13 @@ use Rattle.bitvec_c.proofs.ones.ones_in.Given as goal
 
 abbrev pub invariant-loop-count : goal.invariant-loop-count
 invariant-loop-count g l =
-    let all = places_of true (drop l.from (list_in g.T.BitStore.BITS g.O.BitOrder.at (map g.T.BitStore.value l.elements) l.window)) in
+    let all = places_of true (drop l.from (list_in g.T.BitStore.BITS g.O.BitOrder.at (map g.T.BitStore.value l.elements) l.fn.window)) in
     record {
       left : drop l.count all ≡ indices_left l.walk;
       front : take l.count l.indices ≡ map (λ place. l.from + place) (take l.count all);
       behind : drop l.count l.indices ≡ drop l.count l.fn.indices;
       count : l.count ≤ length all;
+      within : l.count ≤ length l.indices;
       room : length l.indices ≡ length l.fn.indices;
     }
 
