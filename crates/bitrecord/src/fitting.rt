@@ -4,7 +4,6 @@ ghost use Rattle.bitrecord.specs.Records.{AreEncodable, IsFirstTooLarge};
 ghost use Rattle.bitrecord.specs.Views.{fields_of};
 
 use crate::Layout;
-use crate::powers::power;
 use std::alloc::Allocator;
 
 /// Whether a value has at most so many bits: what `encode` asks of each value and its field.
@@ -12,9 +11,6 @@ use std::alloc::Allocator;
 pub fn fits(value: u128, len: usize) -> bool
     ensures { IsTrue result ↔ value < 2 ^ len }
 {
-    if len < 64 {
-        return value < u128::from(power(len));
-    }
     if len >= 128 {
         return true;
     }
