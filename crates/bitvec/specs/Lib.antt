@@ -32,6 +32,9 @@ pub use Rattle.bitvec_iter.specs.Halves
 pub use Rattle.bitvec_iter.specs.LentPieces
 pub use Rattle.bitvec_iter.specs.LentWalk
 pub use Rattle.bitvec_ones.specs.Indices as OnesLeft
+pub use Rattle.bitvec_ones.specs.Loads
+pub use Rattle.bitvec_ones.specs.Places
+pub use Rattle.bitvec_ones.specs.Turns
 pub use Rattle.bitvec_owned.specs.Copies
 pub use Rattle.bitvec_owned.specs.Owned
 pub use Rattle.bitvec_owned.specs.Writes as OwnedWrites
@@ -71,8 +74,5 @@ pub use Rattle.bitvec_owned.specs.edit.store.WidthLaws
 pub use Rattle.bitvec_field.specs.Radix
 pub use Rattle.bitvec_owned.specs.edit.traits.Feeding
 pub use Rattle.bitvec_owned.specs.edit.traits.Listing
-pub use Rattle.bitvec_ones.specs.turns.Loads
-pub use Rattle.bitvec_ones.specs.turns.Places
-pub use Rattle.bitvec_ones.specs.turns.Turns
 pub use Rattle.bitvec_owned.specs.edit.walk.Sought
 pub use Rattle.bitvec_owned.specs.edit.words.Operator

@@ -2,8 +2,8 @@
 use Rattle.std.specs.Prelude.{◌≡◌, ℕ, ◌-◌, Option, None, List, [], ◌∷◌, count_by, drop, length, slice_get, take}
 use Rattle.std.specs.List.{last_or}
 use Rattle.std.specs.Option.{is_some}
-use Rattle.bitvec_turns.specs.declared.turns.End.{End}
-use Rattle.bitvec_turns.specs.declared.turns.End.TheVariants.{Front, Back}
+use Rattle.bitvec_ones.specs.declared.turns.End.{End}
+use Rattle.bitvec_ones.specs.declared.turns.End.TheVariants.{Front, Back}
 
 -- each turn gives the first or the last of the values that are left, if any is, and leaves the others
 abbrev pub turns_give : {X : Type 0} → List X → List End → List (Option X)

@@ -1,10 +1,10 @@
 -- The loads of a walk over the places of a bit.
 use Rattle.std.specs.Prelude.{◌≡◌, ℕ, ◌+◌, ◌-◌, ◌≤◌, Option}
 use Rattle.std.specs.Option.{option_len}
-use Rattle.bitvec_engine.specs.base.declared.window.Window.{Window}
-use Rattle.bitvec_engine.specs.cells.declared.cells.CellsRead.{Ghosts as Access}
-use Rattle.bitvec_engine.specs.walk.Cost.{touched}
-use Rattle.bitvec_turns.specs.declared.rest.Rest.{Rest}
+use Rattle.bitvec_query.specs.base.declared.window.Window.{Window}
+use Rattle.bitvec_query.specs.cells.declared.cells.CellsRead.{Ghosts as Access}
+use Rattle.bitvec_query.specs.walk.Cost.{touched}
+use Rattle.bitvec_ones.specs.declared.rest.Rest.{Rest}
 
 -- the elements that the rest of the window touches
 abbrev pub rest_loads : ℕ → Window → Rest → ℕ

@@ -2,15 +2,15 @@
 use Rattle.std.specs.Prelude.{◌≡◌, ℕ, ◌+◌, ◌-◌, ◌<◌, ◌≤◌, Bool, true, false, not, count_by, refl, Some, None, List, [], ◌∷◌, ◌++◌, length, slice_range}
 use Rattle.std.specs.Bool.{beq}
 use Rattle.std.proofs.Common.{arith, sym, ◌∙◌, ap}
-use Rattle.bitvec_engine.specs.base.declared.window.Window.{Window}
-use Rattle.bitvec_engine.specs.base.Lists.{first_place, last_place}
-use Rattle.bitvec_engine.specs.base.Memory.{HasWindow, list_in}
-use Rattle.bitvec_engine.specs.base.ScanLaws.{first-within, last-within}
-use Rattle.bitvec_engine.specs.base.Window.{window_range}
-use Rattle.bitvec_engine.specs.base.WritesLaws.{length-list, list-range}
-use Rattle.bitvec_turns.specs.declared.rest.Rest.{Rest}
-use Rattle.bitvec_turns.specs.Places.{IsRestOf, places_in}
-use Rattle.bitvec_turns.specs.PlacesLaws.{places-absent, places-absent_back, places-count, places-first, places-last}
+use Rattle.bitvec_query.specs.base.declared.window.Window.{Window}
+use Rattle.bitvec_query.specs.base.Lists.{first_place, last_place}
+use Rattle.bitvec_query.specs.base.Memory.{HasWindow, list_in}
+use Rattle.bitvec_query.specs.base.ScanLaws.{first-within, last-within}
+use Rattle.bitvec_query.specs.base.Window.{window_range}
+use Rattle.bitvec_query.specs.base.WritesLaws.{length-list, list-range}
+use Rattle.bitvec_ones.specs.declared.rest.Rest.{Rest}
+use Rattle.bitvec_ones.specs.Places.{IsRestOf, places_in}
+use Rattle.bitvec_ones.specs.PlacesLaws.{places-absent, places-absent_back, places-count, places-first, places-last}
 
 module _ (b : ℕ) (at : ℕ → ℕ → ℕ) (xs : List ℕ) (window : Window) (rest : Rest) (wanted : Bool) (has : HasWindow b xs window) (inside : IsRestOf rest window.len) where
   bound : rest.back ≤ length (list_in b at xs window)

@@ -1,11 +1,11 @@
 use Rattle.std.proofs.Common.{◌+◌, arith, rules}
 use Rattle.std.proofs.Math.Nat.{sub_self}
-use Rattle.bitvec_engine.specs.store.WidthLaws.{width_some}
-use Rattle.bitvec_engine.specs.walk.WalkLaws.{touched-none}
-use Rattle.bitvec_turns.specs.LoadsLaws.{touched-passed_back}
-use Rattle.bitvec_turns.specs.PlacesLaws.{places-empty}
-use Rattle.bitvec_turns.proofs.TakingLemmas.{last-below, last-taken, none-left_back}
-use Rattle.bitvec_turns.proofs.taking.take_last.Goals as goal
+use Rattle.bitvec_query.specs.store.WidthLaws.{width_some}
+use Rattle.bitvec_query.specs.walk.WalkLaws.{touched-none}
+use Rattle.bitvec_ones.specs.LoadsLaws.{touched-passed_back}
+use Rattle.bitvec_ones.specs.PlacesLaws.{places-empty}
+use Rattle.bitvec_ones.proofs.TakingLemmas.{last-below, last-taken, none-left_back}
+use Rattle.bitvec_ones.proofs.taking.take_last.Goals as goal
 
 pub overflow_add-index : goal.overflow_add-index
 overflow_add-index g c =

@@ -1,8 +1,8 @@
 -- What a search of the rest loads, and what the rest behind it still touches.
 use Rattle.std.specs.Prelude.{◌≡◌, ℕ, ◌+◌, ◌-◌, ◌<◌, ◌≤◌, zero, suc}
 use Rattle.std.proofs.Common.{arith}
-use Rattle.bitvec_engine.specs.walk.Cost.{touched}
-use Rattle.bitvec_engine.specs.walk.WalkLaws.{div-order, touched-none, touched-some}
+use Rattle.bitvec_query.specs.walk.Cost.{touched}
+use Rattle.bitvec_query.specs.walk.WalkLaws.{div-order, touched-none, touched-some}
 
 -- two parts that meet have at most one element in common
 touched-cut : (b s m n : ℕ) → 0 < b → touched b s m + touched b (s + m) n ≤ touched b s (m + n) + 1

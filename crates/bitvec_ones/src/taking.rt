@@ -1,17 +1,17 @@
 //! The first and the last place of a bit that a walk has still to come to.
 ghost use Rattle.std.specs.Prelude.{◌≡◌, ◌+◌, ◌-◌, ◌≤◌, length};
 ghost use Rattle.std.specs.Iterator.{YieldsFirst, YieldsLast};
-ghost use Rattle.bitvec_engine.specs.base.Memory.{HasWindow, list_in};
-ghost use Rattle.bitvec_engine.specs.cells.Access.{OnlyReads};
-ghost use Rattle.bitvec_engine.specs.walk.Cost.{touched};
-ghost use Rattle.bitvec_turns.specs.Loads.{LoadsPassed};
-ghost use Rattle.bitvec_turns.specs.Places.{IsRestOf, places_left};
+ghost use Rattle.bitvec_query.specs.base.Memory.{HasWindow, list_in};
+ghost use Rattle.bitvec_query.specs.cells.Access.{OnlyReads};
+ghost use Rattle.bitvec_query.specs.walk.Cost.{touched};
+ghost use Rattle.bitvec_ones.specs.Loads.{LoadsPassed};
+ghost use Rattle.bitvec_ones.specs.Places.{IsRestOf, places_left};
 
 use crate::rest::Rest;
-use bitvec_engine::base::{BitOrder, Window};
-use bitvec_engine::cells::CellsRead;
-use bitvec_engine::store::BitStore;
-use bitvec_engine::{SliceOrder, count, count_zeros};
+use bitvec_query::base::{BitOrder, Window};
+use bitvec_query::cells::CellsRead;
+use bitvec_query::engine::{SliceOrder, count, count_zeros};
+use bitvec_query::store::BitStore;
 
 /// The first index of the rest whose bit is `want`, if there is one; the rest then begins behind
 /// it, or is empty. Condition: the memory has at most `MAX_BITS` bits, the window lies in it, and

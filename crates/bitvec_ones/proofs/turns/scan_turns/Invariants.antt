@@ -1,11 +1,11 @@
 use Rattle.std.proofs.Common.{◌≡◌, ◌+◌, ◌≤◌, ◌++◌, drop, take}
-use Rattle.bitvec_engine.specs.base.Lists.{places_of}
-use Rattle.bitvec_engine.specs.base.Memory.{list_in}
-use Rattle.bitvec_engine.specs.walk.Cost.{touched}
-use Rattle.bitvec_turns.specs.Loads.{rest_loads}
-use Rattle.bitvec_turns.specs.Places.{IsRestOf, places_left}
-use Rattle.bitvec_turns.specs.Turns.{count_given, turns_give}
-use Rattle.bitvec_turns.proofs.turns.scan_turns.Given as goal
+use Rattle.bitvec_query.specs.base.Lists.{places_of}
+use Rattle.bitvec_query.specs.base.Memory.{list_in}
+use Rattle.bitvec_query.specs.walk.Cost.{touched}
+use Rattle.bitvec_ones.specs.Loads.{rest_loads}
+use Rattle.bitvec_ones.specs.Places.{IsRestOf, places_left}
+use Rattle.bitvec_ones.specs.Turns.{count_given, turns_give}
+use Rattle.bitvec_ones.proofs.turns.scan_turns.Given as goal
 
 abbrev pub invariant-loop-number : goal.invariant-loop-number
 invariant-loop-number g l =

@@ -1,6 +1,6 @@
 use Rattle.std.proofs.Common.{true, false, not, sym, ◌∙◌}
-use Rattle.bitvec_turns.proofs.TakingLemmas.{count-taken, is_one, is_zero}
-use Rattle.bitvec_turns.proofs.taking.count_left.Goals as goal
+use Rattle.bitvec_ones.proofs.TakingLemmas.{count-taken, is_one, is_zero}
+use Rattle.bitvec_ones.proofs.taking.count_left.Goals as goal
 
 pub returns-then-want-clause-value : goal.returns-then-want-clause-value
 returns-then-want-clause-value g c =

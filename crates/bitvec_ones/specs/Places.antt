@@ -2,7 +2,7 @@
 use Rattle.std.specs.Prelude.{ℕ, ◌-◌, ◌≤◌, Bool, false, List, filter, slice_index_or}
 use Rattle.std.specs.Bool.{beq}
 use Rattle.std.specs.List.{range_with_len}
-use Rattle.bitvec_turns.specs.declared.rest.Rest.{Rest}
+use Rattle.bitvec_ones.specs.declared.rest.Rest.{Rest}
 
 -- the places from `from` up to, without, `to` whose bit is `wanted`, in their order
 unfoldable pub places_in : Bool → List Bool → ℕ → ℕ → List ℕ

@@ -6,8 +6,8 @@ use Rattle.std.proofs.Common.{arith, sym, ◌∙◌, ap, append_assoc}
 use Rattle.std.proofs.Math.Seq.{take-append_seam}
 use Rattle.std.proofs.lemmas.List.{length-append, take_more_set}
 use Rattle.std.proofs.lemmas.List.Sums.{sum_by-append}
-use Rattle.bitvec_turns.specs.declared.turns.End.TheVariants.{Front, Back}
-use Rattle.bitvec_turns.specs.Turns.{TurnGives, count_given}
+use Rattle.bitvec_ones.specs.declared.turns.End.TheVariants.{Front, Back}
+use Rattle.bitvec_ones.specs.Turns.{TurnGives, count_given}
 
 module _ {X : Type 0} where
   -- a turn from the front, and from the back

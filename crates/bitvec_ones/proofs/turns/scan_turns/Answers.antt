@@ -1,8 +1,8 @@
 use Rattle.std.proofs.Common.{◌≡◌, ◌+◌, ◌-◌, arith, rules, refl, sym, ap, List, ℕ}
-use Rattle.bitvec_engine.specs.base.WritesLaws.{length-list}
-use Rattle.bitvec_turns.specs.PlacesLaws.{all_places}
-use Rattle.bitvec_turns.specs.Turns.{turns_give}
-use Rattle.bitvec_turns.proofs.turns.scan_turns.Goals as goal
+use Rattle.bitvec_query.specs.base.WritesLaws.{length-list}
+use Rattle.bitvec_ones.specs.PlacesLaws.{all_places}
+use Rattle.bitvec_ones.specs.Turns.{turns_give}
+use Rattle.bitvec_ones.proofs.turns.scan_turns.Goals as goal
 
 pub loop-number-init : goal.loop-number-init
 loop-number-init g c =

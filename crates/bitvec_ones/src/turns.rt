@@ -1,19 +1,19 @@
 //! Turns of a walk, each from the end that it names.
 ghost use Rattle.std.specs.Prelude.{◌≡◌, ◌+◌, length};
-ghost use Rattle.bitvec_engine.specs.base.Lists.{places_of};
-ghost use Rattle.bitvec_engine.specs.base.Memory.{HasWindow, list_in};
-ghost use Rattle.bitvec_engine.specs.cells.Access.{OnlyReadsAtMost};
-ghost use Rattle.bitvec_engine.specs.walk.Cost.{touched};
-ghost use Rattle.bitvec_turns.specs.Loads.{LoadsPassed};
-ghost use Rattle.bitvec_turns.specs.Places.{IsRestOf, places_left};
-ghost use Rattle.bitvec_turns.specs.Turns.{TurnGives, count_given, turns_give};
+ghost use Rattle.bitvec_query.specs.base.Lists.{places_of};
+ghost use Rattle.bitvec_query.specs.base.Memory.{HasWindow, list_in};
+ghost use Rattle.bitvec_query.specs.cells.Access.{OnlyReadsAtMost};
+ghost use Rattle.bitvec_query.specs.walk.Cost.{touched};
+ghost use Rattle.bitvec_ones.specs.Loads.{LoadsPassed};
+ghost use Rattle.bitvec_ones.specs.Places.{IsRestOf, places_left};
+ghost use Rattle.bitvec_ones.specs.Turns.{TurnGives, count_given, turns_give};
 
 use crate::rest::Rest;
 use crate::taking::{take_first, take_last};
-use bitvec_engine::SliceOrder;
-use bitvec_engine::base::Window;
-use bitvec_engine::cells::CellsRead;
-use bitvec_engine::store::BitStore;
+use bitvec_query::base::Window;
+use bitvec_query::cells::CellsRead;
+use bitvec_query::engine::SliceOrder;
+use bitvec_query::store::BitStore;
 
 /// An end of a walk.
 #[derive(Clone, Copy, PartialEq, Eq, Debug)]
