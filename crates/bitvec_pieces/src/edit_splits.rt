@@ -1,16 +1,15 @@
 //! Edits of the pieces of a split by closures.
 ghost use Rattle.std.specs.Prelude.{◌≡◌, ◌-◌, ◌<◌, ◌≤◌, IfSome, false, true};
-ghost use Rattle.bitvec_pieces.specs.cutting.Cutting.{cut};
-ghost use Rattle.bitvec_pieces.specs.slice.Indices.{HasRange};
-ghost use Rattle.bitvec_pieces.specs.slice.Seen.{Seen};
+ghost use Rattle.bitvec_cutting.specs.Cutting.{cut};
+ghost use Rattle.bitvec_split.specs.slice.Indices.{HasRange};
+ghost use Rattle.bitvec_split.specs.slice.Seen.{Seen};
 ghost use Rattle.bitvec_split.specs.Asked.{Asked, MayAsk};
 ghost use Rattle.bitvec_split.specs.Lent.{CountedNextIn, MayGoOnIn, SplitNextIn, unsplit_in};
 ghost use Rattle.bitvec_split.specs.Splits.{asked_of, row_of};
-ghost use Rattle.bitvec_split_edits.specs.Left.{IsLeftOf, TakesFrom, counted_at, left_at};
-ghost use Rattle.bitvec_split_edits.specs.SplitEdits.{EditsGiven, IsSeenOf, MayEditGiven};
+ghost use Rattle.bitvec_pieces.specs.ToSplit.{IsLeftOf, TakesFrom, counted_at, left_at};
+ghost use Rattle.bitvec_pieces.specs.SplitEdits.{EditsGiven, IsSeenOf, MayEditGiven};
 
-use crate::ToSplit;
-use bitvec_pieces::{EditParts, Inside};
+use crate::{EditParts, Inside, ToSplit};
 use bitvec_split::{Forward, Inclusive, Reversed, Way, cut_row};
 use std::ops::Range;
 

@@ -1,7 +1,7 @@
 use Rattle.bitvec_split.specs.Lent.{CountedNextIn, MayGoOnIn, unsplit_in}
-use Rattle.bitvec_split_edits.specs.Left.{counted_at, left_at, most_left}
-use Rattle.bitvec_split_edits.specs.TurnsLaws.{TurnsSoFar}
-use Rattle.bitvec_split_edits.proofs.edit_splits.EditSplits.for_each_counted_piece.Given as goal
+use Rattle.bitvec_pieces.specs.ToSplit.{counted_at, left_at, most_left}
+use Rattle.bitvec_pieces.specs.TurnsLaws.{TurnsSoFar}
+use Rattle.bitvec_pieces.proofs.edit_splits.EditSplits.for_each_counted_piece.Given as goal
 
 abbrev pub invariant-loop-range : goal.invariant-loop-range
 invariant-loop-range g l =

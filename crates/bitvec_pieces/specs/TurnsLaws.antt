@@ -6,20 +6,20 @@ use Rattle.std.specs.Fn.{Mut}
 use Rattle.std.specs.List.{FoldsTo}
 use Rattle.std.specs.declared.ops.Range.{Range}
 use Rattle.std.proofs.Common.{arith, sym, subst, ◌∙◌, ap, ⊎_elim}
-use Rattle.bitvec_pieces.specs.base.Window.{write_at}
-use Rattle.bitvec_pieces.specs.base.WriteLaws.{range-range, range-write_at_after, range-write_at_before}
-use Rattle.bitvec_pieces.specs.base.declared.window.Window.{Window}
-use Rattle.bitvec_pieces.specs.cutting.Cutting.{LiesIn}
-use Rattle.bitvec_pieces.specs.slice.Seen.{Seen}
+use Rattle.bitvec_split.specs.base.Window.{write_at}
+use Rattle.bitvec_split.specs.base.WriteLaws.{range-range, range-write_at_after, range-write_at_before}
+use Rattle.bitvec_split.specs.base.declared.window.Window.{Window}
+use Rattle.bitvec_cutting.specs.Cutting.{LiesIn}
+use Rattle.bitvec_split.specs.slice.Seen.{Seen}
 use Rattle.bitvec_pieces.specs.Pieces.{IsPieceOf, Narrows}
 use Rattle.bitvec_pieces.specs.Shown.{Shown, StaysInPlace, WritesShown}
 use Rattle.bitvec_pieces.specs.ShownLaws.{length-left, length-shown, piece-before, stays-then}
 use Rattle.bitvec_split.specs.Asked.{Asked}
 use Rattle.bitvec_split.specs.Lent.{CountedIn, CountedNextIn, GivesAllIn, GivesRangeIn, LeftIn, SplitNextIn, SplitRestIn}
 use Rattle.bitvec_split.specs.Splits.{Row, row_of}
-use Rattle.bitvec_split_edits.specs.Left.{IsLeftOf, TakesFrom, counted_at, left_at, most_left}
-use Rattle.bitvec_split_edits.specs.declared.left.ToSplit.{ToSplit}
-use Rattle.bitvec_split_edits.specs.SplitEdits.{Editing, EditsNext, IsGivenPiece, IsSeenOf}
+use Rattle.bitvec_pieces.specs.ToSplit.{IsLeftOf, TakesFrom, counted_at, left_at, most_left}
+use Rattle.bitvec_pieces.specs.declared.left.ToSplit.{ToSplit}
+use Rattle.bitvec_pieces.specs.SplitEdits.{Editing, EditsNext, IsGivenPiece, IsSeenOf}
 
 -- a range of two lists is the same where a wider one is
 kept-within : (a b : List Bool) (from to start end : ℕ) → slice_range a from to ≡ slice_range b from to → from ≤ start → start ≤ end → end ≤ to → to ≤ length a → to ≤ length b

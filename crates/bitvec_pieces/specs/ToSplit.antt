@@ -1,10 +1,10 @@
 -- What is left of a view while its pieces are edited in place.
 use Rattle.std.specs.Prelude.{◌≡◌, ℕ, ◌+◌, ◌-◌, ◌<◌, ◌≤◌, ◌⊎◌, true, false, MatchOption, Option, if◌then◌else◌}
 use Rattle.std.specs.declared.ops.Range.{Range}
-use Rattle.bitvec_pieces.specs.slice.Seen.{Seen}
+use Rattle.bitvec_split.specs.slice.Seen.{Seen}
 use Rattle.bitvec_pieces.specs.Shown.{Shown}
 use Rattle.bitvec_split.specs.Lent.{CountedIn, LeftIn}
-use Rattle.bitvec_split_edits.specs.declared.left.ToSplit.{ToSplit}
+use Rattle.bitvec_pieces.specs.declared.left.ToSplit.{ToSplit}
 
 -- as a split has it of the view
 abbrev pub left_at : {T P : Type 0} → Seen T → ToSplit → P → LeftIn T P

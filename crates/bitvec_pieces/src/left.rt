@@ -1,6 +1,6 @@
 //! What is left of a view that is split.
 ghost use Rattle.std.specs.Prelude.{◌≡◌, ◌≤◌, ◌==◌, ◌&&◌};
-ghost use Rattle.bitvec_split_edits.specs.Left.{TakesRest};
+ghost use Rattle.bitvec_pieces.specs.ToSplit.{TakesRest};
 
 use bitvec_split::Way;
 use std::ops::Range;

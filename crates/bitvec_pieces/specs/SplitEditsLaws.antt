@@ -5,12 +5,12 @@ use Rattle.std.specs.List.{FoldsTo}
 use Rattle.std.specs.declared.ops.Range.{Range}
 use Rattle.std.proofs.Common.{arith, sym, subst, ◌∙◌, ap, ⊎_elim}
 use Rattle.std.proofs.lemmas.Bool.{cases_lt}
-use Rattle.bitvec_pieces.specs.base.Window.{write_at}
-use Rattle.bitvec_pieces.specs.base.WriteLaws.{get-slice_range, get-write_at_above, get-write_at_below, get-write_at_inside, length-slice_range, length-write_at}
-use Rattle.bitvec_pieces.specs.cutting.Cutting.{cut}
+use Rattle.bitvec_split.specs.base.Window.{write_at}
+use Rattle.bitvec_split.specs.base.WriteLaws.{get-slice_range, get-write_at_above, get-write_at_below, get-write_at_inside, length-slice_range, length-write_at}
+use Rattle.bitvec_cutting.specs.Cutting.{cut}
 use Rattle.bitvec_pieces.specs.Shown.{Shown}
 use Rattle.bitvec_pieces.specs.ShownLaws.{length-left, length-shown}
-use Rattle.bitvec_split_edits.specs.SplitEdits.{Editing, EditsInTurn, EditsNext}
+use Rattle.bitvec_pieces.specs.SplitEdits.{Editing, EditsInTurn, EditsNext}
 
 -- `now`, with each of the pieces, from this number on, made what `leaves` makes of its number and of the bits that it has in `bits`
 abbrev pub made : (ℕ → List Bool → List Bool) → List Bool → ℕ → List (Range ℕ) → List Bool → List Bool

@@ -7,11 +7,11 @@ use Rattle.std.specs.List.{FoldsTo}
 use Rattle.std.specs.declared.ops.Range.{Range}
 use Rattle.std.proofs.Common.{arith, inl, inr, sym, subst, ◌∙◌, ap, ⊎_elim}
 use Rattle.std.proofs.lemmas.Bool.{cases_lt}
-use Rattle.bitvec_pieces.specs.base.WriteLaws.{get-slice_range}
-use Rattle.bitvec_pieces.specs.slice.Seen.{Seen}
+use Rattle.bitvec_split.specs.base.WriteLaws.{get-slice_range}
+use Rattle.bitvec_split.specs.slice.Seen.{Seen}
 use Rattle.bitvec_split.specs.Asked.{Asked, Asks, upward}
 use Rattle.bitvec_split.specs.Lent.{GivesAllIn, GivesRangeIn, LeftIn, SplitNextIn, unsplit_in}
-use Rattle.bitvec_split_edits.specs.SplitEdits.{GivesInTurn}
+use Rattle.bitvec_pieces.specs.SplitEdits.{GivesInTurn}
 
 -- the index is in one of the ranges
 abbrev pub IsInOne : ℕ → List (Range ℕ) → Type 0

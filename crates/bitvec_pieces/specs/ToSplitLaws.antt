@@ -3,8 +3,8 @@ use Rattle.std.specs.Prelude.{◌≡◌, ℕ, ◌+◌, ◌-◌, ◌≤◌, Bool,
 use Rattle.std.specs.declared.ops.Range.{Range}
 use Rattle.std.proofs.Common.{arith, inl, inr, ⊎_elim}
 use Rattle.bitvec_split.specs.Splits.{LieBeside}
-use Rattle.bitvec_split_edits.specs.Left.{TakesFrom, most_left}
-use Rattle.bitvec_split_edits.specs.declared.left.ToSplit.{ToSplit}
+use Rattle.bitvec_pieces.specs.ToSplit.{TakesFrom, most_left}
+use Rattle.bitvec_pieces.specs.declared.left.ToSplit.{ToSplit}
 
 most-unfinished : (from to : ℕ) (finished : Bool) → finished ≡ false → most_left (record { from = from; to = to; finished = finished }) ≡ to - from + 1
 most-unfinished from to false is = refl

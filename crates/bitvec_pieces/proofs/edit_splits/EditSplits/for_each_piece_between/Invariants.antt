@@ -1,7 +1,7 @@
 use Rattle.bitvec_split.specs.Lent.{MayGoOnIn, SplitNextIn, unsplit_in}
-use Rattle.bitvec_split_edits.specs.Left.{left_at, most_left}
-use Rattle.bitvec_split_edits.specs.TurnsLaws.{TurnsSoFar}
-use Rattle.bitvec_split_edits.proofs.edit_splits.EditSplits.for_each_piece_between.Given as goal
+use Rattle.bitvec_pieces.specs.ToSplit.{left_at, most_left}
+use Rattle.bitvec_pieces.specs.TurnsLaws.{TurnsSoFar}
+use Rattle.bitvec_pieces.proofs.edit_splits.EditSplits.for_each_piece_between.Given as goal
 
 abbrev pub invariant-loop-range : goal.invariant-loop-range
 invariant-loop-range g l =
