@@ -3,8 +3,8 @@ ghost use Rattle.std.specs.Prelude.{◌≡◌};
 
 use bitrecord::bits::{BitSlice, BitSliceMut, Msb0, Window};
 use bitrecord::{EncodeError, Endian, Layout, LayoutError, decode, decode_one, encode, encode_one};
+use bitvec_test_support::prints;
 use std::alloc::Global;
-use std::test::Fail;
 
 /// A field.
 fn field(start: usize, len: usize) -> Window
@@ -47,16 +47,16 @@ fn coded(
 fn three_fields_from_both_ends(rt: HostRuntime) {
     let values = [5, 85, 33];
     let big = coded(rt.alloc(), Endian::Big, &three(), &values, [0, 0]);
-    assert_eq!(rt; big, Ok((Ok(()), [0xB5, 0x61], values)));
+    assert!(rt; big == Ok((Ok(()), [0xB5, 0x61], values)));
     let little = coded(rt.alloc(), Endian::Little, &three(), &values, [0, 0]);
-    assert_eq!(rt; little, Ok((Ok(()), [0xB5, 0xA1], values)));
+    assert!(rt; little == Ok((Ok(()), [0xB5, 0xA1], values)));
 }
 
 #[test]
 fn the_order_of_fields_is_free(rt: HostRuntime) {
     let fields = [field(10, 6), field(0, 3), field(3, 7)];
     let turned = coded(rt.alloc(), Endian::Big, &fields, &[33, 5, 85], [0, 0]);
-    assert_eq!(rt; turned, Ok((Ok(()), [0xB5, 0x61], [33, 5, 85])));
+    assert!(rt; turned == Ok((Ok(()), [0xB5, 0x61], [33, 5, 85])));
 }
 
 #[test]
@@ -68,12 +68,12 @@ fn bits_around_a_record_stay(rt: HostRuntime) {
             let mut view = BitSliceMut::<u8, Msb0>::from_slice_mut(&mut bytes).into_part(4..20);
             if layout.bits() == view.len() {
                 let answer = encode(&layout, Endian::Big, &[5, 85, 33], &mut view);
-                assert_eq!(rt; answer, Ok(()));
+                assert!(rt; answer == Ok(()));
             }
         }
         Err(_) => assert!(rt; false),
     }
-    assert_eq!(rt; bytes, [0xFB, 0x56, 0x1F]);
+    assert!(rt; bytes == [0xFB, 0x56, 0x1F]);
 }
 
 #[test]
@@ -86,9 +86,9 @@ fn refused_values_are_not_written(rt: HostRuntime) {
         &[5, 128, 33],
         [0xA5, 0x5A],
     );
-    assert_eq!(rt; range, Ok((Err(EncodeError::Range(1)), [0xA5, 0x5A], kept)));
+    assert!(rt; range == Ok((Err(EncodeError::Range(1)), [0xA5, 0x5A], kept)));
     let count = coded(rt.alloc(), Endian::Big, &three(), &[5, 85], [0xA5, 0x5A]);
-    assert_eq!(rt; count, Ok((Err(EncodeError::Count), [0xA5, 0x5A], kept)));
+    assert!(rt; count == Ok((Err(EncodeError::Count), [0xA5, 0x5A], kept)));
 }
 
 /// Why there is no layout of 16 bits.
@@ -102,57 +102,29 @@ fn refusal(alloc: Global, fields: &[Window]) -> Option<LayoutError> {
 #[test]
 fn fields_are_refused_in_order(rt: HostRuntime) {
     let overlap = [field(0, 3), field(2, 4), field(5, 3)];
-    assert_eq!(rt;
-        refusal(rt.alloc(), &overlap),
-        Some(LayoutError::Overlap(0, 1))
-    );
+    assert!(rt; refusal(rt.alloc(), &overlap) == Some(LayoutError::Overlap(0, 1)));
     let later = [field(8, 2), field(0, 3), field(5, 4), field(2, 4)];
-    assert_eq!(rt;
-        refusal(rt.alloc(), &later),
-        Some(LayoutError::Overlap(0, 2))
-    );
+    assert!(rt; refusal(rt.alloc(), &later) == Some(LayoutError::Overlap(0, 2)));
     let width = [field(10, 7), field(0, 0)];
-    assert_eq!(rt; refusal(rt.alloc(), &width), Some(LayoutError::Width(1)));
-    assert_eq!(rt;
-        refusal(rt.alloc(), &[field(usize::MAX, 1)]),
-        Some(LayoutError::Outside(0))
-    );
-    assert_eq!(rt; refusal(rt.alloc(), &three()), None);
+    assert!(rt; refusal(rt.alloc(), &width) == Some(LayoutError::Width(1)));
+    assert!(rt; refusal(rt.alloc(), &[field(usize::MAX, 1)]) == Some(LayoutError::Outside(0)));
+    assert!(rt; refusal(rt.alloc(), &three()) == None);
 }
 
 #[test]
-fn refusals_have_texts(rt: HostRuntime) -> Result<(), Fail> {
+fn refusals_have_texts(rt: HostRuntime) {
     let width = LayoutError::Width(1);
     let outside = LayoutError::Outside(0);
     let overlap = LayoutError::Overlap(0, 2);
     let memory = LayoutError::Memory;
-    assert_eq!(rt;
-        format!(in rt.alloc(); "{width}")?.as_str(),
-        "field 1 isn't 1 to 128 bits wide"
-    );
-    assert_eq!(rt;
-        format!(in rt.alloc(); "{outside}")?.as_str(),
-        "field 0 lies outside the record"
-    );
-    assert_eq!(rt;
-        format!(in rt.alloc(); "{overlap}")?.as_str(),
-        "fields 0 and 2 overlap"
-    );
-    assert_eq!(rt;
-        format!(in rt.alloc(); "{memory}")?.as_str(),
-        "out of memory"
-    );
+    assert!(rt; prints(rt.alloc(), &width, "field 1 isn't 1 to 128 bits wide"));
+    assert!(rt; prints(rt.alloc(), &outside, "field 0 lies outside the record"));
+    assert!(rt; prints(rt.alloc(), &overlap, "fields 0 and 2 overlap"));
+    assert!(rt; prints(rt.alloc(), &memory, "out of memory"));
     let count = EncodeError::Count;
     let range = EncodeError::Range(3);
-    assert_eq!(rt;
-        format!(in rt.alloc(); "{count}")?.as_str(),
-        "there isn't one value a field"
-    );
-    assert_eq!(rt;
-        format!(in rt.alloc(); "{range}")?.as_str(),
-        "value 3 doesn't fit its field"
-    );
-    Ok(())
+    assert!(rt; prints(rt.alloc(), &count, "there isn't one value a field"));
+    assert!(rt; prints(rt.alloc(), &range, "value 3 doesn't fit its field"));
 }
 
 #[test]
@@ -162,16 +134,16 @@ fn single_fields(rt: HostRuntime) {
         Ok(layout) => {
             if layout.bits() == 16 && layout.len() == 3 && !layout.is_empty() {
                 let view = BitSlice::<u8, Msb0>::from_slice(&bytes);
-                assert_eq!(rt; decode_one(&layout, Endian::Big, view, 1), 85);
+                assert!(rt; decode_one(&layout, Endian::Big, view, 1) == 85);
                 let mut view = BitSliceMut::<u8, Msb0>::from_slice_mut(&mut bytes);
                 let large = encode_one(&layout, Endian::Big, 2, 64, &mut view);
-                assert_eq!(rt; large, Err(EncodeError::Range(2)));
-                assert_eq!(rt; encode_one(&layout, Endian::Big, 2, 63, &mut view), Ok(()));
-                assert_eq!(rt; layout.fields().len(), 3);
-                assert_eq!(rt; layout.field(2), field(10, 6));
+                assert!(rt; large == Err(EncodeError::Range(2)));
+                assert!(rt; encode_one(&layout, Endian::Big, 2, 63, &mut view) == Ok(()));
+                assert!(rt; layout.fields().len() == 3);
+                assert!(rt; layout.field(2) == field(10, 6));
             }
         }
         Err(_) => assert!(rt; false),
     }
-    assert_eq!(rt; bytes, [0xB5, 0x7F]);
+    assert!(rt; bytes == [0xB5, 0x7F]);
 }

@@ -104,18 +104,12 @@ fn elements_of_8_bits(rt: HostRuntime) {
     for endian in [Endian::Little, Endian::Big] {
         let mut view = BitSliceMut::<u8, Lsb0>::from_slice_mut(&mut memory);
         let mut other = BitSliceMut::<u8, Lsb0>::from_slice_mut(&mut twin);
-        assert_eq!(rt;
-            all_agree(rt.alloc(), endian, &mut view, &mut other),
-            Ok(true)
-        );
-        assert_eq!(rt; memory, twin);
+        assert!(rt; all_agree(rt.alloc(), endian, &mut view, &mut other) == Ok(true));
+        assert!(rt; memory == twin);
         let mut view = BitSliceMut::<u8, Msb0>::from_slice_mut(&mut memory);
         let mut other = BitSliceMut::<u8, Msb0>::from_slice_mut(&mut twin);
-        assert_eq!(rt;
-            all_agree(rt.alloc(), endian, &mut view, &mut other),
-            Ok(true)
-        );
-        assert_eq!(rt; memory, twin);
+        assert!(rt; all_agree(rt.alloc(), endian, &mut view, &mut other) == Ok(true));
+        assert!(rt; memory == twin);
     }
 }
 
@@ -126,18 +120,12 @@ fn elements_of_16_bits(rt: HostRuntime) {
     for endian in [Endian::Little, Endian::Big] {
         let mut view = BitSliceMut::<u16, Lsb0>::from_slice_mut(&mut memory);
         let mut other = BitSliceMut::<u16, Lsb0>::from_slice_mut(&mut twin);
-        assert_eq!(rt;
-            all_agree(rt.alloc(), endian, &mut view, &mut other),
-            Ok(true)
-        );
-        assert_eq!(rt; memory, twin);
+        assert!(rt; all_agree(rt.alloc(), endian, &mut view, &mut other) == Ok(true));
+        assert!(rt; memory == twin);
         let mut view = BitSliceMut::<u16, Msb0>::from_slice_mut(&mut memory);
         let mut other = BitSliceMut::<u16, Msb0>::from_slice_mut(&mut twin);
-        assert_eq!(rt;
-            all_agree(rt.alloc(), endian, &mut view, &mut other),
-            Ok(true)
-        );
-        assert_eq!(rt; memory, twin);
+        assert!(rt; all_agree(rt.alloc(), endian, &mut view, &mut other) == Ok(true));
+        assert!(rt; memory == twin);
     }
 }
 
@@ -148,18 +136,12 @@ fn elements_of_32_bits(rt: HostRuntime) {
     for endian in [Endian::Little, Endian::Big] {
         let mut view = BitSliceMut::<u32, Lsb0>::from_slice_mut(&mut memory);
         let mut other = BitSliceMut::<u32, Lsb0>::from_slice_mut(&mut twin);
-        assert_eq!(rt;
-            all_agree(rt.alloc(), endian, &mut view, &mut other),
-            Ok(true)
-        );
-        assert_eq!(rt; memory, twin);
+        assert!(rt; all_agree(rt.alloc(), endian, &mut view, &mut other) == Ok(true));
+        assert!(rt; memory == twin);
         let mut view = BitSliceMut::<u32, Msb0>::from_slice_mut(&mut memory);
         let mut other = BitSliceMut::<u32, Msb0>::from_slice_mut(&mut twin);
-        assert_eq!(rt;
-            all_agree(rt.alloc(), endian, &mut view, &mut other),
-            Ok(true)
-        );
-        assert_eq!(rt; memory, twin);
+        assert!(rt; all_agree(rt.alloc(), endian, &mut view, &mut other) == Ok(true));
+        assert!(rt; memory == twin);
     }
 }
 
@@ -170,18 +152,12 @@ fn elements_of_64_bits(rt: HostRuntime) {
     for endian in [Endian::Little, Endian::Big] {
         let mut view = BitSliceMut::<u64, Lsb0>::from_slice_mut(&mut memory);
         let mut other = BitSliceMut::<u64, Lsb0>::from_slice_mut(&mut twin);
-        assert_eq!(rt;
-            all_agree(rt.alloc(), endian, &mut view, &mut other),
-            Ok(true)
-        );
-        assert_eq!(rt; memory, twin);
+        assert!(rt; all_agree(rt.alloc(), endian, &mut view, &mut other) == Ok(true));
+        assert!(rt; memory == twin);
         let mut view = BitSliceMut::<u64, Msb0>::from_slice_mut(&mut memory);
         let mut other = BitSliceMut::<u64, Msb0>::from_slice_mut(&mut twin);
-        assert_eq!(rt;
-            all_agree(rt.alloc(), endian, &mut view, &mut other),
-            Ok(true)
-        );
-        assert_eq!(rt; memory, twin);
+        assert!(rt; all_agree(rt.alloc(), endian, &mut view, &mut other) == Ok(true));
+        assert!(rt; memory == twin);
     }
 }
 
@@ -192,18 +168,12 @@ fn elements_of_128_bits(rt: HostRuntime) {
     for endian in [Endian::Little, Endian::Big] {
         let mut view = BitSliceMut::<u128, Lsb0>::from_slice_mut(&mut memory);
         let mut other = BitSliceMut::<u128, Lsb0>::from_slice_mut(&mut twin);
-        assert_eq!(rt;
-            all_agree(rt.alloc(), endian, &mut view, &mut other),
-            Ok(true)
-        );
-        assert_eq!(rt; memory, twin);
+        assert!(rt; all_agree(rt.alloc(), endian, &mut view, &mut other) == Ok(true));
+        assert!(rt; memory == twin);
         let mut view = BitSliceMut::<u128, Msb0>::from_slice_mut(&mut memory);
         let mut other = BitSliceMut::<u128, Msb0>::from_slice_mut(&mut twin);
-        assert_eq!(rt;
-            all_agree(rt.alloc(), endian, &mut view, &mut other),
-            Ok(true)
-        );
-        assert_eq!(rt; memory, twin);
+        assert!(rt; all_agree(rt.alloc(), endian, &mut view, &mut other) == Ok(true));
+        assert!(rt; memory == twin);
     }
 }
 
@@ -219,10 +189,10 @@ fn records_below_a_word(rt: HostRuntime) {
         Ok(layout) => {
             let mut view = BitSliceMut::<u8, Msb0>::from_slice_mut(&mut bytes).into_part(5..20);
             if layout.bits() == view.len() {
-                assert_eq!(rt; encode(&layout, Endian::Big, &[2, 0, 1], &mut view), Ok(()));
+                assert!(rt; encode(&layout, Endian::Big, &[2, 0, 1], &mut view) == Ok(()));
             }
         }
         Err(_) => assert!(rt; false),
     }
-    assert_eq!(rt; bytes, [0xFD, 0x00, 0x3F]);
+    assert!(rt; bytes == [0xFD, 0x00, 0x3F]);
 }

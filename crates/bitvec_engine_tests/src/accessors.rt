@@ -99,33 +99,33 @@ fn copy_first_in_halves<T: BitStore>(cells: &mut [T], mid: usize)
 fn a_store_reaches_the_slice(rt: HostRuntime) {
     let mut bytes = [1, 2, 3];
     set_first(&mut bytes);
-    assert_eq!(rt; bytes, [7, 2, 3]);
+    assert!(rt; bytes == [7, 2, 3]);
     let mut words = [1u64, 2];
     set_first_to(&mut words, u64::MAX);
-    assert_eq!(rt; words, [u64::MAX, 2]);
-    assert_eq!(rt; first(&words), u64::MAX);
+    assert!(rt; words == [u64::MAX, 2]);
+    assert!(rt; first(&words) == u64::MAX);
 }
 
 #[test]
 fn generic_code_reaches_the_slices(rt: HostRuntime) {
     let mut cells = [1u16, 2, 3];
     copy_first_in(&mut cells, 2);
-    assert_eq!(rt; cells, [1, 2, 1]);
+    assert!(rt; cells == [1, 2, 1]);
     copy_from(&mut cells, &[4, 5, 6], 1);
-    assert_eq!(rt; cells, [1, 5, 1]);
+    assert!(rt; cells == [1, 5, 1]);
     copy_first_in_halves(&mut cells, 1);
-    assert_eq!(rt; cells, [1, 1, 1]);
+    assert!(rt; cells == [1, 1, 1]);
     let mut bytes = [8, 9];
     copy_first_in_bytes(&mut bytes, 1);
-    assert_eq!(rt; bytes, [8, 8]);
+    assert!(rt; bytes == [8, 8]);
 }
 
 #[test]
 fn an_accessor_tells_its_length(rt: HostRuntime) {
     let mut cells = [1u32, 2, 3];
-    assert_eq!(rt; Shared::new(&cells).len(), 3);
-    assert_eq!(rt; Exclusive::new(&mut cells).len(), 3);
-    assert_eq!(rt; Counted::new(Shared::new(&cells)).len(), 3);
+    assert!(rt; Shared::new(&cells).len() == 3);
+    assert!(rt; Exclusive::new(&mut cells).len() == 3);
+    assert!(rt; Counted::new(Shared::new(&cells)).len() == 3);
 }
 
 #[test]
@@ -134,9 +134,9 @@ fn a_counted_accessor_tallies_each_call(rt: HostRuntime) {
     let mut accessor = Counted::new(Exclusive::new(&mut cells));
     copy_first(&mut accessor, 2);
     accessor.store(1, 9);
-    assert_eq!(rt; (accessor.loads(), accessor.stores()), (1, 2));
-    assert_eq!(rt; cells, [1, 9, 1]);
+    assert!(rt; (accessor.loads(), accessor.stores()) == (1, 2));
+    assert!(rt; cells == [1, 9, 1]);
     let mut reader = Counted::new(Shared::new(&cells));
-    assert_eq!(rt; reader.load(1), 9);
-    assert_eq!(rt; (reader.loads(), reader.stores()), (1, 0));
+    assert!(rt; reader.load(1) == 9);
+    assert!(rt; (reader.loads(), reader.stores()) == (1, 0));
 }

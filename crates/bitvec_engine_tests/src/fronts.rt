@@ -39,20 +39,18 @@ fn front_agrees<T: BitStore, O: SliceOrder, R: Abort>(rt: &R, elements: &[T], wi
     let lowest = O::lowest_first(word);
     for index in 0..64 {
         let bit = index < count && plain(window.start + index);
-        assert_eq!(rt;
-            word & O::select::<u64>(index) != 0,
-            bit,
+        assert!(rt;
+            (word & O::select::<u64>(index) != 0) == bit,
             "{window:?} {index}"
         );
-        assert_eq!(rt;
-            lowest & Lsb0::select::<u64>(index) != 0,
-            bit,
+        assert!(rt;
+            (lowest & Lsb0::select::<u64>(index) != 0) == bit,
             "{window:?} {index}"
         );
     }
     let start = window.start;
     let loads = touched::<T>(Window { start, len: count });
-    assert_eq!(rt; cells.loads(), loads, "{window:?}");
+    assert!(rt; cells.loads() == loads, "{window:?}");
 }
 
 /// Windows at the edges of elements and inside, of few bits up to more than a word.

@@ -36,5 +36,5 @@ fn store_first_word(cells: &mut [u32], word: u32)
 fn other_elements_are_kept(rt: HostRuntime) {
     let mut words = [1, 2, 3];
     store_first_word(&mut words, 9);
-    assert_eq!(rt; words, [9, 2, 3]);
+    assert!(rt; words == [9, 2, 3]);
 }

@@ -67,19 +67,18 @@ fn finds_each_place<T: BitStore, O: SliceOrder, R: Abort>(
     requires len { window.len < 2 ^ 16 }
 {
     flip_neighbours::<T, O>(elements, window);
-    assert_eq!(rt;
-        first_one::<T, O, R>(rt, elements, window),
-        None,
+    assert!(rt;
+        first_one::<T, O, R>(rt, elements, window) == None,
         "{window:?}"
     );
     for index in 0..window.len {
         flip::<T, O>(elements, window.start + index);
         let alone = first_one::<T, O, R>(rt, elements, window);
-        assert_eq!(rt; alone, Some(index), "{window:?}");
+        assert!(rt; alone == Some(index), "{window:?}");
         flip::<T, O>(elements, window.start + window.len - 1);
         let before_another = first_one::<T, O, R>(rt, elements, window);
         let both = (index + 1 < window.len).then_some(index);
-        assert_eq!(rt; before_another, both, "{window:?}");
+        assert!(rt; before_another == both, "{window:?}");
         flip::<T, O>(elements, window.start + window.len - 1);
         flip::<T, O>(elements, window.start + index);
     }

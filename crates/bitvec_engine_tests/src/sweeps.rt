@@ -9,8 +9,8 @@ use bitvec_engine::cells::{Exclusive, Shared, has_window};
 use bitvec_engine::store::BitStore;
 use bitvec_engine::{BitOp, SliceOrder};
 use bitvec_test_support::mixed_elements;
+use std::alloc::AllocError;
 use std::process::Abort;
-use std::test::Fail;
 
 const LEFT: u64 = 0x9E37_79B9_7F4A_7C15;
 
@@ -44,14 +44,21 @@ fn same_numbers<T: BitStore>(left: &[T], right: &[T]) -> bool {
             .all(|(element, other)| element.to_u128() == other.to_u128())
 }
 
-/// A command by the order and bit by bit, on the same elements.
-fn agrees<T: BitStore, O: SliceOrder, R: Abort + AllocGlobal>(
+/// Both memories after a command.
+#[derive(Drop)]
+struct Both<T> {
+    left: Vec<T>,
+    right: Vec<T>,
+}
+
+/// Both memories after a command by an order.
+fn carried<T: BitStore, O: SliceOrder, R: Abort + AllocGlobal>(
     rt: &R,
     command: Command,
     sides: Sides<T>,
     to: Window,
     from: Window,
-) -> Result<(), Fail> {
+) -> Result<Both<T>, AllocError> {
     let mut left = Vec::from_slice(rt.alloc(), sides.left)?;
     let mut right = Vec::from_slice(rt.alloc(), sides.right)?;
     carry_out::<O, _, _, R>(
@@ -62,25 +69,25 @@ fn agrees<T: BitStore, O: SliceOrder, R: Abort + AllocGlobal>(
         &mut Exclusive::new(&mut right),
         from,
     );
-    let mut plain_left = Vec::from_slice(rt.alloc(), sides.left)?;
-    let mut plain_right = Vec::from_slice(rt.alloc(), sides.right)?;
-    carry_out::<BitByBit<O>, _, _, R>(
-        rt,
-        command,
-        &mut Exclusive::new(&mut plain_left),
-        to,
-        &mut Exclusive::new(&mut plain_right),
-        from,
-    );
-    assert!(rt;
-        same_numbers(&left, &plain_left),
-        "{command:?} {to:?} {from:?}"
-    );
-    assert!(rt;
-        same_numbers(&right, &plain_right),
-        "{command:?} {to:?} {from:?}"
-    );
-    Ok(())
+    Ok(Both { left, right })
+}
+
+/// Whether a command by the order and bit by bit does the same to the same elements.
+fn agrees<T: BitStore, O: SliceOrder, R: Abort + AllocGlobal>(
+    rt: &R,
+    command: Command,
+    sides: Sides<T>,
+    to: Window,
+    from: Window,
+) -> bool {
+    let both = carried::<T, O, R>(rt, command, sides, to, from);
+    let plain = carried::<T, BitByBit<O>, R>(rt, command, sides, to, from);
+    match (both, plain) {
+        (Ok(both), Ok(plain)) => {
+            same_numbers(&both.left, &plain.left) && same_numbers(&both.right, &plain.right)
+        }
+        _ => false,
+    }
 }
 
 /// Whether the order says that the windows' bits are the same.
@@ -105,47 +112,48 @@ fn flip<T: BitStore, O: BitOrder>(elements: &mut [T], place: usize) {
     }
 }
 
-/// Equality of a window with its copy, in which then one bit after the other differs, and one on
-/// either side of it.
+/// Whether equality tells a window from its copy just where one bit of it differs: one bit after the other
+/// does, and one on either side of it.
+fn equality_tells<T: BitStore, O: SliceOrder, R: Abort>(
+    rt: &R,
+    both: &mut Both<T>,
+    to: Window,
+    from: Window,
+) -> bool
+    requires start { to.start < 2 ^ 32 }
+    requires len { to.len < 2 ^ 32 }
+{
+    let end = to.start + to.len;
+    let mut tells = true;
+    for place in to.start.saturating_sub(1)..end + 1 {
+        let same = are_equal::<T, O, R>(rt, &both.left, to, &both.right, from);
+        flip::<T, O>(&mut both.left, place);
+        let outside = place < to.start || place >= end;
+        let equal = are_equal::<T, O, R>(rt, &both.left, to, &both.right, from);
+        tells &= same && equal == outside;
+        flip::<T, O>(&mut both.left, place);
+    }
+    tells
+}
+
+/// The same of a copy that is made bit by bit.
 fn equality_agrees<T: BitStore, O: SliceOrder, R: Abort + AllocGlobal>(
     rt: &R,
     sides: Sides<T>,
     to: Window,
     from: Window,
-) -> Result<(), Fail>
+) -> bool
     requires start { to.start < 2 ^ 32 }
     requires len { to.len < 2 ^ 32 }
 {
-    let mut left = Vec::from_slice(rt.alloc(), sides.left)?;
-    let mut right = Vec::from_slice(rt.alloc(), sides.right)?;
-    carry_out::<BitByBit<O>, _, _, R>(
-        rt,
-        Command::Copy,
-        &mut Exclusive::new(&mut left),
-        to,
-        &mut Exclusive::new(&mut right),
-        from,
-    );
-    let end = to.start + to.len;
-    for place in to.start.saturating_sub(1)..end + 1 {
-        assert!(rt;
-            are_equal::<T, O, R>(rt, &left, to, &right, from),
-            "{to:?} {from:?}"
-        );
-        flip::<T, O>(&mut left, place);
-        let outside = place < to.start || place >= end;
-        let equal = are_equal::<T, O, R>(rt, &left, to, &right, from);
-        assert_eq!(rt; equal, outside, "{place} {to:?} {from:?}");
-        flip::<T, O>(&mut left, place);
+    match carried::<T, BitByBit<O>, R>(rt, Command::Copy, sides, to, from) {
+        Ok(mut both) => equality_tells::<T, O, R>(rt, &mut both, to, from),
+        Err(_) => false,
     }
-    Ok(())
 }
 
 /// Every command and equality, in windows of few bits up to 1,000.
-fn sweep<T: BitStore, O: SliceOrder, R: Abort + AllocGlobal>(
-    rt: &R,
-    sides: Sides<T>,
-) -> Result<(), Fail> {
+fn sweep<T: BitStore, O: SliceOrder, R: Abort + AllocGlobal>(rt: &R, sides: Sides<T>) {
     let width = T::BITS as usize;
     for len in [0, 1, width - 1, width, width + 1, 63, 64, 65, 130, 1000] {
         for start in [0, 1, width - 1] {
@@ -156,58 +164,68 @@ fn sweep<T: BitStore, O: SliceOrder, R: Abort + AllocGlobal>(
                     len,
                 };
                 for command in TWO_SIDED {
-                    agrees::<T, O, R>(rt, command, sides, to, from)?;
+                    assert!(rt;
+                        agrees::<T, O, R>(rt, command, sides, to, from),
+                        "{command:?} {to:?} {from:?}"
+                    );
                 }
-                equality_agrees::<T, O, R>(rt, sides, to, from)?;
+                assert!(rt;
+                    equality_agrees::<T, O, R>(rt, sides, to, from),
+                    "{to:?} {from:?}"
+                );
             }
         }
     }
-    Ok(())
 }
 
 /// Overlapping copies by every distance up to 70 places, both ways.
-fn sweep_within<T: BitStore, O: SliceOrder, R: Abort + AllocGlobal>(
-    rt: &R,
-    sides: Sides<T>,
-) -> Result<(), Fail> {
+fn sweep_within<T: BitStore, O: SliceOrder, R: Abort + AllocGlobal>(rt: &R, sides: Sides<T>) {
     for start in [0, 1, T::BITS as usize - 1] {
         let window = Window { start, len: 150 };
         for by in 0..71 {
-            agrees::<T, O, R>(rt, Command::TowardStart(by), sides, window, window)?;
-            agrees::<T, O, R>(rt, Command::TowardEnd(by), sides, window, window)?;
+            for command in [Command::TowardStart(by), Command::TowardEnd(by)] {
+                assert!(rt;
+                    agrees::<T, O, R>(rt, command, sides, window, window),
+                    "{command:?} {window:?}"
+                );
+            }
         }
     }
-    Ok(())
 }
 
 /// Both sweeps on elements with no pattern.
-fn sweep_all<T: BitStore, O: SliceOrder, R: Abort + AllocGlobal>(rt: &R) -> Result<(), Fail> {
-    let left = mixed_elements::<T, _>(rt.alloc(), LEFT, COUNT)?;
-    let right = mixed_elements::<T, _>(rt.alloc(), RIGHT, COUNT)?;
-    let sides = Sides {
-        left: &left,
-        right: &right,
-    };
-    sweep::<T, O, R>(rt, sides)?;
-    sweep_within::<T, O, R>(rt, sides)
+fn sweep_all<T: BitStore, O: SliceOrder, R: Abort + AllocGlobal>(rt: &R) {
+    let left = mixed_elements::<T, _>(rt.alloc(), LEFT, COUNT);
+    let right = mixed_elements::<T, _>(rt.alloc(), RIGHT, COUNT);
+    match (left, right) {
+        (Ok(left), Ok(right)) => {
+            let sides = Sides {
+                left: &left,
+                right: &right,
+            };
+            sweep::<T, O, R>(rt, sides);
+            sweep_within::<T, O, R>(rt, sides);
+        }
+        _ => assert!(rt; false),
+    }
 }
 
 /// The same at each width.
-fn sweep_each_width<O: SliceOrder, R: Abort + AllocGlobal>(rt: &R) -> Result<(), Fail> {
-    sweep_all::<u8, O, R>(rt)?;
-    sweep_all::<u16, O, R>(rt)?;
-    sweep_all::<u32, O, R>(rt)?;
-    sweep_all::<u64, O, R>(rt)?;
-    sweep_all::<u128, O, R>(rt)?;
-    sweep_all::<usize, O, R>(rt)
+fn sweep_each_width<O: SliceOrder, R: Abort + AllocGlobal>(rt: &R) {
+    sweep_all::<u8, O, R>(rt);
+    sweep_all::<u16, O, R>(rt);
+    sweep_all::<u32, O, R>(rt);
+    sweep_all::<u64, O, R>(rt);
+    sweep_all::<u128, O, R>(rt);
+    sweep_all::<usize, O, R>(rt);
 }
 
 #[test]
-fn words_agree_with_bits_from_the_low_end(rt: HostRuntime) -> Result<(), Fail> {
-    sweep_each_width::<Lsb0, _>(&rt)
+fn words_agree_with_bits_from_the_low_end(rt: HostRuntime) {
+    sweep_each_width::<Lsb0, _>(&rt);
 }
 
 #[test]
-fn words_agree_with_bits_from_the_high_end(rt: HostRuntime) -> Result<(), Fail> {
-    sweep_each_width::<Msb0, _>(&rt)
+fn words_agree_with_bits_from_the_high_end(rt: HostRuntime) {
+    sweep_each_width::<Msb0, _>(&rt);
 }

@@ -7,6 +7,7 @@ use crate::{
 };
 use bitvec_query::base::Msb0;
 use bitvec_query::slice::{BitSlice, BitSliceMut};
+use std::alloc::AllocError;
 use std::test::Fail;
 
 #[test]
@@ -47,32 +48,58 @@ fn a_loop_over_a_view(rt: HostRuntime) {
     assert!(rt; ones == 4);
 }
 
-#[test]
-fn bits_collected(rt: HostRuntime) -> Result<(), Fail> {
-    let cells = [0x17u8];
-    let view = BitSlice::<u8, Msb0>::from_slice(&cells);
-    assert!(rt; !parity(view));
-    assert!(rt;
-        as_bools(rt.alloc(), view)?.as_slice()
-            == [false, false, false, true, false, true, true, true].as_slice()
-    );
-    assert!(rt; backwards(rt.alloc(), view)?.first() == Some(&true));
-    assert!(rt;
-        first_bits(rt.alloc(), view, 4)?.as_slice() == [false, false, false, true].as_slice()
-    );
-    Ok(())
+/// The bits of the byte, the highest first.
+const BITS: [bool; 8] = [false, false, false, true, false, true, true, true];
+
+/// Whether a list was made, and has these bits.
+fn holds(list: Result<Vec<bool>, AllocError>, wanted: &[bool]) -> bool {
+    match list {
+        Ok(list) => list.as_slice() == wanted,
+        Err(_) => false,
+    }
+}
+
+/// Whether a list was made, and has these numbers.
+fn holds_numbers(list: Result<Vec<usize>, AllocError>, wanted: &[usize]) -> bool {
+    match list {
+        Ok(list) => list.as_slice() == wanted,
+        Err(_) => false,
+    }
 }
 
 #[test]
-fn pieces_collected(rt: HostRuntime) -> Result<(), Fail> {
+fn bits_collected(rt: HostRuntime) {
     let cells = [0x17u8];
     let view = BitSlice::<u8, Msb0>::from_slice(&cells);
-    assert!(rt; numbered(rt.alloc(), view)?.first() == Some(&(0, false)));
-    assert!(rt; ones_of_chunks(rt.alloc(), view, 3)?.as_slice() == [0, 2, 2].as_slice());
+    assert!(rt; !parity(view));
+    assert!(rt; holds(as_bools(rt.alloc(), view), &BITS));
+    let reversed = [true, true, true, false, true, false, false, false];
+    assert!(rt; holds(backwards(rt.alloc(), view), &reversed));
+    assert!(rt;
+        holds(
+            first_bits(rt.alloc(), view, 4),
+            &[false, false, false, true]
+        )
+    );
+}
+
+/// The first of a list, if it was made.
+fn first_of(list: Result<Vec<(usize, bool)>, AllocError>) -> Option<(usize, bool)> {
+    match list {
+        Ok(list) => list.first().copied(),
+        Err(_) => None,
+    }
+}
+
+#[test]
+fn pieces_collected(rt: HostRuntime) {
+    let cells = [0x17u8];
+    let view = BitSlice::<u8, Msb0>::from_slice(&cells);
+    assert!(rt; first_of(numbered(rt.alloc(), view)) == Some((0, false)));
+    assert!(rt; holds_numbers(ones_of_chunks(rt.alloc(), view, 3), &[0, 2, 2]));
     assert!(rt; mixed_pairs(view) == 3);
     assert!(rt; (bit_behind(view, 3), bit_behind(view, usize::MAX)) == (Some(true), None));
     assert!(rt; (bit_before(view, 3), bit_before(view, usize::MAX)) == (Some(false), None));
-    Ok(())
 }
 
 #[test]
@@ -89,14 +116,10 @@ fn bits_added_up(rt: HostRuntime) {
 }
 
 #[test]
-fn chunks_joined(rt: HostRuntime) -> Result<(), Fail> {
+fn chunks_joined(rt: HostRuntime) {
     let cells = [0x17u8];
     let view = BitSlice::<u8, Msb0>::from_slice(&cells);
-    assert!(rt;
-        joined(rt.alloc(), view, 3)?.as_slice()
-            == [false, false, false, true, false, true, true, true].as_slice()
-    );
-    Ok(())
+    assert!(rt; holds(joined(rt.alloc(), view, 3), &BITS));
 }
 
 #[test]

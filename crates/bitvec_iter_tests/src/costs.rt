@@ -4,7 +4,6 @@ use bitvec_field::cells::{Exclusive, Shared};
 use bitvec_run_halves::commands::{FieldOp, FieldStep, RunError, run_fields};
 use bitvec_test_support::Counted;
 use std::alloc::Allocator;
-use std::test::Fail;
 
 /// The loads and stores of a step on the first 24 bits of some bytes.
 fn tallies<A: Allocator>(
@@ -22,25 +21,31 @@ fn tallies<A: Allocator>(
     Ok((cells.loads(), cells.stores()))
 }
 
-#[test]
-fn a_number_takes_its_elements_once(rt: HostRuntime) -> Result<(), Fail> {
-    let mut bytes = [0x03u8, 0xC0, 0xFF];
-    let (loads, stores) = tallies(rt.alloc(), &mut bytes, 2, 14, FieldOp::StoreLe(0xABC))?;
-    assert!(rt; loads <= 2 && stores <= 2);
-    assert!(rt; bytes == [0xF3, 0xEA, 0xFF]);
-    let (loads, stores) = tallies(rt.alloc(), &mut bytes, 2, 14, FieldOp::LoadBe)?;
-    assert!(rt; loads <= 2 && stores == 0);
-    let (loads, stores) = tallies(rt.alloc(), &mut bytes, 4, 20, FieldOp::StoreBe(0))?;
-    assert!(rt; loads <= 2 && stores <= 3);
-    assert!(rt; bytes == [0x03, 0x00, 0xF0]);
-    Ok(())
+/// Whether a step was made, and took no more loads and stores than these.
+fn is_within(taken: Result<(u64, u64), RunError>, loads: u64, stores: u64) -> bool {
+    match taken {
+        Ok((some_loads, some_stores)) => some_loads <= loads && some_stores <= stores,
+        Err(_) => false,
+    }
 }
 
 #[test]
-fn a_number_of_no_bits_takes_nothing(rt: HostRuntime) -> Result<(), Fail> {
+fn a_number_takes_its_elements_once(rt: HostRuntime) {
     let mut bytes = [0x03u8, 0xC0, 0xFF];
-    let taken = tallies(rt.alloc(), &mut bytes, 3, 3, FieldOp::StoreLe(1))?;
-    assert!(rt; taken == (0, 0));
+    let taken = tallies(rt.alloc(), &mut bytes, 2, 14, FieldOp::StoreLe(0xABC));
+    assert!(rt; is_within(taken, 2, 2));
+    assert!(rt; bytes == [0xF3, 0xEA, 0xFF]);
+    let taken = tallies(rt.alloc(), &mut bytes, 2, 14, FieldOp::LoadBe);
+    assert!(rt; is_within(taken, 2, 0));
+    let taken = tallies(rt.alloc(), &mut bytes, 4, 20, FieldOp::StoreBe(0));
+    assert!(rt; is_within(taken, 2, 3));
+    assert!(rt; bytes == [0x03, 0x00, 0xF0]);
+}
+
+#[test]
+fn a_number_of_no_bits_takes_nothing(rt: HostRuntime) {
+    let mut bytes = [0x03u8, 0xC0, 0xFF];
+    let taken = tallies(rt.alloc(), &mut bytes, 3, 3, FieldOp::StoreLe(1));
+    assert!(rt; is_within(taken, 0, 0));
     assert!(rt; bytes == [0x03, 0xC0, 0xFF]);
-    Ok(())
 }

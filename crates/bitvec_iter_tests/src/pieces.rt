@@ -33,7 +33,7 @@ fn whole_chunks_from_the_end(rt: HostRuntime) {
     let cells = [0x17u8];
     let view = BitSlice::<u8, Msb0>::from_slice(&cells);
     let mut chunks = view.rchunks_exact(3);
-    assert_eq!(rt; read(chunks.nth_back(1)), Some((3, 7)));
+    assert!(rt; read(chunks.nth_back(1)) == Some((3, 7)));
     assert!(rt; read(chunks.next()) == None);
     assert!(rt; read(chunks.next_back()) == None);
     assert!(rt; read(Some(chunks.remainder())) == Some((2, 0)));
@@ -58,7 +58,7 @@ fn chunks_from_the_end(rt: HostRuntime) {
     let mut cells = [0x17u8];
     let view = BitSliceMut::<u8, Msb0>::from_slice_mut(&mut cells);
     let mut chunks = view.rchunks(3);
-    assert_eq!(rt; read(chunks.next()), Some((3, 7)));
+    assert!(rt; read(chunks.next()) == Some((3, 7)));
     assert!(rt; read(chunks.next()) == Some((3, 2)));
     assert!(rt; read(chunks.next()) == Some((2, 0)));
     assert!(rt; read(chunks.next()) == None);
@@ -69,17 +69,16 @@ fn whole_chunks(rt: HostRuntime) {
     let mut cells = [0x17u8];
     let view = BitSliceMut::<u8, Msb0>::from_slice_mut(&mut cells);
     let mut front = view.chunks_exact(3);
-    assert_eq!(rt; (read(front.next_back()), front.len()), (Some((3, 5)), 1));
+    assert!(rt; (read(front.next_back()), front.len()) == (Some((3, 5)), 1));
     assert!(rt; read(Some(front.remainder())) == Some((2, 3)));
     let mut back = view.rchunks_exact(3);
     assert!(rt; (read(back.next()), read(back.next())) == (Some((3, 7)), Some((3, 2))));
 }
 
 #[test]
-fn windows_of_five_bits(rt: HostRuntime) -> Result<(), Fail> {
+fn windows_of_five_bits(rt: HostRuntime) {
     let cells = [0x17u8];
-    let all = BitSlice::<u8, Msb0>::from_slice(&cells);
-    let view = all.get(0..5).ok_or("no such bits")?;
+    let view = BitSlice::<u8, Msb0>::from_slice(&cells).into_part(0..5);
     let mut forward = view.windows(3);
     assert!(rt; (read(forward.next()), read(forward.next())) == (Some((3, 0)), Some((3, 1))));
     assert!(rt; (read(forward.next()), read(forward.next())) == (Some((3, 2)), None));
@@ -87,5 +86,4 @@ fn windows_of_five_bits(rt: HostRuntime) -> Result<(), Fail> {
     assert!(rt; read(windows.nth_back(1)) == Some((3, 1)));
     assert!(rt; (read(windows.next()), read(windows.next())) == (Some((3, 0)), None));
     assert!(rt; view.windows(6).len() == 0);
-    Ok(())
 }

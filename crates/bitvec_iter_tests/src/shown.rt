@@ -5,7 +5,6 @@ use bitvec_query::base::Lsb0;
 use bitvec_query::slice::{BitSlice, BitSliceMut};
 use bitvec_test_support::shows;
 use std::alloc::Global;
-use std::test::Fail;
 
 #[test]
 fn walks_print_their_pieces(rt: HostRuntime) {
@@ -21,41 +20,43 @@ fn walks_print_their_pieces(rt: HostRuntime) {
     assert!(rt; shows(rt.alloc(), &none, "Pieces([])"));
 }
 
-/// The text of the chunks of two bits from the end, but for `skipped` of them.
-fn text_of_chunks(alloc: Global, bytes: &mut [u8; 1], skipped: usize) -> Result<String, Fail> {
+/// Whether the chunks of two bits from the end show so, but for `skipped` of them.
+fn chunks_show(alloc: Global, bytes: &mut [u8; 1], skipped: usize, text: &str) -> bool {
     let mut view = BitSliceMut::<u8, Lsb0>::from_slice_mut(bytes).into_part(0..5);
     let mut chunks = view.rchunks_mut(2);
     chunks.pass(skipped);
-    Ok(format!(in alloc; "{chunks:?}")?)
+    shows(alloc, &chunks, text)
 }
 
-/// The text of the bits, but for `skipped` of them.
-fn text_of_bits(alloc: Global, bytes: &mut [u8; 1], skipped: usize) -> Result<String, Fail> {
+/// Whether the bits show so, but for `skipped` of them.
+fn bits_show(alloc: Global, bytes: &mut [u8; 1], skipped: usize, text: &str) -> bool {
     let mut view = BitSliceMut::<u8, Lsb0>::from_slice_mut(bytes).into_part(0..5);
     let mut bits = view.iter_mut();
     bits.pass(skipped);
-    Ok(format!(in alloc; "{bits:?}")?)
+    shows(alloc, &bits, text)
 }
 
-/// The text of both halves.
-fn text_of_halves(alloc: Global, bytes: &mut [u8; 1], mid: usize) -> Result<String, Fail> {
+/// Whether both halves show so.
+fn halves_show(alloc: Global, bytes: &mut [u8; 1], mid: usize, text: &str) -> bool {
     let mut view = BitSliceMut::<u8, Lsb0>::from_slice_mut(bytes).into_part(0..5);
     let mid = mid.min(view.len());
     let halves = view.split_at_mut(mid);
-    Ok(format!(in alloc; "{halves:?}")?)
+    shows(alloc, &halves, text)
 }
 
 #[test]
-fn lenders_print_what_is_left(rt: HostRuntime) -> Result<(), Fail> {
+fn lenders_print_what_is_left(rt: HostRuntime) {
     let mut bytes = [0b1_0110u8];
     assert!(rt;
-        text_of_chunks(rt.alloc(), &mut bytes, 0)?.as_str() == "PiecesMut([[0, 1], [1, 1], [0]])"
+        chunks_show(
+            rt.alloc(),
+            &mut bytes,
+            0,
+            "PiecesMut([[0, 1], [1, 1], [0]])"
+        )
     );
-    assert!(rt; text_of_chunks(rt.alloc(), &mut bytes, 2)?.as_str() == "PiecesMut([[0]])");
-    assert!(rt; text_of_bits(rt.alloc(), &mut bytes, 1)?.as_str() == "IterMut([1, 1, 0, 1])");
-    assert!(rt; text_of_bits(rt.alloc(), &mut bytes, 9)?.as_str() == "IterMut([])");
-    assert!(rt;
-        text_of_halves(rt.alloc(), &mut bytes, 2)?.as_str() == "HalvesMut([0, 1], [1, 0, 1])"
-    );
-    Ok(())
+    assert!(rt; chunks_show(rt.alloc(), &mut bytes, 2, "PiecesMut([[0]])"));
+    assert!(rt; bits_show(rt.alloc(), &mut bytes, 1, "IterMut([1, 1, 0, 1])"));
+    assert!(rt; bits_show(rt.alloc(), &mut bytes, 9, "IterMut([])"));
+    assert!(rt; halves_show(rt.alloc(), &mut bytes, 2, "HalvesMut([0, 1], [1, 0, 1])"));
 }

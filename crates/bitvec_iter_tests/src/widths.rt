@@ -64,7 +64,7 @@ fn no_piece_comes_at_ten_calls_behind_the_end(rt: HostRuntime) {
 fn the_greatest_width(rt: HostRuntime) {
     let cells = [0x17u8];
     let view = BitSlice::<u8, Msb0>::from_slice(&cells);
-    assert_eq!(rt; read(view.chunks(usize::MAX).next_back()), Some((8, 0x17)));
+    assert!(rt; read(view.chunks(usize::MAX).next_back()) == Some((8, 0x17)));
     assert!(rt; read(view.rchunks(usize::MAX).next()) == Some((8, 0x17)));
     assert!(rt; view.windows(usize::MAX).len() == 0);
     let whole = view.chunks_exact(usize::MAX);

@@ -132,7 +132,7 @@ fn a_copy_takes_few_wide_elements(rt: HostRuntime) -> Result<(), Fail> {
     let _replies = run::<Lsb0, _, _, _>(rt.alloc(), &mut cells, window, &mut right, &steps)?;
     assert!(rt; cells.loads() <= 4 && cells.stores() <= 4);
     assert!(rt; right.loads() <= 4);
-    assert_eq!(rt; wide, [u128::MAX << 64, u128::MAX >> 64]);
+    assert!(rt; wide == [u128::MAX << 64, u128::MAX >> 64]);
     Ok(())
 }
 
@@ -169,19 +169,19 @@ fn after_an_error_the_tallies_are_as_before(rt: HostRuntime) -> Result<(), Fail>
     let mut cells = Counted::new(Exclusive::new(&mut bytes));
     let mut right = Counted::new(Shared::new(&RIGHT_BYTES));
     let first = count_replies(rt.alloc(), &mut cells, WINDOW, &mut right, &steps);
-    assert_eq!(rt; first, Ok(1));
+    assert!(rt; first == Ok(1));
     let before = tallies_of(&cells, &right);
     let outside = Window {
         start: 1,
         len: 4096,
     };
     let no_window = count_replies(rt.alloc(), &mut cells, outside, &mut right, &steps);
-    assert_eq!(rt; no_window, Err(RunError::Window));
-    assert_eq!(rt; tallies_of(&cells, &right), before);
+    assert!(rt; no_window == Err(RunError::Window));
+    assert!(rt; tallies_of(&cells, &right) == before);
     let refusing = Refusing::new(rt.alloc(), 0);
     let no_room = count_replies(&refusing, &mut cells, WINDOW, &mut right, &steps);
-    assert_eq!(rt; no_room, Err(RunError::Memory));
-    assert_eq!(rt; tallies_of(&cells, &right), before);
+    assert!(rt; no_room == Err(RunError::Memory));
+    assert!(rt; tallies_of(&cells, &right) == before);
     Ok(())
 }
 
@@ -200,10 +200,10 @@ fn fill_of_18_bits<O: SliceOrder, A: Allocator>(alloc: A) -> Result<([u8; 3], u6
 #[test]
 fn a_fill_loads_the_edges_alone(rt: HostRuntime) -> Result<(), Fail> {
     let (bytes, loads, stores) = fill_of_18_bits::<Lsb0, _>(rt.alloc())?;
-    assert_eq!(rt; bytes, [0xF8, 0xFF, 0x1F]);
+    assert!(rt; bytes == [0xF8, 0xFF, 0x1F]);
     assert!(rt; loads <= 2 && stores <= 3);
     let (bytes, loads, stores) = fill_of_18_bits::<Msb0, _>(rt.alloc())?;
-    assert_eq!(rt; bytes, [0x1F, 0xFF, 0xF8]);
+    assert!(rt; bytes == [0x1F, 0xFF, 0xF8]);
     assert!(rt; loads <= 2 && stores <= 3);
     Ok(())
 }

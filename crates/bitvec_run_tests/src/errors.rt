@@ -5,8 +5,8 @@ use crate::slices::{answer, four_nibbles};
 use bitvec_plain::base::{Lsb0, MAX_BITS};
 use bitvec_plain::cells::{Cells, CellsRead};
 use bitvec_plain::commands::{RunError, Step, Window, run};
+use bitvec_test_support::prints;
 use std::process::Abort;
-use std::test::Fail;
 
 /// Zero bytes, as many as a test wants, which are held nowhere: a load or a store ends the test.
 #[derive(Drop)]
@@ -74,8 +74,8 @@ fn a_window_outside_is_an_error(rt: HostRuntime) {
         let mut cells = [0x5Au8, 0xC3];
         let window = Window { start, len };
         let outcome = answer::<_, Lsb0, _>(rt.alloc(), &mut cells, window, &[], &four_nibbles());
-        assert_eq!(rt; outcome.err(), Some(RunError::Window), "({start}, {len})");
-        assert_eq!(rt; cells, [0x5A, 0xC3], "({start}, {len})");
+        assert!(rt; outcome.err() == Some(RunError::Window), "({start}, {len})");
+        assert!(rt; cells == [0x5A, 0xC3], "({start}, {len})");
     }
 }
 
@@ -97,7 +97,7 @@ fn a_memory_of_too_many_bits_is_an_error(rt: HostRuntime) {
     for (len, start, right_len, error) in table {
         let window = Window { start, len: 0 };
         let outcome = count_replies(&rt, len, window, right_len, &four_nibbles());
-        assert_eq!(rt; outcome, Err(error), "{len} {start} {right_len}");
+        assert!(rt; outcome == Err(error), "{len} {start} {right_len}");
     }
 }
 
@@ -108,18 +108,17 @@ fn memories_of_the_most_bits_are_none(rt: HostRuntime) {
         start: most * 8,
         len: 0,
     };
-    assert_eq!(rt; count_replies(&rt, most, window, most, &[]), Ok(0));
+    assert!(rt; count_replies(&rt, most, window, most, &[]) == Ok(0));
 }
 
 #[test]
-fn an_error_prints_its_text(rt: HostRuntime) -> Result<(), Fail> {
+fn an_error_prints_its_text(rt: HostRuntime) {
     let table = [
         (RunError::Window, "run error: window"),
         (RunError::Right, "run error: right"),
         (RunError::Memory, "run error: memory"),
     ];
     for (error, text) in table {
-        assert_eq!(rt; format!(in rt.alloc(); "{error}")?.as_str(), text);
+        assert!(rt; prints(rt.alloc(), &error, text));
     }
-    Ok(())
 }

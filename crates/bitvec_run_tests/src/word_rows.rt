@@ -57,7 +57,7 @@ fn check<T: BitStore, O: SliceOrder, R: Abort + AllocGlobal>(
     reply: Reply,
 ) -> Result<(), Fail> {
     let (replies, took) = tallies::<T, O, _>(rt.alloc(), elements, right, step)?;
-    assert_eq!(rt; replies.as_slice(), [reply].as_slice());
+    assert!(rt; replies.as_slice() == [reply].as_slice());
     assert!(rt;
         took.loads <= most.loads && took.stores <= most.stores,
         "{step:?}"
@@ -71,10 +71,10 @@ fn a_copy_within_goes_either_way(rt: HostRuntime) -> Result<(), Fail> {
     let mut bytes = [0x01u8, 0, 0, 0, 0, 0, 0, 0x20, 0, 0];
     let later = step(0, 80, Op::CopyWithin(0, 70, 3));
     check::<u8, Lsb0, _>(&rt, &mut bytes, &[], later, at_most(22, 18, 0), Reply::Done)?;
-    assert_eq!(rt; bytes, [0x09u8, 0, 0, 0, 0, 0, 0, 0, 0x01, 0]);
+    assert!(rt; bytes == [0x09u8, 0, 0, 0, 0, 0, 0, 0, 0x01, 0]);
     let mut bytes = [0x80u8, 0, 0, 0, 0, 0, 0, 0x04, 0, 0];
     check::<u8, Msb0, _>(&rt, &mut bytes, &[], later, at_most(22, 18, 0), Reply::Done)?;
-    assert_eq!(rt; bytes, [0x90u8, 0, 0, 0, 0, 0, 0, 0, 0x80, 0]);
+    assert!(rt; bytes == [0x90u8, 0, 0, 0, 0, 0, 0, 0, 0x80, 0]);
     let mut bytes = [0x01u8, 0, 0, 0, 0, 0, 0, 0x20, 0, 0];
     let earlier = step(0, 80, Op::CopyWithin(3, 73, 0));
     check::<u8, Lsb0, _>(
@@ -85,7 +85,7 @@ fn a_copy_within_goes_either_way(rt: HostRuntime) -> Result<(), Fail> {
         at_most(22, 18, 0),
         Reply::Done,
     )?;
-    assert_eq!(rt; bytes, [0u8, 0, 0, 0, 0, 0, 0, 0x04, 0, 0]);
+    assert!(rt; bytes == [0u8, 0, 0, 0, 0, 0, 0, 0x04, 0, 0]);
     Ok(())
 }
 
@@ -104,7 +104,7 @@ fn an_operator_and_an_equality_go_by_words(rt: HostRuntime) -> Result<(), Fail> 
         Reply::Done,
     )?;
     let half = 0xAAAA_AAAA;
-    assert_eq!(rt; elements, [half, half, half, half, 0xFFFF_FFFE]);
+    assert!(rt; elements == [half, half, half, half, 0xFFFF_FFFE]);
     let mut bytes = [0xFFu8; 9];
     let other = Window { start: 5, len: 64 };
     let eq = step(3, 67, Op::Eq(other));
@@ -133,11 +133,11 @@ fn reversals_and_rotations_go_by_words(rt: HostRuntime) -> Result<(), Fail> {
     let mut pair = [1u64, 2];
     let reverse = step(0, 128, Op::Reverse);
     check::<u64, Lsb0, _>(&rt, &mut pair, &[], reverse, at_most(12, 6, 0), Reply::Done)?;
-    assert_eq!(rt; pair, [0x4000_0000_0000_0000, 0x8000_0000_0000_0000]);
+    assert!(rt; pair == [0x4000_0000_0000_0000, 0x8000_0000_0000_0000]);
     let mut pair = [1u64, 2];
     let rotate = step(0, 128, Op::RotateLeft(64));
     check::<u64, Lsb0, _>(&rt, &mut pair, &[], rotate, at_most(28, 14, 0), Reply::Done)?;
-    assert_eq!(rt; pair, [2, 1]);
+    assert!(rt; pair == [2, 1]);
     let mut halves = [7u64; 64];
     halves[0] = 1;
     halves[33] = 2;
@@ -153,7 +153,7 @@ fn reversals_and_rotations_go_by_words(rt: HostRuntime) -> Result<(), Fail> {
     let mut after = [7u64; 64];
     after[32] = 1;
     after[1] = 2;
-    assert_eq!(rt; halves, after);
+    assert!(rt; halves == after);
     Ok(())
 }
 
@@ -178,6 +178,6 @@ fn an_exchange_goes_by_words(rt: HostRuntime) {
     let mut right = [0, u64::MAX];
     let [loads, stores, other_loads, other_stores] = exchange(&mut left, &mut right);
     assert!(rt; loads <= 4 && stores <= 2 && other_loads <= 4 && other_stores <= 2);
-    assert_eq!(rt; left, [0xC000_0000_0000_0007, 0x7]);
-    assert_eq!(rt; right, [0xFFFF_FFFF_FFFF_FFE0, 0xFFFF_FFFF_FFFF_FFE3]);
+    assert!(rt; left == [0xC000_0000_0000_0007, 0x7]);
+    assert!(rt; right == [0xFFFF_FFFF_FFFF_FFE0, 0xFFFF_FFFF_FFFF_FFE3]);
 }

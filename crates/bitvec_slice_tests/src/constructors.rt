@@ -40,7 +40,7 @@ fn an_element_is_viewed_in_its_order(rt: HostRuntime) {
     let view = BitSlice::<u8, Msb0>::from_element(&0xF1);
     assert!(rt; (view.len(), view.first_zero(), view.last_one()) == (8, Some(4), Some(7)));
     let view = from_ref::<u32, Lsb0>(&0x8000_0000);
-    assert_eq!(rt; (view.len(), view.first_one()), (32, Some(31)));
+    assert!(rt; (view.len(), view.first_one()) == (32, Some(31)));
 }
 
 /// Sets an element's bit at an index of its order, if it has as many.
@@ -87,7 +87,7 @@ fn found<T: BitStore, O: SliceOrder, E: Drop>(
 fn a_slice_that_is_short_enough_is_viewed(rt: HostRuntime) {
     let cells = [0x0Fu8, 0x01];
     let view = BitSlice::<u8, Lsb0>::try_from_slice(&cells);
-    assert_eq!(rt; found(view), Some((16, Some(8))));
+    assert!(rt; found(view) == Some((16, Some(8))));
     let view: Result<BitSlice<'_, u8, Msb0>, &[u8]> = BitSlice::try_from(&cells[..]);
     assert!(rt; found(view) == Some((16, Some(15))));
     let none: [u8; 0] = [];
@@ -125,5 +125,5 @@ fn a_slice_that_is_short_enough_is_written(rt: HostRuntime) {
     assert!(rt; cells == [0, 0, 0]);
     let mut view = BitSliceMut::<u16, Lsb0>::from_slice_unchecked_mut(&mut cells);
     view.set(17, true);
-    assert_eq!(rt; view.into_slice()[1], 2);
+    assert!(rt; view.into_slice()[1] == 2);
 }

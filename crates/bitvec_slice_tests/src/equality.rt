@@ -30,19 +30,14 @@ fn a_clone_has_the_same_bits(rt: HostRuntime) -> Result<(), Fail> {
 }
 
 #[test]
-fn equal_bits_at_other_places(rt: HostRuntime) -> Result<(), Fail> {
+fn equal_bits_at_other_places(rt: HostRuntime) {
     let low = [0x50u8, 0x0F];
-    let part = BitSlice::<u8, Lsb0>::from_slice(&low)
-        .get(4..12)
-        .ok_or("no such bits")?;
+    let part = BitSlice::<u8, Lsb0>::from_slice(&low).into_part(4..12);
     assert!(rt; have_same_bits(part, BitSlice::from_slice(&[0xF5])));
     assert!(rt; part != BitSlice::from_slice(&[0x75]));
     assert!(rt; part != BitSlice::from_slice(&low));
     let high = [0x05u8, 0xF0];
-    let part = BitSlice::<u8, Msb0>::from_slice(&high)
-        .get(4..12)
-        .ok_or("no such bits")?;
+    let part = BitSlice::<u8, Msb0>::from_slice(&high).into_part(4..12);
     assert!(rt; part == BitSlice::from_slice(&[0x5F]));
     assert!(rt; part != BitSlice::from_slice(&[0x5E]));
-    Ok(())
 }

@@ -145,7 +145,7 @@ fn a_view_says_where_it_stands(rt: HostRuntime) {
     }
     let mut cells = [0u8; 3];
     let view = BitSliceMut::<u8, Lsb0>::from_slice_mut(&mut cells);
-    assert_eq!(rt; view.window(), Window { start: 0, len: 24 });
+    assert!(rt; view.window() == Window { start: 0, len: 24 });
     assert!(rt; (view.bit_len(), view.as_ref().bit_len()) == (24, 24));
 }
 

@@ -5,14 +5,13 @@ ghost use Rattle.std.specs.Prelude.{◌≤◌};
 use bitvec_edit::reference::BitRefMut;
 use bitvec_query::base::{Lsb0, Msb0};
 use bitvec_query::slice::{BitSlice, BitSliceMut};
-use bitvec_test_support::shows;
-use std::alloc::Global;
-use std::test::Fail;
+use bitvec_test_support::{prints, shows};
+use std::alloc::{AllocError, Global};
 
-/// The two texts of a writable view of the bits.
-fn texts_of(alloc: Global, cells: &mut [u8; 1]) -> Result<String, Fail> {
+/// Whether a writable view of the bits prints so, by `{}` and by `{:?}`.
+fn view_prints(alloc: Global, cells: &mut [u8; 1], text: &str) -> bool {
     let view = BitSliceMut::<u8, Lsb0>::from_slice_mut(cells);
-    Ok(format!(in alloc; "{view} {view:?}")?)
+    prints(alloc, &view, text) && shows(alloc, &view, text)
 }
 
 /// Whether writable views of the bits are equal.
@@ -23,37 +22,36 @@ fn views_are_equal(cells: &mut [u8; 1], others: &mut [u8; 1]) -> bool {
 }
 
 #[test]
-fn writable_views_print_and_compare(rt: HostRuntime) -> Result<(), Fail> {
-    assert!(rt;
-        texts_of(rt.alloc(), &mut [0xA1])?.as_str()
-            == "[1, 0, 0, 0, 0, 1, 0, 1] [1, 0, 0, 0, 0, 1, 0, 1]"
-    );
+fn writable_views_print_and_compare(rt: HostRuntime) {
+    assert!(rt; view_prints(rt.alloc(), &mut [0xA1], "[1, 0, 0, 0, 0, 1, 0, 1]"));
     assert!(rt; views_are_equal(&mut [0xA1], &mut [0xA1]));
     assert!(rt; !views_are_equal(&mut [0xA1], &mut [0xA3]));
-    Ok(())
 }
 
 #[test]
-fn references_print_and_compare(rt: HostRuntime) -> Result<(), Fail> {
+fn references_print_and_compare(rt: HostRuntime) {
     let bits = [0b101u8];
     let view = BitSlice::<u8, Lsb0>::from_slice(&bits);
-    let first = view.get(0).ok_or("no bit")?;
-    let second = view.get(1).ok_or("no bit")?;
-    assert!(rt; format!(in rt.alloc(); "{first} {second:?}")?.as_str() == "true false");
-    assert!(rt; first != second);
-    assert!(rt; Some(first) == view.get(2));
-    Ok(())
+    match (view.get(0), view.get(1)) {
+        (Some(first), Some(second)) => {
+            assert!(rt; prints(rt.alloc(), &first, "true"));
+            assert!(rt; shows(rt.alloc(), &second, "false"));
+            assert!(rt; first != second);
+            assert!(rt; Some(first) == view.get(2));
+        }
+        _ => assert!(rt; false),
+    }
 }
 
-/// The two texts of a reference that writes.
-fn texts_of_bit(alloc: Global, bit: &BitRefMut<'_, u8, Lsb0>) -> Result<String, Fail> {
-    Ok(format!(in alloc; "{bit} {bit:?}")?)
+/// Whether a reference that writes prints so, by `{}` and by `{:?}`.
+fn bit_prints(alloc: Global, bit: &BitRefMut<'_, u8, Lsb0>, text: &str) -> bool {
+    prints(alloc, bit, text) && shows(alloc, bit, text)
 }
 
-/// The two texts of a reference that writes the first bit.
-fn texts_of_first(alloc: Global, cells: &mut [u8; 1]) -> Result<String, Fail> {
+/// Whether a reference that writes the first bit prints so.
+fn first_prints(alloc: Global, cells: &mut [u8; 1], text: &str) -> bool {
     let mut view = BitSliceMut::<u8, Lsb0>::from_slice_mut(cells);
-    texts_of_bit(alloc, &view.bit_mut(0))
+    bit_prints(alloc, &view.bit_mut(0), text)
 }
 
 /// Whether references that write the first bits are equal.
@@ -64,11 +62,10 @@ fn first_bits_are_equal(cells: &mut [u8; 1], others: &mut [u8; 1]) -> bool {
 }
 
 #[test]
-fn writing_references_print_and_compare(rt: HostRuntime) -> Result<(), Fail> {
-    assert!(rt; texts_of_first(rt.alloc(), &mut [1])?.as_str() == "true true");
+fn writing_references_print_and_compare(rt: HostRuntime) {
+    assert!(rt; first_prints(rt.alloc(), &mut [1], "true"));
     assert!(rt; first_bits_are_equal(&mut [1], &mut [3]));
     assert!(rt; !first_bits_are_equal(&mut [1], &mut [2]));
-    Ok(())
 }
 
 #[test]
@@ -119,7 +116,7 @@ fn values_of(
     from: usize,
     to: usize,
     back: bool,
-) -> Result<Vec<u8>, Fail>
+) -> Result<Vec<u8>, AllocError>
     requires order { from ≤ to }
     requires bound { to ≤ 32 }
 {
@@ -127,7 +124,7 @@ fn values_of(
         .into_part(from..to)
         .domain();
     if back {
-        return Ok(domain.values().rev().collect(alloc)?);
+        return domain.values().rev().collect(alloc);
     }
     let mut values = Vec::new(alloc);
     for value in domain {
@@ -136,21 +133,33 @@ fn values_of(
     Ok(values)
 }
 
+/// Whether a list was made, and has these values.
+fn holds(list: Result<Vec<u8>, AllocError>, wanted: &[u8]) -> bool {
+    match list {
+        Ok(list) => list.as_slice() == wanted,
+        Err(_) => false,
+    }
+}
+
 #[test]
-fn domains_give_their_values_in_order(rt: HostRuntime) -> Result<(), Fail> {
+fn domains_give_their_values_in_order(rt: HostRuntime) {
     let cells = [0xFFu8, 0x12, 0x34, 0xFF];
-    let inside = values_of(rt.alloc(), &cells, 9, 12, false)?;
-    assert!(rt; inside.as_slice() == [0x10].as_slice());
-    let across = values_of(rt.alloc(), &cells, 4, 28, false)?;
-    assert!(rt; across.as_slice() == [0x0F, 0x12, 0x34, 0xF0].as_slice());
-    let from_end = values_of(rt.alloc(), &cells, 4, 28, true)?;
-    assert!(rt; from_end.as_slice() == [0xF0, 0x34, 0x12, 0x0F].as_slice());
-    let whole = values_of(rt.alloc(), &cells, 8, 24, true)?;
-    assert!(rt; whole.as_slice() == [0x34, 0x12].as_slice());
-    let edge = values_of(rt.alloc(), &cells, 0, 11, false)?;
-    assert!(rt; edge.as_slice() == [0xFF, 0x00].as_slice());
-    assert!(rt; values_of(rt.alloc(), &cells, 5, 5, false)?.is_empty());
-    Ok(())
+    assert!(rt; holds(values_of(rt.alloc(), &cells, 9, 12, false), &[0x10]));
+    assert!(rt;
+        holds(
+            values_of(rt.alloc(), &cells, 4, 28, false),
+            &[0x0F, 0x12, 0x34, 0xF0]
+        )
+    );
+    assert!(rt;
+        holds(
+            values_of(rt.alloc(), &cells, 4, 28, true),
+            &[0xF0, 0x34, 0x12, 0x0F]
+        )
+    );
+    assert!(rt; holds(values_of(rt.alloc(), &cells, 8, 24, true), &[0x34, 0x12]));
+    assert!(rt; holds(values_of(rt.alloc(), &cells, 0, 11, false), &[0xFF, 0x00]));
+    assert!(rt; holds(values_of(rt.alloc(), &cells, 5, 5, false), &[]));
 }
 
 /// How many bits a writable view's one part has, and those of a region's three.

@@ -4,7 +4,6 @@ use bitvec_query::base::{BitOrder, Lsb0, Msb0};
 use bitvec_query::slice::BitSlice;
 use bitvec_query::store::BitStore;
 use bitvec_split::SplitCalls;
-use std::test::Fail;
 
 /// Appends the digit above an index.
 fn logged(log: u32, index: usize) -> u32 {
@@ -52,27 +51,23 @@ fn asked_in_two<T: BitStore, O: BitOrder>(view: BitSlice<'_, T, O>) -> u32 {
 }
 
 #[test]
-fn indices_begin_at_0_in_what_is_left(rt: HostRuntime) -> Result<(), Fail> {
+fn indices_begin_at_0_in_what_is_left(rt: HostRuntime) {
     // 0, 1, 0, 0, 1
     let cells = [0x09u8];
-    let all = BitSlice::<u8, Msb0>::from_slice(&cells);
-    let view = all.get(3..8).ok_or("no such bits")?;
+    let view = BitSlice::<u8, Msb0>::from_slice(&cells).into_part(3..8);
     assert!(rt; asked_in_front(view, 1) == 12);
     assert!(rt; asked_in_front(view, 2) == 12_123);
     assert!(rt; asked_in_front(view, 9) == 12_123);
-    Ok(())
 }
 
 #[test]
-fn neither_the_last_bit_nor_the_last_piece_is_asked(rt: HostRuntime) -> Result<(), Fail> {
+fn neither_the_last_bit_nor_the_last_piece_is_asked(rt: HostRuntime) {
     // 0, 1, 0, 0, 1
     let cells = [0x12u16];
-    let all = BitSlice::<u16, Lsb0>::from_slice(&cells);
-    let view = all.get(0..5).ok_or("no such bits")?;
+    let view = BitSlice::<u16, Lsb0>::from_slice(&cells).into_part(0..5);
     assert!(rt; asked_behind(view, 1) == 432);
     assert!(rt; asked_behind(view, 9) == 4321);
     assert!(rt; asked_in_two(view) == 5);
-    Ok(())
 }
 
 /// Where a piece stands in the element that it touches, and how many bits it has.

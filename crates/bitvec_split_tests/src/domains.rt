@@ -6,7 +6,6 @@ use crate::parts::Parts;
 use bitvec_query::base::{BitOrder, Lsb0, Msb0};
 use bitvec_query::slice::{BitSlice, BitSliceMut, Domain, DomainMut};
 use bitvec_query::store::BitStore;
-use std::test::Fail;
 
 /// How many elements each part of a range of the elements' bits touches.
 fn parts_of<T: BitStore, O: BitOrder>(elements: &[T], from: usize, to: usize) -> Parts
@@ -91,17 +90,16 @@ fn a_writable_part_is_read(rt: HostRuntime) {
 }
 
 #[test]
-fn an_enclave_loads_its_bits_alone(rt: HostRuntime) -> Result<(), Fail> {
+fn an_enclave_loads_its_bits_alone(rt: HostRuntime) {
     let cells = [0xB4u8];
-    let view = BitSlice::<u8, Lsb0>::from_slice(&cells);
-    match view.get(2..6).ok_or("no such bits")?.domain() {
+    let view = BitSlice::<u8, Lsb0>::from_slice(&cells).into_part(2..6);
+    match view.domain() {
         Domain::Enclave(part) => {
             assert!(rt; part.load_value() == 0x34);
             assert!(rt; (part.head(), part.tail()) == (2, 6));
             assert!(rt; part.mask() == 0x3C);
-            Ok(())
         }
-        Domain::Region { .. } => Err("a region".into()),
+        Domain::Region { .. } => assert!(rt; false),
     }
 }
 
@@ -162,10 +160,8 @@ fn whole_elements<'a, T: BitStore, O: BitOrder>(domain: Domain<'a, T, O>) -> Opt
 }
 
 #[test]
-fn a_writable_view_shows_its_elements(rt: HostRuntime) -> Result<(), Fail> {
+fn a_writable_view_shows_its_elements(rt: HostRuntime) {
     let mut cells = [0u8, 0xFF, 0];
     let view = BitSliceMut::<u8, Msb0>::from_slice_mut(&mut cells);
-    let body = whole_elements(view.domain()).ok_or("parts of elements")?;
-    assert!(rt; body == [0, 0xFF, 0].as_slice());
-    Ok(())
+    assert!(rt; whole_elements(view.domain()) == Some([0, 0xFF, 0].as_slice()));
 }

@@ -6,7 +6,6 @@ use bitvec_query::slice::{BitSlice, BitSliceMut};
 use bitvec_query::store::BitStore;
 use bitvec_split::SplitCalls;
 use bitvec_test_support::{stays_ended, stays_ended_at_both};
-use std::test::Fail;
 
 /// A view's bits as digits behind a 1, read as a number.
 fn number<T: BitStore, O: BitOrder>(piece: BitSlice<'_, T, O>) -> u32 {
@@ -36,26 +35,23 @@ fn numbers<'a, T: BitStore + 'a, O: BitOrder, I: Iterator<Item = BitSlice<'a, T,
 }
 
 #[test]
-fn splits_at_ones(rt: HostRuntime) -> Result<(), Fail> {
+fn splits_at_ones(rt: HostRuntime) {
     // 0, 1, 0, 0, 1
     let cells = [0x90u8];
-    let all = BitSlice::<u8, Lsb0>::from_slice(&cells);
-    let view = all.get(3..8).ok_or("no such bits")?;
-    assert_eq!(rt; numbers(view.split(|_, bit| *bit)), [0b1_0, 0b1_00, 0b1, 0]);
+    let view = BitSlice::<u8, Lsb0>::from_slice(&cells).into_part(3..8);
+    assert!(rt; numbers(view.split(|_, bit| *bit)) == [0b1_0, 0b1_00, 0b1, 0]);
     assert!(rt; numbers(view.rsplit(|_, bit| *bit)) == [0b1, 0b1_00, 0b1_0, 0]);
     let pieces = view.split(|_, bit| *bit);
     assert!(rt; numbers(pieces.rev()) == [0b1, 0b1_00, 0b1_0, 0]);
-    Ok(())
 }
 
 #[test]
-fn inclusive_splits_at_ones(rt: HostRuntime) -> Result<(), Fail> {
+fn inclusive_splits_at_ones(rt: HostRuntime) {
     // 0, 1, 0, 0, 1, over two elements
     let mut cells = [0x02u8, 0x40];
-    let mut all = BitSliceMut::<u8, Msb0>::from_slice_mut(&mut cells);
-    let view = all.get(5..10).ok_or("no such bits")?;
+    let view = BitSliceMut::<u8, Msb0>::from_slice_mut(&mut cells).into_part(5..10);
     let pieces = view.split_inclusive(|_, bit| *bit);
-    assert_eq!(rt; numbers(pieces), [0b1_01, 0b1_001, 0, 0]);
+    assert!(rt; numbers(pieces) == [0b1_01, 0b1_001, 0, 0]);
     let pieces = view.split_inclusive(|_, bit| *bit);
     assert!(rt; numbers(pieces.rev()) == [0b1_001, 0b1_01, 0, 0]);
     let none = BitSlice::<u16, Lsb0>::from_slice(&[]);
@@ -69,33 +65,29 @@ fn inclusive_splits_at_ones(rt: HostRuntime) -> Result<(), Fail> {
     assert!(rt; pieces.next_back().is_none());
     drop(pieces);
     assert!(rt; asked == 0);
-    Ok(())
 }
 
 #[test]
-fn counted_splits_at_ones(rt: HostRuntime) -> Result<(), Fail> {
+fn counted_splits_at_ones(rt: HostRuntime) {
     // 0, 1, 0, 0, 1
     let mut cells = [0x48u8];
     let view = BitSliceMut::<u8, Msb0>::from_slice_mut(&mut cells).into_part(0..5);
     assert!(rt; numbers(view.splitn(2, |_, bit| *bit)) == [0b1_0, 0b1_001, 0, 0]);
     assert!(rt; numbers(view.rsplitn(2, |_, bit| *bit)) == [0b1, 0b1_0100, 0, 0]);
     assert!(rt; numbers(view.splitn(0, |_, bit| *bit)) == [0, 0, 0, 0]);
-    Ok(())
 }
 
 #[test]
-fn how_many_pieces_may_come(rt: HostRuntime) -> Result<(), Fail> {
+fn how_many_pieces_may_come(rt: HostRuntime) {
     // 0, 1, 0, 0, 1
     let cells = [0x12u64];
-    let all = BitSlice::<u64, Lsb0>::from_slice(&cells);
-    let view = all.get(0..5).ok_or("no such bits")?;
+    let view = BitSlice::<u64, Lsb0>::from_slice(&cells).into_part(0..5);
     let mut pieces = view.split(|_, bit| *bit);
     assert!(rt; pieces.size_hint() == (1, Some(6)));
     assert!(rt; pieces.next().is_some());
     assert!(rt; pieces.size_hint() == (1, Some(4)));
-    assert_eq!(rt; view.splitn(2, |_, bit| *bit).size_hint(), (1, Some(2)));
-    assert_eq!(rt; view.splitn(0, |_, bit| *bit).size_hint(), (0, Some(0)));
-    Ok(())
+    assert!(rt; view.splitn(2, |_, bit| *bit).size_hint() == (1, Some(2)));
+    assert!(rt; view.splitn(0, |_, bit| *bit).size_hint() == (0, Some(0)));
 }
 
 #[test]

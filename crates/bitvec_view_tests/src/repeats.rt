@@ -5,7 +5,6 @@ use bitvec_owned::query::engine::SliceOrder;
 use bitvec_owned::query::slice::BitSlice;
 use bitvec_owned::{BitVec, RepeatError, ToBitVec};
 use std::alloc::Global;
-use std::test::Fail;
 
 /// The bits 1, 0, 1, as many times.
 fn repeated<O: SliceOrder>(
@@ -17,21 +16,23 @@ fn repeated<O: SliceOrder>(
         .repeat(alloc, copies)
 }
 
-#[test]
-fn three_copies(rt: HostRuntime) -> Result<(), Fail> {
-    let low = repeated::<Lsb0>(rt.alloc(), 3)?;
-    assert!(rt; low.as_raw_slice() == [0x6Du8, 0x01].as_slice());
-    assert!(rt; low.len() == 9);
-    let high = repeated::<Msb0>(rt.alloc(), 3)?;
-    assert!(rt; high.as_raw_slice() == [0xB6u8, 0x80].as_slice());
-    assert!(rt; high.len() == 9);
-    Ok(())
+/// Whether so many copies were made, have so many bits, and these elements.
+fn holds<O: SliceOrder>(alloc: Global, copies: usize, len: usize, elements: &[u8]) -> bool {
+    match repeated::<O>(alloc, copies) {
+        Ok(bits) => bits.len() == len && bits.as_raw_slice() == elements,
+        Err(_) => false,
+    }
 }
 
 #[test]
-fn no_copy(rt: HostRuntime) -> Result<(), Fail> {
-    assert!(rt; repeated::<Msb0>(rt.alloc(), 0)?.len() == 0);
-    Ok(())
+fn three_copies(rt: HostRuntime) {
+    assert!(rt; holds::<Lsb0>(rt.alloc(), 3, 9, &[0x6D, 0x01]));
+    assert!(rt; holds::<Msb0>(rt.alloc(), 3, 9, &[0xB6, 0x80]));
+}
+
+#[test]
+fn no_copy(rt: HostRuntime) {
+    assert!(rt; holds::<Msb0>(rt.alloc(), 0, 0, &[]));
 }
 
 #[test]
@@ -58,15 +59,16 @@ fn too_many_copies(rt: HostRuntime) {
     );
 }
 
-/// How many bits so many copies of no bits have.
-fn len_of_nothing(alloc: Global, copies: usize) -> Result<usize, RepeatError> {
-    let nothing = BitSlice::<u8, Lsb0>::empty().repeat(alloc, copies)?;
-    Ok(nothing.len())
+/// Whether so many copies of no bits were made, and have none.
+fn is_nothing(alloc: Global, copies: usize) -> bool {
+    match BitSlice::<u8, Lsb0>::empty().repeat(alloc, copies) {
+        Ok(bits) => bits.is_empty(),
+        Err(_) => false,
+    }
 }
 
 #[test]
-fn repeats_of_no_bits(rt: HostRuntime) -> Result<(), Fail> {
-    assert!(rt; len_of_nothing(rt.alloc(), 3)? == 0);
-    assert!(rt; len_of_nothing(rt.alloc(), usize::MAX)? == 0);
-    Ok(())
+fn repeats_of_no_bits(rt: HostRuntime) {
+    assert!(rt; is_nothing(rt.alloc(), 3));
+    assert!(rt; is_nothing(rt.alloc(), usize::MAX));
 }

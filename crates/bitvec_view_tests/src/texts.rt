@@ -6,16 +6,14 @@ use bitvec_owned::query::slice::{BitSlice, BitSliceMut};
 use bitvec_split::{SplitCalls, SplitCallsMut};
 use bitvec_test_support::{prints, shows};
 use std::alloc::Global;
-use std::test::Fail;
 
 #[test]
-fn one_element(rt: HostRuntime) -> Result<(), Fail> {
+fn one_element(rt: HostRuntime) {
     let bits = [0x21u8];
     let hex = LowerHex(BitSlice::<u8, Lsb0>::from_slice(&bits));
     let octal = Octal(BitSlice::<u8, Msb0>::from_slice(&bits));
-    assert_eq!(rt; format!(in rt.alloc(); "{hex}")?.as_str(), "[84]");
-    assert_eq!(rt; format!(in rt.alloc(); "{octal}")?.as_str(), "[041]");
-    Ok(())
+    assert!(rt; prints(rt.alloc(), &hex, "[84]"));
+    assert!(rt; prints(rt.alloc(), &octal, "[041]"));
 }
 
 #[test]
@@ -81,32 +79,29 @@ fn splits(rt: HostRuntime) {
     assert!(rt; shows(rt.alloc(), &counted, "SplitsN([0, 1, 0, 0], 1)"));
 }
 
-/// The text of a split that lends, once `found` pieces were found.
-fn text_of_split(alloc: Global, bytes: &mut [u8; 1], found: usize) -> Result<String, Fail> {
+/// Whether a split that lends shows so, once `found` pieces were found.
+fn split_shows(alloc: Global, bytes: &mut [u8; 1], found: usize, text: &str) -> bool {
     let mut view = BitSliceMut::<u8, Lsb0>::from_slice_mut(bytes).into_part(0..6);
     let mut split = view.split_mut(|_, bit| *bit);
     for _ in 0..found {
         let _some = split.advance();
     }
-    Ok(format!(in alloc; "{split:?}")?)
+    shows(alloc, &split, text)
 }
 
-/// The text of a counted split that lends, once its first piece from the end was found.
-fn text_of_counted(alloc: Global, bytes: &mut [u8; 1]) -> Result<String, Fail> {
+/// Whether a counted split that lends shows so, once its first piece from the end was found.
+fn counted_shows(alloc: Global, bytes: &mut [u8; 1], text: &str) -> bool {
     let mut view = BitSliceMut::<u8, Lsb0>::from_slice_mut(bytes).into_part(0..6);
     let mut counted = view.rsplitn_mut(2, |_, bit| *bit);
     let _some = counted.advance();
-    Ok(format!(in alloc; "{counted:?}")?)
+    shows(alloc, &counted, text)
 }
 
 #[test]
-fn splits_that_lend(rt: HostRuntime) -> Result<(), Fail> {
+fn splits_that_lend(rt: HostRuntime) {
     let mut bytes = [0b0001_0010u8];
-    assert!(rt;
-        text_of_split(rt.alloc(), &mut bytes, 0)?.as_str() == "SplitsMut([0, 1, 0, 0, 1, 0])"
-    );
-    assert!(rt; text_of_split(rt.alloc(), &mut bytes, 1)?.as_str() == "SplitsMut([0, 0, 1, 0])");
-    assert!(rt; text_of_split(rt.alloc(), &mut bytes, 3)?.as_str() == "SplitsMut([])");
-    assert!(rt; text_of_counted(rt.alloc(), &mut bytes)?.as_str() == "SplitsNMut([0, 1, 0, 0], 1)");
-    Ok(())
+    assert!(rt; split_shows(rt.alloc(), &mut bytes, 0, "SplitsMut([0, 1, 0, 0, 1, 0])"));
+    assert!(rt; split_shows(rt.alloc(), &mut bytes, 1, "SplitsMut([0, 0, 1, 0])"));
+    assert!(rt; split_shows(rt.alloc(), &mut bytes, 3, "SplitsMut([])"));
+    assert!(rt; counted_shows(rt.alloc(), &mut bytes, "SplitsNMut([0, 1, 0, 0], 1)"));
 }

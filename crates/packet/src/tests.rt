@@ -1,7 +1,7 @@
 //! Packets with known fields, changes, and refusals.
 use crate::program::work;
+use std::alloc::{AllocError, Global};
 use std::process::Abort;
-use std::str;
 use std::test::Fail;
 
 /// A reply of a name server: the header that explanations of its checksum work through, and the ports,
@@ -91,6 +91,15 @@ udp.checksum 240 16 10143
 checksum right
 ";
 
+/// The words of a text.
+fn words(alloc: Global, text: &str) -> Result<Vec<String>, AllocError> {
+    let mut words = Vec::new(alloc);
+    for word in text.split_whitespace() {
+        words.push(String::from_str(alloc, word)?)?;
+    }
+    Ok(words)
+}
+
 /// Asserts what is printed on these arguments, joined by spaces, and this input, and the status.
 fn expect<R: Abort + AllocGlobal>(
     rt: &R,
@@ -99,19 +108,15 @@ fn expect<R: Abort + AllocGlobal>(
     ended: u8,
     printed: &str,
 ) -> Result<(), Fail> {
-    let mut words = Vec::new(rt.alloc());
-    for word in args.split_whitespace() {
-        words.push(String::from_str(rt.alloc(), word)?)?;
-    }
+    let words = words(rt.alloc(), args)?;
     let mut bytes = input.as_bytes();
     let mut output = Vec::new(rt.alloc());
     let got = work(rt.alloc(), words.as_slice(), &mut bytes, &mut output);
-    assert_eq!(rt;
-        str::from_utf8(output.as_slice())?,
-        printed,
+    assert!(rt;
+        output.as_slice() == printed.as_bytes(),
         "on {args:?} and {input:?}"
     );
-    assert_eq!(rt; got, ended, "on {args:?} and {input:?}");
+    assert!(rt; got == ended, "on {args:?} and {input:?}");
     Ok(())
 }
 
@@ -222,5 +227,5 @@ fn an_output_that_is_full(rt: HostRuntime) {
     let mut room = [0u8; 3];
     let mut input = REPLY.as_bytes();
     let mut output = room.as_mut_slice();
-    assert_eq!(rt; work(rt.alloc(), &[], &mut input, &mut output), 1);
+    assert!(rt; work(rt.alloc(), &[], &mut input, &mut output) == 1);
 }

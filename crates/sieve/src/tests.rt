@@ -2,7 +2,6 @@
 use crate::work::work;
 use std::alloc::{AllocError, Global};
 use std::io::{self, ErrorKind, Write};
-use std::str;
 use std::test::Fail;
 
 /// The words of a text, cut at each space.
@@ -65,10 +64,7 @@ fn each_request_is_answered(rt: HostRuntime) -> Result<(), Fail> {
         let args = words(rt.alloc(), request)?;
         let mut output = Vec::new(rt.alloc());
         let got = work(rt.alloc(), args.as_slice(), &mut output);
-        assert!(rt;
-            str::from_utf8(output.as_slice())? == printed,
-            "of {request:?}"
-        );
+        assert!(rt; output.as_slice() == printed.as_bytes(), "of {request:?}");
         assert!(rt; got == status, "of {request:?}");
     }
     Ok(())
