@@ -1,25 +1,25 @@
 //! Each bit of a window with the one at its index in another, elements at a time.
 ghost use Rattle.std.specs.Prelude.{◌≡◌, ℕ, ◌+◌, ◌-◌, ◌*◌, ◌/◌, ◌%◌, ◌<◌, ◌≤◌, slice_index, true};
-ghost use Rattle.bitvec_words.specs.base.Lists.{combined};
-ghost use Rattle.bitvec_words.specs.base.Memory.{HasWindow, Writes, list_in};
-ghost use Rattle.bitvec_words.specs.cells.Access.{CostsAtMost, OnlyReads, OnlyReadsAtMost};
-ghost use Rattle.bitvec_words.specs.walk.Cost.{edit_loads, read_loads, touched, write_stores};
-ghost use Rattle.bitvec_words.specs.Operator.{operator};
+ghost use Rattle.bitvec_move.specs.base.Lists.{combined};
+ghost use Rattle.bitvec_move.specs.base.Memory.{HasWindow, Writes, list_in};
+ghost use Rattle.bitvec_move.specs.cells.Access.{CostsAtMost, OnlyReads, OnlyReadsAtMost};
+ghost use Rattle.bitvec_move.specs.walk.Cost.{edit_loads, read_loads, touched, write_stores};
+ghost use Rattle.bitvec_move.specs.words.Operator.{operator};
 
 use crate::combining_elements::{
     combine_end, combine_head, combine_joined, combine_whole, combine_zeros, padded,
 };
-use bitvec_words::base::{BitOrder, Window, first_part};
-use bitvec_words::cells::{Cells, CellsRead};
-use bitvec_words::store::BitStore;
-use bitvec_words::{BitOp, WordOrder, field, field_after};
+use bitvec_move::base::{BitOrder, Window, first_part};
+use bitvec_move::cells::{Cells, CellsRead};
+use bitvec_move::store::BitStore;
+use bitvec_move::words::{BitOp, WordOrder, field, field_after};
 
 /// Replaces each bit of a window by what the operator makes of it and the one at its index in a
 /// window of another memory of the same elements, which counts as 0 past that window's end.
 /// Condition: each memory has at most `MAX_BITS` bits, and each window lies in its memory. It loads
 /// and stores each element that the window touches at most once, and loads each element with a bit
 /// that both have on the right once.
-#[tactic(auto, using(bitvec_words::specs::Cited::in_steps, bitvec_words::specs::Cited::width_some))]
+#[tactic(auto, using(bitvec_move::specs::Cited::in_steps, bitvec_move::specs::Cited::width_some))]
 pub fn combine<O: WordOrder, C: Cells, D: CellsRead<Elem = C::Elem>>(
     left: &mut C,
     to: Window,
