@@ -12,8 +12,8 @@ pub use Rattle.bitvec_owned.specs.edit.base.PlacesLaws
 pub use Rattle.bitvec_owned.specs.edit.base.Window
 pub use Rattle.bitvec_owned.specs.edit.base.WindowLaws
 pub use Rattle.bitvec_owned.specs.edit.base.WriteLaws
-pub use Rattle.bitvec_split_edits.specs.cutting.Cutting
-pub use Rattle.bitvec_split_edits.specs.cutting.Walks as PieceWalks
+pub use Rattle.bitvec_pieces.specs.cutting.Cutting
+pub use Rattle.bitvec_pieces.specs.cutting.Walks as PieceWalks
 pub use Rattle.bitvec_owned.specs.edit.domain.Cuts
 pub use Rattle.bitvec_owned.specs.edit.domain.Parts
 pub use Rattle.bitvec_owned.specs.edit.domain.Values as DomainValues
@@ -32,13 +32,19 @@ pub use Rattle.bitvec_iter.specs.Halves
 pub use Rattle.bitvec_iter.specs.LentPieces
 pub use Rattle.bitvec_iter.specs.LentWalk
 pub use Rattle.bitvec_ones.specs.Indices as OnesLeft
+pub use Rattle.bitvec_ones.specs.Loads
+pub use Rattle.bitvec_ones.specs.Places
+pub use Rattle.bitvec_ones.specs.Turns
 pub use Rattle.bitvec_owned.specs.Copies
 pub use Rattle.bitvec_owned.specs.Owned
 pub use Rattle.bitvec_owned.specs.Writes as OwnedWrites
-pub use Rattle.bitvec_split_edits.specs.pieces.LeftLaws
-pub use Rattle.bitvec_split_edits.specs.pieces.Pieces
-pub use Rattle.bitvec_split_edits.specs.pieces.Shown
-pub use Rattle.bitvec_split_edits.specs.pieces.WritesLaws
+pub use Rattle.bitvec_pieces.specs.CoversLaws as SplitCoversLaws
+pub use Rattle.bitvec_pieces.specs.LeftLaws
+pub use Rattle.bitvec_pieces.specs.Pieces
+pub use Rattle.bitvec_pieces.specs.Shown
+pub use Rattle.bitvec_pieces.specs.SplitEdits
+pub use Rattle.bitvec_pieces.specs.SplitEditsLaws
+pub use Rattle.bitvec_pieces.specs.WritesLaws
 pub use Rattle.bitvec_owned.specs.edit.reference.References
 pub use Rattle.bitvec_run_halves.specs.commands.Fold
 pub use Rattle.bitvec_run_halves.specs.commands.Runs
@@ -55,24 +61,18 @@ pub use Rattle.bitvec_owned.specs.edit.slice.Touched
 pub use Rattle.bitvec_owned.specs.edit.slice.Views
 pub use Rattle.bitvec_owned.specs.edit.slice.Walks as BitWalks
 pub use Rattle.bitvec_owned.specs.edit.slice.Writes
-pub use Rattle.bitvec_split_edits.specs.split.Asked as SplitAsked
-pub use Rattle.bitvec_split_edits.specs.split.AskedLaws as SplitAskedLaws
-pub use Rattle.bitvec_split_edits.specs.split.FoundLaws as SplitFoundLaws
-pub use Rattle.bitvec_split_edits.specs.split.Lent as SplitLent
-pub use Rattle.bitvec_split_edits.specs.split.LentViews as SplitLentViews
-pub use Rattle.bitvec_split_edits.specs.split.SplitLaws
-pub use Rattle.bitvec_split_edits.specs.split.Splits
-pub use Rattle.bitvec_split_edits.specs.split.Views as SplitViews
-pub use Rattle.bitvec_split_edits.specs.CoversLaws as SplitCoversLaws
-pub use Rattle.bitvec_split_edits.specs.SplitEdits
-pub use Rattle.bitvec_split_edits.specs.SplitEditsLaws
+pub use Rattle.bitvec_pieces.specs.split.Asked as SplitAsked
+pub use Rattle.bitvec_pieces.specs.split.AskedLaws as SplitAskedLaws
+pub use Rattle.bitvec_pieces.specs.split.FoundLaws as SplitFoundLaws
+pub use Rattle.bitvec_pieces.specs.split.Lent as SplitLent
+pub use Rattle.bitvec_pieces.specs.split.LentViews as SplitLentViews
+pub use Rattle.bitvec_pieces.specs.split.SplitLaws
+pub use Rattle.bitvec_pieces.specs.split.Splits
+pub use Rattle.bitvec_pieces.specs.split.Views as SplitViews
 pub use Rattle.bitvec_owned.specs.edit.store.Width
 pub use Rattle.bitvec_owned.specs.edit.store.WidthLaws
 pub use Rattle.bitvec_field.specs.Radix
 pub use Rattle.bitvec_owned.specs.edit.traits.Feeding
 pub use Rattle.bitvec_owned.specs.edit.traits.Listing
-pub use Rattle.bitvec_ones.specs.turns.Loads
-pub use Rattle.bitvec_ones.specs.turns.Places
-pub use Rattle.bitvec_ones.specs.turns.Turns
 pub use Rattle.bitvec_owned.specs.edit.walk.Sought
 pub use Rattle.bitvec_owned.specs.edit.words.Operator

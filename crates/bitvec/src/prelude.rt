@@ -13,6 +13,5 @@ pub use bitvec_owned::edit::slice::{
 };
 pub use bitvec_owned::edit::store::BitStore;
 pub use bitvec_owned::{BitVec, RepeatError, ToBitVec};
-pub use bitvec_split_edits::EditSplits;
-pub use bitvec_split_edits::pieces::EditParts;
-pub use bitvec_split_edits::split::{SplitCalls, SplitCallsMut};
+pub use bitvec_pieces::split::{SplitCalls, SplitCallsMut};
+pub use bitvec_pieces::{EditParts, EditSplits};

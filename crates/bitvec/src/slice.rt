@@ -14,10 +14,9 @@ pub use bitvec_owned::edit::slice::{
     BitRefIter, BitSlice, BitSliceIndex, BitSliceMut, BitValIter, Iter, Viewed, ViewedMut,
     from_mut, from_ref,
 };
-pub use bitvec_split_edits::EditSplits;
-pub use bitvec_split_edits::pieces::EditParts;
-pub use bitvec_split_edits::split::{
+pub use bitvec_pieces::split::{
     CountedSplitWalk, Forward, Inclusive, RSplit, RSplitMut, RSplitN, RSplitNMut, Reversed, Split,
     SplitCalls, SplitCallsMut, SplitInclusive, SplitInclusiveMut, SplitMut, SplitN, SplitNMut,
     SplitWalk, Splits, SplitsMut, SplitsN, SplitsNMut, Way,
 };
+pub use bitvec_pieces::{EditParts, EditSplits};

@@ -12,9 +12,9 @@ use Rattle.bitvec_query.specs.base.Window.{window_range}
 use Rattle.bitvec_query.specs.base.WindowLaws.{get-window, window-past}
 use Rattle.bitvec_query.specs.base.WritesLaws.{HasWindow-range, within-list}
 use Rattle.bitvec_query.specs.engine.Front.{IsFront}
-use Rattle.bitvec_turns.specs.declared.rest.Rest.{Rest}
-use Rattle.bitvec_turns.specs.Places.{places_in}
-use Rattle.bitvec_turns.specs.PlacesLaws.{places-next, places-none}
+use Rattle.bitvec_ones.specs.declared.rest.Rest.{Rest}
+use Rattle.bitvec_ones.specs.Places.{places_in}
+use Rattle.bitvec_ones.specs.PlacesLaws.{places-next, places-none}
 use Rattle.bitvec_query.specs.walk.Sought.{Shows}
 use Rattle.bitvec_query.specs.words.Field.{padded}
 use Rattle.bitvec_ones.specs.Kept.{Keeps}

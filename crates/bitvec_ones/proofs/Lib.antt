@@ -1,3 +1,4 @@
 mod KeptLemmas
 mod LowestLemmas
 mod PushedLemmas
+mod TakingLemmas

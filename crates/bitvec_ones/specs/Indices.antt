@@ -5,7 +5,7 @@ use Rattle.std.specs.Iterator.Runs.{YieldsInOrder, YieldsInReverse}
 use Rattle.bitvec_query.specs.store.declared.store.BitStore.{Ghosts as Store}
 use Rattle.bitvec_query.specs.base.declared.order.BitOrder.{Ghosts as Order}
 use Rattle.bitvec_query.specs.slice.Views.{seen}
-use Rattle.bitvec_turns.specs.Places.{places_left}
+use Rattle.bitvec_ones.specs.Places.{places_left}
 use Rattle.bitvec_ones.specs.declared.places.Places.{Places}
 use Rattle.bitvec_ones.specs.declared.wanted.Wanted.{Ghosts as Bits}
 

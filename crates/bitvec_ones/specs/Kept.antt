@@ -1,7 +1,7 @@
 -- What a walk from the front keeps of the elements that it loaded last.
 use Rattle.std.specs.Prelude.{◌≡◌, ℕ, ◌+◌, ◌-◌, ◌<◌, ◌≤◌, Bool, false, List, slice_index_or}
 use Rattle.std.specs.Int.{bit_at}
-use Rattle.bitvec_turns.specs.declared.rest.Rest.{Rest}
+use Rattle.bitvec_ones.specs.declared.rest.Rest.{Rest}
 use Rattle.bitvec_ones.specs.declared.kept.Kept.{Kept}
 
 -- The list is that of a window. Of the indices of the rest at which it has the wanted bit, those below the edge are

@@ -8,9 +8,9 @@ use denote.Struct.Props.{≡_prop}
 use Rattle.bitvec_query.specs.store.declared.store.BitStore.{Ghosts as Store}
 use Rattle.bitvec_query.specs.base.declared.order.BitOrder.{Ghosts as Order}
 use Rattle.bitvec_query.specs.slice.Views.{seen}
-use Rattle.bitvec_turns.specs.declared.rest.Rest.{Rest}
-use Rattle.bitvec_turns.specs.Places.{IsRestOf}
-use Rattle.bitvec_turns.specs.PlacesLaws.{IsRestOf-prop}
+use Rattle.bitvec_ones.specs.declared.rest.Rest.{Rest}
+use Rattle.bitvec_ones.specs.Places.{IsRestOf}
+use Rattle.bitvec_ones.specs.PlacesLaws.{IsRestOf-prop}
 use Rattle.bitvec_ones.specs.Kept.{Keeps}
 use Rattle.bitvec_ones.specs.declared.kept.Kept.{Kept}
 use Rattle.bitvec_ones.specs.declared.places.Places.{Places}

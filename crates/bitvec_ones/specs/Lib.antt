@@ -1,7 +1,12 @@
 pub mod base
 pub mod slice
-pub mod turns
 pub mod Indices
 pub mod IndicesLaws
 pub mod Kept
 pub mod KeptLaws
+pub mod Loads
+pub mod LoadsLaws
+pub mod Places
+pub mod PlacesLaws
+pub mod Turns
+pub mod TurnsLaws

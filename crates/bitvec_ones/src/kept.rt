@@ -3,16 +3,16 @@
 ghost use Rattle.std.specs.Prelude.{◌≡◌, ◌<◌, ◌≤◌, map, true};
 ghost use Rattle.std.specs.Iterator.{YieldsFirst};
 ghost use Rattle.bitvec_query.specs.base.Memory.{HasWindow, list_in};
-ghost use Rattle.bitvec_turns.specs.Places.{IsRestOf, places_left};
 ghost use Rattle.bitvec_query.specs.walk.Sought.{Shows};
 ghost use Rattle.bitvec_ones.specs.Kept.{Keeps};
+ghost use Rattle.bitvec_ones.specs.Places.{IsRestOf, places_left};
 
+use crate::rest::Rest;
 use bitvec_query::base::{Lsb0, Part, Window};
 use bitvec_query::cells::Shared;
 use bitvec_query::engine::SliceOrder;
 use bitvec_query::store::BitStore;
 use bitvec_query::walk::sought;
-use bitvec_turns::Rest;
 
 /// The indices that a walk has still to give of the elements that it loaded last.
 #[derive(Clone, Copy)]

@@ -1,11 +1,15 @@
-//! Walks over the indices of the bits of a view that are 1, and of those that are 0.
+//! Walks over the places of the bits that are 1, and of those that are 0, from both ends: of a window,
+//! through counted access to its elements, and of a view.
 #![tactic(auto)]
 
 mod index_walk;
 mod kept;
 mod ones_calls;
 mod places;
+mod rest;
+mod taking;
 mod texts;
+mod turns;
 mod views;
 mod wanted;
 
@@ -39,12 +43,10 @@ pub mod store {
     pub use bitvec_query::store::BitStore;
 }
 
-/// What crates above name of `bitvec_turns`.
-pub mod turns {
-    pub use bitvec_turns::{End, Rest, count_left, scan_turns, take_first, take_last};
-}
-
 pub use index_walk::IndexWalk;
 pub use ones_calls::OnesCalls;
 pub use places::{IterOnes, IterZeros, Places};
+pub use rest::Rest;
+pub use taking::{count_left, take_first, take_last};
+pub use turns::{End, scan_turns};
 pub use wanted::{Ones, Wanted, Zeros};

@@ -1,18 +1,19 @@
 //! The indices of the bits of a view that are 1, or 0, from both ends.
 ghost use Rattle.std.specs.Prelude.{◌≡◌, ⊤};
 ghost use Rattle.bitvec_query.specs.slice.Views.{seen};
-ghost use Rattle.bitvec_turns.specs.Places.{IsRestOf};
 ghost use Rattle.bitvec_ones.specs.Kept.{Keeps};
+ghost use Rattle.bitvec_ones.specs.Places.{IsRestOf};
 
 use crate::IndexWalk;
 use crate::kept::{Kept, sought_first, take_kept};
+use crate::rest::Rest;
+use crate::taking::{count_left, take_last};
 use crate::wanted::{Ones, Wanted, Zeros};
 use bitvec_query::base::BitOrder;
 use bitvec_query::cells::Shared;
 use bitvec_query::engine::SliceOrder;
 use bitvec_query::slice::BitSlice;
 use bitvec_query::store::BitStore;
-use bitvec_turns::{Rest, count_left, take_last};
 use std::alloc::AllocError;
 use std::iter::FusedIterator;
 use std::marker::PhantomData;
@@ -65,7 +66,7 @@ impl<'a, T: BitStore, O: BitOrder, W: Wanted> Places<'a, T, O, W> {
     ghost use Rattle.bitvec_ones.specs.Indices.{RunsInOrder, RunsInReverse, indices_left};
 
     /// The indices of all bits of the view that `W` names. The crate has no such call.
-    #[tactic(auto, using(bitvec_turns::specs::PlacesLaws::all_places, bitvec_turns::specs::PlacesLaws::few_places), unfolding(crate::specs::Indices::indices_left))]
+    #[tactic(auto, using(crate::specs::PlacesLaws::all_places, crate::specs::PlacesLaws::few_places), unfolding(crate::specs::Indices::indices_left))]
     pub fn new(view: BitSlice<'a, T, O>) -> Self
         ensures indices { indices_left result ≡ places_of W.BIT (seen view.entry).bits }
         ensures few { length (indices_left result) ≤ max_bits }
@@ -105,7 +106,7 @@ impl<'a, T: BitStore, O: BitOrder, W: Wanted> Default for Places<'a, T, O, W> {
 
     ghost is_default = { λ walk. indices_left walk ≡ [] };
 
-    #[tactic(auto, using(bitvec_turns::specs::PlacesLaws::no_places))]
+    #[tactic(auto, using(crate::specs::PlacesLaws::no_places))]
     fn default() -> Self {
         Places::new(BitSlice::empty())
     }

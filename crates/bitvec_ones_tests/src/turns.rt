@@ -2,11 +2,11 @@
 ghost use Rattle.std.specs.Prelude.{◌≡◌, length};
 ghost use Rattle.bitvec_ones.specs.base.Memory.{HasWindow};
 
+use bitvec_ones::End::{Back, Front};
 use bitvec_ones::base::{HiLo, Lsb0, Window};
 use bitvec_ones::cells::Shared;
 use bitvec_ones::engine::SliceOrder;
-use bitvec_ones::turns::End::{Back, Front};
-use bitvec_ones::turns::{End, scan_turns};
+use bitvec_ones::{End, scan_turns};
 use bitvec_test_support::Counted;
 
 /// What the turns give of a window of some bytes, in `out`, and how many loads they take.

@@ -3,9 +3,9 @@ use Rattle.std.specs.Prelude.{◌≡◌, ℕ, ◌+◌, ◌<◌, ◌≤◌, ◌�
 use Rattle.std.specs.Borrow.{MutBor}
 use Rattle.std.proofs.Common.{arith, inl, inr, sym, subst, ◌∙◌, ap, ⊎_elim}
 use borrow.Author.Count.{below_more}
-use Rattle.bitvec_slice.specs.base.Window.{write_at}
-use Rattle.bitvec_slice.specs.base.WriteLaws.{get-write_at_above, get-write_at_below, range-write_at, range-write_at_after, range-write_at_before}
-use Rattle.bitvec_slice.specs.base.declared.window.Window.{Window}
+use Rattle.bitvec_split.specs.base.Window.{write_at}
+use Rattle.bitvec_split.specs.base.WriteLaws.{get-write_at_above, get-write_at_below, range-write_at, range-write_at_after, range-write_at_before}
+use Rattle.bitvec_split.specs.base.declared.window.Window.{Window}
 use Rattle.bitvec_cutting.specs.Cutting.{LiesIn, cut}
 use Rattle.bitvec_pieces.specs.Pieces.{EditsNumbered, IsApart, IsLeftOut, IsNumbered, Narrows, WayToCut}
 use Rattle.bitvec_pieces.specs.Shown.{Shown, StaysInPlace, WritesShown}

@@ -2,8 +2,8 @@
 use Rattle.std.specs.Prelude.{◌≡◌, ℕ, ◌+◌, ◌-◌, ◌<◌, ◌≤◌, ◌⊎◌, ◌++◌, Bool, List, slice_index_or, ⊤}
 use Rattle.std.specs.Borrow.{MutBor}
 use Rattle.std.specs.declared.ops.Range.{Range}
-use Rattle.bitvec_slice.specs.base.Window.{max_bits, window_range, write_at}
-use Rattle.bitvec_slice.specs.base.declared.window.Window.{Window}
+use Rattle.bitvec_split.specs.base.Window.{max_bits, window_range, write_at}
+use Rattle.bitvec_split.specs.base.declared.window.Window.{Window}
 use Rattle.bitvec_cutting.specs.Cutting.{back_chunk, chunk, chunk_count, cut, whole_chunk, whole_count}
 use Rattle.bitvec_pieces.specs.Shown.{Shown, StandsAt, StaysInPlace}
 

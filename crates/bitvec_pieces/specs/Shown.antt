@@ -1,8 +1,8 @@
 -- What a writable view shows of itself to edits of its parts.
 use Rattle.std.specs.Prelude.{◌≡◌, ℕ, ◌+◌, ◌≤◌, Bool, List, drop, length, take}
 use Rattle.std.specs.Borrow.{GName}
-use Rattle.bitvec_slice.specs.base.Window.{IsWithin, max_bits, window_of}
-use Rattle.bitvec_slice.specs.base.declared.window.Window.{Window}
+use Rattle.bitvec_split.specs.base.Window.{IsWithin, max_bits, window_of}
+use Rattle.bitvec_split.specs.base.declared.window.Window.{Window}
 
 -- the bits of its memory, its window there, its own bits, those before and after it, how many elements
 -- the memory has, and its name among borrows: the window lies in the memory, and the bits are those in it

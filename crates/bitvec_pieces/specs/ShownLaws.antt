@@ -2,10 +2,10 @@
 use Rattle.std.specs.Prelude.{◌≡◌, ℕ, ◌+◌, ◌-◌, ◌≤◌, ◌++◌, Bool, List, drop, length, slice_range, take}
 use Rattle.std.specs.declared.ops.Range.{Range}
 use Rattle.std.proofs.Common.{arith, refl, sym, ◌∙◌, ap, length-append, length-drop}
-use Rattle.bitvec_slice.specs.base.Window.{IsWithin, window_of, window_range, write_at, write_window}
-use Rattle.bitvec_slice.specs.base.WindowLaws.{length-window, part-of_window, part-written, window-written}
-use Rattle.bitvec_slice.specs.base.WriteLaws.{drop-write_at, length-write_at, range-write_at_after, take-write_at, write_at-all, write_at-next, write_at-same}
-use Rattle.bitvec_slice.specs.base.declared.window.Window.{Window}
+use Rattle.bitvec_split.specs.base.Window.{IsWithin, window_of, window_range, write_at, write_window}
+use Rattle.bitvec_split.specs.base.WindowLaws.{length-window, part-of_window, part-written, window-written}
+use Rattle.bitvec_split.specs.base.WriteLaws.{drop-write_at, length-write_at, range-write_at_after, take-write_at, write_at-all, write_at-next, write_at-same}
+use Rattle.bitvec_split.specs.base.declared.window.Window.{Window}
 use Rattle.bitvec_cutting.specs.Cutting.{LiesIn, cut}
 use Rattle.bitvec_pieces.specs.Pieces.{IsPieceOf, Narrows, range_of}
 use Rattle.bitvec_pieces.specs.Shown.{Shown, StandsAt, StaysInPlace, WritesShown}

@@ -1,14 +1,14 @@
 -- What a writable view of bits shows, and that what leaves it so has written its bits.
 use Rattle.std.specs.Prelude.{◌≡◌, ◌+◌, Bool, List, drop, length, refl, take}
 use Rattle.std.proofs.Common.{arith, ap, ◌∙◌}
-use Rattle.bitvec_slice.specs.store.declared.store.BitStore.{Ghosts as Store}
-use Rattle.bitvec_slice.specs.base.Window.{write_window}
-use Rattle.bitvec_slice.specs.base.declared.order.BitOrder.{Ghosts as Order}
-use Rattle.bitvec_slice.specs.Seen.{Seen, outside_of}
-use Rattle.bitvec_slice.specs.SeenLaws.{length-memory, within_memory}
-use Rattle.bitvec_slice.specs.Views.{name_of, seen_mut}
-use Rattle.bitvec_slice.specs.Writes.{WritesBits}
-use Rattle.bitvec_slice.specs.declared.view_mut.BitSliceMut.{BitSliceMut}
+use Rattle.bitvec_split.specs.store.declared.store.BitStore.{Ghosts as Store}
+use Rattle.bitvec_split.specs.base.Window.{write_window}
+use Rattle.bitvec_split.specs.base.declared.order.BitOrder.{Ghosts as Order}
+use Rattle.bitvec_split.specs.slice.Seen.{Seen, outside_of}
+use Rattle.bitvec_split.specs.slice.SeenLaws.{length-memory, within_memory}
+use Rattle.bitvec_split.specs.slice.Views.{name_of, seen_mut}
+use Rattle.bitvec_split.specs.slice.Writes.{WritesBits}
+use Rattle.bitvec_split.specs.slice.declared.view_mut.BitSliceMut.{BitSliceMut}
 use Rattle.bitvec_pieces.specs.Shown.{Shown, WritesShown}
 use Rattle.bitvec_pieces.specs.ShownLaws.{kept-memory}
 

@@ -1,13 +1,13 @@
 //! Edits of parts of a view by closures.
 ghost use Rattle.std.specs.Prelude.{◌≡◌, ℕ, ◌<◌, ◌≤◌, Bool, List, length};
-ghost use Rattle.bitvec_slice.specs.base.Window.{IsWithin, write_at};
-ghost use Rattle.bitvec_slice.specs.Indices.{HasRange};
+ghost use Rattle.bitvec_split.specs.base.Window.{IsWithin, write_at};
+ghost use Rattle.bitvec_split.specs.slice.Indices.{HasRange};
 ghost use Rattle.bitvec_pieces.specs.Shown.{Shown, StandsAt, WritesShown};
 ghost use Rattle.bitvec_pieces.specs.Pieces.{EditsHalves, EditsPiece, EditsPieces, IsApart, IsPieceOf, MayEdit, MayEditEach, Narrows, way_of, in_back_chunks, in_chunks, in_whole_back_chunks, in_whole_chunks, range_of};
 
 use crate::Inside;
 use bitvec_cutting::{Cutting, InChunks, InChunksFromEnd, InExactChunks, InExactChunksFromEnd};
-use bitvec_slice::base::Window;
+use bitvec_split::base::Window;
 use std::ops::Range;
 
 /// Edits of parts of a writable view by closures, which take the view itself, narrowed to the part

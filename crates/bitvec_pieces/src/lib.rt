@@ -1,25 +1,25 @@
-//! Edits of parts of a writable view in its place, by closures: the view is known exactly afterwards.
+//! Edits of parts of a writable view, and of the pieces of a split, in the view's place, by closures: the
+//! view is known exactly afterwards.
 #![tactic(auto)]
 
 mod edit_parts;
+mod edit_splits;
 mod inside;
+mod left;
 mod views;
 
-/// What crates above name of `bitvec_base`.
-pub mod base {
-    pub use bitvec_slice::base::BitOrder;
-}
-
-/// What crates above name of `bitvec_slice`.
-pub mod slice {
-    pub use bitvec_slice::{BitSlice, BitSliceMut};
-}
-
-/// What crates above name of `bitvec_store`.
-pub mod store {
-    pub use bitvec_slice::store::BitStore;
+/// What crates above name of `bitvec_split`.
+pub mod split {
+    pub use bitvec_split::{
+        CountedSplitWalk, Forward, Inclusive, RSplit, RSplitMut, RSplitN, RSplitNMut, Reversed,
+        Split, SplitCalls, SplitCallsMut, SplitInclusive, SplitInclusiveMut, SplitMut, SplitN,
+        SplitNMut, SplitWalk, Splits, SplitsMut, SplitsN, SplitsNMut, Way,
+    };
 }
 
 pub use edit_parts::EditParts;
+pub use edit_splits::EditSplits;
 #[doc(hidden)]
 pub use inside::Inside;
+#[doc(hidden)]
+pub use left::ToSplit;

@@ -1,4 +1,5 @@
 pub mod base
+pub mod cells
 pub mod engine
 pub mod slice
 pub mod store

@@ -12,12 +12,12 @@ pub mod base {
 
 /// What crates above name of `bitvec_cells`.
 pub mod cells {
-    pub use bitvec_slice::cells::Shared;
+    pub use bitvec_slice::cells::{CellsRead, Shared};
 }
 
 /// What crates above name of `bitvec_engine`.
 pub mod engine {
-    pub use bitvec_slice::engine::SliceOrder;
+    pub use bitvec_slice::engine::{SliceOrder, count, count_zeros};
 }
 
 /// What crates above name of `bitvec_slice`.

@@ -7,11 +7,13 @@ pub use Rattle.bitvec_elements.specs.base.FilledLaws
 pub use Rattle.bitvec_elements.specs.base.FoundLaws
 pub use Rattle.bitvec_elements.specs.base.LeadingLaws
 pub use Rattle.bitvec_elements.specs.base.Lists
+pub use Rattle.bitvec_elements.specs.base.ListsLaws
 pub use Rattle.bitvec_elements.specs.base.Memory
 pub use Rattle.bitvec_elements.specs.base.MemoryLaws
 pub use Rattle.bitvec_elements.specs.base.Order
 pub use Rattle.bitvec_elements.specs.base.PlacesLaws
 pub use Rattle.bitvec_elements.specs.base.RotationLaws
+pub use Rattle.bitvec_elements.specs.base.ScanLaws
 pub use Rattle.bitvec_elements.specs.base.SliceLaws
 pub use Rattle.bitvec_elements.specs.base.Window
 pub use Rattle.bitvec_elements.specs.base.WindowLaws

@@ -1,3 +1,6 @@
+pub mod base
+pub mod slice
+pub mod store
 pub mod AnyLender
 pub mod Asked
 pub mod AskedLaws

@@ -15,6 +15,21 @@ mod texts;
 mod walks;
 mod ways;
 
+/// What crates above name of `bitvec_base`.
+pub mod base {
+    pub use bitvec_slice::base::{BitOrder, Window};
+}
+
+/// What crates above name of `bitvec_slice`.
+pub mod slice {
+    pub use bitvec_slice::{BitSliceMut, RawElements};
+}
+
+/// What crates above name of `bitvec_store`.
+pub mod store {
+    pub use bitvec_slice::store::BitStore;
+}
+
 pub use calls::SplitCalls;
 pub use calls_mut::SplitCallsMut;
 pub use counted_lending::{RSplitNMut, SplitNMut, SplitsNMut};

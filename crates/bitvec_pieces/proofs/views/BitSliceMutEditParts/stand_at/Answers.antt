@@ -1,4 +1,4 @@
-use Rattle.bitvec_slice.specs.SeenLaws.{length-memory}
+use Rattle.bitvec_split.specs.slice.SeenLaws.{length-memory}
 use Rattle.bitvec_pieces.proofs.views.BitSliceMutEditParts.stand_at.Goals as goal
 
 pub stand_at-requires : goal.stand_at-requires

@@ -1,0 +1,17 @@
+use Rattle.bitvec_split.specs.Lent.{MayGoOnIn, SplitNextIn, unsplit_in}
+use Rattle.bitvec_pieces.specs.ToSplit.{left_at, most_left}
+use Rattle.bitvec_pieces.specs.TurnsLaws.{TurnsSoFar}
+use Rattle.bitvec_pieces.proofs.edit_splits.EditSplits.for_each_piece_between.Given as goal
+
+abbrev pub invariant-loop-range : goal.invariant-loop-range
+invariant-loop-range g l =
+    let shows = g.Self.EditParts.shows in
+    let view = g.Self.EditSplits.seen l.fn.self in
+    record {
+      turns : TurnsSoFar shows (goal.F-step g) (shows l.fn.self) (SplitNextIn g.P.FnMut g.W.Way.INCLUSIVE g.W.Way.REVERSED) (unsplit_in g.W.Way.INCLUSIVE view l.fn.pred) l.fn.edit
+          (left_at view l.left l.pred) l.left (shows l.self) l.edit l.number;
+      callable : MayGoOnIn g.P.FnMut (left_at view l.left l.pred);
+    }
+
+abbrev pub decreases-loop-range : goal.decreases-loop-range
+decreases-loop-range g l = most_left l.left

@@ -1,5 +1,0 @@
-use Rattle.bitvec_turns.specs.TurnsLaws.{turn-back}
-use Rattle.bitvec_turns.proofs.turns.take_from.Goals as goal
-
-pub returns-in-Back-clause-gives : goal.returns-in-Back-clause-gives
-returns-in-Back-clause-gives g c = rw c.in-Back.is (turn-back _ _ _ c.take_last.ensures.gives)
