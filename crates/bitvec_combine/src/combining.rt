@@ -1,4 +1,5 @@
-//! Each bit of a window with the one at its index in another, elements at a time.
+//! Each bit of a window with the one at its index in another, elements at a time. All down to the loops is
+//! inlined into the function that makes the accessors, so that each operator has loops of its own.
 ghost use Rattle.std.specs.Prelude.{◌≡◌, ℕ, ◌+◌, ◌-◌, ◌*◌, ◌/◌, ◌%◌, ◌<◌, ◌≤◌, slice_index, true};
 ghost use Rattle.bitvec_move.specs.base.Lists.{combined};
 ghost use Rattle.bitvec_move.specs.base.Memory.{HasWindow, Writes, list_in};
@@ -20,6 +21,7 @@ use bitvec_move::words::{BitOp, WordOrder, field, field_after};
 /// and stores each element that the window touches at most once, and loads each element with a bit
 /// that both have on the right once.
 #[tactic(auto, using(bitvec_move::specs::Cited::in_steps, bitvec_move::specs::Cited::width_some))]
+#[inline(always)]
 pub fn combine<O: WordOrder, C: Cells, D: CellsRead<Elem = C::Elem>>(
     left: &mut C,
     to: Window,
@@ -43,6 +45,7 @@ pub fn combine<O: WordOrder, C: Cells, D: CellsRead<Elem = C::Elem>>(
 }
 
 /// The same, where the other window isn't empty and no longer.
+#[inline(always)]
 fn combine_met<O: WordOrder, C: Cells, D: CellsRead<Elem = C::Elem>>(
     left: &mut C,
     to: Window,
@@ -77,6 +80,7 @@ fn combine_met<O: WordOrder, C: Cells, D: CellsRead<Elem = C::Elem>>(
 }
 
 /// The same for two windows that begin where elements do, of which the other may be empty.
+#[inline(always)]
 fn combine_aligned<O: WordOrder, C: Cells, D: CellsRead<Elem = C::Elem>>(
     left: &mut C,
     to: Window,
@@ -110,6 +114,7 @@ fn combine_aligned<O: WordOrder, C: Cells, D: CellsRead<Elem = C::Elem>>(
 
 /// The same for a window that begins where an element does and another that doesn't, whose first
 /// element was loaded before.
+#[inline(always)]
 fn combine_shifted<O: WordOrder, C: Cells, D: CellsRead<Elem = C::Elem>>(
     left: &mut C,
     to: Window,

@@ -46,6 +46,7 @@ pub(crate) fn padded<O: BitOrder, T: BitStore>(element: T, len: usize) -> T
 
 /// Replaces the bits of a part by what the operator makes of them and the bits of a window that is
 /// no longer, with zeros behind these. It gives the last element loaded.
+#[inline(always)]
 pub(crate) fn combine_head<O: WordOrder, C: Cells, D: CellsRead<Elem = C::Elem>>(
     left: &mut C,
     part: Part,
@@ -85,6 +86,7 @@ pub(crate) fn combine_zeros<O: BitOrder, C: Cells>(cells: &mut C, window: Window
 
 /// Replaces the bits of a window that begins where an element does by what the operator makes of
 /// them and the bits of an element, with zeros behind these.
+#[inline(always)]
 pub(crate) fn combine_end<O: BitOrder, C: Cells>(
     cells: &mut C,
     window: Window,
@@ -104,6 +106,7 @@ pub(crate) fn combine_end<O: BitOrder, C: Cells>(
 }
 
 /// Combines `count` whole elements with as many of another memory, each loaded once.
+#[inline(always)]
 pub(crate) fn combine_whole<O: BitOrder, C: Cells, D: CellsRead<Elem = C::Elem>>(
     left: &mut C,
     first: usize,
@@ -129,6 +132,7 @@ pub(crate) fn combine_whole<O: BitOrder, C: Cells, D: CellsRead<Elem = C::Elem>>
 
 /// Combines `count` whole elements with the bits at the index `skip` of an element of another
 /// memory on, where that element is `carry`. It gives the last element loaded.
+#[inline(always)]
 pub(crate) fn combine_joined<O: WordOrder, C: Cells, D: CellsRead<Elem = C::Elem>>(
     left: &mut C,
     first: usize,

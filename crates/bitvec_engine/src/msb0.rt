@@ -1,4 +1,5 @@
-//! Bit operations on whole windows under `Msb0`: by words.
+//! Bit operations on whole windows under `Msb0`: by words. What loops is inlined into the function that makes the
+//! accessors: vectors come only where the compiler sees through them, in loops of each caller's own.
 #![tactic(auto)]
 
 ghost use Rattle.std.specs.Prelude.{refl, true};
@@ -47,7 +48,6 @@ impl SliceOrder for Msb0 {
         swap::<Self, C, D>(left, left_window, right, right_window);
     }
 
-    // into the function that makes the accessor, as all of `copy_within` is
     #[inline(always)]
     fn block_copy_within<C: Cells>(
         cells: &mut C,

@@ -22,6 +22,7 @@ const BLOCK_BITS: usize = 4 * WORD_BITS;
 /// The index of a window's first bit that is `want`, if there is one. Condition: the memory has at
 /// most `MAX_BITS` bits, and the window lies in it. It loads each element that the window touches at
 /// most once, those of a block together.
+#[inline(always)]
 pub(crate) fn words_scan_first<O: WordOrder, C: CellsRead>(
     cells: &mut C,
     window: Window,
