@@ -1,9 +1,9 @@
 //! Readers and writers that give little or fail, and want of memory.
 use crate::support::{expect_read, is_enough, status, words};
+use bitvec_test_support::{FailingReader, FailingWriter, OneByteReader};
 use std::io::ErrorKind;
 use std::process::Abort;
 use std::test::Fail;
-use test_streams::{FailingReader, FailingWriter, OneByteReader};
 
 const ARGS: &str = "8 lsb0 01,02 FF 0 16";
 

@@ -1,11 +1,11 @@
 //! A call of `work` on plain texts.
 use bitdo_work::work;
+use bitvec_test_support::Refusing;
 use std::alloc::{AllocError, Allocator, Global};
 use std::io::{Read, Write};
 use std::process::Abort;
 use std::str;
 use std::test::Fail;
-use test_streams::Refusing;
 
 /// The words of a text, cut at each space.
 pub(crate) fn words(alloc: Global, text: &str) -> Result<Vec<String>, AllocError> {

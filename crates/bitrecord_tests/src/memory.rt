@@ -1,7 +1,7 @@
 //! Want of memory.
 use bitrecord::bits::Window;
 use bitrecord::{Layout, LayoutError};
-use test_streams::Refusing;
+use bitvec_test_support::Refusing;
 
 #[test]
 fn each_growth_refused(rt: HostRuntime) {

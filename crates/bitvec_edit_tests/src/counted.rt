@@ -5,7 +5,7 @@ use bitvec_edit::BitEdits;
 use bitvec_edit::base::Lsb0;
 use bitvec_edit::slice::BitSliceMut;
 use bitvec_pieces::EditParts;
-use test_bits::{MEMORIES, bits_of};
+use bitvec_test_support::{MEMORIES, bits_of};
 
 /// The bit of a number at an index: those of the lowest three, and behind them zeros.
 fn digit(number: usize, index: usize) -> bool {

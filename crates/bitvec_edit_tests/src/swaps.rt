@@ -4,7 +4,7 @@ use bitvec_edit::BitEdits;
 use bitvec_edit::base::{HiLo, Lsb0, Msb0};
 use bitvec_edit::engine::SliceOrder;
 use bitvec_edit::slice::BitSliceMut;
-use test_bits::{MEMORIES, bits_of};
+use bitvec_test_support::{MEMORIES, bits_of};
 
 /// Exchanges `width` bits from `first` on with those from `second` on, of the bits 3 up to 21, if they have
 /// these and the ranges lie apart.

@@ -3,9 +3,9 @@
 use bitvec_iter::{IterCalls, PieceCallsMut};
 use bitvec_query::base::Lsb0;
 use bitvec_query::slice::{BitSlice, BitSliceMut};
+use bitvec_test_support::shows;
 use std::alloc::Global;
 use std::test::Fail;
-use test_bits::shows;
 
 #[test]
 fn walks_print_their_pieces(rt: HostRuntime) {

@@ -4,7 +4,7 @@ use crate::reading::read;
 use bitvec_iter::IterCalls;
 use bitvec_query::base::Msb0;
 use bitvec_query::slice::BitSlice;
-use test_bits::stays_ended_at_both;
+use bitvec_test_support::stays_ended_at_both;
 
 /// Whether the walk gives nothing behind its end, and nothing ever after.
 fn ends<I: Iterator>(mut walk: I) -> bool

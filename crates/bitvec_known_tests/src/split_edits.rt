@@ -11,8 +11,8 @@ ghost use Rattle.bitvec.specs.Views.{seen_mut};
 ghost use Rattle.bitvec.specs.Writes.{WritesBits};
 
 use bitvec::prelude::*;
+use bitvec_test_support::{MEMORIES, bits_of};
 use std::process::Abort;
-use test_bits::{MEMORIES, bits_of};
 
 /// Makes the bits between the ones ones, piece by piece: no one becomes a zero.
 pub fn fill_between_ones<T: BitStore, O: SliceOrder>(view: &mut BitSliceMut<'_, T, O>)

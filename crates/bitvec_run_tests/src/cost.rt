@@ -4,11 +4,10 @@ use bitvec_plain::base::{Lsb0, Msb0};
 use bitvec_plain::cells::{Exclusive, Shared};
 use bitvec_plain::commands::{Op, RunError, Step, Window, run};
 use bitvec_plain::engine::SliceOrder;
-use bitvec_test_support::Counted;
+use bitvec_test_support::{Counted, Refusing};
 use std::alloc::Allocator;
 use std::process::Abort;
 use std::test::Fail;
-use test_streams::Refusing;
 
 /// The bytes of the window.
 fn ones() -> [u8; 512] {

@@ -2,8 +2,8 @@
 use crate::slices::{FOUR_NIBBLES_REPLIES, answer, four_nibbles};
 use bitvec_plain::base::Lsb0;
 use bitvec_plain::commands::{RunError, Window};
+use bitvec_test_support::Refusing;
 use std::mem::size_of_val;
-use test_streams::Refusing;
 
 const WINDOW: Window = Window { start: 0, len: 16 };
 

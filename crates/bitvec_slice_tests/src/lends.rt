@@ -4,8 +4,8 @@
 use bitvec_edit::BitEdits;
 use bitvec_query::base::{Lsb0, Window};
 use bitvec_query::slice::{BitSliceIndex, BitSliceMut};
+use bitvec_test_support::{MEMORIES, bits_of, flipped};
 use std::process::Abort;
-use test_bits::{MEMORIES, bits_of, flipped};
 
 /// A call that lends bits of a view.
 #[derive(Clone, Copy)]

@@ -5,9 +5,9 @@ ghost use Rattle.std.specs.Prelude.{◌≤◌};
 use bitvec_edit::reference::BitRefMut;
 use bitvec_query::base::{Lsb0, Msb0};
 use bitvec_query::slice::{BitSlice, BitSliceMut};
+use bitvec_test_support::shows;
 use std::alloc::Global;
 use std::test::Fail;
-use test_bits::shows;
 
 /// The two texts of a writable view of the bits.
 fn texts_of(alloc: Global, cells: &mut [u8; 1]) -> Result<String, Fail> {

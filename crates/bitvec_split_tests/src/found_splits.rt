@@ -5,8 +5,8 @@ use crate::lent_splits::{Asked, Ends, Kind, Lengths, split_list, split_list_into
 use bitvec_query::base::Lsb0;
 use bitvec_query::slice::BitSliceMut;
 use bitvec_split::SplitCallsMut;
+use bitvec_test_support::{MEMORIES, bits_of};
 use std::process::Abort;
-use test_bits::{MEMORIES, bits_of};
 
 /// What thirty calls gave, what was asked, and whether nothing is left.
 type Found = (Lengths, Asked, bool);

@@ -6,8 +6,8 @@
 use bitvec_query::base::Lsb0;
 use bitvec_query::slice::BitSliceMut;
 use bitvec_split::SplitCallsMut;
+use bitvec_test_support::{MEMORIES, bits_of, flip};
 use std::process::Abort;
-use test_bits::{MEMORIES, bits_of, flip};
 
 /// What a predicate was asked about, in turn: indices and bits.
 #[derive(Clone, Copy, Debug, PartialEq)]

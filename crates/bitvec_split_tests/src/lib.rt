@@ -1,14 +1,24 @@
-//! Splits of views by a predicate, shared ones and writable ones that lend a piece at a time: callers,
-//! and what no clause says.
+//! Views that are split, by a predicate, shared or lent a piece at a time, and at the edges of elements, into
+//! domains and bit domains: callers, and what no clause says.
 #![tactic(auto)]
 
 #[cfg(test)]
 mod asked;
 #[cfg(test)]
+mod bit_domains;
+#[cfg(test)]
+mod bit_parts;
+#[cfg(test)]
+mod domains;
+#[cfg(test)]
 mod found_splits;
 #[cfg(test)]
 mod lent;
 #[cfg(test)]
+mod lent_domains;
+#[cfg(test)]
 mod lent_splits;
+#[cfg(test)]
+mod parts;
 #[cfg(test)]
 mod pieces;

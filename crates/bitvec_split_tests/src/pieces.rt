@@ -5,8 +5,8 @@ use bitvec_query::base::{BitOrder, Lsb0, Msb0};
 use bitvec_query::slice::{BitSlice, BitSliceMut};
 use bitvec_query::store::BitStore;
 use bitvec_split::SplitCalls;
+use bitvec_test_support::{stays_ended, stays_ended_at_both};
 use std::test::Fail;
-use test_bits::{stays_ended, stays_ended_at_both};
 
 /// A view's bits as digits behind a 1, read as a number.
 fn number<T: BitStore, O: BitOrder>(piece: BitSlice<'_, T, O>) -> u32 {

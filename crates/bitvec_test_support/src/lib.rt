@@ -1,9 +1,17 @@
-//! What the tests of several crates share: an accessor that tallies its calls as it runs, and
-//! elements with no pattern.
+//! What tests share: an accessor that tallies its calls as it runs, elements with no pattern, an allocator that
+//! refuses, readers and writers that give little or fail, three bytes as a plain list of bits, walks that are
+//! called past their end, and what values print.
 #![tactic(auto)]
 
 mod counted;
+mod ends;
+mod memory;
 mod mixed;
+pub mod refusing;
+pub mod streams;
+#[cfg(test)]
+mod tests;
+mod texts;
 
 /// What crates above name of `bitvec_base`.
 pub mod base {
@@ -21,4 +29,9 @@ pub mod store {
 }
 
 pub use counted::Counted;
+pub use ends::{stays_ended, stays_ended_at_both};
+pub use memory::{MEMORIES, bits_of, flip, flipped};
 pub use mixed::mixed_elements;
+pub use refusing::Refusing;
+pub use streams::{FailingReader, FailingWriter, OneByteReader};
+pub use texts::{prints, shows};

@@ -4,9 +4,9 @@ use bitvec_owned::query::base::{Lsb0, Msb0, Window};
 use bitvec_owned::query::engine::SliceOrder;
 use bitvec_owned::query::slice::{BitSlice, BitSliceMut};
 use bitvec_owned::{BitVec, ToBitVec};
+use bitvec_test_support::{bits_of, flipped};
 use std::alloc::Global;
 use std::test::Fail;
-use test_bits::{bits_of, flipped};
 
 /// A copy of the bits 4 to 12 of two bytes.
 fn middle<O: SliceOrder>(alloc: Global, bytes: &[u8; 2]) -> Result<BitVec<u8, O, Global>, Fail> {

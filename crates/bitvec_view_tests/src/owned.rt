@@ -8,10 +8,10 @@ use bitvec_owned::query::BitQueries;
 use bitvec_owned::query::base::{Lsb0, Msb0};
 use bitvec_owned::query::slice::{BitSlice, BitSliceMut};
 use bitvec_owned::{BitVec, ToBitVec};
+use bitvec_test_support::{prints, shows};
 use std::alloc::{AllocError, Global};
 use std::cmp::Ordering;
 use std::test::Fail;
-use test_bits::{prints, shows};
 
 type Bits = BitVec<u8, Lsb0, Global>;
 

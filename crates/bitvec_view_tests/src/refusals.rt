@@ -3,9 +3,9 @@
 use bitvec_owned::query::base::Lsb0;
 use bitvec_owned::query::slice::{BitSlice, BitSliceMut};
 use bitvec_owned::{BitVec, RepeatError, ToBitVec};
+use bitvec_test_support::Refusing;
 use std::alloc::{AllocError, Global};
 use std::test::Fail;
-use test_streams::Refusing;
 
 const BYTES: [u8; 16] = [0xB4; 16];
 

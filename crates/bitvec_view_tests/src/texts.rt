@@ -4,9 +4,9 @@ use bitvec_field::{Binary, LowerHex, Octal, UpperHex};
 use bitvec_owned::query::base::{Lsb0, Msb0};
 use bitvec_owned::query::slice::{BitSlice, BitSliceMut};
 use bitvec_split::{SplitCalls, SplitCallsMut};
+use bitvec_test_support::{prints, shows};
 use std::alloc::Global;
 use std::test::Fail;
-use test_bits::{prints, shows};
 
 #[test]
 fn one_element(rt: HostRuntime) -> Result<(), Fail> {

@@ -1,0 +1,46 @@
+//! How many loads and stores a step with a number takes.
+use bitvec_field::base::{Lsb0, Window};
+use bitvec_field::cells::{Exclusive, Shared};
+use bitvec_run_halves::commands::{FieldOp, FieldStep, RunError, run_fields};
+use bitvec_test_support::Counted;
+use std::alloc::Allocator;
+use std::test::Fail;
+
+/// The loads and stores of a step on the first 24 bits of some bytes.
+fn tallies<A: Allocator>(
+    alloc: A,
+    bytes: &mut [u8],
+    from: usize,
+    to: usize,
+    op: FieldOp,
+) -> Result<(u64, u64), RunError> {
+    let mut cells = Counted::new(Exclusive::new(bytes));
+    let mut right = Shared::new(&[]);
+    let window = Window { start: 0, len: 24 };
+    let steps = [FieldStep { from, to, op }];
+    let _replies = run_fields::<Lsb0, _, _, _>(alloc, &mut cells, window, &mut right, &steps)?;
+    Ok((cells.loads(), cells.stores()))
+}
+
+#[test]
+fn a_number_takes_its_elements_once(rt: HostRuntime) -> Result<(), Fail> {
+    let mut bytes = [0x03u8, 0xC0, 0xFF];
+    let (loads, stores) = tallies(rt.alloc(), &mut bytes, 2, 14, FieldOp::StoreLe(0xABC))?;
+    assert!(rt; loads <= 2 && stores <= 2);
+    assert!(rt; bytes == [0xF3, 0xEA, 0xFF]);
+    let (loads, stores) = tallies(rt.alloc(), &mut bytes, 2, 14, FieldOp::LoadBe)?;
+    assert!(rt; loads <= 2 && stores == 0);
+    let (loads, stores) = tallies(rt.alloc(), &mut bytes, 4, 20, FieldOp::StoreBe(0))?;
+    assert!(rt; loads <= 2 && stores <= 3);
+    assert!(rt; bytes == [0x03, 0x00, 0xF0]);
+    Ok(())
+}
+
+#[test]
+fn a_number_of_no_bits_takes_nothing(rt: HostRuntime) -> Result<(), Fail> {
+    let mut bytes = [0x03u8, 0xC0, 0xFF];
+    let taken = tallies(rt.alloc(), &mut bytes, 3, 3, FieldOp::StoreLe(1))?;
+    assert!(rt; taken == (0, 0));
+    assert!(rt; bytes == [0x03, 0xC0, 0xFF]);
+    Ok(())
+}

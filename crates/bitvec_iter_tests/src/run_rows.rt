@@ -1,0 +1,77 @@
+//! Worked rows of runs with numbers.
+use bitvec_field::base::{Lsb0, Window};
+use bitvec_field::cells::{Exclusive, Shared};
+use bitvec_run_halves::commands::{FieldOp, FieldStep, Op, Refusal, Reply, run_fields};
+use std::test::Fail;
+
+fn step(from: usize, to: usize, op: FieldOp) -> FieldStep {
+    FieldStep { from, to, op }
+}
+
+#[test]
+fn numbers_are_loaded_stored_and_refused(rt: HostRuntime) -> Result<(), Fail> {
+    let mut cells = [0xB4u8, 0x6E];
+    let steps = [
+        step(4, 12, FieldOp::LoadLe),
+        step(4, 12, FieldOp::LoadBe),
+        step(2, 7, FieldOp::StoreLe(300)),
+        step(2, 7, FieldOp::LoadLe),
+        step(3, 3, FieldOp::LoadBe),
+        step(0, 8, FieldOp::Plain(Op::CountOnes)),
+    ];
+    let mut memory = Exclusive::new(&mut cells);
+    let mut right = Shared::new(&[]);
+    let window = Window { start: 0, len: 16 };
+    let replies = run_fields::<Lsb0, _, _, _>(rt.alloc(), &mut memory, window, &mut right, &steps)?;
+    assert!(rt;
+        replies.as_slice()
+            == [
+                Reply::Number(235),
+                Reply::Number(190),
+                Reply::Done,
+                Reply::Number(12),
+                Reply::Refused(Refusal::Width),
+                Reply::Count(3),
+            ]
+            .as_slice()
+    );
+    assert!(rt; cells == [0xB0, 0x6E]);
+    Ok(())
+}
+
+#[test]
+fn a_field_has_at_most_128_bits(rt: HostRuntime) -> Result<(), Fail> {
+    let mut cells = [1u8, 0, 0, 0, 0, 0, 0, 0, 0, 0, 0, 0, 0, 0, 0, 0x80, 0xFF];
+    let steps = [step(0, 129, FieldOp::LoadLe), step(0, 128, FieldOp::LoadLe)];
+    let mut memory = Exclusive::new(&mut cells);
+    let mut right = Shared::new(&[]);
+    let window = Window { start: 0, len: 136 };
+    let replies = run_fields::<Lsb0, _, _, _>(rt.alloc(), &mut memory, window, &mut right, &steps)?;
+    assert!(rt;
+        replies.as_slice()
+            == [
+                Reply::Refused(Refusal::Width),
+                Reply::Number(0x8000_0000_0000_0000_0000_0000_0000_0001),
+            ]
+            .as_slice()
+    );
+    Ok(())
+}
+
+#[test]
+fn a_number_across_two_wide_elements(rt: HostRuntime) -> Result<(), Fail> {
+    let mut cells = [0u128; 2];
+    let steps = [
+        step(64, 192, FieldOp::StoreBe(1)),
+        step(64, 192, FieldOp::LoadLe),
+    ];
+    let mut memory = Exclusive::new(&mut cells);
+    let mut right = Shared::new(&[]);
+    let window = Window { start: 0, len: 256 };
+    let replies = run_fields::<Lsb0, _, _, _>(rt.alloc(), &mut memory, window, &mut right, &steps)?;
+    assert!(rt;
+        replies.as_slice() == [Reply::Done, Reply::Number(18_446_744_073_709_551_616)].as_slice()
+    );
+    assert!(rt; cells == [0, 1]);
+    Ok(())
+}

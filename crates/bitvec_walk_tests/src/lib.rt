@@ -1,0 +1,23 @@
+//! Callers of walks over ones and zeros, and of the bits, halves and chunks of a writable view that are lent one
+//! at a time: what they know afterwards, and what no clause says.
+#![tactic(auto)]
+
+#[cfg(test)]
+mod callers;
+#[cfg(test)]
+mod chunks;
+#[cfg(test)]
+mod halves;
+pub mod known;
+#[cfg(test)]
+mod lent_bits;
+#[cfg(test)]
+mod meetings;
+#[cfg(test)]
+mod remainders;
+#[cfg(test)]
+mod turns;
+#[cfg(test)]
+mod walked;
+#[cfg(test)]
+mod walks;
