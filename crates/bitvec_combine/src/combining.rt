@@ -1,25 +1,27 @@
-//! Each bit of a window with the one at its index in another, elements at a time.
+//! Each bit of a window with the one at its index in another, elements at a time. All down to the loops is
+//! inlined into the function that makes the accessors, so that each operator has loops of its own.
 ghost use Rattle.std.specs.Prelude.{◌≡◌, ℕ, ◌+◌, ◌-◌, ◌*◌, ◌/◌, ◌%◌, ◌<◌, ◌≤◌, slice_index, true};
-ghost use Rattle.bitvec_words.specs.base.Lists.{combined};
-ghost use Rattle.bitvec_words.specs.base.Memory.{HasWindow, Writes, list_in};
-ghost use Rattle.bitvec_words.specs.cells.Access.{CostsAtMost, OnlyReads, OnlyReadsAtMost};
-ghost use Rattle.bitvec_words.specs.walk.Cost.{edit_loads, read_loads, touched, write_stores};
-ghost use Rattle.bitvec_words.specs.Operator.{operator};
+ghost use Rattle.bitvec_move.specs.base.Lists.{combined};
+ghost use Rattle.bitvec_move.specs.base.Memory.{HasWindow, Writes, list_in};
+ghost use Rattle.bitvec_move.specs.cells.Access.{CostsAtMost, OnlyReads, OnlyReadsAtMost};
+ghost use Rattle.bitvec_move.specs.walk.Cost.{edit_loads, read_loads, touched, write_stores};
+ghost use Rattle.bitvec_move.specs.words.Operator.{operator};
 
 use crate::combining_elements::{
     combine_end, combine_head, combine_joined, combine_whole, combine_zeros, padded,
 };
-use bitvec_words::base::{BitOrder, Window, first_part};
-use bitvec_words::cells::{Cells, CellsRead};
-use bitvec_words::store::BitStore;
-use bitvec_words::{BitOp, WordOrder, field, field_after};
+use bitvec_move::base::{BitOrder, Window, first_part};
+use bitvec_move::cells::{Cells, CellsRead};
+use bitvec_move::store::BitStore;
+use bitvec_move::words::{BitOp, WordOrder, field, field_after};
 
 /// Replaces each bit of a window by what the operator makes of it and the one at its index in a
 /// window of another memory of the same elements, which counts as 0 past that window's end.
 /// Condition: each memory has at most `MAX_BITS` bits, and each window lies in its memory. It loads
 /// and stores each element that the window touches at most once, and loads each element with a bit
 /// that both have on the right once.
-#[tactic(auto, using(bitvec_words::specs::Cited::in_steps, bitvec_words::specs::Cited::width_some))]
+#[tactic(auto, using(bitvec_move::specs::Cited::in_steps, bitvec_move::specs::Cited::width_some))]
+#[inline(always)]
 pub fn combine<O: WordOrder, C: Cells, D: CellsRead<Elem = C::Elem>>(
     left: &mut C,
     to: Window,
@@ -43,6 +45,7 @@ pub fn combine<O: WordOrder, C: Cells, D: CellsRead<Elem = C::Elem>>(
 }
 
 /// The same, where the other window isn't empty and no longer.
+#[inline(always)]
 fn combine_met<O: WordOrder, C: Cells, D: CellsRead<Elem = C::Elem>>(
     left: &mut C,
     to: Window,
@@ -77,6 +80,7 @@ fn combine_met<O: WordOrder, C: Cells, D: CellsRead<Elem = C::Elem>>(
 }
 
 /// The same for two windows that begin where elements do, of which the other may be empty.
+#[inline(always)]
 fn combine_aligned<O: WordOrder, C: Cells, D: CellsRead<Elem = C::Elem>>(
     left: &mut C,
     to: Window,
@@ -110,6 +114,7 @@ fn combine_aligned<O: WordOrder, C: Cells, D: CellsRead<Elem = C::Elem>>(
 
 /// The same for a window that begins where an element does and another that doesn't, whose first
 /// element was loaded before.
+#[inline(always)]
 fn combine_shifted<O: WordOrder, C: Cells, D: CellsRead<Elem = C::Elem>>(
     left: &mut C,
     to: Window,

@@ -1,17 +1,17 @@
 //! Elements with the bits of others: a part of one, many whole ones, and zeros.
 ghost use Rattle.std.specs.Prelude.{◌≡◌, ℕ, ◌+◌, ◌-◌, ◌*◌, ◌/◌, ◌%◌, ◌<◌, ◌≤◌, [], false, min, ◌++◌, replicate, slice_index, slice_range, take};
-ghost use Rattle.bitvec_words.specs.base.Lists.{combined};
-ghost use Rattle.bitvec_words.specs.base.Memory.{HasWindow, Writes, element_bits, list_in};
-ghost use Rattle.bitvec_words.specs.base.Parts.{HasPart, part_window};
-ghost use Rattle.bitvec_words.specs.cells.Access.{Costs, CostsAtMost, OnlyReads, OnlyReadsAtMost};
-ghost use Rattle.bitvec_words.specs.walk.Cost.{touched};
-ghost use Rattle.bitvec_words.specs.Elements.{elements_window, elements_window_from};
-ghost use Rattle.bitvec_words.specs.Operator.{operator};
+ghost use Rattle.bitvec_move.specs.base.Lists.{combined};
+ghost use Rattle.bitvec_move.specs.base.Memory.{HasWindow, Writes, element_bits, list_in};
+ghost use Rattle.bitvec_move.specs.base.Parts.{HasPart, part_window};
+ghost use Rattle.bitvec_move.specs.cells.Access.{Costs, CostsAtMost, OnlyReads, OnlyReadsAtMost};
+ghost use Rattle.bitvec_move.specs.walk.Cost.{touched};
+ghost use Rattle.bitvec_move.specs.words.Elements.{elements_window, elements_window_from};
+ghost use Rattle.bitvec_move.specs.words.Operator.{operator};
 
-use bitvec_words::base::{BitOrder, Part, Window, first_part};
-use bitvec_words::cells::{Cells, CellsRead};
-use bitvec_words::store::BitStore;
-use bitvec_words::{BitOp, WordOrder, field, fill, joined, merged, toward_end};
+use bitvec_move::base::{BitOrder, Part, Window, first_part};
+use bitvec_move::cells::{Cells, CellsRead};
+use bitvec_move::store::BitStore;
+use bitvec_move::words::{BitOp, WordOrder, field, fill, joined, merged, toward_end};
 
 /// Replaces the bits of a part by what the operator makes of them and the bits of an element at the
 /// same indices.
@@ -46,6 +46,7 @@ pub(crate) fn padded<O: BitOrder, T: BitStore>(element: T, len: usize) -> T
 
 /// Replaces the bits of a part by what the operator makes of them and the bits of a window that is
 /// no longer, with zeros behind these. It gives the last element loaded.
+#[inline(always)]
 pub(crate) fn combine_head<O: WordOrder, C: Cells, D: CellsRead<Elem = C::Elem>>(
     left: &mut C,
     part: Part,
@@ -85,6 +86,7 @@ pub(crate) fn combine_zeros<O: BitOrder, C: Cells>(cells: &mut C, window: Window
 
 /// Replaces the bits of a window that begins where an element does by what the operator makes of
 /// them and the bits of an element, with zeros behind these.
+#[inline(always)]
 pub(crate) fn combine_end<O: BitOrder, C: Cells>(
     cells: &mut C,
     window: Window,
@@ -104,6 +106,7 @@ pub(crate) fn combine_end<O: BitOrder, C: Cells>(
 }
 
 /// Combines `count` whole elements with as many of another memory, each loaded once.
+#[inline(always)]
 pub(crate) fn combine_whole<O: BitOrder, C: Cells, D: CellsRead<Elem = C::Elem>>(
     left: &mut C,
     first: usize,
@@ -129,6 +132,7 @@ pub(crate) fn combine_whole<O: BitOrder, C: Cells, D: CellsRead<Elem = C::Elem>>
 
 /// Combines `count` whole elements with the bits at the index `skip` of an element of another
 /// memory on, where that element is `carry`. It gives the last element loaded.
+#[inline(always)]
 pub(crate) fn combine_joined<O: WordOrder, C: Cells, D: CellsRead<Elem = C::Elem>>(
     left: &mut C,
     first: usize,

@@ -1,22 +1,22 @@
 //! The bits of two windows compared, many at a time.
 ghost use Rattle.std.specs.Prelude.{◌≡◌, true};
-ghost use Rattle.bitvec_words.specs.base.Lists.{same_bits};
-ghost use Rattle.bitvec_words.specs.base.Memory.{HasWindow, list_in};
-ghost use Rattle.bitvec_words.specs.cells.Access.{OnlyReadsAtMost};
-ghost use Rattle.bitvec_words.specs.walk.Cost.{equal_loads};
+ghost use Rattle.bitvec_move.specs.base.Lists.{same_bits};
+ghost use Rattle.bitvec_move.specs.base.Memory.{HasWindow, list_in};
+ghost use Rattle.bitvec_move.specs.cells.Access.{OnlyReadsAtMost};
+ghost use Rattle.bitvec_move.specs.walk.Cost.{equal_loads};
 
 use crate::comparing_equal::equal_unshifted;
 use crate::comparing_shifted::equal_shifted;
-use bitvec_words::WordOrder;
-use bitvec_words::base::{BitOrder, Window};
-use bitvec_words::cells::CellsRead;
-use bitvec_words::store::BitStore;
+use bitvec_move::base::{BitOrder, Window};
+use bitvec_move::cells::CellsRead;
+use bitvec_move::store::BitStore;
+use bitvec_move::words::WordOrder;
 
 /// Whether two windows have the same bits. Condition: each memory has at most `MAX_BITS` bits, and
 /// each window lies in its memory. On each side it loads each element that the window touches at
 /// most once, and none where the windows aren't as long; it stops soon after the first bits that
 /// differ.
-#[tactic(auto, using(bitvec_words::specs::Cited::in_steps, bitvec_words::specs::Cited::width_some))]
+#[tactic(auto, using(bitvec_move::specs::Cited::in_steps, bitvec_move::specs::Cited::width_some))]
 pub fn equal<O: WordOrder, C: CellsRead, D: CellsRead<Elem = C::Elem>>(
     left: &mut C,
     left_window: Window,

@@ -1,16 +1,16 @@
 //! Windows compared that begin at the same index of an element: elements as they are.
 ghost use Rattle.std.specs.Prelude.{◌≡◌, ℕ, ◌*◌, ◌/◌, ◌%◌, ◌<◌, ◌==◌, length};
-ghost use Rattle.bitvec_words.specs.base.Lists.{same_bits};
-ghost use Rattle.bitvec_words.specs.base.Memory.{HasWindow, list_in};
-ghost use Rattle.bitvec_words.specs.base.Parts.{HasPart, part_window};
-ghost use Rattle.bitvec_words.specs.cells.Access.{OnlyReads, OnlyReadsAtMost};
-ghost use Rattle.bitvec_words.specs.walk.Cost.{touched};
-ghost use Rattle.bitvec_words.specs.Elements.{elements_window};
+ghost use Rattle.bitvec_move.specs.base.Lists.{same_bits};
+ghost use Rattle.bitvec_move.specs.base.Memory.{HasWindow, list_in};
+ghost use Rattle.bitvec_move.specs.base.Parts.{HasPart, part_window};
+ghost use Rattle.bitvec_move.specs.cells.Access.{OnlyReads, OnlyReadsAtMost};
+ghost use Rattle.bitvec_move.specs.walk.Cost.{touched};
+ghost use Rattle.bitvec_move.specs.words.Elements.{elements_window};
 
-use bitvec_words::base::{BitOrder, Part, Window, first_part};
-use bitvec_words::cells::CellsRead;
-use bitvec_words::same_between;
-use bitvec_words::store::BitStore;
+use bitvec_move::base::{BitOrder, Part, Window, first_part};
+use bitvec_move::cells::CellsRead;
+use bitvec_move::store::BitStore;
+use bitvec_move::words::same_between;
 
 /// How many bits are compared before each test. A test after each single element would keep the loop
 /// from vector instructions; a loop over more of the widest elements isn't written out, and so has none.

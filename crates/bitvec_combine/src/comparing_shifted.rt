@@ -1,18 +1,18 @@
 //! Windows compared that begin at different indices of an element: each element on the left with
 //! one that is joined of two on the right.
 ghost use Rattle.std.specs.Prelude.{◌≡◌, ◌≢◌, ℕ, ◌+◌, ◌-◌, ◌*◌, ◌/◌, ◌%◌, ◌<◌, ◌≤◌, ◌==◌, length, slice_index};
-ghost use Rattle.bitvec_words.specs.base.Lists.{same_bits};
-ghost use Rattle.bitvec_words.specs.base.Memory.{HasWindow, list_in};
-ghost use Rattle.bitvec_words.specs.base.Parts.{HasPart, part_window};
-ghost use Rattle.bitvec_words.specs.cells.Access.{OnlyReads, OnlyReadsAtMost};
-ghost use Rattle.bitvec_words.specs.walk.Cost.{touched};
-ghost use Rattle.bitvec_words.specs.Elements.{elements_window, elements_window_from};
+ghost use Rattle.bitvec_move.specs.base.Lists.{same_bits};
+ghost use Rattle.bitvec_move.specs.base.Memory.{HasWindow, list_in};
+ghost use Rattle.bitvec_move.specs.base.Parts.{HasPart, part_window};
+ghost use Rattle.bitvec_move.specs.cells.Access.{OnlyReads, OnlyReadsAtMost};
+ghost use Rattle.bitvec_move.specs.walk.Cost.{touched};
+ghost use Rattle.bitvec_move.specs.words.Elements.{elements_window, elements_window_from};
 
 use crate::comparing_equal::elements_per_test;
-use bitvec_words::base::{BitOrder, Part, Window, first_part};
-use bitvec_words::cells::CellsRead;
-use bitvec_words::store::BitStore;
-use bitvec_words::{WordOrder, field, field_after, joined, same_between, toward_end};
+use bitvec_move::base::{BitOrder, Part, Window, first_part};
+use bitvec_move::cells::CellsRead;
+use bitvec_move::store::BitStore;
+use bitvec_move::words::{WordOrder, field, field_after, joined, same_between, toward_end};
 
 /// Whether a window has the bits of one whose first bit has another index in its element.
 /// Condition: as of [`crate::equal`], and the windows aren't empty.

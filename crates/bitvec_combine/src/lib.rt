@@ -7,5 +7,43 @@ mod comparing;
 mod comparing_equal;
 mod comparing_shifted;
 
+/// What crates above name of `bitvec_base`.
+pub mod base {
+    pub use bitvec_move::base::{
+        BitOrder, BitSpanError, HiLo, Lsb0, MAX_BITS, Msb0, Part, Window, first_part, last_part,
+    };
+}
+
+/// What crates above name of `bitvec_cells`.
+pub mod cells {
+    pub use bitvec_move::cells::{Cells, CellsRead, Exclusive, Shared, fits_max_bits, has_window};
+}
+
+/// What crates above name of `bitvec_move`.
+pub mod moves {
+    pub use bitvec_move::{copy, copy_within, load_elements, reverse, swap};
+}
+
+/// What crates above name of `bitvec_store`.
+pub mod store {
+    pub use bitvec_move::store::BitStore;
+}
+
+/// What crates above name of `bitvec_cells`.
+pub mod walk {
+    pub use bitvec_move::walk::{
+        count_part, fill_part, filled, first_in_element, first_in_part, get_bit, invert_part,
+        last_in_element, last_in_part, replace_bit, sought, swap_bits,
+    };
+}
+
+/// What crates above name of `bitvec_words`.
+pub mod words {
+    pub use bitvec_move::words::{
+        BitOp, WORD_BITS, WordOrder, field, field_after, fill, invert, joined, load_field, merged,
+        moved, reversed, same_between, store_field, store_part, toward_end, toward_start,
+    };
+}
+
 pub use combining::combine;
 pub use comparing::equal;

@@ -33,6 +33,7 @@ pub fn combine_in<T: BitStore, O: BitOrder, U: BitStore, P: BitOrder>(
 /// Replaces each bit of the left window by what the operator makes of it and the one at its index in
 /// the right window, of elements of the same type and order, as the order does it. Condition: as of
 /// [`combine_in`].
+#[inline(always)]
 pub fn combine_block_in<T: BitStore, O: SliceOrder>(
     left: &mut [T],
     left_window: Window,

@@ -11,6 +11,7 @@ use bitvec_engine::{SliceOrder, all, any};
 
 /// The index of a window's first bit that is `want`, if there is one. Condition: the memory has at
 /// most `MAX_BITS` bits, and the window lies in it.
+#[inline(always)]
 pub fn first_in<T: BitStore, O: SliceOrder>(
     cells: &[T],
     window: Window,

@@ -7,20 +7,20 @@ use Rattle.std.proofs.lemmas.List.{same_lists}
 use Rattle.std.proofs.lemmas.List.Sums.{sum_by-append}
 use Rattle.std.proofs.lemmas.Nat.{div-add-mod', pow_pos}
 use Rattle.std.proofs.lemmas.Nat.Bits.{bit_at_cat_low}
-use Rattle.bitvec_move.specs.base.CountLaws.{ones_within}
-use Rattle.bitvec_move.specs.base.declared.window.Window.{Window}
-use Rattle.bitvec_move.specs.base.Memory.{HasWindow, element_bits, list_in}
-use Rattle.bitvec_move.specs.base.MemoryLaws.{get-element_bits, length-element_bits}
-use Rattle.bitvec_move.specs.base.Order.{Permutes}
-use Rattle.bitvec_move.specs.base.Parts.{first_part_of, part_window}
-use Rattle.bitvec_move.specs.base.Window.{window_after}
-use Rattle.bitvec_move.specs.base.WritesLaws.{length-list}
-use Rattle.bitvec_move.specs.store.Width.{IsWidth}
-use Rattle.bitvec_move.specs.store.WidthLaws.{at_each_width}
-use Rattle.bitvec_move.specs.walk.ElementLaws.{element-count}
-use Rattle.bitvec_move.specs.words.Elements.{elements_window, tail_of, whole_of}
-use Rattle.bitvec_move.specs.words.FieldLaws.{list-element, list-head, list-tail}
-use Rattle.bitvec_move.specs.words.WholeLaws.{list-empty}
+use Rattle.bitvec_combine.specs.base.CountLaws.{ones_within}
+use Rattle.bitvec_combine.specs.base.declared.window.Window.{Window}
+use Rattle.bitvec_combine.specs.base.Memory.{HasWindow, element_bits, list_in}
+use Rattle.bitvec_combine.specs.base.MemoryLaws.{get-element_bits, length-element_bits}
+use Rattle.bitvec_combine.specs.base.Order.{Permutes}
+use Rattle.bitvec_combine.specs.base.Parts.{first_part_of, part_window}
+use Rattle.bitvec_combine.specs.base.Window.{window_after}
+use Rattle.bitvec_combine.specs.base.WritesLaws.{length-list}
+use Rattle.bitvec_combine.specs.store.Width.{IsWidth}
+use Rattle.bitvec_combine.specs.store.WidthLaws.{at_each_width}
+use Rattle.bitvec_combine.specs.walk.ElementLaws.{element-count}
+use Rattle.bitvec_combine.specs.words.Elements.{elements_window, tail_of, whole_of}
+use Rattle.bitvec_combine.specs.words.FieldLaws.{list-element, list-head, list-tail}
+use Rattle.bitvec_combine.specs.words.WholeLaws.{list-empty}
 use Rattle.bitvec_engine.proofs.WordScanLemmas.{HasWindow-elements, list-elements_join}
 
 count-parts : (front rest whole : List Bool) (m n : ℕ) → front ++ rest ≡ whole → m ≡ count_by (λ (bit : Bool). bit) front → n ≡ count_by (λ (bit : Bool). bit) rest → m + n ≡ count_by (λ (bit : Bool). bit) whole

@@ -5,27 +5,27 @@ use Rattle.std.proofs.Common.{arith, rules, sym, ◌∙◌, ap}
 use Rattle.std.proofs.lemmas.List.{get_or-reverse, length-reverse, places, reverse-reverse, same_lists}
 use Rattle.std.proofs.lemmas.Nat.{div-add-mod', pow_pos}
 use Rattle.std.proofs.lemmas.Nat.Bits.{and_pow, bit_at-lt}
-use Rattle.bitvec_move.specs.base.declared.window.Window.{Window}
-use Rattle.bitvec_move.specs.base.Memory.{HasWindow, element_bits, list_in}
-use Rattle.bitvec_move.specs.base.MemoryLaws.{element-or_mask, get-element_bits, length-element_bits}
-use Rattle.bitvec_move.specs.base.Order.{Permutes}
-use Rattle.bitvec_move.specs.base.PartLaws.{length-part}
-use Rattle.bitvec_move.specs.base.SliceLaws.{range-push}
-use Rattle.bitvec_move.specs.walk.ElementLaws.{single_mask}
-use Rattle.bitvec_move.specs.base.Parts.{first_part_of, part_window}
-use Rattle.bitvec_move.specs.base.Window.{window_of, window_range, write_at}
-use Rattle.bitvec_move.specs.store.Width.{IsWidth}
-use Rattle.bitvec_move.specs.store.WidthLaws.{at_each_width, width_some}
-use Rattle.bitvec_move.specs.base.WritesLaws.{length-list}
-use Rattle.bitvec_move.specs.WordLaws.{padded-all, word_whole}
-use Rattle.bitvec_move.specs.walk.WalkLaws.{Walked-start, first-len, first-place}
-use Rattle.bitvec_move.specs.words.Elements.{elements_window}
-use Rattle.bitvec_move.specs.words.Field.{padded}
-use Rattle.bitvec_move.specs.words.FieldLaws.{list-part}
-use Rattle.bitvec_move.specs.words.FieldWalkLaws.{HasPart-first}
-use Rattle.bitvec_move.specs.words.TouchedLaws.{head_edge, touched-full, touched-head}
-use Rattle.bitvec_move.specs.words.WholeLaws.{HasWindow-part, behind-mod}
-use Rattle.bitvec_move.specs.walk.Cost.{touched}
+use Rattle.bitvec_combine.specs.base.declared.window.Window.{Window}
+use Rattle.bitvec_combine.specs.base.Memory.{HasWindow, element_bits, list_in}
+use Rattle.bitvec_combine.specs.base.MemoryLaws.{element-or_mask, get-element_bits, length-element_bits}
+use Rattle.bitvec_combine.specs.base.Order.{Permutes}
+use Rattle.bitvec_combine.specs.base.PartLaws.{length-part}
+use Rattle.bitvec_combine.specs.base.SliceLaws.{range-push}
+use Rattle.bitvec_combine.specs.walk.ElementLaws.{single_mask}
+use Rattle.bitvec_combine.specs.base.Parts.{first_part_of, part_window}
+use Rattle.bitvec_combine.specs.base.Window.{window_of, window_range, write_at}
+use Rattle.bitvec_combine.specs.store.Width.{IsWidth}
+use Rattle.bitvec_combine.specs.store.WidthLaws.{at_each_width, width_some}
+use Rattle.bitvec_combine.specs.base.WritesLaws.{length-list}
+use Rattle.bitvec_combine.specs.moves.WordLaws.{padded-all, word_whole}
+use Rattle.bitvec_combine.specs.walk.WalkLaws.{Walked-start, first-len, first-place}
+use Rattle.bitvec_combine.specs.words.Elements.{elements_window}
+use Rattle.bitvec_combine.specs.words.Field.{padded}
+use Rattle.bitvec_combine.specs.words.FieldLaws.{list-part}
+use Rattle.bitvec_combine.specs.words.FieldWalkLaws.{HasPart-first}
+use Rattle.bitvec_combine.specs.words.TouchedLaws.{head_edge, touched-full, touched-head}
+use Rattle.bitvec_combine.specs.words.WholeLaws.{HasWindow-part, behind-mod}
+use Rattle.bitvec_combine.specs.walk.Cost.{touched}
 use Rattle.bitvec_engine.specs.Front.{IsFront, front_window}
 
 -- the same places, told in another way

@@ -2,13 +2,13 @@
 use Rattle.std.specs.Prelude.{◌≡◌, ◌==◌, ℕ, ◌+◌, ◌*◌, ◌≤◌, if◌then◌else◌, Bool, List}
 use Rattle.std.proofs.Common.{arith, sym}
 use Rattle.std.proofs.lemmas.Bool.Decides.{nat_tests}
-use Rattle.bitvec_move.specs.base.declared.window.Window.{Window}
-use Rattle.bitvec_move.specs.base.Lists.{same_bits, stands_at}
-use Rattle.bitvec_move.specs.base.Memory.{list_in, HasWindow}
-use Rattle.bitvec_move.specs.base.NeedleLaws.{stands-part}
-use Rattle.bitvec_move.specs.base.Window.{window_range}
-use Rattle.bitvec_move.specs.base.WritesLaws.{length-list, within-list}
-use Rattle.bitvec_move.specs.walk.Cost.{read_loads, equal_loads}
+use Rattle.bitvec_combine.specs.base.declared.window.Window.{Window}
+use Rattle.bitvec_combine.specs.base.Lists.{same_bits, stands_at}
+use Rattle.bitvec_combine.specs.base.Memory.{list_in, HasWindow}
+use Rattle.bitvec_combine.specs.base.NeedleLaws.{stands-part}
+use Rattle.bitvec_combine.specs.base.Window.{window_range}
+use Rattle.bitvec_combine.specs.base.WritesLaws.{length-list, within-list}
+use Rattle.bitvec_combine.specs.walk.Cost.{read_loads, equal_loads}
 
 -- whether it stands at an index, by the equality of that part, where both memories are as at first
 pub stands-found : {b r : ℕ} (at other_at : ℕ → ℕ → ℕ) {xs now ys right : List ℕ} {window needle part : Window} {found : Bool} (from : ℕ) → HasWindow b xs window → HasWindow r ys needle → from + needle.len ≤ window.len

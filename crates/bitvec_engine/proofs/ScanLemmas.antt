@@ -5,25 +5,25 @@ use Rattle.std.specs.Int.Bits.{xor_self}
 use Rattle.std.proofs.lemmas.List.{get_or_default, get_or-replicate, length-replicate, same_lists}
 use Rattle.std.proofs.lemmas.Nat.{div-add-mod', mod-mul-add, pow_pos}
 use Rattle.std.proofs.Math.Nat.{mul-le-mul_left}
-use Rattle.bitvec_move.specs.base.BitsFixMemory.{element_bits-fix}
-use Rattle.bitvec_move.specs.base.declared.window.Window.{Window}
-use Rattle.bitvec_move.specs.base.Lists.{first_place, last_place}
-use Rattle.bitvec_move.specs.base.Memory.{HasWindow, element_bits, list_in}
-use Rattle.bitvec_move.specs.base.MemoryLaws.{length-element_bits}
-use Rattle.bitvec_move.specs.base.Order.{Permutes}
-use Rattle.bitvec_move.specs.base.Parts.{first_part_of, part_window}
-use Rattle.bitvec_move.specs.base.PlacesLaws.{first_place-absent, first_place-append, first_place-below, first_place-other, last_place-absent, last_place-append, last_place-below, last_place-other}
-use Rattle.bitvec_move.specs.base.SliceLaws.{range-all}
-use Rattle.bitvec_move.specs.base.Window.{window_after}
-use Rattle.bitvec_move.specs.base.WritesLaws.{length-list, list-join}
-use Rattle.bitvec_move.specs.walk.Cost.{last_loads, touched}
-use Rattle.bitvec_move.specs.walk.ElementLaws.{element-filled}
-use Rattle.bitvec_move.specs.walk.WalkLaws.{first-len, first-place}
-use Rattle.bitvec_move.specs.words.Elements.{elements_window, tail_of, whole_of}
-use Rattle.bitvec_move.specs.words.FieldLaws.{element_of, list-element, list-whole}
-use Rattle.bitvec_move.specs.words.SameLaws.{xor_none}
-use Rattle.bitvec_move.specs.words.TouchedLaws.{head_edge, touched-after, touched-edge, touched-first, touched-head, touched-more, touched-rest, touched-whole}
-use Rattle.bitvec_move.specs.words.WholeLaws.{HasWindow-part}
+use Rattle.bitvec_combine.specs.base.BitsFixMemory.{element_bits-fix}
+use Rattle.bitvec_combine.specs.base.declared.window.Window.{Window}
+use Rattle.bitvec_combine.specs.base.Lists.{first_place, last_place}
+use Rattle.bitvec_combine.specs.base.Memory.{HasWindow, element_bits, list_in}
+use Rattle.bitvec_combine.specs.base.MemoryLaws.{length-element_bits}
+use Rattle.bitvec_combine.specs.base.Order.{Permutes}
+use Rattle.bitvec_combine.specs.base.Parts.{first_part_of, part_window}
+use Rattle.bitvec_combine.specs.base.PlacesLaws.{first_place-absent, first_place-append, first_place-below, first_place-other, last_place-absent, last_place-append, last_place-below, last_place-other}
+use Rattle.bitvec_combine.specs.base.SliceLaws.{range-all}
+use Rattle.bitvec_combine.specs.base.Window.{window_after}
+use Rattle.bitvec_combine.specs.base.WritesLaws.{length-list, list-join}
+use Rattle.bitvec_combine.specs.walk.Cost.{last_loads, touched}
+use Rattle.bitvec_combine.specs.walk.ElementLaws.{element-filled}
+use Rattle.bitvec_combine.specs.walk.WalkLaws.{first-len, first-place}
+use Rattle.bitvec_combine.specs.words.Elements.{elements_window, tail_of, whole_of}
+use Rattle.bitvec_combine.specs.words.FieldLaws.{element_of, list-element, list-whole}
+use Rattle.bitvec_combine.specs.words.SameLaws.{xor_none}
+use Rattle.bitvec_combine.specs.words.TouchedLaws.{head_edge, touched-after, touched-edge, touched-first, touched-head, touched-more, touched-rest, touched-whole}
+use Rattle.bitvec_combine.specs.words.WholeLaws.{HasWindow-part}
 
 -- ---- lists
 

@@ -4,24 +4,24 @@ use Rattle.std.proofs.Common.{arith, sym, ◌∙◌, ap, ⊎_elim, length-append
 use Rattle.std.proofs.Math.Nat.{add-mul, mul-le-mul_left, mul_assoc}
 use Rattle.std.proofs.lemmas.Bool.{cases_lt}
 use Rattle.std.proofs.lemmas.Nat.{div-add-mod'}
-use Rattle.bitvec_move.specs.store.Width.{IsWidth}
-use Rattle.bitvec_move.specs.store.WidthLaws.{at_each_width, width_some}
-use Rattle.bitvec_move.specs.base.Lists.{first_place}
-use Rattle.bitvec_move.specs.base.Memory.{HasWindow, element_bits, list_in}
-use Rattle.bitvec_move.specs.base.MemoryLaws.{length-element_bits}
-use Rattle.bitvec_move.specs.base.Order.{Permutes}
-use Rattle.bitvec_move.specs.base.declared.window.Window.{Window}
-use Rattle.bitvec_move.specs.base.Window.{window_after, window_range}
-use Rattle.bitvec_move.specs.base.SliceLaws.{range-from_start}
-use Rattle.bitvec_move.specs.base.WritesLaws.{HasWindow-range, length-list, list-join}
-use Rattle.bitvec_move.specs.walk.Cost.{touched}
-use Rattle.bitvec_move.specs.walk.Walk.{passed}
-use Rattle.bitvec_move.specs.walk.WalkLaws.{touched-none}
-use Rattle.bitvec_move.specs.words.Elements.{elements_window}
-use Rattle.bitvec_move.specs.words.MovedLaws.{take-field}
-use Rattle.bitvec_move.specs.words.SameLaws.{or_none, or_none_right}
-use Rattle.bitvec_move.specs.words.TouchedLaws.{touched-edge, touched-whole}
-use Rattle.bitvec_move.specs.words.WholeLaws.{HasWindow-part}
+use Rattle.bitvec_combine.specs.store.Width.{IsWidth}
+use Rattle.bitvec_combine.specs.store.WidthLaws.{at_each_width, width_some}
+use Rattle.bitvec_combine.specs.base.Lists.{first_place}
+use Rattle.bitvec_combine.specs.base.Memory.{HasWindow, element_bits, list_in}
+use Rattle.bitvec_combine.specs.base.MemoryLaws.{length-element_bits}
+use Rattle.bitvec_combine.specs.base.Order.{Permutes}
+use Rattle.bitvec_combine.specs.base.declared.window.Window.{Window}
+use Rattle.bitvec_combine.specs.base.Window.{window_after, window_range}
+use Rattle.bitvec_combine.specs.base.SliceLaws.{range-from_start}
+use Rattle.bitvec_combine.specs.base.WritesLaws.{HasWindow-range, length-list, list-join}
+use Rattle.bitvec_combine.specs.walk.Cost.{touched}
+use Rattle.bitvec_combine.specs.walk.Walk.{passed}
+use Rattle.bitvec_combine.specs.walk.WalkLaws.{touched-none}
+use Rattle.bitvec_combine.specs.words.Elements.{elements_window}
+use Rattle.bitvec_combine.specs.words.MovedLaws.{take-field}
+use Rattle.bitvec_combine.specs.words.SameLaws.{or_none, or_none_right}
+use Rattle.bitvec_combine.specs.words.TouchedLaws.{touched-edge, touched-whole}
+use Rattle.bitvec_combine.specs.words.WholeLaws.{HasWindow-part}
 use Rattle.bitvec_engine.specs.Front.{IsFront}
 use Rattle.bitvec_engine.proofs.ScanLemmas.{first-behind, first-front, first-lacks, first-passed}
 

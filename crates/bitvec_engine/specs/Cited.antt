@@ -1,2 +1,2 @@
 -- What crates above name by `using` and `unfolding`, which find no name in a library that is passed on whole.
-pub use Rattle.bitvec_move.specs.walk.CostLaws.{enough}
+pub use Rattle.bitvec_combine.specs.walk.CostLaws.{enough}

@@ -1,9 +1,9 @@
 -- The first bits of a window, as the first bits of a word.
 use Rattle.std.specs.Prelude.{◌≡◌, ℕ, ◌+◌, ◌%◌, ◌<◌, ◌≤◌, List, min}
-use Rattle.bitvec_move.specs.base.declared.window.Window.{Window}
-use Rattle.bitvec_move.specs.base.Memory.{element_bits, list_in}
-use Rattle.bitvec_move.specs.base.Window.{window_range}
-use Rattle.bitvec_move.specs.words.Field.{padded}
+use Rattle.bitvec_combine.specs.base.declared.window.Window.{Window}
+use Rattle.bitvec_combine.specs.base.Memory.{element_bits, list_in}
+use Rattle.bitvec_combine.specs.base.Window.{window_range}
+use Rattle.bitvec_combine.specs.words.Field.{padded}
 
 -- the first `count` bits of the window are those of the word, whose others are 0; where more are left, and elements are not wider than a word, one begins behind them
 pub record IsFront (b : ℕ) (at : ℕ → ℕ → ℕ) (xs : List ℕ) (window : Window) (word count : ℕ) : Type 0 where

@@ -1,7 +1,7 @@
 pub mod Cited
 pub mod Front
-pub use Rattle.bitvec_move.specs.base as base
-pub use Rattle.bitvec_move.specs.cells as cells
-pub use Rattle.bitvec_move.specs.store as store
-pub use Rattle.bitvec_move.specs.walk as walk
-pub use Rattle.bitvec_move.specs.words as words
+pub use Rattle.bitvec_combine.specs.base as base
+pub use Rattle.bitvec_combine.specs.cells as cells
+pub use Rattle.bitvec_combine.specs.store as store
+pub use Rattle.bitvec_combine.specs.walk as walk
+pub use Rattle.bitvec_combine.specs.words as words

@@ -1,13 +1,13 @@
 //! The same of two windows of any element widths and orders, bit by bit.
 ghost use Rattle.std.specs.Prelude.{◌≡◌, ◌+◌, ◌*◌, ◌-◌};
-ghost use Rattle.bitvec_move.specs.base.Lists.{is_prefix, is_suffix, stands_in};
-ghost use Rattle.bitvec_move.specs.base.Memory.{HasWindow, list_in};
-ghost use Rattle.bitvec_move.specs.cells.Access.{OnlyReadsAtMost};
+ghost use Rattle.bitvec_combine.specs.base.Lists.{is_prefix, is_suffix, stands_in};
+ghost use Rattle.bitvec_combine.specs.base.Memory.{HasWindow, list_in};
+ghost use Rattle.bitvec_combine.specs.cells.Access.{OnlyReadsAtMost};
 
 use crate::comparing::bits_eq;
-use bitvec_move::base::{BitOrder, Window};
-use bitvec_move::cells::CellsRead;
-use bitvec_move::store::BitStore;
+use bitvec_combine::base::{BitOrder, Window};
+use bitvec_combine::cells::CellsRead;
+use bitvec_combine::store::BitStore;
 
 /// Whether the needle's bits begin those of the window. Condition: as of [`starts_with`]. It loads at
 /// most once a bit of the needle and side.

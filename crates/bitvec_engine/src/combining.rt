@@ -1,15 +1,15 @@
 //! Each bit of a window with the one at its index in another.
 ghost use Rattle.std.specs.Prelude.{◌≡◌, ◌*◌, false, min, slice_index_or, nat_lt, if◌then◌else◌};
-ghost use Rattle.bitvec_move.specs.base.Lists.{combined};
-ghost use Rattle.bitvec_move.specs.base.Memory.{HasWindow, Writes, list_in};
-ghost use Rattle.bitvec_move.specs.cells.Access.{Costs, OnlyReads};
-ghost use Rattle.bitvec_move.specs.words.Operator.{operator};
+ghost use Rattle.bitvec_combine.specs.base.Lists.{combined};
+ghost use Rattle.bitvec_combine.specs.base.Memory.{HasWindow, Writes, list_in};
+ghost use Rattle.bitvec_combine.specs.cells.Access.{Costs, OnlyReads};
+ghost use Rattle.bitvec_combine.specs.words.Operator.{operator};
 
-use bitvec_move::base::{BitOrder, Window};
-use bitvec_move::cells::{Cells, CellsRead};
-use bitvec_move::store::BitStore;
-use bitvec_move::walk::{get_bit, replace_bit};
-use bitvec_move::words::BitOp;
+use bitvec_combine::base::{BitOrder, Window};
+use bitvec_combine::cells::{Cells, CellsRead};
+use bitvec_combine::store::BitStore;
+use bitvec_combine::walk::{get_bit, replace_bit};
+use bitvec_combine::words::BitOp;
 
 /// Replaces each bit of a window by what the operator makes of it and the one at its index in a
 /// window of another memory, of any element width and order, which counts as 0 past that window's

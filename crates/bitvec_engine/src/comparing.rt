@@ -2,14 +2,14 @@
 ghost use Rattle.std.specs.Prelude.{◌≡◌, ◌==◌, if◌then◌else◌, min};
 ghost use Rattle.std.specs.Ordering.{bool_cmp};
 ghost use Rattle.std.specs.Cmp.Lexicographic.{slice_cmp};
-ghost use Rattle.bitvec_move.specs.base.Lists.{same_bits};
-ghost use Rattle.bitvec_move.specs.base.Memory.{HasWindow, list_in};
-ghost use Rattle.bitvec_move.specs.cells.Access.{OnlyReadsAtMost};
+ghost use Rattle.bitvec_combine.specs.base.Lists.{same_bits};
+ghost use Rattle.bitvec_combine.specs.base.Memory.{HasWindow, list_in};
+ghost use Rattle.bitvec_combine.specs.cells.Access.{OnlyReadsAtMost};
 
-use bitvec_move::base::{BitOrder, Window};
-use bitvec_move::cells::CellsRead;
-use bitvec_move::store::BitStore;
-use bitvec_move::walk::get_bit;
+use bitvec_combine::base::{BitOrder, Window};
+use bitvec_combine::cells::CellsRead;
+use bitvec_combine::store::BitStore;
+use bitvec_combine::walk::get_bit;
 use std::cmp::Ordering;
 
 /// Whether two windows have the same bits, of any element widths and orders: `==` of `bitvec`.

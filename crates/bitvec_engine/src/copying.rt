@@ -1,12 +1,12 @@
 //! Bits copied from one window to another.
 ghost use Rattle.std.specs.Prelude.{◌≡◌};
-ghost use Rattle.bitvec_move.specs.base.Memory.{HasWindow, Writes, list_in};
-ghost use Rattle.bitvec_move.specs.cells.Access.{Costs, OnlyReads};
+ghost use Rattle.bitvec_combine.specs.base.Memory.{HasWindow, Writes, list_in};
+ghost use Rattle.bitvec_combine.specs.cells.Access.{Costs, OnlyReads};
 
-use bitvec_move::base::{BitOrder, Window};
-use bitvec_move::cells::{Cells, CellsRead};
-use bitvec_move::store::BitStore;
-use bitvec_move::walk::{get_bit, replace_bit};
+use bitvec_combine::base::{BitOrder, Window};
+use bitvec_combine::cells::{Cells, CellsRead};
+use bitvec_combine::store::BitStore;
+use bitvec_combine::walk::{get_bit, replace_bit};
 
 /// Copies the bits of a window of another memory, of any element width and order. Condition: each
 /// memory has at most `MAX_BITS` bits, each window lies in its memory, and the windows are as long.

@@ -1,13 +1,13 @@
 //! The bits of a window copied to another place of it.
 ghost use Rattle.std.specs.Prelude.{◌≡◌, ℕ, ◌-◌, ◌*◌, ◌<◌, ◌≤◌, false, slice_set, slice_index_or};
-ghost use Rattle.bitvec_move.specs.base.Lists.{FitsWithin, copied_within};
-ghost use Rattle.bitvec_move.specs.base.Memory.{Edits, HasWindow, Writes, list_in};
-ghost use Rattle.bitvec_move.specs.cells.Access.{Costs};
+ghost use Rattle.bitvec_combine.specs.base.Lists.{FitsWithin, copied_within};
+ghost use Rattle.bitvec_combine.specs.base.Memory.{Edits, HasWindow, Writes, list_in};
+ghost use Rattle.bitvec_combine.specs.cells.Access.{Costs};
 
-use bitvec_move::base::{BitOrder, Window};
-use bitvec_move::cells::{Cells, CellsRead};
-use bitvec_move::store::BitStore;
-use bitvec_move::walk::{get_bit, replace_bit};
+use bitvec_combine::base::{BitOrder, Window};
+use bitvec_combine::cells::{Cells, CellsRead};
+use bitvec_combine::store::BitStore;
+use bitvec_combine::walk::{get_bit, replace_bit};
 
 /// Copies one bit of a window to another place of it.
 fn copy_bit<O: BitOrder, C: Cells>(cells: &mut C, window: Window, from: usize, dest: usize)

@@ -1,16 +1,16 @@
 //! How many bits of a window are 1, or 0.
 ghost use Rattle.std.specs.Prelude.{◌≡◌, ℕ, ◌+◌, ◌*◌, ◌/◌, ◌%◌, ◌<◌, ◌≤◌, not, count_by};
-ghost use Rattle.bitvec_move.specs.base.Memory.{HasWindow, list_in};
-ghost use Rattle.bitvec_move.specs.cells.Access.{OnlyReads};
-ghost use Rattle.bitvec_move.specs.walk.Cost.{touched};
-ghost use Rattle.bitvec_move.specs.words.Elements.{elements_window};
+ghost use Rattle.bitvec_combine.specs.base.Memory.{HasWindow, list_in};
+ghost use Rattle.bitvec_combine.specs.cells.Access.{OnlyReads};
+ghost use Rattle.bitvec_combine.specs.walk.Cost.{touched};
+ghost use Rattle.bitvec_combine.specs.words.Elements.{elements_window};
 
-use bitvec_move::base::{BitOrder, Lsb0, Part, Window, first_part};
-use bitvec_move::cells::CellsRead;
-use bitvec_move::load_elements;
-use bitvec_move::store::BitStore;
-use bitvec_move::walk::count_part;
-use bitvec_move::words::WORD_BITS;
+use bitvec_combine::base::{BitOrder, Lsb0, Part, Window, first_part};
+use bitvec_combine::cells::CellsRead;
+use bitvec_combine::moves::load_elements;
+use bitvec_combine::store::BitStore;
+use bitvec_combine::walk::count_part;
+use bitvec_combine::words::WORD_BITS;
 
 /// How many bits of a window are 1. Condition: the memory has at most `MAX_BITS` bits, and the
 /// window lies in it. It loads each element that the window touches once.

@@ -1,16 +1,16 @@
 //! The first bits of a window as a word.
 ghost use Rattle.std.specs.Prelude.{◌≡◌, ◌+◌, ◌<◌, ◌≤◌, slice_range};
-ghost use Rattle.bitvec_move.specs.base.Memory.{HasWindow, element_bits, list_in};
-ghost use Rattle.bitvec_move.specs.cells.Access.{OnlyReads};
+ghost use Rattle.bitvec_combine.specs.base.Memory.{HasWindow, element_bits, list_in};
+ghost use Rattle.bitvec_combine.specs.cells.Access.{OnlyReads};
 ghost use Rattle.bitvec_engine.specs.Front.{IsFront, front_window};
-ghost use Rattle.bitvec_move.specs.walk.Cost.{touched};
-ghost use Rattle.bitvec_move.specs.words.Field.{padded};
+ghost use Rattle.bitvec_combine.specs.walk.Cost.{touched};
+ghost use Rattle.bitvec_combine.specs.words.Field.{padded};
 
-use bitvec_move::base::{BitOrder, Lsb0, Part, Window, first_part};
-use bitvec_move::cells::CellsRead;
-use bitvec_move::load_elements;
-use bitvec_move::store::BitStore;
-use bitvec_move::words::{WORD_BITS, WordOrder, moved};
+use bitvec_combine::base::{BitOrder, Lsb0, Part, Window, first_part};
+use bitvec_combine::cells::CellsRead;
+use bitvec_combine::moves::load_elements;
+use bitvec_combine::store::BitStore;
+use bitvec_combine::words::{WORD_BITS, WordOrder, moved};
 
 /// The first bits of a window as the first bits of a word, and how many they are: 64 where it begins
 /// with an element that isn't wider and has so many, else those of the first element, up to 64.

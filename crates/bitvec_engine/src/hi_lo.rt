@@ -1,5 +1,5 @@
 //! Bit operations on whole windows under `HiLo`: bit by bit.
-#![tactic(auto, using(bitvec_move::specs::Cited::enough))]
+#![tactic(auto, using(bitvec_combine::specs::Cited::enough))]
 
 ghost use Rattle.std.specs.Prelude.{false};
 
@@ -10,9 +10,9 @@ use crate::copying_within::bits_copy_within;
 use crate::reversing::bits_reverse;
 use crate::slice_order::SliceOrder;
 use crate::swapping::bits_swap;
-use bitvec_move::base::{HiLo, Window};
-use bitvec_move::cells::{Cells, CellsRead};
-use bitvec_move::words::BitOp;
+use bitvec_combine::base::{HiLo, Window};
+use bitvec_combine::cells::{Cells, CellsRead};
+use bitvec_combine::words::BitOp;
 
 impl SliceOrder for HiLo {
     ghost WORDS = { false };

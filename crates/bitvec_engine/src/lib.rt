@@ -22,14 +22,16 @@ mod swapping;
 
 /// What crates above name of `bitvec_base`.
 pub mod base {
-    pub use bitvec_move::base::{
+    pub use bitvec_combine::base::{
         BitOrder, BitSpanError, HiLo, Lsb0, MAX_BITS, Msb0, Part, Window, first_part, last_part,
     };
 }
 
 /// What crates above name of `bitvec_cells`.
 pub mod cells {
-    pub use bitvec_move::cells::{Cells, CellsRead, Exclusive, Shared, fits_max_bits, has_window};
+    pub use bitvec_combine::cells::{
+        Cells, CellsRead, Exclusive, Shared, fits_max_bits, has_window,
+    };
 }
 
 /// The operators of `bitvec_combine` that crates above name.
@@ -44,22 +46,22 @@ pub mod comparisons {
 
 /// The copies of `bitvec_move` that crates above name.
 pub mod copy {
-    pub use bitvec_move::{copy, copy_within};
+    pub use bitvec_combine::moves::{copy, copy_within};
 }
 
 /// The exchanges of `bitvec_move` that crates above name.
 pub mod exchange {
-    pub use bitvec_move::{reverse, swap};
+    pub use bitvec_combine::moves::{reverse, swap};
 }
 
 /// What crates above name of `bitvec_store`.
 pub mod store {
-    pub use bitvec_move::store::BitStore;
+    pub use bitvec_combine::store::BitStore;
 }
 
 /// What crates above name of `bitvec_cells`.
 pub mod walk {
-    pub use bitvec_move::walk::{
+    pub use bitvec_combine::walk::{
         count_part, fill_part, filled, first_in_element, first_in_part, invert_part,
         last_in_element, last_in_part, sought,
     };
@@ -67,15 +69,15 @@ pub mod walk {
 
 /// What crates above name of `bitvec_words`.
 pub mod words {
-    pub use bitvec_move::words::{
+    pub use bitvec_combine::words::{
         WORD_BITS, WordOrder, field, field_after, joined, load_field, merged, moved, reversed,
         same_between, store_field, store_part, toward_end, toward_start,
     };
 }
 
 pub use bit_needles::{bits_contains, bits_ends_with, bits_starts_with};
-pub use bitvec_move::walk::{get_bit, replace_bit, swap_bits};
-pub use bitvec_move::words::{BitOp, fill, invert};
+pub use bitvec_combine::walk::{get_bit, replace_bit, swap_bits};
+pub use bitvec_combine::words::{BitOp, fill, invert};
 pub use combining::bits_op;
 pub use comparing::{bits_eq, compare};
 pub use copying::bits_copy;

@@ -1,4 +1,5 @@
-//! Bit operations on whole windows under `Msb0`: by words.
+//! Bit operations on whole windows under `Msb0`: by words. What loops is inlined into the function that makes the
+//! accessors: vectors come only where the compiler sees through them, in loops of each caller's own.
 #![tactic(auto)]
 
 ghost use Rattle.std.specs.Prelude.{refl, true};
@@ -6,17 +7,18 @@ ghost use Rattle.std.specs.Prelude.{refl, true};
 use crate::fronts::words_load_front;
 use crate::scanning_words::words_scan_first;
 use crate::slice_order::{ByWords, SliceOrder};
+use bitvec_combine::base::{Msb0, Window};
+use bitvec_combine::cells::{Cells, CellsRead};
+use bitvec_combine::moves::{copy, copy_within, reverse, swap};
+use bitvec_combine::words::{BitOp, reversed};
 use bitvec_combine::{combine, equal};
-use bitvec_move::base::{Msb0, Window};
-use bitvec_move::cells::{Cells, CellsRead};
-use bitvec_move::words::{BitOp, reversed};
-use bitvec_move::{copy, copy_within, reverse, swap};
 
 impl SliceOrder for Msb0 {
     ghost WORDS = { true };
 
     const WORDS: bool = true;
 
+    #[inline(always)]
     fn block_eq<C: CellsRead, D: CellsRead<Elem = C::Elem>>(
         left: &mut C,
         left_window: Window,
@@ -26,6 +28,7 @@ impl SliceOrder for Msb0 {
         equal::<Self, C, D>(left, left_window, right, right_window)
     }
 
+    #[inline(always)]
     fn block_copy<C: Cells, D: CellsRead<Elem = C::Elem>>(
         left: &mut C,
         to: Window,
@@ -35,6 +38,7 @@ impl SliceOrder for Msb0 {
         copy::<Self, C, D>(left, to, right, from);
     }
 
+    #[inline(always)]
     fn block_swap<C: Cells, D: Cells + CellsRead<Elem = C::Elem>>(
         left: &mut C,
         left_window: Window,
@@ -44,7 +48,6 @@ impl SliceOrder for Msb0 {
         swap::<Self, C, D>(left, left_window, right, right_window);
     }
 
-    // into the function that makes the accessor, as all of `copy_within` is
     #[inline(always)]
     fn block_copy_within<C: Cells>(
         cells: &mut C,
@@ -56,6 +59,7 @@ impl SliceOrder for Msb0 {
         copy_within::<Self, C>(cells, window, from, to, dest);
     }
 
+    #[inline(always)]
     fn block_op<C: Cells, D: CellsRead<Elem = C::Elem>>(
         left: &mut C,
         to: Window,
@@ -70,6 +74,7 @@ impl SliceOrder for Msb0 {
         reverse::<Self, C>(cells, window);
     }
 
+    #[inline(always)]
     fn search_first<C: CellsRead>(cells: &mut C, window: Window, want: bool) -> Option<usize> {
         words_scan_first::<Self, C>(cells, window, want)
     }

@@ -1,14 +1,14 @@
 //! Whether the bits of one window, the needle, stand in those of another.
 ghost use Rattle.std.specs.Prelude.{◌≡◌, ◌+◌, ◌-◌};
-ghost use Rattle.bitvec_move.specs.base.Lists.{is_prefix, is_suffix, stands_in};
-ghost use Rattle.bitvec_move.specs.base.Memory.{HasWindow, list_in};
-ghost use Rattle.bitvec_move.specs.cells.Access.{OnlyReadsAtMost};
-ghost use Rattle.bitvec_move.specs.walk.Cost.{needle_loads};
+ghost use Rattle.bitvec_combine.specs.base.Lists.{is_prefix, is_suffix, stands_in};
+ghost use Rattle.bitvec_combine.specs.base.Memory.{HasWindow, list_in};
+ghost use Rattle.bitvec_combine.specs.cells.Access.{OnlyReadsAtMost};
+ghost use Rattle.bitvec_combine.specs.walk.Cost.{needle_loads};
 
 use crate::slice_order::SliceOrder;
-use bitvec_move::base::Window;
-use bitvec_move::cells::CellsRead;
-use bitvec_move::store::BitStore;
+use bitvec_combine::base::Window;
+use bitvec_combine::cells::CellsRead;
+use bitvec_combine::store::BitStore;
 
 /// Whether the needle's bits begin those of the window: `starts_with` of `bitvec`. Condition: each
 /// memory has at most `MAX_BITS` bits, and each window lies in its memory. It takes one equality of

@@ -1,14 +1,14 @@
 //! The bits of a window in the opposite order.
 ghost use Rattle.std.specs.Prelude.{◌*◌, reverse as reversed};
-ghost use Rattle.bitvec_move.specs.base.Memory.{Edits, HasWindow};
-ghost use Rattle.bitvec_move.specs.cells.Access.{CostsAtMost};
-ghost use Rattle.bitvec_move.specs.walk.Cost.{reverse_loads, reverse_stores};
+ghost use Rattle.bitvec_combine.specs.base.Memory.{Edits, HasWindow};
+ghost use Rattle.bitvec_combine.specs.cells.Access.{CostsAtMost};
+ghost use Rattle.bitvec_combine.specs.walk.Cost.{reverse_loads, reverse_stores};
 
 use crate::slice_order::SliceOrder;
-use bitvec_move::base::{BitOrder, Window};
-use bitvec_move::cells::{Cells, CellsRead};
-use bitvec_move::store::BitStore;
-use bitvec_move::walk::swap_bits;
+use bitvec_combine::base::{BitOrder, Window};
+use bitvec_combine::cells::{Cells, CellsRead};
+use bitvec_combine::store::BitStore;
+use bitvec_combine::walk::swap_bits;
 
 /// Reverses the bits of a window, going bit by bit; all other bits of the memory stay: `reverse`
 /// of `bitvec`'s `BitSlice`. Condition: the memory has at most `MAX_BITS` bits, and the window

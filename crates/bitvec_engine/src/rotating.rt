@@ -1,15 +1,15 @@
 //! The bits of a window rotated, by reversals.
 ghost use Rattle.std.specs.Prelude.{◌≡◌, ℕ, ◌-◌, ◌≤◌, reverse as reversed, slice_range};
-ghost use Rattle.bitvec_move.specs.base.Lists.{rotated_left, rotated_right};
-ghost use Rattle.bitvec_move.specs.base.Memory.{Edits, HasWindow, Writes, list_in};
-ghost use Rattle.bitvec_move.specs.base.Window.{write_at};
-ghost use Rattle.bitvec_move.specs.cells.Access.{CostsAtMost};
-ghost use Rattle.bitvec_move.specs.walk.Cost.{reverse_loads, reverse_stores, rotate_loads, rotate_stores};
+ghost use Rattle.bitvec_combine.specs.base.Lists.{rotated_left, rotated_right};
+ghost use Rattle.bitvec_combine.specs.base.Memory.{Edits, HasWindow, Writes, list_in};
+ghost use Rattle.bitvec_combine.specs.base.Window.{write_at};
+ghost use Rattle.bitvec_combine.specs.cells.Access.{CostsAtMost};
+ghost use Rattle.bitvec_combine.specs.walk.Cost.{reverse_loads, reverse_stores, rotate_loads, rotate_stores};
 
 use crate::slice_order::SliceOrder;
-use bitvec_move::base::Window;
-use bitvec_move::cells::{Cells, CellsRead};
-use bitvec_move::store::BitStore;
+use bitvec_combine::base::Window;
+use bitvec_combine::cells::{Cells, CellsRead};
+use bitvec_combine::store::BitStore;
 
 /// Reverses the bits `from..to` of a window.
 fn reverse_range<O: SliceOrder, C: Cells>(cells: &mut C, window: Window, from: usize, to: usize)

@@ -1,17 +1,19 @@
 //! Searches of a window for a bit.
 ghost use Rattle.std.specs.Prelude.{◌≡◌, ℕ, ◌+◌, ◌-◌, ◌*◌, ◌/◌, ◌%◌, ◌<◌, ◌≤◌};
 ghost use Rattle.std.specs.List.{list_any, list_all};
-ghost use Rattle.bitvec_move.specs.base.Lists.{first_place, last_place};
-ghost use Rattle.bitvec_move.specs.base.Memory.{HasWindow, list_in};
-ghost use Rattle.bitvec_move.specs.cells.Access.{OnlyReadsAtMost};
-ghost use Rattle.bitvec_move.specs.walk.Cost.{first_loads, last_loads, touched};
-ghost use Rattle.bitvec_move.specs.words.Elements.{elements_window};
+ghost use Rattle.bitvec_combine.specs.base.Lists.{first_place, last_place};
+ghost use Rattle.bitvec_combine.specs.base.Memory.{HasWindow, list_in};
+ghost use Rattle.bitvec_combine.specs.cells.Access.{OnlyReadsAtMost};
+ghost use Rattle.bitvec_combine.specs.walk.Cost.{first_loads, last_loads, touched};
+ghost use Rattle.bitvec_combine.specs.words.Elements.{elements_window};
 
 use crate::slice_order::SliceOrder;
-use bitvec_move::base::{BitOrder, Part, Window, first_part};
-use bitvec_move::cells::CellsRead;
-use bitvec_move::store::BitStore;
-use bitvec_move::walk::{filled, first_in_element, first_in_part, last_in_element, last_in_part};
+use bitvec_combine::base::{BitOrder, Part, Window, first_part};
+use bitvec_combine::cells::CellsRead;
+use bitvec_combine::store::BitStore;
+use bitvec_combine::walk::{
+    filled, first_in_element, first_in_part, last_in_element, last_in_part,
+};
 
 /// The index of a window's first bit that is `want`, if there is one. Condition: the memory has at
 /// most `MAX_BITS` bits, and the window lies in it. It loads each element that the window touches

@@ -1,20 +1,20 @@
 //! Searches of a window by blocks of words.
 ghost use Rattle.std.specs.Prelude.{◌≡◌, ◌+◌, ◌*◌, ◌/◌, ◌%◌, ◌<◌, ◌≤◌, ◌++◌};
-ghost use Rattle.bitvec_move.specs.base.Lists.{first_place};
-ghost use Rattle.bitvec_move.specs.base.Memory.{HasWindow, element_bits, list_in};
-ghost use Rattle.bitvec_move.specs.base.Window.{window_range};
-ghost use Rattle.bitvec_move.specs.cells.Access.{OnlyReads, OnlyReadsAtMost};
-ghost use Rattle.bitvec_move.specs.walk.Cost.{touched};
-ghost use Rattle.bitvec_move.specs.words.Elements.{elements_window};
+ghost use Rattle.bitvec_combine.specs.base.Lists.{first_place};
+ghost use Rattle.bitvec_combine.specs.base.Memory.{HasWindow, element_bits, list_in};
+ghost use Rattle.bitvec_combine.specs.base.Window.{window_range};
+ghost use Rattle.bitvec_combine.specs.cells.Access.{OnlyReads, OnlyReadsAtMost};
+ghost use Rattle.bitvec_combine.specs.walk.Cost.{touched};
+ghost use Rattle.bitvec_combine.specs.words.Elements.{elements_window};
 
 use crate::fronts::words_load_front;
 use crate::scanning::bits_scan_first;
-use bitvec_move::base::{BitOrder, Part, Window};
-use bitvec_move::cells::CellsRead;
-use bitvec_move::load_elements;
-use bitvec_move::store::BitStore;
-use bitvec_move::walk::{filled, first_in_element};
-use bitvec_move::words::{WORD_BITS, WordOrder};
+use bitvec_combine::base::{BitOrder, Part, Window};
+use bitvec_combine::cells::CellsRead;
+use bitvec_combine::moves::load_elements;
+use bitvec_combine::store::BitStore;
+use bitvec_combine::walk::{filled, first_in_element};
+use bitvec_combine::words::{WORD_BITS, WordOrder};
 
 /// The bits of a block, which is four words.
 const BLOCK_BITS: usize = 4 * WORD_BITS;
@@ -22,6 +22,7 @@ const BLOCK_BITS: usize = 4 * WORD_BITS;
 /// The index of a window's first bit that is `want`, if there is one. Condition: the memory has at
 /// most `MAX_BITS` bits, and the window lies in it. It loads each element that the window touches at
 /// most once, those of a block together.
+#[inline(always)]
 pub(crate) fn words_scan_first<O: WordOrder, C: CellsRead>(
     cells: &mut C,
     window: Window,

@@ -1,15 +1,15 @@
 //! The bits of a window shifted towards one of its ends.
 ghost use Rattle.std.specs.Prelude.{◌≡◌, ℕ, ◌+◌, ◌-◌, ◌≤◌};
-ghost use Rattle.bitvec_move.specs.base.Lists.{shifted_end, shifted_start};
-ghost use Rattle.bitvec_move.specs.base.Memory.{Edits, HasWindow};
-ghost use Rattle.bitvec_move.specs.cells.Access.{CostsAtMost};
-ghost use Rattle.bitvec_move.specs.walk.Cost.{edit_loads, fill_loads, touched, write_stores};
+ghost use Rattle.bitvec_combine.specs.base.Lists.{shifted_end, shifted_start};
+ghost use Rattle.bitvec_combine.specs.base.Memory.{Edits, HasWindow};
+ghost use Rattle.bitvec_combine.specs.cells.Access.{CostsAtMost};
+ghost use Rattle.bitvec_combine.specs.walk.Cost.{edit_loads, fill_loads, touched, write_stores};
 
 use crate::slice_order::SliceOrder;
-use bitvec_move::base::Window;
-use bitvec_move::cells::{Cells, CellsRead};
-use bitvec_move::store::BitStore;
-use bitvec_move::words::fill;
+use bitvec_combine::base::Window;
+use bitvec_combine::cells::{Cells, CellsRead};
+use bitvec_combine::store::BitStore;
+use bitvec_combine::words::fill;
 
 /// Shifts the bits of a window by `by` places towards its start: the first `by` are lost, and as
 /// many zeros follow the others; all other bits of the memory stay. It is `shift_start` of

@@ -1,12 +1,12 @@
 //! The bits of two windows, exchanged.
 ghost use Rattle.std.specs.Prelude.{◌≡◌, ◌*◌};
-ghost use Rattle.bitvec_move.specs.base.Memory.{HasWindow, Writes, list_in};
-ghost use Rattle.bitvec_move.specs.cells.Access.{Costs};
+ghost use Rattle.bitvec_combine.specs.base.Memory.{HasWindow, Writes, list_in};
+ghost use Rattle.bitvec_combine.specs.cells.Access.{Costs};
 
-use bitvec_move::base::{BitOrder, Window};
-use bitvec_move::cells::{Cells, CellsRead};
-use bitvec_move::store::BitStore;
-use bitvec_move::walk::{get_bit, replace_bit};
+use bitvec_combine::base::{BitOrder, Window};
+use bitvec_combine::cells::{Cells, CellsRead};
+use bitvec_combine::store::BitStore;
+use bitvec_combine::walk::{get_bit, replace_bit};
 
 /// Exchanges the bits of two windows of two memories, of any element widths and orders. Condition:
 /// each memory has at most `MAX_BITS` bits, each window lies in its memory, and the windows are as

@@ -1,5 +1,5 @@
 //! A number put into the bits of a window.
-ghost use Rattle.std.specs.Prelude.{◌≡◌, ◌*◌, ◌<◌, ◌≤◌};
+ghost use Rattle.std.specs.Prelude.{◌≡◌, ◌+◌, ◌*◌, ◌%◌, ◌<◌, ◌≤◌};
 ghost use Rattle.bitvec_words.specs.base.Memory.{Edits, HasWindow};
 ghost use Rattle.bitvec_words.specs.cells.Access.{CostsAtMost};
 ghost use Rattle.bitvec_segments.specs.Segments.{stored};
@@ -42,6 +42,25 @@ pub(crate) fn store<E: Endian, O: WordOrder, C: Cells>(cells: &mut C, window: Wi
         store_whole::<E, O, C>(cells, of_len(window, 4 * bits), number);
         return;
     }
+    if from == 0 && window.len == 8 * bits {
+        store_whole::<E, O, C>(cells, of_len(window, 8 * bits), number);
+        return;
+    }
+    store_parts::<E, O, C>(cells, window, number);
+}
+
+/// `store` of a window that reaches past its first element: straight where it lies in three.
+fn store_parts<E: Endian, O: WordOrder, C: Cells>(cells: &mut C, window: Window, number: u128)
+    requires window { HasWindow C.Elem.BITS (C.numbers cells.old) window }
+    requires some { 0 < window.len }
+    requires size { window.len ≤ 128 }
+    requires passes { C.Elem.BITS < window.start % C.Elem.BITS + window.len }
+    ensures writes { Edits C.Elem.BITS O.at (C.numbers cells.old) (C.numbers cells.new) window
+        (stored E.BIG O.HIGH C.Elem.BITS window.start number) }
+    ensures cost { CostsAtMost C.CellsRead cells.old cells.new (fill_loads window.len) (touched C.Elem.BITS window.start window.len) }
+{
+    let bits = C::Elem::BITS as usize;
+    let head = bits - window.start % bits;
     let rest = window.after(head);
     if rest.len > 2 * bits {
         store_many::<E, O, C>(cells, window, number);

@@ -1,14 +1,14 @@
 use Rattle.std.proofs.Common.{◌≡◌, ℕ, ◌<◌, ◌≤◌, ◌+◌, ◌-◌, min, ◌∙◌, arith, rules, ap, length, []}
-use Rattle.bitvec_words.specs.base.Lists.{combined}
-use Rattle.bitvec_words.specs.base.Memory.{list_in}
-use Rattle.bitvec_words.specs.base.Window.{window_after, window_until}
-use Rattle.bitvec_words.specs.base.WritesLaws.{Writes-is, length-list}
-use Rattle.bitvec_words.specs.store.WidthLaws.{width_some}
-use Rattle.bitvec_words.specs.walk.CostLaws.{touched_read}
-use Rattle.bitvec_words.specs.walk.WalkLaws.{touched-less}
-use Rattle.bitvec_words.specs.CombinedLaws.{combined-enough}
-use Rattle.bitvec_words.specs.FieldLaws.{list-parted}
-use Rattle.bitvec_words.specs.Operator.{operator}
+use Rattle.bitvec_move.specs.base.Lists.{combined}
+use Rattle.bitvec_move.specs.base.Memory.{list_in}
+use Rattle.bitvec_move.specs.base.Window.{window_after, window_until}
+use Rattle.bitvec_move.specs.base.WritesLaws.{Writes-is, length-list}
+use Rattle.bitvec_move.specs.store.WidthLaws.{width_some}
+use Rattle.bitvec_move.specs.walk.CostLaws.{touched_read}
+use Rattle.bitvec_move.specs.walk.WalkLaws.{touched-less}
+use Rattle.bitvec_move.specs.words.CombinedLaws.{combined-enough}
+use Rattle.bitvec_move.specs.words.FieldLaws.{list-parted}
+use Rattle.bitvec_move.specs.words.Operator.{operator}
 use Rattle.bitvec_combine.proofs.combining.combine.Goals as goal
 
 pub returns-then-met-eq0-clause-writes : goal.returns-then-met-eq0-clause-writes

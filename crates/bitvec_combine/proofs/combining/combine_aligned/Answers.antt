@@ -1,9 +1,9 @@
 use Rattle.std.proofs.Common.{◌≡◌, ◌≤◌, ◌*◌, ◌/◌, arith, rules}
 use Rattle.std.proofs.lemmas.Nat.{div-add-mod'}
-use Rattle.bitvec_words.specs.store.WidthLaws.{width_some}
-use Rattle.bitvec_words.specs.CombinedLaws.{Writes-all_met, Writes-some_met}
-use Rattle.bitvec_words.specs.Operator.{operator}
-use Rattle.bitvec_words.specs.TouchedLaws.{touched-after, touched-full}
+use Rattle.bitvec_move.specs.store.WidthLaws.{width_some}
+use Rattle.bitvec_move.specs.words.CombinedLaws.{Writes-all_met, Writes-some_met}
+use Rattle.bitvec_move.specs.words.Operator.{operator}
+use Rattle.bitvec_move.specs.words.TouchedLaws.{touched-after, touched-full}
 use Rattle.bitvec_combine.proofs.combining.combine_aligned.Goals as goal
 
 pub returns-then-tail-eq0-clause-writes : goal.returns-then-tail-eq0-clause-writes

@@ -1,12 +1,12 @@
 use Rattle.std.proofs.Common.{◌≡◌, ℕ, ◌+◌, ◌-◌, min, ◌∙◌, arith, rules, ap, slice_index}
 use Rattle.std.proofs.lemmas.Nat.{mod_below}
-use Rattle.bitvec_words.specs.base.declared.part.Part.{Part}
-use Rattle.bitvec_words.specs.base.Parts.{first_part_of}
-use Rattle.bitvec_words.specs.store.WidthLaws.{width_some}
-use Rattle.bitvec_words.specs.CombinedLaws.{Writes-first_met}
-use Rattle.bitvec_words.specs.FieldLaws.{first_part-long}
-use Rattle.bitvec_words.specs.Operator.{operator}
-use Rattle.bitvec_words.specs.TouchedLaws.{inside_element, touched-edge, touched-inside, touched-parts}
+use Rattle.bitvec_move.specs.base.declared.part.Part.{Part}
+use Rattle.bitvec_move.specs.base.Parts.{first_part_of}
+use Rattle.bitvec_move.specs.store.WidthLaws.{width_some}
+use Rattle.bitvec_move.specs.words.CombinedLaws.{Writes-first_met}
+use Rattle.bitvec_move.specs.words.FieldLaws.{first_part-long}
+use Rattle.bitvec_move.specs.words.Operator.{operator}
+use Rattle.bitvec_move.specs.words.TouchedLaws.{inside_element, touched-edge, touched-inside, touched-parts}
 use Rattle.bitvec_combine.proofs.combining.combine_met.Goals as goal
 
 pub returns-then-passed-to-clause-cost : goal.returns-then-passed-to-clause-cost

@@ -1,15 +1,15 @@
 use Rattle.std.proofs.Common.{◌≡◌, ◌∙◌, ◌≤◌, ◌<◌, ◌+◌, ◌-◌, ◌++◌, [], ℕ, ap, arith, rules, List, Bool, length}
-use Rattle.bitvec_words.specs.base.declared.part.Part.{Part}
-use Rattle.bitvec_words.specs.base.Lists.{combined}
-use Rattle.bitvec_words.specs.base.Memory.{element_bits}
-use Rattle.bitvec_words.specs.base.MemoryLaws.{length-element_bits}
-use Rattle.bitvec_words.specs.base.Parts.{first_part_of}
-use Rattle.bitvec_words.specs.store.WidthLaws.{width_some}
-use Rattle.bitvec_words.specs.CombinedLaws.{Writes-both, combined-first, range-taken}
-use Rattle.bitvec_words.specs.FieldLaws.{first_part-long}
-use Rattle.bitvec_words.specs.Operator.{operator}
-use Rattle.bitvec_words.specs.TouchedLaws.{touched-parts}
-use Rattle.bitvec_words.specs.walk.WalkLaws.{first-len, first-place}
+use Rattle.bitvec_move.specs.base.declared.part.Part.{Part}
+use Rattle.bitvec_move.specs.base.Lists.{combined}
+use Rattle.bitvec_move.specs.base.Memory.{element_bits}
+use Rattle.bitvec_move.specs.base.MemoryLaws.{length-element_bits}
+use Rattle.bitvec_move.specs.base.Parts.{first_part_of}
+use Rattle.bitvec_move.specs.store.WidthLaws.{width_some}
+use Rattle.bitvec_move.specs.words.CombinedLaws.{Writes-both, combined-first, range-taken}
+use Rattle.bitvec_move.specs.words.FieldLaws.{first_part-long}
+use Rattle.bitvec_move.specs.words.Operator.{operator}
+use Rattle.bitvec_move.specs.words.TouchedLaws.{touched-parts}
+use Rattle.bitvec_move.specs.walk.WalkLaws.{first-len, first-place}
 use Rattle.bitvec_combine.proofs.combining_elements.combine_end.Goals as goal
 
 pub returns-clause-writes : goal.returns-clause-writes

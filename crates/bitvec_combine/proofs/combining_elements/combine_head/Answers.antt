@@ -1,12 +1,12 @@
 use Rattle.std.proofs.Common.{◌≡◌, ◌≤◌, ◌+◌, ◌-◌, ◌∙◌, ap, arith, Bool, List, length}
-use Rattle.bitvec_words.specs.base.Lists.{combined}
-use Rattle.bitvec_words.specs.base.Memory.{element_bits, list_in}
-use Rattle.bitvec_words.specs.base.MemoryLaws.{length-element_bits}
-use Rattle.bitvec_words.specs.base.Parts.{part_window}
-use Rattle.bitvec_words.specs.base.WritesLaws.{Writes-is}
-use Rattle.bitvec_words.specs.CombinedLaws.{combined-cut, combined-padded, length-part_list}
-use Rattle.bitvec_words.specs.FieldLaws.{range-shifted}
-use Rattle.bitvec_words.specs.Operator.{operator}
+use Rattle.bitvec_move.specs.base.Lists.{combined}
+use Rattle.bitvec_move.specs.base.Memory.{element_bits, list_in}
+use Rattle.bitvec_move.specs.base.MemoryLaws.{length-element_bits}
+use Rattle.bitvec_move.specs.base.Parts.{part_window}
+use Rattle.bitvec_move.specs.base.WritesLaws.{Writes-is}
+use Rattle.bitvec_move.specs.words.CombinedLaws.{combined-cut, combined-padded, length-part_list}
+use Rattle.bitvec_move.specs.words.FieldLaws.{range-shifted}
+use Rattle.bitvec_move.specs.words.Operator.{operator}
 use Rattle.bitvec_combine.proofs.combining_elements.combine_head.Goals as goal
 
 pub returns-clause-writes : goal.returns-clause-writes

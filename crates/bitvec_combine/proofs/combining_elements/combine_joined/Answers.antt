@@ -1,12 +1,12 @@
 use Rattle.std.proofs.Common.{◌+◌, ◌∙◌, ap, arith, rules, List, Bool, slice_index}
-use Rattle.bitvec_words.specs.store.WidthLaws.{width_some}
-use Rattle.bitvec_words.specs.base.Lists.{combined}
-use Rattle.bitvec_words.specs.base.Memory.{list_in}
-use Rattle.bitvec_words.specs.base.WritesLaws.{Writes-is}
-use Rattle.bitvec_words.specs.CombinedLaws.{Writes-combined, combined-none, length-elements}
-use Rattle.bitvec_words.specs.Elements.{elements_window}
-use Rattle.bitvec_words.specs.FieldLaws.{list-joined}
-use Rattle.bitvec_words.specs.Operator.{operator}
+use Rattle.bitvec_move.specs.store.WidthLaws.{width_some}
+use Rattle.bitvec_move.specs.base.Lists.{combined}
+use Rattle.bitvec_move.specs.base.Memory.{list_in}
+use Rattle.bitvec_move.specs.base.WritesLaws.{Writes-is}
+use Rattle.bitvec_move.specs.words.CombinedLaws.{Writes-combined, combined-none, length-elements}
+use Rattle.bitvec_move.specs.words.Elements.{elements_window}
+use Rattle.bitvec_move.specs.words.FieldLaws.{list-joined}
+use Rattle.bitvec_move.specs.words.Operator.{operator}
 use Rattle.bitvec_combine.proofs.combining_elements.combine_joined.Goals as goal
 
 pub loop-step-init : goal.loop-step-init

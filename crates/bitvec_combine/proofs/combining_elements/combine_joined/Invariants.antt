@@ -1,9 +1,9 @@
 use Rattle.std.proofs.Common.{◌≡◌, ◌+◌, slice_index}
-use Rattle.bitvec_words.specs.base.Lists.{combined}
-use Rattle.bitvec_words.specs.base.Memory.{Writes, list_in}
-use Rattle.bitvec_words.specs.cells.Access.{Costs, OnlyReads}
-use Rattle.bitvec_words.specs.Elements.{elements_window, elements_window_from}
-use Rattle.bitvec_words.specs.Operator.{operator}
+use Rattle.bitvec_move.specs.base.Lists.{combined}
+use Rattle.bitvec_move.specs.base.Memory.{Writes, list_in}
+use Rattle.bitvec_move.specs.cells.Access.{Costs, OnlyReads}
+use Rattle.bitvec_move.specs.words.Elements.{elements_window, elements_window_from}
+use Rattle.bitvec_move.specs.words.Operator.{operator}
 use Rattle.bitvec_combine.proofs.combining_elements.combine_joined.Given as goal
 
 abbrev pub invariant-loop-step : goal.invariant-loop-step

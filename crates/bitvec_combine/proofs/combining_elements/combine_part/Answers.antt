@@ -1,12 +1,12 @@
 use Rattle.std.proofs.Common.{◌≤◌, ◌∙◌, ap, arith, List, Bool, sym, slice_range, length, slice_index}
-use Rattle.bitvec_words.specs.base.Lists.{combined}
-use Rattle.bitvec_words.specs.base.Memory.{element_bits}
-use Rattle.bitvec_words.specs.base.MemoryLaws.{length-element_bits}
-use Rattle.bitvec_words.specs.base.WritesLaws.{Writes-is}
-use Rattle.bitvec_words.specs.store.WidthLaws.{width_some}
-use Rattle.bitvec_words.specs.CombinedLaws.{combined-range}
-use Rattle.bitvec_words.specs.FieldLaws.{list-part, part-stored}
-use Rattle.bitvec_words.specs.Operator.{operator}
+use Rattle.bitvec_move.specs.base.Lists.{combined}
+use Rattle.bitvec_move.specs.base.Memory.{element_bits}
+use Rattle.bitvec_move.specs.base.MemoryLaws.{length-element_bits}
+use Rattle.bitvec_move.specs.base.WritesLaws.{Writes-is}
+use Rattle.bitvec_move.specs.store.WidthLaws.{width_some}
+use Rattle.bitvec_move.specs.words.CombinedLaws.{combined-range}
+use Rattle.bitvec_move.specs.words.FieldLaws.{list-part, part-stored}
+use Rattle.bitvec_move.specs.words.Operator.{operator}
 use Rattle.bitvec_combine.proofs.combining_elements.combine_part.Goals as goal
 
 pub returns-clause-writes : goal.returns-clause-writes

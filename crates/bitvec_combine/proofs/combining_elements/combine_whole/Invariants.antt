@@ -1,8 +1,8 @@
-use Rattle.bitvec_words.specs.base.Lists.{combined}
-use Rattle.bitvec_words.specs.base.Memory.{Writes, list_in}
-use Rattle.bitvec_words.specs.cells.Access.{Costs, OnlyReads}
-use Rattle.bitvec_words.specs.Elements.{elements_window}
-use Rattle.bitvec_words.specs.Operator.{operator}
+use Rattle.bitvec_move.specs.base.Lists.{combined}
+use Rattle.bitvec_move.specs.base.Memory.{Writes, list_in}
+use Rattle.bitvec_move.specs.cells.Access.{Costs, OnlyReads}
+use Rattle.bitvec_move.specs.words.Elements.{elements_window}
+use Rattle.bitvec_move.specs.words.Operator.{operator}
 use Rattle.bitvec_combine.proofs.combining_elements.combine_whole.Given as goal
 
 abbrev pub invariant-loop-step : goal.invariant-loop-step

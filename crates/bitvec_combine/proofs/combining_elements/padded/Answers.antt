@@ -1,6 +1,6 @@
-use Rattle.bitvec_words.specs.base.MemoryLaws.{length-element_bits}
-use Rattle.bitvec_words.specs.base.PartLaws.{element-none}
-use Rattle.bitvec_words.specs.CombinedLaws.{padded-bits}
+use Rattle.bitvec_move.specs.base.MemoryLaws.{length-element_bits}
+use Rattle.bitvec_move.specs.base.PartLaws.{element-none}
+use Rattle.bitvec_move.specs.words.CombinedLaws.{padded-bits}
 use Rattle.bitvec_combine.proofs.combining_elements.padded.Goals as goal
 
 pub returns : goal.returns

@@ -1,7 +1,7 @@
 use Rattle.std.proofs.Common.{sym, ◌∙◌}
-use Rattle.bitvec_words.specs.base.CompareLaws.{same-unequal}
-use Rattle.bitvec_words.specs.base.WritesLaws.{length-list}
-use Rattle.bitvec_words.specs.WholeLaws.{same-empty}
+use Rattle.bitvec_move.specs.base.CompareLaws.{same-unequal}
+use Rattle.bitvec_move.specs.base.WritesLaws.{length-list}
+use Rattle.bitvec_move.specs.words.WholeLaws.{same-empty}
 use Rattle.bitvec_combine.proofs.comparing.equal.Goals as goal
 
 pub returns-then-left_window-right_window-clause-value : goal.returns-then-left_window-right_window-clause-value

@@ -1,9 +1,9 @@
 use Rattle.std.proofs.Common.{◌/◌, arith, rules, refl, ◌∙◌}
-use Rattle.bitvec_words.specs.store.WidthLaws.{width_some}
-use Rattle.bitvec_words.specs.FieldLaws.{list-tail}
-use Rattle.bitvec_words.specs.SameLaws.{found-none, found-some, same-apart, same-then}
-use Rattle.bitvec_words.specs.TouchedLaws.{touched-after, touched-more}
-use Rattle.bitvec_words.specs.WholeLaws.{long-whole, whole_fits}
+use Rattle.bitvec_move.specs.store.WidthLaws.{width_some}
+use Rattle.bitvec_move.specs.words.FieldLaws.{list-tail}
+use Rattle.bitvec_move.specs.words.SameLaws.{found-none, found-some, same-apart, same-then}
+use Rattle.bitvec_move.specs.words.TouchedLaws.{touched-after, touched-more}
+use Rattle.bitvec_move.specs.words.WholeLaws.{long-whole, whole_fits}
 use Rattle.bitvec_combine.proofs.comparing_equal.equal_aligned_rest.Goals as goal
 
 pub returns-then-to_u128-ne0-clause-value : goal.returns-then-to_u128-ne0-clause-value

@@ -1,6 +1,6 @@
 use Rattle.std.proofs.Common.{sym, ◌∙◌}
-use Rattle.bitvec_words.specs.FieldLaws.{list-part}
-use Rattle.bitvec_words.specs.SameLaws.{same-lists}
+use Rattle.bitvec_move.specs.words.FieldLaws.{list-part}
+use Rattle.bitvec_move.specs.words.SameLaws.{same-lists}
 use Rattle.bitvec_combine.proofs.comparing_equal.equal_part.Goals as goal
 
 pub returns-clause-value : goal.returns-clause-value

@@ -1,11 +1,11 @@
 use Rattle.std.proofs.Common.{◌≡◌, ◌≢◌, ℕ, ◌-◌, ◌%◌, min, arith, rules, sym, refl, ◌∙◌, ap}
-use Rattle.bitvec_words.specs.base.declared.part.Part.{Part}
-use Rattle.bitvec_words.specs.base.Parts.{first_part_of}
-use Rattle.bitvec_words.specs.store.WidthLaws.{width_some}
-use Rattle.bitvec_words.specs.FieldLaws.{first_part-long, list-head}
-use Rattle.bitvec_words.specs.SameLaws.{same-apart, same-then}
-use Rattle.bitvec_words.specs.TouchedLaws.{touched-first, touched-rest}
-use Rattle.bitvec_words.specs.WholeLaws.{long-head}
+use Rattle.bitvec_move.specs.base.declared.part.Part.{Part}
+use Rattle.bitvec_move.specs.base.Parts.{first_part_of}
+use Rattle.bitvec_move.specs.store.WidthLaws.{width_some}
+use Rattle.bitvec_move.specs.words.FieldLaws.{first_part-long, list-head}
+use Rattle.bitvec_move.specs.words.SameLaws.{same-apart, same-then}
+use Rattle.bitvec_move.specs.words.TouchedLaws.{touched-first, touched-rest}
+use Rattle.bitvec_move.specs.words.WholeLaws.{long-head}
 use Rattle.bitvec_combine.proofs.comparing_equal.equal_unshifted.Goals as goal
 
 pub returns-then-not-equal_part-clause-value : goal.returns-then-not-equal_part-clause-value

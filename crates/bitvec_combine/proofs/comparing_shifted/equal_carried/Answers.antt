@@ -1,11 +1,11 @@
 use Rattle.std.proofs.Common.{◌≡◌, ◌≤◌, ℕ, ◌+◌, ◌*◌, ◌/◌, ◌%◌, arith, rules, ◌∙◌, ap, slice_index}
 use Rattle.std.proofs.Math.Nat.{mul-le-mul_left}
 use Rattle.std.proofs.lemmas.Nat.{div-add-mod'}
-use Rattle.bitvec_words.specs.Elements.{elements_window, elements_window_from}
-use Rattle.bitvec_words.specs.store.WidthLaws.{width_some}
-use Rattle.bitvec_words.specs.SameLaws.{found-none, found-some, same-apart, same-then}
-use Rattle.bitvec_words.specs.TouchedLaws.{touched-after}
-use Rattle.bitvec_words.specs.WholeLaws.{HasWindow-part, list-elements, list-elements_from, long-elements_from, touched-behind_from, whole_fits}
+use Rattle.bitvec_move.specs.words.Elements.{elements_window, elements_window_from}
+use Rattle.bitvec_move.specs.store.WidthLaws.{width_some}
+use Rattle.bitvec_move.specs.words.SameLaws.{found-none, found-some, same-apart, same-then}
+use Rattle.bitvec_move.specs.words.TouchedLaws.{touched-after}
+use Rattle.bitvec_move.specs.words.WholeLaws.{HasWindow-part, list-elements, list-elements_from, long-elements_from, touched-behind_from, whole_fits}
 use Rattle.bitvec_combine.proofs.comparing_shifted.equal_carried.Goals as goal
 
 pub shifted_differences-found-requires-clause-window : goal.shifted_differences-found-requires-clause-window

@@ -1,8 +1,8 @@
 use Rattle.std.specs.Prelude.{◌≡◌, ◌+◌, ◌*◌, slice_index}
-use Rattle.bitvec_words.specs.base.Lists.{same_bits}
-use Rattle.bitvec_words.specs.base.Memory.{list_in}
-use Rattle.bitvec_words.specs.base.Window.{window_after}
-use Rattle.bitvec_words.specs.cells.Access.{OnlyReads}
+use Rattle.bitvec_move.specs.base.Lists.{same_bits}
+use Rattle.bitvec_move.specs.base.Memory.{list_in}
+use Rattle.bitvec_move.specs.base.Window.{window_after}
+use Rattle.bitvec_move.specs.cells.Access.{OnlyReads}
 use Rattle.bitvec_combine.proofs.comparing_shifted.equal_carried.Given as goal
 
 abbrev pub invariant-loop-test : goal.invariant-loop-test

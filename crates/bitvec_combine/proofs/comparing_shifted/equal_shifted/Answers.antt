@@ -1,13 +1,13 @@
 use Rattle.std.proofs.Common.{◌≡◌, ◌≤◌, ℕ, ◌+◌, ◌-◌, ◌/◌, arith, rules, sym, refl, ◌∙◌, ap, slice_index}
 use Rattle.std.proofs.lemmas.Nat.{mod_below}
-use Rattle.bitvec_words.specs.base.declared.part.Part.{Part}
-use Rattle.bitvec_words.specs.base.Parts.{first_part_of}
-use Rattle.bitvec_words.specs.store.WidthLaws.{width_some}
-use Rattle.bitvec_words.specs.walk.WalkLaws.{touched-less}
-use Rattle.bitvec_words.specs.FieldLaws.{first_part-long, list-head, list-parted}
-use Rattle.bitvec_words.specs.SameLaws.{same-apart, same-then}
-use Rattle.bitvec_words.specs.TouchedLaws.{apart_edge, inside_element, touched-first, touched-inside, touched-rest}
-use Rattle.bitvec_words.specs.WholeLaws.{long-parted}
+use Rattle.bitvec_move.specs.base.declared.part.Part.{Part}
+use Rattle.bitvec_move.specs.base.Parts.{first_part_of}
+use Rattle.bitvec_move.specs.store.WidthLaws.{width_some}
+use Rattle.bitvec_move.specs.walk.WalkLaws.{touched-less}
+use Rattle.bitvec_move.specs.words.FieldLaws.{first_part-long, list-head, list-parted}
+use Rattle.bitvec_move.specs.words.SameLaws.{same-apart, same-then}
+use Rattle.bitvec_move.specs.words.TouchedLaws.{apart_edge, inside_element, touched-first, touched-inside, touched-rest}
+use Rattle.bitvec_move.specs.words.WholeLaws.{long-parted}
 use Rattle.bitvec_combine.proofs.comparing_shifted.equal_shifted.Goals as goal
 
 pub returns-then-left_window-bits-eq0-clause-right : goal.returns-then-left_window-bits-eq0-clause-right

@@ -1,8 +1,8 @@
 use Rattle.std.proofs.Common.{◌≤◌, ◌∙◌, sym, arith, length}
-use Rattle.bitvec_words.specs.base.Memory.{element_bits}
-use Rattle.bitvec_words.specs.base.MemoryLaws.{length-element_bits}
-use Rattle.bitvec_words.specs.FieldLaws.{list-part, range-shifted}
-use Rattle.bitvec_words.specs.SameLaws.{same-lists}
+use Rattle.bitvec_move.specs.base.Memory.{element_bits}
+use Rattle.bitvec_move.specs.base.MemoryLaws.{length-element_bits}
+use Rattle.bitvec_move.specs.words.FieldLaws.{list-part, range-shifted}
+use Rattle.bitvec_move.specs.words.SameLaws.{same-lists}
 use Rattle.bitvec_combine.proofs.comparing_shifted.equal_shifted_head.Goals as goal
 
 pub returns-clause-value : goal.returns-clause-value

@@ -1,8 +1,8 @@
 use Rattle.std.proofs.Common.{sym, ◌∙◌, refl, arith}
-use Rattle.bitvec_words.specs.base.declared.part.Part.{Part}
-use Rattle.bitvec_words.specs.base.SliceLaws.{range-from_start}
-use Rattle.bitvec_words.specs.FieldLaws.{list-part}
-use Rattle.bitvec_words.specs.SameLaws.{same-lists}
+use Rattle.bitvec_move.specs.base.declared.part.Part.{Part}
+use Rattle.bitvec_move.specs.base.SliceLaws.{range-from_start}
+use Rattle.bitvec_move.specs.words.FieldLaws.{list-part}
+use Rattle.bitvec_move.specs.words.SameLaws.{same-lists}
 use Rattle.bitvec_combine.proofs.comparing_shifted.equal_shifted_tail.Goals as goal
 
 pub returns-clause-value : goal.returns-clause-value

@@ -1,11 +1,11 @@
 use Rattle.std.proofs.Common.{◌==◌, ℕ, List, Bool, ◌++◌, arith, rules, ◌∙◌, ap, slice_index}
 use Rattle.std.proofs.Math.Nat.{mul-le-mul_left}
-use Rattle.bitvec_words.specs.store.WidthLaws.{width_some}
-use Rattle.bitvec_words.specs.base.Memory.{element_bits, list_in}
-use Rattle.bitvec_words.specs.Elements.{elements_window, elements_window_from}
-use Rattle.bitvec_words.specs.FieldLaws.{list-element, list-joined}
-use Rattle.bitvec_words.specs.SameLaws.{same-element}
-use Rattle.bitvec_words.specs.WholeLaws.{HasWindow-part, same-empty, same-length}
+use Rattle.bitvec_move.specs.store.WidthLaws.{width_some}
+use Rattle.bitvec_move.specs.base.Memory.{element_bits, list_in}
+use Rattle.bitvec_move.specs.words.Elements.{elements_window, elements_window_from}
+use Rattle.bitvec_move.specs.words.FieldLaws.{list-element, list-joined}
+use Rattle.bitvec_move.specs.words.SameLaws.{same-element}
+use Rattle.bitvec_move.specs.words.WholeLaws.{HasWindow-part, same-empty, same-length}
 use Rattle.bitvec_combine.proofs.comparing_shifted.shifted_differences.Goals as goal
 
 pub loop-step-init : goal.loop-step-init

@@ -1,8 +1,8 @@
 use Rattle.std.specs.Prelude.{◌≡◌, ◌==◌, ◌+◌, slice_index}
-use Rattle.bitvec_words.specs.base.Lists.{same_bits}
-use Rattle.bitvec_words.specs.base.Memory.{list_in}
-use Rattle.bitvec_words.specs.cells.Access.{OnlyReads}
-use Rattle.bitvec_words.specs.Elements.{elements_window, elements_window_from}
+use Rattle.bitvec_move.specs.base.Lists.{same_bits}
+use Rattle.bitvec_move.specs.base.Memory.{list_in}
+use Rattle.bitvec_move.specs.cells.Access.{OnlyReads}
+use Rattle.bitvec_move.specs.words.Elements.{elements_window, elements_window_from}
 use Rattle.bitvec_combine.proofs.comparing_shifted.shifted_differences.Given as goal
 
 abbrev pub invariant-loop-step : goal.invariant-loop-step

@@ -1,11 +1,11 @@
 use Rattle.std.proofs.Common.{arith, sym, ◌∙◌, ◌≡◌, ◌+◌, rules}
 use borrow.Author.Count.{below_more}
-use Rattle.bitvec_move.specs.base.Lists.{stands_at}
-use Rattle.bitvec_move.specs.base.ListsLaws.{stands_in-found}
-use Rattle.bitvec_move.specs.base.Memory.{list_in}
-use Rattle.bitvec_move.specs.base.NeedleLaws.{stands-part, stands-nowhere}
-use Rattle.bitvec_move.specs.base.Window.{window_range}
-use Rattle.bitvec_move.specs.base.WritesLaws.{within-list, length-list}
+use Rattle.bitvec_combine.specs.base.Lists.{stands_at}
+use Rattle.bitvec_combine.specs.base.ListsLaws.{stands_in-found}
+use Rattle.bitvec_combine.specs.base.Memory.{list_in}
+use Rattle.bitvec_combine.specs.base.NeedleLaws.{stands-part, stands-nowhere}
+use Rattle.bitvec_combine.specs.base.Window.{window_range}
+use Rattle.bitvec_combine.specs.base.WritesLaws.{within-list, length-list}
 use Rattle.bitvec_engine.proofs.NeedleLemmas.{bit-cost-more}
 use Rattle.bitvec_engine.proofs.bit_needles.bits_contains.Goals as goal
 use Rattle.bitvec_engine.proofs.bit_needles.bits_contains.Goals.{After-bits_eq}

@@ -1,7 +1,7 @@
 use Rattle.std.proofs.Common.{◌≡◌, ℕ, ◌*◌, ◌<◌, false}
-use Rattle.bitvec_move.specs.base.Lists.{stands_at}
-use Rattle.bitvec_move.specs.base.Memory.{list_in}
-use Rattle.bitvec_move.specs.cells.Access.{OnlyReadsAtMost}
+use Rattle.bitvec_combine.specs.base.Lists.{stands_at}
+use Rattle.bitvec_combine.specs.base.Memory.{list_in}
+use Rattle.bitvec_combine.specs.cells.Access.{OnlyReadsAtMost}
 use Rattle.bitvec_engine.proofs.bit_needles.bits_contains.Given as goal
 
 abbrev pub invariant-loop-from : goal.invariant-loop-from

@@ -1,8 +1,8 @@
 use Rattle.std.proofs.Common.{arith, sym, ◌-◌}
-use Rattle.bitvec_move.specs.base.ListsLaws.{is_suffix-long}
-use Rattle.bitvec_move.specs.base.NeedleLaws.{suffix-part}
-use Rattle.bitvec_move.specs.base.Window.{window_range}
-use Rattle.bitvec_move.specs.base.WritesLaws.{within-list, length-list}
+use Rattle.bitvec_combine.specs.base.ListsLaws.{is_suffix-long}
+use Rattle.bitvec_combine.specs.base.NeedleLaws.{suffix-part}
+use Rattle.bitvec_combine.specs.base.Window.{window_range}
+use Rattle.bitvec_combine.specs.base.WritesLaws.{within-list, length-list}
 use Rattle.bitvec_engine.proofs.bit_needles.bits_ends_with.Goals as goal
 
 pub returns-then-needle-window-clause-value : goal.returns-then-needle-window-clause-value

@@ -1,6 +1,6 @@
 use Rattle.std.proofs.Common.{sym}
-use Rattle.bitvec_move.specs.base.WritesLaws.{within-list}
-use Rattle.bitvec_move.specs.base.WindowLaws.{window-past}
+use Rattle.bitvec_combine.specs.base.WritesLaws.{within-list}
+use Rattle.bitvec_combine.specs.base.WindowLaws.{window-past}
 use Rattle.bitvec_engine.proofs.combining.bit_or_zero.Goals as goal
 
 pub returns-else-index-window-clause-value : goal.returns-else-index-window-clause-value

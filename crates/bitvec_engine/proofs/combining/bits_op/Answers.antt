@@ -1,8 +1,8 @@
 use Rattle.std.proofs.Common.{arith, ◌∙◌, sym, rules}
-use Rattle.bitvec_move.specs.base.ListsLaws.{length-combined, get-combined}
-use Rattle.bitvec_move.specs.base.WritesLaws.{length-list}
-use Rattle.bitvec_move.specs.base.TransferLaws.{transfer-none, transfer-next, transfer-rest, transfer-all}
-use Rattle.bitvec_move.specs.words.Operator.{operator}
+use Rattle.bitvec_combine.specs.base.ListsLaws.{length-combined, get-combined}
+use Rattle.bitvec_combine.specs.base.WritesLaws.{length-list}
+use Rattle.bitvec_combine.specs.base.TransferLaws.{transfer-none, transfer-next, transfer-rest, transfer-all}
+use Rattle.bitvec_combine.specs.words.Operator.{operator}
 use Rattle.bitvec_engine.proofs.combining.bits_op.Goals as goal
 
 pub loop-index-init : goal.loop-index-init

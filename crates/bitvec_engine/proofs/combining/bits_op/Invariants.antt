@@ -1,9 +1,9 @@
 use Rattle.std.proofs.Common.{◌*◌, min}
-use Rattle.bitvec_move.specs.base.Lists.{combined}
-use Rattle.bitvec_move.specs.base.Memory.{Writes, list_in}
-use Rattle.bitvec_move.specs.base.TransferLaws.{overwritten}
-use Rattle.bitvec_move.specs.cells.Access.{Costs, OnlyReads}
-use Rattle.bitvec_move.specs.words.Operator.{operator}
+use Rattle.bitvec_combine.specs.base.Lists.{combined}
+use Rattle.bitvec_combine.specs.base.Memory.{Writes, list_in}
+use Rattle.bitvec_combine.specs.base.TransferLaws.{overwritten}
+use Rattle.bitvec_combine.specs.cells.Access.{Costs, OnlyReads}
+use Rattle.bitvec_combine.specs.words.Operator.{operator}
 use Rattle.bitvec_engine.proofs.combining.bits_op.Given as goal
 
 abbrev pub invariant-loop-index : goal.invariant-loop-index

@@ -1,6 +1,6 @@
 use Rattle.std.proofs.Common.{arith}
-use Rattle.bitvec_move.specs.base.CompareLaws.{same-unequal, same-differ, same-equal}
-use Rattle.bitvec_move.specs.base.WritesLaws.{length-list}
+use Rattle.bitvec_combine.specs.base.CompareLaws.{same-unequal, same-differ, same-equal}
+use Rattle.bitvec_combine.specs.base.WritesLaws.{length-list}
 use Rattle.bitvec_engine.proofs.comparing.bits_eq.Goals as goal
 
 pub returns-then-left_window-right_window-clause-value : goal.returns-then-left_window-right_window-clause-value

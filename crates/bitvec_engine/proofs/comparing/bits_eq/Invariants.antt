@@ -1,6 +1,6 @@
-use Rattle.bitvec_move.specs.base.CompareLaws.{SameBelow}
-use Rattle.bitvec_move.specs.base.Memory.{list_in}
-use Rattle.bitvec_move.specs.cells.Access.{OnlyReads}
+use Rattle.bitvec_combine.specs.base.CompareLaws.{SameBelow}
+use Rattle.bitvec_combine.specs.base.Memory.{list_in}
+use Rattle.bitvec_combine.specs.cells.Access.{OnlyReads}
 use Rattle.bitvec_engine.proofs.comparing.bits_eq.Given as goal
 
 abbrev pub invariant-loop-index : goal.invariant-loop-index

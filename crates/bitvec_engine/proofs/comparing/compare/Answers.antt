@@ -1,6 +1,6 @@
 use Rattle.std.proofs.Common.{arith}
-use Rattle.bitvec_move.specs.base.CompareLaws.{order-differ, order-same}
-use Rattle.bitvec_move.specs.base.WritesLaws.{length-list}
+use Rattle.bitvec_combine.specs.base.CompareLaws.{order-differ, order-same}
+use Rattle.bitvec_combine.specs.base.WritesLaws.{length-list}
 use Rattle.bitvec_engine.proofs.comparing.compare.Goals as goal
 
 pub returns-then-bit-other-clause-value : goal.returns-then-bit-other-clause-value

@@ -1,7 +1,7 @@
 use Rattle.std.proofs.Common.{◌+◌, false, slice_set, slice_index_or, arith, rules}
-use Rattle.bitvec_move.specs.base.CopyLaws.{copied_within-none, copy-ascending}
-use Rattle.bitvec_move.specs.base.WritesLaws.{length-list}
-use Rattle.bitvec_move.specs.base.WritesLaws.{Writes-start, Writes-next}
+use Rattle.bitvec_combine.specs.base.CopyLaws.{copied_within-none, copy-ascending}
+use Rattle.bitvec_combine.specs.base.WritesLaws.{length-list}
+use Rattle.bitvec_combine.specs.base.WritesLaws.{Writes-start, Writes-next}
 use Rattle.bitvec_engine.proofs.copying_within.copy_ascending.Goals as goal
 
 pub loop-index-init : goal.loop-index-init

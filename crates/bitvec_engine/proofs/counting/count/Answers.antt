@@ -1,12 +1,12 @@
 use Rattle.std.proofs.Common.{◌≡◌, ◌<◌, ℕ, ◌-◌, arith, rules, refl, sym, ◌∙◌, ap, Bool, List, count_by}
-use Rattle.bitvec_move.specs.base.declared.part.Part.{Part}
-use Rattle.bitvec_move.specs.base.Parts.{first_part_of}
-use Rattle.bitvec_move.specs.store.WidthLaws.{width_some}
-use Rattle.bitvec_move.specs.walk.Cost.{touched}
-use Rattle.bitvec_move.specs.walk.WalkLaws.{touched-none}
-use Rattle.bitvec_move.specs.words.FieldLaws.{first_part-long}
-use Rattle.bitvec_move.specs.words.TouchedLaws.{touched-head, touched-rest}
-use Rattle.bitvec_move.specs.words.WholeLaws.{list-empty}
+use Rattle.bitvec_combine.specs.base.declared.part.Part.{Part}
+use Rattle.bitvec_combine.specs.base.Parts.{first_part_of}
+use Rattle.bitvec_combine.specs.store.WidthLaws.{width_some}
+use Rattle.bitvec_combine.specs.walk.Cost.{touched}
+use Rattle.bitvec_combine.specs.walk.WalkLaws.{touched-none}
+use Rattle.bitvec_combine.specs.words.FieldLaws.{first_part-long}
+use Rattle.bitvec_combine.specs.words.TouchedLaws.{touched-head, touched-rest}
+use Rattle.bitvec_combine.specs.words.WholeLaws.{list-empty}
 use Rattle.bitvec_engine.proofs.CountLemmas.{count-head, count-within}
 use Rattle.bitvec_engine.proofs.counting.count.Goals as goal
 

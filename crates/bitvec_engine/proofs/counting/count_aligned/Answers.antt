@@ -1,6 +1,6 @@
 use Rattle.std.proofs.Common.{◌%◌, ◌<◌, arith, rules}
-use Rattle.bitvec_move.specs.store.WidthLaws.{width_some}
-use Rattle.bitvec_move.specs.words.TouchedLaws.{touched-full, touched-more}
+use Rattle.bitvec_combine.specs.store.WidthLaws.{width_some}
+use Rattle.bitvec_combine.specs.words.TouchedLaws.{touched-full, touched-more}
 use Rattle.bitvec_engine.proofs.CountLemmas.{count-tail, count-within}
 use Rattle.bitvec_engine.proofs.counting.count_aligned.Goals as goal
 

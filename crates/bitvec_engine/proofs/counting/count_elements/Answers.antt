@@ -1,8 +1,8 @@
 use Rattle.std.proofs.Common.{◌+◌, arith, rules, sym, ap, Bool, List, count_by}
 use Rattle.std.proofs.Math.Nat.{mul-le-mul_left}
-use Rattle.bitvec_move.specs.store.WidthLaws.{width_some}
-use Rattle.bitvec_move.specs.words.Elements.{elements_window}
-use Rattle.bitvec_move.specs.words.WholeLaws.{HasWindow-part, list-empty}
+use Rattle.bitvec_combine.specs.store.WidthLaws.{width_some}
+use Rattle.bitvec_combine.specs.words.Elements.{elements_window}
+use Rattle.bitvec_combine.specs.words.WholeLaws.{HasWindow-part, list-empty}
 use Rattle.bitvec_engine.proofs.CountLemmas.{count-element, count-within}
 use Rattle.bitvec_engine.proofs.counting.count_elements.Goals as goal
 

@@ -1,5 +1,5 @@
 use Rattle.std.proofs.Common.{◌≤◌, ◌<◌, ◌+◌, ◌-◌, ◌*◌, ◌/◌, arith, rules}
-use Rattle.bitvec_move.specs.store.WidthLaws.{width_some}
+use Rattle.bitvec_combine.specs.store.WidthLaws.{width_some}
 use Rattle.bitvec_engine.proofs.CountLemmas.{count-left, count-within, words-within}
 use Rattle.bitvec_engine.proofs.WordScanLemmas.{HasWindow-elements, elements-bound}
 use Rattle.bitvec_engine.proofs.counting.count_whole.Goals as goal

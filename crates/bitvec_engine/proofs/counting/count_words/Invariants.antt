@@ -1,7 +1,7 @@
 use Rattle.std.proofs.Common.{◌≡◌, ◌*◌, ◌/◌, count_by}
-use Rattle.bitvec_move.specs.base.Memory.{list_in}
-use Rattle.bitvec_move.specs.cells.Access.{OnlyReads}
-use Rattle.bitvec_move.specs.words.Elements.{elements_window}
+use Rattle.bitvec_combine.specs.base.Memory.{list_in}
+use Rattle.bitvec_combine.specs.cells.Access.{OnlyReads}
+use Rattle.bitvec_combine.specs.words.Elements.{elements_window}
 use Rattle.bitvec_engine.proofs.counting.count_words.Given as goal
 
 abbrev pub invariant-loop-step : goal.invariant-loop-step

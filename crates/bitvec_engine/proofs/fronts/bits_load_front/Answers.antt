@@ -1,5 +1,5 @@
 use Rattle.std.proofs.Common.{◌≡◌, ℕ, arith, rules, ap, ◌∙◌}
-use Rattle.bitvec_move.specs.base.Parts.{first_part_of}
+use Rattle.bitvec_combine.specs.base.Parts.{first_part_of}
 use Rattle.bitvec_engine.specs.Front.{front_window}
 use Rattle.bitvec_engine.proofs.FrontLemmas.{part-front, touched-part}
 use Rattle.bitvec_engine.proofs.fronts.bits_load_front.Goals as goal

@@ -1,7 +1,7 @@
 use Rattle.std.proofs.Common.{◌∙◌, ap, refl}
-use Rattle.bitvec_move.specs.base.MemoryLaws.{length-element_bits}
-use Rattle.bitvec_move.specs.WordLaws.{padded-all}
-use Rattle.bitvec_move.specs.words.Field.{padded}
+use Rattle.bitvec_combine.specs.base.MemoryLaws.{length-element_bits}
+use Rattle.bitvec_combine.specs.moves.WordLaws.{padded-all}
+use Rattle.bitvec_combine.specs.words.Field.{padded}
 use Rattle.bitvec_engine.proofs.ScanLemmas.{range-element}
 use Rattle.bitvec_engine.proofs.fronts.bits_lowest_first.Goals as goal
 

@@ -1,9 +1,9 @@
 use Rattle.std.proofs.Common.{◌≡◌, ℕ, arith, rules, ap, sym, ◌∙◌, slice_range}
-use Rattle.bitvec_move.specs.base.Memory.{element_bits}
-use Rattle.bitvec_move.specs.base.PartLaws.{element-none}
-use Rattle.bitvec_move.specs.base.SliceLaws.{range-none}
-use Rattle.bitvec_move.specs.words.Field.{padded}
-use Rattle.bitvec_move.specs.words.MovedLaws.{padded-none}
+use Rattle.bitvec_combine.specs.base.Memory.{element_bits}
+use Rattle.bitvec_combine.specs.base.PartLaws.{element-none}
+use Rattle.bitvec_combine.specs.base.SliceLaws.{range-none}
+use Rattle.bitvec_combine.specs.words.Field.{padded}
+use Rattle.bitvec_combine.specs.words.MovedLaws.{padded-none}
 use Rattle.bitvec_engine.proofs.FrontLemmas.{gathered-none, gathered-one}
 use Rattle.bitvec_engine.proofs.fronts.gathered.Goals as goal
 use Rattle.bitvec_engine.proofs.fronts.gathered.Goals.{then-to_u128-ne0, else-to_u128-ne0}

@@ -1,6 +1,6 @@
 use Rattle.std.proofs.Common.{◌≡◌, slice_range}
-use Rattle.bitvec_move.specs.base.Memory.{element_bits}
-use Rattle.bitvec_move.specs.words.Field.{padded}
+use Rattle.bitvec_combine.specs.base.Memory.{element_bits}
+use Rattle.bitvec_combine.specs.words.Field.{padded}
 use Rattle.bitvec_engine.proofs.fronts.gathered.Given as goal
 
 abbrev pub invariant-loop-index : goal.invariant-loop-index

@@ -1,9 +1,9 @@
 use Rattle.std.proofs.Common.{◌≡◌, ℕ, ◌+◌, ◌-◌, arith, rules, ap, ◌∙◌, slice_range}
-use Rattle.bitvec_move.specs.base.Memory.{element_bits}
-use Rattle.bitvec_move.specs.base.PartLaws.{length-part}
-use Rattle.bitvec_move.specs.base.Parts.{first_part_of}
-use Rattle.bitvec_move.specs.store.WidthLaws.{width_some}
-use Rattle.bitvec_move.specs.walk.WalkLaws.{first-len}
+use Rattle.bitvec_combine.specs.base.Memory.{element_bits}
+use Rattle.bitvec_combine.specs.base.PartLaws.{length-part}
+use Rattle.bitvec_combine.specs.base.Parts.{first_part_of}
+use Rattle.bitvec_combine.specs.store.WidthLaws.{width_some}
+use Rattle.bitvec_combine.specs.walk.WalkLaws.{first-len}
 use Rattle.bitvec_engine.specs.Front.{front_window}
 use Rattle.bitvec_engine.proofs.FrontLemmas.{part-front, touched-part, touched-word, word-front, written-padded}
 use Rattle.bitvec_engine.proofs.fronts.words_load_front.Goals as goal

@@ -1,8 +1,8 @@
 use Rattle.std.proofs.Common.{◌≡◌, false, arith, rules, sym, ◌∙◌}
-use Rattle.bitvec_move.specs.base.Lists.{stands_at}
-use Rattle.bitvec_move.specs.base.ListsLaws.{stands_in-found}
-use Rattle.bitvec_move.specs.base.NeedleLaws.{stands-nowhere}
-use Rattle.bitvec_move.specs.base.WritesLaws.{length-list}
+use Rattle.bitvec_combine.specs.base.Lists.{stands_at}
+use Rattle.bitvec_combine.specs.base.ListsLaws.{stands_in-found}
+use Rattle.bitvec_combine.specs.base.NeedleLaws.{stands-nowhere}
+use Rattle.bitvec_combine.specs.base.WritesLaws.{length-list}
 use Rattle.bitvec_engine.proofs.NeedleLemmas.{stands-found, cost-more}
 use Rattle.bitvec_engine.proofs.needles.contains.Goals as goal
 use borrow.Author.Count.{below_more}

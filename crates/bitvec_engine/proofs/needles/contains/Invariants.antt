@@ -1,8 +1,8 @@
 use Rattle.std.proofs.Common.{◌≡◌, ℕ, ◌*◌, ◌<◌, false}
-use Rattle.bitvec_move.specs.base.Lists.{stands_at}
-use Rattle.bitvec_move.specs.base.Memory.{list_in}
-use Rattle.bitvec_move.specs.cells.Access.{OnlyReadsAtMost}
-use Rattle.bitvec_move.specs.walk.Cost.{read_loads}
+use Rattle.bitvec_combine.specs.base.Lists.{stands_at}
+use Rattle.bitvec_combine.specs.base.Memory.{list_in}
+use Rattle.bitvec_combine.specs.cells.Access.{OnlyReadsAtMost}
+use Rattle.bitvec_combine.specs.walk.Cost.{read_loads}
 use Rattle.bitvec_engine.proofs.needles.contains.Given as goal
 
 abbrev pub invariant-loop-from : goal.invariant-loop-from

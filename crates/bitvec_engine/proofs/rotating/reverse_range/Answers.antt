@@ -1,5 +1,5 @@
 use Rattle.std.proofs.Common.{ap, reverse}
-use Rattle.bitvec_move.specs.base.WritesLaws.{list-range, Writes-is, Writes-range}
+use Rattle.bitvec_combine.specs.base.WritesLaws.{list-range, Writes-is, Writes-range}
 use Rattle.bitvec_engine.proofs.rotating.reverse_range.Goals as goal
 
 pub returns-clause-writes : goal.returns-clause-writes

@@ -1,8 +1,8 @@
 use Rattle.std.proofs.Common.{reverse, slice_range, refl, sym}
-use Rattle.bitvec_move.specs.base.RotationLaws.{reversals-rotate}
-use Rattle.bitvec_move.specs.base.Window.{write_at}
-use Rattle.bitvec_move.specs.base.WritesLaws.{length-list}
-use Rattle.bitvec_move.specs.base.WritesLaws.{Writes-next}
+use Rattle.bitvec_combine.specs.base.RotationLaws.{reversals-rotate}
+use Rattle.bitvec_combine.specs.base.Window.{write_at}
+use Rattle.bitvec_combine.specs.base.WritesLaws.{length-list}
+use Rattle.bitvec_combine.specs.base.WritesLaws.{Writes-next}
 use Rattle.bitvec_engine.proofs.rotating.rotate_left.Goals as goal
 
 pub returns-clause-writes : goal.returns-clause-writes

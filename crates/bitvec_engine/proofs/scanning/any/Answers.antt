@@ -1,4 +1,4 @@
-use Rattle.bitvec_move.specs.base.PlacesLaws.{list_any-first_place}
+use Rattle.bitvec_combine.specs.base.PlacesLaws.{list_any-first_place}
 use Rattle.bitvec_engine.proofs.scanning.any.Goals as goal
 
 pub returns-clause-value : goal.returns-clause-value

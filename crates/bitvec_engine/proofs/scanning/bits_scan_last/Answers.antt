@@ -1,13 +1,13 @@
 use Rattle.std.proofs.Common.{◌≡◌, ◌<◌, ℕ, ◌-◌, arith, rules, refl, sym, ◌∙◌, ap, Bool, List}
-use Rattle.bitvec_move.specs.base.declared.part.Part.{Part}
-use Rattle.bitvec_move.specs.base.Lists.{last_place}
-use Rattle.bitvec_move.specs.base.Parts.{first_part_of}
-use Rattle.bitvec_move.specs.base.PlacesLaws.{last_place-nil}
-use Rattle.bitvec_move.specs.base.WritesLaws.{length-list}
-use Rattle.bitvec_move.specs.store.WidthLaws.{width_some}
-use Rattle.bitvec_move.specs.walk.WalkLaws.{first-len}
-use Rattle.bitvec_move.specs.words.FieldLaws.{first_part-long, list-head}
-use Rattle.bitvec_move.specs.words.WholeLaws.{list-empty}
+use Rattle.bitvec_combine.specs.base.declared.part.Part.{Part}
+use Rattle.bitvec_combine.specs.base.Lists.{last_place}
+use Rattle.bitvec_combine.specs.base.Parts.{first_part_of}
+use Rattle.bitvec_combine.specs.base.PlacesLaws.{last_place-nil}
+use Rattle.bitvec_combine.specs.base.WritesLaws.{length-list}
+use Rattle.bitvec_combine.specs.store.WidthLaws.{width_some}
+use Rattle.bitvec_combine.specs.walk.WalkLaws.{first-len}
+use Rattle.bitvec_combine.specs.words.FieldLaws.{first_part-long, list-head}
+use Rattle.bitvec_combine.specs.words.WholeLaws.{list-empty}
 use Rattle.bitvec_engine.proofs.ScanLemmas.{HasWindow-after, HasWindow-head, last-behind, last-front, last-inside, last_loads-head, last_loads-some}
 use Rattle.bitvec_engine.proofs.scanning.bits_scan_last.Goals as goal
 

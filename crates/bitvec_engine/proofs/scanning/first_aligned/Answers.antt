@@ -1,9 +1,9 @@
 use Rattle.std.proofs.Common.{◌<◌, ℕ, ◌+◌, ◌*◌, ◌/◌, ◌%◌, arith, rules, refl, sym}
 use Rattle.std.proofs.lemmas.Nat.{div-add-mod'}
-use Rattle.bitvec_move.specs.store.WidthLaws.{width_some}
-use Rattle.bitvec_move.specs.base.WritesLaws.{length-list}
-use Rattle.bitvec_move.specs.words.FieldLaws.{list-tail}
-use Rattle.bitvec_move.specs.words.TouchedLaws.{touched-more, touched-whole}
+use Rattle.bitvec_combine.specs.store.WidthLaws.{width_some}
+use Rattle.bitvec_combine.specs.base.WritesLaws.{length-list}
+use Rattle.bitvec_combine.specs.words.FieldLaws.{list-tail}
+use Rattle.bitvec_combine.specs.words.TouchedLaws.{touched-more, touched-whole}
 use Rattle.bitvec_engine.proofs.ScanLemmas.{HasWindow-tail, HasWindow-whole, first-behind, first-front, first-inside, first-lacks, touched-behind_whole}
 use Rattle.bitvec_engine.proofs.scanning.first_aligned.Goals as goal
 

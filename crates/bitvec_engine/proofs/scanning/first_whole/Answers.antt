@@ -1,10 +1,10 @@
 use Rattle.std.proofs.Common.{◌+◌, ◌*◌, arith, rules, sym, ◌∙◌, ap, Bool, List}
 use Rattle.std.proofs.Math.Nat.{mul-le-mul_left}
-use Rattle.bitvec_move.specs.store.WidthLaws.{width_some}
-use Rattle.bitvec_move.specs.base.Lists.{first_place}
-use Rattle.bitvec_move.specs.base.PlacesLaws.{first_place-nil}
-use Rattle.bitvec_move.specs.words.TouchedLaws.{touched-whole}
-use Rattle.bitvec_move.specs.words.WholeLaws.{list-empty}
+use Rattle.bitvec_combine.specs.store.WidthLaws.{width_some}
+use Rattle.bitvec_combine.specs.base.Lists.{first_place}
+use Rattle.bitvec_combine.specs.base.PlacesLaws.{first_place-nil}
+use Rattle.bitvec_combine.specs.words.TouchedLaws.{touched-whole}
+use Rattle.bitvec_combine.specs.words.WholeLaws.{list-empty}
 use Rattle.bitvec_engine.proofs.ScanLemmas.{first-below, first-element_has, first-element_lacks, first-must, first-passed, range-element, touched-behind_elements}
 use Rattle.bitvec_engine.proofs.scanning.first_whole.Goals as goal
 

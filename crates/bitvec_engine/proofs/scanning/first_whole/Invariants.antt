@@ -1,8 +1,8 @@
 use Rattle.std.proofs.Common.{◌≡◌, None}
-use Rattle.bitvec_move.specs.base.Lists.{first_place}
-use Rattle.bitvec_move.specs.base.Memory.{list_in}
-use Rattle.bitvec_move.specs.cells.Access.{OnlyReads}
-use Rattle.bitvec_move.specs.words.Elements.{elements_window}
+use Rattle.bitvec_combine.specs.base.Lists.{first_place}
+use Rattle.bitvec_combine.specs.base.Memory.{list_in}
+use Rattle.bitvec_combine.specs.cells.Access.{OnlyReads}
+use Rattle.bitvec_combine.specs.words.Elements.{elements_window}
 use Rattle.bitvec_engine.proofs.scanning.first_whole.Given as goal
 
 abbrev pub invariant-loop-step : goal.invariant-loop-step

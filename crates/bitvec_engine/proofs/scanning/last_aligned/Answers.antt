@@ -1,9 +1,9 @@
 use Rattle.std.proofs.Common.{ℕ, ◌+◌, ◌-◌, ◌*◌, ◌/◌, arith, rules, refl, sym}
 use Rattle.std.proofs.lemmas.Nat.{div-add-mod'}
-use Rattle.bitvec_move.specs.store.WidthLaws.{width_some}
-use Rattle.bitvec_move.specs.base.WritesLaws.{length-list}
-use Rattle.bitvec_move.specs.words.FieldLaws.{list-tail}
-use Rattle.bitvec_move.specs.words.TouchedLaws.{touched-first}
+use Rattle.bitvec_combine.specs.store.WidthLaws.{width_some}
+use Rattle.bitvec_combine.specs.base.WritesLaws.{length-list}
+use Rattle.bitvec_combine.specs.words.FieldLaws.{list-tail}
+use Rattle.bitvec_combine.specs.words.TouchedLaws.{touched-first}
 use Rattle.bitvec_engine.proofs.ScanLemmas.{HasWindow-tail, HasWindow-whole, last-behind, last-front, last-inside, last_loads-tail}
 use Rattle.bitvec_engine.proofs.scanning.last_aligned.Goals as goal
 

@@ -1,10 +1,10 @@
 use Rattle.std.proofs.Common.{◌≡◌, ◌<◌, ℕ, ◌+◌, ◌-◌, ◌*◌, arith, rules, sym, ◌∙◌, ap, Bool, List}
 use Rattle.std.proofs.Math.Nat.{mul-le-mul_left}
-use Rattle.bitvec_move.specs.store.WidthLaws.{width_some}
-use Rattle.bitvec_move.specs.base.Lists.{last_place}
-use Rattle.bitvec_move.specs.base.PlacesLaws.{last_place-nil}
-use Rattle.bitvec_move.specs.words.TouchedLaws.{touched-whole}
-use Rattle.bitvec_move.specs.words.WholeLaws.{list-empty}
+use Rattle.bitvec_combine.specs.store.WidthLaws.{width_some}
+use Rattle.bitvec_combine.specs.base.Lists.{last_place}
+use Rattle.bitvec_combine.specs.base.PlacesLaws.{last_place-nil}
+use Rattle.bitvec_combine.specs.words.TouchedLaws.{touched-whole}
+use Rattle.bitvec_combine.specs.words.WholeLaws.{list-empty}
 use Rattle.bitvec_engine.proofs.ScanLemmas.{last-below, last-element_has, last-element_lacks, last-must, last-passed, range-element, touched-until_elements}
 use Rattle.bitvec_engine.proofs.scanning.last_whole.Goals as goal
 

@@ -1,6 +1,6 @@
 use Rattle.std.proofs.Common.{◌+◌, ◌*◌, ◌/◌, arith, ap, ◌∙◌}
-use Rattle.bitvec_move.specs.base.Lists.{first_place}
-use Rattle.bitvec_move.specs.store.WidthLaws.{width_some}
+use Rattle.bitvec_combine.specs.base.Lists.{first_place}
+use Rattle.bitvec_combine.specs.store.WidthLaws.{width_some}
 use Rattle.bitvec_engine.proofs.WordScanLemmas.{HasWindow-elements, block_words, elements-bound, list-block}
 use Rattle.bitvec_engine.proofs.scanning_words.first_in_block.Goals as goal
 

@@ -1,10 +1,10 @@
 use Rattle.std.proofs.Common.{◌≡◌, ◌+◌, ◌-◌, ◌/◌, ◌≤◌, arith, refl, ap, ◌∙◌}
-use Rattle.bitvec_move.specs.base.Lists.{first_place}
-use Rattle.bitvec_move.specs.base.Window.{window_range}
-use Rattle.bitvec_move.specs.base.WritesLaws.{HasWindow-range}
-use Rattle.bitvec_move.specs.store.WidthLaws.{width_some}
-use Rattle.bitvec_move.specs.walk.Cost.{touched}
-use Rattle.bitvec_move.specs.walk.WalkLaws.{first_loads-most}
+use Rattle.bitvec_combine.specs.base.Lists.{first_place}
+use Rattle.bitvec_combine.specs.base.Window.{window_range}
+use Rattle.bitvec_combine.specs.base.WritesLaws.{HasWindow-range}
+use Rattle.bitvec_combine.specs.store.WidthLaws.{width_some}
+use Rattle.bitvec_combine.specs.walk.Cost.{touched}
+use Rattle.bitvec_combine.specs.walk.WalkLaws.{first_loads-most}
 use Rattle.bitvec_engine.proofs.WordScanLemmas.{front-bits, touched-blocks}
 use Rattle.bitvec_engine.proofs.scanning_words.first_in_front.Goals as goal
 use Rattle.bitvec_engine.proofs.scanning_words.first_in_front.Goals.{then-inside-gt0-2, else-inside-gt0-2}

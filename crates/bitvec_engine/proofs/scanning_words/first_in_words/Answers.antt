@@ -1,5 +1,5 @@
 use Rattle.std.proofs.Common.{arith, rules, refl, sym}
-use Rattle.bitvec_move.specs.base.PlacesLaws.{first_place-below}
+use Rattle.bitvec_combine.specs.base.PlacesLaws.{first_place-below}
 use Rattle.bitvec_engine.proofs.ScanLemmas.{first-behind, first-front, first-lacks}
 use Rattle.bitvec_engine.proofs.WordScanLemmas.{length-two, none-of_four}
 use Rattle.bitvec_engine.proofs.scanning_words.first_in_words.Goals as goal

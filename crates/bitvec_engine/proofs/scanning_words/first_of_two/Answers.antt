@@ -1,6 +1,6 @@
 use Rattle.std.proofs.Common.{arith, refl, ap, sym, ◌∙◌}
-use Rattle.bitvec_move.specs.base.Lists.{first_place}
-use Rattle.bitvec_move.specs.base.MemoryLaws.{length-element_bits}
+use Rattle.bitvec_combine.specs.base.Lists.{first_place}
+use Rattle.bitvec_combine.specs.base.MemoryLaws.{length-element_bits}
 use Rattle.bitvec_engine.proofs.ScanLemmas.{first-behind, first-below, first-front, first-lacks, range-element}
 use Rattle.bitvec_engine.proofs.scanning_words.first_of_two.Goals as goal
 

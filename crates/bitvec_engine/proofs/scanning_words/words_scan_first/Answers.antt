@@ -1,8 +1,8 @@
 use Rattle.std.proofs.Common.{arith, refl, sym, ◌∙◌, ap}
-use Rattle.bitvec_move.specs.base.Lists.{first_place}
-use Rattle.bitvec_move.specs.base.PlacesLaws.{first_place-nil}
-use Rattle.bitvec_move.specs.store.WidthLaws.{width_some}
-use Rattle.bitvec_move.specs.walk.WalkLaws.{passed-none}
+use Rattle.bitvec_combine.specs.base.Lists.{first_place}
+use Rattle.bitvec_combine.specs.base.PlacesLaws.{first_place-nil}
+use Rattle.bitvec_combine.specs.store.WidthLaws.{width_some}
+use Rattle.bitvec_combine.specs.walk.WalkLaws.{passed-none}
 use Rattle.bitvec_engine.proofs.ScanLemmas.{first-inside}
 use Rattle.bitvec_engine.proofs.WordScanLemmas.{first-left, none-left, touched-cut}
 use Rattle.bitvec_engine.proofs.scanning_words.words_scan_first.Goals as goal

@@ -1,8 +1,8 @@
 use Rattle.std.proofs.Common.{◌≡◌, ◌+◌, ◌≤◌, None}
-use Rattle.bitvec_move.specs.base.Lists.{first_place}
-use Rattle.bitvec_move.specs.base.Memory.{list_in}
-use Rattle.bitvec_move.specs.walk.Cost.{touched}
-use Rattle.bitvec_move.specs.walk.Walk.{passed}
+use Rattle.bitvec_combine.specs.base.Lists.{first_place}
+use Rattle.bitvec_combine.specs.base.Memory.{list_in}
+use Rattle.bitvec_combine.specs.walk.Cost.{touched}
+use Rattle.bitvec_combine.specs.walk.Walk.{passed}
 use Rattle.bitvec_engine.proofs.scanning_words.words_scan_first.Given as goal
 
 abbrev pub invariant-loop-rest : goal.invariant-loop-rest

@@ -1,8 +1,8 @@
 use Rattle.std.proofs.Common.{◌≡◌, ◌-◌, false, replicate, arith, sym}
-use Rattle.bitvec_move.specs.base.CopyLaws.{copy-shifts_start}
-use Rattle.bitvec_move.specs.base.Window.{write_at}
-use Rattle.bitvec_move.specs.base.WritesLaws.{length-list, HasWindow-kept, Writes-range}
-use Rattle.bitvec_move.specs.base.WritesLaws.{Writes-next}
+use Rattle.bitvec_combine.specs.base.CopyLaws.{copy-shifts_start}
+use Rattle.bitvec_combine.specs.base.Window.{write_at}
+use Rattle.bitvec_combine.specs.base.WritesLaws.{length-list, HasWindow-kept, Writes-range}
+use Rattle.bitvec_combine.specs.base.WritesLaws.{Writes-next}
 use Rattle.bitvec_engine.proofs.shifting.shift_start.Goals as goal
 
 pub returns-clause-writes : goal.returns-clause-writes

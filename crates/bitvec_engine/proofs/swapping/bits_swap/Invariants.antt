@@ -1,7 +1,7 @@
 use Rattle.std.proofs.Common.{◌*◌}
-use Rattle.bitvec_move.specs.base.Memory.{Writes, list_in}
-use Rattle.bitvec_move.specs.base.TransferLaws.{overwritten}
-use Rattle.bitvec_move.specs.cells.Access.{Costs}
+use Rattle.bitvec_combine.specs.base.Memory.{Writes, list_in}
+use Rattle.bitvec_combine.specs.base.TransferLaws.{overwritten}
+use Rattle.bitvec_combine.specs.cells.Access.{Costs}
 use Rattle.bitvec_engine.proofs.swapping.bits_swap.Given as goal
 
 abbrev pub invariant-loop-index : goal.invariant-loop-index

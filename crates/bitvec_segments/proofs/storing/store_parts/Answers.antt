@@ -1,0 +1,44 @@
+use Rattle.std.proofs.Common.{◌≡◌, ℕ, ◌-◌, ◌%◌, arith, ap, ◌∙◌}
+use Rattle.bitvec_words.specs.base.Parts.{first_part_of}
+use Rattle.bitvec_words.specs.base.Window.{window_after}
+use Rattle.bitvec_words.specs.store.WidthLaws.{width_some}
+use Rattle.bitvec_words.specs.walk.WalkLaws.{first-len}
+use Rattle.bitvec_segments.proofs.WalkLemmas.{edge-most, fill-two, stored-joined, touched-first}
+use Rattle.bitvec_segments.proofs.storing.store_parts.Goals as goal
+
+pub returns-clause-writes : goal.returns-clause-writes
+returns-clause-writes g c =
+    let window = c.args.window in
+    let b = g.C.Elem.BitStore.BITS in
+    let some = width_some _ g.met.C.Elem.BitStore.width_law in
+    let more = c.requires.some in
+    let long = c.requires.passes in
+    let head : ℕ = b - window.start % b in
+    let len = first-len b window some more in
+    let step : head ≡ (first_part_of b window).to - (first_part_of b window).from = omega arith in
+    let part : c.head_part.result ≡ first_part_of b window = c.head_part.ensures ∙ ap (λ (n : ℕ). first_part_of n window) c.BITS-bits.ensures in
+    let after : c.after-rest.result ≡ window_after head window = c.after-rest.ensures ∙ ap (λ (n : ℕ). window_after (n - window.start % n) window) c.BITS-bits.ensures in
+    stored-joined _ _ _ _ _ window head c.args.number some more step c.requires.window _ _
+    (rw (part, c.lower_bits.ensures.bits, after) at c.store_part_number.ensures.writes) (rw (after, c.lower_bits-2.ensures.bits, c.BITS-bits.ensures) at c.store_few.ensures.writes)
+
+pub returns-clause-cost : goal.returns-clause-cost
+returns-clause-cost g c =
+    let window = c.args.window in
+    let b = g.C.Elem.BitStore.BITS in
+    let some = width_some _ g.met.C.Elem.BitStore.width_law in
+    let more = c.requires.some in
+    let long = c.requires.passes in
+    let head : ℕ = b - window.start % b in
+    let len = first-len b window some more in
+    let step : head ≡ (first_part_of b window).to - (first_part_of b window).from = omega arith in
+    let after : c.after-rest.result ≡ window_after head window = c.after-rest.ensures ∙ ap (λ (n : ℕ). window_after (n - window.start % n) window) c.BITS-bits.ensures in
+    let each = touched-first b window head some more step in
+    let filled = fill-two window.len more in
+    let edge = edge-most b c.head_part.result in
+    let first = c.store_part_number.ensures.cost in
+    let later = rw after at c.store_few.ensures.cost in
+    let first_loads = first.loads in
+    let later_loads = later.loads in
+    let first_stores = first.stores in
+    let later_stores = later.stores in
+    record { borrow = later.borrow ∙ first.borrow; loads = omega arith; stores = omega arith }
