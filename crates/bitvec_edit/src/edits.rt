@@ -32,7 +32,7 @@ pub trait BitEdits<T> {
     /// ```
     /// let mut view = BitSliceMut::<u16, Lsb0>::from_slice_unchecked_mut(&mut cells);
     /// view.set(17, true);
-    /// assert_eq!(rt; view.into_slice()[1], 2);
+    /// assert!(rt; view.into_slice()[1] == 2);
     /// ```
     fn set(&mut self, index: usize, bit: bool)
         requires { index < (shows self.old).window.len }
@@ -79,7 +79,7 @@ pub trait BitEdits<T> {
     ///
     /// ```
     /// part.reverse();
-    /// assert_eq!(rt; cells, [0xC7, 0x18]);
+    /// assert!(rt; cells == [0xC7, 0x18]);
     /// ```
     fn reverse(&mut self)
         ensures { writes self.old self.new (reverse (shows self.old).bits) };

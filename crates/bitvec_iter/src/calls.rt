@@ -51,7 +51,7 @@ pub trait IterCalls<T: BitStore> {
     /// ```
     /// let cells = [0x17u8];
     /// let view = BitSlice::<u8, Msb0>::from_slice(&cells);
-    /// assert_eq!(rt; read(view.chunks(usize::MAX).next_back()), Some((8, 0x17)));
+    /// assert!(rt; read(view.chunks(usize::MAX).next_back()) == Some((8, 0x17)));
     /// ```
     fn chunks(self, width: usize) -> Self::Chunks
         requires { 0 < width }
@@ -67,7 +67,7 @@ pub trait IterCalls<T: BitStore> {
     /// ```
     /// let view = BitSliceMut::<u8, Msb0>::from_slice_mut(&mut cells);
     /// let mut front = view.chunks_exact(3);
-    /// assert_eq!(rt; (read(front.next_back()), front.len()), (Some((3, 5)), 1));
+    /// assert!(rt; (read(front.next_back()), front.len()) == (Some((3, 5)), 1));
     /// ```
     fn chunks_exact(self, width: usize) -> Self::ChunksExact
         requires { 0 < width }
@@ -83,7 +83,7 @@ pub trait IterCalls<T: BitStore> {
     /// ```
     /// let view = BitSliceMut::<u8, Msb0>::from_slice_mut(&mut cells);
     /// let mut chunks = view.rchunks(3);
-    /// assert_eq!(rt; read(chunks.next()), Some((3, 7)));
+    /// assert!(rt; read(chunks.next()) == Some((3, 7)));
     /// ```
     fn rchunks(self, width: usize) -> Self::RChunks
         requires { 0 < width }
@@ -99,7 +99,7 @@ pub trait IterCalls<T: BitStore> {
     /// ```
     /// let view = BitSlice::<u8, Msb0>::from_slice(&cells);
     /// let mut chunks = view.rchunks_exact(3);
-    /// assert_eq!(rt; read(chunks.nth_back(1)), Some((3, 7)));
+    /// assert!(rt; read(chunks.nth_back(1)) == Some((3, 7)));
     /// ```
     fn rchunks_exact(self, width: usize) -> Self::RChunksExact
         requires { 0 < width }

@@ -24,7 +24,7 @@ pub trait OnesCalls<T> {
     /// ```
     /// let view = BitSlice::<u8, Lsb0>::from_slice(&cells);
     /// let mut ones = view.iter_ones();
-    /// assert_eq!(rt; (ones.next(), ones.next_back()), (Some(0), Some(5)));
+    /// assert!(rt; (ones.next(), ones.next_back()) == (Some(0), Some(5)));
     /// ```
     fn iter_ones(self) -> Self::Ones
         ensures indices { Self.Ones.left result ≡ places_of true (shows self).bits }
@@ -37,7 +37,7 @@ pub trait OnesCalls<T> {
     /// ```
     /// let view = BitSliceMut::<u8, Msb0>::from_slice_mut(&mut cells);
     /// let mut zeros = view.iter_zeros();
-    /// assert_eq!(rt; (zeros.next_back(), zeros.next()), (Some(15), Some(4)));
+    /// assert!(rt; (zeros.next_back(), zeros.next()) == (Some(15), Some(4)));
     /// ```
     fn iter_zeros(self) -> Self::Zeros
         ensures indices { Self.Zeros.left result ≡ places_of false (shows self).bits }

@@ -34,9 +34,9 @@ pub trait BitQueries<T: BitStore, O: SliceOrder> {
     /// How many bits are 1.
     ///
     /// ```
-    /// assert_eq!(rt; cells, [0xFFFF_0000, 0xFF00_00FF, 0x0000_FFFF]);
+    /// assert!(rt; cells == [0xFFFF_0000, 0xFF00_00FF, 0x0000_FFFF]);
     /// let view = BitSlice::<u32, Lsb0>::from_slice(&cells);
-    /// assert_eq!(rt; (view.count_ones(), view.count_zeros()), (48, 48));
+    /// assert!(rt; (view.count_ones(), view.count_zeros()) == (48, 48));
     /// ```
     fn count_ones(&self) -> usize
         ensures { result ≡ count_by (λ bit. bit) (shows self.now).bits }
@@ -49,7 +49,7 @@ pub trait BitQueries<T: BitStore, O: SliceOrder> {
     ///
     /// ```
     /// let view = BitSlice::<u32, Lsb0>::from_slice(&cells);
-    /// assert_eq!(rt; (view.count_ones(), view.count_zeros()), (48, 48));
+    /// assert!(rt; (view.count_ones(), view.count_zeros()) == (48, 48));
     /// ```
     #[tactic(auto, using(bitvec_slice::specs::Cited::ones_and_zeros))]
     fn count_zeros(&self) -> usize
@@ -62,7 +62,7 @@ pub trait BitQueries<T: BitStore, O: SliceOrder> {
     ///
     /// ```
     /// let view = from_ref::<u32, Lsb0>(&0x8000_0000);
-    /// assert_eq!(rt; (view.len(), view.first_one()), (32, Some(31)));
+    /// assert!(rt; (view.len(), view.first_one()) == (32, Some(31)));
     /// ```
     fn first_one(&self) -> Option<usize>
         ensures { result ≡ first_place true (shows self.now).bits }

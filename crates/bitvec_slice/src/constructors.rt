@@ -51,7 +51,7 @@ impl<'a, T: BitStore, O: BitOrder> BitSlice<'a, T, O> {
     /// ```
     /// let cells = [0x0Fu8, 0x01];
     /// let view = BitSlice::<u8, Lsb0>::try_from_slice(&cells);
-    /// assert_eq!(rt; found(view), Some((16, Some(8))));
+    /// assert!(rt; found(view) == Some((16, Some(8))));
     /// ```
     pub fn try_from_slice(elements: &'a [T]) -> Result<Self, BitSpanError>
         ensures made { IsOk result ↔ (T.BITS * length elements.now ≤ max_bits) }

@@ -16,9 +16,9 @@ impl<'a, T: BitStore, O: BitOrder> BitSlice<'a, T, O> {
     /// What stands at an index or at a range of indices, if the view has it.
     ///
     /// ```
-    /// let all = BitSlice::<u16, Lsb0>::from_slice(&cells);
-    /// let view = all.get(3..30).ok_or("no such bits")?;
-    /// assert_eq!(rt; number_of_ones(view), 3);
+    /// assert!(rt; view.get(5).is_none());
+    /// assert!(rt; *view.get(4).ok_or("no such bit")?);
+    /// let pair = view.get(1..=2).ok_or("no such bits")?;
     /// ```
     pub fn get<I: BitSliceIndex<Self>>(self, index: I) -> Option<I::Immut>
         ensures { IsGiven (I.fits index (seen self.entry).window.len) (I.gives index (seen self.entry)) result }

@@ -14,7 +14,7 @@ impl<'a, T: BitStore, O: BitOrder> BitSlice<'a, T, O> {
     /// ```
     /// let cells = [0xF0u8];
     /// let view = BitSlice::<u8, Lsb0>::from_slice(&cells);
-    /// assert_eq!(rt; counts(view.split_at(4)), [(4, 0), (4, 4)]);
+    /// assert!(rt; counts(view.split_at(4)) == [(4, 0), (4, 4)]);
     /// ```
     pub fn split_at(self, mid: usize) -> (BitSlice<'a, T, O>, BitSlice<'a, T, O>)
         requires { mid ≤ (seen self).window.len }

@@ -14,9 +14,9 @@ impl<'a, T: BitStore, O: BitOrder> BitSlice<'a, T, O> {
     /// The bits behind the needle's, if those begin the view: `None` exactly where they don't.
     ///
     /// ```
-    /// let zero_one = part(&[0x02], 0, 2).ok_or("no such bits")?;
+    /// let zero_one = BitSlice::<u8, Lsb0>::from_slice(&[0x02]).into_part(0..2);
     /// let rest = view.strip_prefix(zero_one);
-    /// assert_eq!(rt; is_left(rest, part(&[0x04], 0, 6)), Some(true));
+    /// assert!(rt; is_left(rest, part(&[0x04], 0, 6)) == Some(true));
     /// ```
     pub fn strip_prefix<'b, U: BitStore, P: BitOrder>(
         self,

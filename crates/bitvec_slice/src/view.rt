@@ -59,7 +59,7 @@ impl<'a, T: BitStore, O: BitOrder> BitSlice<'a, T, O> {
     ///
     /// ```
     /// let header = [0x1Au8, 0xBC];
-    /// assert_eq!(rt; train_number(BitSlice::from_slice(&header)), 0xABC);
+    /// assert!(rt; train_number(BitSlice::from_slice(&header)) == 0xABC);
     /// ```
     #[tactic(auto, using(crate::specs::SeenLaws::whole_view))]
     pub fn from_slice(elements: &'a [T]) -> Self
@@ -115,7 +115,7 @@ impl<'a, T: BitStore, O: BitOrder> BitSlice<'a, T, O> {
     ///
     /// ```
     /// let view = from_ref::<u32, Lsb0>(&0x8000_0000);
-    /// assert_eq!(rt; (view.len(), view.first_one()), (32, Some(31)));
+    /// assert!(rt; (view.len(), view.first_one()) == (32, Some(31)));
     /// ```
     #[tactic(auto, using(crate::specs::SeenLaws::length_bits))]
     pub fn len(&self) -> usize
@@ -142,7 +142,7 @@ impl<'a, T: BitStore, O: BitOrder> BitSlice<'a, T, O> {
     /// ```
     /// let mut cells = [0u8, 0xFF, 0];
     /// let view = BitSliceMut::<u8, Msb0>::from_slice_mut(&mut cells);
-    /// let body = whole_elements(view.domain()).ok_or("parts of elements")?;
+    /// assert!(rt; whole_elements(view.domain()) == Some([0, 0xFF, 0].as_slice()));
     /// ```
     pub fn domain(self) -> Domain<'a, T, O>
         ensures { IsDomain T.BITS O.at T.value (seen self.entry) (pieces_of result) }

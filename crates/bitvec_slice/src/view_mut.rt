@@ -93,7 +93,7 @@ impl<'a, T: BitStore, O: BitOrder> BitSliceMut<'a, T, O> {
     /// ```
     /// let mut view = BitSliceMut::<u16, Lsb0>::from_slice_unchecked_mut(&mut cells);
     /// view.set(17, true);
-    /// assert_eq!(rt; view.into_slice()[1], 2);
+    /// assert!(rt; view.into_slice()[1] == 2);
     /// ```
     #[tactic(auto, using(crate::specs::SeenLaws::covered_bits))]
     pub fn into_slice(self) -> &'a mut [T]
@@ -220,7 +220,7 @@ impl<'a, T: BitStore, O: BitOrder> BitSliceMut<'a, T, O> {
     /// ```
     /// let mut cells = [0u8; 3];
     /// let view = BitSliceMut::<u8, Lsb0>::from_slice_mut(&mut cells);
-    /// assert_eq!(rt; view.window(), Window { start: 0, len: 24 });
+    /// assert!(rt; view.window() == Window { start: 0, len: 24 });
     /// ```
     #[tactic(auto, using(crate::specs::SeenLaws::has_window))]
     pub fn window(&self) -> Window

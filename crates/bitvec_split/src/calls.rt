@@ -39,9 +39,9 @@ pub trait SplitCalls<T, P> {
     /// With no yes all that is left is the last piece, also an empty one.
     ///
     /// ```
-    /// let all = BitSlice::<u8, Lsb0>::from_slice(&cells);
-    /// let view = all.get(3..8).ok_or("no such bits")?;
-    /// assert_eq!(rt; numbers(view.split(|_, bit| *bit)), [0b1_0, 0b1_00, 0b1, 0]);
+    /// let cells = [0x90u8];
+    /// let view = BitSlice::<u8, Lsb0>::from_slice(&cells).into_part(3..8);
+    /// assert!(rt; numbers(view.split(|_, bit| *bit)) == [0b1_0, 0b1_00, 0b1, 0]);
     /// ```
     fn split(self, pred: P) -> Self::Split
         ensures { Self.Split.left result ≡ unsplit false (shows self) pred };
@@ -52,7 +52,7 @@ pub trait SplitCalls<T, P> {
     ///
     /// ```
     /// let pieces = view.split_inclusive(|_, bit| *bit);
-    /// assert_eq!(rt; numbers(pieces), [0b1_01, 0b1_001, 0, 0]);
+    /// assert!(rt; numbers(pieces) == [0b1_01, 0b1_001, 0, 0]);
     /// ```
     fn split_inclusive(self, pred: P) -> Self::SplitInclusive
         ensures { Self.SplitInclusive.left result ≡ unsplit true (shows self) pred };
@@ -65,8 +65,8 @@ pub trait SplitCalls<T, P> {
     /// asking; with `count` 0 there is none.
     ///
     /// ```
-    /// assert_eq!(rt; view.splitn(2, |_, bit| *bit).size_hint(), (1, Some(2)));
-    /// assert_eq!(rt; view.splitn(0, |_, bit| *bit).size_hint(), (0, Some(0)));
+    /// assert!(rt; view.splitn(2, |_, bit| *bit).size_hint() == (1, Some(2)));
+    /// assert!(rt; view.splitn(0, |_, bit| *bit).size_hint() == (0, Some(0)));
     /// ```
     fn splitn(self, count: usize, pred: P) -> Self::SplitN
         ensures { Self.SplitN.counted result ≡ record { left = unsplit false (shows self) pred; count = count } };
