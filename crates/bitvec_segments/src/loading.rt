@@ -6,7 +6,7 @@ ghost use Rattle.bitvec_segments.specs.Segments.{loaded};
 ghost use Rattle.bitvec_words.specs.walk.Cost.{touched};
 
 use crate::endian::{Endian, lower_bits};
-use crate::joining::{fits_word, joined_number};
+use crate::joining::{fits_word, word_number};
 use crate::part::part_number;
 use bitvec_words::WordOrder;
 use bitvec_words::base::{Window, first_part};
@@ -25,7 +25,7 @@ pub(crate) fn load<E: Endian, O: WordOrder, C: CellsRead>(cells: &mut C, window:
     ensures reads { OnlyReads C.CellsRead cells.old cells.new (touched C.Elem.BITS window.start window.len) }
 {
     if E::BIG == O::HIGH && fits_word::<C::Elem>(window) {
-        return joined_number::<O, C>(cells, window) as u128;
+        return word_number::<O, C>(cells, window) as u128;
     }
     load_parts::<E, O, C>(cells, window)
 }
