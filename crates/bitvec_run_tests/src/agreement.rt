@@ -62,87 +62,73 @@ fn by_lists<T: BitStore, O: SliceOrder>(
     })
 }
 
-/// Whether a run of those steps in that window and the same by the plain program agree.
-fn agrees<T: BitStore, O: SliceOrder>(
-    alloc: Global,
+/// A run of those steps in that window, and the same by the plain program.
+fn agrees<T: BitStore, O: SliceOrder, R: Abort + AllocGlobal>(
+    rt: &R,
     left: &[T],
     right: &[T],
     window: Window,
     steps: &[Step],
-) -> bool {
-    let run = by_run::<T, O>(alloc, left, right, window, steps);
-    let plain = by_lists::<T, O>(alloc, left, right, window, steps);
-    match (run, plain) {
-        (Ok(run), Ok(plain)) => {
-            run.replies.as_slice() == plain.replies.as_slice() && same_bits(&run.bits, &plain.bits)
-        }
-        _ => false,
-    }
+) -> Result<(), Fail> {
+    let run = by_run::<T, O>(rt.alloc(), left, right, window, steps)?;
+    let plain = by_lists::<T, O>(rt.alloc(), left, right, window, steps)?;
+    assert!(rt;
+        run.replies.as_slice() == plain.replies.as_slice(),
+        "{window:?}"
+    );
+    assert!(rt; same_bits(&run.bits, &plain.bits), "{window:?}");
+    Ok(())
 }
 
 /// Every command in windows of few bits, of about an element and of several elements, at the
 /// start of an element, behind its first bit and at its last bit, on both sides.
-fn agree_everywhere<T: BitStore, O: SliceOrder, R: Abort + AllocGlobal>(
+fn agrees_everywhere<T: BitStore, O: SliceOrder, R: Abort + AllocGlobal>(
     rt: &R,
-    left: &[T],
-    right: &[T],
-) {
-    let alloc = rt.alloc();
+) -> Result<(), Fail> {
+    let left = mixed_elements::<T, _>(rt.alloc(), LEFT, COUNT)?;
+    let right = mixed_elements::<T, _>(rt.alloc(), RIGHT, COUNT)?;
     let width = T::BITS as usize;
     for len in [0, 1, width - 1, width, width + 1, 130] {
         for start in [0, 1, width - 1] {
             let window = Window { start, len };
-            let alone = agrees::<T, O>(alloc, left, right, window, &queries(len))
-                && agrees::<T, O>(alloc, left, right, window, &edits(len))
-                && agrees::<T, O>(alloc, left, right, window, &moves(len));
-            assert!(rt; alone, "{window:?}");
+            agrees::<T, O, R>(rt, &left, &right, window, &queries(len))?;
+            agrees::<T, O, R>(rt, &left, &right, window, &edits(len))?;
+            agrees::<T, O, R>(rt, &left, &right, window, &moves(len))?;
             for right_start in [0, 1, width - 1] {
                 let steps = right_commands(len, right_start);
-                assert!(rt;
-                    agrees::<T, O>(alloc, left, right, window, &steps),
-                    "{window:?}"
-                );
+                agrees::<T, O, R>(rt, &left, &right, window, &steps)?;
             }
         }
     }
-}
-
-/// The same on elements with no pattern.
-fn mixed_agree<T: BitStore, O: SliceOrder, R: Abort + AllocGlobal>(rt: &R) {
-    let left = mixed_elements::<T, _>(rt.alloc(), LEFT, COUNT);
-    let right = mixed_elements::<T, _>(rt.alloc(), RIGHT, COUNT);
-    match (left, right) {
-        (Ok(left), Ok(right)) => agree_everywhere::<T, O, R>(rt, &left, &right),
-        _ => assert!(rt; false),
-    }
+    Ok(())
 }
 
 /// The same at each width.
-fn agree_at_each_width<O: SliceOrder, R: Abort + AllocGlobal>(rt: &R) {
-    mixed_agree::<u8, O, R>(rt);
-    mixed_agree::<u16, O, R>(rt);
-    mixed_agree::<u32, O, R>(rt);
-    mixed_agree::<u64, O, R>(rt);
-    mixed_agree::<u128, O, R>(rt);
-    mixed_agree::<usize, O, R>(rt);
+fn agrees_at_each_width<O: SliceOrder, R: Abort + AllocGlobal>(rt: &R) -> Result<(), Fail> {
+    agrees_everywhere::<u8, O, R>(rt)?;
+    agrees_everywhere::<u16, O, R>(rt)?;
+    agrees_everywhere::<u32, O, R>(rt)?;
+    agrees_everywhere::<u64, O, R>(rt)?;
+    agrees_everywhere::<u128, O, R>(rt)?;
+    agrees_everywhere::<usize, O, R>(rt)
 }
 
 #[test]
-fn the_low_bit_first_agrees_with_the_plain_program(rt: HostRuntime) {
-    agree_at_each_width::<Lsb0, _>(&rt);
+fn the_low_bit_first_agrees_with_the_plain_program(rt: HostRuntime) -> Result<(), Fail> {
+    agrees_at_each_width::<Lsb0, _>(&rt)
 }
 
 #[test]
-fn the_high_bit_first_agrees_with_the_plain_program(rt: HostRuntime) {
-    agree_at_each_width::<Msb0, _>(&rt);
+fn the_high_bit_first_agrees_with_the_plain_program(rt: HostRuntime) -> Result<(), Fail> {
+    agrees_at_each_width::<Msb0, _>(&rt)
 }
 
 #[test]
-fn the_high_half_first_agrees_with_the_plain_program(rt: HostRuntime) {
-    agree_at_each_width::<HiLo, _>(&rt);
+fn the_high_half_first_agrees_with_the_plain_program(rt: HostRuntime) -> Result<(), Fail> {
+    agrees_at_each_width::<HiLo, _>(&rt)
 }
 
 #[test]
-fn an_own_order_agrees_with_the_plain_program(rt: HostRuntime) {
-    agree_at_each_width::<Scattered, _>(&rt);
+fn an_own_order_agrees_with_the_plain_program(rt: HostRuntime) -> Result<(), Fail> {
+    agrees_at_each_width::<Scattered, _>(&rt)
 }

@@ -82,75 +82,67 @@ fn by_lists<T: BitStore, O: SliceOrder + FieldOrder>(
     })
 }
 
-/// Whether a run of those steps in that window and the same by the plain program agree.
-fn agrees<T: BitStore, O: SliceOrder + FieldOrder>(
-    alloc: Global,
+/// A run of those steps in that window, and the same by the plain program.
+fn agrees<T: BitStore, O: SliceOrder + FieldOrder, R: Abort + AllocGlobal>(
+    rt: &R,
     left: &[T],
     right: &[T],
     window: Window,
     steps: &[FieldStep],
-) -> bool
+) -> Result<(), Fail>
     requires { window.start < 2 ^ 32 }
 {
-    let run = by_run::<T, O>(alloc, left, right, window, steps);
-    let plain = by_lists::<T, O>(alloc, left, right, window, steps);
-    match (run, plain) {
-        (Ok(run), Ok(plain)) => {
-            run.replies.as_slice() == plain.replies.as_slice() && same_bits(&run.bits, &plain.bits)
-        }
-        _ => false,
-    }
+    let run = by_run::<T, O>(rt.alloc(), left, right, window, steps)?;
+    let plain = by_lists::<T, O>(rt.alloc(), left, right, window, steps)?;
+    assert!(rt;
+        run.replies.as_slice() == plain.replies.as_slice(),
+        "{window:?}"
+    );
+    assert!(rt; same_bits(&run.bits, &plain.bits), "{window:?}");
+    Ok(())
 }
 
 /// Drawn steps in windows of about an element, of the most bits of a number and of more, at the start
 /// of an element, behind its first bit, in its middle and at its last bit.
-fn agree_everywhere<T: BitStore, O: SliceOrder + FieldOrder, R: Abort + AllocGlobal>(
+fn agrees_everywhere<T: BitStore, O: SliceOrder + FieldOrder, R: Abort + AllocGlobal>(
     rt: &R,
-    left: &[T],
-    right: &[T],
-) {
+) -> Result<(), Fail> {
+    let left = mixed_elements::<T, _>(rt.alloc(), LEFT, COUNT)?;
+    let right = mixed_elements::<T, _>(rt.alloc(), RIGHT, COUNT)?;
     let mut draws = Draws::new(STEPS);
     let width = T::BITS as usize;
     for len in [width - 1, width, width + 1, 128, 136] {
         for start in [0, 1, width / 2, width - 1] {
             let window = Window { start, len };
-            match draw_steps(rt.alloc(), &mut draws, len) {
-                Ok(steps) => assert!(rt;
-                    agrees::<T, O>(rt.alloc(), left, right, window, &steps),
-                    "{window:?}"
-                ),
-                Err(_) => assert!(rt; false),
-            }
+            let steps = draw_steps(rt.alloc(), &mut draws, len)?;
+            agrees::<T, O, R>(rt, &left, &right, window, &steps)?;
         }
     }
-}
-
-/// The same on elements with no pattern.
-fn mixed_agree<T: BitStore, O: SliceOrder + FieldOrder, R: Abort + AllocGlobal>(rt: &R) {
-    let left = mixed_elements::<T, _>(rt.alloc(), LEFT, COUNT);
-    let right = mixed_elements::<T, _>(rt.alloc(), RIGHT, COUNT);
-    match (left, right) {
-        (Ok(left), Ok(right)) => agree_everywhere::<T, O, R>(rt, &left, &right),
-        _ => assert!(rt; false),
-    }
+    Ok(())
 }
 
 /// The same at each width.
-fn agree_at_each_width<O: SliceOrder + FieldOrder, R: Abort + AllocGlobal>(rt: &R) {
-    mixed_agree::<u8, O, R>(rt);
-    mixed_agree::<u16, O, R>(rt);
-    mixed_agree::<u32, O, R>(rt);
-    mixed_agree::<u64, O, R>(rt);
-    mixed_agree::<u128, O, R>(rt);
-    mixed_agree::<usize, O, R>(rt);
+fn agrees_at_each_width<O: SliceOrder + FieldOrder, R: Abort + AllocGlobal>(
+    rt: &R,
+) -> Result<(), Fail> {
+    agrees_everywhere::<u8, O, R>(rt)?;
+    agrees_everywhere::<u16, O, R>(rt)?;
+    agrees_everywhere::<u32, O, R>(rt)?;
+    agrees_everywhere::<u64, O, R>(rt)?;
+    agrees_everywhere::<u128, O, R>(rt)?;
+    agrees_everywhere::<usize, O, R>(rt)
 }
 
 #[test]
-fn numbers_with_the_low_bit_first_agree_with_the_plain_program(rt: HostRuntime) {
-    agree_at_each_width::<Lsb0, _>(&rt);
+fn numbers_with_the_low_bit_first_agree_with_the_plain_program(
+    rt: HostRuntime,
+) -> Result<(), Fail> {
+    agrees_at_each_width::<Lsb0, _>(&rt)
 }
 
 #[test]
-fn numbers_with_the_high_bit_first_agree_with_the_plain_program(rt: HostRuntime) {
-    agree_at_each_width::<Msb0, _>(&rt);
+fn numbers_with_the_high_bit_first_agree_with_the_plain_program(
+    rt: HostRuntime,
+) -> Result<(), Fail> {
+    agrees_at_each_width::<Msb0, _>(&rt)
 }
