@@ -1,9 +1,9 @@
--- Numbers of fields that follow one another, split off one number.
+-- Numbers of fields that follow one another, split off one number and joined to one.
 use Rattle.std.specs.Prelude.{◌≡◌, ℕ, ◌+◌, ◌-◌, ◌*◌, ◌^◌, ◌<◌, ◌≤◌, if◌then◌else◌, Bool, true, false, List, ◌++◌, length, slice_range, refl}
 use Rattle.std.proofs.Common.{arith, rules, sym, ◌∙◌, ap, subst}
 use Rattle.std.proofs.lemmas.List.{places, same_lists}
 use Rattle.std.proofs.lemmas.Nat.{pow-add, same_from_place, shl_below}
-use Rattle.bitvec.specs.LoadLaws.{loaded_be-below, loaded_le-below}
+use Rattle.bitvec.specs.LoadLaws.{joined_below, loaded_be-below, loaded_le-below}
 use Rattle.bitvec.specs.PlainLaws.{append-highest, append-lowest, loaded_be-plain, loaded_le-plain}
 use Rattle.bitvec.specs.Segments.{segment_number}
 use Rattle.bitvec.specs.Types.{Window}
@@ -64,3 +64,24 @@ split-joined true word both x y m n number left is sum few less bound split =
 split-joined false word both x y m n number left is sum few less bound split =
     let same = same_from_place left number y x (2 ^ m) split.1 few (sym split.0 ∙ is ∙ sum) in
     (same.1, same.0)
+
+-- the numbers of which a number is joined are its only ones
+pub joined-parts : (high : Bool) (both x y word next m n : ℕ) → both ≡ (if high then x * 2 ^ n + y else y * 2 ^ m + x) → both ≡ (if high then word * 2 ^ n + next else next * 2 ^ m + word)
+    → x < 2 ^ m → y < 2 ^ n → word < 2 ^ m → next < 2 ^ n → (x ≡ word) × (y ≡ next)
+joined-parts true both x y word next m n sum is few less low least = same_from_place x y word next (2 ^ n) less least (sym sum ∙ is)
+joined-parts false both x y word next m n sum is few less low least =
+    let same = same_from_place y x next word (2 ^ m) few low (sym sum ∙ is) in
+    (same.1, same.0)
+
+pub joined-below : (high : Bool) (word next m n whole : ℕ) → whole ≡ (if high then word * 2 ^ n + next else next * 2 ^ m + word) → word < 2 ^ m → next < 2 ^ n → whole < 2 ^ (m + n)
+joined-below true word next m n whole is low least = let power : 2 ^ (n + m) ≡ 2 ^ (m + n) = ap (λ (k : ℕ). 2 ^ k) (omega arith) in rw (is, ← power) (joined_below word next m n low least)
+joined-below false word next m n whole is low least = rw is (joined_below next word n m least low)
+
+-- a list that has at two windows, one behind the other, the number joined of two has one at each
+pub parts-told : (high : Bool) (list : List Bool) (x y all : Window) (word next whole : ℕ) → IsWithin all (length list) → x.start ≡ all.start → y.start ≡ all.start + x.len → all.len ≡ x.len + y.len
+    → whole ≡ (if high then word * 2 ^ y.len + next else next * 2 ^ x.len + word) → word < 2 ^ x.len → next < 2 ^ y.len → plain_number high list all ≡ whole → (plain_number high list x ≡ word) × (plain_number high list y ≡ next)
+parts-told high list x y all word next whole inside start behind len joined low least is =
+    let from = inside.start in
+    let most = inside.len in
+    joined-parts high (plain_number high list all) _ _ word next x.len y.len (number-joined high list x y all inside start behind len) (is ∙ joined)
+    (plain-below high list x (record { start = omega arith; len = omega arith })) (plain-below high list y (record { start = omega arith; len = omega arith })) low least

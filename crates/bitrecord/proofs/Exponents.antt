@@ -4,6 +4,7 @@ use Rattle.std.proofs.Common.{arith, sym, ◌∙◌, ap, subst}
 use Rattle.std.proofs.lemmas.Nat.{and_mask, div-add-mod', mod_below, pow_pos, shl_below}
 use Rattle.std.proofs.Math.Nat.{mod-eq_of_lt}
 use Rattle.std.proofs.Math.Pow.{pow_mono}
+use Rattle.bitvec.specs.LoadLaws.{joined_below}
 use Rattle.bitrecord.specs.Runs.{SplitsOff}
 
 below-more : (a m n : ℕ) → a < m → m ≤ n → a < n
@@ -33,6 +34,9 @@ fits-word value len fits bound = below-more value (2 ^ len) (2 ^ 64) fits (pow_m
 pub moved-kept : (number len : ℕ) → number < 2 ^ len → len ≤ 64 → number * 2 ^ (64 - len) % 2 ^ 64 ≡ number * 2 ^ (64 - len)
 moved-kept number len fits bound =
     mod-eq_of_lt (subst (λ (k : ℕ). number * 2 ^ (64 - len) < 2 ^ k) (let e : len + (64 - len) ≡ 64 = omega arith in e) (shl_below number len (64 - len) fits))
+
+pub joined-fits : (v w j k : ℕ) → v < 2 ^ j → w < 2 ^ k → k + j ≤ 64 → v * 2 ^ k + w < 2 ^ 64
+joined-fits v w j k high low most = below-more (v * 2 ^ k + w) (2 ^ (k + j)) (2 ^ 64) (joined_below v w j k high low) (pow_mono most)
 
 pub split-low : (high : Bool) (word len power : ℕ) → high ≡ false → power ≡ 2 ^ len → SplitsOff high word len (bit_and word (power - 1)) (word / 2 ^ len)
 split-low high word len power is pow = rw (is, pow, and_mask word len) (sym (div-add-mod' word (2 ^ len)), mod_below word (2 ^ len) (pow_pos len))

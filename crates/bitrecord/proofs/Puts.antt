@@ -1,6 +1,6 @@
 -- A field written into a view, and one field after the other.
 use Rattle.std.specs.Prelude.{◌≡◌, ℕ, ◌+◌, ◌%◌, ◌^◌, ◌<◌, ◌≤◌, ◌⊎◌, Bool, List, length, slice_index, slice_index_or, slice_range, refl}
-use Rattle.std.proofs.Common.{arith, sym, ◌∙◌, ap, ⊎_elim, subst}
+use Rattle.std.proofs.Common.{arith, inl, inr, sym, ◌∙◌, ap, ⊎_elim, subst}
 use Rattle.std.proofs.Math.Nat.{mod-eq_of_lt, mod-mod}
 use Rattle.std.proofs.Math.Pow.{pow_mono}
 use Rattle.bitvec.specs.LoadLaws.{loaded_be-phase, loaded_le-phase}
@@ -14,14 +14,21 @@ use Rattle.bitvec.specs.WindowLaws.{window-written}
 use Rattle.bitvec.specs.WriteLaws.{get-write_at_above, get-write_at_below, length-slice_range}
 use Rattle.bitvec.specs.Writes.{WritesBits}
 use Rattle.bitvec.specs.WritesLaws.{written-then}
+use Rattle.bitrecord.proofs.Digits.{seamless-number}
+use Rattle.bitrecord.proofs.RunLaws.{run-apart, run-beside}
 use Rattle.bitrecord.specs.FieldLaws.{window-kept}
 use Rattle.bitrecord.specs.Layouts.{AreApart, HasWidth, IsLayout, field_at}
 use Rattle.bitrecord.specs.Records.{Fits, WritesField, WritesFields, number_in, number_of}
+use Rattle.bitrecord.specs.RunWrites.{WritesRun}
+use Rattle.bitrecord.specs.Runs.{IsRun, IsSeamless, across, end_of, plain_number}
 use Rattle.bitrecord.specs.declared.endian.Endian.{Endian}
 use Rattle.bitrecord.specs.declared.endian.Endian.TheVariants.{Big as big, Little as little}
 
-earlier_or_this : (k n : ℕ) → k < n + 1 → (k < n) ⊎ (k ≡ n)
+pub earlier_or_this : (k n : ℕ) → k < n + 1 → (k < n) ⊎ (k ≡ n)
 earlier_or_this k n low = grind arith
+
+pub earlier_or_not : (k n : ℕ) → (k < n) ⊎ (n ≤ k)
+earlier_or_not k n = grind arith
 
 below-more : (a m n : ℕ) → a < m → m ≤ n → a < n
 below-more a m n low most = omega arith
@@ -107,6 +114,24 @@ module _ {T O : Type 0} {t : Store T} {o : Order O} (high : Bool) (before after 
       ∙ ap (number_of endian high t.BITS ((seen_mut before).window.start + other.start))
       (window-kept (seen_mut before).bits (seen_mut after).bits field other apart (record { start = omega arith; len = omega arith }) (record { start = omega arith; len = omega arith }) wrote.others)
 
+  -- a run has a number that tells those of its fields
+  pub run-written : (endian : Endian) (bits : ℕ) (fields : List Window) (values : List ℕ) (first last word : ℕ) (run : Window) → IsSeamless endian high → IsLayout bits fields → (seen_mut before).window.len ≡ bits → IsRun fields first last
+      → run.start ≡ (field_at fields first).start → end_of fields last ≡ run.start + run.len
+      → ((list : List Bool) → run.start + run.len ≤ length list → plain_number high list run ≡ word → (k : ℕ) → first ≤ k → k ≤ last → plain_number high list (field_at fields k) ≡ slice_index values k)
+      → WritesField endian high run word before after → WritesRun endian high fields values first last before after
+  run-written endian bits fields values first last word run seam layout many is start end told wrote =
+      let now = long after ∙ ap (λ (w : Window). w.len) wrote.written.window in
+      let inside = layout.inside last is.below in
+      let from = inside.start in
+      let most = inside.len in
+      let order = is.behind first (omega arith) is.order in
+      record {
+        numbers = λ k least low. seamless-number endian high t.BITS (seen_mut after).window.start (seen_mut after).bits (field_at fields k) seam
+            ∙ told (seen_mut after).bits (omega arith) (sym (seamless-number endian high t.BITS (seen_mut after).window.start (seen_mut after).bits run seam) ∙ wrote.number) k least low;
+        others = λ place d beside. wrote.others place d (⊎_elim (λ (front : place < (field_at fields first).start). inl (omega arith)) (λ (behind : (across fields first last).start + (across fields first last).len ≤ place). inr (omega arith)) beside);
+        written = wrote.written;
+      }
+
 module _ {T O : Type 0} {t : Store T} {o : Order O} (high : Bool) (first now after : BitSliceMut T O t o) where
   -- the next field is written
   pub next-field : (endian : Endian) (bits : ℕ) (fields : List Window) (values : List ℕ) (n : ℕ) → IsLayout bits fields → (seen_mut first).window.len ≡ bits → n < length fields
@@ -120,5 +145,21 @@ module _ {T O : Type 0} {t : Store T} {o : Order O} (high : Bool) (first now aft
             (layout.apart k (omega arith) n (omega arith) below) (rw width (layout.inside k (omega arith))) wrote ∙ far.numbers k earlier)
             (λ (this : k ≡ n). rw this wrote.number) (earlier_or_this k n low);
         others = λ place d outside. wrote.others place d (outside n below) ∙ far.others place d outside;
+        written = written-then first now after _ _ far.written wrote.written;
+      }
+
+  -- the fields of a run are written
+  pub next-run : (endian : Endian) (bits : ℕ) (fields : List Window) (values : List ℕ) (n last : ℕ) → IsLayout bits fields → (seen_mut first).window.len ≡ bits → IsRun fields n last
+      → WritesFields endian high fields values n first now → WritesRun endian high fields values n last now after → WritesFields endian high fields values (last + 1) first after
+  next-run endian bits fields values n last layout many run far wrote =
+      let width = ap (λ (w : Window). w.len) far.written.window ∙ many in
+      let below = run.below in
+      let order = run.order in
+      record {
+        numbers = λ k low. ⊎_elim
+            (λ (earlier : k < n). other-field high now after endian (across fields n last) (field_at fields k) _ (run-apart bits k n last fields layout run earlier) (rw width (layout.inside k (omega arith)))
+            (record { number = refl; others = wrote.others; written = wrote.written }) ∙ far.numbers k earlier)
+            (λ (from : n ≤ k). wrote.numbers k from (omega arith)) (earlier_or_not k n);
+        others = λ place d outside. wrote.others place d (run-beside fields n last place run (λ k from low. outside k (omega arith))) ∙ far.others place d outside;
         written = written-then first now after _ _ far.written wrote.written;
       }

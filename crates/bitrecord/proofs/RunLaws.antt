@@ -1,12 +1,47 @@
--- Runs of fields: how wide their fields are.
-use Rattle.std.specs.Prelude.{◌≡◌, ℕ, ◌+◌, ◌-◌, ◌<◌, ◌≤◌, ◌⊎◌, List}
-use Rattle.std.proofs.Common.{arith, ⊎_elim}
+-- Runs of fields: how one grows, and what lies in one.
+use Rattle.std.specs.Prelude.{◌≡◌, ℕ, ◌+◌, ◌-◌, ◌<◌, ◌≤◌, ◌⊎◌, List, length, refl}
+use Rattle.std.proofs.Common.{arith, inl, inr, suc, sym, zero, ⊎_elim}
 use Rattle.bitvec.specs.Types.{Window}
-use Rattle.bitrecord.specs.Layouts.{EachField, HasWidth, field_at}
-use Rattle.bitrecord.specs.Runs.{IsRun, end_of}
+use Rattle.bitrecord.specs.Layouts.{AreApart, EachField, HasWidth, IsLayout, Overlap, field_at}
+use Rattle.bitrecord.specs.RecordLaws.{beside-or-in}
+use Rattle.bitrecord.specs.Records.{IsBeside}
+use Rattle.bitrecord.specs.Runs.{IsRun, across, end_of}
 
 earlier_or_last : (k n : ℕ) → k ≤ n → (k < n) ⊎ (k ≡ n)
 earlier_or_last k n low = grind arith
+
+-- a field alone
+pub run-alone : (fields : List Window) (n : ℕ) → EachField HasWidth fields → n < length fields → IsRun fields n n
+run-alone fields n widths below =
+    let some = (widths n below).some in
+    record {
+      order = omega arith;
+      below = below;
+      next = λ k from low. absurd (omega arith);
+      front = λ k from low. let is : k ≡ n = omega arith in rw is (omega arith);
+      behind = λ k from low. let is : k ≡ n = omega arith in rw is (omega arith);
+      few = omega arith;
+      bound = λ more. absurd (omega arith);
+    }
+
+-- the field behind the last one
+pub run-next : (fields : List Window) (first last next : ℕ) → EachField HasWidth fields → IsRun fields first last → next ≡ last + 1 → next < length fields → (field_at fields next).start ≡ end_of fields last
+    → end_of fields next ≤ (field_at fields first).start + 64 → IsRun fields first next
+run-next fields first last next widths run is below start bound =
+    let some = (widths next below).some in
+    let order = run.order in
+    let few = run.few in
+    let front = run.front last order (omega arith) in
+    let old = (widths last run.below).some in
+    record {
+      order = omega arith;
+      below = below;
+      next = λ k from low. ⊎_elim (λ (earlier : k < last). run.next k from earlier) (λ (this : k ≡ last). rw (this, ← is) (sym start)) (earlier_or_last k last (omega arith));
+      front = λ k from low. ⊎_elim (λ (earlier : k < next). run.front k from (omega arith)) (λ (this : k ≡ next). rw this (omega arith)) (earlier_or_last k next low);
+      behind = λ k from low. ⊎_elim (λ (earlier : k < next). let most = run.behind k from (omega arith) in omega arith) (λ (this : k ≡ next). rw this (omega arith)) (earlier_or_last k next low);
+      few = omega arith;
+      bound = λ more. bound;
+    }
 
 -- each of several fields is narrower than a word
 pub run-narrow : (fields : List Window) (first last k : ℕ) → EachField HasWidth fields → IsRun fields first last → first < last → first ≤ k → k ≤ last → (field_at fields k).len < 64
@@ -27,3 +62,51 @@ run-narrow fields first last k widths run several from low =
     let least = run.front (last - 1) (omega arith) (omega arith) in
     let some = (widths (last - 1) (omega arith)).some in
     rw this (omega arith)) (earlier_or_last k last low)
+
+less_or_not : (m n : ℕ) → (m < n) ⊎ (n ≤ m)
+less_or_not m n = grind arith
+
+-- a place behind the first bit of a run that is in none of the first fields is behind them
+reach : (fields : List Window) (first last place d j : ℕ) → IsRun fields first last → ((k : ℕ) → first ≤ k → k ≤ last → IsBeside (field_at fields k) place) → (field_at fields first).start ≤ place
+    → j ≡ first + d → j ≤ last → end_of fields j ≤ place
+reach fields first last place zero j run beside from is low =
+    let same : j ≡ first = omega arith in
+    rw same (⊎_elim (λ (front : place < (field_at fields first).start). absurd (omega arith)) (λ (behind : end_of fields first ≤ place). behind) (beside first (omega arith) (omega arith)))
+reach fields first last place (suc d) j run beside from is low =
+    let before = reach fields first last place d (first + d) run beside from refl (omega arith) in
+    let next = run.next (first + d) (omega arith) (omega arith) in
+    let same : j ≡ first + d + 1 = omega arith in
+    rw same (⊎_elim (λ (front : place < (field_at fields (first + d + 1)).start). absurd (omega arith)) (λ (behind : end_of fields (first + d + 1) ≤ place). behind) (beside (first + d + 1) (omega arith) (omega arith)))
+
+-- what is in no field of a run is beside it
+pub run-beside : (fields : List Window) (first last place : ℕ) → IsRun fields first last → ((k : ℕ) → first ≤ k → k ≤ last → IsBeside (field_at fields k) place) → IsBeside (across fields first last) place
+run-beside fields first last place run beside =
+    let order = run.order in
+    let most = run.behind first (omega arith) order in
+    ⊎_elim (λ (front : place < (field_at fields first).start). inl front)
+    (λ (from : (field_at fields first).start ≤ place).
+    let end = reach fields first last place (last - first) last run beside from (omega arith) (omega arith) in
+    inr (omega arith)) (less_or_not place (field_at fields first).start)
+
+-- so a field of a layout that is in front of the run's in the list is apart from it
+shared-place : (bits k first last p : ℕ) (fields : List Window) → IsLayout bits fields → IsRun fields first last → k < first → (field_at fields k).start ≤ p → p < end_of fields k
+    → (field_at fields first).start ≤ p → p < (field_at fields first).start + (across fields first last).len → ⊥
+shared-place bits k first last p fields layout run earlier from low above below =
+    let order = run.order in
+    let few = run.below in
+    ⊎_elim (λ (front : p < (field_at fields first).start). absurd (omega arith)) (λ (behind : (field_at fields first).start + (across fields first last).len ≤ p). absurd (omega arith))
+    (run-beside fields first last p run (λ j least most.
+    beside-or-in (field_at fields j) p (λ (beside : IsBeside (field_at fields j) p). beside)
+    (λ (start : (field_at fields j).start ≤ p) (end : p < (field_at fields j).start + (field_at fields j).len).
+    absurd (layout.apart k (omega arith) j (omega arith) (omega arith) (record { first = omega arith; second = omega arith })))))
+
+pub run-apart : (bits k first last : ℕ) (fields : List Window) → IsLayout bits fields → IsRun fields first last → k < first → AreApart (field_at fields k) (across fields first last)
+run-apart bits k first last fields layout run earlier over =
+    let one = over.first in
+    let two = over.second in
+    let order = run.order in
+    let few = run.below in
+    let some = (layout.widths k (omega arith)).some in
+    ⊎_elim (λ (front : (field_at fields k).start < (field_at fields first).start). shared-place bits k first last (field_at fields first).start fields layout run earlier (omega arith) (omega arith) (omega arith) (omega arith))
+    (λ (behind : (field_at fields first).start ≤ (field_at fields k).start). shared-place bits k first last (field_at fields k).start fields layout run earlier (omega arith) (omega arith) (omega arith) (omega arith))
+    (less_or_not (field_at fields k).start (field_at fields first).start)

@@ -1,14 +1,89 @@
 //! Records written into views.
-ghost use Rattle.std.specs.Prelude.{◌≡◌, IfErr, OnErr, OnOk};
+ghost use Rattle.std.specs.Prelude.{◌≡◌, ◌<◌, IfErr, OnErr, OnOk};
 ghost use Rattle.bitvec.specs.Views.{seen_mut};
 ghost use Rattle.bitrecord.specs.Records.{AreEncodable, IsRefusal, WritesRecord, record_in};
+ghost use Rattle.bitrecord.specs.Runs.{IsRun, IsSeamless};
+ghost use Rattle.bitrecord.specs.RunWrites.{WritesRun};
 ghost use Rattle.bitrecord.specs.Views.{bits_of, fields_of};
 
 use crate::coding::put;
+use crate::decoding::is_seamless;
 use crate::fitting::first_too_large;
+use crate::words::with_next;
 use crate::{EncodeError, Endian, Layout};
+use bitvec::index::Window;
 use bitvec::prelude::*;
 use std::alloc::Allocator;
+
+/// Writes values into the fields of a run, of which there are several, as one word. Conditions: as of
+/// `encode`, each value fits its field, and the run is one of the layout, whose numbers are made of one
+/// another.
+fn encode_run<T: BitStore, O: FieldOrder, A: Allocator>(
+    layout: &Layout<A>,
+    endian: Endian,
+    first: usize,
+    last: usize,
+    values: &[u128],
+    out: &mut BitSliceMut<'_, T, O>,
+)
+    requires bits { (seen_mut out.old).window.len ≡ bits_of layout.now }
+    requires values { AreEncodable (fields_of layout.now) values.now }
+    requires run { IsRun (fields_of layout.now) first last }
+    requires several { first < last }
+    requires seamless { IsSeamless endian O.HIGH }
+    ensures { WritesRun endian O.HIGH (fields_of layout.now) values.now first last out.old out.new }
+{
+    let mut word = 0;
+    let mut len = 0;
+    for number in first..last + 1 {
+        let more = layout.field(number).len;
+        word = with_next::<O>(word, len, values[number] as u64, more);
+        len += more;
+    }
+    let start = layout.field(first).start;
+    put(endian, Window { start, len }, u128::from(word), out);
+}
+
+/// `encode` of values that fit, by words, where the numbers of fields that follow one another are made
+/// of one another.
+fn encode_words<T: BitStore, O: FieldOrder, A: Allocator>(
+    layout: &Layout<A>,
+    endian: Endian,
+    values: &[u128],
+    out: &mut BitSliceMut<'_, T, O>,
+)
+    requires bits { (seen_mut out.old).window.len ≡ bits_of layout.now }
+    requires values { AreEncodable (fields_of layout.now) values.now }
+    requires seamless { IsSeamless endian O.HIGH }
+    ensures { WritesRecord endian O.HIGH (fields_of layout.now) values.now out.old out.new }
+{
+    let mut number = 0;
+    while number < layout.len() {
+        let last = layout.last_in_run(number);
+        if last == number {
+            put(endian, layout.field(number), values[number], out);
+        } else {
+            encode_run(layout, endian, number, last, values, out);
+        }
+        number = last + 1;
+    }
+}
+
+/// `encode` of values that fit, a field at a time.
+fn encode_fields<T: BitStore, O: FieldOrder, A: Allocator>(
+    layout: &Layout<A>,
+    endian: Endian,
+    values: &[u128],
+    out: &mut BitSliceMut<'_, T, O>,
+)
+    requires bits { (seen_mut out.old).window.len ≡ bits_of layout.now }
+    requires values { AreEncodable (fields_of layout.now) values.now }
+    ensures { WritesRecord endian O.HIGH (fields_of layout.now) values.now out.old out.new }
+{
+    for number in 0..layout.len() {
+        put(endian, layout.field(number), values[number], out);
+    }
+}
 
 /// Writes a value into each field; every other bit is as before. It is refused where there isn't one
 /// value a field, and by the first value that has more bits than its field; nothing is written then.
@@ -32,8 +107,10 @@ pub fn encode<T: BitStore, O: FieldOrder, A: Allocator>(
     if let Some(number) = first_too_large(layout, values) {
         return Err(EncodeError::Range(number));
     }
-    for number in 0..layout.len() {
-        put(endian, layout.field(number), values[number], out);
+    if is_seamless::<O>(endian) {
+        encode_words(layout, endian, values, out);
+    } else {
+        encode_fields(layout, endian, values, out);
     }
     Ok(())
 }

@@ -1,5 +1,6 @@
-//! Words of up to 64 bits, of which one number after the other is split off.
-ghost use Rattle.std.specs.Prelude.{◌≡◌, ◌^◌, ◌<◌, ◌≤◌};
+//! Numbers of up to 64 bits, of which one number after the other is split off, or which are joined of
+//! such.
+ghost use Rattle.std.specs.Prelude.{◌≡◌, ◌+◌, ◌-◌, ◌*◌, ◌^◌, ◌<◌, ◌≤◌, if◌then◌else◌};
 ghost use Rattle.bitrecord.specs.Runs.{SplitsOff, aligned};
 
 use crate::powers::power;
@@ -38,5 +39,23 @@ pub(crate) fn split_off<O: WordOrder>(word: u64, len: usize) -> (u64, u64)
         )
     } else {
         (word & (power - 1), word >> len as u32)
+    }
+}
+
+/// The number of `len` bits and of `more` behind them. Condition: they are at most 64, `more` is below 64
+/// and some, and the numbers have no more bits.
+#[inline(always)]
+pub(crate) fn with_next<O: WordOrder>(word: u64, len: usize, next: u64, more: usize) -> u64
+    requires some { 0 < more }
+    requires narrow { more < 64 }
+    requires bound { len + more ≤ 64 }
+    requires word { word < 2 ^ len }
+    requires next { next < 2 ^ more }
+    ensures { result ≡ (if O.HIGH then word * 2 ^ more + next else next * 2 ^ len + word) }
+{
+    if O::HIGH {
+        word * power(more) + next
+    } else {
+        next * power(len) + word
     }
 }
