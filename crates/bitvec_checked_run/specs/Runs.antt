@@ -20,9 +20,9 @@ abbrev pub steps_status : List RawStep → ℕ → ℕ
 steps_status steps room = if are_steps steps then (if nat_le (length steps) room then 0 else 13) else 12
 
 -- so a run may begin
-pub record FitRoom (steps : List RawStep) (room : ℕ) : Type 0 where
+pub record FitRoom (steps : List RawStep) (places : ℕ) : Type 0 where
   pub known : are_steps steps ≡ true
-  pub room : length steps ≤ room
+  pub room : length steps ≤ places
 
 -- the replies of steps on a list, beside a right list, and the list after them; `s` is the place of the list's first bit in the memory
 abbrev pub raw_replies : Bool → ℕ → ℕ → List Bool → List Bool → List RawStep → List RawReply
