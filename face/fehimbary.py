@@ -10,7 +10,6 @@ of its name (fehimbary.h). While there are views of a bytearray it can't change 
 import array
 import ctypes
 import os
-import pathlib
 from ctypes import c_bool, c_int32, c_size_t, c_uint8, c_uint16, c_uint32, c_uint64
 
 LSB0, MSB0 = range(2)
@@ -22,7 +21,7 @@ STATUSES = ("FB_DONE", "FB_RANGE", "FB_INDEX", "FB_AMOUNT", "FB_SOURCE", "FB_DES
 
 _ELEMENTS = {"B": c_uint8, "H": c_uint16, "I": c_uint32, "L": c_size_t, "Q": c_uint64}
 # a call keeps the interpreter's lock, so that no thread writes the memory meanwhile
-_library = ctypes.PyDLL(os.environ.get("FEHIMBARY_LIBRARY") or str(pathlib.Path(__file__).with_name("libfehimbary.so")))
+_library = ctypes.PyDLL(os.environ.get("FEHIMBARY_LIBRARY") or os.path.join(os.path.dirname(__file__), "libfehimbary.so"))
 
 
 class Refused(IndexError):

@@ -5,10 +5,10 @@
 //! own is no longer compiled into that. Conditions are as of `bitvec_c`.
 #![tactic(auto)]
 
-ghost use Rattle.bitvec_checked.specs.Runs.{Runs};
-ghost use Rattle.bitvec_checked.specs.Statuses.{bits_from};
+ghost use Rattle.bitvec_checked_run.specs.Runs.{Runs};
+ghost use Rattle.bitvec_checked_run.specs.checked.Statuses.{bits_from};
 
-use bitvec_checked::{RawReply, RawStep, run};
+use bitvec_checked_run::{RawReply, RawStep, run};
 
 /// Carries out steps on a window, one after the other, with all bits of the right memory as the
 /// right list, and writes the reply to each.

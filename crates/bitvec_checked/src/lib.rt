@@ -19,19 +19,40 @@ mod filling;
 mod moving;
 mod needles;
 mod numbers;
-mod operations;
-mod replies;
-mod running;
 mod scanning;
 mod status;
-mod steps;
 #[cfg(test)]
 mod tests;
 mod transfers;
 
+/// What crates above name of `bitvec_base`.
+pub mod base {
+    pub use bitvec_elements::base::{Lsb0, Msb0, Window};
+}
+
 /// What crates above name of `bitvec_store`.
 pub mod store {
     pub use bitvec_elements::store::BitStore;
+}
+
+/// What crates above name of `bitvec_cells`.
+pub mod cells {
+    pub use bitvec_elements::cells::{Cells, CellsRead, Exclusive, Shared};
+}
+
+/// What crates above name of `bitvec_engine`.
+pub mod engine {
+    pub use bitvec_elements::engine::SliceOrder;
+}
+
+/// What crates above name of `bitvec_segments`.
+pub mod segments {
+    pub use bitvec_run::segments::FieldOrder;
+}
+
+/// What crates above name of `bitvec_run`.
+pub mod commands {
+    pub use bitvec_run::{FieldOp, FieldStep, Op, Reply, carry_out_field, whole};
 }
 
 pub use bits::{get, replace, set, swap_bits};
@@ -41,11 +62,8 @@ pub use filling::{fill, invert};
 pub use moving::{copy_within, reverse, rotate_left, rotate_right, shift_end, shift_start};
 pub use needles::{contains, ends_with, starts_with};
 pub use numbers::{load_be, load_le, store_be, store_le};
-pub use replies::RawReply;
-pub use running::run;
 pub use scanning::{first_one, first_zero, last_one, last_zero};
 pub use status::{
-    DONE, LSB0, MSB0, NONE, OP, ORDER, ROOM, SIZE, end_status, or_next, window_status,
+    DONE, LSB0, MSB0, NONE, ORDER, SIZE, end_status, memories_status, or_next, window_status,
 };
-pub use steps::RawStep;
 pub use transfers::{and, copy, or, swap, xor};

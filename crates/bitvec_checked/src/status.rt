@@ -25,10 +25,6 @@ pub const ORDER: u32 = 9;
 pub const SIZE: u32 = 10;
 /// There is no bit such as was looked for.
 pub const NONE: u32 = 11;
-/// A step has the number of no operation.
-pub const OP: u32 = 12;
-/// A run has fewer places for replies than steps.
-pub const ROOM: u32 = 13;
 
 /// The first of two statuses that isn't `DONE`.
 #[inline(always)]
@@ -66,12 +62,7 @@ pub fn window_status<T: BitStore>(order: u32, elements: &[T], window: Window) ->
 
 /// What a call on two memories tests.
 #[inline(always)]
-pub(crate) fn memories_status<T: BitStore>(
-    order: u32,
-    elements: &[T],
-    window: Window,
-    right: &[T],
-) -> u32
+pub fn memories_status<T: BitStore>(order: u32, elements: &[T], window: Window, right: &[T]) -> u32
     ensures status { result ≡ memories_status order T.BITS (map T.value elements.now) window (map T.value right.now) }
     ensures order { result ≡ 0 → order ≤ 1 }
     ensures window { result ≡ 0 → HasWindow T.BITS (map T.value elements.now) window }

@@ -1,9 +1,9 @@
 //! Each operation once, and each status, on windows of three bytes from bit 3 on.
 use crate::{
-    DONE, LSB0, MSB0, NONE, OP, ORDER, ROOM, RawReply, RawStep, all, and, any, compare, contains,
-    copy, copy_within, count_ones, count_zeros, ends_with, equal, fill, first_one, first_zero, get,
-    invert, last_one, last_zero, load_be, load_le, or, replace, reverse, rotate_left, rotate_right,
-    run, set, shift_end, shift_start, starts_with, store_be, store_le, swap, swap_bits, xor,
+    DONE, LSB0, MSB0, NONE, ORDER, all, and, any, compare, contains, copy, copy_within, count_ones,
+    count_zeros, ends_with, equal, fill, first_one, first_zero, get, invert, last_one, last_zero,
+    load_be, load_le, or, replace, reverse, rotate_left, rotate_right, set, shift_end, shift_start,
+    starts_with, store_be, store_le, swap, swap_bits, xor,
 };
 
 #[test]
@@ -118,66 +118,4 @@ fn refusals_are_told(rt: HostRuntime) {
     assert_eq!(rt; store_le(MSB0, &mut bytes, 3, 0, 1), 8);
     assert_eq!(rt; fill(2, &mut bytes, 3, 18, true), ORDER);
     assert_eq!(rt; bytes, [0x12, 0x34, 0x56]);
-}
-
-fn step(op: u32, to: usize, first: usize, second: usize) -> RawStep {
-    RawStep {
-        from: 0,
-        to,
-        first,
-        second,
-        third: 0,
-        op,
-        bit: 1,
-    }
-}
-
-#[test]
-fn a_run_replies_to_each_step(rt: HostRuntime) {
-    let mut bytes = [0x12u8, 0x34, 0x56];
-    let nothing = RawReply {
-        low: 7,
-        high: 7,
-        kind: 7,
-        status: 7,
-    };
-    let mut replies = [nothing, nothing, nothing];
-    // the bit 0, bits past the window, the right bits 0 to 17 copied there
-    let steps = [step(0, 18, 0, 0), step(5, 19, 0, 0), step(12, 18, 0, 18)];
-    let status = run(
-        MSB0,
-        &mut bytes,
-        3,
-        18,
-        &[0xF8, 0x00, 0x0A],
-        &steps,
-        &mut replies,
-    );
-    assert_eq!(rt; status, DONE);
-    assert_eq!(rt; bytes, [0x1F, 0x00, 0x06]);
-    assert_eq!(rt;
-        (replies[0].kind, replies[0].low, replies[0].status),
-        (1, 1, DONE)
-    );
-    assert_eq!(rt;
-        (replies[1].kind, replies[1].low, replies[1].status),
-        (6, 0, 1)
-    );
-    assert_eq!(rt;
-        (replies[2].kind, replies[2].low, replies[2].status),
-        (0, 0, DONE)
-    );
-    assert_eq!(rt;
-        run(
-            MSB0,
-            &mut bytes,
-            3,
-            18,
-            &[],
-            &[step(33, 0, 0, 0)],
-            &mut replies
-        ),
-        OP
-    );
-    assert_eq!(rt; run(MSB0, &mut bytes, 3, 18, &[], &steps, &mut []), ROOM);
 }

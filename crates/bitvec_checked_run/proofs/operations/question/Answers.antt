@@ -1,6 +1,6 @@
 use Rattle.std.proofs.Common.{refl}
-use Rattle.bitvec_checked.specs.Steps.{operation_of, operations_of}
-use Rattle.bitvec_checked.proofs.operations.question.Goals as goal
+use Rattle.bitvec_checked_run.specs.Steps.{operation_of, operations_of}
+use Rattle.bitvec_checked_run.proofs.operations.question.Goals as goal
 
 pub returns-in-21 : goal.returns-in-21
 unfolding operation_of operations_of

@@ -1,9 +1,9 @@
 //! Replies of a run as structs of numbers.
 ghost use Rattle.std.specs.Prelude.{◌≡◌};
-ghost use Rattle.bitvec_checked.specs.Steps.{ordering_number};
+ghost use Rattle.bitvec_checked_run.specs.Steps.{ordering_number};
 
-use crate::status::{DONE, NONE};
-use bitvec_run::Reply;
+use bitvec_checked::commands::Reply;
+use bitvec_checked::{DONE, NONE};
 use std::cmp::Ordering;
 
 /// The reply to a step.
@@ -22,7 +22,7 @@ pub struct RawReply {
 }
 
 impl RawReply {
-    ghost use Rattle.bitvec_checked.specs.Steps.{raw_reply};
+    ghost use Rattle.bitvec_checked_run.specs.Steps.{raw_reply};
 
     /// A reply as numbers.
     pub(crate) fn new(reply: Reply) -> Self

@@ -1,11 +1,11 @@
 //! The operations of a run's steps, by their numbers.
 ghost use Rattle.std.specs.Prelude.{◌≡◌, ◌+◌, ◌*◌, ◌^◌, ◌<◌, ◌≤◌};
-ghost use Rattle.bitvec_run.specs.declared.field_step.FieldOp.TheVariants.{Plain};
-ghost use Rattle.bitvec_checked.specs.Steps.{operation_of};
+ghost use Rattle.bitvec_checked.specs.commands.declared.field_step.FieldOp.TheVariants.{Plain};
+ghost use Rattle.bitvec_checked_run.specs.Steps.{operation_of};
 
 use crate::steps::RawStep;
-use bitvec_elements::base::Window;
-use bitvec_run::{FieldOp, Op};
+use bitvec_checked::base::Window;
+use bitvec_checked::commands::{FieldOp, Op};
 
 pub const GET: u32 = 0;
 
@@ -72,6 +72,7 @@ pub const LOAD_BE: u32 = 30;
 pub const STORE_LE: u32 = 31;
 
 pub const STORE_BE: u32 = 32;
+
 /// How many there are.
 pub const OPERATIONS: u32 = 33;
 

@@ -1,6 +1,6 @@
 use Rattle.std.proofs.Common.{refl}
-use Rattle.bitvec_checked.specs.Steps.{operation_of, operations_of}
-use Rattle.bitvec_checked.proofs.operations.edit.Goals as goal
+use Rattle.bitvec_checked_run.specs.Steps.{operation_of, operations_of}
+use Rattle.bitvec_checked_run.proofs.operations.edit.Goals as goal
 
 pub returns-in-0 : goal.returns-in-0
 unfolding operation_of operations_of

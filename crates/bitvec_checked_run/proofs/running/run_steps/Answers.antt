@@ -1,13 +1,13 @@
 use Rattle.std.proofs.Common.{rules, refl, sym, ◌∙◌, ◌<◌, length, map}
 use Rattle.std.proofs.lemmas.List.{get_or-map, length-map}
-use Rattle.bitvec_run.specs.FieldRows.{field_outcome}
-use Rattle.bitvec_run.specs.RanLaws.{Ran-next, list-whole}
-use Rattle.bitvec_run.specs.base.Memory.{list_in, memory_bits}
-use Rattle.bitvec_run.specs.base.WritesLaws.{Writes-nothing}
-use Rattle.bitvec_checked.specs.Steps.{raw_reply, step_of}
-use Rattle.bitvec_checked.specs.declared.steps.RawStep.{RawStep}
-use Rattle.bitvec_checked.proofs.RunLemmas.{has-place, raw-next, rest-next}
-use Rattle.bitvec_checked.proofs.running.run_steps.Goals as goal
+use Rattle.bitvec_checked.specs.commands.FieldRows.{field_outcome}
+use Rattle.bitvec_checked.specs.commands.RanLaws.{Ran-next, list-whole}
+use Rattle.bitvec_checked.specs.commands.base.Memory.{list_in, memory_bits}
+use Rattle.bitvec_checked.specs.commands.base.WritesLaws.{Writes-nothing}
+use Rattle.bitvec_checked_run.specs.Steps.{raw_reply, step_of}
+use Rattle.bitvec_checked_run.specs.declared.steps.RawStep.{RawStep}
+use Rattle.bitvec_checked_run.proofs.RunLemmas.{has-place, raw-next, rest-next}
+use Rattle.bitvec_checked_run.proofs.running.run_steps.Goals as goal
 
 pub loop-index-init : goal.loop-index-init
 loop-index-init g c = record {
@@ -37,7 +37,7 @@ loop-index-preserved g c =
     let next = Ran-next g.C.CellsRead row b place g.O.SliceOrder.WORDS list steps i _ c.args.window _ _ _ _ _ c.requires.window below inv.ran did in
     record {
       ran = record { replies = refl; writes = next.writes };
-      raw = raw-next raw_reply _ _ c.field_step-reply.result c.loop-index.replies i c.new.result (has-place _ _ _ _ inside c.requires.room inv.count) inv.raw c.new.ensures (sym next.replies);
+      raw = raw-next raw_reply _ _ c.field_step-reply.result c.loop-index.replies i c.new.result (has-place _ _ _ _ inside c.requires.fit.room inv.count) inv.raw c.new.ensures (sym next.replies);
       rest = rest-next c.loop-index.replies c.args.replies.now i c.new.result inv.rest;
       right = c.field_step-reply.ensures.right.numbers ∙ inv.right;
       borrow = c.field_step-reply.ensures.left.cost.borrow ∙ inv.borrow;

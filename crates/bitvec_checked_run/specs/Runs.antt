@@ -1,15 +1,15 @@
 -- What a run does, by its status.
-use Rattle.std.specs.Prelude.{◌≡◌, ◌≢◌, ℕ, Bool, List, ◌++◌, drop, if◌then◌else◌, length, map, nat_le, nat_lt}
+use Rattle.std.specs.Prelude.{◌≡◌, ◌≢◌, ◌≤◌, ℕ, Bool, List, ◌++◌, drop, if◌then◌else◌, length, map, nat_le, nat_lt, true}
 use Rattle.std.specs.List.{list_all}
-use Rattle.bitvec_run.specs.base.declared.window.Window.{Window}
-use Rattle.bitvec_run.specs.base.Memory.{Writes, list_in, memory_bits}
-use Rattle.bitvec_run.specs.FieldRows.{field_list, field_reply}
-use Rattle.bitvec_run.specs.Fold.{list_after, replies_of}
-use Rattle.bitvec_checked.specs.declared.replies.RawReply.{RawReply}
-use Rattle.bitvec_checked.specs.declared.steps.RawStep.{RawStep}
+use Rattle.bitvec_checked.specs.commands.base.declared.window.Window.{Window}
+use Rattle.bitvec_checked.specs.commands.base.Memory.{Writes, list_in, memory_bits}
+use Rattle.bitvec_checked.specs.commands.FieldRows.{field_list, field_reply}
+use Rattle.bitvec_checked.specs.commands.Fold.{list_after, replies_of}
+use Rattle.bitvec_checked_run.specs.declared.replies.RawReply.{RawReply}
+use Rattle.bitvec_checked_run.specs.declared.steps.RawStep.{RawStep}
 use Rattle.bitvec_checked.specs.Calls.{Under}
 use Rattle.bitvec_checked.specs.Statuses.{memories_status, or_next}
-use Rattle.bitvec_checked.specs.Steps.{raw_reply, step_of}
+use Rattle.bitvec_checked_run.specs.Steps.{raw_reply, step_of}
 
 -- there is an operation of the number of each step
 abbrev pub are_steps : List RawStep → Bool
@@ -18,6 +18,11 @@ are_steps steps = list_all (λ step. nat_lt step.op 33) steps
 -- and a place for each reply
 abbrev pub steps_status : List RawStep → ℕ → ℕ
 steps_status steps room = if are_steps steps then (if nat_le (length steps) room then 0 else 13) else 12
+
+-- so a run may begin
+pub record FitRoom (steps : List RawStep) (places : ℕ) : Type 0 where
+  pub known : are_steps steps ≡ true
+  pub room : length steps ≤ places
 
 -- the replies of steps on a list, beside a right list, and the list after them; `s` is the place of the list's first bit in the memory
 abbrev pub raw_replies : Bool → ℕ → ℕ → List Bool → List Bool → List RawStep → List RawReply

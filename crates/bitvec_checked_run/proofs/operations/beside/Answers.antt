@@ -1,6 +1,6 @@
 use Rattle.std.proofs.Common.{refl}
-use Rattle.bitvec_checked.specs.Steps.{operation_of, operations_of}
-use Rattle.bitvec_checked.proofs.operations.beside.Goals as goal
+use Rattle.bitvec_checked_run.specs.Steps.{operation_of, operations_of}
+use Rattle.bitvec_checked_run.proofs.operations.beside.Goals as goal
 
 pub returns-in-12 : goal.returns-in-12
 unfolding operation_of operations_of

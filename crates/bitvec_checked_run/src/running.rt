@@ -1,20 +1,25 @@
 //! Runs of whole lists of steps.
 ghost use Rattle.std.specs.Prelude.{◌≡◌, ◌++◌, ◌≤◌, drop, length, map, true};
-ghost use Rattle.bitvec_run.specs.base.Memory.{FitsMaxBits, HasWindow, Writes, list_in, memory_bits};
-ghost use Rattle.bitvec_run.specs.Runs.{whole_window};
-ghost use Rattle.bitvec_checked.specs.Runs.{Runs, are_steps, list_after_steps, raw_replies, steps_status};
+ghost use Rattle.bitvec_checked.specs.commands.base.Memory.{FitsMaxBits, HasWindow, Writes, list_in, memory_bits};
+ghost use Rattle.bitvec_checked.specs.commands.Runs.{whole_window};
+ghost use Rattle.bitvec_checked_run.specs.Runs.{FitRoom, Runs, are_steps, list_after_steps, raw_replies, steps_status};
 ghost use Rattle.bitvec_checked.specs.Statuses.{bits_from};
 
 use crate::operations::OPERATIONS;
 use crate::replies::RawReply;
-use crate::status::{DONE, OP, ROOM, memories_status, or_next};
 use crate::steps::RawStep;
-use bitvec_elements::base::Window;
-use bitvec_elements::cells::{Cells, CellsRead, Exclusive, Shared};
-use bitvec_elements::engine::SliceOrder;
-use bitvec_elements::store::BitStore;
-use bitvec_run::segments::FieldOrder;
-use bitvec_run::{carry_out_field, whole};
+use bitvec_checked::base::{Lsb0, Msb0, Window};
+use bitvec_checked::cells::{Cells, CellsRead, Exclusive, Shared};
+use bitvec_checked::commands::{carry_out_field, whole};
+use bitvec_checked::engine::SliceOrder;
+use bitvec_checked::segments::FieldOrder;
+use bitvec_checked::store::BitStore;
+use bitvec_checked::{DONE, LSB0, memories_status, or_next};
+
+/// A step has the number of no operation.
+pub const OP: u32 = 12;
+/// A run has fewer places for replies than steps.
+pub const ROOM: u32 = 13;
 
 /// Carries out steps on a window, one after the other, with all bits of the right memory as the right
 /// list, and writes the reply to each. A step whose condition fails changes nothing and is told in its
@@ -36,7 +41,10 @@ pub fn run<T: BitStore>(
         steps_status(steps, replies.len()),
     );
     if status == DONE {
-        under!(order, run_in::<T>(elements, window, right, steps, replies));
+        match order {
+            LSB0 => run_in::<T, Lsb0>(elements, window, right, steps, replies),
+            _ => run_in::<T, Msb0>(elements, window, right, steps, replies),
+        }
     }
     status
 }
@@ -44,8 +52,7 @@ pub fn run<T: BitStore>(
 /// Whether each step has an operation, and each a place for its reply.
 fn steps_status(steps: &[RawStep], room: usize) -> u32
     ensures status { result ≡ steps_status steps.now room }
-    ensures known { result ≡ 0 → are_steps steps.now ≡ true }
-    ensures room { result ≡ 0 → length steps.now ≤ room }
+    ensures fit { result ≡ 0 → FitRoom steps.now room }
 {
     if !are_steps(steps) {
         OP
@@ -74,8 +81,7 @@ fn run_in<T: BitStore, O: SliceOrder + FieldOrder>(
 )
     requires window { HasWindow T.BITS (map T.value elements.old) window }
     requires right { FitsMaxBits T.BITS (map T.value right.now) }
-    requires known { are_steps steps.now ≡ true }
-    requires room { length steps.now ≤ length replies.old }
+    requires fit { FitRoom steps.now (length replies.old) }
     ensures replies { replies.new ≡ raw_replies O.HIGH T.BITS window.start (memory_bits T.BITS O.at (map T.value right.now)) (list_in T.BITS O.at (map T.value elements.old) window) steps.now ++ drop (length steps.now) replies.old }
     ensures writes { Writes T.BITS O.at (map T.value elements.old) (map T.value elements.new) window
         (list_after_steps O.HIGH T.BITS window.start (memory_bits T.BITS O.at (map T.value right.now)) (list_in T.BITS O.at (map T.value elements.old) window) steps.now) }
@@ -99,8 +105,7 @@ where
     D: CellsRead<Elem = C::Elem>,
     requires window { HasWindow C.Elem.BITS (C.numbers cells.old) window }
     requires right { FitsMaxBits C.Elem.BITS (D.numbers right.old) }
-    requires known { are_steps steps.now ≡ true }
-    requires room { length steps.now ≤ length replies.old }
+    requires fit { FitRoom steps.now (length replies.old) }
     ensures replies { replies.new ≡ raw_replies O.HIGH C.Elem.BITS window.start (memory_bits C.Elem.BITS O.at (D.numbers right.old)) (list_in C.Elem.BITS O.at (C.numbers cells.old) window) steps.now ++ drop (length steps.now) replies.old }
     ensures writes { Writes C.Elem.BITS O.at (C.numbers cells.old) (C.numbers cells.new) window
         (list_after_steps O.HIGH C.Elem.BITS window.start (memory_bits C.Elem.BITS O.at (D.numbers right.old)) (list_in C.Elem.BITS O.at (C.numbers cells.old) window) steps.now) }

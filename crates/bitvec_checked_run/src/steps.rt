@@ -2,7 +2,7 @@
 ghost use Rattle.std.specs.Prelude.{◌≡◌, ◌<◌};
 
 use crate::operations::operation;
-use bitvec_run::FieldStep;
+use bitvec_checked::commands::FieldStep;
 
 /// One step of a run, on the bits `from` up to, without, `to` of its window. What its other fields mean
 /// says the operation.
@@ -26,7 +26,7 @@ pub struct RawStep {
 }
 
 impl RawStep {
-    ghost use Rattle.bitvec_checked.specs.Steps.{step_of};
+    ghost use Rattle.bitvec_checked_run.specs.Steps.{step_of};
 
     /// The step that is meant. Condition: there is an operation of its number.
     pub(crate) fn step(self) -> FieldStep
