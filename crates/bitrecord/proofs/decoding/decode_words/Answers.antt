@@ -1,4 +1,4 @@
-use Rattle.std.specs.Prelude.{◌≡◌, ℕ, ◌<◌, ◌≤◌, slice_index}
+use Rattle.std.specs.Prelude.{◌<◌, ◌≤◌}
 use Rattle.std.proofs.Common.{arith, ◌∙◌, ⊎_elim}
 use Rattle.bitrecord.proofs.Numbers.{earlier_or_not, read-all, read-next}
 use Rattle.bitrecord.proofs.decoding.decode_words.Goals.{else-last-number, then-last-number}
