@@ -5,7 +5,6 @@ use Rattle.std.proofs.lemmas.List.{get_or-set_other, get_or-set_same, get_or_def
 use Rattle.bitvec.specs.SeenLaws.{length_bits}
 use Rattle.bitvec.specs.Types.{BitSlice, Order, Store, Window}
 use Rattle.bitvec.specs.Views.{seen}
-use Rattle.bitvec.specs.Window.{IsWithin}
 use Rattle.bitrecord.proofs.Digits.{number-joined, plain-below, seamless-number, split-joined}
 use Rattle.bitrecord.specs.FieldLaws.{number-below}
 use Rattle.bitrecord.specs.Layouts.{IsLayout, field_at}

@@ -1,5 +1,5 @@
 -- A field written into a view, and one field after the other.
-use Rattle.std.specs.Prelude.{◌≡◌, ℕ, ◌+◌, ◌%◌, ◌^◌, ◌<◌, ◌≤◌, ◌⊎◌, Bool, List, length, slice_index, slice_index_or, slice_range, refl}
+use Rattle.std.specs.Prelude.{◌≡◌, ℕ, ◌+◌, ◌%◌, ◌^◌, ◌<◌, ◌≤◌, Bool, List, length, slice_index, slice_index_or, slice_range, refl}
 use Rattle.std.proofs.Common.{arith, inl, inr, sym, ◌∙◌, ap, ⊎_elim, subst}
 use Rattle.std.proofs.Math.Nat.{mod-eq_of_lt, mod-mod}
 use Rattle.std.proofs.Math.Pow.{pow_mono}
@@ -15,6 +15,7 @@ use Rattle.bitvec.specs.WriteLaws.{get-write_at_above, get-write_at_below, lengt
 use Rattle.bitvec.specs.Writes.{WritesBits}
 use Rattle.bitvec.specs.WritesLaws.{written-then}
 use Rattle.bitrecord.proofs.Digits.{seamless-number}
+use Rattle.bitrecord.proofs.Numbers.{earlier_or_not, earlier_or_this}
 use Rattle.bitrecord.proofs.RunLaws.{run-apart, run-beside}
 use Rattle.bitrecord.specs.FieldLaws.{window-kept}
 use Rattle.bitrecord.specs.Layouts.{AreApart, HasWidth, IsLayout, field_at}
@@ -23,12 +24,6 @@ use Rattle.bitrecord.specs.RunWrites.{WritesRun}
 use Rattle.bitrecord.specs.Runs.{IsRun, IsSeamless, across, end_of, plain_number}
 use Rattle.bitrecord.specs.declared.endian.Endian.{Endian}
 use Rattle.bitrecord.specs.declared.endian.Endian.TheVariants.{Big as big, Little as little}
-
-pub earlier_or_this : (k n : ℕ) → k < n + 1 → (k < n) ⊎ (k ≡ n)
-earlier_or_this k n low = grind arith
-
-pub earlier_or_not : (k n : ℕ) → (k < n) ⊎ (n ≤ k)
-earlier_or_not k n = grind arith
 
 below-more : (a m n : ℕ) → a < m → m ≤ n → a < n
 below-more a m n low most = omega arith

@@ -2,7 +2,7 @@
 use Rattle.std.specs.Prelude.{◌≡◌, ℕ, ◌+◌, ◌-◌, ◌<◌, ◌≤◌, ◌⊎◌, List, length, refl}
 use Rattle.std.proofs.Common.{arith, inl, inr, suc, sym, zero, ⊎_elim}
 use Rattle.bitvec.specs.Types.{Window}
-use Rattle.bitrecord.specs.Layouts.{AreApart, EachField, HasWidth, IsLayout, Overlap, field_at}
+use Rattle.bitrecord.specs.Layouts.{AreApart, EachField, HasWidth, IsLayout, field_at}
 use Rattle.bitrecord.specs.RecordLaws.{beside-or-in}
 use Rattle.bitrecord.specs.Records.{IsBeside}
 use Rattle.bitrecord.specs.Runs.{IsRun, across, end_of}

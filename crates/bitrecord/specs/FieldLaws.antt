@@ -1,11 +1,11 @@
 -- One field of a list of bits written: what the numbers of all fields are then. For callers.
-use Rattle.std.specs.Prelude.{◌≡◌, ℕ, ◌+◌, ◌^◌, ◌<◌, ◌≤◌, ◌⊎◌, Bool, List, length, slice_index_or, slice_set, refl}
+use Rattle.std.specs.Prelude.{◌≡◌, ℕ, ◌+◌, ◌^◌, ◌<◌, ◌≤◌, ◌⊎◌, Bool, List, length, slice_index_or, slice_set}
 use Rattle.std.proofs.Common.{arith, sym, ◌∙◌, ap, inl, inr, ⊎_elim}
-use Rattle.std.proofs.lemmas.List.{get_or-map, get_or-set_other, get_or-set_same, get_or_default, length-map, length-set, same_lists}
+use Rattle.std.proofs.lemmas.List.{get_or-map, get_or-set_other, get_or-set_same, length-map, length-set, same_lists}
 use Rattle.bitvec.specs.Types.{Window}
 use Rattle.bitvec.specs.Window.{IsWithin, window_of}
 use Rattle.bitvec.specs.WindowLaws.{get-window, length-window}
-use Rattle.bitrecord.specs.Layouts.{AreApart, IsLayout, Overlap, field_at, no_field}
+use Rattle.bitrecord.specs.Layouts.{AreApart, IsLayout, field_at, no_field}
 use Rattle.bitrecord.specs.RecordLaws.{number-fits}
 use Rattle.bitrecord.specs.Records.{IsBeside, number_in, number_of, record_in}
 use Rattle.bitrecord.specs.declared.endian.Endian.{Endian}

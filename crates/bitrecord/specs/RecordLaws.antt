@@ -1,5 +1,5 @@
 -- Laws of records for callers: what numbers and the bits in no field fix.
-use Rattle.std.specs.Prelude.{◌≡◌, ℕ, ◌+◌, ◌-◌, ◌^◌, ◌<◌, ◌≤◌, ◌⊎◌, Bool, List, length, map, slice_index, slice_index_or, zip, IfErr, IsOk, IsPermutation, OnOk, refl}
+use Rattle.std.specs.Prelude.{◌≡◌, ℕ, ◌+◌, ◌-◌, ◌^◌, ◌<◌, ◌≤◌, ◌⊎◌, Bool, List, length, slice_index, slice_index_or, zip, IfErr, IsOk, IsPermutation, OnOk, refl}
 use Rattle.std.proofs.Common.{Err, Ok, arith, suc, zero, sym, ◌∙◌, ap, ⊎_elim, inl, inr, subst}
 use Rattle.std.proofs.lemmas.List.{get_or_default, get_or-map, length-map, same_lists}
 use Rattle.std.proofs.lemmas.List.Elements.{Contains-get_or}

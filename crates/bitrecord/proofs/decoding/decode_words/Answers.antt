@@ -1,7 +1,6 @@
-use Rattle.std.specs.Prelude.{◌≡◌, ℕ, ◌<◌, ◌≤◌, slice_index}
+use Rattle.std.specs.Prelude.{◌<◌, ◌≤◌}
 use Rattle.std.proofs.Common.{arith, ◌∙◌, ⊎_elim}
-use Rattle.bitrecord.proofs.Puts.{earlier_or_not}
-use Rattle.bitrecord.proofs.Numbers.{read-all, read-next}
+use Rattle.bitrecord.proofs.Numbers.{earlier_or_not, read-all, read-next}
 use Rattle.bitrecord.proofs.decoding.decode_words.Goals.{else-last-number, then-last-number}
 use Rattle.bitrecord.proofs.decoding.decode_words.Goals as goal
 

@@ -1,10 +1,9 @@
 use Rattle.std.specs.Prelude.{◌≡◌, ℕ, ◌+◌, ◌<◌}
 use Rattle.std.proofs.Common.{arith, refl, ⊎_elim}
-use Rattle.bitvec.specs.Types.{Window}
 use Rattle.bitrecord.specs.Layouts.{field_at}
 use Rattle.bitrecord.proofs.Digits.{joined-below, parts-told}
-use Rattle.bitrecord.proofs.Puts.{earlier_or_this, run-written}
-use Rattle.bitrecord.proofs.RunLaws.{run-narrow}
+use Rattle.bitrecord.proofs.Numbers.{earlier_or_this}
+use Rattle.bitrecord.proofs.Puts.{run-written}
 use Rattle.bitrecord.proofs.encoding.encode_run.Goals as goal
 
 pub loop-number-preserved : goal.loop-number-preserved

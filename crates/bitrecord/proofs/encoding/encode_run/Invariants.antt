@@ -1,6 +1,4 @@
 use Rattle.std.proofs.Common.{◌≡◌, ℕ, ◌+◌, ◌^◌, ◌<◌, ◌≤◌, Bool, List, length, slice_index}
-use Rattle.bitvec.specs.Types.{Window}
-use Rattle.bitvec.specs.Window.{IsWithin}
 use Rattle.bitrecord.specs.Layouts.{field_at}
 use Rattle.bitrecord.specs.Runs.{end_of, plain_number}
 use Rattle.bitrecord.proofs.encoding.encode_run.Given as goal

@@ -1,6 +1,5 @@
 use Rattle.std.proofs.Common.{arith, refl}
 use Rattle.bitvec.specs.WritesLaws.{written-none}
-use Rattle.bitrecord.specs.Records.{WritesFields}
 use Rattle.bitrecord.proofs.Puts.{next-field, next-run}
 use Rattle.bitrecord.proofs.encoding.encode_words.Goals.{else-last-number, then-last-number}
 use Rattle.bitrecord.proofs.encoding.encode_words.Goals as goal
