@@ -5,8 +5,9 @@ use bitvec_owned::query::base::{BitOrder, HiLo, Lsb0, Msb0};
 use bitvec_owned::query::engine::SliceOrder;
 use bitvec_owned::query::slice::BitSlice;
 use bitvec_owned::query::store::BitStore;
-use std::alloc::{AllocError, Allocator, Global};
+use std::alloc::{AllocError, Allocator};
 use std::process::Abort;
+use std::test::Fail;
 
 const HAYSTACKS: [&str; 5] = ["", "1", "0100101101", "111111111", "0000000001000"];
 
@@ -81,75 +82,55 @@ fn by_views<T: BitStore, O: SliceOrder, U: BitStore, P: BitOrder>(
     (found, left)
 }
 
-/// The bits of some elements from an index up to another, if these are there.
-fn part<T: BitStore, O: BitOrder>(
-    elements: &[T],
-    from: usize,
-    to: usize,
-) -> Option<BitSlice<'_, T, O>> {
-    match BitSlice::<T, O>::try_from_slice(elements) {
-        Ok(all) => all.get(from..to),
-        Err(_) => None,
-    }
-}
-
-/// Whether a text's bits in some elements, and a needle's in others, answer as the texts do.
-fn answer_as_texts<T: BitStore, O: SliceOrder, U: BitStore, P: BitOrder>(
-    text: &str,
-    cells: &[T],
-    needle: &str,
-    others: &[U],
-) -> bool {
-    let view = part::<T, O>(cells, 3, text.len().saturating_add(3));
-    let needles = part::<U, P>(others, 1, needle.len().saturating_add(1));
-    match (view, needles) {
-        (Some(view), Some(needles)) => by_views(view, needles) == by_texts(text, needle),
-        _ => false,
-    }
-}
-
 /// Whether the needle stands in the text, by its own search.
-fn finds_as_text<T: BitStore, O: SliceOrder, U: BitStore, P: BitOrder>(
-    alloc: Global,
+fn finds_as_text<T: BitStore, O: SliceOrder, U: BitStore, P: BitOrder, R: Abort + AllocGlobal>(
+    rt: &R,
     text: &str,
     needle: &str,
-) -> bool {
-    let cells = packed::<T, O, _>(alloc, text, 3);
-    let others = packed::<U, P, _>(alloc, needle, 1);
-    match (cells, others) {
-        (Ok(cells), Ok(others)) => answer_as_texts::<T, O, U, P>(text, &cells, needle, &others),
-        _ => false,
-    }
+) -> Result<(), Fail> {
+    let cells = packed::<T, O, _>(rt.alloc(), text, 3)?;
+    let parts = packed::<U, P, _>(rt.alloc(), needle, 1)?;
+    let all = BitSlice::<T, O>::try_from_slice(&cells).map_err(|_| "too long")?;
+    let end = text.len().saturating_add(3);
+    let view = all.get(3..end).ok_or("no such bits")?;
+    let others = BitSlice::<U, P>::try_from_slice(&parts).map_err(|_| "too long")?;
+    let end = needle.len().saturating_add(1);
+    let part = others.get(1..end).ok_or("no such bits")?;
+    assert!(rt;
+        by_views(view, part) == by_texts(text, needle),
+        "{needle} in {text}"
+    );
+    Ok(())
 }
 
 /// The whole table, for a pair of element types and orders.
-fn table<T: BitStore, O: SliceOrder, U: BitStore, P: BitOrder, R: Abort + AllocGlobal>(rt: &R) {
+fn table<T: BitStore, O: SliceOrder, U: BitStore, P: BitOrder, R: Abort + AllocGlobal>(
+    rt: &R,
+) -> Result<(), Fail> {
     for text in HAYSTACKS {
         for needle in NEEDLES {
-            assert!(rt;
-                finds_as_text::<T, O, U, P>(rt.alloc(), text, needle),
-                "{needle} in {text}"
-            );
+            finds_as_text::<T, O, U, P, R>(rt, text, needle)?;
         }
     }
+    Ok(())
 }
 
 /// The whole table, with needles of two widths and three orders.
-fn every_needle<T: BitStore, O: SliceOrder, R: Abort + AllocGlobal>(rt: &R) {
-    table::<T, O, u8, Lsb0, R>(rt);
-    table::<T, O, u8, Msb0, R>(rt);
-    table::<T, O, u8, HiLo, R>(rt);
-    table::<T, O, u16, Lsb0, R>(rt);
-    table::<T, O, u16, Msb0, R>(rt);
-    table::<T, O, u16, HiLo, R>(rt);
+fn every_needle<T: BitStore, O: SliceOrder, R: Abort + AllocGlobal>(rt: &R) -> Result<(), Fail> {
+    table::<T, O, u8, Lsb0, R>(rt)?;
+    table::<T, O, u8, Msb0, R>(rt)?;
+    table::<T, O, u8, HiLo, R>(rt)?;
+    table::<T, O, u16, Lsb0, R>(rt)?;
+    table::<T, O, u16, Msb0, R>(rt)?;
+    table::<T, O, u16, HiLo, R>(rt)
 }
 
 #[test]
-fn needles_are_found_as_in_texts(rt: HostRuntime) {
-    every_needle::<u8, Lsb0, _>(&rt);
-    every_needle::<u8, Msb0, _>(&rt);
-    every_needle::<u8, HiLo, _>(&rt);
-    every_needle::<u16, Lsb0, _>(&rt);
-    every_needle::<u16, Msb0, _>(&rt);
-    every_needle::<u16, HiLo, _>(&rt);
+fn needles_are_found_as_in_texts(rt: HostRuntime) -> Result<(), Fail> {
+    every_needle::<u8, Lsb0, _>(&rt)?;
+    every_needle::<u8, Msb0, _>(&rt)?;
+    every_needle::<u8, HiLo, _>(&rt)?;
+    every_needle::<u16, Lsb0, _>(&rt)?;
+    every_needle::<u16, Msb0, _>(&rt)?;
+    every_needle::<u16, HiLo, _>(&rt)
 }
