@@ -1,8 +1,8 @@
 -- Numbers of fields that follow one another, split off one number and joined to one.
-use Rattle.std.specs.Prelude.{◌≡◌, ℕ, ◌+◌, ◌-◌, ◌*◌, ◌^◌, ◌<◌, ◌≤◌, if◌then◌else◌, Bool, true, false, List, ◌++◌, length, slice_range, refl}
+use Rattle.std.specs.Prelude.{◌≡◌, ℕ, ◌+◌, ◌-◌, ◌*◌, ◌/◌, ◌%◌, ◌^◌, ◌<◌, ◌≤◌, if◌then◌else◌, Bool, true, false, List, ◌++◌, length, slice_range, refl}
 use Rattle.std.proofs.Common.{arith, rules, sym, ◌∙◌, ap, subst}
 use Rattle.std.proofs.lemmas.List.{places, same_lists}
-use Rattle.std.proofs.lemmas.Nat.{pow-add, same_from_place, shl_below}
+use Rattle.std.proofs.lemmas.Nat.{div-add-mod', mod_below, pow-add, pow_pos, same_from_place, shl_below}
 use Rattle.bitvec.specs.LoadLaws.{joined_below, loaded_be-below, loaded_le-below}
 use Rattle.bitvec.specs.PlainLaws.{append-highest, append-lowest, loaded_be-plain, loaded_le-plain}
 use Rattle.bitvec.specs.Segments.{segment_number}
@@ -64,6 +64,20 @@ split-joined true word both x y m n number left is sum few less bound split =
 split-joined false word both x y m n number left is sum few less bound split =
     let same = same_from_place left number y x (2 ^ m) split.1 few (sym split.0 ∙ is ∙ sum) in
     (same.1, same.0)
+
+-- the number of a window that ends another one, of the number of that
+pub last-number : (high : Bool) (list : List Bool) (x y all : Window) (word : ℕ) → IsWithin all (length list) → x.start ≡ all.start → y.start ≡ all.start + x.len → all.len ≡ x.len + y.len
+    → word ≡ plain_number high list all → (if high then word % 2 ^ y.len else word / 2 ^ x.len) ≡ plain_number high list y
+last-number true list x y all word inside start next len is =
+    let from = inside.start in
+    let most = inside.len in
+    (same_from_place (word / 2 ^ y.len) (word % 2 ^ y.len) (plain_number true list x) (plain_number true list y) (2 ^ y.len) (mod_below word (2 ^ y.len) (pow_pos y.len))
+    (plain-below true list y (record { start = omega arith; len = omega arith })) (div-add-mod' word (2 ^ y.len) ∙ is ∙ number-joined true list x y all inside start next len)).1
+last-number false list x y all word inside start next len is =
+    let from = inside.start in
+    let most = inside.len in
+    (same_from_place (word / 2 ^ x.len) (word % 2 ^ x.len) (plain_number false list y) (plain_number false list x) (2 ^ x.len) (mod_below word (2 ^ x.len) (pow_pos x.len))
+    (plain-below false list x (record { start = omega arith; len = omega arith })) (div-add-mod' word (2 ^ x.len) ∙ is ∙ number-joined false list x y all inside start next len)).0
 
 -- the numbers of which a number is joined are its only ones
 pub joined-parts : (high : Bool) (both x y word next m n : ℕ) → both ≡ (if high then x * 2 ^ n + y else y * 2 ^ m + x) → both ≡ (if high then word * 2 ^ n + next else next * 2 ^ m + word)

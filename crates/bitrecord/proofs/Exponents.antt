@@ -1,7 +1,7 @@
 -- Powers of two: a table of them, and numbers below them.
 use Rattle.std.specs.Prelude.{◌≡◌, ℕ, ◌+◌, ◌-◌, ◌*◌, ◌/◌, ◌%◌, ◌^◌, ◌<◌, ◌≤◌, Bool, false, List, [], ◌∷◌, bit_and, slice_index_or, zero, suc}
 use Rattle.std.proofs.Common.{arith, sym, ◌∙◌, ap, subst}
-use Rattle.std.proofs.lemmas.Nat.{and_mask, div-add-mod', mod_below, pow_pos, shl_below}
+use Rattle.std.proofs.lemmas.Nat.{and_mask, div-add-mod', mod_below, pow_pos, shl_below, shr_below}
 use Rattle.std.proofs.Math.Nat.{mod-eq_of_lt}
 use Rattle.std.proofs.Math.Pow.{pow_mono}
 use Rattle.bitvec.specs.LoadLaws.{joined_below}
@@ -30,6 +30,9 @@ wide-enough value len fits wide = below-more value (2 ^ 128) (2 ^ len) fits (pow
 
 pub fits-word : (value len : ℕ) → value < 2 ^ len → len ≤ 64 → value < 2 ^ 64
 fits-word value len fits bound = below-more value (2 ^ len) (2 ^ 64) fits (pow_mono bound)
+
+pub above-fits : (value len : ℕ) → 64 < len → value < 2 ^ len → value / 2 ^ 64 < 2 ^ (len - 64)
+above-fits value len wide fits = shr_below value (len - 64) 64 (subst (λ (k : ℕ). value < 2 ^ k) (let e : len ≡ len - 64 + 64 = omega arith in e) fits)
 
 pub moved-kept : (number len : ℕ) → number < 2 ^ len → len ≤ 64 → number * 2 ^ (64 - len) % 2 ^ 64 ≡ number * 2 ^ (64 - len)
 moved-kept number len fits bound =

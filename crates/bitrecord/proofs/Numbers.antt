@@ -1,11 +1,12 @@
 -- Numbers read one after the other: what the list of them is.
-use Rattle.std.specs.Prelude.{◌≡◌, ℕ, ◌+◌, ◌-◌, ◌^◌, ◌<◌, ◌≤◌, ◌⊎◌, Bool, List, length, slice_index, slice_set, refl}
+use Rattle.std.specs.Prelude.{◌≡◌, ℕ, ◌+◌, ◌-◌, ◌/◌, ◌%◌, ◌^◌, ◌<◌, ◌≤◌, ◌⊎◌, if◌then◌else◌, Bool, List, length, slice_index, slice_set, refl}
 use Rattle.std.proofs.Common.{arith, sym, ◌∙◌, ap, ⊎_elim}
 use Rattle.std.proofs.lemmas.List.{get_or-set_other, get_or-set_same, get_or_default, length-map, same_lists}
 use Rattle.bitvec.specs.SeenLaws.{length_bits}
 use Rattle.bitvec.specs.Types.{BitSlice, Order, Store, Window}
 use Rattle.bitvec.specs.Views.{seen}
-use Rattle.bitrecord.proofs.Digits.{number-joined, plain-below, seamless-number, split-joined}
+use Rattle.bitvec.specs.Window.{IsWithin}
+use Rattle.bitrecord.proofs.Digits.{last-number, number-joined, plain-below, seamless-number, split-joined}
 use Rattle.bitrecord.specs.FieldLaws.{number-below}
 use Rattle.bitrecord.specs.Layouts.{IsLayout, field_at}
 use Rattle.bitrecord.specs.RecordLaws.{number-of-record, record-encodable}
@@ -78,3 +79,19 @@ module _ {T O : Type 0} {t : Store T} {o : Order O} (high : Bool) (view : BitSli
       (plain-below high (seen view).bits (field_at fields n) (record { start = omega arith; len = omega arith }))
       (plain-below high (seen view).bits rest (record { start = omega arith; len = omega arith })) (omega arith) split in
       (parts.0 ∙ sym (seamless-number endian high t.BITS (seen view).window.start (seen view).bits (field_at fields n) seam), λ more. rw (run.next n least (omega arith)) at parts.1)
+
+  -- the number of a field is the end of the word that ends with it
+  pub word-before : (endian : Endian) (field : Window) (word : ℕ) → IsSeamless endian high → IsWithin field (seen view).window.len → 64 ≤ field.start + field.len → field.len < 64
+      → word ≡ number_in endian high t.BITS (seen view).window.start (seen view).bits (record { start = field.start + field.len - 64; len = 64 })
+      → (word < 2 ^ 64) × ((if high then word % 2 ^ field.len else word / 2 ^ (64 - field.len)) ≡ number_in endian high t.BITS (seen view).window.start (seen view).bits field)
+  word-before endian field word seam inside wide narrow told =
+      let all = long in
+      let start = inside.start in
+      let len = inside.len in
+      let around : Window = record { start = field.start + field.len - 64; len = 64 } in
+      let front : Window = record { start = field.start + field.len - 64; len = 64 - field.len } in
+      let is = told ∙ seamless-number endian high t.BITS (seen view).window.start (seen view).bits around seam in (
+        rw is (plain-below high (seen view).bits around (record { start = omega arith; len = omega arith })),
+        last-number high (seen view).bits front field around word (record { start = omega arith; len = omega arith }) refl (omega arith) (omega arith) is
+            ∙ sym (seamless-number endian high t.BITS (seen view).window.start (seen view).bits field seam),
+      )

@@ -1,5 +1,5 @@
 -- A field written into a view, and one field after the other.
-use Rattle.std.specs.Prelude.{◌≡◌, ℕ, ◌+◌, ◌%◌, ◌^◌, ◌<◌, ◌≤◌, Bool, List, length, slice_index, slice_index_or, slice_range, refl}
+use Rattle.std.specs.Prelude.{◌≡◌, ℕ, ◌+◌, ◌*◌, ◌%◌, ◌^◌, ◌<◌, ◌≤◌, if◌then◌else◌, Bool, List, length, slice_index, slice_index_or, slice_range, refl}
 use Rattle.std.proofs.Common.{arith, inl, inr, sym, ◌∙◌, ap, ⊎_elim, subst}
 use Rattle.std.proofs.Math.Nat.{mod-eq_of_lt, mod-mod}
 use Rattle.std.proofs.Math.Pow.{pow_mono}
@@ -14,11 +14,11 @@ use Rattle.bitvec.specs.WindowLaws.{window-written}
 use Rattle.bitvec.specs.WriteLaws.{get-write_at_above, get-write_at_below, length-slice_range}
 use Rattle.bitvec.specs.Writes.{WritesBits}
 use Rattle.bitvec.specs.WritesLaws.{written-then}
-use Rattle.bitrecord.proofs.Digits.{seamless-number}
+use Rattle.bitrecord.proofs.Digits.{number-joined, seamless-number}
 use Rattle.bitrecord.proofs.Numbers.{earlier_or_not, earlier_or_this}
 use Rattle.bitrecord.proofs.RunLaws.{run-apart, run-beside}
 use Rattle.bitrecord.specs.FieldLaws.{window-kept}
-use Rattle.bitrecord.specs.Layouts.{AreApart, HasWidth, IsLayout, field_at}
+use Rattle.bitrecord.specs.Layouts.{AreApart, IsLayout, field_at}
 use Rattle.bitrecord.specs.Records.{Fits, WritesField, WritesFields, number_in, number_of}
 use Rattle.bitrecord.specs.RunWrites.{WritesRun}
 use Rattle.bitrecord.specs.Runs.{IsRun, IsSeamless, across, end_of, plain_number}
@@ -28,10 +28,11 @@ use Rattle.bitrecord.specs.declared.endian.Endian.TheVariants.{Big as big, Littl
 below-more : (a m n : ℕ) → a < m → m ≤ n → a < n
 below-more a m n low most = omega arith
 
-fits-kept : (len value : ℕ) → len ≤ 128 → value < 2 ^ len → value % 2 ^ 128 % 2 ^ len ≡ value
-fits-kept len value bound fits =
-    let most : 2 ^ len ≤ 2 ^ 128 = pow_mono bound in
-    ap (λ (n : ℕ). n % 2 ^ len) (mod-eq_of_lt (below-more value _ _ fits most)) ∙ mod-eq_of_lt fits
+-- a number that fits a field is its remainder by the numbers of a type that has no fewer bits
+pub fits-kept : (bits len value : ℕ) → len ≤ bits → value < 2 ^ len → value % 2 ^ bits ≡ value
+fits-kept bits len value bound fits =
+    let most : 2 ^ len ≤ 2 ^ bits = pow_mono bound in
+    mod-eq_of_lt (below-more value _ _ fits most)
 
 field-slice : (list : List Bool) (field : Window) → window_of list field ≡ slice_range list field.start (field.start + field.len)
 unfolding window_of
@@ -73,29 +74,29 @@ module _ {T O : Type 0} {t : Store T} {o : Order O} (high : Bool) (before after 
         written = subst (WritesBits before after) (sym wrote.bits) wrote;
       }
 
-  pub put-le : (field : Window) (value : ℕ) → HasWidth field → IsWithin field (seen_mut before).window.len → Fits field value → 0 < t.BITS
-      → WritesBits before after (write_at (seen_mut before).bits field.start (stored_le high t.BITS ((seen_mut before).window.start + field.start) (value % 2 ^ 128) (slice_range (seen_mut before).bits field.start (field.start + field.len))))
+  pub put-le : (field : Window) (value : ℕ) → IsWithin field (seen_mut before).window.len → Fits field value → 0 < t.BITS
+      → WritesBits before after (write_at (seen_mut before).bits field.start (stored_le high t.BITS ((seen_mut before).window.start + field.start) value (slice_range (seen_mut before).bits field.start (field.start + field.len))))
       → WritesField little high field value before after
-  put-le field value width inside fits some wrote =
+  put-le field value inside fits some wrote =
       let all = long before in
       let start = inside.start in
       let len = inside.len in
       let list = slice_range (seen_mut before).bits field.start (field.start + field.len) in
       let many : length list ≡ field.len = length-slice_range (seen_mut before).bits field.start (field.start + field.len) (omega arith) ∙ omega arith in
-      put-field little field value _ inside (length-stored_le high t.BITS _ (value % 2 ^ 128) list ∙ many)
-      (stored_le-loads high t.BITS _ (value % 2 ^ 128) list some ∙ ap (λ (n : ℕ). value % 2 ^ 128 % 2 ^ n) many ∙ fits-kept field.len value width.bound fits) wrote
+      put-field little field value _ inside (length-stored_le high t.BITS _ value list ∙ many)
+      (stored_le-loads high t.BITS _ value list some ∙ ap (λ (n : ℕ). value % 2 ^ n) many ∙ mod-eq_of_lt fits) wrote
 
-  pub put-be : (field : Window) (value : ℕ) → HasWidth field → IsWithin field (seen_mut before).window.len → Fits field value → 0 < t.BITS
-      → WritesBits before after (write_at (seen_mut before).bits field.start (stored_be high t.BITS ((seen_mut before).window.start + field.start) (value % 2 ^ 128) (slice_range (seen_mut before).bits field.start (field.start + field.len))))
+  pub put-be : (field : Window) (value : ℕ) → IsWithin field (seen_mut before).window.len → Fits field value → 0 < t.BITS
+      → WritesBits before after (write_at (seen_mut before).bits field.start (stored_be high t.BITS ((seen_mut before).window.start + field.start) value (slice_range (seen_mut before).bits field.start (field.start + field.len))))
       → WritesField big high field value before after
-  put-be field value width inside fits some wrote =
+  put-be field value inside fits some wrote =
       let all = long before in
       let start = inside.start in
       let len = inside.len in
       let list = slice_range (seen_mut before).bits field.start (field.start + field.len) in
       let many : length list ≡ field.len = length-slice_range (seen_mut before).bits field.start (field.start + field.len) (omega arith) ∙ omega arith in
-      put-field big field value _ inside (length-stored_be high t.BITS _ (value % 2 ^ 128) list ∙ many)
-      (stored_be-loads high t.BITS _ (value % 2 ^ 128) list some ∙ ap (λ (n : ℕ). value % 2 ^ 128 % 2 ^ n) many ∙ fits-kept field.len value width.bound fits) wrote
+      put-field big field value _ inside (length-stored_be high t.BITS _ value list ∙ many)
+      (stored_be-loads high t.BITS _ value list some ∙ ap (λ (n : ℕ). value % 2 ^ n) many ∙ mod-eq_of_lt fits) wrote
 
   -- a field apart from that which was written has its number as before
   pub other-field : (endian : Endian) (field other : Window) (value : ℕ) → AreApart other field → IsWithin other (seen_mut before).window.len → WritesField endian high field value before after
@@ -157,4 +158,22 @@ module _ {T O : Type 0} {t : Store T} {o : Order O} (high : Bool) (first now aft
             (λ (from : n ≤ k). wrote.numbers k from (omega arith)) (earlier_or_not k n);
         others = λ place d outside. wrote.others place d (run-beside fields n last place run (λ k from low. outside k (omega arith))) ∙ far.others place d outside;
         written = written-then first now after _ _ far.written wrote.written;
+      }
+
+  -- two fields are written, one behind the other, as one
+  pub both-written : (endian : Endian) (x y field : Window) (v w value : ℕ) → IsSeamless endian high → IsWithin field (seen_mut first).window.len → x.start ≡ field.start → y.start ≡ field.start + x.len → field.len ≡ x.len + y.len
+      → value ≡ (if high then v * 2 ^ y.len + w else w * 2 ^ x.len + v) → WritesField endian high x v first now → WritesField endian high y w now after → WritesField endian high field value first after
+  both-written endian x y field v w value seam inside start behind len is one two =
+      let from = inside.start in
+      let most = inside.len in
+      let width = ap (λ (w : Window). w.len) one.written.window in
+      let long = long high now after after ∙ ap (λ (w : Window). w.len) two.written.window ∙ width in
+      let plain = seamless-number endian high t.BITS (seen_mut after).window.start (seen_mut after).bits in
+      let left = sym (plain x seam) ∙ other-field high now after endian y x w (λ over. let before = over.first in let beyond = over.second in omega arith) (record { start = omega arith; len = omega arith }) two ∙ one.number in
+      let right = sym (plain y seam) ∙ two.number in
+      record {
+        number = plain field seam ∙ number-joined high (seen_mut after).bits x y field (record { start = omega arith; len = omega arith }) start behind len ∙ rw (left, right) (sym is);
+        others = λ place d beside. two.others place d (⊎_elim (λ (front : place < field.start). inl (omega arith)) (λ (end : field.start + field.len ≤ place). inr (omega arith)) beside)
+            ∙ one.others place d (⊎_elim (λ (front : place < field.start). inl (omega arith)) (λ (end : field.start + field.len ≤ place). inr (omega arith)) beside);
+        written = written-then first now after _ _ one.written two.written;
       }

@@ -1,12 +1,14 @@
 //! One field of a record written into a view, and read from it.
-ghost use Rattle.std.specs.Prelude.{◌≡◌, ℕ, ◌+◌, ◌%◌, ◌^◌, ◌<◌, ◌↔◌, IfErr, OnErr, OnOk, IsOk, length, slice_range};
+ghost use Rattle.std.specs.Prelude.{◌≡◌, ℕ, ◌+◌, ◌<◌, ◌≤◌, ◌↔◌, IfErr, OnErr, OnOk, IsOk, length, slice_range};
 ghost use Rattle.bitvec.specs.Views.{seen, seen_mut};
+ghost use Rattle.bitvec.specs.Integers.{remainder_of};
 ghost use Rattle.bitvec.specs.Segments.{stored_be, stored_le};
 ghost use Rattle.bitvec.specs.Window.{IsWithin, write_at};
 ghost use Rattle.bitvec.specs.Writes.{WritesBits};
 ghost use Rattle.bitrecord.specs.Layouts.{HasWidth, field_at};
 ghost use Rattle.bitrecord.specs.declared.encode_error.EncodeError.TheVariants.{Range};
 ghost use Rattle.bitrecord.specs.Records.{Fits, WritesField, number_in};
+ghost use Rattle.bitrecord.specs.Runs.{IsSeamless};
 ghost use Rattle.bitrecord.specs.Views.{bits_of, fields_of};
 
 use crate::{EncodeError, Endian, Layout, fits};
@@ -14,30 +16,59 @@ use bitvec::index::Window;
 use bitvec::prelude::*;
 use std::alloc::Allocator;
 
-/// Writes a number into a field, the first segment lowest. Conditions: the field has a width and lies
-/// in the view.
-fn put_le<T: BitStore, O: FieldOrder>(field: Window, value: u128, out: &mut BitSliceMut<'_, T, O>)
+/// Writes an integer into a field, the first segment lowest. Conditions: the field has a width, and no more
+/// bits than the integer's type, and lies in the view.
+fn put_le<I: Integral, T: BitStore, O: FieldOrder>(
+    field: Window,
+    value: I,
+    out: &mut BitSliceMut<'_, T, O>,
+)
     requires width { HasWidth field }
+    requires bound { field.len ≤ I.BITS }
     requires inside { IsWithin field (seen_mut out.old).window.len }
     ensures { WritesBits out.old out.new (write_at (seen_mut out.old).bits field.start
-        (stored_le O.HIGH T.BITS ((seen_mut out.old).window.start + field.start) (value % 2 ^ 128) (slice_range (seen_mut out.old).bits field.start (field.start + field.len)))) }
+        (stored_le O.HIGH T.BITS ((seen_mut out.old).window.start + field.start) (remainder_of I.BITS (I.value value)) (slice_range (seen_mut out.old).bits field.start (field.start + field.len)))) }
 {
     out.edit_with(field.start..field.start + field.len, |piece| {
-        piece.store_le::<u128>(value)
+        piece.store_le::<I>(value)
     });
 }
 
-/// Writes a number into a field, the first segment highest. Conditions: the field has a width and lies
-/// in the view.
-fn put_be<T: BitStore, O: FieldOrder>(field: Window, value: u128, out: &mut BitSliceMut<'_, T, O>)
+/// Writes an integer into a field, the first segment highest. Conditions: as of `put_le`.
+fn put_be<I: Integral, T: BitStore, O: FieldOrder>(
+    field: Window,
+    value: I,
+    out: &mut BitSliceMut<'_, T, O>,
+)
     requires width { HasWidth field }
+    requires bound { field.len ≤ I.BITS }
     requires inside { IsWithin field (seen_mut out.old).window.len }
     ensures { WritesBits out.old out.new (write_at (seen_mut out.old).bits field.start
-        (stored_be O.HIGH T.BITS ((seen_mut out.old).window.start + field.start) (value % 2 ^ 128) (slice_range (seen_mut out.old).bits field.start (field.start + field.len)))) }
+        (stored_be O.HIGH T.BITS ((seen_mut out.old).window.start + field.start) (remainder_of I.BITS (I.value value)) (slice_range (seen_mut out.old).bits field.start (field.start + field.len)))) }
 {
     out.edit_with(field.start..field.start + field.len, |piece| {
-        piece.store_be::<u128>(value)
+        piece.store_be::<I>(value)
     });
+}
+
+/// Writes an integer into a field. Conditions: the field has a width, and no more bits than the integer's
+/// type, and lies in the view; the integer's number fits it.
+fn put_integer<I: Integral, T: BitStore, O: FieldOrder>(
+    endian: Endian,
+    field: Window,
+    value: I,
+    out: &mut BitSliceMut<'_, T, O>,
+)
+    requires width { HasWidth field }
+    requires bound { field.len ≤ I.BITS }
+    requires inside { IsWithin field (seen_mut out.old).window.len }
+    requires fits { Fits field (remainder_of I.BITS (I.value value)) }
+    ensures { WritesField endian O.HIGH field (remainder_of I.BITS (I.value value)) out.old out.new }
+{
+    match endian {
+        Endian::Little => put_le(field, value, out),
+        Endian::Big => put_be(field, value, out),
+    }
 }
 
 /// Writes a number into a field. Conditions: the field has a width and lies in the view; the number
@@ -53,9 +84,61 @@ pub(crate) fn put<T: BitStore, O: FieldOrder>(
     requires fits { Fits field value }
     ensures { WritesField endian O.HIGH field value out.old out.new }
 {
-    match endian {
-        Endian::Little => put_le(field, value, out),
-        Endian::Big => put_be(field, value, out),
+    put_integer(endian, field, value, out);
+}
+
+/// `put` of a word: the machine code of its store has no shift of 128 bits. Condition beside those of
+/// `put`: the field has at most 64 bits.
+pub(crate) fn put_word<T: BitStore, O: FieldOrder>(
+    endian: Endian,
+    field: Window,
+    word: u64,
+    out: &mut BitSliceMut<'_, T, O>,
+)
+    requires width { HasWidth field }
+    requires bound { field.len ≤ 64 }
+    requires inside { IsWithin field (seen_mut out.old).window.len }
+    requires fits { Fits field word }
+    ensures { WritesField endian O.HIGH field word out.old out.new }
+{
+    put_integer(endian, field, word, out);
+}
+
+/// `put` of a field of more than 64 bits as two words. Conditions beside those of `put`: the field has
+/// more than 64 bits, and numbers are made of one another.
+pub(crate) fn put_wide<T: BitStore, O: FieldOrder>(
+    endian: Endian,
+    field: Window,
+    value: u128,
+    out: &mut BitSliceMut<'_, T, O>,
+)
+    requires width { HasWidth field }
+    requires wide { 64 < field.len }
+    requires inside { IsWithin field (seen_mut out.old).window.len }
+    requires fits { Fits field value }
+    requires seamless { IsSeamless endian O.HIGH }
+    ensures { WritesField endian O.HIGH field value out.old out.new }
+{
+    let high = (value >> 64) as u64;
+    let low = (value & u128::from(u64::MAX)) as u64;
+    let start = field.start;
+    let len = field.len - 64;
+    if O::HIGH {
+        let last = start + len;
+        put_word(endian, Window { start, len }, high, out);
+        put_word(
+            endian,
+            Window {
+                start: last,
+                len: 64,
+            },
+            low,
+            out,
+        );
+    } else {
+        let last = start + 64;
+        put_word(endian, Window { start, len: 64 }, low, out);
+        put_word(endian, Window { start: last, len }, high, out);
     }
 }
 

@@ -1,13 +1,14 @@
 //! Records read from views.
 ghost use Rattle.std.specs.Prelude.{◌≡◌, ℕ, ◌<◌, ◌≤◌, ◌↔◌, IsTrue, length, slice_index};
 ghost use Rattle.bitvec.specs.Views.{seen};
-ghost use Rattle.bitrecord.specs.Layouts.{field_at};
+ghost use Rattle.bitvec.specs.Window.{IsWithin};
+ghost use Rattle.bitrecord.specs.Layouts.{HasWidth, field_at};
 ghost use Rattle.bitrecord.specs.Records.{AreEncodable, number_in, record_in};
 ghost use Rattle.bitrecord.specs.Runs.{IsRun, IsSeamless};
 ghost use Rattle.bitrecord.specs.Views.{bits_of, fields_of};
 
 use crate::coding::take;
-use crate::words::{split_off, to_split};
+use crate::words::{last_of, split_off, to_split};
 use crate::{Endian, Layout};
 use bitvec::index::Window;
 use bitvec::prelude::*;
@@ -56,6 +57,34 @@ fn decode_run<T: BitStore, O: FieldOrder, A: Allocator>(
     }
 }
 
+/// The number of a field that is in no run of several. One of fewer than 64 bits is the end of the word
+/// that ends with it, if there is one, since no number is read as fast as a word. Conditions: the field
+/// has a width and lies in the view, and numbers are made of one another.
+fn take_alone<T: BitStore, O: FieldOrder>(
+    endian: Endian,
+    field: Window,
+    view: BitSlice<'_, T, O>,
+) -> u128
+    requires width { HasWidth field }
+    requires inside { IsWithin field (seen view).window.len }
+    requires seamless { IsSeamless endian O.HIGH }
+    ensures { result ≡ number_in endian O.HIGH T.BITS (seen view.entry).window.start (seen view.entry).bits field }
+{
+    let end = field.start + field.len;
+    if field.len >= 64 || end < 64 {
+        return take(endian, field, view);
+    }
+    let word = take(
+        endian,
+        Window {
+            start: end - 64,
+            len: 64,
+        },
+        view,
+    );
+    u128::from(last_of::<O>(word as u64, field.len))
+}
+
 /// `decode` by words, where the numbers of fields that follow one another are made of one another.
 fn decode_words<T: BitStore, O: FieldOrder, A: Allocator>(
     layout: &Layout<A>,
@@ -72,7 +101,7 @@ fn decode_words<T: BitStore, O: FieldOrder, A: Allocator>(
     while number < layout.len() {
         let last = layout.last_in_run(number);
         if last == number {
-            out[number] = take(endian, layout.field(number), view);
+            out[number] = take_alone(endian, layout.field(number), view);
         } else {
             decode_run(layout, endian, number, last, view, out);
         }

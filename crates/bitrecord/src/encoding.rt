@@ -1,12 +1,14 @@
 //! Records written into views.
 ghost use Rattle.std.specs.Prelude.{◌≡◌, ◌<◌, IfErr, OnErr, OnOk};
 ghost use Rattle.bitvec.specs.Views.{seen_mut};
-ghost use Rattle.bitrecord.specs.Records.{AreEncodable, IsRefusal, WritesRecord, record_in};
+ghost use Rattle.bitvec.specs.Window.{IsWithin};
+ghost use Rattle.bitrecord.specs.Layouts.{HasWidth};
+ghost use Rattle.bitrecord.specs.Records.{AreEncodable, Fits, IsRefusal, WritesField, WritesRecord, record_in};
 ghost use Rattle.bitrecord.specs.Runs.{IsRun, IsSeamless};
 ghost use Rattle.bitrecord.specs.RunWrites.{WritesRun};
 ghost use Rattle.bitrecord.specs.Views.{bits_of, fields_of};
 
-use crate::coding::put;
+use crate::coding::{put, put_wide, put_word};
 use crate::decoding::is_seamless;
 use crate::fitting::first_too_large;
 use crate::words::with_next;
@@ -41,7 +43,28 @@ fn encode_run<T: BitStore, O: FieldOrder, A: Allocator>(
         len += more;
     }
     let start = layout.field(first).start;
-    put(endian, Window { start, len }, u128::from(word), out);
+    put_word(endian, Window { start, len }, word, out);
+}
+
+/// Writes a value into a field that is in no run of several. Conditions: as of `put`, and numbers are
+/// made of one another.
+fn put_alone<T: BitStore, O: FieldOrder>(
+    endian: Endian,
+    field: Window,
+    value: u128,
+    out: &mut BitSliceMut<'_, T, O>,
+)
+    requires width { HasWidth field }
+    requires inside { IsWithin field (seen_mut out.old).window.len }
+    requires fits { Fits field value }
+    requires seamless { IsSeamless endian O.HIGH }
+    ensures { WritesField endian O.HIGH field value out.old out.new }
+{
+    if field.len <= 64 {
+        put_word(endian, field, value as u64, out);
+    } else {
+        put_wide(endian, field, value, out);
+    }
 }
 
 /// `encode` of values that fit, by words, where the numbers of fields that follow one another are made
@@ -61,7 +84,7 @@ fn encode_words<T: BitStore, O: FieldOrder, A: Allocator>(
     while number < layout.len() {
         let last = layout.last_in_run(number);
         if last == number {
-            put(endian, layout.field(number), values[number], out);
+            put_alone(endian, layout.field(number), values[number], out);
         } else {
             encode_run(layout, endian, number, last, values, out);
         }

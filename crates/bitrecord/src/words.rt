@@ -1,6 +1,6 @@
 //! Numbers of up to 64 bits, of which one number after the other is split off, or which are joined of
 //! such.
-ghost use Rattle.std.specs.Prelude.{◌≡◌, ◌+◌, ◌-◌, ◌*◌, ◌^◌, ◌<◌, ◌≤◌, if◌then◌else◌};
+ghost use Rattle.std.specs.Prelude.{◌≡◌, ◌+◌, ◌-◌, ◌*◌, ◌/◌, ◌%◌, ◌^◌, ◌<◌, ◌≤◌, if◌then◌else◌};
 ghost use Rattle.bitrecord.specs.Runs.{SplitsOff, aligned};
 
 use crate::powers::power;
@@ -39,6 +39,20 @@ pub(crate) fn split_off<O: WordOrder>(word: u64, len: usize) -> (u64, u64)
         )
     } else {
         (word & (power - 1), word >> len as u32)
+    }
+}
+
+/// The number of the last `len` bits of a word. Condition: they are from 1 to 63.
+#[inline(always)]
+pub(crate) fn last_of<O: WordOrder>(word: u64, len: usize) -> u64
+    requires some { 0 < len }
+    requires bound { len < 64 }
+    ensures { result ≡ (if O.HIGH then word % 2 ^ len else word / 2 ^ (64 - len)) }
+{
+    if O::HIGH {
+        word & (power(len) - 1)
+    } else {
+        word >> (64 - len) as u32
     }
 }
 

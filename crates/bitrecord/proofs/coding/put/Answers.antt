@@ -1,9 +1,8 @@
-use Rattle.bitvec.specs.WidthLaws.{width_some}
-use Rattle.bitrecord.proofs.Puts.{put-be, put-le}
+use Rattle.bitrecord.proofs.Puts.{fits-kept}
 use Rattle.bitrecord.proofs.coding.put.Goals as goal
 
-pub returns-in-Little : goal.returns-in-Little
-returns-in-Little g c = rw c.in-Little.is (put-le g.O.WordOrder.HIGH _ _ c.args.field c.args.value c.requires.width c.requires.inside c.requires.fits (width_some _ g.met.T.BitStore.width_law) c.put_le.ensures)
+pub put_integer-requires-clause-fits : goal.put_integer-requires-clause-fits
+put_integer-requires-clause-fits g c = rw (fits-kept 128 c.args.field.len c.args.value c.requires.width.bound c.requires.fits) c.requires.fits
 
-pub returns-in-Big : goal.returns-in-Big
-returns-in-Big g c = rw c.in-Big.is (put-be g.O.WordOrder.HIGH _ _ c.args.field c.args.value c.requires.width c.requires.inside c.requires.fits (width_some _ g.met.T.BitStore.width_law) c.put_be.ensures)
+pub returns : goal.returns
+returns g c = rw (fits-kept 128 c.args.field.len c.args.value c.requires.width.bound c.requires.fits) at c.put_integer.ensures

@@ -17,7 +17,7 @@ loop-number-preserved g c =
       numbers = elim c.if-last-number.branch [
         | then-last-number w ↦
             let alone = w.if-last-number.true in
-            rw w.out-is (λ k low. read-next _ c.loop-number.out c.loop-number.number w.take.result (omega arith) (rw w.field.ensures at w.take.ensures) inv.numbers k (omega arith))
+            rw w.out-is (λ k low. read-next _ c.loop-number.out c.loop-number.number w.take_alone.result (omega arith) (rw w.field.ensures at w.take_alone.ensures) inv.numbers k (omega arith))
         | else-last-number w ↦
             rw w.out-is (λ k low. ⊎_elim (λ (earlier : k < c.loop-number.number). w.decode_run.ensures.kept k earlier ∙ inv.numbers k earlier)
             (λ (from : c.loop-number.number ≤ k). w.decode_run.ensures.done k from (omega arith)) (earlier_or_not k c.loop-number.number))

@@ -32,6 +32,6 @@ pub returns : goal.returns
 returns g c =
     let inv = c.loop-number.invariant in
     let test = c.loop-number-test.false in
-    run-written g.O.WordOrder.HIGH c.args.out.now c.put.new.out c.args.endian _ c.args.layout.now.fields.items c.args.values.now c.args.first c.args.last c.loop-number.word
+    run-written g.O.WordOrder.HIGH c.args.out.now c.put_word.new.out c.args.endian _ c.args.layout.now.fields.items c.args.values.now c.args.first c.args.last c.loop-number.word
     (record { start = (field_at c.args.layout.now.fields.items c.args.first).start; len = c.loop-number.len }) c.requires.seamless c.args.layout.now.layout c.requires.bits c.requires.run refl (inv.whole (omega arith))
-    (λ list long is k from low. inv.numbers list long is k from (omega arith)) (rw (c.field-start.ensures, c.from.ensures) at c.put.ensures)
+    (λ list long is k from low. inv.numbers list long is k from (omega arith)) (rw c.field-start.ensures at c.put_word.ensures)

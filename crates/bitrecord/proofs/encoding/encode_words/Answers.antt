@@ -20,8 +20,8 @@ loop-number-preserved g c =
       within = omega arith;
       written = elim c.if-last-number.branch [
         | then-last-number w ↦
-            rw (w.out-is, w.if-last-number.true) (next-field g.O.WordOrder.HIGH c.args.out.now c.loop-number.out w.put.new.out c.args.endian _ _ _ c.loop-number.number c.args.layout.now.layout c.requires.bits (omega arith)
-            inv.written (rw w.field.ensures at w.put.ensures))
+            rw (w.out-is, w.if-last-number.true) (next-field g.O.WordOrder.HIGH c.args.out.now c.loop-number.out w.put_alone.new.out c.args.endian _ _ _ c.loop-number.number c.args.layout.now.layout c.requires.bits (omega arith)
+            inv.written (rw w.field.ensures at w.put_alone.ensures))
         | else-last-number w ↦
             rw w.out-is (next-run g.O.WordOrder.HIGH c.args.out.now c.loop-number.out w.encode_run.new.out c.args.endian _ _ _ c.loop-number.number _ c.args.layout.now.layout c.requires.bits run
             inv.written w.encode_run.ensures)

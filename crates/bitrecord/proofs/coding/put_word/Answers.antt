@@ -1,0 +1,8 @@
+use Rattle.bitrecord.proofs.Puts.{fits-kept}
+use Rattle.bitrecord.proofs.coding.put_word.Goals as goal
+
+pub put_integer-requires-clause-fits : goal.put_integer-requires-clause-fits
+put_integer-requires-clause-fits g c = rw (fits-kept 64 c.args.field.len c.args.word c.requires.bound c.requires.fits) c.requires.fits
+
+pub returns : goal.returns
+returns g c = rw (fits-kept 64 c.args.field.len c.args.word c.requires.bound c.requires.fits) at c.put_integer.ensures
