@@ -135,7 +135,17 @@ static void widths(const char *program) {
         }
 }
 
+// Of two views, the right one of elements of 16 bits.
+static void mixed(const char *program) {
+    std::printf("\n### 1048576 bits of views of two types, the right one of u16, in bits per ns\n\n"
+                "| operation | u8 | u64 |\n|---|---|---|\n");
+    for (const char *operation : {"eq_bits", "cmp_bits", "or_bits", "clone_from_bitslice"})
+        std::printf("| %s | %.3g | %.3g |\n", operation, 1048576 / time_runs(program, operation, 8, 0, 100),
+                    1048576 / time_runs(program, operation, 64, 0, 100));
+}
+
 int main(int, char **words) {
     records(words[1]);
     widths(words[1]);
+    mixed(words[1]);
 }

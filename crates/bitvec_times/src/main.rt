@@ -2,13 +2,16 @@
 //! sum of what it gave: the benchmark times its runs.
 //!
 //! OPERATION is `copy`, `count`, `equality`, `or`, `reverse` or `search`, of 2^20 bits in elements of
-//! WIDTH bits, under `Lsb0`; the right side begins PHASE bits into an element. Or it is `encode` or
-//! `decode`, of the header of a packet, in bytes.
+//! WIDTH bits, under `Lsb0`; the right side begins PHASE bits into an element. Or it is `eq_bits`,
+//! `cmp_bits`, `or_bits` or `clone_from_bitslice`, whose right side has elements of 16 bits. Or it is
+//! `encode` or `decode`, of the header of a packet, in bytes.
 #![tactic(auto)]
 
+mod mixed;
 mod operation;
 mod record;
 
+use mixed::{Mixed, carry_out_mixed};
 use operation::{Operation, carry_out_times};
 use record::{decode_times, encode_times};
 use std::alloc::Allocator;
@@ -29,14 +32,44 @@ fn sum<A: Allocator + Copy>(alloc: A, words: &[String]) -> Option<u128> {
         "decode" => return decode_times(alloc, times),
         _ => {}
     }
-    let operation = Operation::of(name.as_str())?;
-    let sum = match width {
-        "8" => carry_out_times::<u8, A>(alloc, operation, phase, times)?,
-        "64" => carry_out_times::<u64, A>(alloc, operation, phase, times)?,
-        "128" => carry_out_times::<u128, A>(alloc, operation, phase, times)?,
-        _ => return None,
+    let sum = match Mixed::of(name.as_str()) {
+        Some(mixed) => sum_of_mixed(alloc, mixed, width, times)?,
+        None => {
+            let operation = Operation::of(name.as_str())?;
+            sum_of_operation(alloc, operation, width, phase, times)?
+        }
     };
     Some(sum as u128)
+}
+
+/// The sum of an operation on elements of a width. None where no such width is timed.
+fn sum_of_operation<A: Allocator + Copy>(
+    alloc: A,
+    operation: Operation,
+    width: &str,
+    phase: usize,
+    times: usize,
+) -> Option<usize> {
+    match width {
+        "8" => carry_out_times::<u8, A>(alloc, operation, phase, times),
+        "64" => carry_out_times::<u64, A>(alloc, operation, phase, times),
+        "128" => carry_out_times::<u128, A>(alloc, operation, phase, times),
+        _ => None,
+    }
+}
+
+/// As `sum_of_operation`, where the right side has elements of 16 bits.
+fn sum_of_mixed<A: Allocator + Copy>(
+    alloc: A,
+    operation: Mixed,
+    width: &str,
+    times: usize,
+) -> Option<usize> {
+    match width {
+        "8" => carry_out_mixed::<u8, u16, A>(alloc, operation, times),
+        "64" => carry_out_mixed::<u64, u16, A>(alloc, operation, times),
+        _ => None,
+    }
 }
 
 /// The sum that the program's words ask for.

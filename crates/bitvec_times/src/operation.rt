@@ -5,7 +5,7 @@ use bitrecord::bits::{
 use std::alloc::Allocator;
 
 /// How many bits an operation goes over.
-const BITS: usize = 1 << 20;
+pub(crate) const BITS: usize = 1 << 20;
 
 /// An operation on the bits of one or two views.
 #[derive(Clone, Copy)]
@@ -52,7 +52,10 @@ impl Operation {
 }
 
 /// A sequence of zeros and a last one.
-fn zeros_and_one<T: BitStore, A: Allocator>(alloc: A, len: usize) -> Option<BitVec<T, Lsb0, A>> {
+pub(crate) fn zeros_and_one<T: BitStore, A: Allocator>(
+    alloc: A,
+    len: usize,
+) -> Option<BitVec<T, Lsb0, A>> {
     T::fits_in_memory();
     let zero = [T::ZERO];
     let mut bits = BitSlice::<T, Lsb0>::from_slice(&zero)
