@@ -104,9 +104,9 @@ struct Library {
         return index;
     }
 
-    // The sum of the indices of the ones, 64 in a call.
+    // The sum of the indices of the ones, 512 in a call.
     static size_t iter_ones(const Element *p, size_t size, size_t start, size_t len) {
-        constexpr size_t room = 64;
+        constexpr size_t room = 512;
         size_t indices[room], found, sum = 0, from = 0;
         do {
             Call::ones(order, p, size, start, len, from, indices, room, &found);
