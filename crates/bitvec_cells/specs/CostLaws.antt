@@ -1,7 +1,7 @@
 -- What goes bit by bit, or element by element, stays within the bounds on steps.
 use Rattle.std.specs.Prelude.{◌≡◌, ℕ, ◌+◌, ◌-◌, ◌*◌, ◌/◌, ◌<◌, ◌≤◌, ◌==◌, if◌then◌else◌, Bool, true, false, zero, suc}
-use Rattle.std.proofs.Common.{arith, ◌∙◌, ap}
-use Rattle.std.proofs.Math.Nat.{mul-le-mul_left, mul-le-mul_right, mul_assoc, mul_comm}
+use Rattle.std.proofs.Common.{arith}
+use Rattle.std.proofs.Math.Nat.{mul-le-mul_left, mul_assoc}
 use Rattle.std.proofs.lemmas.Nat.{div-add-mod', div_below, mod_below}
 use Rattle.bitvec_cells.specs.Cost.{touched, fill_loads, work_steps, step_span, read_loads, write_loads, write_stores, reverse_loads, reverse_stores}
 use Rattle.bitvec_cells.specs.WalkLaws.{touched-none, touched-some}
@@ -68,10 +68,10 @@ begun b q m some below =
     let under = div_below (m + b - 1) b (q * c + 1) some (omega arith) in
     omega arith
 
-pub touched_enough : (b s n : ℕ) → 0 < b → touched b s n ≤ work_steps true n * step_span b true
+in_words : (b s n : ℕ) → 0 < b → touched b s n ≤ work_steps true n * step_span b true
 unfolding work_steps step_span
-touched_enough b s zero some = let none = touched-none b s in omega arith
-touched_enough b s (suc m) some =
+in_words b s zero some = let none = touched-none b s in omega arith
+in_words b s (suc m) some =
     let q : ℕ = (suc m + 63) / 64 in
     let more = touched-some b s m in
     let sum = div-sum b s m some in
@@ -79,26 +79,49 @@ touched_enough b s (suc m) some =
     let each : q * ((64 + b - 1) / b + 1) ≡ q * ((64 + b - 1) / b) + q = omega arith in
     omega arith
 
--- so what loads and stores each touched element once, and the edges of what it writes once more, keeps the bounds
-pub touched_read : (b s n : ℕ) → 0 < b → touched b s n ≤ read_loads b true n
-unfolding read_loads
-touched_read b s n some = touched_enough b s n some
+-- no more elements than bits
+pub touched_bits : (b s n : ℕ) → 0 < b → touched b s n ≤ n
+touched_bits b s zero some = let none = touched-none b s in omega arith
+touched_bits b s (suc m) some =
+    let more = touched-some b s m in
+    let sum = div-sum b s m some in
+    let wide : m * 1 ≤ m * b = mul-le-mul_left m some in
+    let most = div_below (m + b - 1) b (m + 1) some (omega arith) in
+    omega arith
 
-pub touched_stored : (b s n : ℕ) → 0 < b → touched b s n ≤ write_stores b true n
+pub touched_enough : (b : ℕ) (words : Bool) (s n : ℕ) → 0 < b → touched b s n ≤ work_steps words n * step_span b words
+touched_enough b true s n some = in_words b s n some
+touched_enough b false s n some =
+    let steps = work_steps-one n in
+    let wide = step_span-some b in
+    let bits = touched_bits b s n some in
+    rw steps (omega (arith, mul-le-mul_left n wide))
+
+-- so what loads and stores each touched element once, and the edges of what it writes once more, keeps the bounds
+pub touched_read : (b : ℕ) (words : Bool) (s n : ℕ) → 0 < b → touched b s n ≤ read_loads b words n
+unfolding read_loads
+touched_read b words s n some = touched_enough b words s n some
+
+pub touched_stored : (b : ℕ) (words : Bool) (s n : ℕ) → 0 < b → touched b s n ≤ write_stores b words n
 unfolding write_stores
-touched_stored b s n some = touched_enough b s n some
+touched_stored b words s n some = touched_enough b words s n some
 
 at_most_two : (none : Bool) → (if none then 0 else 2) ≤ 2
 at_most_two true = omega arith
 at_most_two false = omega arith
 
-pub edges_loaded : (b n : ℕ) → fill_loads n ≤ write_loads b true n
-unfolding write_loads work_steps
-edges_loaded b zero = omega arith
-edges_loaded b (suc n) =
-    let some : 1 ≤ (suc n + 63) / 64 = omega arith in
+some_steps : (words : Bool) (m : ℕ) → 1 ≤ work_steps words (suc m)
+unfolding work_steps
+some_steps true m = omega arith
+some_steps false m = omega arith
+
+pub edges_loaded : (b : ℕ) (words : Bool) (n : ℕ) → fill_loads n ≤ write_loads b words n
+unfolding write_loads
+edges_loaded b words zero = omega arith
+edges_loaded b words (suc n) =
+    let some = some_steps words n in
     let most = at_most_two (suc n == 0) in
-    let within : (if suc n == 0 then 0 else 2) ≤ (suc n + 63) / 64 * 2 = omega arith in
+    let within : (if suc n == 0 then 0 else 2) ≤ work_steps words (suc n) * 2 = omega arith in
     within
 
 pub ruleset in_steps = (touched_read, touched_stored, edges_loaded)

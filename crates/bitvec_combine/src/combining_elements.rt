@@ -71,8 +71,10 @@ pub(crate) fn combine_head<O: WordOrder, C: Cells, D: CellsRead<Elem = C::Elem>>
     last
 }
 
-/// Replaces the bits of a window by what the operator makes of them and zeros.
-pub(crate) fn combine_zeros<O: BitOrder, C: Cells>(cells: &mut C, window: Window, op: BitOp)
+/// Replaces the bits of a window by what the operator makes of them and zeros. Condition: the memory
+/// has at most `MAX_BITS` bits, and the window lies in it. It loads and stores each element that the
+/// window touches at most once.
+pub fn combine_zeros<O: BitOrder, C: Cells>(cells: &mut C, window: Window, op: BitOp)
     requires { HasWindow C.Elem.BITS (C.numbers cells.old) window }
     ensures writes { Writes C.Elem.BITS O.at (C.numbers cells.old) (C.numbers cells.new) window
         (combined (operator op) (list_in C.Elem.BITS O.at (C.numbers cells.old) window) []) }

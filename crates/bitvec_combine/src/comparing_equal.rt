@@ -25,9 +25,10 @@ pub(crate) fn elements_per_test(bits: usize) -> usize
     (BITS_PER_TEST / bits).max(1)
 }
 
-/// Whether a window has the bits of one whose first bit has the same index in its element.
-/// Condition: as of [`crate::equal`], and the windows aren't empty.
-pub(crate) fn equal_unshifted<O: BitOrder, C: CellsRead, D: CellsRead<Elem = C::Elem>>(
+/// Whether a window has the bits of one whose first bit has the same index in its element, under any
+/// order. Condition: as of [`crate::equal`], the windows are as long, and aren't empty. It loads each
+/// element that a window touches at most once.
+pub fn equal_unshifted<O: BitOrder, C: CellsRead, D: CellsRead<Elem = C::Elem>>(
     left: &mut C,
     left_window: Window,
     right: &mut D,

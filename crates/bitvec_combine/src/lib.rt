@@ -2,6 +2,7 @@
 #![tactic(auto)]
 
 mod combining;
+mod combining_equal;
 mod combining_elements;
 mod comparing;
 mod comparing_equal;
@@ -21,7 +22,9 @@ pub mod cells {
 
 /// What crates above name of `bitvec_move`.
 pub mod moves {
-    pub use bitvec_move::{copy, copy_within, load_elements, reverse, swap};
+    pub use bitvec_move::{
+        copy, copy_equal, copy_within, load_elements, reverse, swap, swap_equal,
+    };
 }
 
 /// What crates above name of `bitvec_store`.
@@ -46,4 +49,7 @@ pub mod words {
 }
 
 pub use combining::combine;
+pub use combining_elements::combine_zeros;
+pub use combining_equal::combine_equal;
 pub use comparing::equal;
+pub use comparing_equal::equal_unshifted;

@@ -1,15 +1,13 @@
-//! Bit operations on whole windows under `HiLo`: bit by bit.
+//! Bit operations on whole windows under `HiLo`: by elements as they are where the windows begin at the same index of an
+//! element, else bit by bit.
 #![tactic(auto, using(bitvec_combine::specs::Cited::enough))]
 
 ghost use Rattle.std.specs.Prelude.{false};
 
-use crate::combining::bits_op;
-use crate::comparing::bits_eq;
-use crate::copying::bits_copy;
+use crate::by_elements::{elements_copy, elements_eq, elements_op, elements_swap};
 use crate::copying_within::bits_copy_within;
 use crate::reversing::bits_reverse;
 use crate::slice_order::SliceOrder;
-use crate::swapping::bits_swap;
 use bitvec_combine::base::{HiLo, Window};
 use bitvec_combine::cells::{Cells, CellsRead};
 use bitvec_combine::words::BitOp;
@@ -25,7 +23,7 @@ impl SliceOrder for HiLo {
         right: &mut D,
         right_window: Window,
     ) -> bool {
-        bits_eq::<Self, Self, C, D>(left, left_window, right, right_window)
+        elements_eq::<Self, C, D>(left, left_window, right, right_window)
     }
 
     fn block_copy<C: Cells, D: CellsRead<Elem = C::Elem>>(
@@ -34,7 +32,7 @@ impl SliceOrder for HiLo {
         right: &mut D,
         from: Window,
     ) {
-        bits_copy::<Self, Self, C, D>(left, to, right, from);
+        elements_copy::<Self, C, D>(left, to, right, from);
     }
 
     fn block_swap<C: Cells, D: Cells + CellsRead<Elem = C::Elem>>(
@@ -43,7 +41,7 @@ impl SliceOrder for HiLo {
         right: &mut D,
         right_window: Window,
     ) {
-        bits_swap::<Self, Self, C, D>(left, left_window, right, right_window);
+        elements_swap::<Self, C, D>(left, left_window, right, right_window);
     }
 
     fn block_copy_within<C: Cells>(
@@ -63,7 +61,7 @@ impl SliceOrder for HiLo {
         from: Window,
         op: BitOp,
     ) {
-        bits_op::<Self, Self, C, D>(left, to, right, from, op);
+        elements_op::<Self, C, D>(left, to, right, from, op);
     }
 
     fn block_reverse<C: Cells>(cells: &mut C, window: Window) {

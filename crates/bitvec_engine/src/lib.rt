@@ -2,6 +2,7 @@
 #![tactic(auto)]
 
 mod bit_needles;
+mod by_elements;
 mod combining;
 mod comparing;
 mod copying;
@@ -78,6 +79,7 @@ pub mod words {
 pub use bit_needles::{bits_contains, bits_ends_with, bits_starts_with};
 pub use bitvec_combine::walk::{get_bit, replace_bit, swap_bits};
 pub use bitvec_combine::words::{BitOp, fill, invert};
+pub use by_elements::{elements_copy, elements_eq, elements_op, elements_swap};
 pub use combining::bits_op;
 pub use comparing::{bits_eq, compare};
 pub use copying::bits_copy;

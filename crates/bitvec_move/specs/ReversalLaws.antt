@@ -105,7 +105,7 @@ pub reverse-enough : (b s n : ℕ) → 0 < b → 0 < n
     → (touched b s n + 6 ≤ reverse_loads b true n) × (touched b s n + 2 ≤ reverse_stores b true n)
 unfolding reverse_loads reverse_stores
 reverse-enough b s n some more =
-    let each = touched_enough b s n some in
+    let each = touched_enough b true s n some in
     let span = span-some b some in
     let steps = steps-some n more in
     let product : (work_steps true n + 1) * (step_span b true + 2) ≡ work_steps true n * step_span b true + 2 * work_steps true n + step_span b true + 2 = omega arith in

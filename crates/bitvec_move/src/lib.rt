@@ -51,7 +51,9 @@ pub mod words {
 }
 
 pub use copying::copy;
+pub use copying_equal::copy_equal;
 pub use copying_within::copy_within;
 pub use reversing::reverse;
 pub use swapping::swap;
+pub use swapping_equal::swap_equal;
 pub use word_elements::load_elements;

@@ -1,4 +1,4 @@
-use Rattle.std.proofs.Common.{◌≡◌, ℕ, ◌<◌, ◌≤◌, ◌+◌, ◌-◌, min, ◌∙◌, arith, rules, ap, length, []}
+use Rattle.std.proofs.Common.{◌≡◌, ℕ, ◌<◌, ◌≤◌, ◌+◌, ◌-◌, true, min, ◌∙◌, arith, rules, ap, length, []}
 use Rattle.bitvec_move.specs.base.Lists.{combined}
 use Rattle.bitvec_move.specs.base.Memory.{list_in}
 use Rattle.bitvec_move.specs.base.Window.{window_after, window_until}
@@ -51,5 +51,5 @@ returns-clause-right g c =
     let b = g.C.Elem.BitStore.BITS in
     let some = width_some b g.met.C.Elem.BitStore.width_law in
     let fewer = touched-less b c.args.from.start (min c.args.to.len c.args.from.len) c.args.to.len some (omega arith) in
-    let most = touched_read b c.args.from.start c.args.to.len some in
+    let most = touched_read b true c.args.from.start c.args.to.len some in
     record { numbers = search rules; borrow = search rules; loads = omega arith; stores = search rules }

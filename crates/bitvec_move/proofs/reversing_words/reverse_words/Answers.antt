@@ -91,6 +91,6 @@ returns-clause-cost g c =
     let size : rest.len ≡ n - pair * 128 = rw c.range-rest.ensures (omega arith) in
     let steps = steps-pairs n pair (omega arith) in
     let more = steps-some (n - pair * 128) (omega arith) in
-    let each = touched_enough b rest.start rest.len some in
+    let each = touched_enough b true rest.start rest.len some in
     let within = words-cost (work_steps true n) (work_steps true (n - pair * 128)) pair span (touched b rest.start rest.len) steps more (subst (λ (m : ℕ). touched b rest.start rest.len ≤ work_steps true m * span) size each) in
     record { borrow = cost.borrow ∙ inv.borrow; loads = omega arith; stores = omega arith }

@@ -1,0 +1,126 @@
+//! Bit operations on whole windows of one element type, under any order: by elements as they are where
+//! the windows begin at the same index of an element, else bit by bit.
+ghost use Rattle.std.specs.Prelude.{◌≡◌, false};
+ghost use Rattle.bitvec_combine.specs.base.Lists.{combined, same_bits};
+ghost use Rattle.bitvec_combine.specs.base.Memory.{HasWindow, Writes, list_in};
+ghost use Rattle.bitvec_combine.specs.cells.Access.{CostsAtMost, OnlyReadsAtMost};
+ghost use Rattle.bitvec_combine.specs.walk.Cost.{edit_loads, equal_loads, read_loads, write_loads, write_stores};
+ghost use Rattle.bitvec_combine.specs.words.Operator.{operator};
+
+use crate::combining::bits_op;
+use crate::comparing::bits_eq;
+use crate::copying::bits_copy;
+use crate::swapping::bits_swap;
+use bitvec_combine::base::{BitOrder, Window};
+use bitvec_combine::cells::{Cells, CellsRead};
+use bitvec_combine::moves::{copy_equal, swap_equal};
+use bitvec_combine::store::BitStore;
+use bitvec_combine::words::BitOp;
+use bitvec_combine::{combine_equal, combine_zeros, equal_unshifted};
+
+/// Copies the bits of a window of another memory of the same elements: `block_copy` of an order
+/// without `WORDS`. Conditions and cost are those of `block_copy`.
+#[tactic(auto, using(bitvec_combine::specs::Cited::in_steps, bitvec_combine::specs::Cited::enough, bitvec_combine::specs::Cited::width_some))]
+pub fn elements_copy<O: BitOrder, C: Cells, D: CellsRead<Elem = C::Elem>>(
+    left: &mut C,
+    to: Window,
+    right: &mut D,
+    from: Window,
+)
+    requires window { HasWindow C.Elem.BITS (C.numbers left.old) to }
+    requires right_window { HasWindow C.Elem.BITS (D.numbers right.old) from }
+    requires lengths { to.len ≡ from.len }
+    ensures writes { Writes C.Elem.BITS O.at (C.numbers left.old) (C.numbers left.new) to
+        (list_in C.Elem.BITS O.at (D.numbers right.old) from) }
+    ensures cost { CostsAtMost C.CellsRead left.old left.new (write_loads C.Elem.BITS false to.len) (write_stores C.Elem.BITS false to.len) }
+    ensures right { OnlyReadsAtMost D.CellsRead right.old right.new (read_loads C.Elem.BITS false to.len) }
+{
+    let bits = C::Elem::BITS as usize;
+    if to.len > 0 && to.start % bits == from.start % bits {
+        copy_equal::<O, C, D>(left, to, right, from);
+    } else {
+        bits_copy::<O, O, C, D>(left, to, right, from);
+    }
+}
+
+/// Exchanges the bits of two windows of two memories of the same elements: `block_swap` of an order
+/// without `WORDS`. Conditions and cost are those of `block_swap`.
+#[tactic(auto, using(bitvec_combine::specs::Cited::in_steps, bitvec_combine::specs::Cited::enough, bitvec_combine::specs::Cited::width_some))]
+pub fn elements_swap<O: BitOrder, C: Cells, D: Cells + CellsRead<Elem = C::Elem>>(
+    left: &mut C,
+    left_window: Window,
+    right: &mut D,
+    right_window: Window,
+)
+    requires window { HasWindow C.Elem.BITS (C.numbers left.old) left_window }
+    requires right_window { HasWindow C.Elem.BITS (D.numbers right.old) right_window }
+    requires lengths { left_window.len ≡ right_window.len }
+    ensures writes { Writes C.Elem.BITS O.at (C.numbers left.old) (C.numbers left.new) left_window
+        (list_in C.Elem.BITS O.at (D.numbers right.old) right_window) }
+    ensures cost { CostsAtMost C.CellsRead left.old left.new (edit_loads C.Elem.BITS false left_window.len) (write_stores C.Elem.BITS false left_window.len) }
+    ensures right_writes { Writes C.Elem.BITS O.at (D.numbers right.old) (D.numbers right.new) right_window
+        (list_in C.Elem.BITS O.at (C.numbers left.old) left_window) }
+    ensures right_cost { CostsAtMost D.CellsRead right.old right.new (edit_loads C.Elem.BITS false left_window.len) (write_stores C.Elem.BITS false left_window.len) }
+{
+    let bits = C::Elem::BITS as usize;
+    if left_window.len > 0 && left_window.start % bits == right_window.start % bits {
+        swap_equal::<O, C, D>(left, left_window, right, right_window);
+    } else {
+        bits_swap::<O, O, C, D>(left, left_window, right, right_window);
+    }
+}
+
+/// Replaces each bit of a window by what the operator makes of it and the one at its index in a
+/// window of another memory of the same elements, which counts as 0 past that window's end:
+/// `block_op` of an order without `WORDS`. Conditions and cost are those of `block_op`.
+#[tactic(auto, using(bitvec_combine::specs::Cited::in_steps, bitvec_combine::specs::Cited::enough, bitvec_combine::specs::Cited::width_some))]
+pub fn elements_op<O: BitOrder, C: Cells, D: CellsRead<Elem = C::Elem>>(
+    left: &mut C,
+    to: Window,
+    right: &mut D,
+    from: Window,
+    op: BitOp,
+)
+    requires window { HasWindow C.Elem.BITS (C.numbers left.old) to }
+    requires right_window { HasWindow C.Elem.BITS (D.numbers right.old) from }
+    ensures writes { Writes C.Elem.BITS O.at (C.numbers left.old) (C.numbers left.new) to
+        (combined (operator op) (list_in C.Elem.BITS O.at (C.numbers left.old) to) (list_in C.Elem.BITS O.at (D.numbers right.old) from)) }
+    ensures cost { CostsAtMost C.CellsRead left.old left.new (edit_loads C.Elem.BITS false to.len) (write_stores C.Elem.BITS false to.len) }
+    ensures right { OnlyReadsAtMost D.CellsRead right.old right.new (read_loads C.Elem.BITS false to.len) }
+{
+    let bits = C::Elem::BITS as usize;
+    let met = to.len.min(from.len);
+    if met > 0 && to.start % bits == from.start % bits {
+        let (first, other) = (to.until(to.len - met), from.until(from.len - met));
+        combine_equal::<O, C, D>(left, first, right, other, op);
+        combine_zeros::<O, C>(left, to.after(met), op);
+    } else {
+        bits_op::<O, O, C, D>(left, to, right, from, op);
+    }
+}
+
+/// Whether two windows of the same elements have the same bits: `block_eq` of an order without
+/// `WORDS`. Conditions and cost are those of `block_eq`.
+#[tactic(auto, using(bitvec_combine::specs::Cited::in_steps, bitvec_combine::specs::Cited::enough, bitvec_combine::specs::Cited::width_some))]
+pub fn elements_eq<O: BitOrder, C: CellsRead, D: CellsRead<Elem = C::Elem>>(
+    left: &mut C,
+    left_window: Window,
+    right: &mut D,
+    right_window: Window,
+) -> bool
+    requires window { HasWindow C.Elem.BITS (C.numbers left.old) left_window }
+    requires right_window { HasWindow C.Elem.BITS (D.numbers right.old) right_window }
+    ensures value { result ≡ same_bits (list_in C.Elem.BITS O.at (C.numbers left.old) left_window)
+        (list_in C.Elem.BITS O.at (D.numbers right.old) right_window) }
+    ensures reads { OnlyReadsAtMost C.CellsRead left.old left.new (equal_loads C.Elem.BITS false left_window.len right_window.len) }
+    ensures right { OnlyReadsAtMost D.CellsRead right.old right.new (equal_loads C.Elem.BITS false left_window.len right_window.len) }
+{
+    let bits = C::Elem::BITS as usize;
+    let len = left_window.len;
+    let has_one_phase = left_window.start % bits == right_window.start % bits;
+    if len > 0 && len == right_window.len && has_one_phase {
+        equal_unshifted::<O, C, D>(left, left_window, right, right_window)
+    } else {
+        bits_eq::<O, O, C, D>(left, left_window, right, right_window)
+    }
+}
