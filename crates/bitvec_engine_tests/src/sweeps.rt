@@ -4,7 +4,7 @@ ghost use Rattle.std.specs.Prelude.{◌^◌, ◌<◌};
 
 use crate::bit_by_bit::BitByBit;
 use crate::commands::{Command, carry_out};
-use bitvec_engine::base::{BitOrder, Lsb0, Msb0, Window};
+use bitvec_engine::base::{BitOrder, HiLo, Lsb0, Msb0, Window};
 use bitvec_engine::cells::{Exclusive, Shared, has_window};
 use bitvec_engine::store::BitStore;
 use bitvec_engine::{BitOp, SliceOrder};
@@ -228,4 +228,9 @@ fn words_agree_with_bits_from_the_low_end(rt: HostRuntime) {
 #[test]
 fn words_agree_with_bits_from_the_high_end(rt: HostRuntime) {
     sweep_each_width::<Msb0, _>(&rt);
+}
+
+#[test]
+fn whole_elements_agree_with_bits_in_another_order(rt: HostRuntime) {
+    sweep_each_width::<HiLo, _>(&rt);
 }

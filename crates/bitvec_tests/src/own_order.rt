@@ -6,7 +6,7 @@ ghost use Rattle.bitvec_tests.specs.Rotated.{rotated, rotated_permutes};
 
 use bitvec::cells::{Cells, CellsRead};
 use bitvec::engine::{
-    BitOp, bits_copy, bits_copy_within, bits_eq, bits_op, bits_reverse, bits_swap,
+    BitOp, bits_copy_within, bits_reverse, elements_copy, elements_eq, elements_op, elements_swap,
 };
 use bitvec::index::Window;
 use bitvec::prelude::*;
@@ -40,7 +40,7 @@ impl SliceOrder for Rotated {
         right: &mut D,
         right_window: Window,
     ) -> bool {
-        bits_eq::<Self, Self, C, D>(left, left_window, right, right_window)
+        elements_eq::<Self, C, D>(left, left_window, right, right_window)
     }
 
     fn block_copy<C: Cells, D: CellsRead<Elem = C::Elem>>(
@@ -49,7 +49,7 @@ impl SliceOrder for Rotated {
         right: &mut D,
         from: Window,
     ) {
-        bits_copy::<Self, Self, C, D>(left, to, right, from);
+        elements_copy::<Self, C, D>(left, to, right, from);
     }
 
     fn block_swap<C: Cells, D: Cells + CellsRead<Elem = C::Elem>>(
@@ -58,7 +58,7 @@ impl SliceOrder for Rotated {
         right: &mut D,
         right_window: Window,
     ) {
-        bits_swap::<Self, Self, C, D>(left, left_window, right, right_window);
+        elements_swap::<Self, C, D>(left, left_window, right, right_window);
     }
 
     fn block_copy_within<C: Cells>(
@@ -78,7 +78,7 @@ impl SliceOrder for Rotated {
         from: Window,
         op: BitOp,
     ) {
-        bits_op::<Self, Self, C, D>(left, to, right, from, op);
+        elements_op::<Self, C, D>(left, to, right, from, op);
     }
 
     fn block_reverse<C: Cells>(cells: &mut C, window: Window) {

@@ -1,7 +1,6 @@
-use Rattle.std.proofs.Common.{◌≤◌, ◌<◌, ◌+◌, ◌-◌, ◌*◌, ◌/◌, arith, rules}
+use Rattle.std.proofs.Common.{◌*◌, ◌/◌, arith}
 use Rattle.bitvec_combine.specs.store.WidthLaws.{width_some}
 use Rattle.bitvec_engine.proofs.CountLemmas.{count-left, count-within, words-within}
-use Rattle.bitvec_engine.proofs.WordScanLemmas.{HasWindow-elements, elements-bound}
 use Rattle.bitvec_engine.proofs.counting.count_whole.Goals as goal
 
 pub returns-clause-value : goal.returns-clause-value

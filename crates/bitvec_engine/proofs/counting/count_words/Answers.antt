@@ -1,7 +1,6 @@
 use Rattle.std.proofs.Common.{◌+◌, ◌*◌, ◌/◌, arith, rules, refl, sym, ap, Bool, List, count_by}
 use Rattle.std.proofs.Math.Nat.{mul-le-mul_left}
 use Rattle.bitvec_combine.specs.store.WidthLaws.{width_some}
-use Rattle.bitvec_combine.specs.words.Elements.{elements_window}
 use Rattle.bitvec_combine.specs.words.WholeLaws.{list-empty}
 use Rattle.bitvec_engine.proofs.CountLemmas.{count-within, count-word}
 use Rattle.bitvec_engine.proofs.WordScanLemmas.{HasWindow-elements, elements-bound}
