@@ -232,5 +232,5 @@ fn words_agree_with_bits_from_the_high_end(rt: HostRuntime) {
 
 #[test]
 fn whole_elements_agree_with_bits_in_another_order(rt: HostRuntime) {
-    sweep_each_width::<HiLo, _>(&rt);
+    sweep_all::<u32, HiLo, _>(&rt);
 }
