@@ -8,7 +8,7 @@ ghost use Rattle.bitvec_move.specs.cells.Access.{OnlyReads, OnlyReadsAtMost};
 ghost use Rattle.bitvec_move.specs.walk.Cost.{touched};
 ghost use Rattle.bitvec_move.specs.words.Elements.{elements_window, elements_window_from};
 
-use crate::comparing_equal::elements_per_test;
+use crate::comparing_equal::{elements_per_test, is_zero};
 use bitvec_move::base::{BitOrder, Part, Window, first_part};
 use bitvec_move::cells::CellsRead;
 use bitvec_move::store::BitStore;
@@ -124,7 +124,7 @@ fn equal_carried<O: WordOrder, C: CellsRead, D: CellsRead<Elem = C::Elem>>(
             skip,
             span,
         );
-        if found.to_u128() != 0 {
+        if !is_zero::<C::Elem>(found) {
             return false;
         }
         last = next;
@@ -168,7 +168,7 @@ fn equal_carried_rest<O: WordOrder, C: CellsRead, D: CellsRead<Elem = C::Elem>>(
     let (found, last) = shifted_differences::<O, C, D>(
         left, first, right, source, carry, skip, count,
     );
-    if found.to_u128() != 0 {
+    if !is_zero::<C::Elem>(found) {
         return false;
     }
     if left_window.len % bits == 0 {
