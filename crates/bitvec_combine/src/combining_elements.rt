@@ -11,7 +11,9 @@ ghost use Rattle.bitvec_move.specs.words.Operator.{operator};
 use bitvec_move::base::{BitOrder, Part, Window, first_part};
 use bitvec_move::cells::{Cells, CellsRead};
 use bitvec_move::store::BitStore;
-use bitvec_move::words::{BitOp, WordOrder, field, fill, joined, merged, toward_end};
+use bitvec_move::words::{
+    BitOp, Carried, Lanes, Whole, WordOrder, field, fill, merged, toward_end,
+};
 
 /// Replaces the bits of a part by what the operator makes of them and the bits of an element at the
 /// same indices.
@@ -157,13 +159,46 @@ pub(crate) fn combine_joined<O: WordOrder, C: Cells, D: CellsRead<Elem = C::Elem
     ensures cost { Costs C.CellsRead left.old left.new count count }
     ensures right { OnlyReads D.CellsRead right.old right.new count }
 {
-    let mut last = carry;
+    if C::Elem::BITS == u128::BITS {
+        return combine_carried::<O, C, D, Lanes>(
+            left, first, right, source, carry, skip, count, op,
+        );
+    }
+    combine_carried::<O, C, D, Whole<C::Elem>>(left, first, right, source, carry, skip, count, op)
+}
+
+/// The same, with each element carried to the next turn in a form that fits the width.
+#[inline(always)]
+fn combine_carried<O: WordOrder, C: Cells, D: CellsRead<Elem = C::Elem>, K: Carried<C::Elem>>(
+    left: &mut C,
+    first: usize,
+    right: &mut D,
+    source: usize,
+    carry: C::Elem,
+    skip: usize,
+    count: usize,
+    op: BitOp,
+) -> C::Elem
+    requires form { K.fits C.Elem.BITS }
+    requires window { HasWindow C.Elem.BITS (C.numbers left.old) (elements_window C.Elem.BITS first count) }
+    requires right_window { HasWindow C.Elem.BITS (D.numbers right.old) (elements_window_from C.Elem.BITS source skip count) }
+    requires some { 0 < skip }
+    requires bound { skip < C.Elem.BITS }
+    requires carry { C.Elem.value carry ≡ slice_index (D.numbers right.old) source }
+    ensures writes { Writes C.Elem.BITS O.at (C.numbers left.old) (C.numbers left.new) (elements_window C.Elem.BITS first count)
+        (combined (operator op) (list_in C.Elem.BITS O.at (C.numbers left.old) (elements_window C.Elem.BITS first count))
+        (list_in C.Elem.BITS O.at (D.numbers right.old) (elements_window_from C.Elem.BITS source skip count))) }
+    ensures carried { C.Elem.value result ≡ slice_index (D.numbers right.old) (source + count) }
+    ensures cost { Costs C.CellsRead left.old left.new count count }
+    ensures right { OnlyReads D.CellsRead right.old right.new count }
+{
+    let mut last = K::of(carry);
     for step in 0..count {
-        let next = right.load(source + step + 1);
-        let other = joined::<O, C::Elem>(last, next, skip);
+        let next = K::of(right.load(source + step + 1));
+        let other = last.joined::<O>(&next, skip);
         let element = left.load(first + step);
         left.store(first + step, op.of_elements::<O, C::Elem>(element, other));
         last = next;
     }
-    last
+    last.element()
 }

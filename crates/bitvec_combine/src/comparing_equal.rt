@@ -10,7 +10,7 @@ ghost use Rattle.bitvec_move.specs.words.Elements.{elements_window};
 use bitvec_move::base::{BitOrder, Part, Window, first_part};
 use bitvec_move::cells::CellsRead;
 use bitvec_move::store::BitStore;
-use bitvec_move::words::same_between;
+use bitvec_move::words::{WORD_BITS, same_between};
 
 /// How many bits are compared before each test. A test after each single element would keep the loop
 /// from vector instructions; a loop over more of the widest elements isn't written out, and so has none.
@@ -23,6 +23,18 @@ pub(crate) fn elements_per_test(bits: usize) -> usize
     ensures { 0 < result }
 {
     (BITS_PER_TEST / bits).max(1)
+}
+
+/// Whether an element is 0, by its halves: a test of 128 bits as one number would keep a loop over
+/// elements of 128 bits from vector instructions.
+#[inline(always)]
+pub(crate) fn is_zero<T: BitStore>(element: T) -> bool
+    ensures { result ≡ (T.value element == 0) }
+{
+    let number = element.to_u128();
+    let low = (number % (1 << WORD_BITS)) as u64;
+    let high = (number >> WORD_BITS) as u64;
+    low | high == 0
 }
 
 /// Whether a window has the bits of one whose first bit has the same index in its element, under any
@@ -85,7 +97,7 @@ fn equal_aligned<O: BitOrder, C: CellsRead, D: CellsRead<Elem = C::Elem>>(
     for test in 0..tests {
         let passed = test * span;
         let found = differences::<O, C, D>(left, first + passed, right, source + passed, span);
-        if found.to_u128() != 0 {
+        if !is_zero::<C::Elem>(found) {
             return false;
         }
     }
@@ -119,7 +131,7 @@ fn equal_aligned_rest<O: BitOrder, C: CellsRead, D: CellsRead<Elem = C::Elem>>(
     let count = left_window.len / bits;
     let (first, source) = (left_window.start / bits, right_window.start / bits);
     let found = differences::<O, C, D>(left, first, right, source, count);
-    if found.to_u128() != 0 {
+    if !is_zero::<C::Elem>(found) {
         return false;
     }
     let rest = left_window.len % bits;

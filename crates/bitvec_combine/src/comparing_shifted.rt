@@ -8,11 +8,13 @@ ghost use Rattle.bitvec_move.specs.cells.Access.{OnlyReads, OnlyReadsAtMost};
 ghost use Rattle.bitvec_move.specs.walk.Cost.{touched};
 ghost use Rattle.bitvec_move.specs.words.Elements.{elements_window, elements_window_from};
 
-use crate::comparing_equal::elements_per_test;
+use crate::comparing_equal::{elements_per_test, is_zero};
 use bitvec_move::base::{BitOrder, Part, Window, first_part};
 use bitvec_move::cells::CellsRead;
 use bitvec_move::store::BitStore;
-use bitvec_move::words::{WordOrder, field, field_after, joined, same_between, toward_end};
+use bitvec_move::words::{
+    Carried, Lanes, Whole, WordOrder, field, field_after, same_between, toward_end,
+};
 
 /// Whether a window has the bits of one whose first bit has another index in its element.
 /// Condition: as of [`crate::equal`], and the windows aren't empty.
@@ -124,7 +126,7 @@ fn equal_carried<O: WordOrder, C: CellsRead, D: CellsRead<Elem = C::Elem>>(
             skip,
             span,
         );
-        if found.to_u128() != 0 {
+        if !is_zero::<C::Elem>(found) {
             return false;
         }
         last = next;
@@ -168,7 +170,7 @@ fn equal_carried_rest<O: WordOrder, C: CellsRead, D: CellsRead<Elem = C::Elem>>(
     let (found, last) = shifted_differences::<O, C, D>(
         left, first, right, source, carry, skip, count,
     );
-    if found.to_u128() != 0 {
+    if !is_zero::<C::Elem>(found) {
         return false;
     }
     if left_window.len % bits == 0 {
@@ -231,15 +233,51 @@ fn shifted_differences<O: WordOrder, C: CellsRead, D: CellsRead<Elem = C::Elem>>
     ensures reads { OnlyReads C.CellsRead left.old left.new count }
     ensures right { OnlyReads D.CellsRead right.old right.new count }
 {
+    if C::Elem::BITS == u128::BITS {
+        return carried_differences::<O, C, D, Lanes>(
+            left, first, right, source, carry, skip, count,
+        );
+    }
+    carried_differences::<O, C, D, Whole<C::Elem>>(left, first, right, source, carry, skip, count)
+}
+
+/// The same, with each element carried to the next turn in a form that fits the width.
+fn carried_differences<
+    O: WordOrder,
+    C: CellsRead,
+    D: CellsRead<Elem = C::Elem>,
+    K: Carried<C::Elem>,
+>(
+    left: &mut C,
+    first: usize,
+    right: &mut D,
+    source: usize,
+    carry: C::Elem,
+    skip: usize,
+    count: usize,
+) -> (C::Elem, C::Elem)
+    requires form { K.fits C.Elem.BITS }
+    requires window { HasWindow C.Elem.BITS (C.numbers left.old) (elements_window C.Elem.BITS first count) }
+    requires right_window { HasWindow C.Elem.BITS (D.numbers right.old) (elements_window_from C.Elem.BITS source skip count) }
+    requires some { 0 < skip }
+    requires bound { skip < C.Elem.BITS }
+    requires carry { C.Elem.value carry ≡ slice_index (D.numbers right.old) source }
+    ensures value { (C.Elem.value result.0 == 0)
+        ≡ same_bits (list_in C.Elem.BITS O.at (C.numbers left.old) (elements_window C.Elem.BITS first count))
+        (list_in C.Elem.BITS O.at (D.numbers right.old) (elements_window_from C.Elem.BITS source skip count)) }
+    ensures carried { C.Elem.value result.1 ≡ slice_index (D.numbers right.old) (source + count) }
+    ensures reads { OnlyReads C.CellsRead left.old left.new count }
+    ensures right { OnlyReads D.CellsRead right.old right.new count }
+{
     let mut found = C::Elem::ZERO;
-    let mut last = carry;
+    let mut last = K::of(carry);
     for step in 0..count {
-        let next = right.load(source + step + 1);
+        let next = K::of(right.load(source + step + 1));
         let element = left.load(first + step);
-        let other = joined::<O, C::Elem>(last, next, skip);
+        let other = last.joined::<O>(&next, skip);
         other.in_range();
         found = found.or(element.xor(other));
         last = next;
     }
-    (found, last)
+    (found, last.element())
 }

@@ -1,6 +1,6 @@
 -- A search of a window from its front, and of elements some at a time.
-use Rattle.std.specs.Prelude.{◌≡◌, ℕ, ◌+◌, ◌-◌, ◌*◌, ◌/◌, ◌%◌, ◌^◌, ◌<◌, ◌≤◌, if◌then◌else◌, Bool, not, List, ◌++◌, length, slice_range, bit_or, bit_xor, Some, None, refl}
-use Rattle.std.proofs.Common.{arith, sym, ◌∙◌, ap, ⊎_elim, length-append}
+use Rattle.std.specs.Prelude.{◌≡◌, ℕ, ◌+◌, ◌-◌, ◌*◌, ◌/◌, ◌%◌, ◌^◌, ◌<◌, ◌≤◌, if◌then◌else◌, Bool, not, List, ◌++◌, length, slice_index, slice_range, bit_or, bit_xor, Some, None, refl}
+use Rattle.std.proofs.Common.{arith, lit≤, sym, ◌∙◌, ap, ⊎_elim, length-append}
 use Rattle.std.proofs.Math.Nat.{add-mul, mul-le-mul_left, mul_assoc}
 use Rattle.std.proofs.lemmas.Bool.{cases_lt}
 use Rattle.std.proofs.lemmas.Nat.{div-add-mod'}
@@ -18,6 +18,7 @@ use Rattle.bitvec_combine.specs.walk.Cost.{touched}
 use Rattle.bitvec_combine.specs.walk.Walk.{passed}
 use Rattle.bitvec_combine.specs.walk.WalkLaws.{touched-none}
 use Rattle.bitvec_combine.specs.words.Elements.{elements_window}
+use Rattle.bitvec_combine.specs.words.FieldLaws.{element_of, list-whole}
 use Rattle.bitvec_combine.specs.words.MovedLaws.{take-field}
 use Rattle.bitvec_combine.specs.words.SameLaws.{or_none, or_none_right}
 use Rattle.bitvec_combine.specs.words.TouchedLaws.{touched-edge, touched-whole}
@@ -59,6 +60,9 @@ module _ (b : ℕ) (at : ℕ → ℕ → ℕ) (xs : List ℕ) (window rest : Win
 
 -- ---- elements, some at a time
 
+pub width-most : (b : ℕ) → IsWidth b → b ≤ 128
+width-most b w = at_each_width (λ n. n ≤ 128) (lit≤ tt) (lit≤ tt) (lit≤ tt) (lit≤ tt) (lit≤ tt) b w
+
 module _ (b : ℕ) (at : ℕ → ℕ → ℕ) (xs : List ℕ) (first n : ℕ) (has : HasWindow b xs (elements_window b first n)) where
   pub HasWindow-elements : (place m : ℕ) → first ≤ place → place + m ≤ first + n → HasWindow b xs (elements_window b place m)
   HasWindow-elements place m low high =
@@ -81,14 +85,17 @@ module _ (b : ℕ) (at : ℕ → ℕ → ℕ) (xs : List ℕ) (first n : ℕ) (h
       list-join b at xs (elements_window b place k) (elements_window b next m) (elements_window b place all) (HasWindow-elements place all low high)
       refl (ap (λ (i : ℕ). i * b) behind ∙ add-mul place k b) (ap (λ (i : ℕ). i * b) sum ∙ add-mul k m b)
 
--- ---- four words, which are passed by together
+-- ---- two elements, or four, which are passed by together
 
-module _ (at : ℕ → ℕ → ℕ) (p : Permutes 64 (at 64)) (lacking : ℕ) (want : Bool) (filled : lacking ≡ (if not want then 2 ^ 64 - 1 else 0)) where
-  lacks : (v : ℕ) → bit_xor v lacking ≡ 0 → None ≡ first_place want (element_bits 64 at v)
-  lacks v none = first-passed 64 at p v lacking _ want refl none filled
+module _ (b : ℕ) (at : ℕ → ℕ → ℕ) (p : Permutes b (at b)) (lacking : ℕ) (want : Bool) (filled : lacking ≡ (if not want then 2 ^ b - 1 else 0)) where
+  lacks : (v : ℕ) → bit_xor v lacking ≡ 0 → None ≡ first_place want (element_bits b at v)
+  lacks v none = first-passed b at p v lacking _ want refl none filled
+
+  pub none-of_two : (v w : ℕ) → bit_or (bit_xor v lacking) (bit_xor w lacking) ≡ 0 → None ≡ first_place want (element_bits b at v ++ element_bits b at w)
+  none-of_two v w none = first-lacks want _ _ _ (lacks v (or_none _ _ none)) (lacks w (or_none_right _ _ none)) refl
 
   pub none-of_four : (u v w x : ℕ) → bit_or (bit_or (bit_or (bit_xor u lacking) (bit_xor v lacking)) (bit_xor w lacking)) (bit_xor x lacking) ≡ 0
-      → None ≡ first_place want ((element_bits 64 at u ++ element_bits 64 at v) ++ (element_bits 64 at w ++ element_bits 64 at x))
+      → None ≡ first_place want ((element_bits b at u ++ element_bits b at v) ++ (element_bits b at w ++ element_bits b at x))
   none-of_four u v w x none =
       let three = or_none _ _ none in
       let two = or_none _ _ three in
@@ -111,6 +118,23 @@ block_whole b w = at_each_width (λ n. 256 / n * n ≡ 256) refl refl refl refl 
 -- are those of four words, if they are not wider than a word
 pub block_words : (b : ℕ) → IsWidth b → b ≤ 64 → 256 / b ≡ 4 * (64 / b)
 block_words b w = at_each_width (λ n. n ≤ 64 → 256 / n ≡ 4 * (64 / n)) (λ _. refl) (λ _. refl) (λ _. refl) (λ _. refl) (λ narrow. absurd (omega arith)) b w
+
+-- or two elements
+pub block_pair : (b : ℕ) → IsWidth b → 64 < b → 256 / b ≡ 2
+block_pair b w = at_each_width (λ n. 64 < n → 256 / n ≡ 2) (λ wide. absurd (omega arith)) (λ wide. absurd (omega arith)) (λ wide. absurd (omega arith)) (λ wide. absurd (omega arith)) (λ _. refl) b w
+
+module _ (b : ℕ) (at : ℕ → ℕ → ℕ) (xs : List ℕ) (first : ℕ) (width : IsWidth b) (wide : 64 < b) (has : HasWindow b xs (elements_window b first (256 / b))) where
+  pub pair-inside : first + 1 < length xs
+  pair-inside =
+      let two = block_pair b width wide in
+      let len = rw two at has.within.len in
+      element_of b (first + 1) 0 (length xs) (omega arith)
+
+  pub list-pair : element_bits b at (slice_index xs first) ++ element_bits b at (slice_index xs (first + 1)) ≡ list_in b at xs (elements_window b first (256 / b))
+  list-pair =
+      let inside = pair-inside in
+      rw (← list-whole b at xs first (omega arith), ← list-whole b at xs (first + 1) inside)
+      (list-join b at xs (record { start = first * b; len = b }) (record { start = (first + 1) * b; len = b }) (elements_window b first (256 / b)) has refl (omega arith) (rw (block_pair b width wide) (omega arith)))
 
 pub list-block : (b : ℕ) (at : ℕ → ℕ → ℕ) (xs : List ℕ) (first : ℕ) → IsWidth b → b ≤ 64 → HasWindow b xs (elements_window b first (256 / b))
     → (list_in b at xs (elements_window b first (64 / b)) ++ list_in b at xs (elements_window b (first + 64 / b) (64 / b)))

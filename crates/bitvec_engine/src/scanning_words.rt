@@ -44,8 +44,8 @@ pub(crate) fn words_scan_first<O: WordOrder, C: CellsRead>(
 }
 
 /// The first of the first bits of a window, and how many these are: where it begins inside an
-/// element, those of that; else those of all blocks, of one word of narrower elements, or all, as of
-/// elements wider than a word. Condition: the window isn't empty.
+/// element, those of that; else those of all blocks, of one word of narrower elements, or all.
+/// Condition: the window isn't empty.
 #[inline(always)]
 fn first_in_front<O: WordOrder, C: CellsRead>(
     cells: &mut C,
@@ -63,11 +63,7 @@ fn first_in_front<O: WordOrder, C: CellsRead>(
     let bits = C::Elem::BITS as usize;
     let inside = window.start % bits;
     let blocks = window.len / BLOCK_BITS;
-    if inside > 0
-        || window.len < WORD_BITS
-        || bits > WORD_BITS
-        || bits == WORD_BITS && blocks == 0
-    {
+    if inside > 0 || window.len < WORD_BITS || bits >= WORD_BITS && blocks == 0 {
         let count = if inside > 0 {
             window.len.min(bits - inside)
         } else {
@@ -89,7 +85,7 @@ fn first_in_front<O: WordOrder, C: CellsRead>(
     (first_in_element::<O, u64>(word, part, want), count)
 }
 
-/// The first of the elements of `count` blocks. Condition: they are not wider than a word.
+/// The first of the elements of `count` blocks.
 #[inline(always)]
 fn first_in_blocks<O: WordOrder, C: CellsRead>(
     cells: &mut C,
@@ -97,8 +93,7 @@ fn first_in_blocks<O: WordOrder, C: CellsRead>(
     count: usize,
     want: bool,
 ) -> Option<usize>
-    requires window { HasWindow C.Elem.BITS (C.numbers cells.old) (elements_window C.Elem.BITS first (count * (256 / C.Elem.BITS))) }
-    requires narrow { C.Elem.BITS ≤ 64 }
+    requires { HasWindow C.Elem.BITS (C.numbers cells.old) (elements_window C.Elem.BITS first (count * (256 / C.Elem.BITS))) }
     ensures value { result ≡ first_place want
         (list_in C.Elem.BITS O.at (C.numbers cells.old) (elements_window C.Elem.BITS first (count * (256 / C.Elem.BITS)))) }
     ensures reads { OnlyReadsAtMost C.CellsRead cells.old cells.new (count * (256 / C.Elem.BITS)) }
@@ -112,9 +107,29 @@ fn first_in_blocks<O: WordOrder, C: CellsRead>(
     None
 }
 
-/// The first of the elements of a block. Condition: they are not wider than a word.
+/// The first of the elements of a block, which are two if they are wider than a word.
 #[inline(always)]
 fn first_in_block<O: WordOrder, C: CellsRead>(
+    cells: &mut C,
+    first: usize,
+    want: bool,
+) -> Option<usize>
+    requires { HasWindow C.Elem.BITS (C.numbers cells.old) (elements_window C.Elem.BITS first (256 / C.Elem.BITS)) }
+    ensures value { result ≡ first_place want
+        (list_in C.Elem.BITS O.at (C.numbers cells.old) (elements_window C.Elem.BITS first (256 / C.Elem.BITS))) }
+    ensures reads { OnlyReads C.CellsRead cells.old cells.new (256 / C.Elem.BITS) }
+{
+    if C::Elem::BITS as usize <= WORD_BITS {
+        return first_in_narrow_block::<O, C>(cells, first, want);
+    }
+    let one = cells.load(first);
+    let two = cells.load(first + 1);
+    first_in_pair::<O, C::Elem>(one, two, want)
+}
+
+/// The first of the elements of a block. Condition: they are not wider than a word.
+#[inline(always)]
+fn first_in_narrow_block<O: WordOrder, C: CellsRead>(
     cells: &mut C,
     first: usize,
     want: bool,
@@ -133,6 +148,18 @@ fn first_in_block<O: WordOrder, C: CellsRead>(
     first_in_words::<O>(one, two, three, four, want)
 }
 
+/// The first of two elements, which are passed by one comparison if they lack the bit.
+#[inline(always)]
+fn first_in_pair<O: BitOrder, T: BitStore>(one: T, two: T, want: bool) -> Option<usize>
+    ensures { result ≡ first_place want (element_bits T.BITS O.at (T.value one) ++ element_bits T.BITS O.at (T.value two)) }
+{
+    let lacking = filled::<T>(!want);
+    if one.xor(lacking).or(two.xor(lacking)).to_u128() == 0 {
+        return None;
+    }
+    first_of_two::<O, T>(one, two, want)
+}
+
 /// The first of four words, which are passed by one comparison if they lack the bit.
 #[inline(always)]
 fn first_in_words<O: BitOrder>(
@@ -149,25 +176,26 @@ fn first_in_words<O: BitOrder>(
     if (one ^ lacking) | (two ^ lacking) | (three ^ lacking) | (four ^ lacking) == 0 {
         return None;
     }
-    if let Some(found) = first_of_two::<O>(one, two, want) {
+    if let Some(found) = first_of_two::<O, u64>(one, two, want) {
         return Some(found);
     }
-    let found = first_of_two::<O>(three, four, want)?;
+    let found = first_of_two::<O, u64>(three, four, want)?;
     Some(2 * WORD_BITS + found)
 }
 
-/// The first of two words.
-fn first_of_two<O: BitOrder>(one: u64, two: u64, want: bool) -> Option<usize>
-    ensures { result ≡ first_place want (element_bits 64 O.at one ++ element_bits 64 O.at two) }
+/// The first of two elements.
+fn first_of_two<O: BitOrder, T: BitStore>(one: T, two: T, want: bool) -> Option<usize>
+    ensures { result ≡ first_place want (element_bits T.BITS O.at (T.value one) ++ element_bits T.BITS O.at (T.value two)) }
 {
-    let word = Part {
+    let bits = T::BITS as usize;
+    let element = Part {
         element: 0,
         from: 0,
-        to: WORD_BITS,
+        to: bits,
     };
-    if let Some(found) = first_in_element::<O, u64>(one, word, want) {
+    if let Some(found) = first_in_element::<O, T>(one, element, want) {
         return Some(found);
     }
-    let found = first_in_element::<O, u64>(two, word, want)?;
-    Some(WORD_BITS + found)
+    let found = first_in_element::<O, T>(two, element, want)?;
+    Some(bits + found)
 }

@@ -10,7 +10,7 @@ ghost use Rattle.bitvec_words.specs.Elements.{elements_window, elements_window_f
 use bitvec_words::base::{BitOrder, Part, Window, first_part};
 use bitvec_words::cells::{Cells, CellsRead};
 use bitvec_words::store::BitStore;
-use bitvec_words::{WordOrder, field, field_after, joined, store_part, toward_end};
+use bitvec_words::{Carried, Lanes, Whole, WordOrder, field, field_after, store_part, toward_end};
 
 /// Copies a window whose first bit has another index in its element than that of the other window.
 /// Condition: as of [`crate::copy`], and the windows aren't empty.
@@ -148,11 +148,39 @@ fn shift_whole<O: WordOrder, C: Cells, D: CellsRead<Elem = C::Elem>>(
     ensures cost { Costs C.CellsRead left.old left.new 0 count }
     ensures right { OnlyReads D.CellsRead right.old right.new count }
 {
-    let mut last = carry;
+    if C::Elem::BITS == u128::BITS {
+        return shift_carried::<O, C, D, Lanes>(left, first, right, source, carry, skip, count);
+    }
+    shift_carried::<O, C, D, Whole<C::Elem>>(left, first, right, source, carry, skip, count)
+}
+
+/// The same, with each element carried to the next turn in a form that fits the width.
+fn shift_carried<O: WordOrder, C: Cells, D: CellsRead<Elem = C::Elem>, K: Carried<C::Elem>>(
+    left: &mut C,
+    first: usize,
+    right: &mut D,
+    source: usize,
+    carry: C::Elem,
+    skip: usize,
+    count: usize,
+) -> C::Elem
+    requires form { K.fits C.Elem.BITS }
+    requires window { HasWindow C.Elem.BITS (C.numbers left.old) (elements_window C.Elem.BITS first count) }
+    requires right_window { HasWindow C.Elem.BITS (D.numbers right.old) (elements_window_from C.Elem.BITS source skip count) }
+    requires some { 0 < skip }
+    requires bound { skip < C.Elem.BITS }
+    requires carry { C.Elem.value carry ≡ slice_index (D.numbers right.old) source }
+    ensures writes { Writes C.Elem.BITS O.at (C.numbers left.old) (C.numbers left.new) (elements_window C.Elem.BITS first count)
+        (list_in C.Elem.BITS O.at (D.numbers right.old) (elements_window_from C.Elem.BITS source skip count)) }
+    ensures carried { C.Elem.value result ≡ slice_index (D.numbers right.old) (source + count) }
+    ensures cost { Costs C.CellsRead left.old left.new 0 count }
+    ensures right { OnlyReads D.CellsRead right.old right.new count }
+{
+    let mut last = K::of(carry);
     for step in 0..count {
-        let next = right.load(source + step + 1);
-        left.store(first + step, joined::<O, C::Elem>(last, next, skip));
+        let next = K::of(right.load(source + step + 1));
+        left.store(first + step, last.joined::<O>(&next, skip));
         last = next;
     }
-    last
+    last.element()
 }

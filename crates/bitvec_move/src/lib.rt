@@ -45,8 +45,9 @@ pub mod walk {
 /// What crates above name of `bitvec_words`.
 pub mod words {
     pub use bitvec_words::{
-        BitOp, WORD_BITS, WordOrder, field, field_after, fill, invert, joined, load_field, merged,
-        moved, reversed, same_between, store_field, store_part, toward_end, toward_start,
+        BitOp, Carried, Lanes, WORD_BITS, Whole, WordOrder, field, field_after, fill, invert,
+        joined, load_field, merged, moved, reversed, same_between, store_field, store_part,
+        toward_end, toward_start,
     };
 }
 

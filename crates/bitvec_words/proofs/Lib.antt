@@ -1,1 +1,2 @@
+pub mod LaneLemmas
 pub mod TurnLemmas

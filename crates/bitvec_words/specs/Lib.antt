@@ -6,6 +6,7 @@ pub mod Field
 pub mod FieldLaws
 pub mod FieldWalkLaws
 pub mod FillingLaws
+pub mod Lanes
 pub mod MovedLaws
 pub mod Operator
 pub mod OrderEnd

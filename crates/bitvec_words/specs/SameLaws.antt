@@ -1,9 +1,9 @@
 -- When lists have the same bits: by parts side by side, and by elements whose differing bits are gathered in one number.
-use Rattle.std.specs.Prelude.{◌≡◌, ◌≢◌, ℕ, ◌+◌, ◌-◌, ◌^◌, ◌<◌, ◌≤◌, ◌⊎◌, ◌==◌, Bool, true, false, ◌&&◌, List, ◌++◌, length, take, drop, slice_range, slice_index_or, bit_and, bit_or, bit_xor, refl}
+use Rattle.std.specs.Prelude.{◌≡◌, ℕ, ◌+◌, ◌-◌, ◌^◌, ◌<◌, ◌≤◌, ◌⊎◌, ◌==◌, Bool, true, false, ◌&&◌, List, ◌++◌, length, take, drop, slice_range, slice_index_or, bit_and, bit_or, bit_xor, refl}
 use Rattle.std.specs.Int.{bit_at}
 use Rattle.std.specs.Int.Bits.{or_zero_l, xor_self}
 use Rattle.std.proofs.Common.{arith, sym, ◌∙◌, ap, subst, ⊎_elim, inl, inr}
-use Rattle.std.proofs.lemmas.Bool.{cases_lt, false_from_ne_true}
+use Rattle.std.proofs.lemmas.Bool.{cases_lt}
 use Rattle.std.proofs.lemmas.Bool.Decides.{Decides-and, Decides-eqb, Decides-like, nat_tests, same_from_decides}
 use Rattle.std.proofs.lemmas.List.{same_lists}
 use Rattle.std.proofs.lemmas.Nat.Bits.{bit_at_above, bit_at_and, bit_at_or, bit_at_xor, bit_at-lt, bit_at-zero, same_from_bits}
@@ -77,13 +77,6 @@ xor_none v w none =
     let left = bit_at-lt v i in
     let right = bit_at-lt w i in
     omega arith)
-
--- what a test of a number of differing bits tells
-pub found-some : (v n : ℕ) (same : Bool) → n ≡ v → n ≢ 0 → (v == 0) ≡ same → false ≡ same
-found-some v n same is some told = sym (false_from_ne_true (v == 0) (λ e. some (is ∙ (Decides-eqb v 0).0 e))) ∙ told
-
-pub found-none : (v n : ℕ) (same : Bool) → n ≡ v → n ≡ 0 → (v == 0) ≡ same → true ≡ same
-found-none v n same is none told = sym ((Decides-eqb v 0).1 (sym is ∙ none)) ∙ told
 
 -- ---- elements
 

@@ -1,5 +1,5 @@
 -- Whole elements of a window, from its first bit on, and what is behind them.
-use Rattle.std.specs.Prelude.{◌≡◌, ℕ, zero, suc, ◌+◌, ◌-◌, ◌*◌, ◌/◌, ◌%◌, ◌<◌, ◌≤◌, true, List, [], ◌++◌, length, refl}
+use Rattle.std.specs.Prelude.{◌≡◌, ℕ, ◌+◌, ◌-◌, ◌*◌, ◌/◌, ◌%◌, ◌<◌, ◌≤◌, true, List, [], ◌++◌, length, refl}
 use Rattle.std.proofs.Common.{arith, sym, ◌∙◌, ap, ⊎_elim}
 use Rattle.std.proofs.lemmas.Bool.{cases_lt}
 use Rattle.std.proofs.lemmas.Nat.{div-add-mod', mod_below, mod-mul-add}
@@ -13,8 +13,8 @@ use Rattle.bitvec_cells.specs.base.Window.{window_after, window_of, window_until
 use Rattle.bitvec_cells.specs.base.WritesLaws.{length-list, list-join}
 use Rattle.bitvec_cells.specs.Cost.{touched}
 use Rattle.bitvec_words.specs.Elements.{elements_window, elements_window_from}
-use Rattle.bitvec_words.specs.TouchedLaws.{touched-edge, touched-first, touched-from, touched-inside, touched-whole}
-use Rattle.bitvec_cells.specs.WalkLaws.{div-order, first-len, touched-none, touched-some}
+use Rattle.bitvec_words.specs.TouchedLaws.{touched-first, touched-from, touched-inside}
+use Rattle.bitvec_cells.specs.WalkLaws.{first-len, touched-none}
 
 -- m elements that a window of n bits has
 pub whole_fits : (b n m : ℕ) → m ≤ n / b → m * b ≤ n

@@ -2,9 +2,11 @@
 //! and fields of words, loaded and stored; windows filled and flipped.
 #![tactic(auto)]
 
+mod carried;
 mod element;
 mod fields;
 mod filling;
+mod lanes;
 mod operator;
 mod part;
 mod word_order;
@@ -34,9 +36,11 @@ pub mod walk {
     };
 }
 
+pub use carried::{Carried, Whole};
 pub use element::{joined, merged, reversed, same_between, toward_end, toward_start};
 pub use fields::{WORD_BITS, load_field, moved, store_field};
 pub use filling::{fill, invert};
+pub use lanes::Lanes;
 pub use operator::BitOp;
 pub use part::{field, field_after, store_part};
 pub use word_order::WordOrder;

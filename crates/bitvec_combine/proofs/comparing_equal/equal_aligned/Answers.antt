@@ -1,9 +1,9 @@
-use Rattle.std.proofs.Common.{◌≡◌, ◌≤◌, ℕ, ◌+◌, ◌*◌, ◌/◌, arith, rules, ◌∙◌}
+use Rattle.std.proofs.Common.{◌≡◌, ◌≤◌, ℕ, ◌+◌, ◌*◌, ◌/◌, arith, rules, sym, ◌∙◌}
 use Rattle.std.proofs.Math.Nat.{mul-le-mul_left}
 use Rattle.std.proofs.lemmas.Nat.{div-add-mod'}
 use Rattle.bitvec_move.specs.words.Elements.{elements_window}
 use Rattle.bitvec_move.specs.store.WidthLaws.{width_some}
-use Rattle.bitvec_move.specs.words.SameLaws.{found-none, found-some, same-apart, same-then}
+use Rattle.bitvec_move.specs.words.SameLaws.{same-apart, same-then}
 use Rattle.bitvec_move.specs.words.TouchedLaws.{touched-after}
 use Rattle.bitvec_move.specs.words.WholeLaws.{HasWindow-part, list-elements, long-elements, whole_fits}
 use Rattle.bitvec_combine.proofs.comparing_equal.equal_aligned.Goals as goal
@@ -30,8 +30,8 @@ differences-found-requires-clause-right_window g c =
     let lengths = c.requires.lengths in
     rw (c.BITS-bits.ensures, c.loop-test.invariant.right.numbers) (HasWindow-part b (g.D.CellsRead.numbers c.args.right.now) c.args.right_window (elements_window b (c.args.right_window.start / b + c.loop-test.test * k) k) c.requires.right_window (omega arith) (omega arith))
 
-pub returns-then-to_u128-ne0-clause-value : goal.returns-then-to_u128-ne0-clause-value
-returns-then-to_u128-ne0-clause-value g c =
+pub returns-then-not-is_zero-clause-value : goal.returns-then-not-is_zero-clause-value
+returns-then-not-is_zero-clause-value g c =
     let b = g.C.Elem.BitStore.BITS in
     let inv = c.loop-test.invariant in
     let k = c.elements_per_test-span.result in
@@ -46,11 +46,11 @@ returns-then-to_u128-ne0-clause-value g c =
     (long-elements _ _ _ _ _ _ passed k c.requires.window c.requires.right_window c.requires.edge c.requires.right_edge fits other_fits)
     (list-elements _ _ _ _ passed k c.requires.window c.requires.edge fits)
     (list-elements _ _ _ _ passed k c.requires.right_window c.requires.right_edge other_fits)
-    (found-some _ _ _ c.to_u128.ensures.number c.if-to_u128-ne0.true told)
+    (sym c.if-not-is_zero.true ∙ c.is_zero.ensures ∙ told)
     ∙ inv.same
 
-pub returns-then-to_u128-ne0-clause-reads : goal.returns-then-to_u128-ne0-clause-reads
-returns-then-to_u128-ne0-clause-reads g c =
+pub returns-then-not-is_zero-clause-reads : goal.returns-then-not-is_zero-clause-reads
+returns-then-not-is_zero-clause-reads g c =
     let b = g.C.Elem.BitStore.BITS in
     let k = c.elements_per_test-span.result in
     let passed : ℕ = c.loop-test.test * k in
@@ -61,8 +61,8 @@ returns-then-to_u128-ne0-clause-reads g c =
     let before = c.loop-test.invariant.reads in
     record { numbers = search rules; borrow = search rules; loads = omega arith; stores = search rules }
 
-pub returns-then-to_u128-ne0-clause-right : goal.returns-then-to_u128-ne0-clause-right
-returns-then-to_u128-ne0-clause-right g c =
+pub returns-then-not-is_zero-clause-right : goal.returns-then-not-is_zero-clause-right
+returns-then-not-is_zero-clause-right g c =
     let b = g.C.Elem.BitStore.BITS in
     let k = c.elements_per_test-span.result in
     let passed : ℕ = c.loop-test.test * k in
@@ -92,7 +92,7 @@ loop-test-preserved g c =
           (long-elements _ _ _ _ _ _ passed k c.requires.window c.requires.right_window c.requires.edge c.requires.right_edge fits other_fits)
           (list-elements _ _ _ _ passed k c.requires.window c.requires.edge fits)
           (list-elements _ _ _ _ passed k c.requires.right_window c.requires.right_edge other_fits)
-          (found-none _ _ _ c.to_u128.ensures.number c.if-to_u128-ne0.false told)
+          (sym c.if-not-is_zero.false ∙ c.is_zero.ensures ∙ told)
           ∙ inv.same);
       reads = search rules;
       right = search rules;

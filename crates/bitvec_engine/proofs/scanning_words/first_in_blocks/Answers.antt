@@ -20,7 +20,7 @@ loop-step-preserved g c =
     let inv = c.loop-step.invariant in
     let here = rw (c.BITS.ensures, inv.reads.numbers) at c.in_default.ensures.value in
     record {
-      none = first-block_lacks g.C.Elem.BitStore.BITS g.O.BitOrder.at _ c.args.first c.args.count _ g.met.C.Elem.BitStore.width_law c.requires.window c.args.want c.loop-step-test.true inv.none here;
+      none = first-block_lacks g.C.Elem.BitStore.BITS g.O.BitOrder.at _ c.args.first c.args.count _ g.met.C.Elem.BitStore.width_law c.requires c.args.want c.loop-step-test.true inv.none here;
       reads = search rules;
     }
 
@@ -28,35 +28,35 @@ pub returns-in-Some-clause-value : goal.returns-in-Some-clause-value
 returns-in-Some-clause-value g c =
     let inv = c.loop-step.invariant in
     let here = rw (c.BITS.ensures, inv.reads.numbers) at c.in-Some.ensures.value in
-    first-block_has g.C.Elem.BitStore.BITS g.O.BitOrder.at _ c.args.first c.args.count _ g.met.C.Elem.BitStore.width_law c.requires.window c.args.want c.loop-step-test.true inv.none _ here
+    first-block_has g.C.Elem.BitStore.BITS g.O.BitOrder.at _ c.args.first c.args.count _ g.met.C.Elem.BitStore.width_law c.requires c.args.want c.loop-step-test.true inv.none _ here
 
 pub overflow_add-result : goal.overflow_add-result
 overflow_add-result g c =
     let b = g.C.Elem.BitStore.BITS in
     let inv = c.loop-step.invariant in
     let here = rw (c.BITS.ensures, inv.reads.numbers) at c.in-Some.ensures.value in
-    let found = first-block_has b g.O.BitOrder.at _ c.args.first c.args.count _ g.met.C.Elem.BitStore.width_law c.requires.window c.args.want c.loop-step-test.true inv.none _ here in
-    let below = first-inside b g.O.BitOrder.at _ (elements_window b c.args.first (c.args.count * (256 / b))) c.args.want _ c.requires.window found in
-    let fits = c.requires.window.fits in
-    let bound = c.requires.window.within.len in
+    let found = first-block_has b g.O.BitOrder.at _ c.args.first c.args.count _ g.met.C.Elem.BitStore.width_law c.requires c.args.want c.loop-step-test.true inv.none _ here in
+    let below = first-inside b g.O.BitOrder.at _ (elements_window b c.args.first (c.args.count * (256 / b))) c.args.want _ c.requires found in
+    let fits = c.requires.fits in
+    let bound = c.requires.within.len in
     omega arith
 
 pub first_in_block-requires : goal.first_in_block-requires
 first_in_block-requires g c =
     let b = g.C.Elem.BitStore.BITS in
     let order = mul-le-mul_left (256 / b) c.loop-step-test.true in
-    rw (c.BITS.ensures, c.loop-step.invariant.reads.numbers) (record { window = HasWindow-elements b g.O.BitOrder.at _ c.args.first (c.args.count * (256 / b)) c.requires.window (c.args.first + c.loop-step.step * (256 / b)) (256 / b) (omega arith) (omega arith); narrow = c.requires.narrow })
+    rw (c.BITS.ensures, c.loop-step.invariant.reads.numbers) (HasWindow-elements b g.O.BitOrder.at _ c.args.first (c.args.count * (256 / b)) c.requires (c.args.first + c.loop-step.step * (256 / b)) (256 / b) (omega arith) (omega arith))
 
 pub overflow_mul-step : goal.overflow_mul-step
 overflow_mul-step g c =
     let b = g.C.Elem.BitStore.BITS in
     let order = mul-le-mul_left (256 / b) c.loop-step-test.true in
-    let bound = elements-bound b g.O.BitOrder.at _ c.args.first (c.args.count * (256 / b)) c.requires.window (width_some b g.met.C.Elem.BitStore.width_law) in
+    let bound = elements-bound b g.O.BitOrder.at _ c.args.first (c.args.count * (256 / b)) c.requires (width_some b g.met.C.Elem.BitStore.width_law) in
     rw c.BITS.ensures (omega arith)
 
 pub overflow_add-first : goal.overflow_add-first
 overflow_add-first g c =
     let b = g.C.Elem.BitStore.BITS in
     let order = mul-le-mul_left (256 / b) c.loop-step-test.true in
-    let bound = elements-bound b g.O.BitOrder.at _ c.args.first (c.args.count * (256 / b)) c.requires.window (width_some b g.met.C.Elem.BitStore.width_law) in
+    let bound = elements-bound b g.O.BitOrder.at _ c.args.first (c.args.count * (256 / b)) c.requires (width_some b g.met.C.Elem.BitStore.width_law) in
     rw c.BITS.ensures (omega arith)

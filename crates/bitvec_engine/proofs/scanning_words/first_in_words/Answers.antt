@@ -5,7 +5,7 @@ use Rattle.bitvec_engine.proofs.WordScanLemmas.{length-two, none-of_four}
 use Rattle.bitvec_engine.proofs.scanning_words.first_in_words.Goals as goal
 
 pub returns-then-one-lacking-eq0 : goal.returns-then-one-lacking-eq0
-returns-then-one-lacking-eq0 g c = none-of_four g.O.BitOrder.at (g.met.O.BitOrder.permutes 64 (search rules)) _ c.args.want c.filled-lacking.ensures _ _ _ _ c.if-one-lacking-eq0.true
+returns-then-one-lacking-eq0 g c = none-of_four 64 g.O.BitOrder.at (g.met.O.BitOrder.permutes 64 (search rules)) _ c.args.want c.filled-lacking.ensures _ _ _ _ c.if-one-lacking-eq0.true
 
 pub returns-in-Some : goal.returns-in-Some
 returns-in-Some g c = first-front c.args.want _ _ _ _ c.in-Some.ensures refl

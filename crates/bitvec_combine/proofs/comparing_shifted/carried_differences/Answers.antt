@@ -6,13 +6,13 @@ use Rattle.bitvec_move.specs.words.Elements.{elements_window, elements_window_fr
 use Rattle.bitvec_move.specs.words.FieldLaws.{list-element, list-joined}
 use Rattle.bitvec_move.specs.words.SameLaws.{same-element}
 use Rattle.bitvec_move.specs.words.WholeLaws.{HasWindow-part, same-empty, same-length}
-use Rattle.bitvec_combine.proofs.comparing_shifted.shifted_differences.Goals as goal
+use Rattle.bitvec_combine.proofs.comparing_shifted.carried_differences.Goals as goal
 
 pub loop-step-init : goal.loop-step-init
 loop-step-init g c = record {
   found = ap (λ (n : ℕ). n == 0) (ap g.C.Elem.BitStore.value c.ZERO-found.ensures ∙ g.met.C.Elem.BitStore.zero_law)
       ∙ same-empty _ _ _ _ _ _ (omega arith) (omega arith);
-  carried = c.requires.carry ∙ ap (slice_index (g.D.CellsRead.numbers c.args.right.now)) (omega arith);
+  carried = c.of-last.ensures ∙ c.requires.carry ∙ ap (slice_index (g.D.CellsRead.numbers c.args.right.now)) (omega arith);
   reads = search rules;
   right = search rules;
 }
@@ -29,7 +29,7 @@ loop-step-preserved g c =
     let more = c.loop-step-test.true in
     let order = mul-le-mul_left b more in
     let value = rw inv.reads.numbers at c.load-element.ensures.value in
-    let next = rw inv.right.numbers at c.load-next.ensures.value in
+    let next = c.of-next.ensures ∙ rw inv.right.numbers at c.load.ensures.value in
     let joined = rw (inv.carried, next) at c.joined-other.ensures in
     let number = rw c.xor.ensures at c.or-found.ensures in
     let long = same-length b at xs ys (elements_window b c.args.first step) (elements_window_from b c.args.source c.args.skip step)

@@ -2,12 +2,12 @@ use Rattle.std.proofs.Common.{◌∙◌, ap, arith, rules, slice_index}
 use Rattle.bitvec_words.specs.store.WidthLaws.{width_some}
 use Rattle.bitvec_words.specs.base.WritesLaws.{Writes-is}
 use Rattle.bitvec_words.specs.FieldLaws.{Writes-element, Writes-no_element, list-joined}
-use Rattle.bitvec_move.proofs.copying_shifted.shift_whole.Goals as goal
+use Rattle.bitvec_move.proofs.copying_shifted.shift_carried.Goals as goal
 
 pub loop-step-init : goal.loop-step-init
 loop-step-init g c = record {
   writes = Writes-no_element _ _ _ _ _ _ _ c.requires.window (omega arith);
-  carried = c.requires.carry ∙ ap (slice_index (g.D.CellsRead.numbers c.args.right.now)) (omega arith);
+  carried = c.of-last.ensures ∙ c.requires.carry ∙ ap (slice_index (g.D.CellsRead.numbers c.args.right.now)) (omega arith);
   cost = search rules;
   right = search rules;
 }
@@ -16,7 +16,7 @@ pub loop-step-preserved : goal.loop-step-preserved
 loop-step-preserved g c =
     let inv = c.loop-step.invariant in
     let some = width_some _ g.met.C.Elem.BitStore.width_law in
-    let value = rw inv.right.numbers at c.load-next.ensures.value in
+    let value = c.of-next.ensures ∙ rw inv.right.numbers at c.load.ensures.value in
     let joined = rw (inv.carried, value) at c.joined.ensures in
     let more = c.loop-step-test.true in
     record {

@@ -4,7 +4,7 @@ use Rattle.bitvec_move.specs.base.Memory.{Writes, list_in}
 use Rattle.bitvec_move.specs.cells.Access.{Costs, OnlyReads}
 use Rattle.bitvec_move.specs.words.Elements.{elements_window, elements_window_from}
 use Rattle.bitvec_move.specs.words.Operator.{operator}
-use Rattle.bitvec_combine.proofs.combining_elements.combine_joined.Given as goal
+use Rattle.bitvec_combine.proofs.combining_elements.combine_carried.Given as goal
 
 abbrev pub invariant-loop-step : goal.invariant-loop-step
 invariant-loop-step g l =
@@ -14,7 +14,7 @@ invariant-loop-step g l =
     let part = elements_window b l.first l.step in
     record {
       writes : Writes b at before (g.C.CellsRead.numbers l.left) part (combined (operator l.op) (list_in b at before part) (list_in b at (g.D.CellsRead.numbers l.fn.right) (elements_window_from b l.source l.skip l.step)));
-      carried : g.C.Elem.BitStore.value l.last ≡ slice_index (g.D.CellsRead.numbers l.fn.right) (l.source + l.step);
+      carried : g.K.Carried.value l.last ≡ slice_index (g.D.CellsRead.numbers l.fn.right) (l.source + l.step);
       cost : Costs g.C.CellsRead l.fn.left l.left l.step l.step;
       right : OnlyReads g.D.CellsRead l.fn.right l.right l.step;
     }

@@ -7,12 +7,12 @@ use Rattle.bitvec_move.specs.words.CombinedLaws.{Writes-combined, combined-none,
 use Rattle.bitvec_move.specs.words.Elements.{elements_window}
 use Rattle.bitvec_move.specs.words.FieldLaws.{list-joined}
 use Rattle.bitvec_move.specs.words.Operator.{operator}
-use Rattle.bitvec_combine.proofs.combining_elements.combine_joined.Goals as goal
+use Rattle.bitvec_combine.proofs.combining_elements.combine_carried.Goals as goal
 
 pub loop-step-init : goal.loop-step-init
 loop-step-init g c = record {
   writes = combined-none _ _ _ _ _ _ _ c.requires.window;
-  carried = c.requires.carry ∙ ap (slice_index (g.D.CellsRead.numbers c.args.right.now)) (omega arith);
+  carried = c.of-last.ensures ∙ c.requires.carry ∙ ap (slice_index (g.D.CellsRead.numbers c.args.right.now)) (omega arith);
   cost = search rules;
   right = search rules;
 }
@@ -24,7 +24,7 @@ loop-step-preserved g c =
     let inv = c.loop-step.invariant in
     let some = width_some _ g.met.C.Elem.BitStore.width_law in
     let more = c.loop-step-test.true in
-    let value = rw inv.right.numbers at c.load-next.ensures.value in
+    let value = c.of-next.ensures ∙ rw inv.right.numbers at c.load.ensures.value in
     let joined = rw (inv.carried, value) at c.joined-other.ensures in
     let made = rw (c.load-element.ensures.value, joined) at c.of_elements.ensures in
     let list = list_in b at (g.C.CellsRead.numbers c.args.left.now) (elements_window b c.args.first (c.loop-step.step + 1)) in

@@ -1,0 +1,187 @@
+-- Elements of 128 bits as two words: their bits, and words joined at both places.
+use Rattle.std.specs.Prelude.{◌≡◌, ℕ, ◌+◌, ◌-◌, ◌*◌, ◌/◌, ◌%◌, ◌^◌, ◌<◌, ◌≤◌, ◌==◌, ◌||◌, Bool, true, false, List, [], ◌∷◌, ◌++◌, length, take, drop, slice_index, slice_index_or, bit_or, refl}
+use Rattle.std.specs.Int.{bit_at}
+use Rattle.std.specs.Simd.Lanes.{zip2}
+use Rattle.std.proofs.Common.{arith, rules, sym, ◌∙◌, ap, ⊎_elim, length-append}
+use Rattle.std.proofs.lemmas.Bool.{cases_lt}
+use Rattle.std.proofs.lemmas.List.{same_lists, places}
+use Rattle.std.proofs.lemmas.Nat.{mod_below, or_lt, pow_pos, shr_le}
+use Rattle.std.proofs.lemmas.Nat.Bits.{bit_at_cat_low, bit_at_cat_high}
+use Rattle.bitvec_cells.specs.base.Lists.{combined, shifted_start, shifted_end}
+use Rattle.bitvec_cells.specs.base.Memory.{element_bits}
+use Rattle.bitvec_cells.specs.base.MemoryLaws.{get-element_bits, length-element_bits}
+use Rattle.bitvec_words.specs.ElementLaws.{element-or}
+use Rattle.bitvec_words.specs.Lanes.{AreJoined, AreWords, IsJoined, number_of_words, words_between}
+use Rattle.bitvec_words.specs.OrderEnd.{RunsFrom}
+use Rattle.bitvec_words.specs.OrderEndLaws.{shl-high, shl-low, shr-high, shr-low}
+use Rattle.bitvec_words.specs.ShiftedLaws.{shifted-joined}
+
+-- ---- one word joined of two
+
+or_of : (at : ℕ → ℕ → ℕ) (k x y v w : ℕ) → k < 64
+    → element_bits 64 at v ≡ shifted_start k (element_bits 64 at x)
+    → element_bits 64 at w ≡ shifted_end (63 - k) (shifted_end 1 (element_bits 64 at y))
+    → IsJoined at k x y (bit_or v w)
+or_of at k x y v w bound first second =
+    element-or 64 at v w
+    ∙ ap (λ (l : List Bool). combined ◌||◌ l (element_bits 64 at w)) first
+    ∙ ap (combined ◌||◌ (shifted_start k (element_bits 64 at x))) second
+    ∙ shifted-joined 64 64 k _ _ (length-element_bits 64 at x) (length-element_bits 64 at y) refl bound
+
+joined-low : (high : Bool) (at : ℕ → ℕ → ℕ) → RunsFrom high 64 at → high ≡ false → (k x y : ℕ) → k < 64 → x < 2 ^ 64
+    → IsJoined at k x y (bit_or (x / 2 ^ k) (y * 2 ^ 1 % 2 ^ 64 * 2 ^ (63 - k) % 2 ^ 64))
+joined-low high at ends is k x y bound small =
+    or_of at k x y _ _ bound (shr-low high 64 at ends is x k small bound)
+    (shl-low high 64 at ends is (y * 2 ^ 1 % 2 ^ 64) (63 - k) (omega arith)
+    ∙ ap (shifted_end (63 - k)) (shl-low high 64 at ends is y 1 (omega arith)))
+
+joined-high : (high : Bool) (at : ℕ → ℕ → ℕ) → RunsFrom high 64 at → high ≡ true → (k x y : ℕ) → k < 64 → y < 2 ^ 64
+    → IsJoined at k x y (bit_or (x * 2 ^ k % 2 ^ 64) (y / 2 ^ 1 / 2 ^ (63 - k)))
+joined-high high at ends is k x y bound small =
+    or_of at k x y _ _ bound (shl-high high 64 at ends is x k bound)
+    (shr-high high 64 at ends is (y / 2 ^ 1) (63 - k) (omega arith) (omega arith)
+    ∙ ap (shifted_end (63 - k)) (shr-high high 64 at ends is y 1 small (omega arith)))
+
+-- ---- both
+
+-- what holds of each list of two words
+two_words : (P : List ℕ → Type 0) → ((x y : ℕ) → x < 2 ^ 64 → y < 2 ^ 64 → P (x ∷ y ∷ [])) → (words : List ℕ) → AreWords words → P words
+two_words P p [] h = absurd (omega (arith, h.two))
+two_words P p (x ∷ []) h = absurd (omega (arith, h.two))
+two_words P p (x ∷ y ∷ []) h = p x y h.low h.high
+two_words P p (x ∷ y ∷ z ∷ words) h = absurd (omega (arith, h.two))
+
+-- the words that the shifts make, where the order starts at the least significant bit, and where at the most
+abbrev low_words : ℕ → List ℕ → List ℕ → List ℕ
+low_words k first second = zip2 bit_or (zip2 (λ x n. x / 2 ^ n) first (k ∷ k ∷ []))
+    (zip2 (λ x n. x * 2 ^ n % 2 ^ 64) (zip2 (λ x n. x * 2 ^ n % 2 ^ 64) second (1 ∷ 1 ∷ [])) ((63 - k) ∷ (63 - k) ∷ []))
+
+abbrev high_words : ℕ → List ℕ → List ℕ → List ℕ
+high_words k first second = zip2 bit_or (zip2 (λ x n. x * 2 ^ n % 2 ^ 64) first (k ∷ k ∷ []))
+    (zip2 (λ x n. x / 2 ^ n) (zip2 (λ x n. x / 2 ^ n) second (1 ∷ 1 ∷ [])) ((63 - k) ∷ (63 - k) ∷ []))
+
+-- those words
+abbrev Joins : (ℕ → ℕ → ℕ) → ℕ → List ℕ → List ℕ → List ℕ → Type 0
+Joins at k first second words = AreWords words × AreJoined at k first second words
+
+down : (x n : ℕ) → x < 2 ^ 64 → x / 2 ^ n < 2 ^ 64
+down x n small = let less = shr_le x n in omega arith
+
+up : (x : ℕ) → x % 2 ^ 64 < 2 ^ 64
+up x = mod_below x (2 ^ 64) (pow_pos 64)
+
+words_of-two : (v w : ℕ) → v < 2 ^ 64 → w < 2 ^ 64 → AreWords (v ∷ w ∷ [])
+words_of-two v w hv hw = record { two = refl; low = hv; high = hw }
+
+pub words-joined-low : (high : Bool) (at : ℕ → ℕ → ℕ) → RunsFrom high 64 at → high ≡ false → (k : ℕ) → k < 64 → (first second : List ℕ) → AreWords first → AreWords second → Joins at k first second (low_words k first second)
+words-joined-low high at ends is k bound first second one other =
+    two_words (λ first. Joins at k first second (low_words k first second))
+    (λ x y hx hy. two_words (λ second. Joins at k (x ∷ y ∷ []) second (low_words k (x ∷ y ∷ []) second))
+    (λ z w hz hw. (
+      words_of-two _ _ (or_lt 64 _ _ (down x k hx) (up _)) (or_lt 64 _ _ (down y k hy) (up _)),
+      record { low = joined-low high at ends is k x z bound hx; high = joined-low high at ends is k y w bound hy },
+    ))
+    second other)
+    first one
+
+pub words-joined-high : (high : Bool) (at : ℕ → ℕ → ℕ) → RunsFrom high 64 at → high ≡ true → (k : ℕ) → k < 64 → (first second : List ℕ) → AreWords first → AreWords second → Joins at k first second (high_words k first second)
+words-joined-high high at ends is k bound first second one other =
+    two_words (λ first. Joins at k first second (high_words k first second))
+    (λ x y hx hy. two_words (λ second. Joins at k (x ∷ y ∷ []) second (high_words k (x ∷ y ∷ []) second))
+    (λ z w hz hw. (
+      words_of-two _ _ (or_lt 64 _ _ (up _) (down _ (63 - k) (down z 1 hz))) (or_lt 64 _ _ (up _) (down _ (63 - k) (down w 1 hw))),
+      record { low = joined-high high at ends is k x z bound hz; high = joined-high high at ends is k y w bound hw },
+    ))
+    second other)
+    first one
+
+-- ---- the bits of two words
+
+front : (list other : List Bool) (n i : ℕ) (d : Bool) → length list ≡ n → i < n → slice_index_or (list ++ other) i d ≡ slice_index_or list i d
+front list other n i d long low = grind (arith, places)
+
+back : (list other : List Bool) (n i : ℕ) (d : Bool) → length list ≡ n → n ≤ i → slice_index_or (list ++ other) i d ≡ slice_index_or other (i - n) d
+back list other n i d long high = grind (arith, places)
+
+halves : (at : ℕ → ℕ → ℕ) (v first second : ℕ)
+    → ((i : ℕ) → i < 64 → bit_at v (at 128 i) ≡ bit_at first (at 64 i))
+    → ((i : ℕ) → 64 ≤ i → i < 128 → bit_at v (at 128 i) ≡ bit_at second (at 64 (i - 64)))
+    → element_bits 128 at v ≡ element_bits 64 at first ++ element_bits 64 at second
+halves at v first second one other =
+    let whole = length-element_bits 128 at v in
+    let before = length-element_bits 64 at first in
+    let behind = length-element_bits 64 at second in
+    let both = length-append (element_bits 64 at first) (element_bits 64 at second) in
+    same_lists _ _ (omega arith) (λ i d inside.
+    let below : i < 128 = omega arith in
+    get-element_bits 128 at v i d below ∙ ⊎_elim
+    (λ (low : i < 64). ap (λ (n : ℕ). n == 1) (one i low)
+    ∙ sym (front (element_bits 64 at first) (element_bits 64 at second) 64 i d before low ∙ get-element_bits 64 at first i d low))
+    (λ (high : 64 ≤ i). ap (λ (n : ℕ). n == 1) (other i high below)
+    ∙ sym (back (element_bits 64 at first) (element_bits 64 at second) 64 i d before high ∙ get-element_bits 64 at second (i - 64) d (omega arith)))
+    (cases_lt i 64))
+
+halves-low : (at : ℕ → ℕ → ℕ) → ((b : ℕ) → RunsFrom false b at) → (x y : ℕ) → x < 2 ^ 64 → element_bits 128 at (y * 2 ^ 64 + x) ≡ element_bits 64 at x ++ element_bits 64 at y
+halves-low at ends x y small =
+    halves at (y * 2 ^ 64 + x) x y
+    (λ i low. ap (bit_at (y * 2 ^ 64 + x)) (ends 128 i (omega arith)) ∙ bit_at_cat_low y 64 x i low ∙ ap (bit_at x) (sym (ends 64 i low)))
+    (λ i high below. ap (bit_at (y * 2 ^ 64 + x)) (ends 128 i below) ∙ bit_at_cat_high y 64 x i small high ∙ ap (bit_at y) (sym (ends 64 (i - 64) (omega arith))))
+
+halves-high : (at : ℕ → ℕ → ℕ) → ((b : ℕ) → RunsFrom true b at) → (x y : ℕ) → x < 2 ^ 64 → element_bits 128 at (y * 2 ^ 64 + x) ≡ element_bits 64 at y ++ element_bits 64 at x
+halves-high at ends x y small =
+    halves at (y * 2 ^ 64 + x) y x
+    (λ i low.
+    let place : 128 - 1 - i - 64 ≡ 64 - 1 - i = omega arith in
+    ap (bit_at (y * 2 ^ 64 + x)) (ends 128 i (omega arith)) ∙ bit_at_cat_high y 64 x (128 - 1 - i) small (omega arith) ∙ ap (bit_at y) (place ∙ sym (ends 64 i low)))
+    (λ i high below.
+    let place : 128 - 1 - i ≡ 64 - 1 - (i - 64) = omega arith in
+    ap (bit_at (y * 2 ^ 64 + x)) (ends 128 i below) ∙ bit_at_cat_low y 64 x (128 - 1 - i) (omega arith) ∙ ap (bit_at x) (place ∙ sym (ends 64 (i - 64) (omega arith))))
+
+-- ---- four lists of one length, joined from a place in the first one, and in the second
+
+joined-before : (n k : ℕ) (p q r s : List Bool) → length p ≡ n → length q ≡ n → length r ≡ n → length s ≡ n → k ≤ n
+    → (drop k p ++ take k q) ++ (drop k q ++ take k r) ≡ drop k (p ++ q) ++ take k (r ++ s)
+joined-before n k p q r s hp hq hr hs bound = same_lists _ _ (search (rules, places)) (λ i d inside. grind (arith, places))
+
+joined-behind : (n k : ℕ) (p q r s : List Bool) → length p ≡ n → length q ≡ n → length r ≡ n → length s ≡ n → k ≤ n
+    → (drop k q ++ take k r) ++ (drop k r ++ take k s) ≡ drop (n + k) (p ++ q) ++ take (n + k) (r ++ s)
+joined-behind n k p q r s hp hq hr hs bound = same_lists _ _ (search (rules, places)) (λ i d inside. grind (arith, places))
+
+-- ---- numbers of two words, joined
+
+pub number-joined-before : (high : Bool) (at : ℕ → ℕ → ℕ) → ((b : ℕ) → RunsFrom high b at) → (k : ℕ) → k ≤ 64 → (first second between words : List ℕ)
+    → AreWords first → AreWords second → AreWords words → between ≡ words_between high first second → AreJoined at k first between words
+    → element_bits 128 at (number_of_words words) ≡ drop k (element_bits 128 at (number_of_words first)) ++ take k (element_bits 128 at (number_of_words second))
+number-joined-before true at ends k bound first second between words one other made is joined =
+    let j = rw is at joined in
+    rw (halves-high at ends _ _ one.low, halves-high at ends _ _ other.low, halves-high at ends _ _ made.low, j.low, j.high)
+    (joined-before 64 k _ _ _ _ (length-element_bits 64 at _) (length-element_bits 64 at _) (length-element_bits 64 at _) (length-element_bits 64 at _) bound)
+number-joined-before false at ends k bound first second between words one other made is joined =
+    let j = rw is at joined in
+    rw (halves-low at ends _ _ one.low, halves-low at ends _ _ other.low, halves-low at ends _ _ made.low, j.low, j.high)
+    (joined-before 64 k _ _ _ _ (length-element_bits 64 at _) (length-element_bits 64 at _) (length-element_bits 64 at _) (length-element_bits 64 at _) bound)
+
+pub number-joined-behind : (high : Bool) (at : ℕ → ℕ → ℕ) → ((b : ℕ) → RunsFrom high b at) → (k skip : ℕ) → k ≤ 64 → skip ≡ 64 + k → (first second between words : List ℕ)
+    → AreWords first → AreWords second → AreWords words → between ≡ words_between high first second → AreJoined at k between second words
+    → element_bits 128 at (number_of_words words) ≡ drop skip (element_bits 128 at (number_of_words first)) ++ take skip (element_bits 128 at (number_of_words second))
+number-joined-behind true at ends k skip bound sum first second between words one other made is joined =
+    let j = rw is at joined in
+    rw (sum, halves-high at ends _ _ one.low, halves-high at ends _ _ other.low, halves-high at ends _ _ made.low, j.low, j.high)
+    (joined-behind 64 k _ _ _ _ (length-element_bits 64 at _) (length-element_bits 64 at _) (length-element_bits 64 at _) (length-element_bits 64 at _) bound)
+number-joined-behind false at ends k skip bound sum first second between words one other made is joined =
+    let j = rw is at joined in
+    rw (sum, halves-low at ends _ _ one.low, halves-low at ends _ _ other.low, halves-low at ends _ _ made.low, j.low, j.high)
+    (joined-behind 64 k _ _ _ _ (length-element_bits 64 at _) (length-element_bits 64 at _) (length-element_bits 64 at _) (length-element_bits 64 at _) bound)
+
+-- the two words between
+pub between-high : (high : Bool) (first second : List ℕ) → high ≡ true → AreWords first → AreWords second
+    → slice_index_or (second ++ first) 1 0 ∷ slice_index_or (second ++ first) 2 0 ∷ [] ≡ words_between high first second
+between-high high first second is one other = rw is
+    (two_words (λ first. slice_index_or (second ++ first) 1 0 ∷ slice_index_or (second ++ first) 2 0 ∷ [] ≡ slice_index second 1 ∷ slice_index first 0 ∷ [])
+    (λ x y hx hy. two_words (λ second. slice_index_or (second ++ (x ∷ y ∷ [])) 1 0 ∷ slice_index_or (second ++ (x ∷ y ∷ [])) 2 0 ∷ [] ≡ slice_index second 1 ∷ x ∷ []) (λ z w hz hw. refl) second other) first one)
+
+pub between-low : (high : Bool) (first second : List ℕ) → high ≡ false → AreWords first → AreWords second
+    → slice_index_or (first ++ second) 1 0 ∷ slice_index_or (first ++ second) 2 0 ∷ [] ≡ words_between high first second
+between-low high first second is one other = rw is
+    (two_words (λ first. slice_index_or (first ++ second) 1 0 ∷ slice_index_or (first ++ second) 2 0 ∷ [] ≡ slice_index first 1 ∷ slice_index second 0 ∷ [])
+    (λ x y hx hy. two_words (λ second. slice_index_or ((x ∷ y ∷ []) ++ second) 1 0 ∷ slice_index_or ((x ∷ y ∷ []) ++ second) 2 0 ∷ [] ≡ y ∷ slice_index second 0 ∷ []) (λ z w hz hw. refl) second other) first one)
