@@ -1,3 +1,6 @@
 pub mod Answered
+mod DifferenceLemmas
+mod DirectionLemmas
 pub mod References
 mod Steps
+mod WordLemmas

@@ -1,6 +1,8 @@
 pub mod Asked
 pub mod AskedLaws
 pub mod Cited
+pub mod Difference
+pub mod Direction
 pub mod Feeding
 pub mod FeedingLaws
 pub mod Listing
@@ -10,6 +12,7 @@ pub mod References
 pub use Rattle.bitvec_engine.specs.base as base
 pub use Rattle.bitvec_engine.specs.cells as cells
 pub use Rattle.bitvec_engine.specs as engine
+pub use Rattle.bitvec_engine.specs.moves as moves
 pub use Rattle.bitvec_engine.specs.store as store
 pub use Rattle.bitvec_engine.specs.walk as walk
 pub use Rattle.bitvec_engine.specs.words as words

@@ -5,10 +5,12 @@ ghost use Rattle.std.specs.Ordering.{bool_cmp};
 ghost use Rattle.bitvec_engine.specs.base.Lists.{same_bits};
 ghost use Rattle.bitvec_engine.specs.base.Memory.{HasWindow, list_in};
 
+use crate::bits::bit_in;
+use crate::difference::common_bits;
+use bitvec_engine::SliceOrder;
 use bitvec_engine::base::{BitOrder, Window};
 use bitvec_engine::cells::Shared;
 use bitvec_engine::store::BitStore;
-use bitvec_engine::{SliceOrder, bits_eq, compare};
 use std::cmp::Ordering;
 
 /// How many bits [`compare_block_in`] passes at a time where they are equal.
@@ -27,9 +29,10 @@ pub fn eq_in<T: BitStore, O: BitOrder, U: BitStore, P: BitOrder>(
     ensures { result ≡ same_bits (list_in T.BITS O.at (map T.value left.now) left_window)
         (list_in U.BITS P.at (map U.value right.now) right_window) }
 {
-    let mut left = Shared::new(left);
-    let mut right = Shared::new(right);
-    bits_eq::<O, P, Shared<T>, Shared<U>>(&mut left, left_window, &mut right, right_window)
+    if left_window.len != right_window.len {
+        return false;
+    }
+    common_bits::<T, O, U, P>(left, left_window, right, right_window) == left_window.len
 }
 
 /// Whether two windows have the same bits, of elements of the same type and order, as the order
@@ -62,9 +65,13 @@ pub fn compare_in<T: BitStore, O: BitOrder, U: BitStore, P: BitOrder>(
     ensures { result ≡ slice_cmp bool_cmp (list_in T.BITS O.at (map T.value left.now) left_window)
         (list_in U.BITS P.at (map U.value right.now) right_window) }
 {
-    let mut left = Shared::new(left);
-    let mut right = Shared::new(right);
-    compare::<O, P, Shared<T>, Shared<U>>(&mut left, left_window, &mut right, right_window)
+    let common = common_bits::<T, O, U, P>(left, left_window, right, right_window);
+    if common < left_window.len.min(right_window.len) {
+        let bit = bit_in::<T, O>(left, left_window, common);
+        let other = bit_in::<U, P>(right, right_window, common);
+        return bit.cmp(&other);
+    }
+    left_window.len.cmp(&right_window.len)
 }
 
 /// How the bits of two windows compare, as lists of truth values do, of elements of the same type

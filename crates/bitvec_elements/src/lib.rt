@@ -9,6 +9,8 @@ mod comparing;
 mod copying;
 mod copying_within;
 mod counting;
+mod difference;
+mod direction;
 mod equality;
 mod feeding;
 mod filling;
@@ -22,6 +24,7 @@ mod scanning;
 mod shifting;
 mod swapping;
 mod texts;
+mod window_words;
 
 /// What crates above name of `bitvec_base`.
 pub mod base {

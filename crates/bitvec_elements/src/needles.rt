@@ -3,10 +3,11 @@ ghost use Rattle.std.specs.Prelude.{◌≡◌, map};
 ghost use Rattle.bitvec_engine.specs.base.Lists.{is_prefix, is_suffix, stands_in};
 ghost use Rattle.bitvec_engine.specs.base.Memory.{HasWindow, list_in};
 
+use crate::comparing::eq_in;
 use bitvec_engine::base::{BitOrder, Window};
+use bitvec_engine::bits_contains;
 use bitvec_engine::cells::Shared;
 use bitvec_engine::store::BitStore;
-use bitvec_engine::{bits_contains, bits_ends_with, bits_starts_with};
 
 /// Whether the bits of the right window begin those of the left one. Condition: each memory has at
 /// most `MAX_BITS` bits, and each window lies in its memory.
@@ -21,9 +22,11 @@ pub fn starts_with_in<T: BitStore, O: BitOrder, U: BitStore, P: BitOrder>(
     ensures { result ≡ is_prefix (list_in U.BITS P.at (map U.value right.now) right_window)
         (list_in T.BITS O.at (map T.value left.now) left_window) }
 {
-    let mut left = Shared::new(left);
-    let mut right = Shared::new(right);
-    bits_starts_with::<O, P, Shared<T>, Shared<U>>(&mut left, left_window, &mut right, right_window)
+    if right_window.len > left_window.len {
+        return false;
+    }
+    let head = left_window.range(0, right_window.len);
+    eq_in::<T, O, U, P>(left, head, right, right_window)
 }
 
 /// Whether the bits of the right window end those of the left one. Condition: as of
@@ -39,9 +42,11 @@ pub fn ends_with_in<T: BitStore, O: BitOrder, U: BitStore, P: BitOrder>(
     ensures { result ≡ is_suffix (list_in U.BITS P.at (map U.value right.now) right_window)
         (list_in T.BITS O.at (map T.value left.now) left_window) }
 {
-    let mut left = Shared::new(left);
-    let mut right = Shared::new(right);
-    bits_ends_with::<O, P, Shared<T>, Shared<U>>(&mut left, left_window, &mut right, right_window)
+    if right_window.len > left_window.len {
+        return false;
+    }
+    let tail = left_window.range(left_window.len - right_window.len, left_window.len);
+    eq_in::<T, O, U, P>(left, tail, right, right_window)
 }
 
 /// Whether the bits of the right window stand in those of the left one, from some index on.

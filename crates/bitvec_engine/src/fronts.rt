@@ -78,7 +78,8 @@ pub fn bits_lowest_first<O: BitOrder>(word: u64) -> u64
 /// The bits of a part of an element under one order as the first bits of a word under another; the
 /// word's other bits are 0. Condition: `from <= to`, `to` is at most the width, and the part has at
 /// most 64 bits.
-fn gathered<O: BitOrder, P: BitOrder, T: BitStore>(element: T, part: Part) -> u64
+#[inline(always)]
+pub fn gathered<O: BitOrder, P: BitOrder, T: BitStore>(element: T, part: Part) -> u64
     requires order { part.from ≤ part.to }
     requires bound { part.to ≤ T.BITS }
     requires fits { part.to ≤ part.from + 64 }

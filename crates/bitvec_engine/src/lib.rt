@@ -47,7 +47,7 @@ pub mod comparisons {
 
 /// The copies of `bitvec_move` that crates above name.
 pub mod copy {
-    pub use bitvec_combine::moves::{copy, copy_within};
+    pub use bitvec_combine::moves::{copy, copy_within, load_elements};
 }
 
 /// The exchanges of `bitvec_move` that crates above name.
@@ -85,7 +85,7 @@ pub use comparing::{bits_eq, compare};
 pub use copying::bits_copy;
 pub use copying_within::bits_copy_within;
 pub use counting::{count, count_zeros};
-pub use fronts::{bits_load_front, bits_lowest_first};
+pub use fronts::{bits_load_front, bits_lowest_first, gathered};
 pub use needles::{contains, ends_with, starts_with};
 pub use reversing::{bits_reverse, reverse};
 pub use rotating::{rotate_left, rotate_right};

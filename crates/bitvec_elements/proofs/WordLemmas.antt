@@ -1,0 +1,46 @@
+-- Words of a window: of two elements side by side, and one part more of them.
+use Rattle.std.specs.Prelude.{◌≡◌, ℕ, ◌+◌, ◌-◌, ◌<◌, ◌≤◌, Bool, false, List, ◌++◌, drop, length, replicate, slice_index, slice_range, take, bit_or}
+use Rattle.std.proofs.Common.{arith, rules, sym, ◌∙◌, ap}
+use Rattle.std.proofs.lemmas.List.{places, same_lists}
+use Rattle.bitvec_elements.specs.base.declared.window.Window.{Window}
+use Rattle.bitvec_elements.specs.base.Memory.{HasWindow, element_bits, list_in}
+use Rattle.bitvec_elements.specs.base.Parts.{first_part_of, part_window}
+use Rattle.bitvec_elements.specs.base.Window.{window_after, write_at}
+use Rattle.bitvec_elements.specs.walk.Walk.{Walked, passed}
+use Rattle.bitvec_elements.specs.walk.WalkLaws.{first-len, length-first, length-passed, list-next}
+use Rattle.bitvec_elements.specs.words.Field.{padded}
+use Rattle.bitvec_elements.specs.words.FieldLaws.{list-part}
+use Rattle.bitvec_elements.specs.words.FieldWalkLaws.{HasPart-first}
+use Rattle.bitvec_elements.specs.words.MovedLaws.{element-joined}
+
+-- 64 values from the index `skip` of an element on, which is at most as wide as a word
+pub word-joined : (list : List Bool) (a b skip : ℕ) → skip < b → b ≤ 64 → a + 64 + b ≤ length list
+    → drop skip (slice_range list a (a + 64)) ++ take skip (write_at (replicate 64 false) 0 (slice_range (slice_range list (a + 64) (a + 64 + b)) 0 (0 + b))) ≡ slice_range list (a + skip) (a + skip + 64)
+unfolding write_at
+word-joined list a b skip below narrow fits = same_lists _ _ (search (rules, places)) (λ k d inside. grind (arith, places))
+
+-- a word that has one part more of a window, its bits gathered to the start of another word
+front_of : (list : List Bool) (t : ℕ) → t ≡ length list → slice_range (padded 64 list) 0 (0 + t) ≡ list
+unfolding padded
+front_of list t long = same_lists _ _ (search (rules, places)) (λ k d inside. grind (arith, places))
+
+pub gathered-next : (b : ℕ) (at to : ℕ → ℕ → ℕ) (xs : List ℕ) (window rest : Window) (t n word element first moved : ℕ) → 0 < b → 0 < rest.len → window.len ≤ 64 → t ≡ (first_part_of b rest).to - (first_part_of b rest).from → n ≡ window.len - rest.len → HasWindow b xs window → Walked b window rest
+    → element ≡ slice_index xs (first_part_of b rest).element
+    → element_bits 64 to first ≡ padded 64 (slice_range (element_bits b at element) (first_part_of b rest).from (first_part_of b rest).to)
+    → element_bits 64 to moved ≡ write_at (replicate 64 false) n (slice_range (element_bits 64 to first) 0 (0 + t))
+    → element_bits 64 to word ≡ padded 64 (list_in b at xs (passed window rest))
+    → element_bits 64 to (bit_or word moved) ≡ padded 64 (list_in b at xs (passed window (window_after t rest)))
+gathered-next b at to xs window rest t n word element first moved some more size step count has walk loaded gathered put held =
+    let start = walk.start in
+    let end = walk.end in
+    let part = first_part_of b rest in
+    let len = first-len b rest some more in
+    let before = length-passed b at xs window rest has walk in
+    let next = length-first b at xs window rest some more has walk in
+    let holds = list-part b at xs part (HasPart-first b xs window rest some more has walk) in
+    let bits : slice_range (element_bits b at element) part.from part.to ≡ list_in b at xs (part_window b part) =
+    ap (λ (v : ℕ). slice_range (element_bits b at v) part.from part.to) loaded ∙ sym holds in
+    let front : slice_range (element_bits 64 to first) 0 (0 + t) ≡ list_in b at xs (part_window b part) =
+    ap (λ (l : List Bool). slice_range l 0 (0 + t)) (gathered ∙ ap (padded 64) bits) ∙ front_of (list_in b at xs (part_window b part)) t (omega arith) in
+    element-joined 64 to word moved n (list_in b at xs (passed window rest)) (list_in b at xs (part_window b part)) (omega arith) (omega arith) held (put ∙ ap (λ (l : List Bool). write_at (replicate 64 false) n l) front)
+    ∙ ap (padded 64) (list-next b at xs window rest t some more step has walk)

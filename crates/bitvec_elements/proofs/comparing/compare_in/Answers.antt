@@ -1,0 +1,15 @@
+use Rattle.std.proofs.Common.{arith}
+use Rattle.bitvec_elements.specs.base.CompareLaws.{order-same}
+use Rattle.bitvec_elements.specs.base.WritesLaws.{length-list}
+use Rattle.bitvec_elements.proofs.DifferenceLemmas.{common-differ}
+use Rattle.bitvec_elements.proofs.comparing.compare_in.Goals as goal
+
+pub returns-then-common-min : goal.returns-then-common-min
+returns-then-common-min g c =
+    let left = length-list _ g.O.BitOrder.at _ _ c.requires.window in
+    let right = length-list _ g.P.BitOrder.at _ _ c.requires.right_window in
+    rw c.cmp.ensures (common-differ _ _ c.common_bits-common.result _ _ c.common_bits-common.ensures (omega arith) c.bit_in-bit.ensures c.bit_in-other.ensures)
+
+pub returns : goal.returns
+returns g c =
+    rw c.cmp-2.ensures (order-same _ _ _ _ c.common_bits-common.result (length-list _ _ _ _ c.requires.window) (length-list _ _ _ _ c.requires.right_window) (omega arith) c.common_bits-common.ensures.same)

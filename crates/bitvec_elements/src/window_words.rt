@@ -1,0 +1,93 @@
+//! The bits of a window of a slice, up to 64 of them, as the first bits of a word under an order that
+//! runs from one end of it to the other.
+ghost use Rattle.std.specs.Prelude.{◌≡◌, ◌≤◌, map};
+ghost use Rattle.bitvec_engine.specs.base.Memory.{HasWindow, element_bits, list_in};
+ghost use Rattle.bitvec_engine.specs.words.Field.{padded};
+ghost use Rattle.bitvec_elements.specs.Direction.{Runs};
+
+use crate::direction::Direction;
+use bitvec_engine::base::{BitOrder, Lsb0, Msb0, Window, first_part};
+use bitvec_engine::cells::{CellsRead, Shared};
+use bitvec_engine::copy::load_elements;
+use bitvec_engine::gathered;
+use bitvec_engine::store::BitStore;
+use bitvec_engine::words::{WORD_BITS, WordOrder, joined, load_field, moved, reversed};
+
+/// The bits of a window as the first bits of a word; the others are 0. Conditions: the window has at
+/// most 64 bits and lies in a memory of at most `MAX_BITS` bits, and the order runs as said.
+#[inline(always)]
+pub(crate) fn window_word<W: WordOrder, O: BitOrder, T: BitStore>(
+    elements: &[T],
+    window: Window,
+    direction: Direction,
+) -> u64
+    requires window { HasWindow T.BITS (map T.value elements.now) window }
+    requires size { window.len ≤ 64 }
+    requires runs { Runs direction T.BITS O.at }
+    ensures { element_bits 64 W.at result
+        ≡ padded 64 (list_in T.BITS O.at (map T.value elements.now) window) }
+{
+    match direction {
+        Direction::Up => turned::<Lsb0, W>(run_word::<Lsb0, T>(elements, window)),
+        Direction::Down => turned::<Msb0, W>(run_word::<Msb0, T>(elements, window)),
+        Direction::Other => gathered_word::<W, O, T>(elements, window),
+    }
+}
+
+/// The word that has under the order `W` the bits of a word under `V`.
+#[inline(always)]
+fn turned<V: WordOrder, W: WordOrder>(word: u64) -> u64
+    ensures { element_bits 64 W.at result ≡ element_bits 64 V.at word }
+{
+    if V::HIGH == W::HIGH {
+        word
+    } else {
+        reversed::<V, u64>(word)
+    }
+}
+
+/// [`window_word`] of an order that runs from one end to the other: 64 bits of elements that aren't
+/// wider are loaded as one word, and what is left of them with the next element.
+#[inline(always)]
+fn run_word<W: WordOrder, T: BitStore>(elements: &[T], window: Window) -> u64
+    requires window { HasWindow T.BITS (map T.value elements.now) window }
+    requires size { window.len ≤ 64 }
+    ensures { element_bits 64 W.at result
+        ≡ padded 64 (list_in T.BITS W.at (map T.value elements.now) window) }
+{
+    let mut cells = Shared::new(elements);
+    let bits = T::BITS as usize;
+    if window.len < WORD_BITS || bits > WORD_BITS {
+        return load_field::<W, Shared<T>>(&mut cells, window);
+    }
+    let (first, skip) = (window.start / bits, window.start % bits);
+    let word = load_elements::<W, Shared<T>>(&mut cells, first);
+    if skip == 0 {
+        return word;
+    }
+    let next = cells.load(first + WORD_BITS / bits);
+    let behind = moved::<W, T, u64>(next, 0, bits, 0);
+    joined::<W, u64>(word, behind, skip)
+}
+
+/// [`window_word`] of any order: each element is loaded once, and its bits are gathered one by one.
+fn gathered_word<W: WordOrder, O: BitOrder, T: BitStore>(elements: &[T], window: Window) -> u64
+    requires window { HasWindow T.BITS (map T.value elements.now) window }
+    requires size { window.len ≤ 64 }
+    ensures { element_bits 64 W.at result
+        ≡ padded 64 (list_in T.BITS O.at (map T.value elements.now) window) }
+{
+    let mut cells = Shared::new(elements);
+    let bits = T::BITS as usize;
+    let mut word = 0;
+    let mut rest = window;
+    while rest.len > 0 {
+        let part = first_part(bits, rest);
+        let count = part.len();
+        let element = cells.load(part.element);
+        let first = gathered::<O, W, T>(element, part);
+        word |= moved::<W, u64, u64>(first, 0, count, window.len - rest.len);
+        rest = rest.after(count);
+    }
+    word
+}
