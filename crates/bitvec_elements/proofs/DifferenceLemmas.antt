@@ -36,11 +36,11 @@ unlike true true told e = absurd cc
 
 -- ---- lists with zeros behind them
 
-in_padded : (b : ℕ) (list : List Bool) (k : ℕ) → k < length list → slice_index_or (padded b list) k false ≡ slice_index_or list k false
+pub in_padded : (b : ℕ) (list : List Bool) (k : ℕ) → k < length list → slice_index_or (padded b list) k false ≡ slice_index_or list k false
 unfolding padded
 in_padded b list k inside = grind (arith, places)
 
-past_padded : (b : ℕ) (list : List Bool) (k : ℕ) → length list ≤ k → k < b → slice_index_or (padded b list) k false ≡ false
+pub past_padded : (b : ℕ) (list : List Bool) (k : ℕ) → length list ≤ k → k < b → slice_index_or (padded b list) k false ≡ false
 unfolding padded
 past_padded b list k behind below = grind (arith, places)
 

@@ -25,7 +25,7 @@ place-agrees : (b : ℕ) (at other : ℕ → ℕ → ℕ) (xs : List ℕ) (j : �
 unfolding place_bit
 place-agrees b at other xs j some agrees = ap (λ (n : ℕ). bit_at (slice_index xs (j / b)) n == 1) (agrees (j % b) (mod_below j b some))
 
-memory-agrees : (b : ℕ) (at other : ℕ → ℕ → ℕ) (xs : List ℕ) → 0 < b → Agrees b at other → memory_bits b at xs ≡ memory_bits b other xs
+pub memory-agrees : (b : ℕ) (at other : ℕ → ℕ → ℕ) (xs : List ℕ) → 0 < b → Agrees b at other → memory_bits b at xs ≡ memory_bits b other xs
 memory-agrees b at other xs some agrees =
     let left = length-memory_bits b at xs in
     let right = length-memory_bits b other xs in

@@ -3,4 +3,5 @@ mod DifferenceLemmas
 mod DirectionLemmas
 pub mod References
 mod Steps
+mod StoreLemmas
 mod WordLemmas

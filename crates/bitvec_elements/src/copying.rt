@@ -2,9 +2,12 @@
 ghost use Rattle.std.specs.Prelude.{◌≡◌, map};
 ghost use Rattle.bitvec_engine.specs.base.Memory.{HasWindow, Writes, list_in};
 
-use bitvec_engine::base::{BitOrder, Window};
+use crate::direction::{Direction, direction_of};
+use crate::window_words::{window_word, word_end};
+use bitvec_engine::base::{BitOrder, Lsb0, Msb0, Window};
 use bitvec_engine::cells::{Exclusive, Shared};
 use bitvec_engine::store::BitStore;
+use bitvec_engine::words::{WordOrder, store_field};
 use bitvec_engine::{SliceOrder, bits_copy};
 
 /// Copies the bits of the right window, of elements of any type and order. Condition: each memory
@@ -21,9 +24,45 @@ pub fn copy_from_in<T: BitStore, O: BitOrder, U: BitStore, P: BitOrder>(
     ensures writes { Writes T.BITS O.at (map T.value left.old) (map T.value left.new) left_window
         (list_in U.BITS P.at (map U.value right.now) right_window) }
 {
-    let mut left = Exclusive::new(left);
-    let mut right = Shared::new(right);
-    bits_copy::<O, P, Exclusive<T>, Shared<U>>(&mut left, left_window, &mut right, right_window);
+    match direction_of::<O, T>() {
+        Direction::Up => copy_words::<Lsb0, T, U, P>(left, left_window, right, right_window),
+        Direction::Down => copy_words::<Msb0, T, U, P>(left, left_window, right, right_window),
+        Direction::Other => {
+            let mut cells = Exclusive::new(left);
+            let mut source = Shared::new(right);
+            bits_copy::<O, P, Exclusive<T>, Shared<U>>(
+                &mut cells,
+                left_window,
+                &mut source,
+                right_window,
+            );
+        }
+    }
+}
+
+/// [`copy_from_in`] under an order that runs from one end of an element to the other, up to 64 bits
+/// at a time as a word.
+fn copy_words<W: WordOrder, T: BitStore, U: BitStore, P: BitOrder>(
+    left: &mut [T],
+    left_window: Window,
+    right: &[U],
+    right_window: Window,
+)
+    requires window { HasWindow T.BITS (map T.value left.old) left_window }
+    requires right_window { HasWindow U.BITS (map U.value right.now) right_window }
+    requires lengths { left_window.len ≡ right_window.len }
+    ensures writes { Writes T.BITS W.at (map T.value left.old) (map T.value left.new) left_window
+        (list_in U.BITS P.at (map U.value right.now) right_window) }
+{
+    let direction = direction_of::<P, U>();
+    let mut cells = Exclusive::new(left);
+    let mut from = 0;
+    while from < left_window.len {
+        let to = word_end(left_window, from);
+        let word = window_word::<W, P, U>(right, right_window.range(from, to), direction);
+        store_field::<W, Exclusive<T>>(&mut cells, left_window.range(from, to), word);
+        from = to;
+    }
 }
 
 /// Copies the bits of the right window, of elements of the same type and order, as the order does

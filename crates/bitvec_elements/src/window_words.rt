@@ -1,7 +1,8 @@
 //! The bits of a window of a slice, up to 64 of them, as the first bits of a word under an order that
 //! runs from one end of it to the other.
-ghost use Rattle.std.specs.Prelude.{◌≡◌, ◌≤◌, map};
+ghost use Rattle.std.specs.Prelude.{◌≡◌, ◌+◌, ◌<◌, ◌≤◌, map};
 ghost use Rattle.bitvec_engine.specs.base.Memory.{HasWindow, element_bits, list_in};
+ghost use Rattle.bitvec_engine.specs.base.Window.{max_bits};
 ghost use Rattle.bitvec_engine.specs.words.Field.{padded};
 ghost use Rattle.bitvec_elements.specs.Direction.{Runs};
 
@@ -12,6 +13,21 @@ use bitvec_engine::copy::load_elements;
 use bitvec_engine::gathered;
 use bitvec_engine::store::BitStore;
 use bitvec_engine::words::{WORD_BITS, WordOrder, joined, load_field, moved, reversed};
+
+/// Where the word of 64 bits of the memory ends that has a window's index, or the window where that is
+/// before. Condition: the index is below the window's length, and the window ends in a memory of at
+/// most `MAX_BITS` bits.
+#[inline(always)]
+pub(crate) fn word_end(window: Window, from: usize) -> usize
+    requires inside { from < window.len }
+    requires fits { window.start + window.len ≤ max_bits }
+    ensures further { from < result }
+    ensures bound { result ≤ window.len }
+    ensures size { result ≤ from + 64 }
+{
+    let edge = from + WORD_BITS - (window.start + from) % WORD_BITS;
+    edge.min(window.len)
+}
 
 /// The bits of a window as the first bits of a word; the others are 0. Conditions: the window has at
 /// most 64 bits and lies in a memory of at most `MAX_BITS` bits, and the order runs as said.
