@@ -112,3 +112,14 @@ fn wider_elements(rt: HostRuntime) {
     sweep::<u128, Msb0, _>(&rt, &mut [0; 3]);
     sweep::<u128, HiLo, _>(&rt, &mut [0; 3]);
 }
+
+#[test]
+fn blocks(rt: HostRuntime) {
+    for start in [0, 1] {
+        let window = Window { start, len: 700 };
+        finds_each_place::<u8, Lsb0, _>(&rt, &mut [0; 88], window);
+        finds_each_place::<u64, Msb0, _>(&rt, &mut [0; 11], window);
+        finds_each_place::<u128, Lsb0, _>(&rt, &mut [0; 6], window);
+        finds_each_place::<u128, Msb0, _>(&rt, &mut [0; 6], window);
+    }
+}
