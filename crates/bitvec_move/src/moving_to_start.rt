@@ -10,7 +10,7 @@ use crate::moving_edge::move_edge;
 use bitvec_words::base::{BitOrder, Window, first_part};
 use bitvec_words::cells::Cells;
 use bitvec_words::store::BitStore;
-use bitvec_words::{WordOrder, joined};
+use bitvec_words::{Carried, Lanes, Whole, WordOrder};
 
 /// Moves the bits of a window to another, of the same length, that begins no later. Condition: both
 /// lie in the memory, and aren't empty.
@@ -119,10 +119,36 @@ fn shift_whole_to_start<O: WordOrder, C: Cells>(
         (list_in C.Elem.BITS O.at (C.numbers cells.old) (elements_window_from C.Elem.BITS source skip count)) }
     ensures cost { Costs C.CellsRead cells.old cells.new (count + 1) count }
 {
-    let mut last = cells.load(source);
+    if C::Elem::BITS == u128::BITS {
+        shift_carried_to_start::<O, C, Lanes>(cells, first, source, skip, count);
+    } else {
+        shift_carried_to_start::<O, C, Whole<C::Elem>>(cells, first, source, skip, count);
+    }
+}
+
+/// The same, with each element carried to the next turn in a form that fits the width.
+#[inline(always)]
+fn shift_carried_to_start<O: WordOrder, C: Cells, K: Carried<C::Elem>>(
+    cells: &mut C,
+    first: usize,
+    source: usize,
+    skip: usize,
+    count: usize,
+)
+    requires form { K.fits C.Elem.BITS }
+    requires window { HasWindow C.Elem.BITS (C.numbers cells.old) (elements_window C.Elem.BITS first count) }
+    requires source { HasWindow C.Elem.BITS (C.numbers cells.old) (elements_window_from C.Elem.BITS source skip count) }
+    requires some { 0 < skip }
+    requires bound { skip < C.Elem.BITS }
+    requires towards_start { first ≤ source }
+    ensures writes { Writes C.Elem.BITS O.at (C.numbers cells.old) (C.numbers cells.new) (elements_window C.Elem.BITS first count)
+        (list_in C.Elem.BITS O.at (C.numbers cells.old) (elements_window_from C.Elem.BITS source skip count)) }
+    ensures cost { Costs C.CellsRead cells.old cells.new (count + 1) count }
+{
+    let mut last = K::of(cells.load(source));
     for step in 0..count {
-        let next = cells.load(source + step + 1);
-        cells.store(first + step, joined::<O, C::Elem>(last, next, skip));
+        let next = K::of(cells.load(source + step + 1));
+        cells.store(first + step, last.joined::<O>(&next, skip));
         last = next;
     }
 }

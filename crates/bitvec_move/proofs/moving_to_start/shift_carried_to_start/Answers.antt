@@ -4,7 +4,7 @@ use Rattle.bitvec_words.specs.base.Memory.{element_bits}
 use Rattle.bitvec_words.specs.base.WritesLaws.{Writes-is}
 use Rattle.bitvec_words.specs.FieldLaws.{Writes-element, Writes-no_element, list-joined}
 use Rattle.bitvec_move.specs.WithinLaws.{element-left}
-use Rattle.bitvec_move.proofs.moving_to_start.shift_whole_to_start.Goals as goal
+use Rattle.bitvec_move.proofs.moving_to_start.shift_carried_to_start.Goals as goal
 
 pub loop-step-init : goal.loop-step-init
 loop-step-init g c =
@@ -12,8 +12,8 @@ loop-step-init g c =
     let at = g.O.BitOrder.at in
     let old = g.C.CellsRead.numbers c.args.cells.now in
     record {
-      writes = rw c.load-last.ensures.numbers (Writes-no_element _ _ _ _ _ _ _ c.requires.window (omega arith));
-      carried = rw c.load-last.ensures.value (ap (λ (e : ℕ). element_bits b at (slice_index old e)) (omega arith));
+      writes = rw c.load.ensures.numbers (Writes-no_element _ _ _ _ _ _ _ c.requires.window (omega arith));
+      carried = rw (c.of-last.ensures, c.load.ensures.value) (ap (λ (e : ℕ). element_bits b at (slice_index old e)) (omega arith));
       cost = search rules;
     }
 
@@ -28,12 +28,12 @@ loop-step-preserved g c =
     let more = c.loop-step-test.true in
     let towards = c.requires.towards_start in
     let kept = element-left b at _ _ c.args.first c.args.count step (c.args.source + step + 1) _ c.requires.window (omega arith) (omega arith) inv.writes in
-    let joined = rw (inv.carried, c.load-next.ensures.value, kept) at c.joined.ensures in
+    let joined = rw (inv.carried, c.of-next.ensures, c.load-in-loop-step.ensures.value, kept) at c.joined.ensures in
     record {
-      writes = rw (c.store.ensures.numbers, c.load-next.ensures.numbers)
+      writes = rw (c.store.ensures.numbers, c.load-in-loop-step.ensures.numbers)
           (Writes-is _ _ _ _ _ _ _
           (Writes-element _ _ _ _ _ _ _ _ _ some c.requires.window more inv.writes)
           (rw joined (list-joined _ _ _ _ _ _ _ c.requires.some c.requires.bound c.requires.source more)));
-      carried = rw (c.load-next.ensures.value, kept) (ap (λ (e : ℕ). element_bits b at (slice_index old e)) (omega arith));
+      carried = rw (c.of-next.ensures, c.load-in-loop-step.ensures.value, kept) (ap (λ (e : ℕ). element_bits b at (slice_index old e)) (omega arith));
       cost = search rules;
     }

@@ -2,14 +2,14 @@ use Rattle.std.proofs.Common.{◌≡◌, ◌<◌, ◌+◌, ◌-◌, arith, rules
 use Rattle.bitvec_words.specs.store.WidthLaws.{width_some}
 use Rattle.bitvec_words.specs.base.WritesLaws.{Writes-is}
 use Rattle.bitvec_move.specs.WithinLaws.{Writes-element_ahead, Writes-no_element_ahead, element-left_ahead, list-joined_ahead}
-use Rattle.bitvec_move.proofs.moving_to_end.shift_whole_to_end.Goals as goal
+use Rattle.bitvec_move.proofs.moving_to_end.shift_carried_to_end.Goals as goal
 
 pub loop-step-init : goal.loop-step-init
 loop-step-init g c =
     let none : c.args.count - c.args.count ≡ 0 = omega arith in
     record {
-      writes = rw c.load-last.ensures.numbers (Writes-no_element_ahead _ _ _ _ c.args.count _ _ c.requires.window none (rw none (omega arith)));
-      carried = rw c.load-last.ensures.value refl;
+      writes = rw c.load.ensures.numbers (Writes-no_element_ahead _ _ _ _ c.args.count _ _ c.requires.window none (rw none (omega arith)));
+      carried = rw (c.of-last.ensures, c.load.ensures.value) refl;
       cost = rw none (search rules);
     }
 
@@ -23,12 +23,12 @@ loop-step-preserved g c =
     let more : 0 < left = omega arith in
     let moved : count - (left - 1) ≡ count - left + 1 = omega arith in
     let kept = element-left_ahead _ _ _ _ c.args.first count left (count - left) (c.args.source + (left - 1)) _ c.requires.window (omega arith) (omega arith) inv.writes in
-    let joined = rw (inv.carried, c.load-next.ensures.value, kept) at c.joined.ensures in
+    let joined = rw (inv.carried, c.of-next.ensures, c.load-in-loop-step.ensures.value, kept) at c.joined.ensures in
     record {
-      writes = rw (c.store.ensures.numbers, c.load-next.ensures.numbers)
+      writes = rw (c.store.ensures.numbers, c.load-in-loop-step.ensures.numbers)
           (Writes-is _ _ _ _ _ _ _
           (Writes-element_ahead _ _ _ _ _ _ _ _ _ some c.requires.window more (omega arith) inv.writes)
           (rw joined (list-joined_ahead _ _ _ _ _ _ _ c.requires.some c.requires.bound c.requires.source more (omega arith))));
-      carried = rw (c.load-next.ensures.value, kept) refl;
+      carried = rw (c.of-next.ensures, c.load-in-loop-step.ensures.value, kept) refl;
       cost = rw moved (search rules);
     }
