@@ -17,7 +17,7 @@ pub use Rattle.bitvec_pieces.specs.cutting.Walks as PieceWalks
 pub use Rattle.bitvec_owned.specs.edit.domain.Cuts
 pub use Rattle.bitvec_owned.specs.edit.domain.Parts
 pub use Rattle.bitvec_owned.specs.edit.domain.Values as DomainValues
-pub use Rattle.bitvec_owned.specs.edit.Swaps
+pub use Rattle.bitvec_owned.specs.edit.elements.Swaps
 pub use Rattle.bitvec_owned.specs.edit.UndoLaws
 pub use Rattle.bitvec_owned.specs.edit.elements.Asked
 pub use Rattle.bitvec_field.specs.Fields

@@ -1,2 +1,0 @@
-mod Edges
-mod Swapped

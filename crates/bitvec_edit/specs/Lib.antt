@@ -8,5 +8,4 @@ pub mod store
 pub mod traits
 pub mod walk
 pub mod words
-pub mod Swaps
 pub mod UndoLaws

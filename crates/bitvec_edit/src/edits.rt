@@ -7,7 +7,7 @@ ghost use Rattle.bitvec_slice.specs.words.Operator.{operator};
 ghost use Rattle.bitvec_slice.specs.words.declared.operator.BitOp.TheVariants.{And, Or, Xor};
 ghost use Rattle.bitvec_slice.specs.Views.{seen, seen_mut};
 ghost use Rattle.bitvec_slice.specs.Writes.{WritesBits};
-ghost use Rattle.bitvec_edit.specs.Swaps.{LieApart, swapped_within};
+ghost use Rattle.bitvec_edit.specs.elements.Swaps.{LieApart, swapped_within};
 
 use bitvec_slice::base::BitOrder;
 use bitvec_slice::store::BitStore;

@@ -5,12 +5,11 @@ ghost use Rattle.bitvec_slice.specs.Views.{seen, seen_mut};
 ghost use Rattle.bitvec_slice.specs.Writes.{WritesBits};
 
 use crate::BitEdits;
-use crate::swapping::swap_within_in;
 use bitvec_slice::base::BitOrder;
 use bitvec_slice::elements::{
     combine_in, copy_from_in, copy_within_in, fill_in, fill_with_in, for_each_in, invert_in,
     replace_in, reverse_in, rotate_left_in, rotate_right_in, set_in, shift_end_in, shift_start_in,
-    swap_in, swap_with_in,
+    swap_in, swap_with_in, swap_within_in,
 };
 use bitvec_slice::engine::{BitOp, SliceOrder};
 use bitvec_slice::store::BitStore;

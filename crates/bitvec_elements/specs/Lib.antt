@@ -9,6 +9,7 @@ pub mod Listing
 pub mod ListingLaws
 pub mod OrderLaws
 pub mod References
+pub mod Swaps
 pub use Rattle.bitvec_engine.specs.base as base
 pub use Rattle.bitvec_engine.specs.cells as cells
 pub use Rattle.bitvec_engine.specs as engine

@@ -23,6 +23,7 @@ mod rotating;
 mod scanning;
 mod shifting;
 mod swapping;
+mod swapping_within;
 mod texts;
 mod window_words;
 
@@ -110,3 +111,4 @@ pub use rotating::{rotate_left_in, rotate_right_in};
 pub use scanning::{all_in, any_in, first_in, last_in};
 pub use shifting::{shift_end_in, shift_start_in};
 pub use swapping::{swap_with_block_in, swap_with_in};
+pub use swapping_within::swap_within_in;

@@ -1,5 +1,4 @@
 -- What crates above name of `bitvec_edit`.
-pub use Rattle.bitvec_edit.specs.Swaps
 pub use Rattle.bitvec_edit.specs.UndoLaws
 pub use Rattle.bitvec_edit.specs.base
 pub use Rattle.bitvec_edit.specs.domain

@@ -6,16 +6,16 @@ ghost use Rattle.bitvec_owned.specs.Owned.{owned};
 ghost use Rattle.bitvec_owned.specs.Writes.{WritesOwned};
 
 use crate::BitVec;
+use bitvec_edit::BitEdits;
 use bitvec_edit::base::BitOrder;
 use bitvec_edit::elements::{
     combine_in, copy_from_in, copy_within_in, fill_in, fill_with_in, for_each_in, invert_in,
     replace_in, reverse_in, rotate_left_in, rotate_right_in, set_in, shift_end_in, shift_start_in,
-    swap_in, swap_with_in,
+    swap_in, swap_with_in, swap_within_in,
 };
 use bitvec_edit::engine::{BitOp, SliceOrder};
 use bitvec_edit::slice::{BitSlice, BitSliceMut, RawElements};
 use bitvec_edit::store::BitStore;
-use bitvec_edit::{BitEdits, swap_within_in};
 use std::alloc::Allocator;
 use std::ops::Range;
 

@@ -78,3 +78,28 @@ fn the_constants_are_the_crates(rt: HostRuntime) {
     assert!(rt; BitSlice::<u8, Lsb0>::MAX_ELTS == 0x0400_0000_0000_0001);
     assert!(rt; BitSlice::<u64, Msb0>::MAX_ELTS == 0x0080_0000_0000_0001);
 }
+
+/// Whether 40 bytes that hold their indices, rotated by the bits of so many of them, are these in turn.
+fn bytes_rotate<O: SliceOrder>(count: usize) -> bool
+    requires { count ≤ 40 }
+{
+    let mut cells = [0u8; 40];
+    for index in 0..40 {
+        cells[index] = index as u8;
+    }
+    BitSliceMut::<u8, O>::from_slice_mut(&mut cells).rotate_left(8 * count);
+    for index in 0..40 {
+        if cells[index] as usize != (index + count) % 40 {
+            return false;
+        }
+    }
+    true
+}
+
+#[test]
+fn a_rotation_puts_each_byte_in_its_place(rt: HostRuntime) {
+    for count in 0..41 {
+        assert!(rt; bytes_rotate::<Lsb0>(count), "{count}");
+        assert!(rt; bytes_rotate::<HiLo>(count), "{count}");
+    }
+}

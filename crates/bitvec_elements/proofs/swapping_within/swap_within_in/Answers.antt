@@ -1,9 +1,9 @@
 use Rattle.std.proofs.Common.{◌≡◌, ◌+◌, ◌-◌, ◌≤◌, ◌∙◌, ap, arith, map, ⊎_elim}
-use Rattle.bitvec_slice.specs.base.Memory.{list_in}
-use Rattle.bitvec_slice.specs.base.WritesLaws.{Writes-is, length-list}
-use Rattle.bitvec_edit.specs.Swaps.{swapped_within}
-use Rattle.bitvec_edit.proofs.Swapped.{swapped-turned}
-use Rattle.bitvec_edit.proofs.swapping.swap_within_in.Goals as goal
+use Rattle.bitvec_engine.specs.base.Memory.{list_in}
+use Rattle.bitvec_engine.specs.base.WritesLaws.{Writes-is, length-list}
+use Rattle.bitvec_elements.specs.Swaps.{swapped_within}
+use Rattle.bitvec_elements.proofs.Swapped.{swapped-turned}
+use Rattle.bitvec_elements.proofs.swapping_within.swap_within_in.Goals as goal
 
 pub returns-else-src-dest : goal.returns-else-src-dest
 returns-else-src-dest g c =

@@ -1,13 +1,15 @@
 //! Two ranges of a window's bits, exchanged.
 ghost use Rattle.std.specs.Prelude.{◌+◌, ◌*◌, ◌%◌, ◌≤◌, map};
-ghost use Rattle.bitvec_slice.specs.base.Lists.{FitsWithin};
-ghost use Rattle.bitvec_slice.specs.base.Memory.{Edits, HasWindow};
-ghost use Rattle.bitvec_edit.specs.Swaps.{LieApart, swapped_within};
+ghost use Rattle.bitvec_engine.specs.base.Lists.{FitsWithin};
+ghost use Rattle.bitvec_engine.specs.base.Memory.{Edits, HasWindow};
+ghost use Rattle.bitvec_elements.specs.Swaps.{LieApart, swapped_within};
 
-use bitvec_slice::base::Window;
-use bitvec_slice::elements::{copy_from_block_in, copy_within_in, swap_with_block_in};
-use bitvec_slice::engine::SliceOrder;
-use bitvec_slice::store::BitStore;
+use crate::copying::copy_from_block_in;
+use crate::copying_within::copy_within_in;
+use crate::swapping::swap_with_block_in;
+use bitvec_engine::SliceOrder;
+use bitvec_engine::base::Window;
+use bitvec_engine::store::BitStore;
 use std::ops::Range;
 
 /// Exchanges the bits of a range of a window with as many from `dest` on. Conditions: the memory has at
@@ -36,7 +38,7 @@ pub fn swap_within_in<T: BitStore, O: SliceOrder>(
 
 /// Exchanges `len` bits of a window from `first` on with as many from `second` on. Conditions: as of
 /// [`swap_within_in`]; and the second ones stand behind the first ones.
-fn swap_ranges<T: BitStore, O: SliceOrder>(
+pub(crate) fn swap_ranges<T: BitStore, O: SliceOrder>(
     cells: &mut [T],
     window: Window,
     first: usize,

@@ -2,14 +2,14 @@
 use Rattle.std.specs.Prelude.{◌≡◌, ℕ, ◌+◌, ◌-◌, ◌≤◌, ◌⊎◌, Bool, List, ◌++◌, length, slice_range, refl}
 use Rattle.std.proofs.Common.{arith, rules, sym, ◌∙◌, ap, ⊎_elim, length-append}
 use Rattle.std.proofs.lemmas.List.{places, same_lists}
-use Rattle.bitvec_slice.specs.base.Lists.{copied_within}
-use Rattle.bitvec_slice.specs.base.Memory.{HasWindow, Writes, list_in}
-use Rattle.bitvec_slice.specs.base.SliceLaws.{range-join}
-use Rattle.bitvec_slice.specs.base.Window.{window_range, write_at}
-use Rattle.bitvec_slice.specs.base.WriteLaws.{length-slice_range, length-write_at, range-write_at_after, range-write_at_before, write_at-next}
-use Rattle.bitvec_slice.specs.base.WritesLaws.{HasWindow-kept, Writes-holds, Writes-next, Writes-range, list-range}
-use Rattle.bitvec_slice.specs.base.declared.window.Window.{Window}
-use Rattle.bitvec_edit.specs.Swaps.{swapped_within}
+use Rattle.bitvec_engine.specs.base.Lists.{copied_within}
+use Rattle.bitvec_engine.specs.base.Memory.{HasWindow, Writes, list_in}
+use Rattle.bitvec_engine.specs.base.SliceLaws.{range-join}
+use Rattle.bitvec_engine.specs.base.Window.{window_range, write_at}
+use Rattle.bitvec_engine.specs.base.WriteLaws.{length-slice_range, length-write_at, range-write_at_after, range-write_at_before, write_at-next}
+use Rattle.bitvec_engine.specs.base.WritesLaws.{HasWindow-kept, Writes-holds, Writes-next, Writes-range, list-range}
+use Rattle.bitvec_engine.specs.base.declared.window.Window.{Window}
+use Rattle.bitvec_elements.specs.Swaps.{swapped_within}
 
 module _ {X : Type 0} where
   -- writes beside one another, in either order
@@ -79,7 +79,7 @@ module _ {X : Type 0} where
         apart
 
   -- by how many values they are
-  swapped-by : (list : List X) (f t s n : ℕ) → t - f ≡ n → swapped_within f t s list ≡ write_at (write_at list f (slice_range list s (s + n))) s (slice_range list f t)
+  pub swapped-by : (list : List X) (f t s n : ℕ) → t - f ≡ n → swapped_within f t s list ≡ write_at (write_at list f (slice_range list s (s + n))) s (slice_range list f t)
   unfolding swapped_within
   swapped-by list f t s n long = ap (λ (m : ℕ). write_at (write_at list f (slice_range list s (s + m))) s (slice_range list f t)) long
 

@@ -2,13 +2,13 @@
 use Rattle.std.specs.Prelude.{◌≡◌, ℕ, ◌+◌, ◌-◌, ◌*◌, ◌<◌, ◌≤◌, Bool, List, ◌++◌, length, slice_range, refl}
 use Rattle.std.proofs.Common.{arith, rules, sym, ◌∙◌, ap, subst, length-append}
 use Rattle.std.proofs.lemmas.List.{places, same_lists}
-use Rattle.bitvec_slice.specs.base.Memory.{HasWindow, Writes, list_in, memory_bits}
-use Rattle.bitvec_slice.specs.base.MemoryLaws.{length-memory_bits, memory-range}
-use Rattle.bitvec_slice.specs.base.SliceLaws.{range-all, range-join}
-use Rattle.bitvec_slice.specs.base.Window.{window_of, window_range, write_at}
-use Rattle.bitvec_slice.specs.base.WritesLaws.{HasWindow-kept, Writes-next, Writes-range, list-range}
-use Rattle.bitvec_slice.specs.base.declared.window.Window.{Window}
-use Rattle.bitvec_edit.specs.Swaps.{swapped_within}
+use Rattle.bitvec_engine.specs.base.Memory.{HasWindow, Writes, list_in, memory_bits}
+use Rattle.bitvec_engine.specs.base.MemoryLaws.{length-memory_bits, memory-range}
+use Rattle.bitvec_engine.specs.base.SliceLaws.{range-all, range-join}
+use Rattle.bitvec_engine.specs.base.Window.{window_of, window_range, write_at}
+use Rattle.bitvec_engine.specs.base.WritesLaws.{HasWindow-kept, Writes-next, Writes-range, list-range}
+use Rattle.bitvec_engine.specs.base.declared.window.Window.{Window}
+use Rattle.bitvec_elements.specs.Swaps.{swapped_within}
 
 module _ {X : Type 0} (front rest : List X) where
   -- each of two lists in both, one after the other

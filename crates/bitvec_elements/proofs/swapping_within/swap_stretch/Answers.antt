@@ -1,6 +1,6 @@
 use Rattle.std.proofs.Common.{rules}
-use Rattle.bitvec_edit.proofs.Swapped.{stretch-swapped}
-use Rattle.bitvec_edit.proofs.swapping.swap_stretch.Goals as goal
+use Rattle.bitvec_elements.proofs.Swapped.{stretch-swapped}
+use Rattle.bitvec_elements.proofs.swapping_within.swap_stretch.Goals as goal
 
 pub returns : goal.returns
 returns g c = record {

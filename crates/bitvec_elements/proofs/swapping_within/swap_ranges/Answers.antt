@@ -1,9 +1,9 @@
 use Rattle.std.proofs.Common.{◌≡◌, ◌+◌, ◌-◌, ◌∙◌, ap, arith, map, inl}
-use Rattle.bitvec_slice.specs.base.Memory.{list_in}
-use Rattle.bitvec_slice.specs.base.WritesLaws.{Writes-next, length-list}
-use Rattle.bitvec_edit.specs.Swaps.{swapped_within}
-use Rattle.bitvec_edit.proofs.Swapped.{swapped-next}
-use Rattle.bitvec_edit.proofs.swapping.swap_ranges.Goals as goal
+use Rattle.bitvec_engine.specs.base.Memory.{list_in}
+use Rattle.bitvec_engine.specs.base.WritesLaws.{Writes-next, length-list}
+use Rattle.bitvec_elements.specs.Swaps.{swapped_within}
+use Rattle.bitvec_elements.proofs.Swapped.{swapped-next}
+use Rattle.bitvec_elements.proofs.swapping_within.swap_ranges.Goals as goal
 
 pub returns : goal.returns
 returns g c =

@@ -2,12 +2,12 @@ use Rattle.std.specs.Prelude.{◌≡◌, ℕ, ◌+◌, ◌*◌, ◌/◌, ◌%◌
 use Rattle.std.proofs.Common.{arith, ap, subst, sym, ◌∙◌}
 use Rattle.std.proofs.Math.Nat.{div-add-mod, mul-add}
 use Rattle.std.proofs.lemmas.List.{length-append, length-map, map-append}
-use Rattle.bitvec_slice.specs.base.Memory.{HasWindow, Writes, list_in}
-use Rattle.bitvec_slice.specs.base.declared.window.Window.{Window}
-use Rattle.bitvec_slice.specs.store.WidthLaws.{width_some}
-use Rattle.bitvec_edit.specs.Swaps.{swapped_within}
-use Rattle.bitvec_edit.proofs.Edges.{sides-swapped}
-use Rattle.bitvec_edit.proofs.swapping.swap_sides.Goals as goal
+use Rattle.bitvec_engine.specs.base.Memory.{HasWindow, Writes, list_in}
+use Rattle.bitvec_engine.specs.base.declared.window.Window.{Window}
+use Rattle.bitvec_engine.specs.store.WidthLaws.{width_some}
+use Rattle.bitvec_elements.specs.Swaps.{swapped_within}
+use Rattle.bitvec_elements.proofs.Edges.{sides-swapped}
+use Rattle.bitvec_elements.proofs.swapping_within.swap_sides.Goals as goal
 
 pub returns : goal.returns
 returns g c =
