@@ -21,7 +21,7 @@ pub mod cells {
 
 /// What crates above name of `bitvec_move`.
 pub mod moves {
-    pub use bitvec_move::{copy, copy_within, load_elements, reverse, swap};
+    pub use bitvec_move::{copy, copy_within, load_elements, reverse, store_elements, swap};
 }
 
 /// What crates above name of `bitvec_store`.

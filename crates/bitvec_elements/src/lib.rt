@@ -24,6 +24,7 @@ mod scanning;
 mod shifting;
 mod swapping;
 mod texts;
+mod whole_words;
 mod window_words;
 
 /// What crates above name of `bitvec_base`.

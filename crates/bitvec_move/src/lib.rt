@@ -54,4 +54,4 @@ pub use copying::copy;
 pub use copying_within::copy_within;
 pub use reversing::reverse;
 pub use swapping::swap;
-pub use word_elements::load_elements;
+pub use word_elements::{load_elements, store_elements};
