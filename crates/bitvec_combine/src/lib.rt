@@ -2,8 +2,8 @@
 #![tactic(auto)]
 
 mod combining;
-mod combining_equal;
 mod combining_elements;
+mod combining_equal;
 mod comparing;
 mod comparing_equal;
 mod comparing_shifted;
@@ -23,7 +23,7 @@ pub mod cells {
 /// What crates above name of `bitvec_move`.
 pub mod moves {
     pub use bitvec_move::{
-        copy, copy_equal, copy_within, load_elements, reverse, swap, swap_equal,
+        copy, copy_equal, copy_within, load_elements, reverse, store_elements, swap, swap_equal,
     };
 }
 

@@ -29,6 +29,10 @@ Writes-agrees b at other old new window list some agrees writes = record {
   elements = writes.elements;
 }
 
+-- a list of a memory under such an order, written elsewhere
+pub List-agrees : (b : ℕ) (at other : ℕ → ℕ → ℕ) (xs : List ℕ) (window : Window) (d : ℕ) (way : ℕ → ℕ → ℕ) (old new : List ℕ) (to : Window) → 0 < b → Agrees b at other → Writes d way old new to (list_in b other xs window) → Writes d way old new to (list_in b at xs window)
+List-agrees b at other xs window d way old new to some agrees writes = Writes-is d way old new to _ _ writes (sym (list-agrees b at other xs window some agrees))
+
 pub Edits-agrees : (b : ℕ) (at other : ℕ → ℕ → ℕ) (old new : List ℕ) (window : Window) (edit : List Bool → List Bool) → 0 < b → Agrees b at other → Edits b other old new window edit → Edits b at old new window edit
 Edits-agrees b at other old new window edit some agrees writes =
     Writes-is b at old new window _ _ (Writes-agrees b at other old new window _ some agrees writes) (ap edit (sym (list-agrees b at other old window some agrees)))
@@ -64,6 +68,13 @@ copied-stretch at d other ys right from to n word has order bound size is =
     let long = length-list d other ys right has in
     let part = length-slice_range (list_in d other ys right) from to (omega arith) in
     take-field 64 n _ (slice_range (list_in d other ys right) from to) (is ∙ ap (padded 64) (list-range d other ys right from to has order bound)) (omega arith)
+
+-- those of a stretch of another window, loaded under another order
+pub stored-stretch : (at to_at : ℕ → ℕ → ℕ) (list : List Bool) (from to n word made : ℕ) → from ≤ to → to ≤ length list → n ≡ to - from → element_bits 64 at word ≡ padded 64 (slice_range list from to) → element_bits 64 to_at made ≡ element_bits 64 at word
+    → take n (element_bits 64 to_at made) ≡ slice_range list from to
+stored-stretch at to_at list from to n word made order bound size loaded same =
+    let part = length-slice_range list from to bound in
+    take-field 64 n _ (slice_range list from to) (same ∙ loaded) (omega arith)
 
 -- ---- what an operator makes of a stretch
 

@@ -1,23 +1,68 @@
--- Words of a window: of two elements side by side, and one part more of them.
-use Rattle.std.specs.Prelude.{◌≡◌, ℕ, ◌+◌, ◌-◌, ◌<◌, ◌≤◌, Bool, false, List, ◌++◌, drop, length, replicate, slice_index, slice_range, take, bit_or}
-use Rattle.std.proofs.Common.{arith, rules, sym, ◌∙◌, ap}
+-- Words of a window: of two elements side by side, of whole elements, and of one part more.
+use Rattle.std.specs.Prelude.{◌≡◌, ℕ, ◌+◌, ◌-◌, ◌/◌, ◌%◌, ◌<◌, ◌≤◌, Bool, false, List, ◌++◌, drop, length, replicate, slice_index, slice_range, take, bit_or, refl}
+use Rattle.std.proofs.Common.{arith, rules, subst, sym, ◌∙◌, ap}
 use Rattle.std.proofs.lemmas.List.{places, same_lists}
+use Rattle.std.proofs.lemmas.Nat.{div-add-mod'}
 use Rattle.bitvec_elements.specs.base.declared.window.Window.{Window}
-use Rattle.bitvec_elements.specs.base.Memory.{HasWindow, element_bits, list_in}
+use Rattle.bitvec_elements.specs.base.Memory.{HasWindow, Writes, element_bits, list_in, memory_bits}
+use Rattle.bitvec_elements.specs.base.MemoryLaws.{length-element_bits}
 use Rattle.bitvec_elements.specs.base.Parts.{first_part_of, part_window}
-use Rattle.bitvec_elements.specs.base.Window.{window_after, write_at}
+use Rattle.bitvec_elements.specs.base.Window.{window_after, window_of, write_at}
+use Rattle.bitvec_elements.specs.base.WritesLaws.{Writes-is, length-list}
+use Rattle.bitvec_elements.specs.moves.WordLaws.{padded-all, take-all, word_whole}
+use Rattle.bitvec_elements.specs.store.Width.{IsWidth}
+use Rattle.bitvec_elements.specs.store.WidthLaws.{at_each_width, width_some}
+use Rattle.bitvec_elements.specs.walk.Cost.{touched}
 use Rattle.bitvec_elements.specs.walk.Walk.{Walked, passed}
 use Rattle.bitvec_elements.specs.walk.WalkLaws.{first-len, length-first, length-passed, list-next}
+use Rattle.bitvec_elements.specs.words.Elements.{elements_window}
 use Rattle.bitvec_elements.specs.words.Field.{padded}
 use Rattle.bitvec_elements.specs.words.FieldLaws.{list-part}
 use Rattle.bitvec_elements.specs.words.FieldWalkLaws.{HasPart-first}
 use Rattle.bitvec_elements.specs.words.MovedLaws.{element-joined}
+use Rattle.bitvec_elements.specs.words.TouchedLaws.{touched-full}
 
 -- 64 values from the index `skip` of an element on, which is at most as wide as a word
 pub word-joined : (list : List Bool) (a b skip : ℕ) → skip < b → b ≤ 64 → a + 64 + b ≤ length list
     → drop skip (slice_range list a (a + 64)) ++ take skip (write_at (replicate 64 false) 0 (slice_range (slice_range list (a + 64) (a + 64 + b)) 0 (0 + b))) ≡ slice_range list (a + skip) (a + skip + 64)
 unfolding write_at
 word-joined list a b skip below narrow fits = same_lists _ _ (search (rules, places)) (λ k d inside. grind (arith, places))
+
+-- ---- whole elements of 64 bits
+
+pub touched-whole : (b s : ℕ) → IsWidth b → b ≤ 64 → s % b ≡ 0 → touched b s 64 ≡ 64 / b
+touched-whole b s width narrow edge =
+    touched-full b s 64 (width_some b width) edge
+    (at_each_width (λ n. n ≤ 64 → 64 % n ≡ 0) (λ _. refl) (λ _. refl) (λ _. refl) (λ _. refl) (λ few. absurd (omega arith)) b width narrow)
+
+module _ (b : ℕ) (at : ℕ → ℕ → ℕ) (window : Window) (width : IsWidth b) (narrow : b ≤ 64) (size : window.len ≡ 64) (edge : window.start % b ≡ 0) where
+  abbrev elements : Window
+  elements = elements_window b (window.start / b) (64 / b)
+
+  start : elements.start ≡ window.start
+  start = let place = div-add-mod' window.start b in omega arith
+
+  long : elements.len ≡ window.len
+  long = word_whole b width narrow ∙ sym size
+
+  pub loaded-whole : (xs : List ℕ) (w : ℕ) → HasWindow b xs window → element_bits 64 at w ≡ list_in b at xs elements → element_bits 64 at w ≡ padded 64 (list_in b at xs window)
+  unfolding window_of
+  loaded-whole xs w has bits =
+      let all = length-list b at xs window has in
+      bits
+      ∙ ap (λ (s : ℕ). slice_range (memory_bits b at xs) s (s + elements.len)) start
+      ∙ ap (λ (n : ℕ). slice_range (memory_bits b at xs) window.start (window.start + n)) long
+      ∙ sym (padded-all 64 _ (all ∙ size))
+
+  pub stored-whole : (old new : List ℕ) (w : ℕ) → Writes b at old new elements (element_bits 64 at w) → Writes b at old new window (take window.len (element_bits 64 at w))
+  stored-whole old new w writes =
+      let wide = length-element_bits 64 at w in
+      Writes-is b at old new window _ _
+      (subst (λ (n : ℕ). Writes b at old new (record { start = window.start; len = n }) (element_bits 64 at w)) long
+      (subst (λ (s : ℕ). Writes b at old new (record { start = s; len = elements.len }) (element_bits 64 at w)) start writes))
+      (sym (take-all (element_bits 64 at w) window.len (omega arith)))
+
+-- ---- one part after the other
 
 -- a word that has one part more of a window, its bits gathered to the start of another word
 front_of : (list : List Bool) (t : ℕ) → t ≡ length list → slice_range (padded 64 list) 0 (0 + t) ≡ list

@@ -5,11 +5,12 @@ ghost use Rattle.bitvec_engine.specs.base.Memory.{HasWindow, Writes, list_in};
 ghost use Rattle.bitvec_engine.specs.words.Operator.{operator};
 
 use crate::direction::{Direction, direction_of};
+use crate::whole_words::{load_bits, store_bits};
 use crate::window_words::{window_word, word_end};
 use bitvec_engine::base::{BitOrder, Lsb0, Msb0, Window};
 use bitvec_engine::cells::{Exclusive, Shared};
 use bitvec_engine::store::BitStore;
-use bitvec_engine::words::{WordOrder, load_field, store_field};
+use bitvec_engine::words::WordOrder;
 use bitvec_engine::{BitOp, SliceOrder, bits_op};
 
 /// Replaces each bit of the left window by what the operator makes of it and the one at its index in
@@ -73,11 +74,11 @@ fn combine_words<W: WordOrder, T: BitStore, U: BitStore, P: BitOrder>(
     while from < left_window.len {
         let to = word_end(left_window, from);
         let part = left_window.range(from, to);
-        let word = load_field::<W, Exclusive<T>>(&mut cells, part);
+        let word = load_bits::<W, Exclusive<T>>(&mut cells, part);
         let other = right_window.range(from.min(right_len), to.min(right_len));
         let right_word = window_word::<W, P, U>(right, other, direction);
         let made = op.of_elements::<W, u64>(word, right_word);
-        store_field::<W, Exclusive<T>>(&mut cells, part, made);
+        store_bits::<W, Exclusive<T>>(&mut cells, part, made);
         from = to;
     }
 }

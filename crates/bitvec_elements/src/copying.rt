@@ -3,11 +3,12 @@ ghost use Rattle.std.specs.Prelude.{◌≡◌, map};
 ghost use Rattle.bitvec_engine.specs.base.Memory.{HasWindow, Writes, list_in};
 
 use crate::direction::{Direction, direction_of};
+use crate::whole_words::store_bits;
 use crate::window_words::{window_word, word_end};
 use bitvec_engine::base::{BitOrder, Lsb0, Msb0, Window};
 use bitvec_engine::cells::{Exclusive, Shared};
 use bitvec_engine::store::BitStore;
-use bitvec_engine::words::{WordOrder, store_field};
+use bitvec_engine::words::WordOrder;
 use bitvec_engine::{SliceOrder, bits_copy};
 
 /// Copies the bits of the right window, of elements of any type and order. Condition: each memory
@@ -60,7 +61,7 @@ fn copy_words<W: WordOrder, T: BitStore, U: BitStore, P: BitOrder>(
     while from < left_window.len {
         let to = word_end(left_window, from);
         let word = window_word::<W, P, U>(right, right_window.range(from, to), direction);
-        store_field::<W, Exclusive<T>>(&mut cells, left_window.range(from, to), word);
+        store_bits::<W, Exclusive<T>>(&mut cells, left_window.range(from, to), word);
         from = to;
     }
 }

@@ -25,6 +25,7 @@ mod shifting;
 mod swapping;
 mod swapping_within;
 mod texts;
+mod whole_words;
 mod window_words;
 
 /// What crates above name of `bitvec_base`.

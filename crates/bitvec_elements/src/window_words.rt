@@ -52,7 +52,7 @@ pub(crate) fn window_word<W: WordOrder, O: BitOrder, T: BitStore>(
 
 /// The word that has under the order `W` the bits of a word under `V`.
 #[inline(always)]
-fn turned<V: WordOrder, W: WordOrder>(word: u64) -> u64
+pub(crate) fn turned<V: WordOrder, W: WordOrder>(word: u64) -> u64
     ensures { element_bits 64 W.at result ≡ element_bits 64 V.at word }
 {
     if V::HIGH == W::HIGH {

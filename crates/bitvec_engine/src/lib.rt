@@ -47,7 +47,7 @@ pub mod comparisons {
 
 /// The copies of `bitvec_move` that crates above name.
 pub mod copy {
-    pub use bitvec_combine::moves::{copy, copy_within, load_elements};
+    pub use bitvec_combine::moves::{copy, copy_within, load_elements, store_elements};
 }
 
 /// The exchanges of `bitvec_move` that crates above name.

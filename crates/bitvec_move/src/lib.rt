@@ -57,4 +57,4 @@ pub use copying_within::copy_within;
 pub use reversing::reverse;
 pub use swapping::swap;
 pub use swapping_equal::swap_equal;
-pub use word_elements::load_elements;
+pub use word_elements::{load_elements, store_elements};

@@ -81,7 +81,8 @@ pub(crate) fn store_word<O: WordOrder, C: Cells>(cells: &mut C, window: Window, 
 
 /// Stores the elements of one word from the element `first` on. Condition: as of
 /// [`load_elements`].
-fn store_elements<O: WordOrder, C: Cells>(cells: &mut C, first: usize, word: u64)
+#[inline(always)]
+pub fn store_elements<O: WordOrder, C: Cells>(cells: &mut C, first: usize, word: u64)
     requires window { HasWindow C.Elem.BITS (C.numbers cells.old) (elements_window C.Elem.BITS first (64 / C.Elem.BITS)) }
     requires narrow { C.Elem.BITS ≤ 64 }
     ensures writes { Writes C.Elem.BITS O.at (C.numbers cells.old) (C.numbers cells.new) (elements_window C.Elem.BITS first (64 / C.Elem.BITS))

@@ -31,9 +31,9 @@ loop-from-preserved g c =
     let size = c.word_end-to.ensures.size in
     let long = length-list _ at _ _ c.requires.window in
     let right = length-list _ g.P.BitOrder.at _ _ c.requires.right_window in
-    let word = (rw c.range-part.ensures at c.load_field-word.ensures.value) ∙ ap (padded 64) (stretch-old _ at _ _ window _ from to c.requires.window (omega arith) bound inv.writes) in
+    let word = (rw c.range-part.ensures at c.load_bits-word.ensures.value) ∙ ap (padded 64) (stretch-old _ at _ _ window _ from to c.requires.window (omega arith) bound inv.writes) in
     let right_word = (rw c.range-other.ensures at c.window_word-right_word.ensures) ∙ ap (padded 64) (list-range _ g.P.BitOrder.at _ right_window c.min.result c.min-in-loop-from.result c.requires.right_window (omega arith) (omega arith)) in
-    let wrote = rw (c.range-part.ensures, c.load_field-word.ensures.reads.numbers) at c.store_field.ensures.writes in
+    let wrote = rw (c.range-part.ensures, c.load_bits-word.ensures.reads.numbers) at c.store_bits.ensures.writes in
     record {
       fits = bound;
       writes = stretch-next _ _ _ _ _ window _ _ from to c.requires.window (omega arith) bound (length-combined (operator c.args.op) _ _ ∙ long)

@@ -21,7 +21,7 @@ loop-from-preserved g c =
     let lengths = c.requires.lengths in
     let right = length-list _ g.P.BitOrder.at _ _ c.requires.right_window in
     let word = rw c.range.ensures at c.window_word-word.ensures in
-    let wrote = rw c.range-in-loop-from.ensures at c.store_field.ensures.writes in
+    let wrote = rw c.range-in-loop-from.ensures at c.store_bits.ensures.writes in
     record {
       fits = bound;
       writes = stretch-next _ _ _ _ _ c.args.left_window _ _ from to c.requires.window (omega arith) bound (right ∙ sym lengths)

@@ -7,30 +7,14 @@ use Rattle.bitvec_elements.specs.base.WritesLaws.{length-list}
 use Rattle.bitvec_elements.specs.moves.WordLaws.{padded-all, word_whole}
 use Rattle.bitvec_elements.specs.store.WidthLaws.{width_some}
 use Rattle.bitvec_elements.specs.words.FieldLaws.{element_of}
-use Rattle.bitvec_elements.proofs.WordLemmas.{word-joined}
+use Rattle.bitvec_elements.proofs.WordLemmas.{loaded-whole, word-joined}
 use Rattle.bitvec_elements.proofs.window_words.run_word.Goals as goal
 
 pub returns-then-skip-eq0 : goal.returns-then-skip-eq0
-unfolding window_of
 returns-then-skip-eq0 g c =
-    let b = g.T.BitStore.BITS in
-    let at = g.W.BitOrder.at in
-    let xs = map g.T.BitStore.value c.args.elements.now in
-    let bits = memory_bits b at xs in
-    let window = c.args.window in
-    let first : ℕ = window.start / b in
-    let narrow = rw c.BITS-bits.ensures at c.if-bits-gt-WORD_BITS.false in
-    let whole = word_whole b g.met.T.BitStore.width_law narrow in
-    let size : window.len ≡ 64 = let most = c.requires.size in omega arith in
-    let edge = rw c.BITS-bits.ensures at c.if-skip-eq0.true in
-    let place = div-add-mod' window.start b in
-    let start : first * b ≡ window.start = omega arith in
-    let long = length-list b at xs window c.requires.window in
-    let word = rw (c.BITS-bits.ensures, c.new-cells.ensures.numbers) at c.load_elements-word.ensures.value in
-    word
-    ∙ ap (λ (n : ℕ). slice_range bits (first * b) (first * b + n)) (whole ∙ sym size)
-    ∙ ap (λ (s : ℕ). slice_range bits s (s + window.len)) start
-    ∙ sym (padded-all 64 _ (long ∙ size))
+    let size = c.requires.size in
+    loaded-whole g.T.BitStore.BITS g.W.BitOrder.at c.args.window g.met.T.BitStore.width_law (rw c.BITS-bits.ensures at c.if-bits-gt-WORD_BITS.false) (omega arith) (rw c.BITS-bits.ensures at c.if-skip-eq0.true) _ _ c.requires.window
+    (rw (c.BITS-bits.ensures, c.new-cells.ensures.numbers) at c.load_elements-word.ensures.value)
 
 pub returns : goal.returns
 unfolding window_of
