@@ -75,8 +75,8 @@ pub fn compare_in<T: BitStore, O: BitOrder, U: BitStore, P: BitOrder>(
 }
 
 /// How the bits of two windows compare, as lists of truth values do, of elements of the same type
-/// and order. It passes equal stretches as the order compares them, and goes bit by bit from the
-/// first stretch on that differs. Condition: as of [`eq_in`].
+/// and order. It passes equal stretches as the order compares them, and goes by words from the first
+/// stretch on that differs. Condition: as of [`eq_in`].
 pub fn compare_block_in<T: BitStore, O: SliceOrder>(
     left: &[T],
     left_window: Window,
