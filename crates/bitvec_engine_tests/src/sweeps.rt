@@ -157,7 +157,7 @@ fn sweep<T: BitStore, O: SliceOrder, R: Abort + AllocGlobal>(rt: &R, sides: Side
     let width = T::BITS as usize;
     for len in [0, 1, width - 1, width, width + 1, 63, 64, 65, 130, 1000] {
         for start in [0, 1, width - 1] {
-            for right_start in [0, 1, width - 1] {
+            for right_start in [0, 1, width / 2, width - 1] {
                 let to = Window { start, len };
                 let from = Window {
                     start: right_start,
