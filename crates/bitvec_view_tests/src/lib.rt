@@ -24,6 +24,8 @@ mod repeats;
 mod scans;
 #[cfg(test)]
 mod texts;
+#[cfg(test)]
+mod two_types;
 
 #[cfg(test)]
 pub use callers::{backwards, before_one, flipped};
