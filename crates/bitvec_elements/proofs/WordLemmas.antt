@@ -1,5 +1,5 @@
 -- Words of a window: of two elements side by side, of whole elements, and of one part more.
-use Rattle.std.specs.Prelude.{◌≡◌, ℕ, ◌+◌, ◌-◌, ◌/◌, ◌%◌, ◌<◌, ◌≤◌, Bool, false, List, ◌++◌, drop, length, replicate, slice_index, slice_range, take, bit_or, refl}
+use Rattle.std.specs.Prelude.{◌≡◌, ℕ, ◌+◌, ◌-◌, ◌*◌, ◌/◌, ◌%◌, ◌<◌, ◌≤◌, Bool, false, List, [], ◌++◌, drop, length, replicate, slice_index, slice_range, take, bit_or, refl}
 use Rattle.std.proofs.Common.{arith, rules, subst, sym, ◌∙◌, ap}
 use Rattle.std.proofs.lemmas.List.{places, same_lists}
 use Rattle.std.proofs.lemmas.Nat.{div-add-mod'}
@@ -8,18 +8,19 @@ use Rattle.bitvec_elements.specs.base.Memory.{HasWindow, Writes, element_bits, l
 use Rattle.bitvec_elements.specs.base.MemoryLaws.{length-element_bits}
 use Rattle.bitvec_elements.specs.base.Parts.{first_part_of, part_window}
 use Rattle.bitvec_elements.specs.base.Window.{window_after, window_of, write_at}
+use Rattle.bitvec_elements.specs.base.WriteLaws.{length-slice_range}
 use Rattle.bitvec_elements.specs.base.WritesLaws.{Writes-is, length-list}
-use Rattle.bitvec_elements.specs.moves.WordLaws.{padded-all, take-all, word_whole}
+use Rattle.bitvec_elements.specs.moves.WordLaws.{length-first, padded-all, take-all, word_whole}
 use Rattle.bitvec_elements.specs.store.Width.{IsWidth}
 use Rattle.bitvec_elements.specs.store.WidthLaws.{at_each_width, width_some}
 use Rattle.bitvec_elements.specs.walk.Cost.{touched}
 use Rattle.bitvec_elements.specs.walk.Walk.{Walked, passed}
-use Rattle.bitvec_elements.specs.walk.WalkLaws.{first-len, length-first, length-passed, list-next}
+use Rattle.bitvec_elements.specs.walk.WalkLaws.{first-len, length-first as length-first_part, length-passed, list-next}
 use Rattle.bitvec_elements.specs.words.Elements.{elements_window}
 use Rattle.bitvec_elements.specs.words.Field.{padded}
 use Rattle.bitvec_elements.specs.words.FieldLaws.{list-part}
 use Rattle.bitvec_elements.specs.words.FieldWalkLaws.{HasPart-first}
-use Rattle.bitvec_elements.specs.words.MovedLaws.{element-joined}
+use Rattle.bitvec_elements.specs.words.MovedLaws.{element-joined, take-range}
 use Rattle.bitvec_elements.specs.words.TouchedLaws.{touched-full}
 
 -- 64 values from the index `skip` of an element on, which is at most as wide as a word
@@ -81,7 +82,7 @@ gathered-next b at to xs window rest t n word element first moved some more size
     let part = first_part_of b rest in
     let len = first-len b rest some more in
     let before = length-passed b at xs window rest has walk in
-    let next = length-first b at xs window rest some more has walk in
+    let next = length-first_part b at xs window rest some more has walk in
     let holds = list-part b at xs part (HasPart-first b xs window rest some more has walk) in
     let bits : slice_range (element_bits b at element) part.from part.to ≡ list_in b at xs (part_window b part) =
     ap (λ (v : ℕ). slice_range (element_bits b at v) part.from part.to) loaded ∙ sym holds in
@@ -89,3 +90,30 @@ gathered-next b at to xs window rest t n word element first moved some more size
     ap (λ (l : List Bool). slice_range l 0 (0 + t)) (gathered ∙ ap (padded 64) bits) ∙ front_of (list_in b at xs (part_window b part)) t (omega arith) in
     element-joined 64 to word moved n (list_in b at xs (passed window rest)) (list_in b at xs (part_window b part)) (omega arith) (omega arith) held (put ∙ ap (λ (l : List Bool). write_at (replicate 64 false) n l) front)
     ∙ ap (padded 64) (list-next b at xs window rest t some more step has walk)
+
+-- ---- eight bits more
+
+pub eights-none : (list : List Bool) → padded 64 [] ≡ padded 64 (take (0 * 8) list)
+eights-none list = refl
+
+pub eights-next : (to : ℕ → ℕ → ℕ) (list : List Bool) (word few moved n : ℕ) → n * 8 + 8 ≤ length list → n * 8 + 8 ≤ 64
+    → element_bits 64 to few ≡ padded 64 (slice_range list (n * 8) (n * 8 + 8))
+    → element_bits 64 to moved ≡ write_at (replicate 64 false) (n * 8) (slice_range (element_bits 64 to few) 0 (0 + 8))
+    → element_bits 64 to word ≡ padded 64 (take (n * 8) list)
+    → element_bits 64 to (bit_or word moved) ≡ padded 64 (take ((n + 1) * 8) list)
+eights-next to list word few moved n inside fits gathered put held =
+    let part = slice_range list (n * 8) (n * 8 + 8) in
+    let long = length-slice_range list (n * 8) (n * 8 + 8) inside in
+    let taken = length-first list (n * 8) (omega arith) in
+    let front : slice_range (element_bits 64 to few) 0 (0 + 8) ≡ part =
+    ap (λ (l : List Bool). slice_range l 0 (0 + 8)) gathered ∙ front_of part 8 (omega arith) in
+    element-joined 64 to word moved (n * 8) (take (n * 8) list) part (omega arith) (omega arith) held (put ∙ ap (λ (l : List Bool). write_at (replicate 64 false) (n * 8) l) front)
+    ∙ ap (padded 64) (take-range list (n * 8) (n * 8 + 8) ((n + 1) * 8) (omega arith) inside (omega arith))
+
+pub eights-whole : (b : ℕ) → IsWidth b → b / 8 * 8 ≡ b
+eights-whole b width = at_each_width (λ n. n / 8 * 8 ≡ n) refl refl refl refl refl b width
+
+pub eights-all : (b n from to : ℕ) (list : List Bool) → IsWidth b → length list ≡ b → from ≤ to → to ≤ b → b ≤ to - from → b / 8 ≤ n → n ≤ b / 8 → take (n * 8) list ≡ slice_range list from to
+eights-all b n from to list width long order bound whole low high =
+    let all = eights-whole b width in
+    same_lists _ _ (search (rules, places)) (λ k d inside. grind (arith, places))

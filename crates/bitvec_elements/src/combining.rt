@@ -41,13 +41,7 @@ pub fn combine_in<T: BitStore, O: BitOrder, U: BitStore, P: BitOrder>(
         Direction::Other => {
             let mut cells = Exclusive::new(left);
             let mut source = Shared::new(right);
-            bits_op::<O, P, Exclusive<T>, Shared<U>>(
-                &mut cells,
-                left_window,
-                &mut source,
-                right_window,
-                op,
-            );
+            bits_op::<O, P, _, _>(&mut cells, left_window, &mut source, right_window, op);
         }
     }
 }

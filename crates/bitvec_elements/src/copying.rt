@@ -31,12 +31,7 @@ pub fn copy_from_in<T: BitStore, O: BitOrder, U: BitStore, P: BitOrder>(
         Direction::Other => {
             let mut cells = Exclusive::new(left);
             let mut source = Shared::new(right);
-            bits_copy::<O, P, Exclusive<T>, Shared<U>>(
-                &mut cells,
-                left_window,
-                &mut source,
-                right_window,
-            );
+            bits_copy::<O, P, _, _>(&mut cells, left_window, &mut source, right_window);
         }
     }
 }

@@ -33,12 +33,7 @@ pub fn swap_with_in<T: BitStore, O: BitOrder, U: BitStore, P: BitOrder>(
         Direction::Other => {
             let mut cells = Exclusive::new(left);
             let mut others = Exclusive::new(right);
-            bits_swap::<O, P, Exclusive<T>, Exclusive<U>>(
-                &mut cells,
-                left_window,
-                &mut others,
-                right_window,
-            );
+            bits_swap::<O, P, _, _>(&mut cells, left_window, &mut others, right_window);
         }
     }
 }
@@ -64,12 +59,7 @@ fn swap_with_any<W: WordOrder, T: BitStore, U: BitStore, P: BitOrder>(
         Direction::Other => {
             let mut cells = Exclusive::new(left);
             let mut others = Exclusive::new(right);
-            bits_swap::<W, P, Exclusive<T>, Exclusive<U>>(
-                &mut cells,
-                left_window,
-                &mut others,
-                right_window,
-            );
+            bits_swap::<W, P, _, _>(&mut cells, left_window, &mut others, right_window);
         }
     }
 }

@@ -1,13 +1,13 @@
 //! The bits of a window of a slice, up to 64 of them, as the first bits of a word under an order that
 //! runs from one end of it to the other.
-ghost use Rattle.std.specs.Prelude.{◌≡◌, ◌+◌, ◌<◌, ◌≤◌, map};
+ghost use Rattle.std.specs.Prelude.{◌≡◌, ◌+◌, ◌<◌, ◌≤◌, map, slice_range};
 ghost use Rattle.bitvec_engine.specs.base.Memory.{HasWindow, element_bits, list_in};
 ghost use Rattle.bitvec_engine.specs.base.Window.{max_bits};
 ghost use Rattle.bitvec_engine.specs.words.Field.{padded};
 ghost use Rattle.bitvec_elements.specs.Direction.{Runs};
 
 use crate::direction::Direction;
-use bitvec_engine::base::{BitOrder, Lsb0, Msb0, Window, first_part};
+use bitvec_engine::base::{BitOrder, Lsb0, Msb0, Part, Window, first_part};
 use bitvec_engine::cells::{CellsRead, Shared};
 use bitvec_engine::copy::load_elements;
 use bitvec_engine::gathered;
@@ -101,9 +101,37 @@ fn gathered_word<W: WordOrder, O: BitOrder, T: BitStore>(elements: &[T], window:
         let part = first_part(bits, rest);
         let count = part.len();
         let element = cells.load(part.element);
-        let first = gathered::<O, W, T>(element, part);
+        let first = gathered_part::<O, W, T>(element, part);
         word |= moved::<W, u64, u64>(first, 0, count, window.len - rest.len);
         rest = rest.after(count);
+    }
+    word
+}
+
+/// [`gathered`], of a whole element by eight bits at a time, which the compiler writes out. Condition:
+/// as of [`gathered`].
+#[inline(always)]
+fn gathered_part<O: BitOrder, W: WordOrder, T: BitStore>(element: T, part: Part) -> u64
+    requires order { part.from ≤ part.to }
+    requires bound { part.to ≤ T.BITS }
+    requires fits { part.to ≤ part.from + 64 }
+    ensures { element_bits 64 W.at result
+        ≡ padded 64 (slice_range (element_bits T.BITS O.at (T.value element)) part.from part.to) }
+{
+    let bits = T::BITS as usize;
+    if part.len() < bits {
+        return gathered::<O, W, T>(element, part);
+    }
+    let mut word = 0;
+    for step in 0..bits / 8 {
+        let from = step * 8;
+        let eight = Part {
+            element: 0,
+            from,
+            to: from + 8,
+        };
+        let few = gathered::<O, W, T>(element, eight);
+        word |= moved::<W, u64, u64>(few, 0, 8, from);
     }
     word
 }

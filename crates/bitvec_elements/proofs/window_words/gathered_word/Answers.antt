@@ -29,7 +29,7 @@ loop-rest-preserved g c =
     let step = c.len-count.ensures ∙ ap (λ (p : Part). p.to - p.from) part in
     let len = first-len b rest some more in
     let loaded = rw (part, inv.numbers) at c.load-element.ensures.value in
-    let first = rw part at c.gathered-first.ensures in
+    let first = rw part at c.gathered_part-first.ensures in
     let start = inv.walk.start in
     rw c.after-rest.ensures (record {
       walk = Walked-next _ _ _ _ some more step inv.walk;
