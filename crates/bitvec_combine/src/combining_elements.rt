@@ -163,9 +163,7 @@ pub(crate) fn combine_joined<O: WordOrder, C: Cells, D: CellsRead<Elem = C::Elem
     ensures right { OnlyReads D.CellsRead right.old right.new count }
 {
     if C::Elem::BITS == u128::BITS {
-        return combine_carried::<O, C, D, Lanes>(
-            left, first, right, source, carry, skip, count, op,
-        );
+        return combine_pairs::<O, C, D>(left, first, right, source, carry, skip, count, op);
     }
     if C::Elem::BITS == u8::BITS && count >= MANY_BYTES {
         return combine_bytes::<O, C, D>(left, first, right, source, carry, skip, count, op);
@@ -222,6 +220,59 @@ fn combine_bytes<O: WordOrder, C: Cells, D: CellsRead<Elem = C::Elem>>(
             left, first, right, source, carry, 7, count, op,
         ),
     }
+}
+
+/// The same for elements of 128 bits, two a turn: the compiler writes a loop over such elements out
+/// for no number of turns that it doesn't know.
+#[inline(always)]
+fn combine_pairs<O: WordOrder, C: Cells, D: CellsRead<Elem = C::Elem>>(
+    left: &mut C,
+    first: usize,
+    right: &mut D,
+    source: usize,
+    carry: C::Elem,
+    skip: usize,
+    count: usize,
+    op: BitOp,
+) -> C::Elem
+    requires wide { C.Elem.BITS ≡ 128 }
+    requires window { HasWindow C.Elem.BITS (C.numbers left.old) (elements_window C.Elem.BITS first count) }
+    requires right_window { HasWindow C.Elem.BITS (D.numbers right.old) (elements_window_from C.Elem.BITS source skip count) }
+    requires some { 0 < skip }
+    requires bound { skip < C.Elem.BITS }
+    requires carry { C.Elem.value carry ≡ slice_index (D.numbers right.old) source }
+    ensures writes { Writes C.Elem.BITS O.at (C.numbers left.old) (C.numbers left.new) (elements_window C.Elem.BITS first count)
+        (combined (operator op) (list_in C.Elem.BITS O.at (C.numbers left.old) (elements_window C.Elem.BITS first count))
+        (list_in C.Elem.BITS O.at (D.numbers right.old) (elements_window_from C.Elem.BITS source skip count))) }
+    ensures carried { C.Elem.value result ≡ slice_index (D.numbers right.old) (source + count) }
+    ensures cost { Costs C.CellsRead left.old left.new count count }
+    ensures right { OnlyReads D.CellsRead right.old right.new count }
+{
+    let mut last = carry;
+    for pair in 0..count / 2 {
+        let step = 2 * pair;
+        last = combine_carried::<O, C, D, Lanes>(
+            left,
+            first + step,
+            right,
+            source + step,
+            last,
+            skip,
+            2,
+            op,
+        );
+    }
+    let step = count - count % 2;
+    combine_carried::<O, C, D, Lanes>(
+        left,
+        first + step,
+        right,
+        source + step,
+        last,
+        skip,
+        count % 2,
+        op,
+    )
 }
 
 /// The same, with each element carried to the next turn in a form that fits the width.
