@@ -1,6 +1,6 @@
 use Rattle.std.proofs.Common.{refl, rules}
 use Rattle.bitvec_slice.specs.SeenLaws.{part_view}
-use Rattle.bitvec_split.proofs.counted_lending.SplitsNMut.part_mut.Goals as goal
+use Rattle.bitvec_split.proofs.limited_lending.SplitsNMut.part_mut.Goals as goal
 
 pub returns : goal.returns
 returns g c =
