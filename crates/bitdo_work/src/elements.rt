@@ -20,7 +20,7 @@ fn is_hexadecimal(word: &str) -> bool
 /// and at most as many as the widest element has.
 fn parse_hexadecimal(word: &str, digits: usize) -> Option<u128>
     requires some { 0 < digits }
-    requires fits { digits ≤ 32 }
+    requires bound { digits ≤ 32 }
     ensures number { result ≡ hexadecimal_of digits word.now }
     ensures bound { IfSome result (λ number. number < 16 ^ digits) }
 {

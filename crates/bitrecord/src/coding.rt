@@ -170,7 +170,7 @@ pub fn encode_one<T: BitStore, O: FieldOrder, A: Allocator>(
     out: &mut BitSliceMut<'_, T, O>,
 ) -> Result<(), EncodeError>
     requires bits { (seen_mut out.old).window.len ≡ bits_of layout.now }
-    requires field { number < length (fields_of layout.now) }
+    requires bound { number < length (fields_of layout.now) }
     ensures accepted { IsOk result ↔ Fits (field_at (fields_of layout.now) number) value }
     ensures refused { IfErr result (λ why. why ≡ Range number) }
     ensures kept { OnErr result (out.new ≡ out.old) }
@@ -193,7 +193,7 @@ pub fn decode_one<T: BitStore, O: FieldOrder, A: Allocator>(
     number: usize,
 ) -> u128
     requires bits { (seen view).window.len ≡ bits_of layout.now }
-    requires field { number < length (fields_of layout.now) }
+    requires bound { number < length (fields_of layout.now) }
     ensures value { result ≡ number_in endian O.HIGH T.BITS (seen view.entry).window.start (seen view.entry).bits (field_at (fields_of layout.now) number) }
     ensures fits { Fits (field_at (fields_of layout.now) number) result }
 {

@@ -37,7 +37,7 @@ fn decode_run<T: BitStore, O: FieldOrder, A: Allocator>(
     out: &mut [u128],
 )
     requires bits { (seen view).window.len ≡ bits_of layout.now }
-    requires places { length out.old ≡ length (fields_of layout.now) }
+    requires lengths { length out.old ≡ length (fields_of layout.now) }
     requires run { IsRun (fields_of layout.now) first last }
     requires several { first < last }
     requires seamless { IsSeamless endian O.HIGH }
@@ -93,7 +93,7 @@ fn decode_words<T: BitStore, O: FieldOrder, A: Allocator>(
     out: &mut [u128],
 )
     requires bits { (seen view).window.len ≡ bits_of layout.now }
-    requires places { length out.old ≡ length (fields_of layout.now) }
+    requires lengths { length out.old ≡ length (fields_of layout.now) }
     requires seamless { IsSeamless endian O.HIGH }
     ensures { out.new ≡ record_in endian O.HIGH T.BITS (seen view.entry).window.start (seen view.entry).bits (fields_of layout.now) }
 {
@@ -118,7 +118,7 @@ pub fn decode<T: BitStore, O: FieldOrder, A: Allocator>(
     out: &mut [u128],
 )
     requires bits { (seen view).window.len ≡ bits_of layout.now }
-    requires places { length out.old ≡ length (fields_of layout.now) }
+    requires lengths { length out.old ≡ length (fields_of layout.now) }
     ensures numbers { out.new ≡ record_in endian O.HIGH T.BITS (seen view.entry).window.start (seen view.entry).bits (fields_of layout.now) }
     ensures fit { AreEncodable (fields_of layout.now) out.new }
 {

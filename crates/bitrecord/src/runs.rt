@@ -12,7 +12,7 @@ pub(crate) const KEPT: usize = 64;
 /// The last field of the run that begins with a field. Conditions: there is such a field, and the fields
 /// have a width and lie in so many bits.
 pub(crate) fn last_in_run(fields: &[Window], bits: usize, first: usize) -> usize
-    requires below { first < length fields.now }
+    requires bound { first < length fields.now }
     requires widths { EachField HasWidth fields.now }
     requires inside { EachField (λ field. IsWithin field bits) fields.now }
     ensures { IsRun fields.now first result }

@@ -45,7 +45,7 @@ fn overlap(first: Window, second: Window) -> bool
 /// The first field behind that of a number that has a bit in common with it. Conditions: there is
 /// such a field, and the fields' ends are `usize`s.
 fn first_overlap_with(fields: &[Window], bits: usize, number: usize) -> Option<usize>
-    requires below { number < length fields.now }
+    requires bound { number < length fields.now }
     requires inside { EachField (λ field. IsWithin field bits) fields.now }
     ensures found { IfSome result (λ j. (number < j) × (j < length fields.now) × Overlap (field_at fields.now number) (field_at fields.now j) × IsApartFrom fields.now number (number + 1) j) }
     ensures none { IfNone result (IsApartFrom fields.now number (number + 1) (length fields.now)) }

@@ -17,7 +17,7 @@ pub fn write_and_read<T: BitStore, O: FieldOrder, A: Allocator>(
     numbers: &mut [u128],
 ) -> Result<(), EncodeError>
     requires bits { (seen_mut view.old).window.len ≡ bits_of layout.now }
-    requires places { length numbers.old ≡ length (fields_of layout.now) }
+    requires lengths { length numbers.old ≡ length (fields_of layout.now) }
     ensures { OnOk result (numbers.new ≡ values.now) }
 {
     encode(layout, endian, values, view)?;
@@ -33,7 +33,7 @@ pub fn read_and_write<T: BitStore, O: FieldOrder, A: Allocator>(
     numbers: &mut [u128],
 ) -> Result<(), EncodeError>
     requires bits { (seen_mut view.old).window.len ≡ bits_of layout.now }
-    requires places { length numbers.old ≡ length (fields_of layout.now) }
+    requires lengths { length numbers.old ≡ length (fields_of layout.now) }
     ensures accepted { IsOk result }
     ensures written { WritesBits view.old view.new (seen_mut view.old).bits }
 {
@@ -54,7 +54,7 @@ pub fn read_both<T: BitStore, O: FieldOrder, A: Allocator>(
     requires bits { (seen view).window.len ≡ bits_of layout.now }
     requires window { (seen other).window ≡ (seen view).window }
     requires outside { AgreeOutside (fields_of layout.now) (seen view).bits (seen other).bits }
-    requires places { length numbers.old ≡ length (fields_of layout.now) }
+    requires lengths { length numbers.old ≡ length (fields_of layout.now) }
     requires other_places { length others.old ≡ length (fields_of layout.now) }
     ensures { numbers.new ≡ others.new → (seen view.entry).bits ≡ (seen other.entry).bits }
 {

@@ -15,7 +15,7 @@ pub use bitvec_owned::edit::slice::{
     from_mut, from_ref,
 };
 pub use bitvec_pieces::split::{
-    CountedSplitWalk, Forward, Inclusive, RSplit, RSplitMut, RSplitN, RSplitNMut, Reversed, Split,
+    Forward, Inclusive, LimitedSplitWalk, RSplit, RSplitMut, RSplitN, RSplitNMut, Reversed, Split,
     SplitCalls, SplitCallsMut, SplitInclusive, SplitInclusiveMut, SplitMut, SplitN, SplitNMut,
     SplitWalk, Splits, SplitsMut, SplitsN, SplitsNMut, Way,
 };

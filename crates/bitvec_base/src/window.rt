@@ -27,7 +27,7 @@ impl Window {
     /// The window without its first `count` bits. Condition: it has so many, and its end is a
     /// `usize`.
     pub fn after(self, count: usize) -> Window
-        requires count { count ≤ self.len }
+        requires bound { count ≤ self.len }
         requires end { self.start + self.len < 2 ^ 64 }
         ensures { result ≡ window_after count self }
     {

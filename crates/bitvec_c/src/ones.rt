@@ -47,7 +47,7 @@ fn ones_in<T: BitStore, O: SliceOrder>(
     indices: &mut [usize],
 ) -> usize
     requires window { HasWindow T.BITS (map T.value elements.now) window }
-    requires from { from ≤ window.len }
+    requires bound { from ≤ window.len }
     ensures found { result ≡ min (length (ones_from from (list_in T.BITS O.at (map T.value elements.now) window))) (length indices.old) }
     ensures indices { indices.new ≡ take result (ones_from from (list_in T.BITS O.at (map T.value elements.now) window)) ++ drop result indices.old }
 {

@@ -4,8 +4,8 @@ use Rattle.bitvec_cells.specs.base.declared.part.Part.{Part}
 use Rattle.bitvec_cells.specs.base.declared.window.Window.{Window}
 
 -- the elements of b bits that hold a bit of the n places from s on: none if n is 0
-unfoldable pub touched : ℕ → ℕ → ℕ → ℕ
-touched b s n = if n == 0 then 0 else (s + n - 1) / b - s / b + 1
+unfoldable pub touched_count : ℕ → ℕ → ℕ → ℕ
+touched_count b s n = if n == 0 then 0 else (s + n - 1) / b - s / b + 1
 
 -- the loads that a fill takes: none of a part that is a whole element, and at most its two edges of a window
 abbrev pub part_loads : ℕ → Part → ℕ
@@ -16,12 +16,12 @@ fill_loads n = if n == 0 then 0 else 2
 
 -- the loads of a search from the front, or from the back: up to the element that has the bit; all, where there is none
 abbrev pub first_loads : ℕ → Window → Option ℕ → ℕ
-first_loads b window None = touched b window.start window.len
-first_loads b window (Some i) = touched b window.start (i + 1)
+first_loads b window None = touched_count b window.start window.len
+first_loads b window (Some i) = touched_count b window.start (i + 1)
 
 abbrev pub last_loads : ℕ → Window → Option ℕ → ℕ
-last_loads b window None = touched b window.start window.len
-last_loads b window (Some i) = touched b (window.start + i) (window.len - i)
+last_loads b window None = touched_count b window.start window.len
+last_loads b window (Some i) = touched_count b (window.start + i) (window.len - i)
 
 -- ---- work on whole windows, in steps
 

@@ -3,7 +3,7 @@ use Rattle.std.specs.Prelude.{◌≡◌, ℕ, ◌+◌, ◌-◌, ◌*◌, ◌/◌
 use Rattle.std.proofs.Common.{arith}
 use Rattle.std.proofs.Math.Nat.{mul-le-mul_left, mul_assoc}
 use Rattle.std.proofs.lemmas.Nat.{div-add-mod', div_below, mod_below}
-use Rattle.bitvec_cells.specs.Cost.{touched, fill_loads, work_steps, step_span, read_loads, write_loads, write_stores, reverse_loads, reverse_stores}
+use Rattle.bitvec_cells.specs.Cost.{touched_count, fill_loads, work_steps, step_span, read_loads, write_loads, write_stores, reverse_loads, reverse_stores}
 use Rattle.bitvec_cells.specs.WalkLaws.{touched-none, touched-some}
 
 -- ---- bit by bit
@@ -68,7 +68,7 @@ begun b q m some below =
     let under = div_below (m + b - 1) b (q * c + 1) some (omega arith) in
     omega arith
 
-in_words : (b s n : ℕ) → 0 < b → touched b s n ≤ work_steps true n * step_span b true
+in_words : (b s n : ℕ) → 0 < b → touched_count b s n ≤ work_steps true n * step_span b true
 unfolding work_steps step_span
 in_words b s zero some = let none = touched-none b s in omega arith
 in_words b s (suc m) some =
@@ -80,7 +80,7 @@ in_words b s (suc m) some =
     omega arith
 
 -- no more elements than bits
-pub touched_bits : (b s n : ℕ) → 0 < b → touched b s n ≤ n
+pub touched_bits : (b s n : ℕ) → 0 < b → touched_count b s n ≤ n
 touched_bits b s zero some = let none = touched-none b s in omega arith
 touched_bits b s (suc m) some =
     let more = touched-some b s m in
@@ -89,7 +89,7 @@ touched_bits b s (suc m) some =
     let most = div_below (m + b - 1) b (m + 1) some (omega arith) in
     omega arith
 
-pub touched_enough : (b : ℕ) (words : Bool) (s n : ℕ) → 0 < b → touched b s n ≤ work_steps words n * step_span b words
+pub touched_enough : (b : ℕ) (words : Bool) (s n : ℕ) → 0 < b → touched_count b s n ≤ work_steps words n * step_span b words
 touched_enough b true s n some = in_words b s n some
 touched_enough b false s n some =
     let steps = work_steps-one n in
@@ -98,11 +98,11 @@ touched_enough b false s n some =
     rw steps (omega (arith, mul-le-mul_left n wide))
 
 -- so what loads and stores each touched element once, and the edges of what it writes once more, keeps the bounds
-pub touched_read : (b : ℕ) (words : Bool) (s n : ℕ) → 0 < b → touched b s n ≤ read_loads b words n
+pub touched_read : (b : ℕ) (words : Bool) (s n : ℕ) → 0 < b → touched_count b s n ≤ read_loads b words n
 unfolding read_loads
 touched_read b words s n some = touched_enough b words s n some
 
-pub touched_stored : (b : ℕ) (words : Bool) (s n : ℕ) → 0 < b → touched b s n ≤ write_stores b words n
+pub touched_stored : (b : ℕ) (words : Bool) (s n : ℕ) → 0 < b → touched_count b s n ≤ write_stores b words n
 unfolding write_stores
 touched_stored b words s n some = touched_enough b words s n some
 

@@ -11,21 +11,21 @@ use Rattle.bitvec_cells.specs.base.PlacesLaws.{first_place-below, last_place-bel
 use Rattle.bitvec_cells.specs.base.SliceLaws.{range-none}
 use Rattle.bitvec_cells.specs.base.Window.{window_after, window_of}
 use Rattle.bitvec_cells.specs.base.WritesLaws.{length-list, Writes-empty, Writes-join, list-join}
-use Rattle.bitvec_cells.specs.Cost.{touched, part_loads, first_loads, last_loads}
+use Rattle.bitvec_cells.specs.Cost.{touched_count, part_loads, first_loads, last_loads}
 use Rattle.bitvec_cells.specs.Walk.{Walked, edge_loads, passed}
 
-pub touched-none : (b s : ℕ) → touched b s 0 ≡ 0
-unfolding touched
+pub touched-none : (b s : ℕ) → touched_count b s 0 ≡ 0
+unfolding touched_count
 touched-none b s = refl
 
-pub touched-some : (b s n : ℕ) → touched b s (suc n) ≡ (s + n) / b - s / b + 1
-unfolding touched
+pub touched-some : (b s n : ℕ) → touched_count b s (suc n) ≡ (s + n) / b - s / b + 1
+unfolding touched_count
 touched-some b s n =
     cond-false (eqb (suc n) 0) 0 _ (ne_eqb (suc n) 0 (λ e. omega arith))
     ∙ ap (λ (m : ℕ). m / b - s / b + 1) (let e : s + suc n - 1 ≡ s + n = omega arith in e)
 
 -- the elements up to an end
-pub touched-until : (b s e : ℕ) → s < e → touched b s (e - s) ≡ (e - 1) / b - s / b + 1
+pub touched-until : (b s e : ℕ) → s < e → touched_count b s (e - s) ≡ (e - 1) / b - s / b + 1
 touched-until b s e h =
     let more : e - s ≡ suc (e - s - 1) = omega arith in
     let last : s + (e - s - 1) ≡ e - 1 = omega arith in
@@ -35,7 +35,7 @@ pub div-order : (b m n : ℕ) → 0 < b → m ≤ n → m / b ≤ n / b
 div-order b m n some order = let below = div-add-mod' m b in le-div (m / b) n b some (omega arith)
 
 -- fewer places touch no more elements
-pub touched-less : (b s m n : ℕ) → 0 < b → m ≤ n → touched b s m ≤ touched b s n
+pub touched-less : (b s m n : ℕ) → 0 < b → m ≤ n → touched_count b s m ≤ touched_count b s n
 touched-less b s zero n some order = let none = touched-none b s in omega arith
 touched-less b s (suc m) zero some order = absurd (omega arith)
 touched-less b s (suc m) (suc n) some order =
@@ -45,16 +45,16 @@ touched-less b s (suc m) (suc n) some order =
     omega arith
 
 -- a search takes no more loads than one that finds nothing
-first_most : (b : ℕ) (window : Window) (o : Option ℕ) → 0 < b → ((i : ℕ) → o ≡ Some i → i < window.len) → first_loads b window o ≤ touched b window.start window.len
+first_most : (b : ℕ) (window : Window) (o : Option ℕ) → 0 < b → ((i : ℕ) → o ≡ Some i → i < window.len) → first_loads b window o ≤ touched_count b window.start window.len
 first_most b window None some below = omega arith
 first_most b window (Some i) some below = touched-less b window.start (i + 1) window.len some (let h = below i refl in omega arith)
 
-pub first_loads-most : (b : ℕ) (at : ℕ → ℕ → ℕ) (xs : List ℕ) (window : Window) (want : Bool) → 0 < b → HasWindow b xs window → first_loads b window (first_place want (list_in b at xs window)) ≤ touched b window.start window.len
+pub first_loads-most : (b : ℕ) (at : ℕ → ℕ → ℕ) (xs : List ℕ) (window : Window) (want : Bool) → 0 < b → HasWindow b xs window → first_loads b window (first_place want (list_in b at xs window)) ≤ touched_count b window.start window.len
 first_loads-most b at xs window want some has =
     let long = length-list b at xs window has in
     first_most b window _ some (λ i found. let below = first_place-below want (list_in b at xs window) i found in omega arith)
 
-touched-later : (b s m n : ℕ) → 0 < b → m < n → touched b (s + m) (n - m) ≤ touched b s n
+touched-later : (b s m n : ℕ) → 0 < b → m < n → touched_count b (s + m) (n - m) ≤ touched_count b s n
 touched-later b s m n some order =
     let first : s + n - (s + m) ≡ n - m = omega arith in
     let all : s + n - s ≡ n = omega arith in
@@ -63,11 +63,11 @@ touched-later b s m n some order =
     let start = div-order b s (s + m) some (omega arith) in
     omega arith
 
-last_most : (b : ℕ) (window : Window) (o : Option ℕ) → 0 < b → ((i : ℕ) → o ≡ Some i → i < window.len) → last_loads b window o ≤ touched b window.start window.len
+last_most : (b : ℕ) (window : Window) (o : Option ℕ) → 0 < b → ((i : ℕ) → o ≡ Some i → i < window.len) → last_loads b window o ≤ touched_count b window.start window.len
 last_most b window None some below = omega arith
 last_most b window (Some i) some below = touched-later b window.start i window.len some (below i refl)
 
-pub last_loads-most : (b : ℕ) (at : ℕ → ℕ → ℕ) (xs : List ℕ) (window : Window) (want : Bool) → 0 < b → HasWindow b xs window → last_loads b window (last_place want (list_in b at xs window)) ≤ touched b window.start window.len
+pub last_loads-most : (b : ℕ) (at : ℕ → ℕ → ℕ) (xs : List ℕ) (window : Window) (want : Bool) → 0 < b → HasWindow b xs window → last_loads b window (last_place want (list_in b at xs window)) ≤ touched_count b window.start window.len
 last_loads-most b at xs window want some has =
     let long = length-list b at xs window has in
     last_most b window _ some (λ i found. let below = last_place-below want (list_in b at xs window) i found in omega arith)
@@ -113,7 +113,7 @@ Walked-next b window rest t some more step walk =
 
 -- each part takes one element more, however many of its bits are taken
 pub touched-next : (b : ℕ) (window rest : Window) (t : ℕ) → 0 < b → 0 < rest.len → 0 < t → t ≤ (first_part_of b rest).to - (first_part_of b rest).from → Walked b window rest
-    → touched b window.start (rest.start + t - window.start) ≡ touched b window.start (rest.start - window.start) + 1
+    → touched_count b window.start (rest.start + t - window.start) ≡ touched_count b window.start (rest.start - window.start) + 1
 touched-next b window rest t some more taken within walk =
     let start = walk.start in
     let head = mod_below rest.start b some in
@@ -139,7 +139,7 @@ touched-next b window rest t some more taken within walk =
     omega arith)
     (λ (first : rest.start ≤ window.start).
     let same : rest.start ≡ window.start = omega arith in
-    let none : touched b window.start (rest.start - window.start) ≡ 0 = ap (touched b window.start) (let e : rest.start - window.start ≡ 0 = omega arith in e) ∙ touched-none b window.start in
+    let none : touched_count b window.start (rest.start - window.start) ≡ 0 = ap (touched_count b window.start) (let e : rest.start - window.start ≡ 0 = omega arith in e) ∙ touched-none b window.start in
     let at = ap (λ (m : ℕ). m / b) same in
     omega arith)
     (cases_lt window.start rest.start)

@@ -12,7 +12,7 @@ use bitvec_base::{BitOrder, Window};
 /// lies in it, and the index is below the window's length. It takes one load.
 pub fn get_bit<O: BitOrder, C: CellsRead>(cells: &mut C, window: Window, index: usize) -> bool
     requires window { HasWindow C.Elem.BITS (C.numbers cells.old) window }
-    requires index { index < window.len }
+    requires bound { index < window.len }
     ensures value { result ≡ slice_index_or (list_in C.Elem.BITS O.at (C.numbers cells.old) window) index false }
     ensures reads { OnlyReads C.CellsRead cells.old cells.new 1 }
 {
@@ -31,7 +31,7 @@ pub fn replace_bit<O: BitOrder, C: Cells>(
     bit: bool,
 ) -> bool
     requires window { HasWindow C.Elem.BITS (C.numbers cells.old) window }
-    requires index { index < window.len }
+    requires bound { index < window.len }
     ensures value { result ≡ slice_index_or (list_in C.Elem.BITS O.at (C.numbers cells.old) window) index false }
     ensures writes { Edits C.Elem.BITS O.at (C.numbers cells.old) (C.numbers cells.new) window (λ list. slice_set list index bit) }
     ensures cost { Costs C.CellsRead cells.old cells.new 1 1 }

@@ -31,7 +31,7 @@ pub fn load_le<T: BitStore>(
 
 fn load_le_in<T: BitStore, O: FieldOrder>(elements: &[T], window: Window) -> u64
     requires window { HasWindow T.BITS (map T.value elements.now) window }
-    requires most { window.len ≤ 64 }
+    requires bound { window.len ≤ 64 }
     ensures { result ≡ loaded_le O.HIGH T.BITS window.start (list_in T.BITS O.at (map T.value elements.now) window) }
 {
     let mut cells = Shared::new(elements);
@@ -58,7 +58,7 @@ pub fn load_be<T: BitStore>(
 
 fn load_be_in<T: BitStore, O: FieldOrder>(elements: &[T], window: Window) -> u64
     requires window { HasWindow T.BITS (map T.value elements.now) window }
-    requires most { window.len ≤ 64 }
+    requires bound { window.len ≤ 64 }
     ensures { result ≡ loaded_be O.HIGH T.BITS window.start (list_in T.BITS O.at (map T.value elements.now) window) }
 {
     let mut cells = Shared::new(elements);
@@ -85,7 +85,7 @@ pub fn store_le<T: BitStore>(
 
 fn store_le_in<T: BitStore, O: FieldOrder>(elements: &mut [T], window: Window, number: u64)
     requires window { HasWindow T.BITS (map T.value elements.old) window }
-    requires most { window.len ≤ 64 }
+    requires bound { window.len ≤ 64 }
     ensures writes { EditsList T.BITS O.at (map T.value elements.old) (map T.value elements.new) window (stored_le O.HIGH T.BITS window.start number) }
 {
     let mut cells = Exclusive::new(elements);
@@ -112,7 +112,7 @@ pub fn store_be<T: BitStore>(
 
 fn store_be_in<T: BitStore, O: FieldOrder>(elements: &mut [T], window: Window, number: u64)
     requires window { HasWindow T.BITS (map T.value elements.old) window }
-    requires most { window.len ≤ 64 }
+    requires bound { window.len ≤ 64 }
     ensures writes { EditsList T.BITS O.at (map T.value elements.old) (map T.value elements.new) window (stored_be O.HIGH T.BITS window.start number) }
 {
     let mut cells = Exclusive::new(elements);

@@ -4,7 +4,7 @@ ghost use Rattle.std.specs.Prelude.{◌≡◌, ℕ, ◌+◌, ◌-◌, ◌*◌, �
 ghost use Rattle.bitvec_move.specs.base.Lists.{combined};
 ghost use Rattle.bitvec_move.specs.base.Memory.{HasWindow, Writes, list_in};
 ghost use Rattle.bitvec_move.specs.cells.Access.{CostsAtMost, OnlyReads, OnlyReadsAtMost};
-ghost use Rattle.bitvec_move.specs.walk.Cost.{edit_loads, read_loads, touched, write_stores};
+ghost use Rattle.bitvec_move.specs.walk.Cost.{edit_loads, read_loads, touched_count, write_stores};
 ghost use Rattle.bitvec_move.specs.words.Operator.{operator};
 
 use crate::combining_elements::{
@@ -59,8 +59,8 @@ fn combine_met<O: WordOrder, C: Cells, D: CellsRead<Elem = C::Elem>>(
     requires lengths { from.len ≤ to.len }
     ensures writes { Writes C.Elem.BITS O.at (C.numbers left.old) (C.numbers left.new) to
         (combined (operator op) (list_in C.Elem.BITS O.at (C.numbers left.old) to) (list_in C.Elem.BITS O.at (D.numbers right.old) from)) }
-    ensures cost { let each = touched C.Elem.BITS to.start to.len in CostsAtMost C.CellsRead left.old left.new each each }
-    ensures right { OnlyReads D.CellsRead right.old right.new (touched C.Elem.BITS from.start from.len) }
+    ensures cost { let each = touched_count C.Elem.BITS to.start to.len in CostsAtMost C.CellsRead left.old left.new each each }
+    ensures right { OnlyReads D.CellsRead right.old right.new (touched_count C.Elem.BITS from.start from.len) }
 {
     let bits = C::Elem::BITS as usize;
     let head = first_part(bits, to);
@@ -95,8 +95,8 @@ fn combine_aligned<O: WordOrder, C: Cells, D: CellsRead<Elem = C::Elem>>(
     requires right_edge { from.start % C.Elem.BITS ≡ 0 }
     ensures writes { Writes C.Elem.BITS O.at (C.numbers left.old) (C.numbers left.new) to
         (combined (operator op) (list_in C.Elem.BITS O.at (C.numbers left.old) to) (list_in C.Elem.BITS O.at (D.numbers right.old) from)) }
-    ensures cost { let each = touched C.Elem.BITS to.start to.len in CostsAtMost C.CellsRead left.old left.new each each }
-    ensures right { OnlyReads D.CellsRead right.old right.new (touched C.Elem.BITS from.start from.len) }
+    ensures cost { let each = touched_count C.Elem.BITS to.start to.len in CostsAtMost C.CellsRead left.old left.new each each }
+    ensures right { OnlyReads D.CellsRead right.old right.new (touched_count C.Elem.BITS from.start from.len) }
 {
     let bits = C::Elem::BITS as usize;
     let count = from.len / bits;
@@ -131,8 +131,8 @@ fn combine_shifted<O: WordOrder, C: Cells, D: CellsRead<Elem = C::Elem>>(
     requires carry { C.Elem.value carry ≡ slice_index (D.numbers right.old) (from.start / C.Elem.BITS) }
     ensures writes { Writes C.Elem.BITS O.at (C.numbers left.old) (C.numbers left.new) to
         (combined (operator op) (list_in C.Elem.BITS O.at (C.numbers left.old) to) (list_in C.Elem.BITS O.at (D.numbers right.old) from)) }
-    ensures cost { let each = touched C.Elem.BITS to.start to.len in CostsAtMost C.CellsRead left.old left.new each each }
-    ensures right { OnlyReads D.CellsRead right.old right.new (touched C.Elem.BITS from.start from.len - 1) }
+    ensures cost { let each = touched_count C.Elem.BITS to.start to.len in CostsAtMost C.CellsRead left.old left.new each each }
+    ensures right { OnlyReads D.CellsRead right.old right.new (touched_count C.Elem.BITS from.start from.len - 1) }
 {
     let bits = C::Elem::BITS as usize;
     let count = from.len / bits;

@@ -4,7 +4,7 @@ ghost use Rattle.bitvec_move.specs.base.Lists.{combined};
 ghost use Rattle.bitvec_move.specs.base.Memory.{HasWindow, Writes, element_bits, list_in};
 ghost use Rattle.bitvec_move.specs.base.Parts.{HasPart, part_window};
 ghost use Rattle.bitvec_move.specs.cells.Access.{Costs, CostsAtMost, OnlyReads, OnlyReadsAtMost};
-ghost use Rattle.bitvec_move.specs.walk.Cost.{touched};
+ghost use Rattle.bitvec_move.specs.walk.Cost.{touched_count};
 ghost use Rattle.bitvec_move.specs.words.Elements.{elements_window, elements_window_from};
 ghost use Rattle.bitvec_move.specs.words.Operator.{operator};
 
@@ -65,7 +65,7 @@ pub(crate) fn combine_head<O: WordOrder, C: Cells, D: CellsRead<Elem = C::Elem>>
         (list_in C.Elem.BITS O.at (D.numbers right.old) from)) }
     ensures last { C.Elem.value result ≡ slice_index (D.numbers right.old) ((from.start + from.len - 1) / C.Elem.BITS) }
     ensures cost { Costs C.CellsRead left.old left.new 1 1 }
-    ensures right { OnlyReads D.CellsRead right.old right.new (touched C.Elem.BITS from.start from.len) }
+    ensures right { OnlyReads D.CellsRead right.old right.new (touched_count C.Elem.BITS from.start from.len) }
 {
     let (front, last) = field::<O, D>(right, from);
     let other = padded::<O, C::Elem>(front, from.len);
@@ -80,7 +80,7 @@ pub fn combine_zeros<O: BitOrder, C: Cells>(cells: &mut C, window: Window, op: B
     requires { HasWindow C.Elem.BITS (C.numbers cells.old) window }
     ensures writes { Writes C.Elem.BITS O.at (C.numbers cells.old) (C.numbers cells.new) window
         (combined (operator op) (list_in C.Elem.BITS O.at (C.numbers cells.old) window) []) }
-    ensures cost { let each = touched C.Elem.BITS window.start window.len in CostsAtMost C.CellsRead cells.old cells.new each each }
+    ensures cost { let each = touched_count C.Elem.BITS window.start window.len in CostsAtMost C.CellsRead cells.old cells.new each each }
 {
     match op {
         BitOp::And => fill::<O, C>(cells, window, false),
@@ -102,7 +102,7 @@ pub(crate) fn combine_end<O: BitOrder, C: Cells>(
     requires edge { window.start % C.Elem.BITS ≡ 0 }
     ensures writes { Writes C.Elem.BITS O.at (C.numbers cells.old) (C.numbers cells.new) window
         (combined (operator op) (list_in C.Elem.BITS O.at (C.numbers cells.old) window) (element_bits C.Elem.BITS O.at (C.Elem.value other))) }
-    ensures cost { let each = touched C.Elem.BITS window.start window.len in CostsAtMost C.CellsRead cells.old cells.new each each }
+    ensures cost { let each = touched_count C.Elem.BITS window.start window.len in CostsAtMost C.CellsRead cells.old cells.new each each }
 {
     let part = first_part(C::Elem::BITS as usize, window);
     combine_part::<O, C>(cells, part, other, op);

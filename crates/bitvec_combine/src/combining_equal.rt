@@ -4,7 +4,7 @@ ghost use Rattle.bitvec_move.specs.base.Lists.{combined};
 ghost use Rattle.bitvec_move.specs.base.Memory.{HasWindow, Writes, list_in};
 ghost use Rattle.bitvec_move.specs.base.Parts.{HasPart, part_window};
 ghost use Rattle.bitvec_move.specs.cells.Access.{Costs, OnlyReads};
-ghost use Rattle.bitvec_move.specs.walk.Cost.{touched};
+ghost use Rattle.bitvec_move.specs.walk.Cost.{touched_count};
 ghost use Rattle.bitvec_move.specs.words.Operator.{operator};
 
 use crate::combining_elements::{combine_part, combine_whole};
@@ -31,8 +31,8 @@ pub fn combine_equal<O: BitOrder, C: Cells, D: CellsRead<Elem = C::Elem>>(
     requires phases { to.start % C.Elem.BITS ≡ from.start % C.Elem.BITS }
     ensures writes { Writes C.Elem.BITS O.at (C.numbers left.old) (C.numbers left.new) to
         (combined (operator op) (list_in C.Elem.BITS O.at (C.numbers left.old) to) (list_in C.Elem.BITS O.at (D.numbers right.old) from)) }
-    ensures cost { let each = touched C.Elem.BITS to.start to.len in Costs C.CellsRead left.old left.new each each }
-    ensures right { OnlyReads D.CellsRead right.old right.new (touched C.Elem.BITS from.start from.len) }
+    ensures cost { let each = touched_count C.Elem.BITS to.start to.len in Costs C.CellsRead left.old left.new each each }
+    ensures right { OnlyReads D.CellsRead right.old right.new (touched_count C.Elem.BITS from.start from.len) }
 {
     let bits = C::Elem::BITS as usize;
     let head = first_part(bits, to);
@@ -59,8 +59,8 @@ fn combine_unpadded<O: BitOrder, C: Cells, D: CellsRead<Elem = C::Elem>>(
     requires right_edge { from.start % C.Elem.BITS ≡ 0 }
     ensures writes { Writes C.Elem.BITS O.at (C.numbers left.old) (C.numbers left.new) to
         (combined (operator op) (list_in C.Elem.BITS O.at (C.numbers left.old) to) (list_in C.Elem.BITS O.at (D.numbers right.old) from)) }
-    ensures cost { let each = touched C.Elem.BITS to.start to.len in Costs C.CellsRead left.old left.new each each }
-    ensures right { OnlyReads D.CellsRead right.old right.new (touched C.Elem.BITS from.start from.len) }
+    ensures cost { let each = touched_count C.Elem.BITS to.start to.len in Costs C.CellsRead left.old left.new each each }
+    ensures right { OnlyReads D.CellsRead right.old right.new (touched_count C.Elem.BITS from.start from.len) }
 {
     let bits = C::Elem::BITS as usize;
     let count = to.len / bits;

@@ -4,7 +4,7 @@ ghost use Rattle.bitvec_move.specs.base.Lists.{same_bits};
 ghost use Rattle.bitvec_move.specs.base.Memory.{HasWindow, list_in};
 ghost use Rattle.bitvec_move.specs.base.Parts.{HasPart, part_window};
 ghost use Rattle.bitvec_move.specs.cells.Access.{OnlyReads, OnlyReadsAtMost};
-ghost use Rattle.bitvec_move.specs.walk.Cost.{touched};
+ghost use Rattle.bitvec_move.specs.walk.Cost.{touched_count};
 ghost use Rattle.bitvec_move.specs.words.Elements.{elements_window};
 
 use bitvec_move::base::{BitOrder, Part, Window, first_part};
@@ -53,8 +53,8 @@ pub fn equal_unshifted<O: BitOrder, C: CellsRead, D: CellsRead<Elem = C::Elem>>(
     requires phases { left_window.start % C.Elem.BITS ≡ right_window.start % C.Elem.BITS }
     ensures value { result ≡ same_bits (list_in C.Elem.BITS O.at (C.numbers left.old) left_window)
         (list_in C.Elem.BITS O.at (D.numbers right.old) right_window) }
-    ensures reads { OnlyReadsAtMost C.CellsRead left.old left.new (touched C.Elem.BITS left_window.start left_window.len) }
-    ensures right { OnlyReadsAtMost D.CellsRead right.old right.new (touched C.Elem.BITS right_window.start right_window.len) }
+    ensures reads { OnlyReadsAtMost C.CellsRead left.old left.new (touched_count C.Elem.BITS left_window.start left_window.len) }
+    ensures right { OnlyReadsAtMost D.CellsRead right.old right.new (touched_count C.Elem.BITS right_window.start right_window.len) }
 {
     let bits = C::Elem::BITS as usize;
     let head = first_part(bits, left_window);
@@ -87,8 +87,8 @@ fn equal_aligned<O: BitOrder, C: CellsRead, D: CellsRead<Elem = C::Elem>>(
     requires right_edge { right_window.start % C.Elem.BITS ≡ 0 }
     ensures value { result ≡ same_bits (list_in C.Elem.BITS O.at (C.numbers left.old) left_window)
         (list_in C.Elem.BITS O.at (D.numbers right.old) right_window) }
-    ensures reads { OnlyReadsAtMost C.CellsRead left.old left.new (touched C.Elem.BITS left_window.start left_window.len) }
-    ensures right { OnlyReadsAtMost D.CellsRead right.old right.new (touched C.Elem.BITS right_window.start right_window.len) }
+    ensures reads { OnlyReadsAtMost C.CellsRead left.old left.new (touched_count C.Elem.BITS left_window.start left_window.len) }
+    ensures right { OnlyReadsAtMost D.CellsRead right.old right.new (touched_count C.Elem.BITS right_window.start right_window.len) }
 {
     let bits = C::Elem::BITS as usize;
     let (first, source) = (left_window.start / bits, right_window.start / bits);
@@ -124,8 +124,8 @@ fn equal_aligned_rest<O: BitOrder, C: CellsRead, D: CellsRead<Elem = C::Elem>>(
     requires right_edge { right_window.start % C.Elem.BITS ≡ 0 }
     ensures value { result ≡ same_bits (list_in C.Elem.BITS O.at (C.numbers left.old) left_window)
         (list_in C.Elem.BITS O.at (D.numbers right.old) right_window) }
-    ensures reads { OnlyReadsAtMost C.CellsRead left.old left.new (touched C.Elem.BITS left_window.start left_window.len) }
-    ensures right { OnlyReadsAtMost D.CellsRead right.old right.new (touched C.Elem.BITS right_window.start right_window.len) }
+    ensures reads { OnlyReadsAtMost C.CellsRead left.old left.new (touched_count C.Elem.BITS left_window.start left_window.len) }
+    ensures right { OnlyReadsAtMost D.CellsRead right.old right.new (touched_count C.Elem.BITS right_window.start right_window.len) }
 {
     let bits = C::Elem::BITS as usize;
     let count = left_window.len / bits;

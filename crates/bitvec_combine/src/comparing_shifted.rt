@@ -5,7 +5,7 @@ ghost use Rattle.bitvec_move.specs.base.Lists.{same_bits};
 ghost use Rattle.bitvec_move.specs.base.Memory.{HasWindow, list_in};
 ghost use Rattle.bitvec_move.specs.base.Parts.{HasPart, part_window};
 ghost use Rattle.bitvec_move.specs.cells.Access.{OnlyReads, OnlyReadsAtMost};
-ghost use Rattle.bitvec_move.specs.walk.Cost.{touched};
+ghost use Rattle.bitvec_move.specs.walk.Cost.{touched_count};
 ghost use Rattle.bitvec_move.specs.words.Elements.{elements_window, elements_window_from};
 
 use crate::combining_elements::MANY_BYTES;
@@ -32,8 +32,8 @@ pub(crate) fn equal_shifted<O: WordOrder, C: CellsRead, D: CellsRead<Elem = C::E
     requires phases { left_window.start % C.Elem.BITS ≢ right_window.start % C.Elem.BITS }
     ensures value { result ≡ same_bits (list_in C.Elem.BITS O.at (C.numbers left.old) left_window)
         (list_in C.Elem.BITS O.at (D.numbers right.old) right_window) }
-    ensures reads { OnlyReadsAtMost C.CellsRead left.old left.new (touched C.Elem.BITS left_window.start left_window.len) }
-    ensures right { OnlyReadsAtMost D.CellsRead right.old right.new (touched C.Elem.BITS right_window.start right_window.len) }
+    ensures reads { OnlyReadsAtMost C.CellsRead left.old left.new (touched_count C.Elem.BITS left_window.start left_window.len) }
+    ensures right { OnlyReadsAtMost D.CellsRead right.old right.new (touched_count C.Elem.BITS right_window.start right_window.len) }
 {
     let bits = C::Elem::BITS as usize;
     if left_window.start % bits == 0 {
@@ -76,7 +76,7 @@ fn equal_shifted_head<O: WordOrder, C: CellsRead, D: CellsRead<Elem = C::Elem>>(
     ensures last { C.Elem.value result.1
         ≡ slice_index (D.numbers right.old) ((window.start + window.len - 1) / C.Elem.BITS) }
     ensures reads { OnlyReads C.CellsRead left.old left.new 1 }
-    ensures right { OnlyReads D.CellsRead right.old right.new (touched C.Elem.BITS window.start window.len) }
+    ensures right { OnlyReads D.CellsRead right.old right.new (touched_count C.Elem.BITS window.start window.len) }
 {
     let (front, last) = field::<O, D>(right, window);
     let moved = toward_end::<O, C::Elem>(front, part.from);
@@ -104,8 +104,8 @@ fn equal_carried<O: WordOrder, C: CellsRead, D: CellsRead<Elem = C::Elem>>(
     requires carry { C.Elem.value carry ≡ slice_index (D.numbers right.old) (right_window.start / C.Elem.BITS) }
     ensures value { result ≡ same_bits (list_in C.Elem.BITS O.at (C.numbers left.old) left_window)
         (list_in C.Elem.BITS O.at (D.numbers right.old) right_window) }
-    ensures reads { OnlyReadsAtMost C.CellsRead left.old left.new (touched C.Elem.BITS left_window.start left_window.len) }
-    ensures right { OnlyReadsAtMost D.CellsRead right.old right.new (touched C.Elem.BITS right_window.start right_window.len - 1) }
+    ensures reads { OnlyReadsAtMost C.CellsRead left.old left.new (touched_count C.Elem.BITS left_window.start left_window.len) }
+    ensures right { OnlyReadsAtMost D.CellsRead right.old right.new (touched_count C.Elem.BITS right_window.start right_window.len - 1) }
 {
     let bits = C::Elem::BITS as usize;
     let (first, source, skip) = (
@@ -158,8 +158,8 @@ fn equal_carried_rest<O: WordOrder, C: CellsRead, D: CellsRead<Elem = C::Elem>>(
     requires carry { C.Elem.value carry ≡ slice_index (D.numbers right.old) (right_window.start / C.Elem.BITS) }
     ensures value { result ≡ same_bits (list_in C.Elem.BITS O.at (C.numbers left.old) left_window)
         (list_in C.Elem.BITS O.at (D.numbers right.old) right_window) }
-    ensures reads { OnlyReadsAtMost C.CellsRead left.old left.new (touched C.Elem.BITS left_window.start left_window.len) }
-    ensures right { OnlyReadsAtMost D.CellsRead right.old right.new (touched C.Elem.BITS right_window.start right_window.len - 1) }
+    ensures reads { OnlyReadsAtMost C.CellsRead left.old left.new (touched_count C.Elem.BITS left_window.start left_window.len) }
+    ensures right { OnlyReadsAtMost D.CellsRead right.old right.new (touched_count C.Elem.BITS right_window.start right_window.len - 1) }
 {
     let bits = C::Elem::BITS as usize;
     let count = left_window.len / bits;
@@ -203,7 +203,7 @@ fn equal_shifted_tail<O: WordOrder, C: CellsRead, D: CellsRead<Elem = C::Elem>>(
     ensures value { result ≡ same_bits (list_in C.Elem.BITS O.at (C.numbers left.old) (part_window C.Elem.BITS (record { element = element; from = 0; to = window.len })))
         (list_in C.Elem.BITS O.at (D.numbers right.old) window) }
     ensures reads { OnlyReads C.CellsRead left.old left.new 1 }
-    ensures right { OnlyReads D.CellsRead right.old right.new (touched C.Elem.BITS window.start window.len - 1) }
+    ensures right { OnlyReads D.CellsRead right.old right.new (touched_count C.Elem.BITS window.start window.len - 1) }
 {
     let (front, _) = field_after::<O, D>(right, window, carry);
     let beginning = left.load(element);

@@ -12,30 +12,30 @@ use Rattle.bitvec_cutting.specs.CuttingLaws.{begins}
 use Rattle.bitvec_cutting.specs.WalkLaws.{walk_first, walk_none}
 use Rattle.bitvec_cutting.specs.Walks.{chunks_of, walk}
 
-module _ {X P : Type 0} (shows : P → List X) (piece : ℕ → P) (width len : ℕ) (xs : List X) where
+module _ {X P : Type 0} (shows : P → List X) (piece : ℕ → P) (size len : ℕ) (xs : List X) where
   -- pieces that show the chunks of a list
   abbrev pub ShowChunks : Type 0
-  ShowChunks = (number : ℕ) → shows (piece number) ≡ cut xs (chunk width len number)
+  ShowChunks = (number : ℕ) → shows (piece number) ≡ cut xs (chunk size len number)
 
-  module _ (some : 0 < width) (long : length xs ≡ len) (are : ShowChunks) where
-    joined_from : (more number : ℕ) → number + more ≡ chunk_count width len → flat_map shows (walk piece number (chunk_count width len)) ≡ drop (number * width) xs
+  module _ (some : 0 < size) (long : length xs ≡ len) (are : ShowChunks) where
+    joined_from : (more number : ℕ) → number + more ≡ chunk_count size len → flat_map shows (walk piece number (chunk_count size len)) ≡ drop (number * size) xs
     joined_from zero number last =
-        let end = div_ceil_times len width some in
-        let same : number ≡ chunk_count width len = omega arith in
-        let up = ap (λ (k : ℕ). k * width) same in
-        ap (flat_map shows) (walk_none piece number (chunk_count width len) (omega arith)) ∙ sym (drop_all (number * width) xs (omega arith))
+        let end = div_ceil_times len size some in
+        let same : number ≡ chunk_count size len = omega arith in
+        let up = ap (λ (k : ℕ). k * size) same in
+        ap (flat_map shows) (walk_none piece number (chunk_count size len) (omega arith)) ∙ sym (drop_all (number * size) xs (omega arith))
     joined_from (suc more) number last =
-        let below = begins width len some number (omega arith) in
-        let next = add-mul number 1 width in
-        ap (flat_map shows) (walk_first piece number (chunk_count width len) (omega arith))
-        ∙ ap (λ l. l ++ flat_map shows (walk piece (number + 1) (chunk_count width len))) (are number)
-        ∙ ap (λ l. cut xs (chunk width len number) ++ l) (joined_from more (number + 1) (omega arith) ∙ sym (drop_min ((number + 1) * width) xs) ∙ ap (λ k. drop (min ((number + 1) * width) k) xs) long)
-        ∙ sym (drop_split xs (number * width) (min ((number + 1) * width) len) (omega arith))
+        let below = begins size len some number (omega arith) in
+        let next = add-mul number 1 size in
+        ap (flat_map shows) (walk_first piece number (chunk_count size len) (omega arith))
+        ∙ ap (λ l. l ++ flat_map shows (walk piece (number + 1) (chunk_count size len))) (are number)
+        ∙ ap (λ l. cut xs (chunk size len number) ++ l) (joined_from more (number + 1) (omega arith) ∙ sym (drop_min ((number + 1) * size) xs) ∙ ap (λ k. drop (min ((number + 1) * size) k) xs) long)
+        ∙ sym (drop_split xs (number * size) (min ((number + 1) * size) len) (omega arith))
 
-    pub pieces_joined : flat_map shows (walk piece 0 (chunk_count width len)) ≡ xs
+    pub pieces_joined : flat_map shows (walk piece 0 (chunk_count size len)) ≡ xs
     pieces_joined =
-        let first : 0 * width ≡ 0 = omega arith in
-        joined_from (chunk_count width len) 0 (omega arith) ∙ ap (λ k. drop k xs) first
+        let first : 0 * size ≡ 0 = omega arith in
+        joined_from (chunk_count size len) 0 (omega arith) ∙ ap (λ k. drop k xs) first
 
 pub sum_joined : {P X : Type 0} (add : X → ℕ) (shows : P → List X) (pieces : List P) → sum_by add (flat_map shows pieces) ≡ sum_by (λ piece. sum_by add (shows piece)) pieces
 sum_joined add shows [] = refl
@@ -44,12 +44,12 @@ sum_joined add shows (piece ∷ pieces) =
     ∙ ap (λ n. sum_by add (shows piece) + n) (sum_joined add shows pieces)
     ∙ sym (sum_by-cons (λ p. sum_by add (shows p)) piece pieces)
 
-module _ {X : Type 0} (width : ℕ) (xs : List X) (some : 0 < width) where
-  pub chunks_joined : flat_map (λ piece. piece) (chunks_of width xs) ≡ xs
-  chunks_joined = pieces_joined (λ piece. piece) (λ number. cut xs (chunk width (length xs) number)) width (length xs) xs some refl (λ number. refl)
+module _ {X : Type 0} (size : ℕ) (xs : List X) (some : 0 < size) where
+  pub chunks_joined : flat_map (λ piece. piece) (chunks_of size xs) ≡ xs
+  chunks_joined = pieces_joined (λ piece. piece) (λ number. cut xs (chunk size (length xs) number)) size (length xs) xs some refl (λ number. refl)
 
-  pub chunks_counted : (test : X → Bool) → sum_by (λ piece. count_by test piece) (chunks_of width xs) ≡ count_by test xs
-  chunks_counted test = sym (sum_joined _ (λ piece. piece) (chunks_of width xs)) ∙ ap (count_by test) chunks_joined
+  pub chunks_counted : (test : X → Bool) → sum_by (λ piece. count_by test piece) (chunks_of size xs) ≡ count_by test xs
+  chunks_counted test = sym (sum_joined _ (λ piece. piece) (chunks_of size xs)) ∙ ap (count_by test) chunks_joined
 
 -- what cutting into chunks keeps, for `using`
 pub ruleset joining = (chunks_joined, chunks_counted)

@@ -11,34 +11,34 @@ LiesIn len places = (places.start ≤ places.end) × (places.end ≤ len)
 abbrev pub cut : {X : Type 0} → List X → Range ℕ → List X
 cut xs places = slice_range xs places.start places.end
 
--- windows of a width: each but the first begins one place behind the one before it
+-- windows of a size: each but the first begins one place behind the one before it
 abbrev pub window_count : ℕ → ℕ → ℕ
-window_count width len = len + 1 - width
+window_count size len = len + 1 - size
 
 abbrev pub window : ℕ → ℕ → ℕ → Range ℕ
-window width len number = record { start = number; end = number + width }
+window size len number = record { start = number; end = number + size }
 
 -- chunks, one behind the other from the first place on: the last may be shorter
 abbrev pub chunk_count : ℕ → ℕ → ℕ
-chunk_count width len = div_ceil len width
+chunk_count size len = div_ceil len size
 
 abbrev pub chunk : ℕ → ℕ → ℕ → Range ℕ
-chunk width len number = record { start = number * width; end = min ((number + 1) * width) len }
+chunk size len number = record { start = number * size; end = min ((number + 1) * size) len }
 
 -- of these, those that are whole, and what is left behind them
 abbrev pub whole_count : ℕ → ℕ → ℕ
-whole_count width len = len / width
+whole_count size len = len / size
 
 abbrev pub whole_chunk : ℕ → ℕ → ℕ → Range ℕ
-whole_chunk width len number = record { start = number * width; end = (number + 1) * width }
+whole_chunk size len number = record { start = number * size; end = (number + 1) * size }
 
 abbrev pub left_behind : ℕ → ℕ → Range ℕ
-left_behind width len = record { start = len - len % width; end = len }
+left_behind size len = record { start = len - len % size; end = len }
 
 -- chunks, one before the other from the last place on: the last of them, which begins the list, may be shorter
 abbrev pub back_chunk : ℕ → ℕ → ℕ → Range ℕ
-back_chunk width len number = record { start = len - (number + 1) * width; end = len - number * width }
+back_chunk size len number = record { start = len - (number + 1) * size; end = len - number * size }
 
 -- what is left before those that are whole
 abbrev pub left_before : ℕ → ℕ → Range ℕ
-left_before width len = record { start = 0; end = len % width }
+left_before size len = record { start = 0; end = len % size }

@@ -5,59 +5,59 @@ use Rattle.std.proofs.Math.Nat.{add-mul, div-le_self, div-mul-le_self, lt_of_mul
 use Rattle.std.proofs.lemmas.Grind.{div_ceil_times}
 use Rattle.bitvec_cutting.specs.Cutting.{LiesIn, back_chunk, chunk, chunk_count, left_before, left_behind, whole_chunk, whole_count, window, window_count}
 
-module _ (width len : ℕ) (some : 0 < width) where
-  pub few_windows : window_count width len ≤ len
+module _ (size len : ℕ) (some : 0 < size) where
+  pub few_windows : window_count size len ≤ len
   few_windows = omega arith
 
-  pub few_chunks : chunk_count width len ≤ len
+  pub few_chunks : chunk_count size len ≤ len
   few_chunks =
-      let end = div_ceil_times len width some in
-      let next = add-mul len 1 width in
-      let long = mul-le-mul_left {m = 1} {n = width} len some in
-      let below : chunk_count width len < len + 1 = lt_of_mul-lt-mul_right width (omega arith) in
+      let end = div_ceil_times len size some in
+      let next = add-mul len 1 size in
+      let long = mul-le-mul_left {m = 1} {n = size} len some in
+      let below : chunk_count size len < len + 1 = lt_of_mul-lt-mul_right size (omega arith) in
       omega arith
 
-  pub few_whole : whole_count width len ≤ len
-  few_whole = div-le_self len width
+  pub few_whole : whole_count size len ≤ len
+  few_whole = div-le_self len size
 
   module _ (number : ℕ) where
-    pub window_inside : number < window_count width len → LiesIn len (window width len number)
+    pub window_inside : number < window_count size len → LiesIn len (window size len number)
     window_inside below = omega arith
 
     -- each chunk begins in the list
-    pub begins : number < chunk_count width len → number * width < len
+    pub begins : number < chunk_count size len → number * size < len
     begins below =
-        let end = div_ceil_times len width some in
-        let up = mul-le-mul_right {m = number + 1} {n = chunk_count width len} width (omega arith) in
-        let next = add-mul number 1 width in
+        let end = div_ceil_times len size some in
+        let up = mul-le-mul_right {m = number + 1} {n = chunk_count size len} size (omega arith) in
+        let next = add-mul number 1 size in
         omega arith
 
-    pub chunk_inside : number < chunk_count width len → LiesIn len (chunk width len number)
+    pub chunk_inside : number < chunk_count size len → LiesIn len (chunk size len number)
     chunk_inside below =
         let start = begins below in
-        let next = add-mul number 1 width in
+        let next = add-mul number 1 size in
         omega arith
 
     -- each whole chunk ends in it
-    pub ends : number < whole_count width len → (number + 1) * width ≤ len
+    pub ends : number < whole_count size len → (number + 1) * size ≤ len
     ends below =
-        let end = div-mul-le_self len width in
-        let up = mul-le-mul_right {m = number + 1} {n = whole_count width len} width (omega arith) in
+        let end = div-mul-le_self len size in
+        let up = mul-le-mul_right {m = number + 1} {n = whole_count size len} size (omega arith) in
         omega arith
 
-    pub whole_inside : number < whole_count width len → LiesIn len (whole_chunk width len number)
+    pub whole_inside : number < whole_count size len → LiesIn len (whole_chunk size len number)
     whole_inside below =
         let end = ends below in
-        let next = add-mul number 1 width in
+        let next = add-mul number 1 size in
         omega arith
 
-    pub back_inside : LiesIn len (back_chunk width len number)
+    pub back_inside : LiesIn len (back_chunk size len number)
     back_inside =
-        let next = add-mul number 1 width in
+        let next = add-mul number 1 size in
         omega arith
 
-  pub behind_inside : LiesIn len (left_behind width len)
+  pub behind_inside : LiesIn len (left_behind size len)
   behind_inside = omega arith
 
-  pub before_inside : LiesIn len (left_before width len)
+  pub before_inside : LiesIn len (left_before size len)
   before_inside = omega arith

@@ -12,18 +12,18 @@ walk piece front back = map piece (range_with_len front (back - front))
 abbrev pub cut_all : {X : Type 0} → (ℕ → ℕ) → (ℕ → ℕ → Range ℕ) → List X → List (List X)
 cut_all pieces place xs = walk (λ number. cut xs (place (length xs) number)) 0 (pieces (length xs))
 
-module _ {X : Type 0} (width : ℕ) where
+module _ {X : Type 0} (size : ℕ) where
   abbrev pub windows_of : List X → List (List X)
-  windows_of = cut_all (window_count width) (window width)
+  windows_of = cut_all (window_count size) (window size)
 
   abbrev pub chunks_of : List X → List (List X)
-  chunks_of = cut_all (chunk_count width) (chunk width)
+  chunks_of = cut_all (chunk_count size) (chunk size)
 
   abbrev pub whole_chunks_of : List X → List (List X)
-  whole_chunks_of = cut_all (whole_count width) (whole_chunk width)
+  whole_chunks_of = cut_all (whole_count size) (whole_chunk size)
 
   abbrev pub back_chunks_of : List X → List (List X)
-  back_chunks_of = cut_all (chunk_count width) (back_chunk width)
+  back_chunks_of = cut_all (chunk_count size) (back_chunk size)
 
   abbrev pub whole_back_chunks_of : List X → List (List X)
-  whole_back_chunks_of = cut_all (whole_count width) (back_chunk width)
+  whole_back_chunks_of = cut_all (whole_count size) (back_chunk size)

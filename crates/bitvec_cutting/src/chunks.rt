@@ -7,11 +7,11 @@ use crate::{Cutting, ExactCutting};
 use std::alloc::AllocError;
 use std::ops::Range;
 
-/// Chunks of a width from the first bit on, of which the last may be shorter.
+/// Chunks of a size from the first bit on, of which the last may be shorter.
 pub struct InChunks {
     /// How many bits each chunk has but the last.
-    pub width: usize,
-    ghost some: { 0 < width },
+    pub size: usize,
+    ghost some: { 0 < size },
 }
 
 impl Copy for InChunks {}
@@ -27,29 +27,29 @@ impl Clone for InChunks {
 }
 
 impl Cutting for InChunks {
-    ghost pieces = { λ cutting. chunk_count cutting.width };
+    ghost pieces = { λ cutting. chunk_count cutting.size };
 
-    ghost place = { λ cutting. chunk cutting.width };
+    ghost place = { λ cutting. chunk cutting.size };
 
     fn count(&self, len: usize) -> usize {
-        len.div_ceil(self.width)
+        len.div_ceil(self.size)
     }
 
     fn piece(&self, len: usize, number: usize) -> Range<usize> {
-        let start = number * self.width;
-        start..start + self.width.min(len - start)
+        let start = number * self.size;
+        start..start + self.size.min(len - start)
     }
 
-    ghost inside = { λ cutting len number below. chunk_inside cutting.width len cutting.some number below };
+    ghost inside = { λ cutting len number below. chunk_inside cutting.size len cutting.some number below };
 
-    ghost few = { λ cutting len. few_chunks cutting.width len cutting.some };
+    ghost few = { λ cutting len. few_chunks cutting.size len cutting.some };
 }
 
-/// The whole chunks of a width from the first bit on; those behind them are left over.
+/// The whole chunks of a size from the first bit on; those behind them are left over.
 pub struct InExactChunks {
     /// How many bits each chunk has.
-    pub width: usize,
-    ghost some: { 0 < width },
+    pub size: usize,
+    ghost some: { 0 < size },
 }
 
 impl Copy for InExactChunks {}
@@ -65,30 +65,30 @@ impl Clone for InExactChunks {
 }
 
 impl Cutting for InExactChunks {
-    ghost pieces = { λ cutting. whole_count cutting.width };
+    ghost pieces = { λ cutting. whole_count cutting.size };
 
-    ghost place = { λ cutting. whole_chunk cutting.width };
+    ghost place = { λ cutting. whole_chunk cutting.size };
 
     fn count(&self, len: usize) -> usize {
-        len / self.width
+        len / self.size
     }
 
     fn piece(&self, _len: usize, number: usize) -> Range<usize> {
-        let start = number * self.width;
-        start..start + self.width
+        let start = number * self.size;
+        start..start + self.size
     }
 
-    ghost inside = { λ cutting len number below. whole_inside cutting.width len cutting.some number below };
+    ghost inside = { λ cutting len number below. whole_inside cutting.size len cutting.some number below };
 
-    ghost few = { λ cutting len. few_whole cutting.width len cutting.some };
+    ghost few = { λ cutting len. few_whole cutting.size len cutting.some };
 }
 
 impl ExactCutting for InExactChunks {
-    ghost left_over = { λ cutting. left_behind cutting.width };
+    ghost left_over = { λ cutting. left_behind cutting.size };
 
     fn remainder(&self, len: usize) -> Range<usize> {
-        len - len % self.width..len
+        len - len % self.size..len
     }
 
-    ghost rest_inside = { λ cutting len. behind_inside cutting.width len cutting.some };
+    ghost rest_inside = { λ cutting len. behind_inside cutting.size len cutting.some };
 }

@@ -7,11 +7,11 @@ use crate::{Cutting, ExactCutting};
 use std::alloc::AllocError;
 use std::ops::Range;
 
-/// Chunks of a width from the last bit on, of which the last, at the start, may be shorter.
+/// Chunks of a size from the last bit on, of which the last, at the start, may be shorter.
 pub struct InChunksFromEnd {
     /// How many bits each chunk has but the last.
-    pub width: usize,
-    ghost some: { 0 < width },
+    pub size: usize,
+    ghost some: { 0 < size },
 }
 
 impl Copy for InChunksFromEnd {}
@@ -27,29 +27,29 @@ impl Clone for InChunksFromEnd {
 }
 
 impl Cutting for InChunksFromEnd {
-    ghost pieces = { λ cutting. chunk_count cutting.width };
+    ghost pieces = { λ cutting. chunk_count cutting.size };
 
-    ghost place = { λ cutting. back_chunk cutting.width };
+    ghost place = { λ cutting. back_chunk cutting.size };
 
     fn count(&self, len: usize) -> usize {
-        len.div_ceil(self.width)
+        len.div_ceil(self.size)
     }
 
     fn piece(&self, len: usize, number: usize) -> Range<usize> {
-        let end = len - number * self.width;
-        end.saturating_sub(self.width)..end
+        let end = len - number * self.size;
+        end.saturating_sub(self.size)..end
     }
 
-    ghost inside = { λ cutting len number _. back_inside cutting.width len cutting.some number };
+    ghost inside = { λ cutting len number _. back_inside cutting.size len cutting.some number };
 
-    ghost few = { λ cutting len. few_chunks cutting.width len cutting.some };
+    ghost few = { λ cutting len. few_chunks cutting.size len cutting.some };
 }
 
-/// The whole chunks of a width from the last bit on; those before them are left over.
+/// The whole chunks of a size from the last bit on; those before them are left over.
 pub struct InExactChunksFromEnd {
     /// How many bits each chunk has.
-    pub width: usize,
-    ghost some: { 0 < width },
+    pub size: usize,
+    ghost some: { 0 < size },
 }
 
 impl Copy for InExactChunksFromEnd {}
@@ -65,30 +65,30 @@ impl Clone for InExactChunksFromEnd {
 }
 
 impl Cutting for InExactChunksFromEnd {
-    ghost pieces = { λ cutting. whole_count cutting.width };
+    ghost pieces = { λ cutting. whole_count cutting.size };
 
-    ghost place = { λ cutting. back_chunk cutting.width };
+    ghost place = { λ cutting. back_chunk cutting.size };
 
     fn count(&self, len: usize) -> usize {
-        len / self.width
+        len / self.size
     }
 
     fn piece(&self, len: usize, number: usize) -> Range<usize> {
-        let end = len - number * self.width;
-        end - self.width..end
+        let end = len - number * self.size;
+        end - self.size..end
     }
 
-    ghost inside = { λ cutting len number _. back_inside cutting.width len cutting.some number };
+    ghost inside = { λ cutting len number _. back_inside cutting.size len cutting.some number };
 
-    ghost few = { λ cutting len. few_whole cutting.width len cutting.some };
+    ghost few = { λ cutting len. few_whole cutting.size len cutting.some };
 }
 
 impl ExactCutting for InExactChunksFromEnd {
-    ghost left_over = { λ cutting. left_before cutting.width };
+    ghost left_over = { λ cutting. left_before cutting.size };
 
     fn remainder(&self, len: usize) -> Range<usize> {
-        0..len % self.width
+        0..len % self.size
     }
 
-    ghost rest_inside = { λ cutting len. before_inside cutting.width len cutting.some };
+    ghost rest_inside = { λ cutting len. before_inside cutting.size len cutting.some };
 }

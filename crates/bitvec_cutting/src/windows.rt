@@ -7,11 +7,11 @@ use crate::Cutting;
 use std::alloc::AllocError;
 use std::ops::Range;
 
-/// The windows of a width, each one bit behind the one before it.
+/// The windows of a size, each one bit behind the one before it.
 pub struct InWindows {
     /// How many bits each window has.
-    pub width: usize,
-    ghost some: { 0 < width },
+    pub size: usize,
+    ghost some: { 0 < size },
 }
 
 impl Copy for InWindows {}
@@ -27,23 +27,23 @@ impl Clone for InWindows {
 }
 
 impl Cutting for InWindows {
-    ghost pieces = { λ cutting. window_count cutting.width };
+    ghost pieces = { λ cutting. window_count cutting.size };
 
-    ghost place = { λ cutting. window cutting.width };
+    ghost place = { λ cutting. window cutting.size };
 
     fn count(&self, len: usize) -> usize {
-        if self.width <= len {
-            len - self.width + 1
+        if self.size <= len {
+            len - self.size + 1
         } else {
             0
         }
     }
 
     fn piece(&self, _len: usize, number: usize) -> Range<usize> {
-        number..number + self.width
+        number..number + self.size
     }
 
-    ghost inside = { λ cutting len number below. window_inside cutting.width len cutting.some number below };
+    ghost inside = { λ cutting len number below. window_inside cutting.size len cutting.some number below };
 
-    ghost few = { λ cutting len. few_windows cutting.width len cutting.some };
+    ghost few = { λ cutting len. few_windows cutting.size len cutting.some };
 }

@@ -10,7 +10,7 @@ use Rattle.bitvec_base.specs.store.declared.store.BitStore.{Ghosts as Store}
 use Rattle.bitvec_base.specs.declared.order.BitOrder.{Ghosts as Order}
 use Rattle.bitvec_domain.specs.Cuts.{IsHeadWithin, IsTailWithin, part_if_from}
 use Rattle.bitvec_domain.specs.Domains.{part_in_if}
-use Rattle.bitvec_domain.specs.Parts.{WritesPart, part_at}
+use Rattle.bitvec_domain.specs.Parts.{WritesPart, partial_at}
 use Rattle.bitvec_domain.specs.declared.part_mut.PartialElementMut.{PartialElementMut}
 
 pub writes_part : {T O : Type 0} {t : Store T} {o : Order O} (p q : PartialElementMut T O t o) (new : List Bool) → q.head ≡ p.head → q.tail ≡ p.tail → q.element.ghost_name ≡ p.element.ghost_name → length new ≡ p.tail - p.head
@@ -30,11 +30,11 @@ module _ {T : Type 0} (b : ℕ) (at : ℕ → ℕ → ℕ) (value : T → ℕ) (
   head_part start end None order bound is = refl
   head_part start end (Some part) order bound is =
       let next = is.next in
-      ap (λ (n : ℕ). Some (part_at b at n part.from part.to)) (rw (sym (take-map value start (take end xs)), sym (take-map value end xs)) (grind (arith, places)))
+      ap (λ (n : ℕ). Some (partial_at b at n part.from part.to)) (rw (sym (take-map value start (take end xs)), sym (take-map value end xs)) (grind (arith, places)))
 
   pub tail_part : (end : ℕ) (tail : Option _) → IfSome tail (IsTailWithin b (length xs) end) → part_in_if b at value (drop end xs) (part_if_from end tail) ≡ part_in_if b at value xs tail
   tail_part end None is = refl
   tail_part end (Some part) is =
       let next = is.next in
       let there = is.within.element in
-      ap (λ (n : ℕ). Some (part_at b at n part.from part.to)) (rw (sym (drop-map value end xs)) (grind (arith, places)))
+      ap (λ (n : ℕ). Some (partial_at b at n part.from part.to)) (rw (sym (drop-map value end xs)) (grind (arith, places)))

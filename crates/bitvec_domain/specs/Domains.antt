@@ -4,7 +4,7 @@ use Rattle.bitvec_base.specs.Memory.{memory_bits}
 use Rattle.bitvec_base.specs.declared.part.Part.{Part}
 use Rattle.bitvec_base.specs.store.declared.store.BitStore.{Ghosts as Store}
 use Rattle.bitvec_base.specs.declared.order.BitOrder.{Ghosts as Order}
-use Rattle.bitvec_domain.specs.Parts.{SeenPart, part_at, seen_part, seen_part_mut}
+use Rattle.bitvec_domain.specs.Parts.{SeenPart, partial_at, seen_part, seen_part_mut}
 use Rattle.bitvec_domain.specs.declared.cut.Cut.{Cut}
 use Rattle.bitvec_domain.specs.declared.cut.Cut.TheVariants.{Inside, Across}
 use Rattle.bitvec_domain.specs.declared.domain.Domain.{Domain}
@@ -15,16 +15,16 @@ use Rattle.bitvec_domain.specs.declared.part.PartialElement.{PartialElement}
 use Rattle.bitvec_domain.specs.declared.part_mut.PartialElementMut.{PartialElementMut}
 
 -- what both types of domains show: one part of an element, or whole elements between a part before and one behind them, if there is one
-pub data Pieces (T : Type 0) : Type 0 where
-  enclave : SeenPart → Pieces T
-  region : Option SeenPart → List T → Option SeenPart → Pieces T
+pub data DomainPieces (T : Type 0) : Type 0 where
+  enclave : SeenPart → DomainPieces T
+  region : Option SeenPart → List T → Option SeenPart → DomainPieces T
 
 -- the one part, or the three pieces of a region, where the domain is that
-abbrev pub enclave_of : {T : Type 0} → Pieces T → Option SeenPart
+abbrev pub enclave_of : {T : Type 0} → DomainPieces T → Option SeenPart
 enclave_of (enclave part) = Some part
 enclave_of (region head body tail) = None
 
-abbrev pub region_of : {T : Type 0} → Pieces T → Option (Option SeenPart × (List T × Option SeenPart))
+abbrev pub region_of : {T : Type 0} → DomainPieces T → Option (Option SeenPart × (List T × Option SeenPart))
 region_of (enclave part) = None
 region_of (region head body tail) = Some (head, (body, tail))
 
@@ -33,7 +33,7 @@ module _ {T O : Type 0} {t : Store T} {o : Order O} where
   seen_part_if None = None
   seen_part_if (Some p) = Some (seen_part p)
 
-  abbrev pub pieces_of : Domain T O t o → Pieces T
+  abbrev pub pieces_of : Domain T O t o → DomainPieces T
   pieces_of (Enclave p) = enclave (seen_part p)
   pieces_of (Region head body tail) = region (seen_part_if head) body.now (seen_part_if tail)
 
@@ -41,21 +41,21 @@ module _ {T O : Type 0} {t : Store T} {o : Order O} where
   seen_part_if_mut None = None
   seen_part_if_mut (Some p) = Some (seen_part_mut p)
 
-  abbrev pub pieces_of_mut : DomainMut T O t o → Pieces T
+  abbrev pub pieces_of_mut : DomainMut T O t o → DomainPieces T
   pieces_of_mut (EnclaveMut p) = enclave (seen_part_mut p)
   pieces_of_mut (RegionMut head body tail) = region (seen_part_if_mut head) body.now (seen_part_if_mut tail)
 
 module _ {T : Type 0} (b : ℕ) (at : ℕ → ℕ → ℕ) (value : T → ℕ) where
   -- a part of these elements
   abbrev pub part_in : List T → Part → SeenPart
-  part_in elements part = part_at b at (slice_index (map value elements) part.element) part.from part.to
+  part_in elements part = partial_at b at (slice_index (map value elements) part.element) part.from part.to
 
   abbrev pub part_in_if : List T → Option Part → Option SeenPart
   part_in_if elements None = None
   part_in_if elements (Some part) = Some (part_in elements part)
 
   -- the elements, cut so
-  abbrev pub pieces_in : List T → Cut → Pieces T
+  abbrev pub pieces_in : List T → Cut → DomainPieces T
   pieces_in elements (Inside part) = enclave (part_in elements part)
   pieces_in elements (Across before start end after) = region (part_in_if elements before) (slice_range elements start end) (part_in_if elements after)
 
@@ -64,6 +64,6 @@ module _ {T : Type 0} (b : ℕ) (at : ℕ → ℕ → ℕ) (value : T → ℕ) w
   bits_if None = []
   bits_if (Some part) = part.bits
 
-  abbrev pub bits_of_pieces : Pieces T → List Bool
+  abbrev pub bits_of_pieces : DomainPieces T → List Bool
   bits_of_pieces (enclave part) = part.bits
   bits_of_pieces (region head body tail) = bits_if head ++ (memory_bits b at (map value body) ++ bits_if tail)

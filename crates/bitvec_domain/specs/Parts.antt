@@ -16,15 +16,15 @@ pub record SeenPart : Type 0 where
   pub bits : List Bool
 
 -- the bits of an element of this number from index `head` up to, without, `tail`
-abbrev pub part_at : ℕ → (ℕ → ℕ → ℕ) → ℕ → ℕ → ℕ → SeenPart
-part_at b at number head tail = record { number = number; head = head; tail = tail; bits = slice_range (element_bits b at number) head tail }
+abbrev pub partial_at : ℕ → (ℕ → ℕ → ℕ) → ℕ → ℕ → ℕ → SeenPart
+partial_at b at number head tail = record { number = number; head = head; tail = tail; bits = slice_range (element_bits b at number) head tail }
 
 module _ {T O : Type 0} {t : Store T} {o : Order O} where
   abbrev pub seen_part : PartialElement T O t o → SeenPart
-  seen_part p = part_at t.BITS o.at (t.value p.element.now) p.head p.tail
+  seen_part p = partial_at t.BITS o.at (t.value p.element.now) p.head p.tail
 
   abbrev pub seen_part_mut : PartialElementMut T O t o → SeenPart
-  seen_part_mut p = part_at t.BITS o.at (t.value p.element.now) p.head p.tail
+  seen_part_mut p = partial_at t.BITS o.at (t.value p.element.now) p.head p.tail
 
   -- which element a part that is written borrows, by its name among borrows
   abbrev pub name_of_part : PartialElementMut T O t o → GName

@@ -5,8 +5,8 @@ use Rattle.std.specs.Iterator.Runs.{EveryRun, ItemsMapTo, ItemsMapToReversed}
 use Rattle.bitvec_base.specs.Order.{mask_of}
 use Rattle.bitvec_base.specs.store.declared.store.BitStore.{Ghosts as Store}
 use Rattle.bitvec_base.specs.declared.order.BitOrder.{Ghosts as Order}
-use Rattle.bitvec_domain.specs.Domains.{Pieces, seen_part_if}
-use Rattle.bitvec_domain.specs.Domains.Pieces.{enclave, region}
+use Rattle.bitvec_domain.specs.Domains.{DomainPieces, seen_part_if}
+use Rattle.bitvec_domain.specs.Domains.DomainPieces.{enclave, region}
 use Rattle.bitvec_domain.specs.Parts.{SeenPart}
 use Rattle.bitvec_domain.specs.declared.values.DomainValues.{DomainValues}
 
@@ -17,7 +17,7 @@ module _ {T : Type 0} (b : ℕ) (at : ℕ → ℕ → ℕ) (value : T → ℕ) w
   numbers_if (Some part) = bit_and part.number (mask_of (at b) part.head part.tail) ∷ []
 
   -- those of the pieces, one piece after the other
-  abbrev pub numbers_of_pieces : Pieces T → List ℕ
+  abbrev pub numbers_of_pieces : DomainPieces T → List ℕ
   numbers_of_pieces (enclave part) = numbers_if (Some part)
   numbers_of_pieces (region head body tail) = numbers_if head ++ (map value body ++ numbers_if tail)
 

@@ -38,7 +38,7 @@ impl Cut {
     /// The window of a memory of elements of that many bits. Condition: the window's end is a
     /// `usize`.
     pub fn of(bits: usize, window: Window) -> Cut
-        requires width { 0 < bits }
+        requires some { 0 < bits }
         requires end { window.start + window.len < 2 ^ 64 }
         ensures { result ≡ cut_of bits window }
     {

@@ -23,13 +23,13 @@ pub struct PartialElement<'a, T: BitStore, O: BitOrder> {
 }
 
 impl<'a, T: BitStore, O: BitOrder> PartialElement<'a, T, O> {
-    ghost use Rattle.bitvec_domain.specs.Parts.{part_at, seen_part};
+    ghost use Rattle.bitvec_domain.specs.Parts.{partial_at, seen_part};
 
     /// The bits of an element from index `head` up to, without, `tail`.
     pub(crate) fn new(element: &'a T, head: usize, tail: usize) -> Self
         requires order { head ≤ tail }
         requires bound { tail ≤ T.BITS }
-        ensures { seen_part result ≡ part_at T.BITS O.at (T.value element.now) head tail }
+        ensures { seen_part result ≡ partial_at T.BITS O.at (T.value element.now) head tail }
     {
         PartialElement {
             element,

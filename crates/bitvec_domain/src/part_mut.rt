@@ -23,13 +23,13 @@ pub struct PartialElementMut<'a, T: BitStore, O: BitOrder> {
 }
 
 impl<'a, T: BitStore, O: BitOrder> PartialElementMut<'a, T, O> {
-    ghost use Rattle.bitvec_domain.specs.Parts.{WritesPart, name_of_part, part_at, seen_part_mut};
+    ghost use Rattle.bitvec_domain.specs.Parts.{WritesPart, name_of_part, partial_at, seen_part_mut};
 
     /// The bits of an element from index `head` up to, without, `tail`.
     pub(crate) fn new(element: &'a mut T, head: usize, tail: usize) -> Self
         requires order { head ≤ tail }
         requires bound { tail ≤ T.BITS }
-        ensures part { seen_part_mut result ≡ part_at T.BITS O.at (T.value element.old) head tail }
+        ensures part { seen_part_mut result ≡ partial_at T.BITS O.at (T.value element.old) head tail }
         ensures name { name_of_part result ≡ element.entry.ghost_name }
     {
         PartialElementMut {

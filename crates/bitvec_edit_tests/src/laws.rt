@@ -25,7 +25,7 @@ pub fn reversed_twice<T: BitStore, O: SliceOrder>(elements: &mut [T]) -> &mut [T
 /// Rotates all bits of the elements to the left and back: they are as before.
 pub fn rotated_back<T: BitStore, O: SliceOrder>(elements: &mut [T], by: usize) -> &mut [T]
     requires fits { T.BITS * length elements.old ≤ max_bits }
-    requires by { by ≤ T.BITS * length elements.old }
+    requires bound { by ≤ T.BITS * length elements.old }
     ensures { memory_bits T.BITS O.at (map T.value result.now)
         ≡ memory_bits T.BITS O.at (map T.value elements.old) }
 {

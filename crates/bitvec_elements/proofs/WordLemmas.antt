@@ -13,7 +13,7 @@ use Rattle.bitvec_elements.specs.base.WritesLaws.{Writes-is, length-list}
 use Rattle.bitvec_elements.specs.moves.WordLaws.{length-first, padded-all, take-all, word_whole}
 use Rattle.bitvec_elements.specs.store.Width.{IsWidth}
 use Rattle.bitvec_elements.specs.store.WidthLaws.{at_each_width, width_some}
-use Rattle.bitvec_elements.specs.walk.Cost.{touched}
+use Rattle.bitvec_elements.specs.walk.Cost.{touched_count}
 use Rattle.bitvec_elements.specs.walk.Walk.{Walked, passed}
 use Rattle.bitvec_elements.specs.walk.WalkLaws.{first-len, length-first as length-first_part, length-passed, list-next}
 use Rattle.bitvec_elements.specs.words.Elements.{elements_window}
@@ -31,7 +31,7 @@ word-joined list a b skip below narrow fits = same_lists _ _ (search (rules, pla
 
 -- ---- whole elements of 64 bits
 
-pub touched-whole : (b s : ℕ) → IsWidth b → b ≤ 64 → s % b ≡ 0 → touched b s 64 ≡ 64 / b
+pub touched-whole : (b s : ℕ) → IsWidth b → b ≤ 64 → s % b ≡ 0 → touched_count b s 64 ≡ 64 / b
 touched-whole b s width narrow edge =
     touched-full b s 64 (width_some b width) edge
     (at_each_width (λ n. n ≤ 64 → 64 % n ≡ 0) (λ _. refl) (λ _. refl) (λ _. refl) (λ _. refl) (λ few. absurd (omega arith)) b width narrow)

@@ -12,7 +12,7 @@ use bitvec_engine::{get_bit, replace_bit, swap_bits};
 /// lies in it, and the index is below the window's length.
 pub fn bit_in<T: BitStore, O: BitOrder>(cells: &[T], window: Window, index: usize) -> bool
     requires window { HasWindow T.BITS (map T.value cells.now) window }
-    requires index { index < window.len }
+    requires bound { index < window.len }
     ensures { result ≡ slice_index_or (list_in T.BITS O.at (map T.value cells.now) window) index false }
 {
     let mut accessor = Shared::new(cells);
@@ -22,7 +22,7 @@ pub fn bit_in<T: BitStore, O: BitOrder>(cells: &[T], window: Window, index: usiz
 /// Makes the bit at an index of a window `bit`. Condition: as of [`bit_in`].
 pub fn set_in<T: BitStore, O: BitOrder>(cells: &mut [T], window: Window, index: usize, bit: bool)
     requires window { HasWindow T.BITS (map T.value cells.old) window }
-    requires index { index < window.len }
+    requires bound { index < window.len }
     ensures writes { Edits T.BITS O.at (map T.value cells.old) (map T.value cells.new) window (λ list. slice_set list index bit) }
 {
     let mut accessor = Exclusive::new(cells);
@@ -37,7 +37,7 @@ pub fn replace_in<T: BitStore, O: BitOrder>(
     bit: bool,
 ) -> bool
     requires window { HasWindow T.BITS (map T.value cells.old) window }
-    requires index { index < window.len }
+    requires bound { index < window.len }
     ensures value { result ≡ slice_index_or (list_in T.BITS O.at (map T.value cells.old) window) index false }
     ensures writes { Edits T.BITS O.at (map T.value cells.old) (map T.value cells.new) window (λ list. slice_set list index bit) }
 {

@@ -19,7 +19,7 @@ const HELD: usize = 16;
 /// exchanged; a memory of fewer than 16 elements takes three reversals.
 pub fn rotate_left_in<T: BitStore, O: SliceOrder>(cells: &mut [T], window: Window, by: usize)
     requires window { HasWindow T.BITS (map T.value cells.old) window }
-    requires by { by ≤ window.len }
+    requires bound { by ≤ window.len }
     ensures writes { Edits T.BITS O.at (map T.value cells.old) (map T.value cells.new) window (rotated_left by) }
 {
     if cells.len() >= HELD {
@@ -34,7 +34,7 @@ pub fn rotate_left_in<T: BitStore, O: SliceOrder>(cells: &mut [T], window: Windo
 /// [`rotate_left_in`].
 pub fn rotate_right_in<T: BitStore, O: SliceOrder>(cells: &mut [T], window: Window, by: usize)
     requires window { HasWindow T.BITS (map T.value cells.old) window }
-    requires by { by ≤ window.len }
+    requires bound { by ≤ window.len }
     ensures writes { Edits T.BITS O.at (map T.value cells.old) (map T.value cells.new) window (rotated_right by) }
 {
     rotate_left_in::<T, O>(cells, window, window.len - by);
@@ -47,7 +47,7 @@ pub fn rotate_right_in<T: BitStore, O: SliceOrder>(cells: &mut [T], window: Wind
 /// their place, until the shorter one can be held aside.
 fn rotate_blocks<T: BitStore, O: SliceOrder>(cells: &mut [T], window: Window, by: usize)
     requires window { HasWindow T.BITS (map T.value cells.old) window }
-    requires by { by ≤ window.len }
+    requires bound { by ≤ window.len }
     requires many { 16 ≤ length cells.old }
     ensures writes { Edits T.BITS O.at (map T.value cells.old) (map T.value cells.new) window (rotated_left by) }
 {
@@ -76,7 +76,7 @@ fn rotate_blocks<T: BitStore, O: SliceOrder>(cells: &mut [T], window: Window, by
 /// as hold them.
 fn rotate_front<T: BitStore, O: SliceOrder>(cells: &mut [T], window: Window, by: usize)
     requires window { HasWindow T.BITS (map T.value cells.old) window }
-    requires by { by ≤ window.len }
+    requires bound { by ≤ window.len }
     requires few { by ≤ 16 * T.BITS }
     requires many { 16 ≤ length cells.old }
     ensures writes { Edits T.BITS O.at (map T.value cells.old) (map T.value cells.new) window (rotated_left by) }
@@ -98,7 +98,7 @@ fn rotate_front<T: BitStore, O: SliceOrder>(cells: &mut [T], window: Window, by:
 /// aside. Conditions: as of [`rotate_front`], of these bits.
 fn rotate_back<T: BitStore, O: SliceOrder>(cells: &mut [T], window: Window, by: usize)
     requires window { HasWindow T.BITS (map T.value cells.old) window }
-    requires by { by ≤ window.len }
+    requires bound { by ≤ window.len }
     requires few { window.len - by ≤ 16 * T.BITS }
     requires many { 16 ≤ length cells.old }
     ensures writes { Edits T.BITS O.at (map T.value cells.old) (map T.value cells.new) window (rotated_left by) }

@@ -13,7 +13,7 @@ use bitvec_engine::{SliceOrder, shift_end, shift_start};
 /// the window's length.
 pub fn shift_start_in<T: BitStore, O: SliceOrder>(cells: &mut [T], window: Window, by: usize)
     requires window { HasWindow T.BITS (map T.value cells.old) window }
-    requires by { by ≤ window.len }
+    requires bound { by ≤ window.len }
     ensures writes { Edits T.BITS O.at (map T.value cells.old) (map T.value cells.new) window (shifted_start by) }
 {
     let mut accessor = Exclusive::new(cells);
@@ -24,7 +24,7 @@ pub fn shift_start_in<T: BitStore, O: SliceOrder>(cells: &mut [T], window: Windo
 /// Condition: as of [`shift_start_in`].
 pub fn shift_end_in<T: BitStore, O: SliceOrder>(cells: &mut [T], window: Window, by: usize)
     requires window { HasWindow T.BITS (map T.value cells.old) window }
-    requires by { by ≤ window.len }
+    requires bound { by ≤ window.len }
     ensures writes { Edits T.BITS O.at (map T.value cells.old) (map T.value cells.new) window (shifted_end by) }
 {
     let mut accessor = Exclusive::new(cells);

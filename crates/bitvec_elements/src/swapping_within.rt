@@ -97,7 +97,7 @@ fn swap_stretch<T: BitStore, O: SliceOrder>(
     requires window { HasWindow T.BITS (map T.value cells.old) window }
     requires first { first + count ≤ window.len }
     requires second { second + count ≤ window.len }
-    requires few { count ≤ T.BITS }
+    requires bound { count ≤ T.BITS }
     ensures writes { Edits T.BITS O.at (map T.value cells.old) (map T.value cells.new) window (swapped_within first (first + count) second) }
 {
     T::fits_in_memory();

@@ -19,7 +19,7 @@ use bitvec_engine::words::{WORD_BITS, WordOrder, joined, load_field, moved, reve
 /// most `MAX_BITS` bits.
 #[inline(always)]
 pub(crate) fn word_end(window: Window, from: usize) -> usize
-    requires inside { from < window.len }
+    requires bound { from < window.len }
     requires fits { window.start + window.len ≤ max_bits }
     ensures further { from < result }
     ensures bound { result ≤ window.len }
@@ -38,7 +38,7 @@ pub(crate) fn window_word<W: WordOrder, O: BitOrder, T: BitStore>(
     direction: Direction,
 ) -> u64
     requires window { HasWindow T.BITS (map T.value elements.now) window }
-    requires size { window.len ≤ 64 }
+    requires bound { window.len ≤ 64 }
     requires runs { Runs direction T.BITS O.at }
     ensures { element_bits 64 W.at result
         ≡ padded 64 (list_in T.BITS O.at (map T.value elements.now) window) }
@@ -67,7 +67,7 @@ pub(crate) fn turned<V: WordOrder, W: WordOrder>(word: u64) -> u64
 #[inline(always)]
 fn run_word<W: WordOrder, T: BitStore>(elements: &[T], window: Window) -> u64
     requires window { HasWindow T.BITS (map T.value elements.now) window }
-    requires size { window.len ≤ 64 }
+    requires bound { window.len ≤ 64 }
     ensures { element_bits 64 W.at result
         ≡ padded 64 (list_in T.BITS W.at (map T.value elements.now) window) }
 {
@@ -89,7 +89,7 @@ fn run_word<W: WordOrder, T: BitStore>(elements: &[T], window: Window) -> u64
 /// [`window_word`] of any order: each element is loaded once, and its bits are gathered one by one.
 fn gathered_word<W: WordOrder, O: BitOrder, T: BitStore>(elements: &[T], window: Window) -> u64
     requires window { HasWindow T.BITS (map T.value elements.now) window }
-    requires size { window.len ≤ 64 }
+    requires bound { window.len ≤ 64 }
     ensures { element_bits 64 W.at result
         ≡ padded 64 (list_in T.BITS O.at (map T.value elements.now) window) }
 {

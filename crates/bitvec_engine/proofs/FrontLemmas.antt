@@ -25,7 +25,7 @@ use Rattle.bitvec_combine.specs.words.FieldLaws.{list-part}
 use Rattle.bitvec_combine.specs.words.FieldWalkLaws.{HasPart-first}
 use Rattle.bitvec_combine.specs.words.TouchedLaws.{head_edge, touched-full, touched-head}
 use Rattle.bitvec_combine.specs.words.WholeLaws.{HasWindow-part, behind-mod}
-use Rattle.bitvec_combine.specs.walk.Cost.{touched}
+use Rattle.bitvec_combine.specs.walk.Cost.{touched_count}
 use Rattle.bitvec_engine.specs.Front.{IsFront, front_window}
 
 -- the same places, told in another way
@@ -33,12 +33,12 @@ pub list-same : (b : ℕ) (at : ℕ → ℕ → ℕ) (xs : List ℕ) (window oth
 unfolding window_of
 list-same b at xs window other start len = rw (start, len) refl
 
-pub touched-word : (b s : ℕ) → IsWidth b → b ≤ 64 → s % b ≡ 0 → touched b s 64 ≡ 64 / b
+pub touched-word : (b s : ℕ) → IsWidth b → b ≤ 64 → s % b ≡ 0 → touched_count b s 64 ≡ 64 / b
 touched-word b s width narrow edge =
     touched-full b s 64 (width_some b width) edge
     (at_each_width (λ n. n ≤ 64 → 64 % n ≡ 0) (λ _. refl) (λ _. refl) (λ _. refl) (λ _. refl) (λ few. absurd (omega arith)) b width narrow)
 
-pub touched-part : (b : ℕ) (window : Window) → IsWidth b → 0 < window.len → touched b window.start ((first_part_of b window).to - (first_part_of b window).from) ≡ 1
+pub touched-part : (b : ℕ) (window : Window) → IsWidth b → 0 < window.len → touched_count b window.start ((first_part_of b window).to - (first_part_of b window).from) ≡ 1
 touched-part b window width some =
     let wide = width_some b width in
     let len = first-len b window wide some in

@@ -16,7 +16,7 @@ use Rattle.bitvec_combine.specs.base.PlacesLaws.{first_place-absent, first_place
 use Rattle.bitvec_combine.specs.base.SliceLaws.{range-all}
 use Rattle.bitvec_combine.specs.base.Window.{window_after}
 use Rattle.bitvec_combine.specs.base.WritesLaws.{length-list, list-join}
-use Rattle.bitvec_combine.specs.walk.Cost.{last_loads, touched}
+use Rattle.bitvec_combine.specs.walk.Cost.{last_loads, touched_count}
 use Rattle.bitvec_combine.specs.walk.ElementLaws.{element-filled}
 use Rattle.bitvec_combine.specs.walk.WalkLaws.{first-len, first-place}
 use Rattle.bitvec_combine.specs.words.Elements.{elements_window, tail_of, whole_of}
@@ -116,17 +116,17 @@ first_edge : (b e : ℕ) → 0 < b → e * b % b ≡ 0
 first_edge b e some = ap (λ (n : ℕ). n % b) (let same : e * b ≡ e * b + 0 = omega arith in same) ∙ mod-mul-add e b 0 some
 
 -- up to a place behind `count` whole elements
-pub touched-behind_whole : (b s count n : ℕ) → 0 < b → s % b ≡ 0 → count * b < n → count + 1 ≤ touched b s n
+pub touched-behind_whole : (b s count n : ℕ) → 0 < b → s % b ≡ 0 → count * b < n → count + 1 ≤ touched_count b s n
 touched-behind_whole b s count n some edge more =
     let all = touched-after b s n count some edge (omega arith) in
     let one = touched-first b (s + count * b) (n - count * b) (omega arith) in
     omega arith
 
-pub touched-behind_elements : (b e count n : ℕ) → 0 < b → count * b < n → count + 1 ≤ touched b (e * b) n
+pub touched-behind_elements : (b e count n : ℕ) → 0 < b → count * b < n → count + 1 ≤ touched_count b (e * b) n
 touched-behind_elements b e count n some more = touched-behind_whole b (e * b) count n some (first_edge b e some) more
 
 -- up to a place behind the part of the first element, of t places
-pub touched-behind_head : (b s t n i : ℕ) → 0 < b → 0 < n → t ≡ min n (b - s % b) → t ≢ n → touched b s (t + i + 1) ≡ 1 + touched b (s + t) (i + 1)
+pub touched-behind_head : (b s t n i : ℕ) → 0 < b → 0 < n → t ≡ min n (b - s % b) → t ≢ n → touched_count b s (t + i + 1) ≡ 1 + touched_count b (s + t) (i + 1)
 touched-behind_head b s t n i some more part left =
     let one = touched-head b s t n some more part in
     let sum : t + (i + 1) ≡ t + i + 1 = omega arith in
@@ -134,7 +134,7 @@ touched-behind_head b s t n i some more part left =
     omega arith
 
 -- from a place before m whole elements
-pub touched-until_elements : (b s n e m all : ℕ) → 0 < b → 0 < n → s + n ≡ e * b → n + m * b ≡ all → m + 1 ≤ touched b s all
+pub touched-until_elements : (b s n e m all : ℕ) → 0 < b → 0 < n → s + n ≡ e * b → n + m * b ≡ all → m + 1 ≤ touched_count b s all
 touched-until_elements b s n e m all some more end sum =
     let edge : (s + n) % b ≡ 0 = ap (λ (k : ℕ). k % b) end ∙ first_edge b e some in
     let whole = rw (← end) at (touched-whole b e m some) in
@@ -152,7 +152,7 @@ last_loads-some b window (Some i) some below =
 
 -- behind its first t places, where the search goes on in these
 pub last_loads-head : (b : ℕ) (window : Window) (t : ℕ) (found : Option ℕ) → 0 < b → 0 < window.len → t ≡ min window.len (b - window.start % b) → t ≢ window.len → ((i : ℕ) → found ≡ Some i → i < t)
-    → 1 + touched b (window.start + t) (window.len - t) ≤ last_loads b window found
+    → 1 + touched_count b (window.start + t) (window.len - t) ≤ last_loads b window found
 last_loads-head b window t None some more part left below =
     let all = touched-rest b window.start t window.len some more part left in
     omega arith

@@ -14,7 +14,7 @@ use Rattle.bitvec_combine.specs.base.declared.window.Window.{Window}
 use Rattle.bitvec_combine.specs.base.Window.{window_after, window_range}
 use Rattle.bitvec_combine.specs.base.SliceLaws.{range-from_start}
 use Rattle.bitvec_combine.specs.base.WritesLaws.{HasWindow-range, length-list, list-join}
-use Rattle.bitvec_combine.specs.walk.Cost.{touched}
+use Rattle.bitvec_combine.specs.walk.Cost.{touched_count}
 use Rattle.bitvec_combine.specs.walk.Walk.{passed}
 use Rattle.bitvec_combine.specs.walk.WalkLaws.{touched-none}
 use Rattle.bitvec_combine.specs.words.Elements.{elements_window}
@@ -29,7 +29,7 @@ use Rattle.bitvec_engine.proofs.ScanLemmas.{first-behind, first-front, first-lac
 -- ---- what a search has passed of a window, and what is left
 
 -- the loads of some of its first places, and of those left
-pub touched-cut : (b s t n : ℕ) → 0 < b → t ≤ n → (t < n → (s + t) % b ≡ 0) → touched b s n ≡ touched b s t + touched b (s + t) (n - t)
+pub touched-cut : (b s t n : ℕ) → 0 < b → t ≤ n → (t < n → (s + t) % b ≡ 0) → touched_count b s n ≡ touched_count b s t + touched_count b (s + t) (n - t)
 touched-cut b s t n some fits edge =
     ⊎_elim
     (λ (less : t < n). let all : t + (n - t) ≡ n = omega arith in let both = rw all at (touched-edge b s t (n - t) some (edge less)) in omega arith)
@@ -37,7 +37,7 @@ touched-cut b s t n some fits edge =
     let same : t ≡ n = omega arith in
     let none : n - t ≡ 0 = omega arith in
     let nothing = touched-none b (s + t) in
-    rw (none, same) (rw same at (let whole : touched b s t ≡ touched b s t + touched b (s + t) 0 = omega arith in whole)))
+    rw (none, same) (rw same at (let whole : touched_count b s t ≡ touched_count b s t + touched_count b (s + t) 0 = omega arith in whole)))
     (cases_lt t n)
 
 module _ (b : ℕ) (at : ℕ → ℕ → ℕ) (xs : List ℕ) (window rest : Window) (want : Bool) (has : HasWindow b xs window) (start : window.start ≤ rest.start) (end : rest.start + rest.len ≡ window.start + window.len) where
@@ -172,7 +172,7 @@ module _ (b : ℕ) (at : ℕ → ℕ → ℕ) (xs : List ℕ) (first count step 
       (list-elements_join b at xs first (count * e) has first (first + (step + 1) * e) ((step + 1) * e) (count * e - (step + 1) * e) (count * e) (omega arith) (omega arith) refl (omega arith))
 
 -- what they load, and the bits of a front
-pub touched-blocks : (b s count : ℕ) → IsWidth b → s % b ≡ 0 → touched b s (count * 256) ≡ count * (256 / b)
+pub touched-blocks : (b s count : ℕ) → IsWidth b → s % b ≡ 0 → touched_count b s (count * 256) ≡ count * (256 / b)
 touched-blocks b s count width edge =
     let place = div-add-mod' s b in
     let start : s / b * b ≡ s = omega arith in

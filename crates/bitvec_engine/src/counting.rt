@@ -2,7 +2,7 @@
 ghost use Rattle.std.specs.Prelude.{◌≡◌, ℕ, ◌+◌, ◌*◌, ◌/◌, ◌%◌, ◌<◌, ◌≤◌, not, count_by};
 ghost use Rattle.bitvec_combine.specs.base.Memory.{HasWindow, list_in};
 ghost use Rattle.bitvec_combine.specs.cells.Access.{OnlyReads};
-ghost use Rattle.bitvec_combine.specs.walk.Cost.{touched};
+ghost use Rattle.bitvec_combine.specs.walk.Cost.{touched_count};
 ghost use Rattle.bitvec_combine.specs.words.Elements.{elements_window};
 
 use bitvec_combine::base::{BitOrder, Lsb0, Part, Window, first_part};
@@ -17,7 +17,7 @@ use bitvec_combine::words::WORD_BITS;
 pub fn count<O: BitOrder, C: CellsRead>(cells: &mut C, window: Window) -> usize
     requires { HasWindow C.Elem.BITS (C.numbers cells.old) window }
     ensures value { result ≡ count_by (λ bit. bit) (list_in C.Elem.BITS O.at (C.numbers cells.old) window) }
-    ensures reads { OnlyReads C.CellsRead cells.old cells.new (touched C.Elem.BITS window.start window.len) }
+    ensures reads { OnlyReads C.CellsRead cells.old cells.new (touched_count C.Elem.BITS window.start window.len) }
 {
     if window.len == 0 {
         return 0;
@@ -37,7 +37,7 @@ fn count_aligned<O: BitOrder, C: CellsRead>(cells: &mut C, window: Window) -> us
     requires window { HasWindow C.Elem.BITS (C.numbers cells.old) window }
     requires edge { window.start % C.Elem.BITS ≡ 0 }
     ensures value { result ≡ count_by (λ bit. bit) (list_in C.Elem.BITS O.at (C.numbers cells.old) window) }
-    ensures reads { OnlyReads C.CellsRead cells.old cells.new (touched C.Elem.BITS window.start window.len) }
+    ensures reads { OnlyReads C.CellsRead cells.old cells.new (touched_count C.Elem.BITS window.start window.len) }
 {
     let bits = C::Elem::BITS as usize;
     let count = window.len / bits;
@@ -112,7 +112,7 @@ fn count_elements<O: BitOrder, C: CellsRead>(cells: &mut C, first: usize, count:
 pub fn count_zeros<O: BitOrder, C: CellsRead>(cells: &mut C, window: Window) -> usize
     requires { HasWindow C.Elem.BITS (C.numbers cells.old) window }
     ensures value { result ≡ count_by not (list_in C.Elem.BITS O.at (C.numbers cells.old) window) }
-    ensures reads { OnlyReads C.CellsRead cells.old cells.new (touched C.Elem.BITS window.start window.len) }
+    ensures reads { OnlyReads C.CellsRead cells.old cells.new (touched_count C.Elem.BITS window.start window.len) }
 {
     window.len - count::<O, C>(cells, window)
 }

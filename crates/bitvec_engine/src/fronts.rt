@@ -3,7 +3,7 @@ ghost use Rattle.std.specs.Prelude.{◌≡◌, ◌+◌, ◌<◌, ◌≤◌, slic
 ghost use Rattle.bitvec_combine.specs.base.Memory.{HasWindow, element_bits, list_in};
 ghost use Rattle.bitvec_combine.specs.cells.Access.{OnlyReads};
 ghost use Rattle.bitvec_engine.specs.Front.{IsFront, front_window};
-ghost use Rattle.bitvec_combine.specs.walk.Cost.{touched};
+ghost use Rattle.bitvec_combine.specs.walk.Cost.{touched_count};
 ghost use Rattle.bitvec_combine.specs.words.Field.{padded};
 
 use bitvec_combine::base::{BitOrder, Lsb0, Part, Window, first_part};
@@ -24,7 +24,7 @@ pub(crate) fn words_load_front<O: WordOrder, C: CellsRead>(
     requires window { HasWindow C.Elem.BITS (C.numbers cells.old) window }
     requires some { 0 < window.len }
     ensures value { IsFront C.Elem.BITS O.at (C.numbers cells.old) window result.0 result.1 }
-    ensures reads { OnlyReads C.CellsRead cells.old cells.new (touched C.Elem.BITS window.start result.1) }
+    ensures reads { OnlyReads C.CellsRead cells.old cells.new (touched_count C.Elem.BITS window.start result.1) }
 {
     let bits = C::Elem::BITS as usize;
     if bits <= WORD_BITS && window.len >= WORD_BITS && window.start % bits == 0 {
@@ -43,7 +43,7 @@ pub fn bits_load_front<O: BitOrder, C: CellsRead>(cells: &mut C, window: Window)
     requires window { HasWindow C.Elem.BITS (C.numbers cells.old) window }
     requires some { 0 < window.len }
     ensures value { IsFront C.Elem.BITS O.at (C.numbers cells.old) window result.0 result.1 }
-    ensures reads { OnlyReads C.CellsRead cells.old cells.new (touched C.Elem.BITS window.start result.1) }
+    ensures reads { OnlyReads C.CellsRead cells.old cells.new (touched_count C.Elem.BITS window.start result.1) }
 {
     let part = first_part(C::Elem::BITS as usize, front_window(window));
     let element = cells.load(part.element);

@@ -30,7 +30,7 @@ fn reverse_range<O: SliceOrder, C: Cells>(cells: &mut C, window: Window, from: u
 /// first `by` bits, of the others, and of all.
 pub fn rotate_left<O: SliceOrder, C: Cells>(cells: &mut C, window: Window, by: usize)
     requires window { HasWindow C.Elem.BITS (C.numbers cells.old) window }
-    requires by { by ≤ window.len }
+    requires bound { by ≤ window.len }
     ensures writes { Edits C.Elem.BITS O.at (C.numbers cells.old) (C.numbers cells.new) window (rotated_left by) }
     ensures cost { CostsAtMost C.CellsRead cells.old cells.new
         (rotate_loads C.Elem.BITS O.WORDS by window.len) (rotate_stores C.Elem.BITS O.WORDS by window.len) }
@@ -45,7 +45,7 @@ pub fn rotate_left<O: SliceOrder, C: Cells>(cells: &mut C, window: Window, by: u
 /// the bits that are not the last `by`.
 pub fn rotate_right<O: SliceOrder, C: Cells>(cells: &mut C, window: Window, by: usize)
     requires window { HasWindow C.Elem.BITS (C.numbers cells.old) window }
-    requires by { by ≤ window.len }
+    requires bound { by ≤ window.len }
     ensures writes { Edits C.Elem.BITS O.at (C.numbers cells.old) (C.numbers cells.new) window (rotated_right by) }
     ensures cost { CostsAtMost C.CellsRead cells.old cells.new
         (rotate_loads C.Elem.BITS O.WORDS (window.len - by) window.len) (rotate_stores C.Elem.BITS O.WORDS (window.len - by) window.len) }

@@ -4,7 +4,7 @@ ghost use Rattle.std.specs.List.{list_any, list_all};
 ghost use Rattle.bitvec_combine.specs.base.Lists.{first_place, last_place};
 ghost use Rattle.bitvec_combine.specs.base.Memory.{HasWindow, list_in};
 ghost use Rattle.bitvec_combine.specs.cells.Access.{OnlyReadsAtMost};
-ghost use Rattle.bitvec_combine.specs.walk.Cost.{first_loads, last_loads, touched};
+ghost use Rattle.bitvec_combine.specs.walk.Cost.{first_loads, last_loads, touched_count};
 ghost use Rattle.bitvec_combine.specs.words.Elements.{elements_window};
 
 use crate::slice_order::SliceOrder;
@@ -199,7 +199,7 @@ fn last_whole<O: BitOrder, C: CellsRead>(
 pub fn any<O: SliceOrder, C: CellsRead>(cells: &mut C, window: Window) -> bool
     requires { HasWindow C.Elem.BITS (C.numbers cells.old) window }
     ensures value { result ≡ list_any (λ bit. bit) (list_in C.Elem.BITS O.at (C.numbers cells.old) window) }
-    ensures reads { OnlyReadsAtMost C.CellsRead cells.old cells.new (touched C.Elem.BITS window.start window.len) }
+    ensures reads { OnlyReadsAtMost C.CellsRead cells.old cells.new (touched_count C.Elem.BITS window.start window.len) }
 {
     O::search_first::<C>(cells, window, true).is_some()
 }
@@ -209,7 +209,7 @@ pub fn any<O: SliceOrder, C: CellsRead>(cells: &mut C, window: Window) -> bool
 pub fn all<O: SliceOrder, C: CellsRead>(cells: &mut C, window: Window) -> bool
     requires { HasWindow C.Elem.BITS (C.numbers cells.old) window }
     ensures value { result ≡ list_all (λ bit. bit) (list_in C.Elem.BITS O.at (C.numbers cells.old) window) }
-    ensures reads { OnlyReadsAtMost C.CellsRead cells.old cells.new (touched C.Elem.BITS window.start window.len) }
+    ensures reads { OnlyReadsAtMost C.CellsRead cells.old cells.new (touched_count C.Elem.BITS window.start window.len) }
 {
     O::search_first::<C>(cells, window, false).is_none()
 }

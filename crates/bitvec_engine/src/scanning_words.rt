@@ -4,7 +4,7 @@ ghost use Rattle.bitvec_combine.specs.base.Lists.{first_place};
 ghost use Rattle.bitvec_combine.specs.base.Memory.{HasWindow, element_bits, list_in};
 ghost use Rattle.bitvec_combine.specs.base.Window.{window_range};
 ghost use Rattle.bitvec_combine.specs.cells.Access.{OnlyReads, OnlyReadsAtMost};
-ghost use Rattle.bitvec_combine.specs.walk.Cost.{touched};
+ghost use Rattle.bitvec_combine.specs.walk.Cost.{touched_count};
 ghost use Rattle.bitvec_combine.specs.words.Elements.{elements_window};
 
 use crate::fronts::words_load_front;
@@ -30,7 +30,7 @@ pub(crate) fn words_scan_first<O: WordOrder, C: CellsRead>(
 ) -> Option<usize>
     requires { HasWindow C.Elem.BITS (C.numbers cells.old) window }
     ensures value { result ≡ first_place want (list_in C.Elem.BITS O.at (C.numbers cells.old) window) }
-    ensures reads { OnlyReadsAtMost C.CellsRead cells.old cells.new (touched C.Elem.BITS window.start window.len) }
+    ensures reads { OnlyReadsAtMost C.CellsRead cells.old cells.new (touched_count C.Elem.BITS window.start window.len) }
 {
     let mut rest = window;
     while rest.len > 0 {
@@ -53,12 +53,12 @@ fn first_in_front<O: WordOrder, C: CellsRead>(
     want: bool,
 ) -> (Option<usize>, usize)
     requires window { HasWindow C.Elem.BITS (C.numbers cells.old) window }
-    requires more { 0 < window.len }
+    requires some { 0 < window.len }
     ensures value { result.0 ≡ first_place want (list_in C.Elem.BITS O.at (C.numbers cells.old) (window_range window 0 result.1)) }
     ensures some { 0 < result.1 }
     ensures within { result.1 ≤ window.len }
     ensures edge { result.1 < window.len → (window.start + result.1) % C.Elem.BITS ≡ 0 }
-    ensures reads { OnlyReadsAtMost C.CellsRead cells.old cells.new (touched C.Elem.BITS window.start result.1) }
+    ensures reads { OnlyReadsAtMost C.CellsRead cells.old cells.new (touched_count C.Elem.BITS window.start result.1) }
 {
     let bits = C::Elem::BITS as usize;
     let inside = window.start % bits;

@@ -3,7 +3,7 @@ ghost use Rattle.std.specs.Prelude.{◌≡◌, ℕ, ◌+◌, ◌-◌, ◌≤◌}
 ghost use Rattle.bitvec_combine.specs.base.Lists.{shifted_end, shifted_start};
 ghost use Rattle.bitvec_combine.specs.base.Memory.{Edits, HasWindow};
 ghost use Rattle.bitvec_combine.specs.cells.Access.{CostsAtMost};
-ghost use Rattle.bitvec_combine.specs.walk.Cost.{edit_loads, fill_loads, touched, write_stores};
+ghost use Rattle.bitvec_combine.specs.walk.Cost.{edit_loads, fill_loads, touched_count, write_stores};
 
 use crate::slice_order::SliceOrder;
 use bitvec_combine::base::Window;
@@ -18,11 +18,11 @@ use bitvec_combine::words::fill;
 /// bits.
 pub fn shift_start<O: SliceOrder, C: Cells>(cells: &mut C, window: Window, by: usize)
     requires window { HasWindow C.Elem.BITS (C.numbers cells.old) window }
-    requires by { by ≤ window.len }
+    requires bound { by ≤ window.len }
     ensures writes { Edits C.Elem.BITS O.at (C.numbers cells.old) (C.numbers cells.new) window (shifted_start by) }
     ensures cost { let kept = window.len - by in
         CostsAtMost C.CellsRead cells.old cells.new (edit_loads C.Elem.BITS O.WORDS kept + fill_loads by)
-        (write_stores C.Elem.BITS O.WORDS kept + touched C.Elem.BITS (window.start + kept) by) }
+        (write_stores C.Elem.BITS O.WORDS kept + touched_count C.Elem.BITS (window.start + kept) by) }
 {
     let kept = window.len - by;
     O::block_copy_within::<C>(cells, window, by, window.len, 0);
@@ -34,11 +34,11 @@ pub fn shift_start<O: SliceOrder, C: Cells>(cells: &mut C, window: Window, by: u
 /// `bitvec`'s `BitSlice`. Condition and cost: as of [`shift_start`].
 pub fn shift_end<O: SliceOrder, C: Cells>(cells: &mut C, window: Window, by: usize)
     requires window { HasWindow C.Elem.BITS (C.numbers cells.old) window }
-    requires by { by ≤ window.len }
+    requires bound { by ≤ window.len }
     ensures writes { Edits C.Elem.BITS O.at (C.numbers cells.old) (C.numbers cells.new) window (shifted_end by) }
     ensures cost { let kept = window.len - by in
         CostsAtMost C.CellsRead cells.old cells.new (edit_loads C.Elem.BITS O.WORDS kept + fill_loads by)
-        (write_stores C.Elem.BITS O.WORDS kept + touched C.Elem.BITS window.start by) }
+        (write_stores C.Elem.BITS O.WORDS kept + touched_count C.Elem.BITS window.start by) }
 {
     O::block_copy_within::<C>(cells, window, 0, window.len - by, by);
     fill::<O, C>(cells, window.range(0, by), false);

@@ -5,7 +5,7 @@ ghost use Rattle.bitvec_combine.specs.base.Memory.{Edits, HasWindow, Writes, ele
 ghost use Rattle.bitvec_combine.specs.cells.Access.{CostsAtMost, OnlyReads, OnlyReadsAtMost};
 ghost use Rattle.bitvec_engine.specs.Front.{IsFront};
 ghost use Rattle.bitvec_combine.specs.words.Operator.{operator};
-ghost use Rattle.bitvec_combine.specs.walk.Cost.{edit_loads, equal_loads, first_loads, last_loads, read_loads, reverse_loads, reverse_stores, touched, write_loads, write_stores};
+ghost use Rattle.bitvec_combine.specs.walk.Cost.{edit_loads, equal_loads, first_loads, last_loads, read_loads, reverse_loads, reverse_stores, touched_count, write_loads, write_stores};
 
 use crate::fronts::{bits_load_front, bits_lowest_first};
 use crate::scanning::{bits_scan_first, bits_scan_last};
@@ -123,7 +123,7 @@ pub trait SliceOrder: BitOrder {
     fn search_first<C: CellsRead>(cells: &mut C, window: Window, want: bool) -> Option<usize>
         requires { HasWindow C.Elem.BITS (C.numbers cells.old) window }
         ensures value { result ≡ first_place want (list_in C.Elem.BITS Self.at (C.numbers cells.old) window) }
-        ensures reads { OnlyReadsAtMost C.CellsRead cells.old cells.new (touched C.Elem.BITS window.start window.len) }
+        ensures reads { OnlyReadsAtMost C.CellsRead cells.old cells.new (touched_count C.Elem.BITS window.start window.len) }
     {
         bits_scan_first::<Self, C>(cells, window, want)
     }
@@ -146,7 +146,7 @@ pub trait SliceOrder: BitOrder {
         requires window { HasWindow C.Elem.BITS (C.numbers cells.old) window }
         requires some { 0 < window.len }
         ensures value { IsFront C.Elem.BITS Self.at (C.numbers cells.old) window result.0 result.1 }
-        ensures reads { OnlyReads C.CellsRead cells.old cells.new (touched C.Elem.BITS window.start result.1) }
+        ensures reads { OnlyReads C.CellsRead cells.old cells.new (touched_count C.Elem.BITS window.start result.1) }
     {
         bits_load_front::<Self, C>(cells, window)
     }

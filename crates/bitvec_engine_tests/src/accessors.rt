@@ -84,7 +84,7 @@ fn copy_from<T: BitStore>(to: &mut [T], from: &[T], index: usize)
 }
 
 fn copy_first_in_halves<T: BitStore>(cells: &mut [T], mid: usize)
-    requires left { 0 < mid }
+    requires some { 0 < mid }
     requires right { mid < length cells.old }
     ensures { map T.value cells.new
         ≡ slice_set (map T.value cells.old) mid (slice_index (map T.value cells.old) 0) }

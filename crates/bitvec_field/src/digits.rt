@@ -20,7 +20,7 @@ pub(crate) fn write_digits<T: BitStore, O: BitOrder, W: fmt::Write>(
     f: &mut fmt::Formatter<W>,
 ) -> fmt::Result
     requires some { 0 < width }
-    requires most { width ≤ 4 }
+    requires bound { width ≤ 4 }
     ensures { WritesOnOk W.write_str_gives f.old result (digits_text width upper (seen segment.entry).bits) f.new }
 {
     let len = segment.len();

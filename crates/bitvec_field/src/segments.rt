@@ -23,7 +23,7 @@ pub(crate) fn write_radix<T: BitStore, O: BitOrder, W: fmt::Write>(
     f: &mut fmt::Formatter<W>,
 ) -> fmt::Result
     requires some { 0 < width }
-    requires most { width ≤ 4 }
+    requires bound { width ≤ 4 }
     ensures { WritesOnOk W.write_str_gives f.old result
         (radix_text T.BITS (seen bits.entry).window.start width upper (seen bits.entry).bits) f.new }
 {
@@ -39,7 +39,7 @@ fn write_segments<T: BitStore, O: BitOrder, W: fmt::Write>(
     f: &mut fmt::Formatter<W>,
 ) -> fmt::Result
     requires some { 0 < width }
-    requires most { width ≤ 4 }
+    requires bound { width ≤ 4 }
     ensures { WritesOnOk W.write_str_gives f.old result (join_by (digits_text width upper) comma
         (segments T.BITS (seen bits.entry).window.start (seen bits.entry).bits)) f.new }
 {

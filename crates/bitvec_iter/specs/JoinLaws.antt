@@ -12,17 +12,17 @@ use Rattle.bitvec_slice.specs.Seen.{Seen}
 use Rattle.bitvec_slice.specs.SeenLaws.{length_bits}
 use Rattle.bitvec_slice.specs.Views.{seen}
 use Rattle.bitvec_slice.specs.declared.view.BitSlice.{BitSlice}
-use Rattle.bitvec_iter.specs.Parts.{part_at, parts_of}
+use Rattle.bitvec_iter.specs.Parts.{parts_of, subview}
 
-module _ {T O : Type 0} {t : Store T} {o : Order O} (view : BitSlice T O t o) (width : ℕ) (some : 0 < width) where
-  pub parts_joined : flat_map (λ piece. piece.bits) (parts_of t.BITS (seen view) (chunk_count width) (chunk width)) ≡ (seen view).bits
+module _ {T O : Type 0} {t : Store T} {o : Order O} (view : BitSlice T O t o) (size : ℕ) (some : 0 < size) where
+  pub parts_joined : flat_map (λ piece. piece.bits) (parts_of t.BITS (seen view) (chunk_count size) (chunk size)) ≡ (seen view).bits
   parts_joined =
-      pieces_joined (λ piece. piece.bits) (λ number. part_at t.BITS (seen view) (chunk width view.len number)) width view.len (seen view).bits some
+      pieces_joined (λ piece. piece.bits) (λ number. subview t.BITS (seen view) (chunk size view.len number)) size view.len (seen view).bits some
       (length_bits t.BITS o.at t.value view.elements.now view.head view.len view.inside)
       (λ number. refl)
 
-  pub parts_counted : (test : Bool → Bool) → sum_by (λ piece. count_by test piece.bits) (parts_of t.BITS (seen view) (chunk_count width) (chunk width)) ≡ count_by test (seen view).bits
-  parts_counted test = sym (sum_joined (λ (bit : Bool). cond (test bit) 1 0) (λ (piece : Seen T). piece.bits) (parts_of t.BITS (seen view) (chunk_count width) (chunk width))) ∙ ap (count_by test) parts_joined
+  pub parts_counted : (test : Bool → Bool) → sum_by (λ piece. count_by test piece.bits) (parts_of t.BITS (seen view) (chunk_count size) (chunk size)) ≡ count_by test (seen view).bits
+  parts_counted test = sym (sum_joined (λ (bit : Bool). cond (test bit) 1 0) (λ (piece : Seen T). piece.bits) (parts_of t.BITS (seen view) (chunk_count size) (chunk size))) ∙ ap (count_by test) parts_joined
 
 module _ {T O : Type 0} {t : Store T} {o : Order O} (view : BitSlice T O t o) where
   pub few_counted : (test : Bool → Bool) → count_by test (seen view).bits ≤ max_bits

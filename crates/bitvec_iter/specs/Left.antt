@@ -9,7 +9,7 @@ use Rattle.bitvec_cutting.specs.declared.cutting.Cutting.{Ghosts as Cutting}
 use Rattle.bitvec_slice.specs.Seen.{Seen}
 use Rattle.bitvec_slice.specs.Views.{seen}
 use Rattle.bitvec_slice.specs.declared.view.BitSlice.{BitSlice}
-use Rattle.bitvec_iter.specs.Parts.{part_at}
+use Rattle.bitvec_iter.specs.Parts.{subview}
 use Rattle.bitvec_iter.specs.declared.pieces.Pieces.{Pieces}
 
 module _ {T O C : Type 0} {t : Store T} {o : Order O} {c : Cutting C} where
@@ -22,7 +22,7 @@ module _ {T O C : Type 0} {t : Store T} {o : Order O} {c : Cutting C} where
 
   -- the piece of a number
   abbrev pub piece_at : Pieces T O C t o c → ℕ → Seen T
-  piece_at walk number = part_at t.BITS (seen walk.view) (c.place walk.cutting walk.view.len number)
+  piece_at walk number = subview t.BITS (seen walk.view) (c.place walk.cutting walk.view.len number)
 
   -- the pieces that are still to come
   unfoldable pub pieces_left : Pieces T O C t o c → List (Seen T)

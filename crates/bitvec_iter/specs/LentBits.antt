@@ -49,8 +49,8 @@ module _ {T : Type 0} where
   past_back_bits walk count = record walk { back = walk.back - min count (walk.back - walk.front) }
 
 module _ {T O : Type 0} {t : Store T} {o : Order O} where
-  abbrev pub bits_left : IterMut T O t o → BitsLeft T
-  bits_left i = record { view = shown t.BITS o.at t.value i.elements.now i.head i.len; front = i.front; back = i.back }
+  abbrev pub bit_walk_of : IterMut T O t o → BitsLeft T
+  bit_walk_of i = record { view = shown t.BITS o.at t.value i.elements.now i.head i.len; front = i.front; back = i.back }
 
   -- which memory it borrows, by its name among borrows
   abbrev pub name_of_bits : IterMut T O t o → GName

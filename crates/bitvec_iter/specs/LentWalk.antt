@@ -22,8 +22,8 @@ module _ {T C : Type 0} where
     pub taken : walk.taken ≡ false
 
   -- the view is the piece of this number, where elements have b bits
-  abbrev pub IsPieceOf : ℕ → (C → ℕ → ℕ → Range ℕ) → Walk T C → ℕ → Seen T → Type 0
-  IsPieceOf b place walk number part =
+  abbrev pub IsPieceOfWalk : ℕ → (C → ℕ → ℕ → Range ℕ) → Walk T C → ℕ → Seen T → Type 0
+  IsPieceOfWalk b place walk number part =
       let range = place walk.cutting walk.view.window.len number in
       IsRangeOf b walk.view range.start range.end part
 

@@ -13,7 +13,7 @@ use Rattle.bitvec_slice.specs.Seen.{IsRangeOf, Seen}
 use Rattle.bitvec_slice.specs.TouchedLaws.{touches}
 use Rattle.bitvec_slice.specs.Views.{seen}
 use Rattle.bitvec_slice.specs.declared.view.BitSlice.{BitSlice}
-use Rattle.bitvec_iter.specs.Parts.{part_at}
+use Rattle.bitvec_iter.specs.Parts.{subview}
 
 abbrev shows : {T : Type 0} → List Bool → List T → List Bool → ℕ → ℕ → Seen T
 shows bits elements memory start len = record { bits = bits; elements = elements; memory = memory; window = record { start = start; len = len } }
@@ -22,7 +22,7 @@ same_seen : {T : Type 0} (b c : List Bool) (e f : List T) (m n : List Bool) (s u
 same_seen b c e f m n s u k l bits elements memory start len = cc
 
 module _ {T O : Type 0} {t : Store T} {o : Order O} (view part : BitSlice T O t o) (places : Range ℕ) where
-  pub part_seen : 0 < t.BITS → LiesIn (seen view).window.len places → IsRangeOf t.BITS (seen view) places.start places.end (seen part) → seen part ≡ part_at t.BITS (seen view) places
+  pub part_seen : 0 < t.BITS → LiesIn (seen view).window.len places → IsRangeOf t.BITS (seen view) places.start places.end (seen part) → seen part ≡ subview t.BITS (seen view) places
   part_seen some lies is =
       let inside = view.inside in
       let xs = map t.value view.elements.now in

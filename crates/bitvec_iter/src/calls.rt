@@ -9,7 +9,7 @@ use bitvec_cutting::{InChunks, InChunksFromEnd, InExactChunks, InExactChunksFrom
 use bitvec_slice::store::BitStore;
 
 /// The walks of `bitvec`'s `BitSlice` over its parts, for both view types: of a `BitSlice` they live as
-/// long as its elements, of a `&BitSliceMut` as long as that borrow. Widths are in bits.
+/// long as its elements, of a `&BitSliceMut` as long as that borrow. Sizes are in bits.
 pub trait IterCalls<T: BitStore> {
     ghost use Rattle.bitvec_slice.specs.Seen.{Seen};
 
@@ -31,81 +31,81 @@ pub trait IterCalls<T: BitStore> {
     // What contracts see of the view.
     ghost shows: { Self → Seen T };
 
-    /// Windows of that many bits, each one bit behind the one before it. Condition: the width is above
+    /// Windows of that many bits, each one bit behind the one before it. Condition: the size is above
     /// 0.
     ///
     /// ```
     /// bits.windows(2).filter(|pair| pair.some()).count()
     /// ```
-    fn windows(self, width: usize) -> Self::Windows
-        requires { 0 < width }
-        ensures pieces { Self.Windows.left result ≡ parts_of T.BITS (shows self) (window_count width) (window width) }
+    fn windows(self, size: usize) -> Self::Windows
+        requires { 0 < size }
+        ensures pieces { Self.Windows.left result ≡ parts_of T.BITS (shows self) (window_count size) (window size) }
         ensures view { Self.Windows.walked result ≡ shows self }
-        ensures width { (Self.Windows.cut_by result).width ≡ width }
+        ensures size { (Self.Windows.cut_by result).size ≡ size }
         ensures bound { length (Self.Windows.left result) ≤ max_bits }
         ensures runs { Self.Windows.Yields result };
 
     /// Chunks of that many bits from the first bit on, of which the last may be shorter. Condition: the
-    /// width is above 0.
+    /// size is above 0.
     ///
     /// ```
     /// let cells = [0x17u8];
     /// let view = BitSlice::<u8, Msb0>::from_slice(&cells);
     /// assert!(rt; read(view.chunks(usize::MAX).next_back()) == Some((8, 0x17)));
     /// ```
-    fn chunks(self, width: usize) -> Self::Chunks
-        requires { 0 < width }
-        ensures pieces { Self.Chunks.left result ≡ parts_of T.BITS (shows self) (chunk_count width) (chunk width) }
+    fn chunks(self, size: usize) -> Self::Chunks
+        requires { 0 < size }
+        ensures pieces { Self.Chunks.left result ≡ parts_of T.BITS (shows self) (chunk_count size) (chunk size) }
         ensures view { Self.Chunks.walked result ≡ shows self }
-        ensures width { (Self.Chunks.cut_by result).width ≡ width }
+        ensures size { (Self.Chunks.cut_by result).size ≡ size }
         ensures bound { length (Self.Chunks.left result) ≤ max_bits }
         ensures runs { Self.Chunks.Yields result };
 
     /// Chunks of that many bits from the first bit on; `remainder` has the bits behind them. Condition:
-    /// the width is above 0.
+    /// the size is above 0.
     ///
     /// ```
     /// let view = BitSliceMut::<u8, Msb0>::from_slice_mut(&mut cells);
     /// let mut front = view.chunks_exact(3);
     /// assert!(rt; (read(front.next_back()), front.len()) == (Some((3, 5)), 1));
     /// ```
-    fn chunks_exact(self, width: usize) -> Self::ChunksExact
-        requires { 0 < width }
-        ensures pieces { Self.ChunksExact.left result ≡ parts_of T.BITS (shows self) (whole_count width) (whole_chunk width) }
+    fn chunks_exact(self, size: usize) -> Self::ChunksExact
+        requires { 0 < size }
+        ensures pieces { Self.ChunksExact.left result ≡ parts_of T.BITS (shows self) (whole_count size) (whole_chunk size) }
         ensures view { Self.ChunksExact.walked result ≡ shows self }
-        ensures width { (Self.ChunksExact.cut_by result).width ≡ width }
+        ensures size { (Self.ChunksExact.cut_by result).size ≡ size }
         ensures bound { length (Self.ChunksExact.left result) ≤ max_bits }
         ensures runs { Self.ChunksExact.Yields result };
 
     /// Chunks of that many bits from the last bit on, of which the last, at the start, may be shorter.
-    /// Condition: the width is above 0.
+    /// Condition: the size is above 0.
     ///
     /// ```
     /// let view = BitSliceMut::<u8, Msb0>::from_slice_mut(&mut cells);
     /// let mut chunks = view.rchunks(3);
     /// assert!(rt; read(chunks.next()) == Some((3, 7)));
     /// ```
-    fn rchunks(self, width: usize) -> Self::RChunks
-        requires { 0 < width }
-        ensures pieces { Self.RChunks.left result ≡ parts_of T.BITS (shows self) (chunk_count width) (back_chunk width) }
+    fn rchunks(self, size: usize) -> Self::RChunks
+        requires { 0 < size }
+        ensures pieces { Self.RChunks.left result ≡ parts_of T.BITS (shows self) (chunk_count size) (back_chunk size) }
         ensures view { Self.RChunks.walked result ≡ shows self }
-        ensures width { (Self.RChunks.cut_by result).width ≡ width }
+        ensures size { (Self.RChunks.cut_by result).size ≡ size }
         ensures bound { length (Self.RChunks.left result) ≤ max_bits }
         ensures runs { Self.RChunks.Yields result };
 
     /// Chunks of that many bits from the last bit on; `remainder` has the bits before them. Condition:
-    /// the width is above 0.
+    /// the size is above 0.
     ///
     /// ```
     /// let view = BitSlice::<u8, Msb0>::from_slice(&cells);
     /// let mut chunks = view.rchunks_exact(3);
     /// assert!(rt; read(chunks.nth_back(1)) == Some((3, 7)));
     /// ```
-    fn rchunks_exact(self, width: usize) -> Self::RChunksExact
-        requires { 0 < width }
-        ensures pieces { Self.RChunksExact.left result ≡ parts_of T.BITS (shows self) (whole_count width) (back_chunk width) }
+    fn rchunks_exact(self, size: usize) -> Self::RChunksExact
+        requires { 0 < size }
+        ensures pieces { Self.RChunksExact.left result ≡ parts_of T.BITS (shows self) (whole_count size) (back_chunk size) }
         ensures view { Self.RChunksExact.walked result ≡ shows self }
-        ensures width { (Self.RChunksExact.cut_by result).width ≡ width }
+        ensures size { (Self.RChunksExact.cut_by result).size ≡ size }
         ensures bound { length (Self.RChunksExact.left result) ≤ max_bits }
         ensures runs { Self.RChunksExact.Yields result };
 }

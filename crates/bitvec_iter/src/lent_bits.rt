@@ -5,7 +5,7 @@ ghost use Rattle.bitvec_slice.specs.base.Window.{max_bits};
 use bitvec_slice::base::{BitOrder, Window};
 use bitvec_slice::elements::for_each_in;
 use bitvec_slice::store::BitStore;
-use bitvec_slice::{BitRefMut, BitSlice, BitSliceMut, RawElements, touched};
+use bitvec_slice::{BitRefMut, BitSlice, BitSliceMut, RawElements, touched_range};
 use std::marker::PhantomData;
 
 /// The bits of a writable view, which are lent one at a time, from both ends: `iter_mut` makes it.
@@ -34,14 +34,14 @@ impl<'a, T: BitStore, O: BitOrder> IterMut<'a, T, O> {
     ghost use Rattle.bitvec_slice.specs.Seen.{IsGiven, IsRangeOf, shown};
     ghost use Rattle.bitvec_slice.specs.Views.{name_of, seen, seen_mut};
     ghost use Rattle.bitvec_iter.specs.BitsLending.{lends_bits, lends_first, lends_last, lends_part};
-    ghost use Rattle.bitvec_iter.specs.LentBits.{IsAllOf, WritesLeft, bits_in_place, bits_left, bits_to_come, name_of_bits, past_back_bits, past_bits, start_of};
+    ghost use Rattle.bitvec_iter.specs.LentBits.{IsAllOf, WritesLeft, bit_walk_of, bits_in_place, bits_to_come, name_of_bits, past_back_bits, past_bits, start_of};
     ghost use Rattle.bitvec_slice.specs.elements.Asked.{CallableOnBits, RefillsWith};
 
     /// The bits of a view. The crate has no such call: `iter_mut` is made of it.
     #[doc(hidden)]
     pub fn new<'s>(bits: &'s mut BitSliceMut<'a, T, O>) -> IterMut<'s, T, O>
         ensures* writes_back { sem 𝓛 (lends T.row O.row bits.entry (name_of_bits result)) }
-        ensures walk { IsAllOf (seen_mut bits.old) (bits_left result) }
+        ensures walk { IsAllOf (seen_mut bits.old) (bit_walk_of result) }
     {
         let window = bits.window();
         IterMut::from_parts(bits.elements_mut(), window)
@@ -49,8 +49,8 @@ impl<'a, T: BitStore, O: BitOrder> IterMut<'a, T, O> {
 
     fn from_parts(elements: &'a mut [T], window: Window) -> Self
         requires inside { window.start + window.len ≤ T.BITS * length elements.old }
-        requires bounded { T.BITS * length elements.old ≤ max_bits }
-        ensures walk { IsAllOf (shown T.BITS O.at T.value elements.old window.start window.len) (bits_left result) }
+        requires fits { T.BITS * length elements.old ≤ max_bits }
+        ensures walk { IsAllOf (shown T.BITS O.at T.value elements.old window.start window.len) (bit_walk_of result) }
         ensures name { name_of_bits result ≡ elements.entry.ghost_name }
     {
         IterMut {
@@ -65,21 +65,21 @@ impl<'a, T: BitStore, O: BitOrder> IterMut<'a, T, O> {
 
     /// How many bits are left.
     pub fn len(&self) -> usize
-        ensures { result ≡ (bits_left self.now).back - (bits_left self.now).front }
+        ensures { result ≡ (bit_walk_of self.now).back - (bit_walk_of self.now).front }
     {
         self.back.saturating_sub(self.front)
     }
 
     /// Whether no bit is left.
     pub fn is_empty(&self) -> bool
-        ensures { result ≡ nat_le (bits_left self.now).back (bits_left self.now).front }
+        ensures { result ≡ nat_le (bit_walk_of self.now).back (bit_walk_of self.now).front }
     {
         self.back <= self.front
     }
 
     /// The bits that are left.
     pub fn as_bitslice(&self) -> BitSlice<'_, T, O>
-        ensures { IsRangeOf T.BITS (bits_left self.now).view (start_of (bits_left self.now)) (bits_left self.now).back (seen result) }
+        ensures { IsRangeOf T.BITS (bit_walk_of self.now).view (start_of (bit_walk_of self.now)) (bit_walk_of self.now).back (seen result) }
     {
         let first = self.front.min(self.back);
         BitSlice::from_parts(&*self.elements, self.head, self.len).into_part(first..self.back)
@@ -87,7 +87,7 @@ impl<'a, T: BitStore, O: BitOrder> IterMut<'a, T, O> {
 
     /// The same as [`IterMut::as_bitslice`].
     pub fn as_ref(&self) -> BitSlice<'_, T, O>
-        ensures { IsRangeOf T.BITS (bits_left self.now).view (start_of (bits_left self.now)) (bits_left self.now).back (seen result) }
+        ensures { IsRangeOf T.BITS (bit_walk_of self.now).view (start_of (bit_walk_of self.now)) (bit_walk_of self.now).back (seen result) }
     {
         self.as_bitslice()
     }
@@ -95,14 +95,14 @@ impl<'a, T: BitStore, O: BitOrder> IterMut<'a, T, O> {
     /// The old name of [`IterMut::as_bitslice`].
     #[deprecated]
     pub fn as_slice(&self) -> BitSlice<'_, T, O>
-        ensures { IsRangeOf T.BITS (bits_left self.now).view (start_of (bits_left self.now)) (bits_left self.now).back (seen result) }
+        ensures { IsRangeOf T.BITS (bit_walk_of self.now).view (start_of (bit_walk_of self.now)) (bit_walk_of self.now).back (seen result) }
     {
         self.as_bitslice()
     }
 
     /// Ends the walk, and gives the bits that are left.
     pub fn into_bitslice(self) -> BitSliceMut<'a, T, O>
-        ensures { IsRangeOf T.BITS (bits_left self.entry).view (start_of (bits_left self.entry)) (bits_left self.entry).back (seen_mut result) }
+        ensures { IsRangeOf T.BITS (bit_walk_of self.entry).view (start_of (bit_walk_of self.entry)) (bit_walk_of self.entry).back (seen_mut result) }
     {
         let IterMut {
             elements,
@@ -118,7 +118,7 @@ impl<'a, T: BitStore, O: BitOrder> IterMut<'a, T, O> {
     /// The old name of [`IterMut::into_bitslice`].
     #[deprecated]
     pub fn into_slice(self) -> BitSliceMut<'a, T, O>
-        ensures { IsRangeOf T.BITS (bits_left self.entry).view (start_of (bits_left self.entry)) (bits_left self.entry).back (seen_mut result) }
+        ensures { IsRangeOf T.BITS (bit_walk_of self.entry).view (start_of (bit_walk_of self.entry)) (bit_walk_of self.entry).back (seen_mut result) }
     {
         self.into_bitslice()
     }
@@ -126,9 +126,9 @@ impl<'a, T: BitStore, O: BitOrder> IterMut<'a, T, O> {
     /// The first bit that is left, which is then left no more. Condition: one is left. The crate has no
     /// such call: with it a caller knows what is left of the walk, and each element but the bit's.
     pub fn take_mut(&mut self) -> BitRefMut<'_, T, O>
-        requires { (bits_left self.old).front < (bits_left self.old).back }
+        requires { (bit_walk_of self.old).front < (bit_walk_of self.old).back }
         ensures* writes_back { sem 𝓛 (lends_first T.row O.row self.entry (name_of_ref_mut result)) }
-        ensures bit { WritesBitOf (bits_left self.old).view (bits_left self.old).front result }
+        ensures bit { WritesBitOf (bit_walk_of self.old).view (bit_walk_of self.old).front result }
     {
         let index = self.front;
         self.front += 1;
@@ -137,9 +137,9 @@ impl<'a, T: BitStore, O: BitOrder> IterMut<'a, T, O> {
 
     /// The last bit that is left, as [`IterMut::take_mut`] gives the first.
     pub fn take_back_mut(&mut self) -> BitRefMut<'_, T, O>
-        requires { (bits_left self.old).front < (bits_left self.old).back }
+        requires { (bit_walk_of self.old).front < (bit_walk_of self.old).back }
         ensures* writes_back { sem 𝓛 (lends_last T.row O.row self.entry (name_of_ref_mut result)) }
-        ensures bit { WritesBitOf (bits_left self.old).view ((bits_left self.old).back - 1) result }
+        ensures bit { WritesBitOf (bit_walk_of self.old).view ((bit_walk_of self.old).back - 1) result }
     {
         self.back -= 1;
         let index = self.back;
@@ -158,9 +158,9 @@ impl<'a, T: BitStore, O: BitOrder> IterMut<'a, T, O> {
     /// bits.for_each_bit_mut(|number, bit| bit != (number % 2 == 0));
     /// ```
     pub fn for_each_bit_mut<F: FnMut(usize, bool) -> bool>(&mut self, f: F)
-        requires { CallableOnBits F.FnMut f (bits_to_come (bits_left self.old)) }
-        ensures answers { RefillsWith F.FnMut f (bits_to_come (bits_left self.old)) (bits_in_place (bits_left self.old) (bits_left self.new)) }
-        ensures walk { WritesLeft (bits_left self.old) (bits_left self.new) (bits_in_place (bits_left self.old) (bits_left self.new)) }
+        requires { CallableOnBits F.FnMut f (bits_to_come (bit_walk_of self.old)) }
+        ensures answers { RefillsWith F.FnMut f (bits_to_come (bit_walk_of self.old)) (bits_in_place (bit_walk_of self.old) (bit_walk_of self.new)) }
+        ensures walk { WritesLeft (bit_walk_of self.old) (bit_walk_of self.new) (bits_in_place (bit_walk_of self.old) (bit_walk_of self.new)) }
         ensures name { name_of_bits self.new ≡ name_of_bits self.old }
     {
         let window = Window {
@@ -173,7 +173,7 @@ impl<'a, T: BitStore, O: BitOrder> IterMut<'a, T, O> {
 
     /// Passes the first `count` bits that are left, or all. The crate has no such call.
     pub fn pass(&mut self, count: usize)
-        ensures walk { bits_left self.new ≡ past_bits (bits_left self.old) count }
+        ensures walk { bit_walk_of self.new ≡ past_bits (bit_walk_of self.old) count }
         ensures name { name_of_bits self.new ≡ name_of_bits self.old }
     {
         self.front += count.min(self.len());
@@ -181,7 +181,7 @@ impl<'a, T: BitStore, O: BitOrder> IterMut<'a, T, O> {
 
     /// Passes the last `count` bits that are left, or all. The crate has no such call.
     pub fn pass_back(&mut self, count: usize)
-        ensures walk { bits_left self.new ≡ past_back_bits (bits_left self.old) count }
+        ensures walk { bit_walk_of self.new ≡ past_back_bits (bit_walk_of self.old) count }
         ensures name { name_of_bits self.new ≡ name_of_bits self.old }
     {
         self.back -= count.min(self.len());
@@ -189,8 +189,8 @@ impl<'a, T: BitStore, O: BitOrder> IterMut<'a, T, O> {
 
     /// The first bit that is left: `None` exactly where none is.
     pub fn next_mut(&mut self) -> Option<BitRefMut<'_, T, O>>
-        ensures { IsGiven ((bits_left self.old).front < (bits_left self.old).back)
-            (WritesBitOf (bits_left self.old).view (bits_left self.old).front) result }
+        ensures { IsGiven ((bit_walk_of self.old).front < (bit_walk_of self.old).back)
+            (WritesBitOf (bit_walk_of self.old).view (bit_walk_of self.old).front) result }
     {
         if self.is_empty() {
             None
@@ -201,8 +201,8 @@ impl<'a, T: BitStore, O: BitOrder> IterMut<'a, T, O> {
 
     /// The last bit that is left: `None` exactly where none is.
     pub fn next_back_mut(&mut self) -> Option<BitRefMut<'_, T, O>>
-        ensures { IsGiven ((bits_left self.old).front < (bits_left self.old).back)
-            (WritesBitOf (bits_left self.old).view ((bits_left self.old).back - 1)) result }
+        ensures { IsGiven ((bit_walk_of self.old).front < (bit_walk_of self.old).back)
+            (WritesBitOf (bit_walk_of self.old).view ((bit_walk_of self.old).back - 1)) result }
     {
         if self.is_empty() {
             None
@@ -214,8 +214,8 @@ impl<'a, T: BitStore, O: BitOrder> IterMut<'a, T, O> {
     /// The bit behind the first `skipped` that are left: `None` exactly where there are no more than
     /// `skipped`.
     pub fn nth_mut(&mut self, skipped: usize) -> Option<BitRefMut<'_, T, O>>
-        ensures { IsGiven (skipped < (bits_left self.old).back - (bits_left self.old).front)
-            (WritesBitOf (bits_left self.old).view ((bits_left self.old).front + skipped)) result }
+        ensures { IsGiven (skipped < (bit_walk_of self.old).back - (bit_walk_of self.old).front)
+            (WritesBitOf (bit_walk_of self.old).view ((bit_walk_of self.old).front + skipped)) result }
     {
         self.pass(skipped);
         self.next_mut()
@@ -224,38 +224,38 @@ impl<'a, T: BitStore, O: BitOrder> IterMut<'a, T, O> {
     /// The bit before the last `skipped` that are left: `None` exactly where there are no more than
     /// `skipped`.
     pub fn nth_back_mut(&mut self, skipped: usize) -> Option<BitRefMut<'_, T, O>>
-        ensures { IsGiven (skipped < (bits_left self.old).back - (bits_left self.old).front)
-            (WritesBitOf (bits_left self.old).view ((bits_left self.old).back - 1 - skipped)) result }
+        ensures { IsGiven (skipped < (bit_walk_of self.old).back - (bit_walk_of self.old).front)
+            (WritesBitOf (bit_walk_of self.old).view ((bit_walk_of self.old).back - 1 - skipped)) result }
     {
         self.pass_back(skipped);
         self.next_back_mut()
     }
 
     fn bit_mut(&mut self, index: usize) -> BitRefMut<'_, T, O>
-        requires { index < (bits_left self.old).view.window.len }
+        requires { index < (bit_walk_of self.old).view.window.len }
         ensures* writes_back { sem 𝓛 (lends_bits T.row O.row self.entry index (index + 1) (name_of_ref_mut result)) }
-        ensures bit { WritesBitOf (bits_left self.old).view index result }
+        ensures bit { WritesBitOf (bit_walk_of self.old).view index result }
     {
         self.part_mut(index, index + 1).into_reference()
     }
 
     fn part_mut(&mut self, from: usize, to: usize) -> BitSliceMut<'_, T, O>
         requires order { from ≤ to }
-        requires bound { to ≤ (bits_left self.old).view.window.len }
+        requires bound { to ≤ (bit_walk_of self.old).view.window.len }
         ensures* writes_back { sem 𝓛 (lends_bits T.row O.row self.entry from to (name_of result)) }
-        ensures part { IsRangeOf T.BITS (bits_left self.old).view from to (seen_mut result) }
+        ensures part { IsRangeOf T.BITS (bit_walk_of self.old).view from to (seen_mut result) }
     {
         let start = self.head + from;
-        let cells = touched::<T>(start, self.head + to);
+        let cells = touched_range::<T>(start, self.head + to);
         let elements = self.elements_part_mut(cells.start, cells.end);
         BitSliceMut::from_parts(elements, start % (T::BITS as usize), to - from)
     }
 
     fn elements_part_mut(&mut self, start: usize, end: usize) -> &mut [T]
         requires order { start ≤ end }
-        requires bound { end ≤ length (bits_left self.old).view.elements }
+        requires bound { end ≤ length (bit_walk_of self.old).view.elements }
         ensures* writes_back { sem 𝓛 (lends_part T.row O.row self.entry start end result.ghost_name) }
-        ensures elements { result.now ≡ slice_range (bits_left self.old).view.elements start end }
+        ensures elements { result.now ≡ slice_range (bit_walk_of self.old).view.elements start end }
     {
         &mut self.elements[start..end]
     }

@@ -12,10 +12,10 @@ use bitvec_slice::base::BitOrder;
 use bitvec_slice::store::BitStore;
 
 /// `bitvec`'s calls on a `&mut BitSlice` that give pieces of it for writing, lent one at a time.
-/// Indices and widths are in bits.
+/// Indices and sizes are in bits.
 pub trait PieceCallsMut<T: BitStore, O: BitOrder> {
     ghost use Rattle.bitvec_slice.specs.Seen.{IsGiven, Seen};
-    ghost use Rattle.bitvec_iter.specs.LentBits.{IsAllOf, bits_left, name_of_bits};
+    ghost use Rattle.bitvec_iter.specs.LentBits.{IsAllOf, bit_walk_of, name_of_bits};
     ghost use Rattle.bitvec_iter.specs.Halves.{IsCutOf, name_of_halves};
     ghost use Rattle.bitvec_iter.specs.LentPieces.{name_of_pieces, walk_of};
     ghost use Rattle.bitvec_iter.specs.LentWalk.{IsWalkOf};
@@ -34,7 +34,7 @@ pub trait PieceCallsMut<T: BitStore, O: BitOrder> {
     /// ```
     fn iter_mut(&mut self) -> IterMut<'_, T, O>
         ensures* writes_back { sem 𝓛 (follows Self.row (Array T.row 0) self.entry.ghost_name (name_of_bits result) (with_elements self.old)) }
-        ensures walk { IsAllOf (shows self.old) (bits_left result) };
+        ensures walk { IsAllOf (shows self.old) (bit_walk_of result) };
 
     /// The bits before the index `mid`, and those from it on. Condition: `mid` is at most `len`.
     ///
@@ -62,58 +62,58 @@ pub trait PieceCallsMut<T: BitStore, O: BitOrder> {
         ensures { IsGiven (0 < (shows self.old).window.len)
             (IsCutOf (shows self.old) ((shows self.old).window.len - 1)) result };
 
-    /// The chunks of `width` bits from the first bit on: the last may be shorter. Condition: `width` is
+    /// The chunks of `size` bits from the first bit on: the last may be shorter. Condition: `size` is
     /// not 0.
     ///
     /// ```
     /// let mut view = BitSliceMut::<u8, Lsb0>::from_slice_mut(bytes);
     /// let mut chunks = view.chunks_mut(3);
     /// ```
-    fn chunks_mut(&mut self, width: usize) -> ChunksMut<'_, T, O>
-        requires { 0 < width }
+    fn chunks_mut(&mut self, size: usize) -> ChunksMut<'_, T, O>
+        requires { 0 < size }
         ensures* writes_back { sem 𝓛 (follows Self.row (Array T.row 0) self.entry.ghost_name (name_of_pieces result) (with_elements self.old)) }
-        ensures walk { IsWalkOf (shows self.old) (chunk_count width (shows self.old).window.len) (walk_of result) }
-        ensures width { (walk_of result).cutting.width ≡ width };
+        ensures walk { IsWalkOf (shows self.old) (chunk_count size (shows self.old).window.len) (walk_of result) }
+        ensures size { (walk_of result).cutting.size ≡ size };
 
-    /// The whole chunks of `width` bits from the first bit on: the others are the remainder. Condition:
-    /// `width` is not 0.
+    /// The whole chunks of `size` bits from the first bit on: the others are the remainder. Condition:
+    /// `size` is not 0.
     ///
     /// ```
     /// let mut view = BitSliceMut::<u8, Msb0>::from_slice_mut(bytes);
     /// let mut chunks = view.chunks_exact_mut(4);
     /// ```
-    fn chunks_exact_mut(&mut self, width: usize) -> ChunksExactMut<'_, T, O>
-        requires { 0 < width }
+    fn chunks_exact_mut(&mut self, size: usize) -> ChunksExactMut<'_, T, O>
+        requires { 0 < size }
         ensures* writes_back { sem 𝓛 (follows Self.row (Array T.row 0) self.entry.ghost_name (name_of_pieces result) (with_elements self.old)) }
-        ensures walk { IsWalkOf (shows self.old) (whole_count width (shows self.old).window.len) (walk_of result) }
-        ensures width { (walk_of result).cutting.width ≡ width };
+        ensures walk { IsWalkOf (shows self.old) (whole_count size (shows self.old).window.len) (walk_of result) }
+        ensures size { (walk_of result).cutting.size ≡ size };
 
-    /// The chunks of `width` bits from the last bit on: the last, which begins the view, may be shorter.
-    /// Condition: `width` is not 0.
+    /// The chunks of `size` bits from the last bit on: the last, which begins the view, may be shorter.
+    /// Condition: `size` is not 0.
     ///
     /// ```
     /// let mut view = BitSliceMut::<u8, Lsb0>::from_slice_mut(bytes);
     /// let mut chunks = view.rchunks_mut(3);
     /// ```
-    fn rchunks_mut(&mut self, width: usize) -> RChunksMut<'_, T, O>
-        requires { 0 < width }
+    fn rchunks_mut(&mut self, size: usize) -> RChunksMut<'_, T, O>
+        requires { 0 < size }
         ensures* writes_back { sem 𝓛 (follows Self.row (Array T.row 0) self.entry.ghost_name (name_of_pieces result) (with_elements self.old)) }
-        ensures walk { IsWalkOf (shows self.old) (chunk_count width (shows self.old).window.len) (walk_of result) }
-        ensures width { (walk_of result).cutting.width ≡ width };
+        ensures walk { IsWalkOf (shows self.old) (chunk_count size (shows self.old).window.len) (walk_of result) }
+        ensures size { (walk_of result).cutting.size ≡ size };
 
-    /// The whole chunks of `width` bits from the last bit on: the others are the remainder. Condition:
-    /// `width` is not 0.
+    /// The whole chunks of `size` bits from the last bit on: the others are the remainder. Condition:
+    /// `size` is not 0.
     ///
     /// ```
     /// let chunks = view.rchunks_exact_mut(3);
     /// let mut rest = chunks.into_remainder();
     /// rest.fill(true);
     /// ```
-    fn rchunks_exact_mut(&mut self, width: usize) -> RChunksExactMut<'_, T, O>
-        requires { 0 < width }
+    fn rchunks_exact_mut(&mut self, size: usize) -> RChunksExactMut<'_, T, O>
+        requires { 0 < size }
         ensures* writes_back { sem 𝓛 (follows Self.row (Array T.row 0) self.entry.ghost_name (name_of_pieces result) (with_elements self.old)) }
-        ensures walk { IsWalkOf (shows self.old) (whole_count width (shows self.old).window.len) (walk_of result) }
-        ensures width { (walk_of result).cutting.width ≡ width };
+        ensures walk { IsWalkOf (shows self.old) (whole_count size (shows self.old).window.len) (walk_of result) }
+        ensures size { (walk_of result).cutting.size ≡ size };
 }
 
 impl<'a, T: BitStore, O: BitOrder> PieceCallsMut<T, O> for BitSliceMut<'a, T, O> {
@@ -153,19 +153,19 @@ impl<'a, T: BitStore, O: BitOrder> PieceCallsMut<T, O> for BitSliceMut<'a, T, O>
         }
     }
 
-    fn chunks_mut(&mut self, width: usize) -> ChunksMut<'_, T, O> {
-        PiecesMut::new(self, InChunks { width })
+    fn chunks_mut(&mut self, size: usize) -> ChunksMut<'_, T, O> {
+        PiecesMut::new(self, InChunks { size })
     }
 
-    fn chunks_exact_mut(&mut self, width: usize) -> ChunksExactMut<'_, T, O> {
-        PiecesMut::new(self, InExactChunks { width })
+    fn chunks_exact_mut(&mut self, size: usize) -> ChunksExactMut<'_, T, O> {
+        PiecesMut::new(self, InExactChunks { size })
     }
 
-    fn rchunks_mut(&mut self, width: usize) -> RChunksMut<'_, T, O> {
-        PiecesMut::new(self, InChunksFromEnd { width })
+    fn rchunks_mut(&mut self, size: usize) -> RChunksMut<'_, T, O> {
+        PiecesMut::new(self, InChunksFromEnd { size })
     }
 
-    fn rchunks_exact_mut(&mut self, width: usize) -> RChunksExactMut<'_, T, O> {
-        PiecesMut::new(self, InExactChunksFromEnd { width })
+    fn rchunks_exact_mut(&mut self, size: usize) -> RChunksExactMut<'_, T, O> {
+        PiecesMut::new(self, InExactChunksFromEnd { size })
     }
 }

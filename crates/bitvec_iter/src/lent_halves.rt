@@ -4,7 +4,7 @@ ghost use Rattle.bitvec_slice.specs.base.Window.{max_bits};
 
 use bitvec_slice::base::{BitOrder, Window};
 use bitvec_slice::store::BitStore;
-use bitvec_slice::{BitSliceMut, RawElements, touched};
+use bitvec_slice::{BitSliceMut, RawElements, touched_range};
 use std::marker::PhantomData;
 
 /// A writable view's bits, cut in two: it stands for the pair that `bitvec`'s `split_at_mut` gives,
@@ -48,8 +48,8 @@ impl<'a, T: BitStore, O: BitOrder> HalvesMut<'a, T, O> {
 
     fn from_parts(elements: &'a mut [T], window: Window, mid: usize) -> Self
         requires inside { window.start + window.len ≤ T.BITS * length elements.old }
-        requires bounded { T.BITS * length elements.old ≤ max_bits }
-        requires order { mid ≤ window.len }
+        requires fits { T.BITS * length elements.old ≤ max_bits }
+        requires bound { mid ≤ window.len }
         ensures view { seen_halves result ≡ shown T.BITS O.at T.value elements.old window.start window.len }
         ensures mid { mid_of result ≡ mid }
         ensures name { name_of_halves result ≡ elements.entry.ghost_name }
@@ -103,7 +103,7 @@ impl<'a, T: BitStore, O: BitOrder> HalvesMut<'a, T, O> {
         ensures part { IsRangeOf T.BITS (seen_halves self.old) from to (seen_mut result) }
     {
         let start = self.head + from;
-        let cells = touched::<T>(start, self.head + to);
+        let cells = touched_range::<T>(start, self.head + to);
         let elements = self.elements_part_mut(cells.start, cells.end);
         BitSliceMut::from_parts(elements, start % (T::BITS as usize), to - from)
     }

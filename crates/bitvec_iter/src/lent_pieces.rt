@@ -5,7 +5,7 @@ ghost use Rattle.bitvec_slice.specs.base.Window.{max_bits};
 use bitvec_cutting::{Cutting, InChunks, InChunksFromEnd, InExactChunks, InExactChunksFromEnd};
 use bitvec_slice::base::{BitOrder, Window};
 use bitvec_slice::store::BitStore;
-use bitvec_slice::{BitSliceMut, RawElements, touched};
+use bitvec_slice::{BitSliceMut, RawElements, touched_range};
 use std::marker::PhantomData;
 
 /// The pieces of a writable view, cut as `C` says, which are lent one at a time, from both ends.
@@ -50,7 +50,7 @@ impl<'a, T: BitStore, O: BitOrder, C: Cutting> PiecesMut<'a, T, O, C> {
     ghost use Rattle.bitvec_slice.specs.Lending.{lends};
     ghost use Rattle.bitvec_slice.specs.Seen.{IsGiven, IsRangeOf, shown};
     ghost use Rattle.bitvec_slice.specs.Views.{name_of, seen_mut};
-    ghost use Rattle.bitvec_iter.specs.LentWalk.{IsPieceOf, IsWalkOf, past, past_back};
+    ghost use Rattle.bitvec_iter.specs.LentWalk.{IsPieceOfWalk, IsWalkOf, past, past_back};
     ghost use Rattle.bitvec_iter.specs.PiecesLending.{lends_bits, lends_first, lends_last, lends_part};
     ghost use Rattle.bitvec_iter.specs.LentPieces.{name_of_pieces, walk_of};
 
@@ -67,7 +67,7 @@ impl<'a, T: BitStore, O: BitOrder, C: Cutting> PiecesMut<'a, T, O, C> {
 
     fn from_parts(elements: &'a mut [T], window: Window, cutting: C) -> Self
         requires inside { window.start + window.len ≤ T.BITS * length elements.old }
-        requires bounded { T.BITS * length elements.old ≤ max_bits }
+        requires fits { T.BITS * length elements.old ≤ max_bits }
         ensures walk { IsWalkOf (shown T.BITS O.at T.value elements.old window.start window.len) (C.pieces cutting window.len) (walk_of result) }
         ensures cutting { (walk_of result).cutting ≡ cutting }
         ensures name { name_of_pieces result ≡ elements.entry.ghost_name }
@@ -103,7 +103,7 @@ impl<'a, T: BitStore, O: BitOrder, C: Cutting> PiecesMut<'a, T, O, C> {
     pub fn take_mut(&mut self) -> BitSliceMut<'_, T, O>
         requires { (walk_of self.old).front < (walk_of self.old).back }
         ensures* writes_back { sem 𝓛 (lends_first T.row O.row C.row C.place self.entry (name_of result)) }
-        ensures piece { IsPieceOf T.BITS C.place (walk_of self.old) (walk_of self.old).front (seen_mut result) }
+        ensures piece { IsPieceOfWalk T.BITS C.place (walk_of self.old) (walk_of self.old).front (seen_mut result) }
     {
         let range = self.cutting.piece(self.len, self.front);
         self.front += 1;
@@ -114,7 +114,7 @@ impl<'a, T: BitStore, O: BitOrder, C: Cutting> PiecesMut<'a, T, O, C> {
     pub fn take_back_mut(&mut self) -> BitSliceMut<'_, T, O>
         requires { (walk_of self.old).front < (walk_of self.old).back }
         ensures* writes_back { sem 𝓛 (lends_last T.row O.row C.row C.place self.entry (name_of result)) }
-        ensures piece { IsPieceOf T.BITS C.place (walk_of self.old) ((walk_of self.old).back - 1) (seen_mut result) }
+        ensures piece { IsPieceOfWalk T.BITS C.place (walk_of self.old) ((walk_of self.old).back - 1) (seen_mut result) }
     {
         self.back -= 1;
         let range = self.cutting.piece(self.len, self.back);
@@ -140,7 +140,7 @@ impl<'a, T: BitStore, O: BitOrder, C: Cutting> PiecesMut<'a, T, O, C> {
     /// The first piece that is left: `None` exactly where none is.
     pub fn next_mut(&mut self) -> Option<BitSliceMut<'_, T, O>>
         ensures { IsGiven ((walk_of self.old).front < (walk_of self.old).back)
-            (λ part. IsPieceOf T.BITS C.place (walk_of self.old) (walk_of self.old).front (seen_mut part)) result }
+            (λ part. IsPieceOfWalk T.BITS C.place (walk_of self.old) (walk_of self.old).front (seen_mut part)) result }
     {
         if self.is_empty() {
             None
@@ -152,7 +152,7 @@ impl<'a, T: BitStore, O: BitOrder, C: Cutting> PiecesMut<'a, T, O, C> {
     /// The last piece that is left: `None` exactly where none is.
     pub fn next_back_mut(&mut self) -> Option<BitSliceMut<'_, T, O>>
         ensures { IsGiven ((walk_of self.old).front < (walk_of self.old).back)
-            (λ part. IsPieceOf T.BITS C.place (walk_of self.old) ((walk_of self.old).back - 1) (seen_mut part)) result }
+            (λ part. IsPieceOfWalk T.BITS C.place (walk_of self.old) ((walk_of self.old).back - 1) (seen_mut part)) result }
     {
         if self.is_empty() {
             None
@@ -165,7 +165,7 @@ impl<'a, T: BitStore, O: BitOrder, C: Cutting> PiecesMut<'a, T, O, C> {
     /// and one more: `None` exactly where there are no more than `skipped`.
     pub fn nth_mut(&mut self, skipped: usize) -> Option<BitSliceMut<'_, T, O>>
         ensures { IsGiven (skipped < (walk_of self.old).back - (walk_of self.old).front)
-            (λ part. IsPieceOf T.BITS C.place (walk_of self.old) ((walk_of self.old).front + skipped) (seen_mut part)) result }
+            (λ part. IsPieceOfWalk T.BITS C.place (walk_of self.old) ((walk_of self.old).front + skipped) (seen_mut part)) result }
     {
         self.pass(skipped);
         self.next_mut()
@@ -175,7 +175,7 @@ impl<'a, T: BitStore, O: BitOrder, C: Cutting> PiecesMut<'a, T, O, C> {
     /// `next_back_mut` and one more: `None` exactly where there are no more than `skipped`.
     pub fn nth_back_mut(&mut self, skipped: usize) -> Option<BitSliceMut<'_, T, O>>
         ensures { IsGiven (skipped < (walk_of self.old).back - (walk_of self.old).front)
-            (λ part. IsPieceOf T.BITS C.place (walk_of self.old) ((walk_of self.old).back - 1 - skipped) (seen_mut part)) result }
+            (λ part. IsPieceOfWalk T.BITS C.place (walk_of self.old) ((walk_of self.old).back - 1 - skipped) (seen_mut part)) result }
     {
         self.pass_back(skipped);
         self.next_back_mut()
@@ -204,7 +204,7 @@ impl<'a, T: BitStore, O: BitOrder, C: Cutting> PiecesMut<'a, T, O, C> {
         ensures part { IsRangeOf T.BITS (walk_of self.old).view from to (seen_mut result) }
     {
         let start = self.head + from;
-        let cells = touched::<T>(start, self.head + to);
+        let cells = touched_range::<T>(start, self.head + to);
         let elements = self.elements_part_mut(cells.start, cells.end);
         BitSliceMut::from_parts(elements, start % (T::BITS as usize), to - from)
     }

@@ -15,9 +15,9 @@ use std::fmt;
 
 /// The bits that are left, as `IterMut([0, 1, 0])`.
 impl<'a, T: BitStore, O: BitOrder> fmt::Debug for IterMut<'a, T, O> {
-    ghost use Rattle.bitvec_iter.specs.LentBits.{bits_left, start_of};
+    ghost use Rattle.bitvec_iter.specs.LentBits.{bit_walk_of, start_of};
 
-    ghost debug_output = { λ it. debug_variant (codes "IterMut") (Some (bits_text (slice_range (bits_left it).view.bits (start_of (bits_left it)) (bits_left it).back))) };
+    ghost debug_output = { λ it. debug_variant (codes "IterMut") (Some (bits_text (slice_range (bit_walk_of it).view.bits (start_of (bit_walk_of it)) (bit_walk_of it).back))) };
 
     fn fmt<W: fmt::Write>(&self, f: &mut fmt::Formatter<W>) -> fmt::Result {
         write_named("IterMut", self.as_bitslice(), f)

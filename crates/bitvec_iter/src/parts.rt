@@ -1,7 +1,7 @@
 //! A part of a view, by all that it shows.
 ghost use Rattle.std.specs.Prelude.{◌≡◌};
 ghost use Rattle.bitvec_cutting.specs.Cutting.{LiesIn};
-ghost use Rattle.bitvec_iter.specs.Parts.{part_at};
+ghost use Rattle.bitvec_iter.specs.Parts.{subview};
 ghost use Rattle.bitvec_slice.specs.Views.{seen};
 
 use bitvec_slice::BitSlice;
@@ -15,7 +15,7 @@ pub(crate) fn part_of<'a, T: BitStore, O: BitOrder>(
     places: Range<usize>,
 ) -> BitSlice<'a, T, O>
     requires { LiesIn (seen view).window.len places }
-    ensures { seen result ≡ part_at T.BITS (seen view.entry) places }
+    ensures { seen result ≡ subview T.BITS (seen view.entry) places }
 {
     view.into_part(places)
 }

@@ -4,7 +4,7 @@ ghost use Rattle.std.specs.Iterator.{UpTo, at_most, item_count};
 ghost use Rattle.std.specs.Iterator.SizeHint.{IsWithinCount};
 ghost use Rattle.bitvec_slice.specs.base.Window.{max_bits};
 ghost use Rattle.bitvec_slice.specs.Views.{seen};
-ghost use Rattle.bitvec_iter.specs.Parts.{part_at};
+ghost use Rattle.bitvec_iter.specs.Parts.{subview};
 
 use crate::PieceWalk;
 use crate::parts::part_of;
@@ -30,20 +30,20 @@ pub struct Pieces<'a, T: BitStore, O: BitOrder, C: Cutting> {
     ghost inside: { numbers.end ≤ C.pieces cutting (seen view).window.len },
 }
 
-/// Windows of a width, each one bit behind the one before it: `windows` makes it.
+/// Windows of a size, each one bit behind the one before it: `windows` makes it.
 pub type Windows<'a, T, O> = Pieces<'a, T, O, InWindows>;
 
-/// Chunks of a width from the first bit on, of which the last may be shorter: `chunks` makes it.
+/// Chunks of a size from the first bit on, of which the last may be shorter: `chunks` makes it.
 pub type Chunks<'a, T, O> = Pieces<'a, T, O, InChunks>;
 
-/// Whole chunks of a width from the first bit on: `chunks_exact` makes it.
+/// Whole chunks of a size from the first bit on: `chunks_exact` makes it.
 pub type ChunksExact<'a, T, O> = Pieces<'a, T, O, InExactChunks>;
 
-/// Chunks of a width from the last bit on, of which the last, at the start, may be shorter:
+/// Chunks of a size from the last bit on, of which the last, at the start, may be shorter:
 /// `rchunks` makes it.
 pub type RChunks<'a, T, O> = Pieces<'a, T, O, InChunksFromEnd>;
 
-/// Whole chunks of a width from the last bit on: `rchunks_exact` makes it.
+/// Whole chunks of a size from the last bit on: `rchunks_exact` makes it.
 pub type RChunksExact<'a, T, O> = Pieces<'a, T, O, InExactChunksFromEnd>;
 
 impl<'a, T: BitStore, O: BitOrder, C: Cutting> Pieces<'a, T, O, C> {
@@ -93,7 +93,7 @@ impl<'a, T: BitStore, O: BitOrder, C: ExactCutting> Pieces<'a, T, O, C> {
 
     /// The bits that no piece has.
     pub fn remainder(&self) -> BitSlice<'a, T, O>
-        ensures { seen result ≡ part_at T.BITS (walked self.now) (C.left_over (cut_by self.now) (walked self.now).window.len) }
+        ensures { seen result ≡ subview T.BITS (walked self.now) (C.left_over (cut_by self.now) (walked self.now).window.len) }
     {
         part_of(self.view, self.cutting.remainder(self.view.len()))
     }

@@ -20,24 +20,24 @@ impl<'a, T: BitStore, O: BitOrder> IterCalls<T> for BitSlice<'a, T, O> {
 
     ghost shows = { seen };
 
-    fn windows(self, width: usize) -> Windows<'a, T, O> {
-        Pieces::new(self, InWindows { width })
+    fn windows(self, size: usize) -> Windows<'a, T, O> {
+        Pieces::new(self, InWindows { size })
     }
 
-    fn chunks(self, width: usize) -> Chunks<'a, T, O> {
-        Pieces::new(self, InChunks { width })
+    fn chunks(self, size: usize) -> Chunks<'a, T, O> {
+        Pieces::new(self, InChunks { size })
     }
 
-    fn chunks_exact(self, width: usize) -> ChunksExact<'a, T, O> {
-        Pieces::new(self, InExactChunks { width })
+    fn chunks_exact(self, size: usize) -> ChunksExact<'a, T, O> {
+        Pieces::new(self, InExactChunks { size })
     }
 
-    fn rchunks(self, width: usize) -> RChunks<'a, T, O> {
-        Pieces::new(self, InChunksFromEnd { width })
+    fn rchunks(self, size: usize) -> RChunks<'a, T, O> {
+        Pieces::new(self, InChunksFromEnd { size })
     }
 
-    fn rchunks_exact(self, width: usize) -> RChunksExact<'a, T, O> {
-        Pieces::new(self, InExactChunksFromEnd { width })
+    fn rchunks_exact(self, size: usize) -> RChunksExact<'a, T, O> {
+        Pieces::new(self, InExactChunksFromEnd { size })
     }
 }
 
@@ -54,23 +54,23 @@ impl<'a, 'v, T: BitStore, O: BitOrder> IterCalls<T> for &'v BitSliceMut<'a, T, O
 
     ghost shows = { λ view. seen_mut view.now };
 
-    fn windows(self, width: usize) -> Windows<'v, T, O> {
-        self.as_ref().windows(width)
+    fn windows(self, size: usize) -> Windows<'v, T, O> {
+        self.as_ref().windows(size)
     }
 
-    fn chunks(self, width: usize) -> Chunks<'v, T, O> {
-        self.as_ref().chunks(width)
+    fn chunks(self, size: usize) -> Chunks<'v, T, O> {
+        self.as_ref().chunks(size)
     }
 
-    fn chunks_exact(self, width: usize) -> ChunksExact<'v, T, O> {
-        self.as_ref().chunks_exact(width)
+    fn chunks_exact(self, size: usize) -> ChunksExact<'v, T, O> {
+        self.as_ref().chunks_exact(size)
     }
 
-    fn rchunks(self, width: usize) -> RChunks<'v, T, O> {
-        self.as_ref().rchunks(width)
+    fn rchunks(self, size: usize) -> RChunks<'v, T, O> {
+        self.as_ref().rchunks(size)
     }
 
-    fn rchunks_exact(self, width: usize) -> RChunksExact<'v, T, O> {
-        self.as_ref().rchunks_exact(width)
+    fn rchunks_exact(self, size: usize) -> RChunksExact<'v, T, O> {
+        self.as_ref().rchunks_exact(size)
     }
 }

@@ -65,12 +65,12 @@ pub fn numbered<T: BitStore, O: BitOrder>(
 pub fn ones_of_chunks<T: BitStore, O: SliceOrder>(
     alloc: Global,
     bits: BitSlice<'_, T, O>,
-    width: usize,
+    size: usize,
 ) -> Result<Vec<usize>, AllocError>
-    requires { 0 < width }
-    ensures { IfOk result (λ counts. counts.items ≡ map (λ piece. count_by (λ bit. bit) piece.bits) (parts_of T.BITS (seen bits.entry) (chunk_count width) (chunk width))) }
+    requires { 0 < size }
+    ensures { IfOk result (λ counts. counts.items ≡ map (λ piece. count_by (λ bit. bit) piece.bits) (parts_of T.BITS (seen bits.entry) (chunk_count size) (chunk size))) }
 {
-    bits.chunks(width)
+    bits.chunks(size)
         .map(|piece| piece.count_ones())
         .collect(alloc)
 }
@@ -135,12 +135,12 @@ pub fn differences<T: BitStore, O: BitOrder>(
 
 /// How many bits are 1, added up over chunks.
 #[tactic(auto, using(bitvec_iter::specs::JoinLaws::joining))]
-pub fn ones_by_chunks<T: BitStore, O: SliceOrder>(bits: BitSlice<'_, T, O>, width: usize) -> usize
-    requires { 0 < width }
+pub fn ones_by_chunks<T: BitStore, O: SliceOrder>(bits: BitSlice<'_, T, O>, size: usize) -> usize
+    requires { 0 < size }
     ensures { result ≡ count_by (λ bit. bit) (seen bits.entry).bits }
 {
     let mut ones = 0;
-    for piece in bits.chunks(width) {
+    for piece in bits.chunks(size) {
         ones += piece.count_ones();
     }
     ones
@@ -151,13 +151,13 @@ pub fn ones_by_chunks<T: BitStore, O: SliceOrder>(bits: BitSlice<'_, T, O>, widt
 pub fn joined<T: BitStore, O: BitOrder>(
     alloc: Global,
     bits: BitSlice<'_, T, O>,
-    width: usize,
+    size: usize,
 ) -> Result<Vec<bool>, AllocError>
-    requires { 0 < width }
+    requires { 0 < size }
     ensures { IfOk result (λ bools. bools.items ≡ (seen bits.entry).bits) }
 {
     let mut bools = Vec::new(alloc);
-    for piece in bits.chunks(width) {
+    for piece in bits.chunks(size) {
         for bit in piece.iter().by_vals() {
             bools.push(bit)?;
         }

@@ -21,14 +21,14 @@ pub fn set_in_place<T: BitStore, O: SliceOrder>(view: &mut BitSliceMut<'_, T, O>
 /// Clears the first chunk, if there is one, and gives how many are left then.
 pub fn clear_first<T: BitStore, O: SliceOrder>(
     view: &mut BitSliceMut<'_, T, O>,
-    width: usize,
+    size: usize,
 ) -> usize
-    requires { 0 < width }
-    ensures left { result ≡ chunk_count width (seen_mut view.old).window.len - 1 }
+    requires { 0 < size }
+    ensures left { result ≡ chunk_count size (seen_mut view.old).window.len - 1 }
     ensures window { (seen_mut view.new).window ≡ (seen_mut view.old).window }
     ensures name { name_of view.new ≡ name_of view.old }
 {
-    let mut chunks = view.chunks_mut(width);
+    let mut chunks = view.chunks_mut(size);
     if chunks.is_empty() {
         return 0;
     }
@@ -42,14 +42,14 @@ pub fn clear_first<T: BitStore, O: SliceOrder>(
 /// Clears the last chunk, if there is one, and gives how many are left then.
 pub fn clear_last_chunk<T: BitStore, O: SliceOrder>(
     view: &mut BitSliceMut<'_, T, O>,
-    width: usize,
+    size: usize,
 ) -> usize
-    requires { 0 < width }
-    ensures left { result ≡ chunk_count width (seen_mut view.old).window.len - 1 }
+    requires { 0 < size }
+    ensures left { result ≡ chunk_count size (seen_mut view.old).window.len - 1 }
     ensures window { (seen_mut view.new).window ≡ (seen_mut view.old).window }
     ensures name { name_of view.new ≡ name_of view.old }
 {
-    let mut chunks = view.chunks_mut(width);
+    let mut chunks = view.chunks_mut(size);
     if chunks.is_empty() {
         return 0;
     }
@@ -63,14 +63,14 @@ pub fn clear_last_chunk<T: BitStore, O: SliceOrder>(
 /// Clears the bits that no whole chunk has, and gives how many chunks are left then: all.
 pub fn clear_remainder<T: BitStore, O: SliceOrder>(
     view: &mut BitSliceMut<'_, T, O>,
-    width: usize,
+    size: usize,
 ) -> usize
-    requires { 0 < width }
-    ensures left { result ≡ whole_count width (seen_mut view.old).window.len }
+    requires { 0 < size }
+    ensures left { result ≡ whole_count size (seen_mut view.old).window.len }
     ensures window { (seen_mut view.new).window ≡ (seen_mut view.old).window }
     ensures name { name_of view.new ≡ name_of view.old }
 {
-    let mut chunks = view.chunks_exact_mut(width);
+    let mut chunks = view.chunks_exact_mut(size);
     {
         let mut rest = chunks.take_remainder();
         rest.fill(false);
@@ -81,14 +81,14 @@ pub fn clear_remainder<T: BitStore, O: SliceOrder>(
 /// How many chunks are left, once `front` were passed from the front, and `back` from the back.
 pub fn left_between<T: BitStore, O: SliceOrder>(
     view: &mut BitSliceMut<'_, T, O>,
-    width: usize,
+    size: usize,
     front: usize,
     back: usize,
 ) -> usize
-    requires { 0 < width }
-    ensures { result ≡ chunk_count width (seen_mut view.old).window.len - front - back }
+    requires { 0 < size }
+    ensures { result ≡ chunk_count size (seen_mut view.old).window.len - front - back }
 {
-    let mut chunks = view.chunks_mut(width);
+    let mut chunks = view.chunks_mut(size);
     chunks.pass(front);
     chunks.pass_back(back);
     chunks.len()
@@ -97,12 +97,12 @@ pub fn left_between<T: BitStore, O: SliceOrder>(
 /// Flips the first chunk, and gives how many bits it has; none, where there is no chunk.
 pub fn flip_first<T: BitStore, O: SliceOrder>(
     view: &mut BitSliceMut<'_, T, O>,
-    width: usize,
+    size: usize,
 ) -> usize
-    requires { 0 < width }
-    ensures { result ≡ min width (seen_mut view.old).window.len }
+    requires { 0 < size }
+    ensures { result ≡ min size (seen_mut view.old).window.len }
 {
-    let mut chunks = view.chunks_mut(width);
+    let mut chunks = view.chunks_mut(size);
     match chunks.next_mut() {
         Some(mut piece) => {
             piece.invert();

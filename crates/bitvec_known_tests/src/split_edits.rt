@@ -39,8 +39,8 @@ enum Kind {
     Between,
     Inclusive,
     Reversed,
-    Counted(usize),
-    CountedReversed(usize),
+    Limited(usize),
+    LimitedReversed(usize),
 }
 
 /// What a predicate was asked about, and what an edit was called with: pairs of numbers and of what belongs to them.
@@ -95,11 +95,11 @@ fn edit_in(bytes: &mut [u8; 3], kind: Kind) -> (Heard, Heard) {
             let call = edited.hears(number, piece.len());
             piece.fill_with(|index| written(call, index));
         }),
-        Kind::Counted(count) => view.for_each_splitn_mut(count, pred, |number, piece| {
+        Kind::Limited(count) => view.for_each_splitn_mut(count, pred, |number, piece| {
             let call = edited.hears(number, piece.len());
             piece.fill_with(|index| written(call, index));
         }),
-        Kind::CountedReversed(count) => view.for_each_rsplitn_mut(count, pred, |number, piece| {
+        Kind::LimitedReversed(count) => view.for_each_rsplitn_mut(count, pred, |number, piece| {
             let call = edited.hears(number, piece.len());
             piece.fill_with(|index| written(call, index));
         }),
@@ -189,8 +189,8 @@ fn edits_as_list<R: Abort>(rt: &R, kind: Kind) {
             Kind::Between => model.edit_up(false, 100),
             Kind::Inclusive => model.edit_up(true, 100),
             Kind::Reversed => model.edit_down(100),
-            Kind::Counted(count) => model.edit_up(false, count),
-            Kind::CountedReversed(count) => model.edit_down(count),
+            Kind::Limited(count) => model.edit_up(false, count),
+            Kind::LimitedReversed(count) => model.edit_down(count),
         }
         assert!(rt; asked == model.asked);
         assert!(rt; edited == model.edited);
@@ -216,14 +216,14 @@ fn pieces_by_for_each_rsplit_mut(rt: HostRuntime) {
 #[test]
 fn pieces_by_for_each_splitn_mut(rt: HostRuntime) {
     for count in [0, 1, 2, 5, 30] {
-        edits_as_list(&rt, Kind::Counted(count));
+        edits_as_list(&rt, Kind::Limited(count));
     }
 }
 
 #[test]
 fn pieces_by_for_each_rsplitn_mut(rt: HostRuntime) {
     for count in [0, 1, 2, 5, 30] {
-        edits_as_list(&rt, Kind::CountedReversed(count));
+        edits_as_list(&rt, Kind::LimitedReversed(count));
     }
 }
 

@@ -4,7 +4,7 @@ ghost use Rattle.bitvec.specs.Arrays.{lsb0_bits};
 ghost use Rattle.bitvec.specs.Cutting.{chunk, chunk_count};
 ghost use Rattle.bitvec.specs.Left.{pieces_left, walked};
 ghost use Rattle.bitvec.specs.Lists.{places_of};
-ghost use Rattle.bitvec.specs.OnesLeft.{indices_left};
+ghost use Rattle.bitvec.specs.OnesLeft.{remaining_indices};
 ghost use Rattle.bitvec.specs.PieceParts.{parts_of};
 ghost use Rattle.bitvec.specs.SplitAsked.{upward};
 ghost use Rattle.bitvec.specs.Views.{seen, seen_mut};
@@ -38,43 +38,43 @@ pub fn pairs(elements: &[u8]) -> Chunks<'_, u8, Lsb0>
     BitSlice::<u8, Lsb0>::from_slice(elements).chunks(2)
 }
 
-/// The chunks of a width of any view.
+/// The chunks of a size of any view.
 pub fn rows_of<'a, T: BitStore, O: BitOrder>(
     view: BitSlice<'a, T, O>,
-    width: usize,
+    size: usize,
 ) -> Chunks<'a, T, O>
-    requires { 0 < width }
-    ensures { pieces_left result ≡ parts_of T.BITS (seen view.entry) (chunk_count width) (chunk width) }
+    requires { 0 < size }
+    ensures { pieces_left result ≡ parts_of T.BITS (seen view.entry) (chunk_count size) (chunk size) }
 {
-    view.chunks(width)
+    view.chunks(size)
 }
 
-/// The chunks of a width of a writable view, which live as long as its borrow.
+/// The chunks of a size of a writable view, which live as long as its borrow.
 pub fn rows_in<'v, T: BitStore, O: BitOrder>(
     view: &'v BitSliceMut<'_, T, O>,
-    width: usize,
+    size: usize,
 ) -> Chunks<'v, T, O>
-    requires { 0 < width }
-    ensures { pieces_left result ≡ parts_of T.BITS (seen_mut view.now) (chunk_count width) (chunk width) }
+    requires { 0 < size }
+    ensures { pieces_left result ≡ parts_of T.BITS (seen_mut view.now) (chunk_count size) (chunk size) }
 {
-    view.chunks(width)
+    view.chunks(size)
 }
 
 /// The indices of the ones of a writable view, which live as long as its borrow.
 pub fn taken_in<'v, T: BitStore, O: SliceOrder>(
     view: &'v BitSliceMut<'_, T, O>,
 ) -> IterOnes<'v, T, O>
-    ensures { indices_left result ≡ places_of true (seen_mut view.now).bits }
+    ensures { remaining_indices result ≡ places_of true (seen_mut view.now).bits }
 {
     view.iter_ones()
 }
 
-/// The chunks of a width of either type of views.
-pub fn rows_either<T: BitStore, V: IterCalls<T>>(view: V, width: usize) -> V::Chunks
-    requires { 0 < width }
-    ensures { V.Chunks.left result ≡ parts_of T.BITS (V.shows view) (chunk_count width) (chunk width) }
+/// The chunks of a size of either type of views.
+pub fn rows_either<T: BitStore, V: IterCalls<T>>(view: V, size: usize) -> V::Chunks
+    requires { 0 < size }
+    ensures { V.Chunks.left result ≡ parts_of T.BITS (V.shows view) (chunk_count size) (chunk size) }
 {
-    view.chunks(width)
+    view.chunks(size)
 }
 
 #[test]

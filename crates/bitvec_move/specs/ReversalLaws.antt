@@ -11,7 +11,7 @@ use Rattle.bitvec_words.specs.base.Memory.{Edits, HasWindow, Writes, list_in}
 use Rattle.bitvec_words.specs.base.ReversalLaws.{mirror-all, mirror-none}
 use Rattle.bitvec_words.specs.base.Window.{window_range, write_at}
 use Rattle.bitvec_words.specs.base.WritesLaws.{HasWindow-kept, Writes-is, Writes-next, Writes-range, length-list, list-range}
-use Rattle.bitvec_words.specs.walk.Cost.{reverse_loads, reverse_stores, step_span, touched, work_steps}
+use Rattle.bitvec_words.specs.walk.Cost.{reverse_loads, reverse_stores, step_span, touched_count, work_steps}
 use Rattle.bitvec_words.specs.walk.CostLaws.{touched_enough}
 use Rattle.bitvec_move.specs.MirrorLaws.{mirror-exchange, mirror-middle}
 use Rattle.bitvec_move.specs.Ends.{ends_exchanged}
@@ -85,7 +85,7 @@ Edits-middle b at old mid new window low has fits before after =
 -- ---- costs
 
 -- at most an element's width touches at most two
-pub touched-most : (b s n : ℕ) → 0 < b → 0 < n → n ≤ b → touched b s n ≤ 2
+pub touched-most : (b s n : ℕ) → 0 < b → 0 < n → n ≤ b → touched_count b s n ≤ 2
 touched-most b s n some more fits =
     ⊎_elim
     (λ (over : b < s % b + n). let two = touched-two b s n some fits over in omega arith)
@@ -102,7 +102,7 @@ steps-some n more = omega arith
 
 -- each touched element once, and a few more
 pub reverse-enough : (b s n : ℕ) → 0 < b → 0 < n
-    → (touched b s n + 6 ≤ reverse_loads b true n) × (touched b s n + 2 ≤ reverse_stores b true n)
+    → (touched_count b s n + 6 ≤ reverse_loads b true n) × (touched_count b s n + 2 ≤ reverse_stores b true n)
 unfolding reverse_loads reverse_stores
 reverse-enough b s n some more =
     let each = touched_enough b true s n some in

@@ -12,7 +12,7 @@ use Rattle.bitvec_words.specs.base.Parts.{first_part_of, part_window}
 use Rattle.bitvec_words.specs.base.Window.{window_of, write_at}
 use Rattle.bitvec_words.specs.base.WriteLaws.{range-write_at_before}
 use Rattle.bitvec_words.specs.base.WritesLaws.{Writes-is, Writes-join, list-behind, list-join, within-list}
-use Rattle.bitvec_words.specs.walk.Cost.{touched, work_steps, write_loads}
+use Rattle.bitvec_words.specs.walk.Cost.{touched_count, work_steps, write_loads}
 use Rattle.bitvec_words.specs.walk.WalkLaws.{touched-none}
 use Rattle.bitvec_words.specs.Elements.{elements_window, elements_window_from}
 use Rattle.bitvec_words.specs.FieldLaws.{Writes-none, element_of, list-both, list-whole}
@@ -216,7 +216,7 @@ list-joined_ahead b at xs first skip count left some below has more within =
 -- ---- the elements that two parts touch
 
 -- both touch at most one
-pub touched-split : (b s t n : ℕ) → 0 < b → t ≤ n → touched b s t + touched b (s + t) (n - t) ≤ touched b s n + 1
+pub touched-split : (b s t n : ℕ) → 0 < b → t ≤ n → touched_count b s t + touched_count b (s + t) (n - t) ≤ touched_count b s n + 1
 touched-split b s t n some fits =
     let all : t + (n - t) ≡ n = omega arith in
     ⊎_elim
@@ -233,7 +233,7 @@ touched-split b s t n some fits =
     (cases_lt 0 ((s + t) % b))
 
 -- m elements' bits, and what is behind them
-pub touched-split_whole : (b s n m : ℕ) → 0 < b → m * b ≤ n → m + touched b (s + m * b) (n - m * b) ≤ touched b s n
+pub touched-split_whole : (b s n m : ℕ) → 0 < b → m * b ≤ n → m + touched_count b (s + m * b) (n - m * b) ≤ touched_count b s n
 touched-split_whole b s n m some fits =
     ⊎_elim
     (λ (inside : 0 < s % b).

@@ -3,7 +3,7 @@ ghost use Rattle.std.specs.Prelude.{◌≡◌, ℕ, ◌*◌, ◌/◌, ◌%◌, �
 ghost use Rattle.bitvec_words.specs.base.Memory.{HasWindow, Writes, list_in};
 ghost use Rattle.bitvec_words.specs.base.Parts.{HasPart, part_window};
 ghost use Rattle.bitvec_words.specs.cells.Access.{Costs, CostsAtMost, OnlyReads};
-ghost use Rattle.bitvec_words.specs.walk.Cost.{part_loads, touched};
+ghost use Rattle.bitvec_words.specs.walk.Cost.{part_loads, touched_count};
 ghost use Rattle.bitvec_words.specs.Elements.{elements_window};
 
 use bitvec_words::base::{BitOrder, Part, Window, first_part};
@@ -28,8 +28,8 @@ pub fn copy_equal<O: BitOrder, C: Cells, D: CellsRead<Elem = C::Elem>>(
     requires phases { to.start % C.Elem.BITS ≡ from.start % C.Elem.BITS }
     ensures writes { Writes C.Elem.BITS O.at (C.numbers left.old) (C.numbers left.new) to
         (list_in C.Elem.BITS O.at (D.numbers right.old) from) }
-    ensures cost { CostsAtMost C.CellsRead left.old left.new 2 (touched C.Elem.BITS to.start to.len) }
-    ensures right { OnlyReads D.CellsRead right.old right.new (touched C.Elem.BITS from.start from.len) }
+    ensures cost { CostsAtMost C.CellsRead left.old left.new 2 (touched_count C.Elem.BITS to.start to.len) }
+    ensures right { OnlyReads D.CellsRead right.old right.new (touched_count C.Elem.BITS from.start from.len) }
 {
     let bits = C::Elem::BITS as usize;
     let head = first_part(bits, to);
@@ -55,8 +55,8 @@ fn copy_aligned<O: BitOrder, C: Cells, D: CellsRead<Elem = C::Elem>>(
     requires right_edge { from.start % C.Elem.BITS ≡ 0 }
     ensures writes { Writes C.Elem.BITS O.at (C.numbers left.old) (C.numbers left.new) to
         (list_in C.Elem.BITS O.at (D.numbers right.old) from) }
-    ensures cost { CostsAtMost C.CellsRead left.old left.new 1 (touched C.Elem.BITS to.start to.len) }
-    ensures right { OnlyReads D.CellsRead right.old right.new (touched C.Elem.BITS from.start from.len) }
+    ensures cost { CostsAtMost C.CellsRead left.old left.new 1 (touched_count C.Elem.BITS to.start to.len) }
+    ensures right { OnlyReads D.CellsRead right.old right.new (touched_count C.Elem.BITS from.start from.len) }
 {
     let bits = C::Elem::BITS as usize;
     let count = to.len / bits;

@@ -4,7 +4,7 @@ ghost use Rattle.std.specs.Prelude.{◌≡◌, ◌≢◌, ℕ, ◌+◌, ◌-◌,
 ghost use Rattle.bitvec_words.specs.base.Memory.{HasWindow, Writes, list_in};
 ghost use Rattle.bitvec_words.specs.base.Parts.{HasPart, part_window};
 ghost use Rattle.bitvec_words.specs.cells.Access.{Costs, CostsAtMost, OnlyReads};
-ghost use Rattle.bitvec_words.specs.walk.Cost.{part_loads, touched};
+ghost use Rattle.bitvec_words.specs.walk.Cost.{part_loads, touched_count};
 ghost use Rattle.bitvec_words.specs.Elements.{elements_window, elements_window_from};
 
 use bitvec_words::base::{BitOrder, Part, Window, first_part};
@@ -27,8 +27,8 @@ pub(crate) fn copy_shifted<O: WordOrder, C: Cells, D: CellsRead<Elem = C::Elem>>
     requires phases { to.start % C.Elem.BITS ≢ from.start % C.Elem.BITS }
     ensures writes { Writes C.Elem.BITS O.at (C.numbers left.old) (C.numbers left.new) to
         (list_in C.Elem.BITS O.at (D.numbers right.old) from) }
-    ensures cost { CostsAtMost C.CellsRead left.old left.new 2 (touched C.Elem.BITS to.start to.len) }
-    ensures right { OnlyReads D.CellsRead right.old right.new (touched C.Elem.BITS from.start from.len) }
+    ensures cost { CostsAtMost C.CellsRead left.old left.new 2 (touched_count C.Elem.BITS to.start to.len) }
+    ensures right { OnlyReads D.CellsRead right.old right.new (touched_count C.Elem.BITS from.start from.len) }
 {
     let bits = C::Elem::BITS as usize;
     if to.start % bits == 0 {
@@ -60,7 +60,7 @@ fn shift_head<O: WordOrder, C: Cells, D: CellsRead<Elem = C::Elem>>(
         (list_in C.Elem.BITS O.at (D.numbers right.old) from) }
     ensures last { C.Elem.value result ≡ slice_index (D.numbers right.old) ((from.start + from.len - 1) / C.Elem.BITS) }
     ensures cost { Costs C.CellsRead left.old left.new (part_loads C.Elem.BITS part) 1 }
-    ensures right { OnlyReads D.CellsRead right.old right.new (touched C.Elem.BITS from.start from.len) }
+    ensures right { OnlyReads D.CellsRead right.old right.new (touched_count C.Elem.BITS from.start from.len) }
 {
     let (front, last) = field::<O, D>(right, from);
     store_part::<O, C>(left, part, toward_end::<O, C::Elem>(front, part.from));
@@ -85,8 +85,8 @@ fn copy_rest<O: WordOrder, C: Cells, D: CellsRead<Elem = C::Elem>>(
     requires carry { C.Elem.value carry ≡ slice_index (D.numbers right.old) (from.start / C.Elem.BITS) }
     ensures writes { Writes C.Elem.BITS O.at (C.numbers left.old) (C.numbers left.new) to
         (list_in C.Elem.BITS O.at (D.numbers right.old) from) }
-    ensures cost { CostsAtMost C.CellsRead left.old left.new 1 (touched C.Elem.BITS to.start to.len) }
-    ensures right { OnlyReads D.CellsRead right.old right.new (touched C.Elem.BITS from.start from.len - 1) }
+    ensures cost { CostsAtMost C.CellsRead left.old left.new 1 (touched_count C.Elem.BITS to.start to.len) }
+    ensures right { OnlyReads D.CellsRead right.old right.new (touched_count C.Elem.BITS from.start from.len - 1) }
 {
     let bits = C::Elem::BITS as usize;
     let count = to.len / bits;
@@ -115,7 +115,7 @@ fn shift_tail<O: WordOrder, C: Cells, D: CellsRead<Elem = C::Elem>>(
     ensures writes { Writes C.Elem.BITS O.at (C.numbers left.old) (C.numbers left.new)
         (part_window C.Elem.BITS (record { element = element; from = 0; to = from.len })) (list_in C.Elem.BITS O.at (D.numbers right.old) from) }
     ensures cost { CostsAtMost C.CellsRead left.old left.new 1 1 }
-    ensures right { OnlyReads D.CellsRead right.old right.new (touched C.Elem.BITS from.start from.len - 1) }
+    ensures right { OnlyReads D.CellsRead right.old right.new (touched_count C.Elem.BITS from.start from.len - 1) }
 {
     let (front, _) = field_after::<O, D>(right, from, carry);
     let part = Part {

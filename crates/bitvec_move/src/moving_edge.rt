@@ -3,7 +3,7 @@
 ghost use Rattle.std.specs.Prelude.{◌≡◌, ℕ, ◌+◌, ◌%◌, ◌≤◌};
 ghost use Rattle.bitvec_words.specs.base.Memory.{HasWindow, Writes, list_in};
 ghost use Rattle.bitvec_words.specs.cells.Access.{CostsAtMost};
-ghost use Rattle.bitvec_words.specs.walk.Cost.{touched};
+ghost use Rattle.bitvec_words.specs.walk.Cost.{touched_count};
 
 use bitvec_words::base::{Window, first_part};
 use bitvec_words::cells::Cells;
@@ -17,10 +17,10 @@ pub(crate) fn move_edge<O: WordOrder, C: Cells>(cells: &mut C, to: Window, from:
     requires window { HasWindow C.Elem.BITS (C.numbers cells.old) to }
     requires source { HasWindow C.Elem.BITS (C.numbers cells.old) from }
     requires lengths { to.len ≡ from.len }
-    requires element { to.start % C.Elem.BITS + to.len ≤ C.Elem.BITS }
+    requires one { to.start % C.Elem.BITS + to.len ≤ C.Elem.BITS }
     ensures writes { Writes C.Elem.BITS O.at (C.numbers cells.old) (C.numbers cells.new) to
         (list_in C.Elem.BITS O.at (C.numbers cells.old) from) }
-    ensures cost { CostsAtMost C.CellsRead cells.old cells.new (touched C.Elem.BITS from.start from.len + 1) (touched C.Elem.BITS to.start to.len) }
+    ensures cost { CostsAtMost C.CellsRead cells.old cells.new (touched_count C.Elem.BITS from.start from.len + 1) (touched_count C.Elem.BITS to.start to.len) }
 {
     if to.len == 0 {
         return;

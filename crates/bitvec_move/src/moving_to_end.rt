@@ -3,7 +3,7 @@
 ghost use Rattle.std.specs.Prelude.{◌≡◌, ℕ, ◌+◌, ◌*◌, ◌/◌, ◌%◌, ◌<◌, ◌≤◌};
 ghost use Rattle.bitvec_words.specs.base.Memory.{HasWindow, Writes, list_in};
 ghost use Rattle.bitvec_words.specs.cells.Access.{Costs, CostsAtMost};
-ghost use Rattle.bitvec_words.specs.walk.Cost.{touched};
+ghost use Rattle.bitvec_words.specs.walk.Cost.{touched_count};
 ghost use Rattle.bitvec_words.specs.Elements.{elements_window, elements_window_from};
 
 use crate::moving_edge::move_edge;
@@ -23,7 +23,7 @@ pub(crate) fn move_to_end<O: WordOrder, C: Cells>(cells: &mut C, to: Window, fro
     requires towards_end { from.start ≤ to.start }
     ensures writes { Writes C.Elem.BITS O.at (C.numbers cells.old) (C.numbers cells.new) to
         (list_in C.Elem.BITS O.at (C.numbers cells.old) from) }
-    ensures cost { CostsAtMost C.CellsRead cells.old cells.new (touched C.Elem.BITS from.start from.len + 4) (touched C.Elem.BITS to.start to.len) }
+    ensures cost { CostsAtMost C.CellsRead cells.old cells.new (touched_count C.Elem.BITS from.start from.len + 4) (touched_count C.Elem.BITS to.start to.len) }
 {
     let passed = first_part(C::Elem::BITS as usize, to).len();
     let rest = to.len - passed;
@@ -46,7 +46,7 @@ fn move_aligned_to_end<O: WordOrder, C: Cells>(cells: &mut C, to: Window, from: 
     requires towards_end { from.start ≤ to.start }
     ensures writes { Writes C.Elem.BITS O.at (C.numbers cells.old) (C.numbers cells.new) to
         (list_in C.Elem.BITS O.at (C.numbers cells.old) from) }
-    ensures cost { CostsAtMost C.CellsRead cells.old cells.new (touched C.Elem.BITS from.start from.len + 2) (touched C.Elem.BITS to.start to.len) }
+    ensures cost { CostsAtMost C.CellsRead cells.old cells.new (touched_count C.Elem.BITS from.start from.len + 2) (touched_count C.Elem.BITS to.start to.len) }
 {
     let bits = C::Elem::BITS as usize;
     let count = to.len / bits;

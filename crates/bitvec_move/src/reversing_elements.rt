@@ -3,7 +3,7 @@
 ghost use Rattle.std.specs.Prelude.{◌≡◌, ℕ, ◌+◌, ◌-◌, ◌*◌, ◌/◌, ◌%◌, ◌<◌, ◌≤◌, reverse};
 ghost use Rattle.bitvec_words.specs.base.Memory.{Edits, HasWindow};
 ghost use Rattle.bitvec_words.specs.cells.Access.{Costs, CostsAtMost};
-ghost use Rattle.bitvec_words.specs.walk.Cost.{touched};
+ghost use Rattle.bitvec_words.specs.walk.Cost.{touched_count};
 ghost use Rattle.bitvec_words.specs.Elements.{elements_window};
 ghost use Rattle.bitvec_move.specs.Settled.{front_reversed};
 
@@ -20,7 +20,7 @@ pub(crate) fn reverse_elements<O: WordOrder, C: Cells>(cells: &mut C, window: Wi
     requires some { 0 < window.len }
     requires edge { window.start % C.Elem.BITS ≡ 0 }
     ensures writes { Edits C.Elem.BITS O.at (C.numbers cells.old) (C.numbers cells.new) window reverse }
-    ensures cost { let each = touched C.Elem.BITS window.start window.len in CostsAtMost C.CellsRead cells.old cells.new (each + 1) each }
+    ensures cost { let each = touched_count C.Elem.BITS window.start window.len in CostsAtMost C.CellsRead cells.old cells.new (each + 1) each }
 {
     let bits = C::Elem::BITS as usize;
     let (first, whole, part) = (window.start / bits, window.len / bits, window.len % bits);

@@ -3,7 +3,7 @@ ghost use Rattle.std.specs.Prelude.{◌≡◌, ℕ, ◌*◌, ◌/◌, ◌%◌, �
 ghost use Rattle.bitvec_words.specs.base.Memory.{HasWindow, Writes, list_in};
 ghost use Rattle.bitvec_words.specs.base.Parts.{HasPart, part_window};
 ghost use Rattle.bitvec_words.specs.cells.Access.{Costs};
-ghost use Rattle.bitvec_words.specs.walk.Cost.{touched};
+ghost use Rattle.bitvec_words.specs.walk.Cost.{touched_count};
 ghost use Rattle.bitvec_words.specs.Elements.{elements_window};
 
 use bitvec_words::base::{BitOrder, Part, Window, first_part};
@@ -27,10 +27,10 @@ pub fn swap_equal<O: BitOrder, C: Cells, D: Cells + CellsRead<Elem = C::Elem>>(
     requires phases { left_window.start % C.Elem.BITS ≡ right_window.start % C.Elem.BITS }
     ensures writes { Writes C.Elem.BITS O.at (C.numbers left.old) (C.numbers left.new) left_window
         (list_in C.Elem.BITS O.at (D.numbers right.old) right_window) }
-    ensures cost { let each = touched C.Elem.BITS left_window.start left_window.len in Costs C.CellsRead left.old left.new each each }
+    ensures cost { let each = touched_count C.Elem.BITS left_window.start left_window.len in Costs C.CellsRead left.old left.new each each }
     ensures right_writes { Writes C.Elem.BITS O.at (D.numbers right.old) (D.numbers right.new) right_window
         (list_in C.Elem.BITS O.at (C.numbers left.old) left_window) }
-    ensures right_cost { let each = touched C.Elem.BITS right_window.start right_window.len in Costs D.CellsRead right.old right.new each each }
+    ensures right_cost { let each = touched_count C.Elem.BITS right_window.start right_window.len in Costs D.CellsRead right.old right.new each each }
 {
     let bits = C::Elem::BITS as usize;
     let head = first_part(bits, left_window);
@@ -58,10 +58,10 @@ fn swap_aligned<O: BitOrder, C: Cells, D: Cells + CellsRead<Elem = C::Elem>>(
     requires right_edge { right_window.start % C.Elem.BITS ≡ 0 }
     ensures writes { Writes C.Elem.BITS O.at (C.numbers left.old) (C.numbers left.new) left_window
         (list_in C.Elem.BITS O.at (D.numbers right.old) right_window) }
-    ensures cost { let each = touched C.Elem.BITS left_window.start left_window.len in Costs C.CellsRead left.old left.new each each }
+    ensures cost { let each = touched_count C.Elem.BITS left_window.start left_window.len in Costs C.CellsRead left.old left.new each each }
     ensures right_writes { Writes C.Elem.BITS O.at (D.numbers right.old) (D.numbers right.new) right_window
         (list_in C.Elem.BITS O.at (C.numbers left.old) left_window) }
-    ensures right_cost { let each = touched C.Elem.BITS right_window.start right_window.len in Costs D.CellsRead right.old right.new each each }
+    ensures right_cost { let each = touched_count C.Elem.BITS right_window.start right_window.len in Costs D.CellsRead right.old right.new each each }
 {
     let bits = C::Elem::BITS as usize;
     let count = left_window.len / bits;

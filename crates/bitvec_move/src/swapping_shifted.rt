@@ -4,7 +4,7 @@ ghost use Rattle.std.specs.Prelude.{◌≡◌, ◌≢◌, ℕ, ◌+◌, ◌-◌,
 ghost use Rattle.bitvec_words.specs.base.Memory.{HasWindow, Writes, list_in};
 ghost use Rattle.bitvec_words.specs.base.Parts.{HasPart, part_window};
 ghost use Rattle.bitvec_words.specs.cells.Access.{Costs};
-ghost use Rattle.bitvec_words.specs.walk.Cost.{touched};
+ghost use Rattle.bitvec_words.specs.walk.Cost.{touched_count};
 ghost use Rattle.bitvec_words.specs.Elements.{elements_window, elements_window_from};
 
 use bitvec_words::base::{BitOrder, Part, Window, first_part};
@@ -27,10 +27,10 @@ pub(crate) fn swap_shifted<O: WordOrder, C: Cells, D: Cells + CellsRead<Elem = C
     requires phases { left_window.start % C.Elem.BITS ≢ right_window.start % C.Elem.BITS }
     ensures writes { Writes C.Elem.BITS O.at (C.numbers left.old) (C.numbers left.new) left_window
         (list_in C.Elem.BITS O.at (D.numbers right.old) right_window) }
-    ensures cost { let each = touched C.Elem.BITS left_window.start left_window.len in Costs C.CellsRead left.old left.new each each }
+    ensures cost { let each = touched_count C.Elem.BITS left_window.start left_window.len in Costs C.CellsRead left.old left.new each each }
     ensures right_writes { Writes C.Elem.BITS O.at (D.numbers right.old) (D.numbers right.new) right_window
         (list_in C.Elem.BITS O.at (C.numbers left.old) left_window) }
-    ensures right_cost { let each = touched C.Elem.BITS right_window.start right_window.len in Costs D.CellsRead right.old right.new each each }
+    ensures right_cost { let each = touched_count C.Elem.BITS right_window.start right_window.len in Costs D.CellsRead right.old right.new each each }
 {
     let bits = C::Elem::BITS as usize;
     let head = first_part(bits, left_window);
@@ -64,11 +64,11 @@ fn swap_rest<O: WordOrder, C: Cells, D: Cells + CellsRead<Elem = C::Elem>>(
     requires phase { 0 < right_window.start % C.Elem.BITS }
     ensures writes { Writes C.Elem.BITS O.at (C.numbers left.old) (C.numbers left.new) left_window
         (list_in C.Elem.BITS O.at (slice_set (D.numbers right.old) (right_window.start / C.Elem.BITS) (C.Elem.value waiting)) right_window) }
-    ensures cost { let each = touched C.Elem.BITS left_window.start left_window.len in Costs C.CellsRead left.old left.new each each }
+    ensures cost { let each = touched_count C.Elem.BITS left_window.start left_window.len in Costs C.CellsRead left.old left.new each each }
     ensures right_writes { Writes C.Elem.BITS O.at
         (slice_set (D.numbers right.old) (right_window.start / C.Elem.BITS) (C.Elem.value waiting)) (D.numbers right.new) right_window
         (list_in C.Elem.BITS O.at (C.numbers left.old) left_window) }
-    ensures right_cost { let each = touched C.Elem.BITS right_window.start right_window.len in Costs D.CellsRead right.old right.new (each - 1) each }
+    ensures right_cost { let each = touched_count C.Elem.BITS right_window.start right_window.len in Costs D.CellsRead right.old right.new (each - 1) each }
 {
     let bits = C::Elem::BITS as usize;
     let count = left_window.len / bits;
@@ -152,7 +152,7 @@ fn swap_waiting<O: WordOrder, C: Cells, D: Cells + CellsRead<Elem = C::Elem>>(
     ensures right_writes { Writes C.Elem.BITS O.at (slice_set (D.numbers right.old) (from.start / C.Elem.BITS) (C.Elem.value waiting))
         (slice_set (D.numbers right.new) ((from.start + from.len - 1) / C.Elem.BITS) (C.Elem.value result)) from
         (list_in C.Elem.BITS O.at (C.numbers left.old) (part_window C.Elem.BITS part)) }
-    ensures right_cost { let more = touched C.Elem.BITS from.start from.len - 1 in Costs D.CellsRead right.old right.new more more }
+    ensures right_cost { let more = touched_count C.Elem.BITS from.start from.len - 1 in Costs D.CellsRead right.old right.new more more }
 {
     let bits = C::Elem::BITS as usize;
     let (index, skip) = (from.start / bits, from.start % bits);

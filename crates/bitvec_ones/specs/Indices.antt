@@ -11,12 +11,12 @@ use Rattle.bitvec_ones.specs.declared.wanted.Wanted.{Ghosts as Bits}
 
 module _ {T O W : Type 0} {t : Store T} {o : Order O} {w : Bits W} where
   -- the indices that are left
-  unfoldable pub indices_left : Places T O W t o w → List ℕ
-  indices_left walk = places_left w.BIT (seen walk.view).bits walk.rest
+  unfoldable pub remaining_indices : Places T O W t o w → List ℕ
+  remaining_indices walk = places_left w.BIT (seen walk.view).bits walk.rest
 
   -- calls give them in order from the front, and in reverse from the back
   abbrev pub RunsInOrder : Places T O W t o w → Type 0
-  RunsInOrder walk = YieldsInOrder (YieldsFirst indices_left) indices_left
+  RunsInOrder walk = YieldsInOrder (YieldsFirst remaining_indices) remaining_indices
 
   abbrev pub RunsInReverse : Places T O W t o w → Type 0
-  RunsInReverse walk = YieldsInReverse (YieldsLast indices_left) indices_left
+  RunsInReverse walk = YieldsInReverse (YieldsLast remaining_indices) remaining_indices

@@ -3,12 +3,12 @@ use Rattle.std.specs.Prelude.{◌≡◌, ℕ, ◌+◌, ◌-◌, ◌≤◌, Optio
 use Rattle.std.specs.Option.{option_len}
 use Rattle.bitvec_query.specs.base.declared.window.Window.{Window}
 use Rattle.bitvec_query.specs.cells.declared.cells.CellsRead.{Ghosts as Access}
-use Rattle.bitvec_query.specs.walk.Cost.{touched}
+use Rattle.bitvec_query.specs.walk.Cost.{touched_count}
 use Rattle.bitvec_ones.specs.declared.rest.Rest.{Rest}
 
 -- the elements that the rest of the window touches
 abbrev pub rest_loads : ℕ → Window → Rest → ℕ
-rest_loads b window rest = touched b (window.start + rest.front) (rest.back - rest.front)
+rest_loads b window rest = touched_count b (window.start + rest.front) (rest.back - rest.front)
 
 -- a call that made `left` of the rest only read: it loaded what `left` doesn't touch any more, and for a place that was given one element more
 module _ {E C : Type 0} (access : Access C E) where

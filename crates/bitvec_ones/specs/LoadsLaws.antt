@@ -1,11 +1,11 @@
 -- What a search of the rest loads, and what the rest behind it still touches.
 use Rattle.std.specs.Prelude.{◌≡◌, ℕ, ◌+◌, ◌-◌, ◌<◌, ◌≤◌, zero, suc}
 use Rattle.std.proofs.Common.{arith}
-use Rattle.bitvec_query.specs.walk.Cost.{touched}
+use Rattle.bitvec_query.specs.walk.Cost.{touched_count}
 use Rattle.bitvec_query.specs.walk.WalkLaws.{div-order, touched-none, touched-some}
 
 -- two parts that meet have at most one element in common
-touched-cut : (b s m n : ℕ) → 0 < b → touched b s m + touched b (s + m) n ≤ touched b s (m + n) + 1
+touched-cut : (b s m n : ℕ) → 0 < b → touched_count b s m + touched_count b (s + m) n ≤ touched_count b s (m + n) + 1
 touched-cut b s zero n some =
     let none = touched-none b s in
     let start : s + zero ≡ s = omega arith in
@@ -28,7 +28,7 @@ touched-cut b s (suc m) (suc n) some =
     rw all (omega arith)
 
 -- up to the place i of the f..e, and behind it
-pub touched-passed : (b s f e i : ℕ) → 0 < b → i < e - f → touched b (s + f) (i + 1) + touched b (s + (f + i + 1)) (e - (f + i + 1)) ≤ touched b (s + f) (e - f) + 1
+pub touched-passed : (b s f e i : ℕ) → 0 < b → i < e - f → touched_count b (s + f) (i + 1) + touched_count b (s + (f + i + 1)) (e - (f + i + 1)) ≤ touched_count b (s + f) (e - f) + 1
 touched-passed b s f e i some below =
     let cut = touched-cut b (s + f) (i + 1) (e - (f + i + 1)) some in
     let start : s + f + (i + 1) ≡ s + (f + i + 1) = omega arith in
@@ -36,7 +36,7 @@ touched-passed b s f e i some below =
     rw (start, all) at cut
 
 -- from the place i on, and before it
-pub touched-passed_back : (b s f e i : ℕ) → 0 < b → i < e - f → touched b (s + f + i) (e - f - i) + touched b (s + f) (f + i - f) ≤ touched b (s + f) (e - f) + 1
+pub touched-passed_back : (b s f e i : ℕ) → 0 < b → i < e - f → touched_count b (s + f + i) (e - f - i) + touched_count b (s + f) (f + i - f) ≤ touched_count b (s + f) (e - f) + 1
 touched-passed_back b s f e i some below =
     let cut = touched-cut b (s + f) i (e - f - i) some in
     let all : i + (e - f - i) ≡ e - f = omega arith in

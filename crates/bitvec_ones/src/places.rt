@@ -63,13 +63,13 @@ impl<'a, T: BitStore, O: BitOrder, W: Wanted> Places<'a, T, O, W> {
     ghost use Rattle.std.specs.Prelude.{◌≤◌, length};
     ghost use Rattle.bitvec_query.specs.base.Lists.{places_of};
     ghost use Rattle.bitvec_query.specs.base.Window.{max_bits};
-    ghost use Rattle.bitvec_ones.specs.Indices.{RunsInOrder, RunsInReverse, indices_left};
+    ghost use Rattle.bitvec_ones.specs.Indices.{RunsInOrder, RunsInReverse, remaining_indices};
 
     /// The indices of all bits of the view that `W` names. The crate has no such call.
-    #[tactic(auto, using(crate::specs::PlacesLaws::all_places, crate::specs::PlacesLaws::few_places), unfolding(crate::specs::Indices::indices_left))]
+    #[tactic(auto, using(crate::specs::PlacesLaws::all_places, crate::specs::PlacesLaws::few_places), unfolding(crate::specs::Indices::remaining_indices))]
     pub fn new(view: BitSlice<'a, T, O>) -> Self
-        ensures indices { indices_left result ≡ places_of W.BIT (seen view.entry).bits }
-        ensures few { length (indices_left result) ≤ max_bits }
+        ensures indices { remaining_indices result ≡ places_of W.BIT (seen view.entry).bits }
+        ensures few { length (remaining_indices result) ≤ max_bits }
         ensures runs { RunsInOrder result }
         ensures runs_back { RunsInReverse result }
     {
@@ -90,9 +90,9 @@ impl<'a, T: BitStore, O: BitOrder, W: Wanted> Places<'a, T, O, W> {
 }
 
 impl<'a, T: BitStore, O: SliceOrder, W: Wanted> IndexWalk for Places<'a, T, O, W> {
-    ghost use Rattle.bitvec_ones.specs.Indices.{RunsInOrder, RunsInReverse, indices_left};
+    ghost use Rattle.bitvec_ones.specs.Indices.{RunsInOrder, RunsInReverse, remaining_indices};
 
-    ghost left = { λ it. indices_left it };
+    ghost left = { λ it. remaining_indices it };
 
     ghost Ascends = { λ it. RunsInOrder it };
 
@@ -102,9 +102,9 @@ impl<'a, T: BitStore, O: SliceOrder, W: Wanted> IndexWalk for Places<'a, T, O, W
 /// A walk over no bits.
 impl<'a, T: BitStore, O: BitOrder, W: Wanted> Default for Places<'a, T, O, W> {
     ghost use Rattle.std.specs.Prelude.{[]};
-    ghost use Rattle.bitvec_ones.specs.Indices.{indices_left};
+    ghost use Rattle.bitvec_ones.specs.Indices.{remaining_indices};
 
-    ghost is_default = { λ walk. indices_left walk ≡ [] };
+    ghost is_default = { λ walk. remaining_indices walk ≡ [] };
 
     #[tactic(auto, using(crate::specs::PlacesLaws::no_places))]
     fn default() -> Self {
@@ -118,13 +118,13 @@ impl<'a, T: BitStore, O: SliceOrder, W: Wanted> Iterator for Places<'a, T, O, W>
     ghost use Rattle.std.specs.Prelude.{IfSome, Some, length};
     ghost use Rattle.std.specs.Iterator.{UpTo, YieldsFirst, item_count};
     ghost use Rattle.std.specs.Iterator.SizeHint.{IsWithinCount};
-    ghost use Rattle.bitvec_ones.specs.Indices.{indices_left};
+    ghost use Rattle.bitvec_ones.specs.Indices.{remaining_indices};
 
-    ghost next_gives = { YieldsFirst indices_left };
+    ghost next_gives = { YieldsFirst remaining_indices };
 
-    ghost remaining = { item_count indices_left };
+    ghost remaining = { item_count remaining_indices };
 
-    #[tactic(auto, unfolding(crate::specs::Indices::indices_left))]
+    #[tactic(auto, unfolding(crate::specs::Indices::remaining_indices))]
     fn next(&mut self) -> Option<usize> {
         let mut rest = self.rest;
         let mut kept = self.kept;
@@ -141,9 +141,9 @@ impl<'a, T: BitStore, O: SliceOrder, W: Wanted> Iterator for Places<'a, T, O, W>
     }
 
     fn size_hint(&self) -> (usize, Option<usize>)
-        ensures lower { IsWithinCount result.0 (item_count indices_left self.now) }
-        ensures upper { IfSome result.1 (UpTo (item_count indices_left self.now)) }
-        ensures exact { result ≡ (length (indices_left self.now), Some (length (indices_left self.now))) }
+        ensures lower { IsWithinCount result.0 (item_count remaining_indices self.now) }
+        ensures upper { IfSome result.1 (UpTo (item_count remaining_indices self.now)) }
+        ensures exact { result ≡ (length (remaining_indices self.now), Some (length (remaining_indices self.now))) }
     {
         let count = self.len();
         (count, Some(count))
@@ -152,11 +152,11 @@ impl<'a, T: BitStore, O: SliceOrder, W: Wanted> Iterator for Places<'a, T, O, W>
 
 impl<'a, T: BitStore, O: SliceOrder, W: Wanted> DoubleEndedIterator for Places<'a, T, O, W> {
     ghost use Rattle.std.specs.Iterator.{YieldsLast};
-    ghost use Rattle.bitvec_ones.specs.Indices.{indices_left};
+    ghost use Rattle.bitvec_ones.specs.Indices.{remaining_indices};
 
-    ghost next_back_gives = { YieldsLast indices_left };
+    ghost next_back_gives = { YieldsLast remaining_indices };
 
-    #[tactic(auto, unfolding(crate::specs::Indices::indices_left))]
+    #[tactic(auto, unfolding(crate::specs::Indices::remaining_indices))]
     fn next_back(&mut self) -> Option<usize> {
         let mut cells = Shared::new(self.view.elements());
         let mut rest = self.rest;
@@ -170,7 +170,7 @@ impl<'a, T: BitStore, O: SliceOrder, W: Wanted> DoubleEndedIterator for Places<'
 }
 
 impl<'a, T: BitStore, O: SliceOrder, W: Wanted> ExactSizeIterator for Places<'a, T, O, W> {
-    #[tactic(auto, unfolding(crate::specs::Indices::indices_left))]
+    #[tactic(auto, unfolding(crate::specs::Indices::remaining_indices))]
     fn len(&self) -> usize {
         let mut cells = Shared::new(self.view.elements());
         count_left::<O, Shared<T>>(&mut cells, self.view.window(), W::BIT, self.rest)

@@ -3,7 +3,7 @@ ghost use Rattle.std.specs.Prelude.{◌≡◌, ◌+◌, ◌-◌, ◌≤◌, leng
 ghost use Rattle.std.specs.Iterator.{YieldsFirst, YieldsLast};
 ghost use Rattle.bitvec_query.specs.base.Memory.{HasWindow, list_in};
 ghost use Rattle.bitvec_query.specs.cells.Access.{OnlyReads};
-ghost use Rattle.bitvec_query.specs.walk.Cost.{touched};
+ghost use Rattle.bitvec_query.specs.walk.Cost.{touched_count};
 ghost use Rattle.bitvec_ones.specs.Loads.{LoadsPassed};
 ghost use Rattle.bitvec_ones.specs.Places.{IsRestOf, places_left};
 
@@ -84,7 +84,7 @@ pub fn count_left<O: BitOrder, C: CellsRead>(
     requires window { HasWindow C.Elem.BITS (C.numbers cells.old) window }
     requires inside { IsRestOf rest window.len }
     ensures value { result ≡ length (places_left want (list_in C.Elem.BITS O.at (C.numbers cells.old) window) rest) }
-    ensures reads { OnlyReads C.CellsRead cells.old cells.new (touched C.Elem.BITS (window.start + rest.front) (rest.back - rest.front)) }
+    ensures reads { OnlyReads C.CellsRead cells.old cells.new (touched_count C.Elem.BITS (window.start + rest.front) (rest.back - rest.front)) }
 {
     let left = window.range(rest.front, rest.back);
     if want {

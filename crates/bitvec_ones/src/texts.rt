@@ -3,7 +3,7 @@ ghost use Rattle.std.specs.Prelude.{Some, codes};
 ghost use Rattle.std.specs.Fmt.{WritesOnOk, debug_variant, decimal};
 ghost use Rattle.std.specs.List.{join_by};
 ghost use Rattle.bitvec_query.specs.traits.Listing.{comma, listed};
-ghost use Rattle.bitvec_ones.specs.Indices.{indices_left};
+ghost use Rattle.bitvec_ones.specs.Indices.{remaining_indices};
 
 use crate::{Places, Wanted};
 use bitvec_query::engine::SliceOrder;
@@ -13,7 +13,7 @@ use std::fmt;
 
 /// The indices that are still to come, as `Places([1, 4])`.
 impl<'a, T: BitStore, O: SliceOrder, B: Wanted> fmt::Debug for Places<'a, T, O, B> {
-    ghost debug_output = { λ walk. debug_variant (codes "Places") (Some (listed decimal (indices_left walk))) };
+    ghost debug_output = { λ walk. debug_variant (codes "Places") (Some (listed decimal (remaining_indices walk))) };
 
     #[tactic(auto, unfolding(bitvec_query::specs::Cited::listed))]
     fn fmt<W: fmt::Write>(&self, f: &mut fmt::Formatter<W>) -> fmt::Result {
@@ -30,7 +30,7 @@ fn write_indices<T: BitStore, O: SliceOrder, B: Wanted, W: fmt::Write>(
     walk: Places<'_, T, O, B>,
     f: &mut fmt::Formatter<W>,
 ) -> fmt::Result
-    ensures { WritesOnOk W.write_str_gives f.old result (join_by decimal comma (indices_left walk.entry)) f.new }
+    ensures { WritesOnOk W.write_str_gives f.old result (join_by decimal comma (remaining_indices walk.entry)) f.new }
 {
     let mut passed = 0;
     for index in walk {

@@ -3,7 +3,7 @@ ghost use Rattle.std.specs.Prelude.{◌≡◌, ◌+◌, length};
 ghost use Rattle.bitvec_query.specs.base.Lists.{places_of};
 ghost use Rattle.bitvec_query.specs.base.Memory.{HasWindow, list_in};
 ghost use Rattle.bitvec_query.specs.cells.Access.{OnlyReadsAtMost};
-ghost use Rattle.bitvec_query.specs.walk.Cost.{touched};
+ghost use Rattle.bitvec_query.specs.walk.Cost.{touched_count};
 ghost use Rattle.bitvec_ones.specs.Loads.{LoadsPassed};
 ghost use Rattle.bitvec_ones.specs.Places.{IsRestOf, places_left};
 ghost use Rattle.bitvec_ones.specs.Turns.{TurnGives, count_given, turns_give};
@@ -38,7 +38,7 @@ pub fn scan_turns<O: SliceOrder, C: CellsRead>(
     requires window { HasWindow C.Elem.BITS (C.numbers cells.old) window }
     requires lengths { length turns.now ≡ length out.old }
     ensures gives { out.new ≡ turns_give (places_of want (list_in C.Elem.BITS O.at (C.numbers cells.old) window)) turns.now }
-    ensures reads { OnlyReadsAtMost C.CellsRead cells.old cells.new (touched C.Elem.BITS window.start window.len + count_given out.new) }
+    ensures reads { OnlyReadsAtMost C.CellsRead cells.old cells.new (touched_count C.Elem.BITS window.start window.len + count_given out.new) }
 {
     let mut rest = Rest {
         front: 0,

@@ -36,7 +36,7 @@ impl<T: BitStore, O: BitOrder, A: Allocator> BitVec<T, O, A> {
     pub(crate) fn from_parts(elements: Vec<T, A>, head: usize, len: usize) -> Self
         requires begins { head < T.BITS }
         requires touched { vec_len elements ≡ div_ceil (head + len) T.BITS }
-        requires bounded { T.BITS * vec_len elements ≤ max_bits }
+        requires fits { T.BITS * vec_len elements ≤ max_bits }
         ensures { owned result ≡ shown T.BITS O.at T.value elements.items head len }
     {
         BitVec {

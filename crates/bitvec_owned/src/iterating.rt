@@ -9,14 +9,14 @@ use bitvec_edit::store::BitStore;
 use std::alloc::Allocator;
 
 impl<T: BitStore, O: BitOrder, A: Allocator> BitVec<T, O, A> {
-    ghost use Rattle.bitvec_edit.specs.slice.Walks.{YieldsBits, bits_left, walked};
+    ghost use Rattle.bitvec_edit.specs.slice.Walks.{YieldsBits, remaining_bits, walked};
     ghost use Rattle.bitvec_owned.specs.Owned.{owned};
 
     /// The bits, one by one.
     pub fn iter(&self) -> Iter<'_, T, O>
-        ensures bits { bits_left result ≡ (owned self.now).bits }
+        ensures bits { remaining_bits result ≡ (owned self.now).bits }
         ensures view { walked result ≡ owned self.now }
-        ensures bound { length (bits_left result) ≤ max_bits }
+        ensures bound { length (remaining_bits result) ≤ max_bits }
         ensures runs { YieldsBits result }
     {
         self.as_bitslice().iter()
@@ -24,14 +24,14 @@ impl<T: BitStore, O: BitOrder, A: Allocator> BitVec<T, O, A> {
 }
 
 impl<'a, T: BitStore, O: BitOrder, A: Allocator> IntoIterator for &'a BitVec<T, O, A> {
-    ghost use Rattle.bitvec_edit.specs.slice.Walks.{YieldsBits, bits_left};
+    ghost use Rattle.bitvec_edit.specs.slice.Walks.{YieldsBits, remaining_bits};
     ghost use Rattle.bitvec_owned.specs.Owned.{owned};
 
     type Item = BitRef<'a, T, O>;
 
     type IntoIter = Iter<'a, T, O>;
 
-    ghost into_iter_gives = { λ bits it. (bits_left it ≡ (owned bits.now).bits) × (length (bits_left it) ≤ max_bits) × YieldsBits it };
+    ghost into_iter_gives = { λ bits it. (remaining_bits it ≡ (owned bits.now).bits) × (length (remaining_bits it) ≤ max_bits) × YieldsBits it };
 
     fn into_iter(self) -> Iter<'a, T, O> {
         self.iter()

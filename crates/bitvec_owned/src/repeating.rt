@@ -62,7 +62,7 @@ fn write_copies<T: BitStore, O: SliceOrder>(
     view: BitSlice<'_, T, O>,
     copies: usize,
 )
-    requires bounded { T.BITS * length cells.old ≤ max_bits }
+    requires fits { T.BITS * length cells.old ≤ max_bits }
     requires room { (seen view).window.len * copies ≤ T.BITS * length cells.old }
     ensures bits { memory_bits T.BITS O.at (map T.value cells.new)
         ≡ write_at (memory_bits T.BITS O.at (map T.value cells.old)) 0 (repeat copies (seen view.entry).bits) }

@@ -3,15 +3,15 @@ use Rattle.std.specs.Prelude.{◌≡◌, ℕ, ◌+◌, ◌-◌, ◌<◌, ◌≤�
 use Rattle.std.specs.declared.ops.Range.{Range}
 use Rattle.bitvec_split.specs.slice.Seen.{Seen}
 use Rattle.bitvec_pieces.specs.Shown.{Shown}
-use Rattle.bitvec_split.specs.Lent.{CountedIn, LeftIn}
+use Rattle.bitvec_split.specs.Lent.{LeftIn, LimitedSplitIn}
 use Rattle.bitvec_pieces.specs.declared.left.ToSplit.{ToSplit}
 
 -- as a split has it of the view
 abbrev pub left_at : {T P : Type 0} → Seen T → ToSplit → P → LeftIn T P
 left_at view left pred = record { view = view; from = left.from; to = left.to; finished = left.finished; pred = pred }
 
-abbrev pub counted_at : {T P : Type 0} → Seen T → ToSplit → ℕ → P → CountedIn T P
-counted_at view left count pred = record { left = left_at view left pred; count = count }
+abbrev pub limited_at : {T P : Type 0} → Seen T → ToSplit → ℕ → P → LimitedSplitIn T P
+limited_at view left count pred = record { left = left_at view left pred; count = count }
 
 -- the view has the range that is left
 pub record IsLeftOf (view : Shown) (left : ToSplit) : Type 0 where

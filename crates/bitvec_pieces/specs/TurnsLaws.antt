@@ -15,9 +15,9 @@ use Rattle.bitvec_pieces.specs.Pieces.{IsPieceOf, Narrows}
 use Rattle.bitvec_pieces.specs.Shown.{Shown, StaysInPlace, WritesShown}
 use Rattle.bitvec_pieces.specs.ShownLaws.{length-left, length-shown, piece-before, stays-then}
 use Rattle.bitvec_split.specs.Asked.{Asked}
-use Rattle.bitvec_split.specs.Lent.{CountedIn, CountedNextIn, GivesAllIn, GivesRangeIn, LeftIn, SplitNextIn, SplitRestIn}
-use Rattle.bitvec_split.specs.Splits.{Row, row_of}
-use Rattle.bitvec_pieces.specs.ToSplit.{IsLeftOf, TakesFrom, counted_at, left_at, most_left}
+use Rattle.bitvec_split.specs.Lent.{GivesAllIn, GivesRangeIn, LeftIn, LimitedNextIn, LimitedSplitIn, SplitNextIn, SplitRestIn}
+use Rattle.bitvec_split.specs.Splits.{SplitRule, row_of}
+use Rattle.bitvec_pieces.specs.ToSplit.{IsLeftOf, TakesFrom, left_at, limited_at, most_left}
 use Rattle.bitvec_pieces.specs.declared.left.ToSplit.{ToSplit}
 use Rattle.bitvec_pieces.specs.SplitEdits.{Editing, EditsNext, IsGivenPiece, IsSeenOf}
 
@@ -38,7 +38,7 @@ seen-same from to one two same = rw (one.bits, two.bits) same
 
 -- a step on one view is one on another that has the same bits where it asks
 module _ {T P : Type 0} (g : Mut P (ℕ × (Bor Bool × Unit {0})) Bool) (inclusive reversed : Bool) (now view : Seen T) (left after : ToSplit) (pred then : P) where
-  gave-on : (row : Row) (piece : Range ℕ) (found : Option ℕ)
+  gave-on : (row : SplitRule) (piece : Range ℕ) (found : Option ℕ)
       → MatchOption found (GivesAllIn (left_at now left pred) piece (left_at now after then)) (λ j. GivesRangeIn inclusive (row.piece j) (row.keeps j) (left_at now left pred) piece (left_at now after then))
       → MatchOption found (GivesAllIn (left_at view left pred) piece (left_at view after then)) (λ j. GivesRangeIn inclusive (row.piece j) (row.keeps j) (left_at view left pred) piece (left_at view after then))
   gave-on row piece None all = record { start = all.start; end = all.end; view = refl; finished = all.finished }
@@ -56,12 +56,12 @@ module _ {T P : Type 0} (g : Mut P (ℕ × (Bor Bool × Unit {0})) Bool) (inclus
   either-on true piece same rest = (rest.0, record { start = rest.1.start; end = rest.1.end; view = refl; finished = rest.1.finished }, rest.2)
   either-on false piece same next = step-on (Some piece) same next
 
-  pub counted-on : (count less : ℕ) (result : Option (Range ℕ)) → slice_range now.bits left.from left.to ≡ slice_range view.bits left.from left.to
-      → CountedNextIn g inclusive reversed (counted_at now left count pred) result (counted_at now after less then)
-      → CountedNextIn g inclusive reversed (counted_at view left count pred) result (counted_at view after less then)
-  counted-on count less None same gave =
-      (gave.0, ap (λ (s : CountedIn T P). counted_at view (record { from = s.left.from; to = s.left.to; finished = s.left.finished }) s.count s.left.pred) gave.1)
-  counted-on count less (Some piece) same gave = (gave.0, gave.1, either-on (count == 1) piece same gave.2)
+  pub limited-on : (count less : ℕ) (result : Option (Range ℕ)) → slice_range now.bits left.from left.to ≡ slice_range view.bits left.from left.to
+      → LimitedNextIn g inclusive reversed (limited_at now left count pred) result (limited_at now after less then)
+      → LimitedNextIn g inclusive reversed (limited_at view left count pred) result (limited_at view after less then)
+  limited-on count less None same gave =
+      (gave.0, ap (λ (s : LimitedSplitIn T P). limited_at view (record { from = s.left.from; to = s.left.to; finished = s.left.finished }) s.count s.left.pred) gave.1)
+  limited-on count less (Some piece) same gave = (gave.0, gave.1, either-on (count == 1) piece same gave.2)
 
 module _ {V F S : Type 0} (shows : V → Shown) (step : F → ℕ → MutBor V → ⊤ → MutBor V → F → Type 0) (view : Shown) (next : S → Option (Range ℕ) → S → Type 0) (first : S) (edit : F) where
   -- What comes from here on ends what came from the start on: the split of the view before all edits is at `s`,

@@ -92,7 +92,7 @@ pub trait EditParts: Sized {
         left: L,
         right: R,
     ) -> (A, B)
-        requires mid { mid ≤ (shows self.old).window.len }
+        requires bound { mid ≤ (shows self.old).window.len }
         requires left { MayEdit shows (L.pre left) (L.post left) (IsPieceOf (shows self.old) (range_of 0 mid)) }
         requires right { MayEdit shows (R.pre right) (R.post right) (IsPieceOf (shows self.old) (range_of mid (shows self.old).window.len)) }
         ensures { EditsHalves shows writes (L.post left) (R.post right) self.old mid result.0 result.1 self.new }
@@ -128,42 +128,42 @@ pub trait EditParts: Sized {
     /// last chunk has as many bits as are left. Conditions: `size` is not 0; `edit` may be called on
     /// each chunk, whatever it keeps from the calls before, and leaves it in its place.
     final fn for_each_chunk_mut<F: FnMut(usize, &mut Self)>(&mut self, size: usize, edit: F)
-        requires size { 0 < size }
+        requires some { 0 < size }
         requires edit { MayEditEach shows F.pre F.step (shows self.old) (in_chunks size) }
         ensures { EditsPieces shows writes F.step self.old (in_chunks size) self.new }
     {
-        self.for_each_piece_mut(InChunks { width: size }, edit)
+        self.for_each_piece_mut(InChunks { size }, edit)
     }
 
     /// Calls `edit` on each chunk of `size` bits from the end and its number, in ascending order from
     /// 0, the last chunk of the view, on; the chunk that begins the view has as many bits as are left.
     /// Conditions: as of `for_each_chunk_mut`.
     final fn for_each_rchunk_mut<F: FnMut(usize, &mut Self)>(&mut self, size: usize, edit: F)
-        requires size { 0 < size }
+        requires some { 0 < size }
         requires edit { MayEditEach shows F.pre F.step (shows self.old) (in_back_chunks size) }
         ensures { EditsPieces shows writes F.step self.old (in_back_chunks size) self.new }
     {
-        self.for_each_piece_mut(InChunksFromEnd { width: size }, edit)
+        self.for_each_piece_mut(InChunksFromEnd { size }, edit)
     }
 
     /// Calls `edit` on each whole chunk of `size` bits and its number, in ascending order from 0 on;
     /// the bits behind them stay. Conditions: as of `for_each_chunk_mut`.
     final fn for_each_chunk_exact_mut<F: FnMut(usize, &mut Self)>(&mut self, size: usize, edit: F)
-        requires size { 0 < size }
+        requires some { 0 < size }
         requires edit { MayEditEach shows F.pre F.step (shows self.old) (in_whole_chunks size) }
         ensures { EditsPieces shows writes F.step self.old (in_whole_chunks size) self.new }
     {
-        self.for_each_piece_mut(InExactChunks { width: size }, edit)
+        self.for_each_piece_mut(InExactChunks { size }, edit)
     }
 
     /// Calls `edit` on each whole chunk of `size` bits from the end and its number, in ascending order
     /// from 0, the last chunk of the view, on; the bits before them stay. Conditions: as of
     /// `for_each_chunk_mut`.
     final fn for_each_rchunk_exact_mut<F: FnMut(usize, &mut Self)>(&mut self, size: usize, edit: F)
-        requires size { 0 < size }
+        requires some { 0 < size }
         requires edit { MayEditEach shows F.pre F.step (shows self.old) (in_whole_back_chunks size) }
         ensures { EditsPieces shows writes F.step self.old (in_whole_back_chunks size) self.new }
     {
-        self.for_each_piece_mut(InExactChunksFromEnd { width: size }, edit)
+        self.for_each_piece_mut(InExactChunksFromEnd { size }, edit)
     }
 }

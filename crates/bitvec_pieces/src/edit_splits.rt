@@ -4,9 +4,9 @@ ghost use Rattle.bitvec_cutting.specs.Cutting.{cut};
 ghost use Rattle.bitvec_split.specs.slice.Indices.{HasRange};
 ghost use Rattle.bitvec_split.specs.slice.Seen.{Seen};
 ghost use Rattle.bitvec_split.specs.Asked.{Asked, MayAsk};
-ghost use Rattle.bitvec_split.specs.Lent.{CountedNextIn, MayGoOnIn, SplitNextIn, unsplit_in};
+ghost use Rattle.bitvec_split.specs.Lent.{LimitedNextIn, MayGoOnIn, SplitNextIn, unsplit_in};
 ghost use Rattle.bitvec_split.specs.Splits.{asked_of, row_of};
-ghost use Rattle.bitvec_pieces.specs.ToSplit.{IsLeftOf, TakesFrom, counted_at, left_at};
+ghost use Rattle.bitvec_pieces.specs.ToSplit.{IsLeftOf, TakesFrom, left_at, limited_at};
 ghost use Rattle.bitvec_pieces.specs.SplitEdits.{EditsGiven, IsSeenOf, MayEditGiven};
 
 use crate::{EditParts, Inside, ToSplit};
@@ -86,7 +86,7 @@ pub trait EditSplits<T>: EditParts {
         P: FnMut(usize, &bool) -> bool,
         F: FnMut(usize, &mut Self),
     >(&mut self, mut pred: P, mut edit: F)
-        requires pred { MayGoOnIn P.FnMut (unsplit_in W.INCLUSIVE (seen self.old) pred) }
+        requires callable { MayGoOnIn P.FnMut (unsplit_in W.INCLUSIVE (seen self.old) pred) }
         requires edit { MayEditGiven Self.shows F.pre F.step (Self.shows self.old) }
         ensures { EditsGiven Self.shows Self.writes F.step (SplitNextIn P.FnMut W.INCLUSIVE W.REVERSED) (unsplit_in W.INCLUSIVE (seen self.old) pred) self.old edit self.new }
     {
@@ -101,10 +101,10 @@ pub trait EditSplits<T>: EditParts {
         }
     }
 
-    /// The range of the next piece of a counted split. Conditions: as of `step`.
+    /// The range of the next piece of a limited split. Conditions: as of `step`.
     #[doc(hidden)]
     #[tactic(auto, using(bitvec_split::specs::AskedLaws::may_ask_of_fewer, bitvec_split::specs::AskedLaws::may_ask_either))]
-    final fn counted_step<W: Way, P: FnMut(usize, &bool) -> bool>(
+    final fn limited_step<W: Way, P: FnMut(usize, &bool) -> bool>(
         &self,
         left: &mut ToSplit,
         count: &mut usize,
@@ -112,7 +112,7 @@ pub trait EditSplits<T>: EditParts {
     ) -> Option<Range<usize>>
         requires inside { IsLeftOf (Self.shows self.now) left.old }
         requires callable { MayGoOnIn P.FnMut (left_at (seen self.now) left.old pred.old) }
-        ensures piece { CountedNextIn P.FnMut W.INCLUSIVE W.REVERSED (counted_at (seen self.now) left.old count.old pred.old) result (counted_at (seen self.now) left.new count.new pred.new) }
+        ensures piece { LimitedNextIn P.FnMut W.INCLUSIVE W.REVERSED (limited_at (seen self.now) left.old count.old pred.old) result (limited_at (seen self.now) left.new count.new pred.new) }
         ensures callable { IfSome result (λ _. MayGoOnIn P.FnMut (left_at (seen self.now) left.new pred.new)) }
         ensures takes { IfSome result (λ piece. TakesFrom left.old piece left.new) }
     {
@@ -125,23 +125,23 @@ pub trait EditSplits<T>: EditParts {
         Some(range)
     }
 
-    /// Calls `edit` on each piece of a counted split in turn, and its number. Conditions: as of
+    /// Calls `edit` on each piece of a limited split in turn, and its number. Conditions: as of
     /// `for_each_piece_between`.
     #[doc(hidden)]
-    final fn for_each_counted_piece<
+    final fn for_each_limited_piece<
         W: Way,
         P: FnMut(usize, &bool) -> bool,
         F: FnMut(usize, &mut Self),
     >(&mut self, mut count: usize, mut pred: P, mut edit: F)
-        requires pred { MayGoOnIn P.FnMut (unsplit_in W.INCLUSIVE (seen self.old) pred) }
+        requires callable { MayGoOnIn P.FnMut (unsplit_in W.INCLUSIVE (seen self.old) pred) }
         requires edit { MayEditGiven Self.shows F.pre F.step (Self.shows self.old) }
-        ensures { EditsGiven Self.shows Self.writes F.step (CountedNextIn P.FnMut W.INCLUSIVE W.REVERSED)
+        ensures { EditsGiven Self.shows Self.writes F.step (LimitedNextIn P.FnMut W.INCLUSIVE W.REVERSED)
             (record { left = unsplit_in W.INCLUSIVE (seen self.old) pred; count = count }) self.old edit self.new }
     {
         let len = self.place().len;
         let mut left = ToSplit::all::<W>(len);
         let mut number = 0;
-        while let Some(range) = self.counted_step::<W, P>(&mut left, &mut count, &mut pred) {
+        while let Some(range) = self.limited_step::<W, P>(&mut left, &mut count, &mut pred) {
             let window = self.narrow(range);
             edit(number, self);
             self.stand_at(window, Inside);
@@ -161,7 +161,7 @@ pub trait EditSplits<T>: EditParts {
         pred: P,
         edit: F,
     )
-        requires pred { MayGoOnIn P.FnMut (unsplit_in false (seen self.old) pred) }
+        requires callable { MayGoOnIn P.FnMut (unsplit_in false (seen self.old) pred) }
         requires edit { MayEditGiven Self.shows F.pre F.step (Self.shows self.old) }
         ensures { EditsGiven Self.shows Self.writes F.step (SplitNextIn P.FnMut false false) (unsplit_in false (seen self.old) pred) self.old edit self.new }
     {
@@ -178,7 +178,7 @@ pub trait EditSplits<T>: EditParts {
         P: FnMut(usize, &bool) -> bool,
         F: FnMut(usize, &mut Self),
     >(&mut self, pred: P, edit: F)
-        requires pred { MayGoOnIn P.FnMut (unsplit_in true (seen self.old) pred) }
+        requires callable { MayGoOnIn P.FnMut (unsplit_in true (seen self.old) pred) }
         requires edit { MayEditGiven Self.shows F.pre F.step (Self.shows self.old) }
         ensures { EditsGiven Self.shows Self.writes F.step (SplitNextIn P.FnMut true false) (unsplit_in true (seen self.old) pred) self.old edit self.new }
     {
@@ -196,7 +196,7 @@ pub trait EditSplits<T>: EditParts {
         pred: P,
         edit: F,
     )
-        requires pred { MayGoOnIn P.FnMut (unsplit_in false (seen self.old) pred) }
+        requires callable { MayGoOnIn P.FnMut (unsplit_in false (seen self.old) pred) }
         requires edit { MayEditGiven Self.shows F.pre F.step (Self.shows self.old) }
         ensures { EditsGiven Self.shows Self.writes F.step (SplitNextIn P.FnMut false true) (unsplit_in false (seen self.old) pred) self.old edit self.new }
     {
@@ -215,12 +215,12 @@ pub trait EditSplits<T>: EditParts {
         pred: P,
         edit: F,
     )
-        requires pred { MayGoOnIn P.FnMut (unsplit_in false (seen self.old) pred) }
+        requires callable { MayGoOnIn P.FnMut (unsplit_in false (seen self.old) pred) }
         requires edit { MayEditGiven Self.shows F.pre F.step (Self.shows self.old) }
-        ensures { EditsGiven Self.shows Self.writes F.step (CountedNextIn P.FnMut false false)
+        ensures { EditsGiven Self.shows Self.writes F.step (LimitedNextIn P.FnMut false false)
             (record { left = unsplit_in false (seen self.old) pred; count = count }) self.old edit self.new }
     {
-        self.for_each_counted_piece::<Forward, P, F>(count, pred, edit)
+        self.for_each_limited_piece::<Forward, P, F>(count, pred, edit)
     }
 
     /// The first pieces of `for_each_rsplit_mut`, `count` at most, as for `for_each_splitn_mut`.
@@ -234,11 +234,11 @@ pub trait EditSplits<T>: EditParts {
         pred: P,
         edit: F,
     )
-        requires pred { MayGoOnIn P.FnMut (unsplit_in false (seen self.old) pred) }
+        requires callable { MayGoOnIn P.FnMut (unsplit_in false (seen self.old) pred) }
         requires edit { MayEditGiven Self.shows F.pre F.step (Self.shows self.old) }
-        ensures { EditsGiven Self.shows Self.writes F.step (CountedNextIn P.FnMut false true)
+        ensures { EditsGiven Self.shows Self.writes F.step (LimitedNextIn P.FnMut false true)
             (record { left = unsplit_in false (seen self.old) pred; count = count }) self.old edit self.new }
     {
-        self.for_each_counted_piece::<Reversed, P, F>(count, pred, edit)
+        self.for_each_limited_piece::<Reversed, P, F>(count, pred, edit)
     }
 }

@@ -11,7 +11,7 @@ mod views;
 /// What crates above name of `bitvec_split`.
 pub mod split {
     pub use bitvec_split::{
-        CountedSplitWalk, Forward, Inclusive, RSplit, RSplitMut, RSplitN, RSplitNMut, Reversed,
+        Forward, Inclusive, LimitedSplitWalk, RSplit, RSplitMut, RSplitN, RSplitNMut, Reversed,
         Split, SplitCalls, SplitCallsMut, SplitInclusive, SplitInclusiveMut, SplitMut, SplitN,
         SplitNMut, SplitWalk, Splits, SplitsMut, SplitsN, SplitsNMut, Way,
     };

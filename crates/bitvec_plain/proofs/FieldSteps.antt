@@ -5,7 +5,7 @@ use Rattle.bitvec_run.specs.FieldRows.{field_list, field_outcome, field_reply, f
 use Rattle.bitvec_run.specs.base.Window.{write_at}
 use Rattle.bitvec_run.specs.base.WriteLaws.{length-slice_range}
 use Rattle.bitvec_run.specs.declared.command.Refusal.TheVariants.{Range}
-use Rattle.bitvec_run.specs.Rows.{Row, on_range, outcome, range_lies, refused}
+use Rattle.bitvec_run.specs.Rows.{CommandRow, on_range, outcome, range_lies, refused}
 use Rattle.bitvec_run.specs.declared.field_step.FieldStep.{FieldStep}
 use Rattle.bitvec_plain.proofs.Steps.{range-list, range-reply}
 use Rattle.bitvec_plain.specs.Field.{field_command_list, field_command_reply}
@@ -25,13 +25,13 @@ module _ (high : Bool) (b s : ℕ) (right list : List Bool) (step : FieldStep) (
   pub field_reply-in : field_reply high b s right list step ≡ field_command_reply high b (s + step.from) right (slice_range list step.from step.to) step.op
   field_reply-in =
       let row = field_row high b (s + step.from) right (step.to - step.from) step.op in
-      ap (λ (r : Row). r.reply list) (field_step-in high b s right (length list) step low above)
+      ap (λ (r : CommandRow). r.reply list) (field_step-in high b s right (length list) step low above)
       ∙ range-reply row.refusal row list step.from step.to
       ∙ ap (λ (m : ℕ). (outcome (field_row high b (s + step.from) right m step.op)).reply (slice_range list step.from step.to)) (sym (length-slice_range list step.from step.to above))
 
   pub field_list-in : field_list high b s right list step ≡ write_at list step.from (field_command_list high b (s + step.from) right (slice_range list step.from step.to) step.op)
   field_list-in =
       let row = field_row high b (s + step.from) right (step.to - step.from) step.op in
-      ap (λ (r : Row). r.list list) (field_step-in high b s right (length list) step low above)
+      ap (λ (r : CommandRow). r.list list) (field_step-in high b s right (length list) step low above)
       ∙ range-list row.refusal row list step.from step.to low above
       ∙ ap (λ (m : ℕ). write_at list step.from ((outcome (field_row high b (s + step.from) right m step.op)).list (slice_range list step.from step.to))) (sym (length-slice_range list step.from step.to above))

@@ -9,7 +9,7 @@ use Rattle.bitvec_run.specs.declared.command.Step.{Step}
 use Rattle.bitvec_run.specs.declared.command.Refusal.{Refusal}
 use Rattle.bitvec_run.specs.declared.command.Refusal.TheVariants.{Range}
 use Rattle.bitvec_run.specs.Commands.{op_row}
-use Rattle.bitvec_run.specs.Rows.{Row, on_range, outcome, range_lies, refused, unless_refused}
+use Rattle.bitvec_run.specs.Rows.{CommandRow, on_range, outcome, range_lies, refused, unless_refused}
 use Rattle.bitvec_run.specs.Runs.{step_list, step_outcome, step_reply}
 use Rattle.bitvec_run.specs.RunsLaws.{step_row-inside, step_row-outside}
 use Rattle.bitvec_plain.specs.Command.{command_reply, command_list}
@@ -26,26 +26,26 @@ step-out right n step out = ap outcome (step_row-outside right n step out)
 step-in : (right : List Bool) (n : ℕ) (step : Step) → step.from ≤ step.to → step.to ≤ n → step_outcome right n step ≡ outcome (on_range step.from step.to (op_row right (step.to - step.from) step.op))
 step-in right n step low high = ap outcome (step_row-inside right n step (and_from _ _ (le-leb _ _ low) (le-leb _ _ high)))
 
-pub range-reply : (refusal : Option Refusal) (row : Row) (list : List Bool) (from to : ℕ) → (unless_refused refusal (on_range from to row)).reply list ≡ (unless_refused refusal row).reply (slice_range list from to)
+pub range-reply : (refusal : Option Refusal) (row : CommandRow) (list : List Bool) (from to : ℕ) → (unless_refused refusal (on_range from to row)).reply list ≡ (unless_refused refusal row).reply (slice_range list from to)
 range-reply None row list from to = refl
 range-reply (Some refusal) row list from to = refl
 
 -- what stood there is written back where the command is refused
-pub range-list : (refusal : Option Refusal) (row : Row) (list : List Bool) (from to : ℕ) → from ≤ to → to ≤ length list → (unless_refused refusal (on_range from to row)).list list ≡ write_at list from ((unless_refused refusal row).list (slice_range list from to))
+pub range-list : (refusal : Option Refusal) (row : CommandRow) (list : List Bool) (from to : ℕ) → from ≤ to → to ≤ length list → (unless_refused refusal (on_range from to row)).list list ≡ write_at list from ((unless_refused refusal row).list (slice_range list from to))
 range-list None row list from to low high = refl
 range-list (Some refusal) row list from to low high = sym (write_at-same list from to low high)
 
 pub step_reply-in : (right list : List Bool) (step : Step) → step.from ≤ step.to → step.to ≤ length list → step_reply right list step ≡ command_reply right (slice_range list step.from step.to) step.op
 step_reply-in right list step low high =
     let row = op_row right (step.to - step.from) step.op in
-    ap (λ (r : Row). r.reply list) (step-in right (length list) step low high)
+    ap (λ (r : CommandRow). r.reply list) (step-in right (length list) step low high)
     ∙ range-reply row.refusal row list step.from step.to
     ∙ ap (λ (m : ℕ). (outcome (op_row right m step.op)).reply (slice_range list step.from step.to)) (sym (length-slice_range list step.from step.to high))
 
 pub step_list-in : (right list : List Bool) (step : Step) → step.from ≤ step.to → step.to ≤ length list → step_list right list step ≡ write_at list step.from (command_list right (slice_range list step.from step.to) step.op)
 step_list-in right list step low high =
     let row = op_row right (step.to - step.from) step.op in
-    ap (λ (r : Row). r.list list) (step-in right (length list) step low high)
+    ap (λ (r : CommandRow). r.list list) (step-in right (length list) step low high)
     ∙ range-list row.refusal row list step.from step.to low high
     ∙ ap (λ (m : ℕ). write_at list step.from ((outcome (op_row right m step.op)).list (slice_range list step.from step.to))) (sym (length-slice_range list step.from step.to high))
 

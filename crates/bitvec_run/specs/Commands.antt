@@ -15,7 +15,7 @@ use Rattle.bitvec_run.specs.declared.command.Refusal.{Refusal}
 use Rattle.bitvec_run.specs.declared.command.Reply.{Reply}
 use Rattle.bitvec_run.specs.declared.command.Reply.TheVariants.{Bit, Count, Order}
 use Rattle.bitvec_run.specs.Costs.{Cost, Place, accesses, and_then, behind, scan_cost, fill_cost, invert_cost, reverse_cost, rotate_cost, move_cost, copy_cost, operator_cost, equal_cost, order_cost, needle_cost}
-use Rattle.bitvec_run.specs.Rows.{Row, asks, edits, both, unless, or_else, range_lies, lies_in}
+use Rattle.bitvec_run.specs.Rows.{CommandRow, asks, edits, both, unless, or_else, range_lies, lies_in}
 
 -- ---- the conditions that commands share
 
@@ -30,7 +30,7 @@ abbrev pub right_refusal : List Bool → Window → Option Refusal
 right_refusal right window = unless (lies_in window (length right)) Refusal.Right
 
 -- ---- the commands
-abbrev pub op_row : List Bool → ℕ → Op → Row
+abbrev pub op_row : List Bool → ℕ → Op → CommandRow
 op_row right m (Get i) = asks (index_refusal m i) (λ list. Bit (slice_index_or list i false)) (accesses 1 0)
 op_row right m (Set i bit) = edits (index_refusal m i) (λ list. slice_set list i bit) (accesses 1 1)
 op_row right m (Replace i bit) =

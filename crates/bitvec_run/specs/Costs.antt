@@ -1,7 +1,7 @@
 -- The loads and stores that a command may take.
 use Rattle.std.specs.Prelude.{ℕ, Bool, ◌+◌, min}
 use Rattle.bitvec_engine.specs.base.declared.window.Window.{Window}
-use Rattle.bitvec_engine.specs.walk.Cost.{touched, fill_loads, read_loads, write_loads, write_stores, edit_loads, reverse_loads, reverse_stores, rotate_loads, rotate_stores, equal_loads, needle_loads}
+use Rattle.bitvec_engine.specs.walk.Cost.{touched_count, fill_loads, read_loads, write_loads, write_stores, edit_loads, reverse_loads, reverse_stores, rotate_loads, rotate_stores, equal_loads, needle_loads}
 
 -- loads and stores of the memory, and loads of the right memory
 pub record Cost : Type 0 where
@@ -33,13 +33,13 @@ both_read loads place = record { loads = loads place; stores = 0; right_loads = 
 -- ---- work on the m bits of the list
 
 abbrev pub scan_cost : ℕ → Place → Cost
-scan_cost m place = accesses (touched place.bits place.start m) 0 place
+scan_cost m place = accesses (touched_count place.bits place.start m) 0 place
 
 abbrev pub fill_cost : ℕ → Place → Cost
-fill_cost m place = accesses (fill_loads m) (touched place.bits place.start m) place
+fill_cost m place = accesses (fill_loads m) (touched_count place.bits place.start m) place
 
 abbrev pub invert_cost : ℕ → Place → Cost
-invert_cost m place = accesses (touched place.bits place.start m) (touched place.bits place.start m) place
+invert_cost m place = accesses (touched_count place.bits place.start m) (touched_count place.bits place.start m) place
 
 abbrev pub reverse_cost : ℕ → Place → Cost
 reverse_cost m place = accesses (reverse_loads place.bits place.words m) (reverse_stores place.bits place.words m) place

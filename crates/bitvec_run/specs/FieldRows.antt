@@ -8,7 +8,7 @@ use Rattle.bitvec_run.specs.declared.command.Reply.{Reply}
 use Rattle.bitvec_run.specs.declared.command.Reply.TheVariants.{Number}
 use Rattle.bitvec_run.specs.Commands.{op_row}
 use Rattle.bitvec_run.specs.Costs.{Cost, Place, fill_cost, scan_cost}
-use Rattle.bitvec_run.specs.Rows.{Row, asks, edits, on_range, outcome, range_lies, refused, row_list, row_reply, unless}
+use Rattle.bitvec_run.specs.Rows.{CommandRow, asks, edits, on_range, outcome, range_lies, refused, row_list, row_reply, unless}
 use Rattle.bitvec_run.specs.declared.field_step.FieldOp.{FieldOp}
 use Rattle.bitvec_run.specs.declared.field_step.FieldOp.TheVariants.{LoadBe, LoadLe, Plain, StoreBe, StoreLe}
 use Rattle.bitvec_run.specs.declared.field_step.FieldStep.{FieldStep}
@@ -19,7 +19,7 @@ abbrev pub width_refusal : ℕ → Option Refusal
 width_refusal m = unless (nat_le 1 m && nat_le m 128) Refusal.Width
 
 -- a command on m bits, the first of which stands at the place s
-abbrev pub field_row : Bool → ℕ → ℕ → List Bool → ℕ → FieldOp → Row
+abbrev pub field_row : Bool → ℕ → ℕ → List Bool → ℕ → FieldOp → CommandRow
 field_row high b s right m (Plain op) = op_row right m op
 field_row high b s right m LoadLe = asks (width_refusal m) (λ list. Number (loaded_le high b s list)) (scan_cost m)
 field_row high b s right m LoadBe = asks (width_refusal m) (λ list. Number (loaded_be high b s list)) (scan_cost m)
@@ -39,11 +39,11 @@ pub record FitsTransfer (n from to : ℕ) : Type 0 where
   pub most : to - from ≤ 128
 
 -- a step is its command on its range, cut by the places of the memory; the range is tested before the command's own condition
-unfoldable pub field_step_row : Bool → ℕ → ℕ → List Bool → ℕ → FieldStep → Row
+unfoldable pub field_step_row : Bool → ℕ → ℕ → List Bool → ℕ → FieldStep → CommandRow
 field_step_row high b s right n step =
     if range_lies n step.from step.to then on_range step.from step.to (field_row high b (s + step.from) right (step.to - step.from) step.op) else refused Refusal.Range
 
-abbrev pub field_outcome : Bool → ℕ → ℕ → List Bool → ℕ → FieldStep → Row
+abbrev pub field_outcome : Bool → ℕ → ℕ → List Bool → ℕ → FieldStep → CommandRow
 field_outcome high b s right n step = outcome (field_step_row high b s right n step)
 
 abbrev pub field_reply : Bool → ℕ → ℕ → List Bool → List Bool → FieldStep → Reply

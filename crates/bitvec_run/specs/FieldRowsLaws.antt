@@ -4,7 +4,7 @@ use Rattle.std.proofs.Common.{sym, ◌∙◌, ap, subst, ⊎_elim}
 use Rattle.std.proofs.lemmas.Bool.{and_from, cases_Bool, le-leb}
 use Rattle.bitvec_run.specs.declared.command.Op.{Op}
 use Rattle.bitvec_run.specs.declared.command.Refusal.{Refusal}
-use Rattle.bitvec_run.specs.Rows.{Row, on_range, or_else, range_lies, refused, unless}
+use Rattle.bitvec_run.specs.Rows.{CommandRow, on_range, or_else, range_lies, refused, unless}
 use Rattle.bitvec_run.specs.Runs.{step_outcome, step_row}
 use Rattle.bitvec_run.specs.RunsLaws.{outcome-is}
 use Rattle.bitvec_run.specs.declared.field_step.FieldOp.{FieldOp}
@@ -42,8 +42,8 @@ module _ (high : Bool) (b s : ℕ) (right : List Bool) (n : ℕ) (step : FieldSt
   row-refusal : IsTransfer step.op → (field_step_row high b s right n step).refusal ≡ or_else (unless (range_lies n step.from step.to) Refusal.Range) (width_refusal (step.to - step.from))
   row-refusal is =
       ⊎_elim
-      (λ inside. ap (λ (r : Row). r.refusal) (row-inside inside) ∙ transfer-refusal high b (s + step.from) right (step.to - step.from) step.op is ∙ rw inside refl)
-      (λ outside. ap (λ (r : Row). r.refusal) (row-outside outside) ∙ rw outside refl)
+      (λ inside. ap (λ (r : CommandRow). r.refusal) (row-inside inside) ∙ transfer-refusal high b (s + step.from) right (step.to - step.from) step.op is ∙ rw inside refl)
+      (λ outside. ap (λ (r : CommandRow). r.refusal) (row-outside outside) ∙ rw outside refl)
       (cases_Bool (range_lies n step.from step.to))
 
   -- a transfer by its refusal, which is told in another way

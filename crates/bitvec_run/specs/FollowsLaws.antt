@@ -9,12 +9,12 @@ use Rattle.bitvec_engine.specs.base.WritesLaws.{Writes-is, Writes-nothing, Write
 use Rattle.bitvec_engine.specs.cells.declared.cells.CellsRead.{Ghosts as Access}
 use Rattle.bitvec_run.specs.declared.command.Reply.{Reply}
 use Rattle.bitvec_run.specs.Follows.{Answers, Follows}
-use Rattle.bitvec_run.specs.Rows.{Row, on_range}
+use Rattle.bitvec_run.specs.Rows.{CommandRow, on_range}
 use Rattle.bitvec_run.specs.Runs.{window_inside}
 
 module _ {E C : Type 0} (access : Access C E) where
   -- who answers follows
-  pub Answers-follow : (b : ℕ) (at : ℕ → ℕ → ℕ) (words : Bool) (row : Row) (window : Window) (old new : C) (result : Reply) → HasWindow b (access.numbers old) window
+  pub Answers-follow : (b : ℕ) (at : ℕ → ℕ → ℕ) (words : Bool) (row : CommandRow) (window : Window) (old new : C) (result : Reply) → HasWindow b (access.numbers old) window
       → Answers access b at words row window old new result → Follows access b at words row window old new result
   Answers-follow b at words row window old new result has answers =
       let stores = answers.reads.stores in
@@ -26,7 +26,7 @@ module _ {E C : Type 0} (access : Access C E) where
         cost = record { borrow = answers.reads.borrow; loads = answers.reads.loads; stores = omega arith };
       }
 
-  pub Follows-range : (b : ℕ) (at : ℕ → ℕ → ℕ) (words : Bool) (row : Row) (window : Window) (from to : ℕ) (old new : C) (result : Reply) → HasWindow b (access.numbers old) window → from ≤ to → to ≤ window.len
+  pub Follows-range : (b : ℕ) (at : ℕ → ℕ → ℕ) (words : Bool) (row : CommandRow) (window : Window) (from to : ℕ) (old new : C) (result : Reply) → HasWindow b (access.numbers old) window → from ≤ to → to ≤ window.len
       → Follows access b at words row (window_range window from to) old new result → Follows access b at words (on_range from to row) window old new result
   Follows-range b at words row window from to old new result has order bound part =
       let list = list_in b at (access.numbers old) window in

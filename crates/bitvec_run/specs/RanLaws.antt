@@ -12,7 +12,7 @@ use Rattle.bitvec_run.specs.declared.command.Reply.{Reply}
 use Rattle.bitvec_run.specs.Fold.{list_after, replies_of}
 use Rattle.bitvec_run.specs.FoldLaws.{after-next, replies-next}
 use Rattle.bitvec_run.specs.Follows.{Follows}
-use Rattle.bitvec_run.specs.Rows.{Row, row_list, row_reply}
+use Rattle.bitvec_run.specs.Rows.{CommandRow, row_list, row_reply}
 use Rattle.bitvec_run.specs.Runs.{whole_window}
 
 -- all bits of a memory are its list
@@ -24,7 +24,7 @@ pub HasWindow-whole : (b : ℕ) (xs : List ℕ) → FitsMaxBits b xs → HasWind
 HasWindow-whole b xs fits = record { fits = fits; within = record { start = omega arith; len = omega arith } }
 
 -- what the steps so far replied and left, where a step on a list of n bits is a row
-module _ {E C S : Type 0} (access : Access C E) (row_of : ℕ → S → Row) where
+module _ {E C S : Type 0} (access : Access C E) (row_of : ℕ → S → CommandRow) where
   pub record Ran (b : ℕ) (at : ℕ → ℕ → ℕ) (list : List Bool) (steps : List S) (window : Window) (old new : C) (made : List Reply) : Type 0 where
     pub replies : made ≡ replies_of (row_reply row_of) (row_list row_of) list steps
     pub writes : Writes b at (access.numbers old) (access.numbers new) window (list_after (row_list row_of) list steps)

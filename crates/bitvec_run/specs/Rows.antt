@@ -9,7 +9,7 @@ use Rattle.bitvec_run.specs.Costs.{Cost, Place, accesses, behind}
 
 -- why it is refused, if it is; and where it isn't, what it may cost, and of the list that it is about what it replies, and
 -- what list it leaves
-pub record Row : Type 0 where
+pub record CommandRow : Type 0 where
   pub refusal : Option Refusal
   pub cost : Place → Cost
   pub reply : List Bool → Reply
@@ -18,23 +18,23 @@ pub record Row : Type 0 where
 -- ---- rows
 
 -- a question: the list stays
-abbrev pub asks : Option Refusal → (List Bool → Reply) → (Place → Cost) → Row
+abbrev pub asks : Option Refusal → (List Bool → Reply) → (Place → Cost) → CommandRow
 asks refusal reply cost = record { refusal = refusal; cost = cost; reply = reply; list = λ list. list }
 
 -- an edit has nothing to tell
-abbrev pub edits : Option Refusal → (List Bool → List Bool) → (Place → Cost) → Row
+abbrev pub edits : Option Refusal → (List Bool → List Bool) → (Place → Cost) → CommandRow
 edits refusal new cost = record { refusal = refusal; cost = cost; reply = λ list. Done; list = new }
 
 -- an edit that replies
-abbrev pub both : Option Refusal → (List Bool → Reply) → (List Bool → List Bool) → (Place → Cost) → Row
+abbrev pub both : Option Refusal → (List Bool → Reply) → (List Bool → List Bool) → (Place → Cost) → CommandRow
 both refusal reply new cost = record { refusal = refusal; cost = cost; reply = reply; list = new }
 
 -- refused: the list stays, at no cost
-abbrev pub refused : Refusal → Row
+abbrev pub refused : Refusal → CommandRow
 refused refusal = record { refusal = Some refusal; cost = accesses 0 0; reply = λ list. Refused refusal; list = λ list. list }
 
 -- the row on the bits from..to of a list, as one on that list
-abbrev pub on_range : ℕ → ℕ → Row → Row
+abbrev pub on_range : ℕ → ℕ → CommandRow → CommandRow
 on_range from to row = record {
   refusal = row.refusal;
   cost = behind from row.cost;
@@ -43,15 +43,15 @@ on_range from to row = record {
 }
 
 -- what comes of a row: what it says, unless it is refused
-abbrev pub unless_refused : Option Refusal → Row → Row
+abbrev pub unless_refused : Option Refusal → CommandRow → CommandRow
 unless_refused None row = row
 unless_refused (Some refusal) row = refused refusal
 
-abbrev pub outcome : Row → Row
+abbrev pub outcome : CommandRow → CommandRow
 outcome row = unless_refused row.refusal row
 
 -- of steps each of which is a row, on a list of n bits
-module _ {S : Type 0} (row_of : ℕ → S → Row) where
+module _ {S : Type 0} (row_of : ℕ → S → CommandRow) where
   abbrev pub row_reply : List Bool → S → Reply
   row_reply list step = (row_of (length list) step).reply list
 

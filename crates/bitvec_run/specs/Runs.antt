@@ -10,7 +10,7 @@ use Rattle.bitvec_run.specs.declared.command.Step.{Step}
 use Rattle.bitvec_run.specs.Commands.{op_row}
 use Rattle.bitvec_run.specs.Costs.{Cost, Place}
 use Rattle.bitvec_run.specs.Groups.{FitsList, FitsRight}
-use Rattle.bitvec_run.specs.Rows.{Row, on_range, outcome, range_lies, refused}
+use Rattle.bitvec_run.specs.Rows.{CommandRow, on_range, outcome, range_lies, refused}
 
 -- the memory has the window, and the right memory has at most `max_bits` bits
 pub record CanRun (b : ℕ) (xs : List ℕ) (window : Window) (ys : List ℕ) : Type 0 where
@@ -26,7 +26,7 @@ abbrev pub window_inside : Window → Window → Window
 window_inside source window = record { start = source.start + window.start; len = window.len }
 
 -- a step is its command on its range; the range is tested before the command's own conditions
-unfoldable pub step_row : List Bool → ℕ → Step → Row
+unfoldable pub step_row : List Bool → ℕ → Step → CommandRow
 step_row right n step =
     if range_lies n step.from step.to then on_range step.from step.to (op_row right (step.to - step.from) step.op) else refused Refusal.Range
 
@@ -37,7 +37,7 @@ pub record StepFits (n r : ℕ) (step : Step) : Type 0 where
   pub list : FitsList (step.to - step.from) step.op
   pub right : FitsRight r step.op
 
-abbrev pub step_outcome : List Bool → ℕ → Step → Row
+abbrev pub step_outcome : List Bool → ℕ → Step → CommandRow
 step_outcome right n step = outcome (step_row right n step)
 
 abbrev pub step_reply : List Bool → List Bool → Step → Reply

@@ -6,11 +6,11 @@ use Rattle.bitvec_run.specs.declared.command.Refusal.{Refusal}
 use Rattle.bitvec_run.specs.declared.command.Step.{Step}
 use Rattle.bitvec_run.specs.Commands.{op_row, op_refusal}
 use Rattle.bitvec_run.specs.CommandsLaws.{fits_list, fits_right}
-use Rattle.bitvec_run.specs.Rows.{Row, on_range, outcome, range_lies, refused, unless_refused}
+use Rattle.bitvec_run.specs.Rows.{CommandRow, on_range, outcome, range_lies, refused, unless_refused}
 use Rattle.bitvec_run.specs.Runs.{StepFits, step_outcome, step_row}
 
 -- what comes of a row, by its refusal
-pub outcome-is : (row : Row) (refusal : Option Refusal) → row.refusal ≡ refusal → outcome row ≡ unless_refused refusal row
+pub outcome-is : (row : CommandRow) (refusal : Option Refusal) → row.refusal ≡ refusal → outcome row ≡ unless_refused refusal row
 outcome-is row refusal is = ap (λ (r : Option Refusal). unless_refused r row) is
 
 pub step_row-inside : (right : List Bool) (n : ℕ) (step : Step) → range_lies n step.from step.to ≡ true → step_row right n step ≡ on_range step.from step.to (op_row right (step.to - step.from) step.op)
@@ -25,7 +25,7 @@ step-inside : (right : List Bool) (n : ℕ) (step : Step) → (step_row right n 
 step-inside right n step none =
     ⊎_elim
     (λ inside. inside)
-    (λ outside. let is = ap (λ (row : Row). row.refusal) (step_row-outside right n step outside) in let no : Some Refusal.Range ≡ None = sym is ∙ none in cc)
+    (λ outside. let is = ap (λ (row : CommandRow). row.refusal) (step_row-outside right n step outside) in let no : Some Refusal.Range ≡ None = sym is ∙ none in cc)
     (cases_Bool (range_lies n step.from step.to))
 
 -- a step that isn't refused does what its command does

@@ -19,7 +19,7 @@ use bitvec_engine::{
 ///
 /// [`query`]: crate::query::query
 pub(crate) fn edit<O: SliceOrder, C: Cells>(cells: &mut C, target: Window, op: Op) -> Reply
-    requires target { HasWindow C.Elem.BITS (C.numbers cells.old) target }
+    requires window { HasWindow C.Elem.BITS (C.numbers cells.old) target }
     requires group { group op ≡ Edit }
     requires fits { FitsList target.len op }
     ensures { (right : List Bool) → Follows C.CellsRead C.Elem.BITS O.at O.WORDS (op_row right target.len op) target cells.old cells.new result }
@@ -42,7 +42,7 @@ pub(crate) fn edit<O: SliceOrder, C: Cells>(cells: &mut C, target: Window, op: O
 /// An edit that moves bits to other places of the list that a window holds, whatever the right
 /// list. Condition: as of [`edit`], with the amount or the ranges that are named.
 pub(crate) fn rearrange<O: SliceOrder, C: Cells>(cells: &mut C, target: Window, op: Op) -> Reply
-    requires target { HasWindow C.Elem.BITS (C.numbers cells.old) target }
+    requires window { HasWindow C.Elem.BITS (C.numbers cells.old) target }
     requires group { group op ≡ Move }
     requires fits { FitsList target.len op }
     ensures { (right : List Bool) → Follows C.CellsRead C.Elem.BITS O.at O.WORDS (op_row right target.len op) target cells.old cells.new result }

@@ -28,7 +28,7 @@ where
     C: Cells,
     D: CellsRead<Elem = C::Elem>,
     requires window { HasWindow C.Elem.BITS (C.numbers cells.old) window }
-    requires source { HasWindow C.Elem.BITS (D.numbers right.old) source }
+    requires right_window { HasWindow C.Elem.BITS (D.numbers right.old) source }
     ensures { let row = field_outcome O.HIGH C.Elem.BITS window.start (list_in C.Elem.BITS O.at (D.numbers right.old) source) window.len step in
         FollowsBoth C.CellsRead D.CellsRead C.Elem.BITS O.at O.WORDS row window cells.old cells.new right.old right.new result }
 {
@@ -62,8 +62,8 @@ fn transfer<O, C>(cells: &mut C, target: Window, op: FieldOp) -> Reply
 where
     O: SliceOrder + FieldOrder,
     C: Cells,
-    requires target { HasWindow C.Elem.BITS (C.numbers cells.old) target }
-    requires size { target.len ≤ 128 }
+    requires window { HasWindow C.Elem.BITS (C.numbers cells.old) target }
+    requires bound { target.len ≤ 128 }
     requires field { IsTransfer op }
     ensures { (right : List Bool) → Follows C.CellsRead C.Elem.BITS O.at O.WORDS (field_row O.HIGH C.Elem.BITS target.start right target.len op) target cells.old cells.new result }
 {

@@ -14,7 +14,7 @@ use bitvec_engine::{SliceOrder, all, any, count, count_zeros, get_bit};
 /// A query about the list that a window holds, whatever the right list. Condition: the memory has
 /// at most `MAX_BITS` bits, the window lies in it, and the index that is named in its list.
 pub(crate) fn query<O: SliceOrder, C: CellsRead>(cells: &mut C, target: Window, op: Op) -> Reply
-    requires target { HasWindow C.Elem.BITS (C.numbers cells.old) target }
+    requires window { HasWindow C.Elem.BITS (C.numbers cells.old) target }
     requires group { group op ≡ Query }
     requires fits { FitsList target.len op }
     ensures { (right : List Bool) → Answers C.CellsRead C.Elem.BITS O.at O.WORDS (op_row right target.len op) target cells.old cells.new result }

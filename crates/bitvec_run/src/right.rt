@@ -27,8 +27,8 @@ where
     O: SliceOrder,
     C: Cells,
     D: CellsRead<Elem = C::Elem>,
-    requires target { HasWindow C.Elem.BITS (C.numbers cells.old) target }
-    requires source { HasWindow C.Elem.BITS (D.numbers right.old) source }
+    requires window { HasWindow C.Elem.BITS (C.numbers cells.old) target }
+    requires right_window { HasWindow C.Elem.BITS (D.numbers right.old) source }
     requires group { group op ≡ Combine }
     requires fits { FitsList target.len op }
     requires fits_right { FitsRight source.len op }
@@ -66,8 +66,8 @@ where
     O: SliceOrder,
     C: CellsRead,
     D: CellsRead<Elem = C::Elem>,
-    requires target { HasWindow C.Elem.BITS (C.numbers cells.old) target }
-    requires source { HasWindow C.Elem.BITS (D.numbers right.old) source }
+    requires window { HasWindow C.Elem.BITS (C.numbers cells.old) target }
+    requires right_window { HasWindow C.Elem.BITS (D.numbers right.old) source }
     requires group { group op ≡ Compare }
     requires fits_right { FitsRight source.len op }
     ensures { let row = op_row (list_in C.Elem.BITS O.at (D.numbers right.old) source) target.len op in
@@ -97,7 +97,7 @@ where
 /// A window of the list that `source` holds, as one of the memory. Condition: it lies in the list,
 /// and the end of `source` is a `usize`.
 fn inside(source: Window, window: Window) -> Window
-    requires within { IsWithin window source.len }
+    requires inside { IsWithin window source.len }
     requires end { source.start + source.len < 2 ^ 64 }
     ensures { result ≡ window_inside source window }
 {

@@ -31,7 +31,7 @@ where
     C: Cells,
     D: CellsRead<Elem = C::Elem>,
     requires window { HasWindow C.Elem.BITS (C.numbers cells.old) window }
-    requires source { HasWindow C.Elem.BITS (D.numbers right.old) source }
+    requires right_window { HasWindow C.Elem.BITS (D.numbers right.old) source }
     ensures { let row = step_outcome (list_in C.Elem.BITS O.at (D.numbers right.old) source) window.len step in
         FollowsBoth C.CellsRead D.CellsRead C.Elem.BITS O.at O.WORDS row window cells.old cells.new right.old right.new result }
 {
@@ -50,8 +50,8 @@ where
     O: SliceOrder,
     C: Cells,
     D: CellsRead<Elem = C::Elem>,
-    requires target { HasWindow C.Elem.BITS (C.numbers cells.old) target }
-    requires source { HasWindow C.Elem.BITS (D.numbers right.old) source }
+    requires window { HasWindow C.Elem.BITS (C.numbers cells.old) target }
+    requires right_window { HasWindow C.Elem.BITS (D.numbers right.old) source }
     requires fits { FitsList target.len op }
     requires fits_right { FitsRight source.len op }
     ensures { let row = op_row (list_in C.Elem.BITS O.at (D.numbers right.old) source) target.len op in

@@ -16,7 +16,7 @@ pub enum Side {
 /// Where a half of a window stands that is cut at `mid`. Condition: the window has so many bits, and
 /// its end is a `usize`.
 pub(crate) fn side_window(window: Window, mid: usize, side: Side) -> Window
-    requires cut { mid ≤ window.len }
+    requires bound { mid ≤ window.len }
     requires end { window.start + window.len < 2 ^ 64 }
     ensures { result ≡ side_window window mid side }
 {

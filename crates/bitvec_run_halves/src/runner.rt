@@ -29,8 +29,8 @@ pub fn run_halves<T: BitStore, O: SliceOrder>(
     right: BitSlice<'_, T, O>,
     out: &mut [Reply],
 )
-    requires mid { mid ≤ (seen_mut bits.old).window.len }
-    requires room { length steps.now ≡ length out.old }
+    requires bound { mid ≤ (seen_mut bits.old).window.len }
+    requires lengths { length steps.now ≡ length out.old }
     ensures replies { out.new ≡ replies_of (side_reply (seen right.entry).bits) (side_lists (seen right.entry).bits) (halves_of mid (seen_mut bits.old).bits) steps.now }
     ensures bits { WritesBits bits.old bits.new
         (joined (list_after (side_lists (seen right.entry).bits) (halves_of mid (seen_mut bits.old).bits) steps.now)) }
@@ -61,9 +61,9 @@ fn run_in<T: BitStore, O: SliceOrder>(
     out: &mut [Reply],
 )
     requires window { HasWindow T.BITS (map T.value cells.old) window }
-    requires source { HasWindow T.BITS (map T.value right.now) source }
-    requires mid { mid ≤ window.len }
-    requires room { length steps.now ≡ length out.old }
+    requires right_window { HasWindow T.BITS (map T.value right.now) source }
+    requires bound { mid ≤ window.len }
+    requires lengths { length steps.now ≡ length out.old }
     ensures replies { let other = list_in T.BITS O.at (map T.value right.now) source in
         out.new ≡ replies_of (side_reply other) (side_lists other) (halves_of mid (list_in T.BITS O.at (map T.value cells.old) window)) steps.now }
     ensures writes { let other = list_in T.BITS O.at (map T.value right.now) source in
@@ -98,9 +98,9 @@ where
     C: Cells,
     D: CellsRead<Elem = C::Elem>,
     requires window { HasWindow C.Elem.BITS (C.numbers cells.old) window }
-    requires source { HasWindow C.Elem.BITS (D.numbers right.old) source }
-    requires mid { mid ≤ window.len }
-    requires room { length steps.now ≡ length out.old }
+    requires right_window { HasWindow C.Elem.BITS (D.numbers right.old) source }
+    requires bound { mid ≤ window.len }
+    requires lengths { length steps.now ≡ length out.old }
     ensures replies { let other = list_in C.Elem.BITS O.at (D.numbers right.old) source in
         out.new ≡ replies_of (side_reply other) (side_lists other) (halves_of mid (list_in C.Elem.BITS O.at (C.numbers cells.old) window)) steps.now }
     ensures writes { let other = list_in C.Elem.BITS O.at (D.numbers right.old) source in

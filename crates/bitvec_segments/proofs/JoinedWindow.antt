@@ -15,7 +15,7 @@ use Rattle.bitvec_words.specs.base.SliceLaws.{range-all}
 use Rattle.bitvec_words.specs.base.Window.{window_after, window_until}
 use Rattle.bitvec_words.specs.base.WriteLaws.{length-slice_range}
 use Rattle.bitvec_words.specs.base.WritesLaws.{length-list, list-join, list-range}
-use Rattle.bitvec_words.specs.walk.Cost.{touched}
+use Rattle.bitvec_words.specs.walk.Cost.{touched_count}
 use Rattle.bitvec_words.specs.walk.WalkLaws.{touched-until}
 use Rattle.bitvec_words.specs.Elements.{elements_window}
 use Rattle.bitvec_words.specs.Field.{lowest_bit}
@@ -131,7 +131,7 @@ number-cut high b at xs window count v has inside is =
     ∙ ap (segment_number high) (sym part ∙ rw (place, len) refl)
 
 -- the elements that the window touches are so many
-pub touched-elements : (b s n count : ℕ) → 0 < n → 0 < count → (count - 1) * b < s % b + n → s % b + n ≤ count * b → touched b s n ≡ count
+pub touched-elements : (b s n count : ℕ) → 0 < n → 0 < count → (count - 1) * b < s % b + n → s % b + n ≤ count * b → touched_count b s n ≡ count
 touched-elements b s n count more some last inside =
     let place = div-add-mod' s b in
     let until = rw (let e : s + n - s ≡ n = omega arith in e) at (touched-until b s (s + n) (omega arith)) in
@@ -212,7 +212,7 @@ half-some b h more whole =
     let room = div-add-mod' h b in
     ⊎_elim (λ (few : h / b < 1). let none : h / b * b ≡ 0 * b = ap (λ (n : ℕ). n * b) (let e : h / b ≡ 0 = omega arith in e) in absurd (omega arith)) (λ (some : 1 ≤ h / b). some) (cases_lt (h / b) 1)
 
-pub touched-halves : (b : ℕ) (window : Window) (h : ℕ) → 0 < b → 0 < h → window.start % b ≡ 0 → h % b ≡ 0 → window.len ≡ h + h → touched b window.start window.len ≡ h / b + h / b
+pub touched-halves : (b : ℕ) (window : Window) (h : ℕ) → 0 < b → 0 < h → window.start % b ≡ 0 → h % b ≡ 0 → window.len ≡ h + h → touched_count b window.start window.len ≡ h / b + h / b
 touched-halves b window h some more edge whole len =
     let k : ℕ = h / b in
     let room : h / b * b + h % b ≡ h = div-add-mod' h b in

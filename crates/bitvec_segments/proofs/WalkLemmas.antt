@@ -14,7 +14,7 @@ use Rattle.bitvec_words.specs.base.Parts.{first_part_of, part_window}
 use Rattle.bitvec_words.specs.base.SliceLaws.{range-none}
 use Rattle.bitvec_words.specs.base.Window.{window_after, window_of}
 use Rattle.bitvec_words.specs.base.WritesLaws.{Writes-is, Writes-join, length-list, list-behind, list-join}
-use Rattle.bitvec_words.specs.walk.Cost.{fill_loads, part_loads, touched}
+use Rattle.bitvec_words.specs.walk.Cost.{fill_loads, part_loads, touched_count}
 use Rattle.bitvec_words.specs.walk.Walk.{Walked, passed}
 use Rattle.bitvec_words.specs.walk.WalkLaws.{Walked-next, Walked-start, Writes-next_part, Writes-none_passed, div-order, first-len, first-place, touched-none, touched-until}
 use Rattle.bitvec_segments.specs.LoadLaws.{alone, loaded-below, loaded-first, loaded-none, lower_bits}
@@ -139,7 +139,7 @@ Loaded-all big high b at xs window rest number none is =
 
 -- the first part takes one element, and what is left the others
 pub touched-first : (b : ℕ) (window : Window) (t : ℕ) → 0 < b → 0 < window.len → t ≡ (first_part_of b window).to - (first_part_of b window).from
-    → touched b window.start window.len ≡ touched b (window.start + t) (window.len - t) + 1
+    → touched_count b window.start window.len ≡ touched_count b (window.start + t) (window.len - t) + 1
 touched-first b window t some more step =
     let head = mod_below window.start b some in
     let place = div-add-mod' window.start b in

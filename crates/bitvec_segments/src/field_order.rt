@@ -3,7 +3,7 @@ ghost use Rattle.std.specs.Prelude.{◌≡◌, ◌≤◌};
 ghost use Rattle.bitvec_words.specs.base.Memory.{Edits, HasWindow, list_in};
 ghost use Rattle.bitvec_words.specs.cells.Access.{CostsAtMost, OnlyReads};
 ghost use Rattle.bitvec_segments.specs.Segments.{loaded_be, loaded_le, stored_be, stored_le};
-ghost use Rattle.bitvec_words.specs.walk.Cost.{fill_loads, touched};
+ghost use Rattle.bitvec_words.specs.walk.Cost.{fill_loads, touched_count};
 
 use crate::endian::{Big, Little};
 use crate::{loading, storing};
@@ -24,10 +24,10 @@ pub trait FieldOrder: WordOrder {
     /// touches once.
     fn load_le<C: CellsRead>(cells: &mut C, window: Window) -> u128
         requires window { HasWindow C.Elem.BITS (C.numbers cells.old) window }
-        requires size { window.len ≤ 128 }
+        requires bound { window.len ≤ 128 }
         ensures value { result
             ≡ loaded_le Self.HIGH C.Elem.BITS window.start (list_in C.Elem.BITS Self.at (C.numbers cells.old) window) }
-        ensures reads { OnlyReads C.CellsRead cells.old cells.new (touched C.Elem.BITS window.start window.len) }
+        ensures reads { OnlyReads C.CellsRead cells.old cells.new (touched_count C.Elem.BITS window.start window.len) }
     {
         loading::load::<Little, Self, C>(cells, window)
     }
@@ -36,10 +36,10 @@ pub trait FieldOrder: WordOrder {
     /// touches once.
     fn load_be<C: CellsRead>(cells: &mut C, window: Window) -> u128
         requires window { HasWindow C.Elem.BITS (C.numbers cells.old) window }
-        requires size { window.len ≤ 128 }
+        requires bound { window.len ≤ 128 }
         ensures value { result
             ≡ loaded_be Self.HIGH C.Elem.BITS window.start (list_in C.Elem.BITS Self.at (C.numbers cells.old) window) }
-        ensures reads { OnlyReads C.CellsRead cells.old cells.new (touched C.Elem.BITS window.start window.len) }
+        ensures reads { OnlyReads C.CellsRead cells.old cells.new (touched_count C.Elem.BITS window.start window.len) }
     {
         loading::load::<Big, Self, C>(cells, window)
     }
@@ -48,10 +48,10 @@ pub trait FieldOrder: WordOrder {
     /// each element that the window touches once, and loads at most the first and the last.
     fn store_le<C: Cells>(cells: &mut C, window: Window, number: u128)
         requires window { HasWindow C.Elem.BITS (C.numbers cells.old) window }
-        requires size { window.len ≤ 128 }
+        requires bound { window.len ≤ 128 }
         ensures writes { Edits C.Elem.BITS Self.at (C.numbers cells.old) (C.numbers cells.new) window
             (stored_le Self.HIGH C.Elem.BITS window.start number) }
-        ensures cost { CostsAtMost C.CellsRead cells.old cells.new (fill_loads window.len) (touched C.Elem.BITS window.start window.len) }
+        ensures cost { CostsAtMost C.CellsRead cells.old cells.new (fill_loads window.len) (touched_count C.Elem.BITS window.start window.len) }
     {
         storing::store::<Little, Self, C>(cells, window, number);
     }
@@ -60,10 +60,10 @@ pub trait FieldOrder: WordOrder {
     /// each element that the window touches once, and loads at most the first and the last.
     fn store_be<C: Cells>(cells: &mut C, window: Window, number: u128)
         requires window { HasWindow C.Elem.BITS (C.numbers cells.old) window }
-        requires size { window.len ≤ 128 }
+        requires bound { window.len ≤ 128 }
         ensures writes { Edits C.Elem.BITS Self.at (C.numbers cells.old) (C.numbers cells.new) window
             (stored_be Self.HIGH C.Elem.BITS window.start number) }
-        ensures cost { CostsAtMost C.CellsRead cells.old cells.new (fill_loads window.len) (touched C.Elem.BITS window.start window.len) }
+        ensures cost { CostsAtMost C.CellsRead cells.old cells.new (fill_loads window.len) (touched_count C.Elem.BITS window.start window.len) }
     {
         storing::store::<Big, Self, C>(cells, window, number);
     }

@@ -3,7 +3,7 @@ ghost use Rattle.std.specs.Prelude.{◌≡◌, ◌+◌, ◌-◌, ◌*◌, ◌/�
 ghost use Rattle.bitvec_words.specs.base.Memory.{HasWindow, element_bits, list_in};
 ghost use Rattle.bitvec_words.specs.cells.Access.{OnlyReads};
 ghost use Rattle.bitvec_segments.specs.Segments.{segment_number};
-ghost use Rattle.bitvec_words.specs.walk.Cost.{touched};
+ghost use Rattle.bitvec_words.specs.walk.Cost.{touched_count};
 ghost use Rattle.bitvec_words.specs.Elements.{elements_window};
 ghost use Rattle.bitvec_words.specs.Field.{lowest_bit};
 
@@ -38,7 +38,7 @@ pub(crate) fn joined_number<O: WordOrder, C: CellsRead>(cells: &mut C, window: W
     requires narrow { C.Elem.BITS ≤ 64 }
     requires fits { window.start % C.Elem.BITS + window.len ≤ 64 }
     ensures value { result ≡ segment_number O.HIGH (list_in C.Elem.BITS O.at (C.numbers cells.old) window) }
-    ensures reads { OnlyReads C.CellsRead cells.old cells.new (touched C.Elem.BITS window.start window.len) }
+    ensures reads { OnlyReads C.CellsRead cells.old cells.new (touched_count C.Elem.BITS window.start window.len) }
 {
     let bits = C::Elem::BITS as usize;
     let from = window.start % bits;
@@ -64,7 +64,7 @@ pub(crate) fn word_number<O: WordOrder, C: CellsRead>(cells: &mut C, window: Win
     requires narrow { C.Elem.BITS ≤ 64 }
     requires fits { window.start % C.Elem.BITS + window.len ≤ 64 }
     ensures value { result ≡ segment_number O.HIGH (list_in C.Elem.BITS O.at (C.numbers cells.old) window) }
-    ensures reads { OnlyReads C.CellsRead cells.old cells.new (touched C.Elem.BITS window.start window.len) }
+    ensures reads { OnlyReads C.CellsRead cells.old cells.new (touched_count C.Elem.BITS window.start window.len) }
 {
     if window.len == 64 && 32 % C::Elem::BITS as usize == 0 {
         return halves_number::<O, C>(cells, window, 32);
@@ -78,12 +78,12 @@ pub(crate) fn word_number<O: WordOrder, C: CellsRead>(cells: &mut C, window: Win
 fn halves_number<O: WordOrder, C: CellsRead>(cells: &mut C, window: Window, half: usize) -> u64
     requires window { HasWindow C.Elem.BITS (C.numbers cells.old) window }
     requires some { 0 < half }
-    requires most { half ≤ 32 }
+    requires bound { half ≤ 32 }
     requires edge { window.start % C.Elem.BITS ≡ 0 }
     requires whole { half % C.Elem.BITS ≡ 0 }
     requires len { window.len ≡ half + half }
     ensures value { result ≡ segment_number O.HIGH (list_in C.Elem.BITS O.at (C.numbers cells.old) window) }
-    ensures reads { OnlyReads C.CellsRead cells.old cells.new (touched C.Elem.BITS window.start window.len) }
+    ensures reads { OnlyReads C.CellsRead cells.old cells.new (touched_count C.Elem.BITS window.start window.len) }
 {
     let bits = C::Elem::BITS as usize;
     let element = window.start / bits;
@@ -119,7 +119,7 @@ fn elements_number<O: WordOrder, C: CellsRead>(cells: &mut C, element: usize, co
 /// takes one load.
 #[inline(always)]
 fn element_number<O: WordOrder, C: CellsRead>(cells: &mut C, element: usize) -> u64
-    requires inside { element < length (C.numbers cells.old) }
+    requires bound { element < length (C.numbers cells.old) }
     requires narrow { C.Elem.BITS ≤ 64 }
     ensures value { result ≡ segment_number O.HIGH (element_bits C.Elem.BITS O.at (slice_index (C.numbers cells.old) element)) }
     ensures fits { result < 2 ^ C.Elem.BITS }

@@ -3,7 +3,7 @@ ghost use Rattle.std.specs.Prelude.{◌≡◌, ◌<◌, ◌≤◌};
 ghost use Rattle.bitvec_words.specs.base.Memory.{HasWindow, list_in};
 ghost use Rattle.bitvec_words.specs.cells.Access.{OnlyReads};
 ghost use Rattle.bitvec_segments.specs.Segments.{loaded};
-ghost use Rattle.bitvec_words.specs.walk.Cost.{touched};
+ghost use Rattle.bitvec_words.specs.walk.Cost.{touched_count};
 
 use crate::endian::{Endian, lower_bits};
 use crate::joining::{fits_word, word_number};
@@ -19,10 +19,10 @@ use bitvec_words::store::BitStore;
 #[inline(always)]
 pub(crate) fn load<E: Endian, O: WordOrder, C: CellsRead>(cells: &mut C, window: Window) -> u128
     requires window { HasWindow C.Elem.BITS (C.numbers cells.old) window }
-    requires size { window.len ≤ 128 }
+    requires bound { window.len ≤ 128 }
     ensures value { result
         ≡ loaded E.BIG O.HIGH C.Elem.BITS window.start (list_in C.Elem.BITS O.at (C.numbers cells.old) window) }
-    ensures reads { OnlyReads C.CellsRead cells.old cells.new (touched C.Elem.BITS window.start window.len) }
+    ensures reads { OnlyReads C.CellsRead cells.old cells.new (touched_count C.Elem.BITS window.start window.len) }
 {
     if E::BIG == O::HIGH && fits_word::<C::Elem>(window) {
         return word_number::<O, C>(cells, window) as u128;
@@ -33,10 +33,10 @@ pub(crate) fn load<E: Endian, O: WordOrder, C: CellsRead>(cells: &mut C, window:
 /// `load` of any window: straight where it lies in one element or two.
 fn load_parts<E: Endian, O: WordOrder, C: CellsRead>(cells: &mut C, window: Window) -> u128
     requires window { HasWindow C.Elem.BITS (C.numbers cells.old) window }
-    requires size { window.len ≤ 128 }
+    requires bound { window.len ≤ 128 }
     ensures value { result
         ≡ loaded E.BIG O.HIGH C.Elem.BITS window.start (list_in C.Elem.BITS O.at (C.numbers cells.old) window) }
-    ensures reads { OnlyReads C.CellsRead cells.old cells.new (touched C.Elem.BITS window.start window.len) }
+    ensures reads { OnlyReads C.CellsRead cells.old cells.new (touched_count C.Elem.BITS window.start window.len) }
 {
     if window.len == 0 {
         return 0;
@@ -56,10 +56,10 @@ fn load_parts<E: Endian, O: WordOrder, C: CellsRead>(cells: &mut C, window: Wind
 fn load_few<E: Endian, O: WordOrder, C: CellsRead>(cells: &mut C, window: Window) -> u128
     requires window { HasWindow C.Elem.BITS (C.numbers cells.old) window }
     requires some { 0 < window.len }
-    requires size { window.len ≤ 128 }
+    requires bound { window.len ≤ 128 }
     ensures value { result
         ≡ loaded E.BIG O.HIGH C.Elem.BITS window.start (list_in C.Elem.BITS O.at (C.numbers cells.old) window) }
-    ensures reads { OnlyReads C.CellsRead cells.old cells.new (touched C.Elem.BITS window.start window.len) }
+    ensures reads { OnlyReads C.CellsRead cells.old cells.new (touched_count C.Elem.BITS window.start window.len) }
 {
     let part = first_part(C::Elem::BITS as usize, window);
     if part.len() == window.len {
@@ -72,10 +72,10 @@ fn load_few<E: Endian, O: WordOrder, C: CellsRead>(cells: &mut C, window: Window
 /// `load` of any window, a part of one element at a time.
 fn load_many<E: Endian, O: WordOrder, C: CellsRead>(cells: &mut C, window: Window) -> u128
     requires window { HasWindow C.Elem.BITS (C.numbers cells.old) window }
-    requires size { window.len ≤ 128 }
+    requires bound { window.len ≤ 128 }
     ensures value { result
         ≡ loaded E.BIG O.HIGH C.Elem.BITS window.start (list_in C.Elem.BITS O.at (C.numbers cells.old) window) }
-    ensures reads { OnlyReads C.CellsRead cells.old cells.new (touched C.Elem.BITS window.start window.len) }
+    ensures reads { OnlyReads C.CellsRead cells.old cells.new (touched_count C.Elem.BITS window.start window.len) }
 {
     let bits = C::Elem::BITS as usize;
     let mut number = 0;

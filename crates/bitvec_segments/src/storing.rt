@@ -3,7 +3,7 @@ ghost use Rattle.std.specs.Prelude.{◌≡◌, ◌+◌, ◌*◌, ◌%◌, ◌<�
 ghost use Rattle.bitvec_words.specs.base.Memory.{Edits, HasWindow};
 ghost use Rattle.bitvec_words.specs.cells.Access.{CostsAtMost};
 ghost use Rattle.bitvec_segments.specs.Segments.{stored};
-ghost use Rattle.bitvec_words.specs.walk.Cost.{fill_loads, touched};
+ghost use Rattle.bitvec_words.specs.walk.Cost.{fill_loads, touched_count};
 
 use crate::cutting::{edge_part, head_part, only_part, whole_part};
 use crate::endian::{Endian, lower_bits};
@@ -19,10 +19,10 @@ use bitvec_words::store::BitStore;
 /// loads at most the first and the last, and takes no loop where the window lies in few elements.
 pub(crate) fn store<E: Endian, O: WordOrder, C: Cells>(cells: &mut C, window: Window, number: u128)
     requires window { HasWindow C.Elem.BITS (C.numbers cells.old) window }
-    requires size { window.len ≤ 128 }
+    requires bound { window.len ≤ 128 }
     ensures writes { Edits C.Elem.BITS O.at (C.numbers cells.old) (C.numbers cells.new) window
         (stored E.BIG O.HIGH C.Elem.BITS window.start number) }
-    ensures cost { CostsAtMost C.CellsRead cells.old cells.new (fill_loads window.len) (touched C.Elem.BITS window.start window.len) }
+    ensures cost { CostsAtMost C.CellsRead cells.old cells.new (fill_loads window.len) (touched_count C.Elem.BITS window.start window.len) }
 {
     if window.len == 0 {
         return;
@@ -53,11 +53,11 @@ pub(crate) fn store<E: Endian, O: WordOrder, C: Cells>(cells: &mut C, window: Wi
 fn store_parts<E: Endian, O: WordOrder, C: Cells>(cells: &mut C, window: Window, number: u128)
     requires window { HasWindow C.Elem.BITS (C.numbers cells.old) window }
     requires some { 0 < window.len }
-    requires size { window.len ≤ 128 }
+    requires bound { window.len ≤ 128 }
     requires passes { C.Elem.BITS < window.start % C.Elem.BITS + window.len }
     ensures writes { Edits C.Elem.BITS O.at (C.numbers cells.old) (C.numbers cells.new) window
         (stored E.BIG O.HIGH C.Elem.BITS window.start number) }
-    ensures cost { CostsAtMost C.CellsRead cells.old cells.new (fill_loads window.len) (touched C.Elem.BITS window.start window.len) }
+    ensures cost { CostsAtMost C.CellsRead cells.old cells.new (fill_loads window.len) (touched_count C.Elem.BITS window.start window.len) }
 {
     let bits = C::Elem::BITS as usize;
     let head = bits - window.start % bits;
@@ -82,12 +82,12 @@ fn store_few<E: Endian, O: WordOrder, C: Cells>(
 )
     requires window { HasWindow C.Elem.BITS (C.numbers cells.old) window }
     requires some { 0 < window.len }
-    requires size { window.len ≤ 128 }
+    requires bound { window.len ≤ 128 }
     requires few { window.len ≤ 2 * C.Elem.BITS }
     requires edge { window.start ≡ element * C.Elem.BITS }
     ensures writes { Edits C.Elem.BITS O.at (C.numbers cells.old) (C.numbers cells.new) window
         (stored E.BIG O.HIGH C.Elem.BITS window.start number) }
-    ensures cost { CostsAtMost C.CellsRead cells.old cells.new 1 (touched C.Elem.BITS window.start window.len) }
+    ensures cost { CostsAtMost C.CellsRead cells.old cells.new 1 (touched_count C.Elem.BITS window.start window.len) }
 {
     let bits = C::Elem::BITS as usize;
     if window.len <= bits {
@@ -104,10 +104,10 @@ fn store_few<E: Endian, O: WordOrder, C: Cells>(
 /// `store` of any window, a part of one element at a time.
 fn store_many<E: Endian, O: WordOrder, C: Cells>(cells: &mut C, window: Window, number: u128)
     requires window { HasWindow C.Elem.BITS (C.numbers cells.old) window }
-    requires size { window.len ≤ 128 }
+    requires bound { window.len ≤ 128 }
     ensures writes { Edits C.Elem.BITS O.at (C.numbers cells.old) (C.numbers cells.new) window
         (stored E.BIG O.HIGH C.Elem.BITS window.start number) }
-    ensures cost { CostsAtMost C.CellsRead cells.old cells.new (fill_loads window.len) (touched C.Elem.BITS window.start window.len) }
+    ensures cost { CostsAtMost C.CellsRead cells.old cells.new (fill_loads window.len) (touched_count C.Elem.BITS window.start window.len) }
 {
     let bits = C::Elem::BITS as usize;
     let mut rest = window;

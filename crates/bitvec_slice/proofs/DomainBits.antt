@@ -12,7 +12,7 @@ use Rattle.bitvec_elements.specs.base.WriteLaws.{length-slice_range, range-range
 use Rattle.bitvec_elements.specs.base.declared.part.Part.{Part}
 use Rattle.bitvec_domain.specs.CutLaws.{cut_bits, cut_is, part_bits_if, pieces-bits}
 use Rattle.bitvec_domain.specs.Cuts.{IsCutWithin, IsHeadWithin, IsPartWithin, IsTailWithin, cut_of, part_if_from}
-use Rattle.bitvec_domain.specs.Domains.{Pieces, bits_of_pieces, pieces_in}
+use Rattle.bitvec_domain.specs.Domains.{DomainPieces, bits_of_pieces, pieces_in}
 use Rattle.bitvec_domain.specs.declared.cut.Cut.{Cut}
 use Rattle.bitvec_domain.specs.declared.cut.Cut.TheVariants.{Inside, Across}
 use Rattle.bitvec_elements.specs.store.Width.{IsWidth}
@@ -64,7 +64,7 @@ module _ {T : Type 0} (b : ℕ) (at : ℕ → ℕ → ℕ) (value : T → ℕ) (
         let cut = cut_is b at (map value cells) window (width_some b wide) (has_window b at value cells start len inside bounded) in
         record { parts = is; bits = ap bits_of_views is ∙ views-bits (cut_of b window) (width_some b wide) cut.within ∙ cut.bits }
 
-    pub domain_shown : (pieces : Pieces T) → pieces ≡ pieces_in b at value cells (cut_of b (shown b at value cells start len).window) → IsDomain b at value (shown b at value cells start len) pieces
+    pub domain_shown : (pieces : DomainPieces T) → pieces ≡ pieces_in b at value cells (cut_of b (shown b at value cells start len).window) → IsDomain b at value (shown b at value cells start len) pieces
     domain_shown pieces is =
         record { parts = is; bits = ap (bits_of_pieces b at value) is ∙ pieces-bits b at value cells (shown b at value cells start len).window (width_some b wide) (has_window b at value cells start len inside bounded) }
 

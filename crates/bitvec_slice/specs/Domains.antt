@@ -4,7 +4,7 @@ use Rattle.bitvec_elements.specs.base.declared.part.Part.{Part}
 use Rattle.bitvec_elements.specs.store.declared.store.BitStore.{Ghosts as Store}
 use Rattle.bitvec_elements.specs.base.declared.order.BitOrder.{Ghosts as Order}
 use Rattle.bitvec_domain.specs.Cuts.{cut_of}
-use Rattle.bitvec_domain.specs.Domains.{Pieces, bits_of_pieces, pieces_in}
+use Rattle.bitvec_domain.specs.Domains.{DomainPieces, bits_of_pieces, pieces_in}
 use Rattle.bitvec_domain.specs.declared.cut.Cut.{Cut}
 use Rattle.bitvec_domain.specs.declared.cut.Cut.TheVariants.{Inside, Across}
 use Rattle.bitvec_slice.specs.Seen.{Seen, shown}
@@ -86,6 +86,6 @@ module _ {T : Type 0} (b : ℕ) (at : ℕ → ℕ → ℕ) (value : T → ℕ) w
     pub bits : bits_of_views views ≡ view.bits
 
   -- the same of pieces of elements
-  pub record IsDomain (view : Seen T) (pieces : Pieces T) : Type 0 where
+  pub record IsDomain (view : Seen T) (pieces : DomainPieces T) : Type 0 where
     pub parts : pieces ≡ pieces_in b at value view.elements (cut_of b view.window)
     pub bits : bits_of_pieces b at value pieces ≡ view.bits

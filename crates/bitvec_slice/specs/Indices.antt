@@ -6,7 +6,7 @@ use Rattle.std.specs.declared.ops.RangeInclusive.{RangeInclusive}
 use Rattle.bitvec_elements.specs.store.declared.store.BitStore.{Ghosts as Store}
 use Rattle.bitvec_elements.specs.base.declared.order.BitOrder.{Ghosts as Order}
 use Rattle.bitvec_slice.specs.Seen.{Seen}
-use Rattle.bitvec_slice.specs.Touched.{touched}
+use Rattle.bitvec_slice.specs.Touched.{touched_elements}
 use Rattle.bitvec_elements.specs.References.{bit_of_ref, bit_of_ref_mut, elements_of_ref_mut, place_of_ref_mut}
 use Rattle.bitvec_elements.specs.declared.reference.BitRef.{BitRef}
 use Rattle.bitvec_elements.specs.declared.reference_mut.BitRefMut.{BitRefMut}
@@ -28,4 +28,4 @@ IsBitOf view index r = bit_of_ref r ≡ slice_index_or view.bits index false
 pub record WritesBitOf {T O : Type 0} {t : Store T} {o : Order O} (view : Seen T) (index : ℕ) (r : BitRefMut T O t o) : Type 0 where
   pub bit : bit_of_ref_mut r ≡ slice_index_or view.bits index false
   pub place : place_of_ref_mut r ≡ (view.window.start + index) % t.BITS
-  pub elements : elements_of_ref_mut r ≡ touched t.BITS view.elements (view.window.start + index) (view.window.start + (index + 1))
+  pub elements : elements_of_ref_mut r ≡ touched_elements t.BITS view.elements (view.window.start + index) (view.window.start + (index + 1))

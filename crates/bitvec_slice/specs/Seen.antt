@@ -2,7 +2,7 @@
 use Rattle.std.specs.Prelude.{◌≡◌, ℕ, ◌+◌, ◌-◌, ◌*◌, ◌%◌, ◌↔◌, Bool, List, [], Option, IfSome, IsSome, drop, length, map, slice_range, take}
 use Rattle.bitvec_elements.specs.base.Memory.{list_in, memory_bits}
 use Rattle.bitvec_elements.specs.base.declared.window.Window.{Window}
-use Rattle.bitvec_slice.specs.Touched.{touched}
+use Rattle.bitvec_slice.specs.Touched.{touched_elements}
 
 -- its bits, the elements that they touch, all bits of these, and where among them its own stand; the window's start is the view's phase
 pub record Seen (T : Type 0) : Type 0 where
@@ -43,7 +43,7 @@ module _ {T : Type 0} (b : ℕ) where
   -- they touch, of b bits each, and begins in the first of these
   pub record IsRangeOf (view : Seen T) (from to : ℕ) (part : Seen T) : Type 0 where
     pub bits : part.bits ≡ slice_range view.bits from to
-    pub elements : part.elements ≡ touched b view.elements (view.window.start + from) (view.window.start + to)
+    pub elements : part.elements ≡ touched_elements b view.elements (view.window.start + from) (view.window.start + to)
     pub start : part.window.start ≡ (view.window.start + from) % b
     pub len : part.window.len ≡ to - from
 

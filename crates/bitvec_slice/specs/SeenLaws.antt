@@ -12,7 +12,7 @@ use Rattle.bitvec_elements.specs.base.WriteLaws.{range-range}
 use Rattle.bitvec_elements.specs.store.Width.{IsWidth}
 use Rattle.bitvec_elements.specs.store.WidthLaws.{width_some}
 use Rattle.bitvec_slice.specs.Seen.{AreHalves, CoversElements, IsEmpty, IsRangeOf, IsWhole, Seen, shown}
-use Rattle.bitvec_slice.specs.Touched.{touched}
+use Rattle.bitvec_slice.specs.Touched.{touched_elements}
 use Rattle.bitvec_slice.specs.TouchedLaws.{touched-bits}
 
 -- what of two halves of a view meets p adds up
@@ -59,7 +59,7 @@ module _ {T : Type 0} (b : ℕ) (at : ℕ → ℕ → ℕ) (value : T → ℕ) w
 
     -- a view of the elements that a range of the bits touches
     pub part_view : (part : Seen T) (from to : ℕ) → IsWidth b → from ≤ to → to ≤ len
-        → part ≡ shown b at value (touched b cells (start + from) (start + to)) ((start + from) % b) (to - from) → IsRangeOf b (shown b at value cells start len) from to part
+        → part ≡ shown b at value (touched_elements b cells (start + from) (start + to)) ((start + from) % b) (to - from) → IsRangeOf b (shown b at value cells start len) from to part
     unfolding window_of
     part_view part from to wide order bound is =
         let xs = map value cells in

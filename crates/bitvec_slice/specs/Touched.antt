@@ -10,8 +10,8 @@ abbrev pub end_touched : ℕ → ℕ → ℕ
 end_touched b end = div_ceil end b
 
 -- the elements that the places from `start` up to `end` touch
-abbrev pub touched : {X : Type 0} → ℕ → List X → ℕ → ℕ → List X
-touched b xs start end = slice_range xs (first_touched b start) (end_touched b end)
+abbrev pub touched_elements : {X : Type 0} → ℕ → List X → ℕ → ℕ → List X
+touched_elements b xs start end = slice_range xs (first_touched b start) (end_touched b end)
 
 -- they are some of n elements, and the places are theirs from the index `start % b` of the first on
 pub record Touches (b n start end : ℕ) : Type 0 where

@@ -8,7 +8,7 @@ use Rattle.bitvec_elements.specs.base.Memory.{memory_bits}
 use Rattle.bitvec_elements.specs.base.MemoryLaws.{length-memory_bits, memory-range}
 use Rattle.bitvec_elements.specs.base.SliceLaws.{range-same}
 use Rattle.bitvec_elements.specs.base.WriteLaws.{range-range}
-use Rattle.bitvec_slice.specs.Touched.{Touches, end_touched, first_touched, touched}
+use Rattle.bitvec_slice.specs.Touched.{Touches, end_touched, first_touched, touched_elements}
 
 module _ (b n start end : ℕ) (some : 0 < b) (order : start ≤ end) (bound : end ≤ b * n) where
   pub touches : Touches b n start end
@@ -34,7 +34,7 @@ module _ (b n start end : ℕ) (some : 0 < b) (order : start ≤ end) (bound : e
       }
 
 pub touched-bits : (b : ℕ) (at : ℕ → ℕ → ℕ) (xs : List ℕ) (start end n : ℕ) → 0 < b → start + n ≡ end → end ≤ b * length xs
-    → slice_range (memory_bits b at (touched b xs start end)) (start % b) (start % b + n) ≡ slice_range (memory_bits b at xs) start end
+    → slice_range (memory_bits b at (touched_elements b xs start end)) (start % b) (start % b + n) ≡ slice_range (memory_bits b at xs) start end
 touched-bits b at xs start end n some sum bound =
     let is = touches b (length xs) start end some (omega arith) bound in
     let first = first_touched b start in

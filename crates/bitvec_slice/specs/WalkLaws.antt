@@ -9,7 +9,7 @@ use Rattle.bitvec_elements.specs.base.declared.order.BitOrder.{Ghosts as Order}
 use Rattle.bitvec_slice.specs.SeenLaws.{length_bits}
 use Rattle.bitvec_slice.specs.Views.{seen}
 use Rattle.bitvec_elements.specs.References.{bit_of_ref}
-use Rattle.bitvec_slice.specs.Walks.{YieldsBits, YieldsRefs, YieldsVals, bits_left, refs_left, vals_left}
+use Rattle.bitvec_slice.specs.Walks.{YieldsBits, YieldsRefs, YieldsVals, refs_left, remaining_bits, vals_left}
 use Rattle.bitvec_slice.specs.declared.bit_iters.BitRefIter.{BitRefIter}
 use Rattle.bitvec_slice.specs.declared.bit_iters.BitValIter.{BitValIter}
 use Rattle.bitvec_slice.specs.declared.iter.Iter.{Iter}
@@ -19,26 +19,26 @@ module _ {T O : Type 0} {t : Store T} {o : Order O} (it : Iter T O t o) where
   long = let len = length_bits t.BITS o.at t.value it.view.elements.now it.view.head it.view.len it.view.inside in
       let inside = it.inside in omega arith
 
-  pub left : bits_left it ≡ slice_range (seen it.view).bits it.indices.start it.indices.end
-  unfolding bits_left
+  pub left : remaining_bits it ≡ slice_range (seen it.view).bits it.indices.start it.indices.end
+  unfolding remaining_bits
   left = refl
 
-  pub left_none : it.indices.end ≤ it.indices.start → bits_left it ≡ []
-  unfolding bits_left
+  pub left_none : it.indices.end ≤ it.indices.start → remaining_bits it ≡ []
+  unfolding remaining_bits
   left_none none = range-none (seen it.view).bits it.indices.start it.indices.end none
 
   pub left_first : it.indices.start < it.indices.end
-      → bits_left it ≡ slice_index_or (seen it.view).bits it.indices.start false ∷ slice_range (seen it.view).bits (it.indices.start + 1) it.indices.end
-  unfolding bits_left
+      → remaining_bits it ≡ slice_index_or (seen it.view).bits it.indices.start false ∷ slice_range (seen it.view).bits (it.indices.start + 1) it.indices.end
+  unfolding remaining_bits
   left_first some = sym (range-front (seen it.view).bits it.indices.start it.indices.end false some long)
 
   pub left_last : it.indices.start < it.indices.end
-      → bits_left it ≡ slice_range (seen it.view).bits it.indices.start (it.indices.end - 1) ++ slice_index_or (seen it.view).bits (it.indices.end - 1) false ∷ []
-  unfolding bits_left
+      → remaining_bits it ≡ slice_range (seen it.view).bits it.indices.start (it.indices.end - 1) ++ slice_index_or (seen it.view).bits (it.indices.end - 1) false ∷ []
+  unfolding remaining_bits
   left_last some = range_last (seen it.view).bits it.indices.start it.indices.end false some long
 
-  pub left_length : length (bits_left it) ≡ it.indices.end - it.indices.start
-  unfolding bits_left
+  pub left_length : length (remaining_bits it) ≡ it.indices.end - it.indices.start
+  unfolding remaining_bits
   left_length = length-slice_range (seen it.view).bits it.indices.start it.indices.end long
 
 -- what a walk's steps are, for `using`
@@ -46,7 +46,7 @@ pub ruleset stepping = (left, left_none, left_first, left_last, left_length)
 
 module _ {T O : Type 0} {t : Store T} {o : Order O} where
   pub bits_yielded : (it : Iter T O t o) → YieldsBits it
-  bits_yielded it = record { front = λ p _. (run_of_first_by bit_of_ref bits_left p).1; back = λ p _. (run_of_last_by bit_of_ref bits_left p).1 }
+  bits_yielded it = record { front = λ p _. (run_of_first_by bit_of_ref remaining_bits p).1; back = λ p _. (run_of_last_by bit_of_ref remaining_bits p).1 }
 
   pub refs_yielded : (it : BitRefIter T O t o) → YieldsRefs it
   refs_yielded it = record { front = λ p _. (run_of_first_by (λ bit. bit.now) refs_left p).1; back = λ p _. (run_of_last_by (λ bit. bit.now) refs_left p).1 }

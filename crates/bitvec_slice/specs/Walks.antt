@@ -17,29 +17,29 @@ module _ {T O : Type 0} {t : Store T} {o : Order O} where
   abbrev pub walked : Iter T O t o → Seen T
   walked it = seen it.view
 
-  abbrev pub indices_left : Iter T O t o → Range ℕ
-  indices_left it = it.indices
+  abbrev pub index_range : Iter T O t o → Range ℕ
+  index_range it = it.indices
 
   -- these bits
-  unfoldable pub bits_left : Iter T O t o → List Bool
-  bits_left it = slice_range (seen it.view).bits it.indices.start it.indices.end
+  unfoldable pub remaining_bits : Iter T O t o → List Bool
+  remaining_bits it = slice_range (seen it.view).bits it.indices.start it.indices.end
 
   -- two walks have the same still to come
   pub record IsSameWalk (first second : Iter T O t o) : Type 0 where
-    pub bits : bits_left second ≡ bits_left first
+    pub bits : remaining_bits second ≡ remaining_bits first
     pub view : walked second ≡ walked first
-    pub indices : indices_left second ≡ indices_left first
+    pub indices : index_range second ≡ index_range first
 
   abbrev pub refs_left : BitRefIter T O t o → List Bool
-  refs_left it = bits_left it.bits
+  refs_left it = remaining_bits it.bits
 
   abbrev pub vals_left : BitValIter T O t o → List Bool
-  vals_left it = bits_left it.bits
+  vals_left it = remaining_bits it.bits
 
   -- what calls of `next`, or of `next_back`, give of such a walk is what is still to come, in its order, or from its end
   pub record YieldsBits (it : Iter T O t o) : Type 0 where
-    pub front : EveryRun (YieldsFirstBy (bit_of_ref {T = T} {O = O}) bits_left) (λ p. ItemsMapTo p bit_of_ref (bits_left p.from))
-    pub back : EveryRun (YieldsLastBy (bit_of_ref {T = T} {O = O}) bits_left) (λ p. ItemsMapToReversed p bit_of_ref (bits_left p.from))
+    pub front : EveryRun (YieldsFirstBy (bit_of_ref {T = T} {O = O}) remaining_bits) (λ p. ItemsMapTo p bit_of_ref (remaining_bits p.from))
+    pub back : EveryRun (YieldsLastBy (bit_of_ref {T = T} {O = O}) remaining_bits) (λ p. ItemsMapToReversed p bit_of_ref (remaining_bits p.from))
 
   pub record YieldsRefs (it : BitRefIter T O t o) : Type 0 where
     pub front : EveryRun (YieldsFirstRef refs_left) (λ p. ItemsMapTo p (λ bit. bit.now) (refs_left p.from))

@@ -132,7 +132,7 @@ fn region<T: BitStore, O: BitOrder>(
     tail: Option<Part>,
 ) -> BitDomain<BitSliceMut<'_, T, O>>
     requires cut { IsCutWithin T.BITS (length cells.old) (Across head start end tail) }
-    requires bounded { T.BITS * length cells.old ≤ max_bits }
+    requires fits { T.BITS * length cells.old ≤ max_bits }
     ensures { views_of_mut result ≡ views_in T.BITS O.at T.value cells.old (Across head start end tail) }
 {
     let (front, after) = cells.split_at_mut(end);

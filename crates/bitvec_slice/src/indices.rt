@@ -1,7 +1,7 @@
 //! Indices of a view, and ranges of them.
 ghost use Rattle.std.specs.Prelude.{◌≡◌, ◌+◌, ◌<◌, false, slice_index_or};
 
-use crate::touching::touched;
+use crate::touching::touched_range;
 use crate::{BitRef, BitRefMut, BitSlice, BitSliceIndex, BitSliceMut};
 use bitvec_elements::base::BitOrder;
 use bitvec_elements::bit_in;
@@ -109,7 +109,7 @@ impl<'a, T: BitStore, O: BitOrder> BitSliceMut<'a, T, O> {
         ensures part { IsRangeOf T.BITS (seen_mut self.old) range.start range.end (seen_mut result) }
     {
         let start = self.window().start + range.start;
-        let cells = touched::<T>(start, self.window().start + range.end);
+        let cells = touched_range::<T>(start, self.window().start + range.end);
         let elements = self.elements_part_mut(cells.start, cells.end);
         BitSliceMut::from_parts(
             elements,

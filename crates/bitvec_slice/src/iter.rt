@@ -15,7 +15,7 @@ use std::ops::Range;
 
 /// The bits of a view, one by one and from both ends: `iter()` makes it.
 ///
-/// Contracts see it as `bits_left`, the bits that are still to come.
+/// Contracts see it as `remaining_bits`, the bits that are still to come.
 #[derive(Drop)]
 pub struct Iter<'a, T: BitStore, O: BitOrder> {
     pub(crate) view: BitSlice<'a, T, O>,
@@ -24,22 +24,22 @@ pub struct Iter<'a, T: BitStore, O: BitOrder> {
 }
 
 impl<'a, T: BitStore, O: BitOrder> Iter<'a, T, O> {
-    ghost use Rattle.bitvec_slice.specs.Walks.{YieldsRefs, YieldsVals, bits_left, indices_left, refs_left, vals_left, walked};
+    ghost use Rattle.bitvec_slice.specs.Walks.{YieldsRefs, YieldsVals, index_range, refs_left, remaining_bits, vals_left, walked};
     ghost use Rattle.bitvec_slice.specs.Seen.{IsRangeOf};
 
     /// The bits that are still to come, as a view.
-    #[tactic(auto, unfolding(crate::specs::Walks::bits_left))]
+    #[tactic(auto, unfolding(crate::specs::Walks::remaining_bits))]
     pub fn as_bitslice(&self) -> BitSlice<'a, T, O>
-        ensures bits { (seen result).bits ≡ bits_left self.now }
-        ensures part { IsRangeOf T.BITS (walked self.now) (indices_left self.now).start (indices_left self.now).end (seen result) }
+        ensures bits { (seen result).bits ≡ remaining_bits self.now }
+        ensures part { IsRangeOf T.BITS (walked self.now) (index_range self.now).start (index_range self.now).end (seen result) }
     {
         self.view.into_part(self.indices.start..self.indices.end)
     }
 
     /// The same as [`Iter::as_bitslice`].
     pub fn as_ref(&self) -> BitSlice<'a, T, O>
-        ensures bits { (seen result).bits ≡ bits_left self.now }
-        ensures part { IsRangeOf T.BITS (walked self.now) (indices_left self.now).start (indices_left self.now).end (seen result) }
+        ensures bits { (seen result).bits ≡ remaining_bits self.now }
+        ensures part { IsRangeOf T.BITS (walked self.now) (index_range self.now).start (index_range self.now).end (seen result) }
     {
         self.as_bitslice()
     }
@@ -47,15 +47,15 @@ impl<'a, T: BitStore, O: BitOrder> Iter<'a, T, O> {
     /// The old name of [`Iter::as_bitslice`].
     #[deprecated]
     pub fn as_slice(&self) -> BitSlice<'a, T, O>
-        ensures bits { (seen result).bits ≡ bits_left self.now }
-        ensures part { IsRangeOf T.BITS (walked self.now) (indices_left self.now).start (indices_left self.now).end (seen result) }
+        ensures bits { (seen result).bits ≡ remaining_bits self.now }
+        ensures part { IsRangeOf T.BITS (walked self.now) (index_range self.now).start (index_range self.now).end (seen result) }
     {
         self.as_bitslice()
     }
 
     /// The bits that are still to come, as `&bool`.
     pub fn by_refs(self) -> BitRefIter<'a, T, O>
-        ensures bits { refs_left result ≡ bits_left self.entry }
+        ensures bits { refs_left result ≡ remaining_bits self.entry }
         ensures runs { YieldsRefs result }
     {
         BitRefIter { bits: self }
@@ -67,7 +67,7 @@ impl<'a, T: BitStore, O: BitOrder> Iter<'a, T, O> {
     /// bits.iter().by_vals().filter(|bit| *bit).count() % 2 == 1
     /// ```
     pub fn by_vals(self) -> BitValIter<'a, T, O>
-        ensures bits { vals_left result ≡ bits_left self.entry }
+        ensures bits { vals_left result ≡ remaining_bits self.entry }
         ensures runs { YieldsVals result }
     {
         BitValIter { bits: self }
@@ -76,7 +76,7 @@ impl<'a, T: BitStore, O: BitOrder> Iter<'a, T, O> {
     /// The old name of [`Iter::by_vals`].
     #[deprecated]
     pub fn copied(self) -> BitValIter<'a, T, O>
-        ensures bits { vals_left result ≡ bits_left self.entry }
+        ensures bits { vals_left result ≡ remaining_bits self.entry }
         ensures runs { YieldsVals result }
     {
         self.by_vals()
@@ -90,7 +90,7 @@ impl<'a, T: BitStore, O: BitOrder> Clone for Iter<'a, T, O> {
 
     ghost is_infallible = { λ _. ⊤ };
 
-    #[tactic(auto, unfolding(crate::specs::Walks::bits_left))]
+    #[tactic(auto, unfolding(crate::specs::Walks::remaining_bits))]
     fn clone(&self) -> Result<Self, AllocError> {
         Ok(Iter {
             view: self.view,
@@ -100,13 +100,13 @@ impl<'a, T: BitStore, O: BitOrder> Clone for Iter<'a, T, O> {
 }
 
 impl<'a, T: BitStore, O: BitOrder> Iterator for Iter<'a, T, O> {
-    ghost use Rattle.bitvec_slice.specs.Walks.{bits_left};
+    ghost use Rattle.bitvec_slice.specs.Walks.{remaining_bits};
 
     type Item = BitRef<'a, T, O>;
 
-    ghost next_gives = { YieldsFirstBy (λ bit. bit_of_ref bit) (λ it. bits_left it) };
+    ghost next_gives = { YieldsFirstBy (λ bit. bit_of_ref bit) (λ it. remaining_bits it) };
 
-    ghost remaining = { item_count (λ it. bits_left it) };
+    ghost remaining = { item_count (λ it. remaining_bits it) };
 
     /// The first of the bits that are still to come.
     #[tactic(auto, using(crate::specs::WalkLaws::stepping))]
@@ -117,9 +117,9 @@ impl<'a, T: BitStore, O: BitOrder> Iterator for Iter<'a, T, O> {
 
     #[tactic(auto, using(crate::specs::WalkLaws::stepping))]
     fn size_hint(&self) -> (usize, Option<usize>)
-        ensures lower { IsWithinCount result.0 (at_most (length (bits_left self.now))) }
-        ensures upper { IfSome result.1 (UpTo (at_most (length (bits_left self.now)))) }
-        ensures exact { result ≡ (length (bits_left self.now), Some (length (bits_left self.now))) }
+        ensures lower { IsWithinCount result.0 (at_most (length (remaining_bits self.now))) }
+        ensures upper { IfSome result.1 (UpTo (at_most (length (remaining_bits self.now)))) }
+        ensures exact { result ≡ (length (remaining_bits self.now), Some (length (remaining_bits self.now))) }
     {
         let len = self.len();
         (len, Some(len))
@@ -127,9 +127,9 @@ impl<'a, T: BitStore, O: BitOrder> Iterator for Iter<'a, T, O> {
 }
 
 impl<'a, T: BitStore, O: BitOrder> DoubleEndedIterator for Iter<'a, T, O> {
-    ghost use Rattle.bitvec_slice.specs.Walks.{bits_left};
+    ghost use Rattle.bitvec_slice.specs.Walks.{remaining_bits};
 
-    ghost next_back_gives = { YieldsLastBy (λ bit. bit_of_ref bit) (λ it. bits_left it) };
+    ghost next_back_gives = { YieldsLastBy (λ bit. bit_of_ref bit) (λ it. remaining_bits it) };
 
     /// The last of the bits that are still to come.
     #[tactic(auto, using(crate::specs::WalkLaws::stepping))]

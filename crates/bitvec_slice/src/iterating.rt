@@ -8,18 +8,18 @@ use bitvec_elements::store::BitStore;
 
 impl<'a, T: BitStore, O: BitOrder> BitSlice<'a, T, O> {
     ghost use Rattle.bitvec_slice.specs.Views.{seen};
-    ghost use Rattle.bitvec_slice.specs.Walks.{YieldsBits, bits_left, walked};
+    ghost use Rattle.bitvec_slice.specs.Walks.{YieldsBits, remaining_bits, walked};
 
     /// The bits, one by one.
     ///
     /// ```
     /// bits.iter().by_vals().filter(|bit| *bit).count() % 2 == 1
     /// ```
-    #[tactic(auto, unfolding(crate::specs::Walks::bits_left))]
+    #[tactic(auto, unfolding(crate::specs::Walks::remaining_bits))]
     pub fn iter(self) -> Iter<'a, T, O>
-        ensures bits { bits_left result ≡ (seen self.entry).bits }
+        ensures bits { remaining_bits result ≡ (seen self.entry).bits }
         ensures view { walked result ≡ seen self.entry }
-        ensures bound { length (bits_left result) ≤ max_bits }
+        ensures bound { length (remaining_bits result) ≤ max_bits }
         ensures runs { YieldsBits result }
     {
         let len = self.len();
@@ -32,13 +32,13 @@ impl<'a, T: BitStore, O: BitOrder> BitSlice<'a, T, O> {
 
 impl<'a, T: BitStore, O: BitOrder> BitSliceMut<'a, T, O> {
     ghost use Rattle.bitvec_slice.specs.Views.{seen_mut};
-    ghost use Rattle.bitvec_slice.specs.Walks.{YieldsBits, bits_left, walked};
+    ghost use Rattle.bitvec_slice.specs.Walks.{YieldsBits, remaining_bits, walked};
 
     /// The bits, one by one.
     pub fn iter(&self) -> Iter<'_, T, O>
-        ensures bits { bits_left result ≡ (seen_mut self.now).bits }
+        ensures bits { remaining_bits result ≡ (seen_mut self.now).bits }
         ensures view { walked result ≡ seen_mut self.now }
-        ensures bound { length (bits_left result) ≤ max_bits }
+        ensures bound { length (remaining_bits result) ≤ max_bits }
         ensures runs { YieldsBits result }
     {
         self.as_ref().iter()
@@ -47,13 +47,13 @@ impl<'a, T: BitStore, O: BitOrder> BitSliceMut<'a, T, O> {
 
 impl<'a, T: BitStore, O: BitOrder> IntoIterator for BitSlice<'a, T, O> {
     ghost use Rattle.bitvec_slice.specs.Views.{seen};
-    ghost use Rattle.bitvec_slice.specs.Walks.{YieldsBits, bits_left};
+    ghost use Rattle.bitvec_slice.specs.Walks.{YieldsBits, remaining_bits};
 
     type Item = BitRef<'a, T, O>;
 
     type IntoIter = Iter<'a, T, O>;
 
-    ghost into_iter_gives = { λ view it. (bits_left it ≡ (seen view).bits) × (length (bits_left it) ≤ max_bits) × YieldsBits it };
+    ghost into_iter_gives = { λ view it. (remaining_bits it ≡ (seen view).bits) × (length (remaining_bits it) ≤ max_bits) × YieldsBits it };
 
     fn into_iter(self) -> Iter<'a, T, O> {
         self.iter()

@@ -134,7 +134,7 @@ pub use iter::Iter;
 #[doc(hidden)]
 pub use raw_elements::RawElements;
 #[doc(hidden)]
-pub use touching::touched;
+pub use touching::touched_range;
 pub use view::BitSlice;
 pub use view_mut::BitSliceMut;
 #[doc(hidden)]

@@ -2,7 +2,7 @@
 ghost use Rattle.std.specs.Prelude.{◌≡◌, ◌+◌, ◌%◌, ◌<◌, ◌≤◌, ◌↔◌, IfSome, IsSome};
 
 use crate::BitSliceMut;
-use crate::touching::touched;
+use crate::touching::touched_range;
 use bitvec_elements::base::BitOrder;
 use bitvec_elements::store::BitStore;
 
@@ -51,14 +51,14 @@ impl<'a, T: BitStore, O: BitOrder> BitSliceMut<'a, T, O> {
     /// The bits before the index `mid`, which begins an element, and those from it on.
     fn into_halves(self, mid: usize) -> (Self, Self)
         requires edge { ((seen_mut self).window.start + mid) % T.BITS ≡ 0 }
-        requires inside { mid < (seen_mut self).window.len }
+        requires bound { mid < (seen_mut self).window.len }
         ensures front { IsRangeOf T.BITS (seen_mut self.entry) 0 mid (seen_mut result.0) }
         ensures rest { IsRangeOf T.BITS (seen_mut self.entry) mid (seen_mut self.entry).window.len (seen_mut result.1) }
     {
         let window = self.window();
         let middle = window.start + mid;
-        let front = touched::<T>(window.start, middle);
-        let rest = touched::<T>(middle, window.start + window.len);
+        let front = touched_range::<T>(window.start, middle);
+        let rest = touched_range::<T>(middle, window.start + window.len);
         let (before, after) = self.into_elements().split_at_mut(rest.start);
         let before = &mut before[front.start..];
         let after = &mut after[..rest.end - rest.start];

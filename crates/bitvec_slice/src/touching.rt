@@ -7,7 +7,7 @@ use std::ops::Range;
 
 /// The elements that the places from `start` up to `end` touch, for crates above. Condition:
 /// `start <= end`. The crate has no such call.
-pub fn touched<T: BitStore>(start: usize, end: usize) -> Range<usize>
+pub fn touched_range<T: BitStore>(start: usize, end: usize) -> Range<usize>
     requires { start ≤ end }
     ensures first { result.start ≡ first_touched T.BITS start }
     ensures end { result.end ≡ end_touched T.BITS end }

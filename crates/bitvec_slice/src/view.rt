@@ -3,7 +3,7 @@ ghost use Rattle.std.specs.Prelude.{◌≡◌, ◌+◌, ◌*◌, ◌≤◌, ◌=
 ghost use Rattle.bitvec_elements.specs.base.Window.{max_bits};
 
 use crate::bit_domain::bit_domain_of;
-use crate::touching::touched;
+use crate::touching::touched_range;
 use crate::{BitDomain, Domain};
 use bitvec_domain::domain_of;
 use bitvec_elements::base::{BitOrder, MAX_BITS, Window};
@@ -75,7 +75,7 @@ impl<'a, T: BitStore, O: BitOrder> BitSlice<'a, T, O> {
     #[doc(hidden)]
     pub fn from_parts(elements: &'a [T], head: usize, len: usize) -> Self
         requires inside { head + len ≤ T.BITS * length elements.now }
-        requires bounded { T.BITS * length elements.now ≤ max_bits }
+        requires fits { T.BITS * length elements.now ≤ max_bits }
         ensures { seen result ≡ shown T.BITS O.at T.value elements.now head len }
     {
         BitSlice {
@@ -170,7 +170,7 @@ impl<'a, T: BitStore, O: BitOrder> BitSlice<'a, T, O> {
         ensures { IsRangeOf T.BITS (seen self.entry) range.start range.end (seen result) }
     {
         let start = self.head + range.start;
-        let cells = touched::<T>(start, self.head + range.end);
+        let cells = touched_range::<T>(start, self.head + range.end);
         let elements = &self.elements[cells.start..cells.end];
         BitSlice::from_parts(
             elements,

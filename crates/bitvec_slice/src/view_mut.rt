@@ -3,7 +3,7 @@ ghost use Rattle.std.specs.Prelude.{◌≡◌, ◌+◌, ◌*◌, ◌≤◌, ◌=
 ghost use Rattle.bitvec_elements.specs.base.Window.{max_bits};
 
 use crate::bit_domain::bit_domain_mut_of;
-use crate::touching::touched;
+use crate::touching::touched_range;
 use crate::{BitDomain, BitSlice, Domain, DomainMut};
 use bitvec_domain::domain_mut_of;
 use bitvec_elements::base::{BitOrder, Window};
@@ -75,7 +75,7 @@ impl<'a, T: BitStore, O: BitOrder> BitSliceMut<'a, T, O> {
     #[doc(hidden)]
     pub fn from_parts(elements: &'a mut [T], head: usize, len: usize) -> Self
         requires inside { head + len ≤ T.BITS * length elements.old }
-        requires bounded { T.BITS * length elements.old ≤ max_bits }
+        requires fits { T.BITS * length elements.old ≤ max_bits }
         ensures view { seen_mut result ≡ shown T.BITS O.at T.value elements.old head len }
         ensures name { name_of result ≡ elements.entry.ghost_name }
     {
@@ -206,7 +206,7 @@ impl<'a, T: BitStore, O: BitOrder> BitSliceMut<'a, T, O> {
             mark: _,
         } = self;
         let start = head + range.start;
-        let cells = touched::<T>(start, head + range.end);
+        let cells = touched_range::<T>(start, head + range.end);
         let elements = &mut elements[cells.start..cells.end];
         BitSliceMut::from_parts(
             elements,

@@ -26,9 +26,9 @@ pub fn write_named<T: BitStore, O: BitOrder, W: fmt::Write>(
 
 /// The bits that are still to come, as `Iter([0, 1, 0])`.
 impl<'a, T: BitStore, O: BitOrder> fmt::Debug for Iter<'a, T, O> {
-    ghost use Rattle.bitvec_slice.specs.Walks.{bits_left};
+    ghost use Rattle.bitvec_slice.specs.Walks.{remaining_bits};
 
-    ghost debug_output = { λ it. debug_variant (codes "Iter") (Some (bits_text (bits_left it))) };
+    ghost debug_output = { λ it. debug_variant (codes "Iter") (Some (bits_text (remaining_bits it))) };
 
     fn fmt<W: fmt::Write>(&self, f: &mut fmt::Formatter<W>) -> fmt::Result {
         write_named("Iter", self.as_bitslice(), f)

@@ -8,7 +8,7 @@ use Rattle.std.specs.declared.ops.Range.{Range}
 use Rattle.bitvec_slice.specs.Indices.{HasRange}
 use Rattle.bitvec_slice.specs.Seen.{IsRangeOf, Seen}
 use Rattle.bitvec_split.specs.Asked.{MayAsk}
-use Rattle.bitvec_split.specs.Splits.{CountedBy, Limited, RestBy, Row, StepBy, row_of}
+use Rattle.bitvec_split.specs.Splits.{Limited, LimitedBy, RestBy, SplitRule, StepBy, row_of}
 
 -- the view, the indices `from` up to `to` of the bits that no piece has yet, and the rest as of a shared split
 pub record LeftIn (T P : Type 0) : Type 0 where
@@ -18,9 +18,9 @@ pub record LeftIn (T P : Type 0) : Type 0 where
   pub finished : Bool
   pub pred : P
 
--- of a counted split, also how many pieces it may still lend
-abbrev pub CountedIn : (T P : Type 0) → Type 0
-CountedIn T P = Limited (LeftIn T P)
+-- of a limited split, also how many pieces it may still lend
+abbrev pub LimitedSplitIn : (T P : Type 0) → Type 0
+LimitedSplitIn T P = Limited (LeftIn T P)
 
 module _ {T P : Type 0} where
   abbrev pub unsplit_in : Bool → Seen T → P → LeftIn T P
@@ -33,8 +33,8 @@ module _ {T P : Type 0} where
   abbrev pub most_in : LeftIn T P → ℕ
   most_in s = if s.finished then 0 else s.to - s.from + 1
 
-  abbrev pub counted_most_in : CountedIn T P → ℕ
-  counted_most_in s = min (most_in s.left) s.count
+  abbrev pub limited_most_in : LimitedSplitIn T P → ℕ
+  limited_most_in s = min (most_in s.left) s.count
 
   -- the bits of which pieces are still to come
   abbrev pub uncut_in : LeftIn T P → List Bool
@@ -66,7 +66,7 @@ module _ {T P : Type 0} (g : Mut P (ℕ × (Bor Bool × Unit {0})) Bool) where
   MayGoOnIn s = always_mut g s.pred ⊎ MayAsk g (s.to - s.from) s.pred
 
   -- as `SplitStep`, of ranges of the view
-  abbrev pub SplitStepIn : Bool → Row → LeftIn T P → Option (Range ℕ) → LeftIn T P → Type 0
+  abbrev pub SplitStepIn : Bool → SplitRule → LeftIn T P → Option (Range ℕ) → LeftIn T P → Type 0
   SplitStepIn inclusive row s result t =
       StepBy s.finished (t ≡ s) (λ piece. GivesAllIn s piece t) g (slice_range s.view.bits s.from s.to) s.pred t.pred (λ range rest piece. GivesRangeIn inclusive range rest s piece t) row result
 
@@ -77,14 +77,14 @@ module _ {T P : Type 0} (g : Mut P (ℕ × (Bor Bool × Unit {0})) Bool) where
   SplitNextBackIn inclusive reversed s result t = SplitStepIn inclusive (row_of inclusive (not reversed) (s.to - s.from)) s result t
 
   -- of a split that may lend `count` pieces more, what a call makes of all but that number
-  abbrev pub CountedStepIn : Bool → Bool → ℕ → LeftIn T P → Option (Range ℕ) → LeftIn T P → Type 0
-  CountedStepIn inclusive reversed count s result t =
+  abbrev pub LimitedStepIn : Bool → Bool → ℕ → LeftIn T P → Option (Range ℕ) → LeftIn T P → Type 0
+  LimitedStepIn inclusive reversed count s result t =
       MatchOption result (((count ≡ 0) ⊎ (s.finished ≡ true)) × (t ≡ s))
       (λ piece. (0 < count) × MatchBool (count == 1) (SplitRestIn s (Some piece) t) (SplitNextIn inclusive reversed s (Some piece) t))
 
-  abbrev pub CountedNextIn : Bool → Bool → CountedIn T P → Option (Range ℕ) → CountedIn T P → Type 0
-  CountedNextIn inclusive reversed s result t =
-      CountedBy (λ left. left.finished) (λ left piece rest. SplitRestIn left (Some piece) rest) (λ left piece rest. SplitNextIn inclusive reversed left (Some piece) rest) s result t
+  abbrev pub LimitedNextIn : Bool → Bool → LimitedSplitIn T P → Option (Range ℕ) → LimitedSplitIn T P → Type 0
+  LimitedNextIn inclusive reversed s result t =
+      LimitedBy (λ left. left.finished) (λ left piece rest. SplitRestIn left (Some piece) rest) (λ left piece rest. SplitNextIn inclusive reversed left (Some piece) rest) s result t
 
 -- a range, where one was found
 abbrev pub piece_if : Bool → Range ℕ → Option (Range ℕ)

@@ -4,13 +4,13 @@ pub mod store
 pub mod AnyLender
 pub mod Asked
 pub mod AskedLaws
-pub mod CountedLending
 pub mod CourseLaws
 pub mod Courses
 pub mod FoundLaws
 pub mod Lent
 pub mod LentLaws
 pub mod LentViews
+pub mod LimitedLending
 pub mod SplitLaws
 pub mod Splits
 pub mod SplitsLending

@@ -13,13 +13,13 @@ pub record Left (T P : Type 0) : Type 0 where
   pub finished : Bool
   pub pred : P
 
--- of a counted split, what is left and how many pieces it may still give
+-- of a limited split, what is left and how many pieces it may still give
 pub record Limited (S : Type 0) : Type 0 where
   pub left : S
   pub count : ℕ
 
-abbrev pub Counted : (T P : Type 0) → Type 0
-Counted T P = Limited (Left T P)
+abbrev pub LimitedSplit : (T P : Type 0) → Type 0
+LimitedSplit T P = Limited (Left T P)
 
 module _ {T P : Type 0} where
   -- a split of all bits of a view, which is finished if it is inclusive and the view is empty
@@ -33,8 +33,8 @@ module _ {T P : Type 0} where
   abbrev pub most : Left T P → ℕ
   most s = if s.finished then 0 else s.rest.window.len + 1
 
-  abbrev pub counted_most : Counted T P → ℕ
-  counted_most s = min (most s.left) s.count
+  abbrev pub limited_most : LimitedSplit T P → ℕ
+  limited_most s = min (most s.left) s.count
 
   -- the bits of which pieces are still to come
   abbrev pub uncut : Left T P → List Bool
@@ -54,21 +54,21 @@ asked_behind inclusive n = if inclusive then n - 1 else n
 
 -- How a call goes about n bits: which indices it asks about, and where after a yes at j the piece lies,
 -- and what is left.
-pub record Row : Type 0 where
+pub record SplitRule : Type 0 where
   pub asks : List ℕ
   pub piece : ℕ → ℕ × ℕ
   pub keeps : ℕ → ℕ × ℕ
 
 -- from the front: the bits before the first match are the piece, and those behind it are left
-abbrev pub front : Bool → ℕ → Row
+abbrev pub front : Bool → ℕ → SplitRule
 front inclusive n = record { asks = upward n; piece = λ j. (0, end_of inclusive j); keeps = λ j. (j + 1, n) }
 
 -- from the back: those behind the last match are the piece; an inclusive split doesn't ask about the last bit
-abbrev pub back : Bool → ℕ → Row
+abbrev pub back : Bool → ℕ → SplitRule
 back inclusive n = record { asks = downward (asked_behind inclusive n); piece = λ j. (j + 1, n); keeps = λ j. (0, end_of inclusive j) }
 
 -- a reversed split exchanges its ends
-abbrev pub row_of : Bool → Bool → ℕ → Row
+abbrev pub row_of : Bool → Bool → ℕ → SplitRule
 row_of inclusive reversed n = if reversed then back inclusive n else front inclusive n
 
 -- how many of n bits a call asks about at most
@@ -76,7 +76,7 @@ abbrev pub asked_of : Bool → Bool → ℕ → ℕ
 asked_of inclusive reversed n = if reversed then asked_behind inclusive n else n
 
 -- the piece and what is left where the match is at j are those of the row
-pub record IsCutBy (row : Row) (j : ℕ) (piece rest : Range ℕ) : Type 0 where
+pub record IsCutBy (row : SplitRule) (j : ℕ) (piece rest : Range ℕ) : Type 0 where
   pub start : piece.start ≡ (row.piece j).0
   pub end : piece.end ≡ (row.piece j).1
   pub from : rest.start ≡ (row.keeps j).0
@@ -101,16 +101,16 @@ module _ {X : Type 0} (finished : Bool) (same : Type 0) (all : X → Type 0) whe
   -- A finished split gives nothing, and asks nothing. Any other asks as the row says about the bits that
   -- are left, by a predicate that is `next` then, and gives and keeps the row's ranges of them at the first
   -- yes; with no yes it gives all.
-  abbrev pub StepBy : {P : Type 0} → Mut P (ℕ × (Bor Bool × Unit {0})) Bool → List Bool → P → P → (ℕ × ℕ → ℕ × ℕ → X → Type 0) → Row → Option X → Type 0
+  abbrev pub StepBy : {P : Type 0} → Mut P (ℕ × (Bor Bool × Unit {0})) Bool → List Bool → P → P → (ℕ × ℕ → ℕ × ℕ → X → Type 0) → SplitRule → Option X → Type 0
   StepBy g bits pred next ranges row result =
       MatchOption result ((finished ≡ true) × same)
       (λ piece. (finished ≡ false) × ((found : Option ℕ) × Asked g bits pred row.asks found next
       × MatchOption found (all piece) (λ j. ranges (row.piece j) (row.keeps j) piece)))
 
--- A counted split gives nothing where it may give no piece more; the last that it may give is all that is
+-- A limited split gives nothing where it may give no piece more; the last that it may give is all that is
 -- left, unasked; any other it gives as the plain split does. Each piece takes one from the count.
-abbrev pub CountedBy : {S X : Type 0} → (S → Bool) → (S → X → S → Type 0) → (S → X → S → Type 0) → Limited S → Option X → Limited S → Type 0
-CountedBy finished rest next s result t =
+abbrev pub LimitedBy : {S X : Type 0} → (S → Bool) → (S → X → S → Type 0) → (S → X → S → Type 0) → Limited S → Option X → Limited S → Type 0
+LimitedBy finished rest next s result t =
     MatchOption result (((s.count ≡ 0) ⊎ (finished s.left ≡ true)) × (t ≡ s))
     (λ piece. (0 < s.count) × (t.count ≡ s.count - 1)
     × MatchBool (s.count == 1) (rest s.left piece t.left)
@@ -136,7 +136,7 @@ module _ {T P : Type 0} (b : ℕ) where
 
 module _ {T P : Type 0} (b : ℕ) (g : Mut P (ℕ × (Bor Bool × Unit {0})) Bool) where
   -- a call by a row
-  abbrev pub SplitStep : Bool → Row → Left T P → Option (Seen T) → Left T P → Type 0
+  abbrev pub SplitStep : Bool → SplitRule → Left T P → Option (Seen T) → Left T P → Type 0
   SplitStep inclusive row s result t =
       StepBy s.finished (t ≡ s) (λ piece. GivesAll s piece t) g s.rest.bits s.pred t.pred (λ range rest piece. GivesRange b inclusive range rest s piece t) row result
 
@@ -147,7 +147,7 @@ module _ {T P : Type 0} (b : ℕ) (g : Mut P (ℕ × (Bor Bool × Unit {0})) Boo
   abbrev pub SplitNextBack : Bool → Bool → Left T P → Option (Seen T) → Left T P → Type 0
   SplitNextBack inclusive reversed s result t = SplitStep inclusive (row_of inclusive (not reversed) s.rest.window.len) s result t
 
-  -- a call of a counted split
-  abbrev pub CountedNext : Bool → Bool → Counted T P → Option (Seen T) → Counted T P → Type 0
-  CountedNext inclusive reversed s result t =
-      CountedBy (λ left. left.finished) (λ left piece rest. SplitRest left (Some piece) rest) (λ left piece rest. SplitNext inclusive reversed left (Some piece) rest) s result t
+  -- a call of a limited split
+  abbrev pub LimitedNext : Bool → Bool → LimitedSplit T P → Option (Seen T) → LimitedSplit T P → Type 0
+  LimitedNext inclusive reversed s result t =
+      LimitedBy (λ left. left.finished) (λ left piece rest. SplitRest left (Some piece) rest) (λ left piece rest. SplitNext inclusive reversed left (Some piece) rest) s result t

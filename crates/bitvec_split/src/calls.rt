@@ -2,7 +2,7 @@
 ghost use Rattle.std.specs.Prelude.{◌≡◌, false, true};
 ghost use Rattle.bitvec_split.specs.Splits.{unsplit};
 
-use crate::{CountedSplitWalk, RSplit, RSplitN, Split, SplitInclusive, SplitN, SplitWalk};
+use crate::{LimitedSplitWalk, RSplit, RSplitN, Split, SplitInclusive, SplitN, SplitWalk};
 use bitvec_slice::base::BitOrder;
 use bitvec_slice::store::BitStore;
 use bitvec_slice::{BitSlice, BitSliceMut};
@@ -27,10 +27,10 @@ pub trait SplitCalls<T, P> {
     type RSplit: SplitWalk<T, P>;
 
     /// What `splitn` makes.
-    type SplitN: CountedSplitWalk<T, P>;
+    type SplitN: LimitedSplitWalk<T, P>;
 
     /// What `rsplitn` makes.
-    type RSplitN: CountedSplitWalk<T, P>;
+    type RSplitN: LimitedSplitWalk<T, P>;
 
     // What contracts see of the view.
     ghost shows: { Self → Seen T };
@@ -69,11 +69,11 @@ pub trait SplitCalls<T, P> {
     /// assert!(rt; view.splitn(0, |_, bit| *bit).size_hint() == (0, Some(0)));
     /// ```
     fn splitn(self, count: usize, pred: P) -> Self::SplitN
-        ensures { Self.SplitN.counted result ≡ record { left = unsplit false (shows self) pred; count = count } };
+        ensures { Self.SplitN.limited result ≡ record { left = unsplit false (shows self) pred; count = count } };
 
     /// The first pieces of `rsplit`, `count` at most, as for `splitn`.
     fn rsplitn(self, count: usize, pred: P) -> Self::RSplitN
-        ensures { Self.RSplitN.counted result ≡ record { left = unsplit false (shows self) pred; count = count } };
+        ensures { Self.RSplitN.limited result ≡ record { left = unsplit false (shows self) pred; count = count } };
 }
 
 impl<'a, T: BitStore, O: BitOrder, P: FnMut(usize, &bool) -> bool> SplitCalls<T, P>

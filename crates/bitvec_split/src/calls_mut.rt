@@ -12,7 +12,7 @@ use bitvec_slice::store::BitStore;
 /// long as the split is; afterwards a caller knows its window and its number of elements.
 pub trait SplitCallsMut<T: BitStore, O: BitOrder> {
     ghost use Rattle.bitvec_slice.specs.Seen.{Seen};
-    ghost use Rattle.bitvec_split.specs.LentViews.{counted_in, left_in, name_of_counted, name_of_splits};
+    ghost use Rattle.bitvec_split.specs.LentViews.{left_in, limited_in, name_of_limited, name_of_splits};
 
     // What contracts see of the view.
     ghost shows: { Self → Seen T };
@@ -63,8 +63,8 @@ pub trait SplitCallsMut<T: BitStore, O: BitOrder> {
         count: usize,
         pred: P,
     ) -> SplitNMut<'_, T, O, P>
-        ensures* writes_back { sem 𝓛 (follows Self.row (Array T.row 0) self.entry.ghost_name (name_of_counted result) (with_elements self.old)) }
-        ensures left { counted_in result ≡ record { left = unsplit_in false (shows self.old) pred; count = count } };
+        ensures* writes_back { sem 𝓛 (follows Self.row (Array T.row 0) self.entry.ghost_name (name_of_limited result) (with_elements self.old)) }
+        ensures left { limited_in result ≡ record { left = unsplit_in false (shows self.old) pred; count = count } };
 
     /// The first pieces of `rsplit_mut`, `count` at most, as for `splitn_mut`.
     ///
@@ -77,8 +77,8 @@ pub trait SplitCallsMut<T: BitStore, O: BitOrder> {
         count: usize,
         pred: P,
     ) -> RSplitNMut<'_, T, O, P>
-        ensures* writes_back { sem 𝓛 (follows Self.row (Array T.row 0) self.entry.ghost_name (name_of_counted result) (with_elements self.old)) }
-        ensures left { counted_in result ≡ record { left = unsplit_in false (shows self.old) pred; count = count } };
+        ensures* writes_back { sem 𝓛 (follows Self.row (Array T.row 0) self.entry.ghost_name (name_of_limited result) (with_elements self.old)) }
+        ensures left { limited_in result ≡ record { left = unsplit_in false (shows self.old) pred; count = count } };
 }
 
 impl<'a, T: BitStore, O: BitOrder> SplitCallsMut<T, O> for BitSliceMut<'a, T, O> {

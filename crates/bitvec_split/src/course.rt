@@ -4,7 +4,7 @@ ghost use Rattle.bitvec_slice.specs.Seen.{shown};
 ghost use Rattle.bitvec_slice.specs.Views.{seen};
 ghost use Rattle.bitvec_slice.specs.base.Window.{max_bits};
 ghost use Rattle.bitvec_split.specs.Courses.{left_on};
-ghost use Rattle.bitvec_split.specs.Lent.{CountedStepIn, MayGoOnIn, SplitNextBackIn, SplitNextIn, SplitRestIn, SplitStepIn, StaysIn, least_in, most_in, uncut_in, unsplit_in};
+ghost use Rattle.bitvec_split.specs.Lent.{LimitedStepIn, MayGoOnIn, SplitNextBackIn, SplitNextIn, SplitRestIn, SplitStepIn, StaysIn, least_in, most_in, uncut_in, unsplit_in};
 ghost use Rattle.bitvec_split.specs.Splits.{row_of};
 
 use crate::Way;
@@ -133,14 +133,14 @@ impl<P: FnMut(usize, &bool) -> bool, W: Way> Course<P, W> {
     }
 
     /// The next piece of a split that may lend `count` more, as a range of the view.
-    pub(crate) fn step_counted<T: BitStore, O: BitOrder>(
+    pub(crate) fn step_limited<T: BitStore, O: BitOrder>(
         &mut self,
         bits: BitSlice<'_, T, O>,
         count: usize,
     ) -> Option<Range<usize>>
         requires { MayGoOnIn P.FnMut (left_on (seen bits) self.old) }
         ensures stays { StaysIn (left_on (seen bits.entry) self.old) result (left_on (seen bits.entry) self.new) }
-        ensures piece { CountedStepIn P.FnMut W.INCLUSIVE W.REVERSED count (left_on (seen bits.entry) self.old) result (left_on (seen bits.entry) self.new) }
+        ensures piece { LimitedStepIn P.FnMut W.INCLUSIVE W.REVERSED count (left_on (seen bits.entry) self.old) result (left_on (seen bits.entry) self.new) }
     {
         let range = match count {
             0 => None,
@@ -172,7 +172,7 @@ pub(crate) fn look<'s, T: BitStore, O: BitOrder>(
     len: usize,
 ) -> BitSlice<'s, T, O>
     requires inside { head + len ≤ T.BITS * length elements.now.now }
-    requires bounded { T.BITS * length elements.now.now ≤ max_bits }
+    requires fits { T.BITS * length elements.now.now ≤ max_bits }
     ensures { seen result ≡ shown T.BITS O.at T.value elements.now.now head len }
 {
     BitSlice::from_parts(elements, head, len)

@@ -6,7 +6,7 @@ use crate::course::{Course, look};
 use crate::{Forward, Inclusive, Reversed, Way};
 use bitvec_slice::base::{BitOrder, Window};
 use bitvec_slice::store::BitStore;
-use bitvec_slice::{BitSlice, BitSliceMut, RawElements, touched};
+use bitvec_slice::{BitSlice, BitSliceMut, RawElements, touched_range};
 use std::marker::PhantomData;
 use std::ops::Range;
 
@@ -67,7 +67,7 @@ impl<'a, T: BitStore, O: BitOrder, P: FnMut(usize, &bool) -> bool, W: Way> Split
 
     fn from_parts(elements: &'a mut [T], window: Window, pred: P) -> Self
         requires inside { window.start + window.len ≤ T.BITS * length elements.old }
-        requires bounded { T.BITS * length elements.old ≤ max_bits }
+        requires fits { T.BITS * length elements.old ≤ max_bits }
         ensures left { left_in result ≡ unsplit_in W.INCLUSIVE (shown T.BITS O.at T.value elements.old window.start window.len) pred }
         ensures name { name_of_splits result ≡ elements.entry.ghost_name }
     {
@@ -182,7 +182,7 @@ impl<'a, T: BitStore, O: BitOrder, P, W> SplitsMut<'a, T, O, P, W> {
         ensures part { IsRangeOf T.BITS (left_in self.old).view from to (seen_mut result) }
     {
         let start = self.head + from;
-        let cells = touched::<T>(start, self.head + to);
+        let cells = touched_range::<T>(start, self.head + to);
         let elements = self.elements_part_mut(cells.start, cells.end);
         BitSliceMut::from_parts(elements, start % (T::BITS as usize), to - from)
     }

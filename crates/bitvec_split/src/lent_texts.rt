@@ -25,9 +25,9 @@ impl<'a, T: BitStore, O: BitOrder, P, W> fmt::Debug for SplitsMut<'a, T, O, P, W
 
 /// The bits that no piece has yet, and how many pieces may come, as `SplitsNMut([0, 1, 0], 2)`.
 impl<'a, T: BitStore, O: BitOrder, P, W> fmt::Debug for SplitsNMut<'a, T, O, P, W> {
-    ghost use Rattle.bitvec_split.specs.LentViews.{counted_in};
+    ghost use Rattle.bitvec_split.specs.LentViews.{limited_in};
 
-    ghost debug_output = { λ s. debug_variant (codes "SplitsNMut") (Some (bits_text (uncut_in (counted_in s).left) ++ (comma ++ decimal (counted_in s).count))) };
+    ghost debug_output = { λ s. debug_variant (codes "SplitsNMut") (Some (bits_text (uncut_in (limited_in s).left) ++ (comma ++ decimal (limited_in s).count))) };
 
     fn fmt<V: fmt::Write>(&self, f: &mut fmt::Formatter<V>) -> fmt::Result {
         f.write_str("SplitsNMut")?;
@@ -38,10 +38,10 @@ impl<'a, T: BitStore, O: BitOrder, P, W> fmt::Debug for SplitsNMut<'a, T, O, P, 
 }
 
 impl<'a, T: BitStore, O: BitOrder, P, W> SplitsNMut<'a, T, O, P, W> {
-    ghost use Rattle.bitvec_split.specs.LentViews.{counted_in};
+    ghost use Rattle.bitvec_split.specs.LentViews.{limited_in};
 
     fn write_left<V: fmt::Write>(&self, f: &mut fmt::Formatter<V>) -> fmt::Result
-        ensures { WritesOnOk V.write_str_gives f.old result (bits_text (uncut_in (counted_in self.now).left) ++ (comma ++ decimal (counted_in self.now).count)) f.new }
+        ensures { WritesOnOk V.write_str_gives f.old result (bits_text (uncut_in (limited_in self.now).left) ++ (comma ++ decimal (limited_in self.now).count)) f.new }
     {
         let bits = look::<T, O>(&self.elements, self.head, self.len);
         fmt::Display::fmt(&self.course.uncut(bits), f)?;

@@ -4,11 +4,11 @@
 mod asking;
 mod calls;
 mod calls_mut;
-mod counted_lending;
-mod counting;
 mod course;
 mod lending;
 mod lent_texts;
+mod limited_lending;
+mod limiting;
 mod rows;
 mod splitting;
 mod texts;
@@ -32,11 +32,11 @@ pub mod store {
 
 pub use calls::SplitCalls;
 pub use calls_mut::SplitCallsMut;
-pub use counted_lending::{RSplitNMut, SplitNMut, SplitsNMut};
-pub use counting::{RSplitN, SplitN, SplitsN};
 pub use lending::{RSplitMut, SplitInclusiveMut, SplitMut, SplitsMut};
+pub use limited_lending::{RSplitNMut, SplitNMut, SplitsNMut};
+pub use limiting::{RSplitN, SplitN, SplitsN};
 #[doc(hidden)]
 pub use rows::{ask_row, cut_row};
 pub use splitting::{RSplit, Split, SplitInclusive, Splits};
-pub use walks::{CountedSplitWalk, SplitWalk};
+pub use walks::{LimitedSplitWalk, SplitWalk};
 pub use ways::{Forward, Inclusive, Reversed, Way};

@@ -38,9 +38,9 @@ impl<'a, T: BitStore, O: BitOrder, P, W> fmt::Debug for Splits<'a, T, O, P, W> {
 
 /// The bits that no piece has yet, and how many pieces may come, as `SplitsN([0, 1, 0], 2)`.
 impl<'a, T: BitStore, O: BitOrder, P, W> fmt::Debug for SplitsN<'a, T, O, P, W> {
-    ghost use Rattle.bitvec_split.specs.Views.{counted_of};
+    ghost use Rattle.bitvec_split.specs.Views.{limited_of};
 
-    ghost debug_output = { λ s. debug_variant (codes "SplitsN") (Some (bits_text (uncut (counted_of s).left) ++ (comma ++ decimal (counted_of s).count))) };
+    ghost debug_output = { λ s. debug_variant (codes "SplitsN") (Some (bits_text (uncut (limited_of s).left) ++ (comma ++ decimal (limited_of s).count))) };
 
     fn fmt<V: fmt::Write>(&self, f: &mut fmt::Formatter<V>) -> fmt::Result {
         f.write_str("SplitsN")?;
@@ -51,10 +51,10 @@ impl<'a, T: BitStore, O: BitOrder, P, W> fmt::Debug for SplitsN<'a, T, O, P, W> 
 }
 
 impl<'a, T: BitStore, O: BitOrder, P, W> SplitsN<'a, T, O, P, W> {
-    ghost use Rattle.bitvec_split.specs.Views.{counted_of};
+    ghost use Rattle.bitvec_split.specs.Views.{limited_of};
 
     fn write_left<V: fmt::Write>(&self, f: &mut fmt::Formatter<V>) -> fmt::Result
-        ensures { WritesOnOk V.write_str_gives f.old result (bits_text (uncut (counted_of self.now).left) ++ (comma ++ decimal (counted_of self.now).count)) f.new }
+        ensures { WritesOnOk V.write_str_gives f.old result (bits_text (uncut (limited_of self.now).left) ++ (comma ++ decimal (limited_of self.now).count)) f.new }
     {
         fmt::Display::fmt(&self.parts.uncut(), f)?;
         f.write_str(", ")?;

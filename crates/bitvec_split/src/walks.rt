@@ -13,11 +13,11 @@ pub trait SplitWalk<T, P> {
 }
 
 /// A split into a number of pieces at most, as [`SplitWalk`].
-pub trait CountedSplitWalk<T, P> {
-    ghost use Rattle.bitvec_split.specs.Splits.{Counted};
+pub trait LimitedSplitWalk<T, P> {
+    ghost use Rattle.bitvec_split.specs.Splits.{LimitedSplit};
 
     // The same, and how many pieces it may still give.
-    ghost counted: { Self → Counted T P };
+    ghost limited: { Self → LimitedSplit T P };
 }
 
 impl<'a, T: BitStore, O: BitOrder, P, W> SplitWalk<T, P> for Splits<'a, T, O, P, W> {
@@ -26,8 +26,8 @@ impl<'a, T: BitStore, O: BitOrder, P, W> SplitWalk<T, P> for Splits<'a, T, O, P,
     ghost left = { λ it. left_of it };
 }
 
-impl<'a, T: BitStore, O: BitOrder, P, W> CountedSplitWalk<T, P> for SplitsN<'a, T, O, P, W> {
-    ghost use Rattle.bitvec_split.specs.Views.{counted_of};
+impl<'a, T: BitStore, O: BitOrder, P, W> LimitedSplitWalk<T, P> for SplitsN<'a, T, O, P, W> {
+    ghost use Rattle.bitvec_split.specs.Views.{limited_of};
 
-    ghost counted = { λ it. counted_of it };
+    ghost limited = { λ it. limited_of it };
 }

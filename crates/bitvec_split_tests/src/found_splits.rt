@@ -118,7 +118,7 @@ fn pieces_by_advance_from_both_ends(rt: HostRuntime) {
 }
 
 /// Splits the bits 3 up to 21 into a number of pieces at most.
-fn find_counted(bytes: &mut [u8; 3], count: usize) -> Found {
+fn find_limited(bytes: &mut [u8; 3], count: usize) -> Found {
     let mut lengths = [None; 30];
     let mut asked = Asked::new();
     let mut view = BitSliceMut::<u8, Lsb0>::from_slice_mut(bytes).into_part(3..21);
@@ -137,11 +137,11 @@ fn find_counted(bytes: &mut [u8; 3], count: usize) -> Found {
 }
 
 #[test]
-fn counted_pieces_by_advance(rt: HostRuntime) {
+fn limited_pieces_by_advance(rt: HostRuntime) {
     for bytes in MEMORIES {
         for count in [0, 1, 2, 5, 30] {
             let mut after = bytes;
-            let (lengths, asked, finished) = find_counted(&mut after, count);
+            let (lengths, asked, finished) = find_limited(&mut after, count);
             let (wanted, model) = split_list_into(bytes, count, false);
             assert!(rt; lengths == wanted, "{count}");
             assert!(rt; asked == model.asked, "{count}");

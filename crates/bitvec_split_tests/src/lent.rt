@@ -65,7 +65,7 @@ fn the_first_pieces_are_flipped(rt: HostRuntime) {
 
 /// Flips the pieces of a split into two at most, and then the only one of a split into one, from the
 /// back, which may come as the result says.
-fn flip_counted<T: BitStore, O: BitOrder>(elements: &mut [T]) -> (usize, Option<usize>)
+fn flip_limited<T: BitStore, O: BitOrder>(elements: &mut [T]) -> (usize, Option<usize>)
     requires { T.BITS * length elements.old ≤ max_bits }
 {
     let mut view = BitSliceMut::<T, O>::from_slice_mut(elements);
@@ -86,9 +86,9 @@ fn flip_counted<T: BitStore, O: BitOrder>(elements: &mut [T]) -> (usize, Option<
 }
 
 #[test]
-fn counted_pieces_are_flipped(rt: HostRuntime) {
+fn limited_pieces_are_flipped(rt: HostRuntime) {
     // 0, 1, 0, 0, 1, 0, 1, 0; then 1, 1, 1, 1, 0, 1, 0, 1
     let mut cells = [0x52u8];
-    assert!(rt; flip_counted::<u8, Lsb0>(&mut cells) == (1, Some(1)));
+    assert!(rt; flip_limited::<u8, Lsb0>(&mut cells) == (1, Some(1)));
     assert!(rt; cells == [0x50]);
 }

@@ -294,7 +294,7 @@ pub(crate) fn split_list_into(bytes: [u8; 3], count: usize, reversed: bool) -> (
 }
 
 #[test]
-fn counted_pieces_by_next_mut(rt: HostRuntime) {
+fn limited_pieces_by_next_mut(rt: HostRuntime) {
     for bytes in MEMORIES {
         for count in [0, 1, 2, 5, 30] {
             for reversed in [false, true] {

@@ -68,7 +68,7 @@ fn inclusive_splits_at_ones(rt: HostRuntime) {
 }
 
 #[test]
-fn counted_splits_at_ones(rt: HostRuntime) {
+fn limited_splits_at_ones(rt: HostRuntime) {
     // 0, 1, 0, 0, 1
     let mut cells = [0x48u8];
     let view = BitSliceMut::<u8, Msb0>::from_slice_mut(&mut cells).into_part(0..5);

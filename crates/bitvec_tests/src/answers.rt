@@ -30,7 +30,7 @@ pub fn write_and_read<T: BitStore, O: SliceOrder>(
     other: usize,
     bit: bool,
 ) -> (bool, bool)
-    requires index { index < (seen_mut view.old).window.len }
+    requires bound { index < (seen_mut view.old).window.len }
     requires other { other < (seen_mut view.old).window.len }
     requires apart { other ≢ index }
     ensures written { result.0 ≡ bit }

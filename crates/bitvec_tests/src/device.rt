@@ -106,7 +106,7 @@ impl Device {
 /// The words with one bit made `bit`.
 fn with_bit(words: &mut [u32], index: usize, bit: bool) -> &mut [u32]
     requires fits { 32 * length words.old ≤ max_bits }
-    requires index { index < 32 * length words.old }
+    requires bound { index < 32 * length words.old }
     ensures bits { lsb0_bits 32 result.now ≡ slice_set (lsb0_bits 32 words.old) index bit }
     ensures name { result.ghost_name ≡ words.entry.ghost_name }
 {
@@ -118,7 +118,7 @@ fn with_bit(words: &mut [u32], index: usize, bit: bool) -> &mut [u32]
 /// Makes one bit of the words `bit`. Condition: the index is one of their bits'.
 fn set_bit(words: &mut [u32], index: usize, bit: bool)
     requires fits { 32 * length words.old ≤ max_bits }
-    requires index { index < 32 * length words.old }
+    requires bound { index < 32 * length words.old }
     ensures { lsb0_bits 32 words.new ≡ slice_set (lsb0_bits 32 words.old) index bit }
 {
     let _words = with_bit(words, index, bit);

@@ -59,13 +59,13 @@ pub fn taken_seats<T: BitStore, O: SliceOrder, A: Allocator>(
 pub fn taken_by_row<T: BitStore, O: SliceOrder>(
     alloc: Global,
     seats: BitSlice<'_, T, O>,
-    width: usize,
+    size: usize,
 ) -> Result<Vec<usize>, AllocError>
-    requires { 0 < width }
-    ensures { IfOk result (λ counts. counts.items ≡ map (λ row. count_by (λ bit. bit) row.bits) (parts_of T.BITS (seen seats.entry) (chunk_count width) (chunk width))) }
+    requires { 0 < size }
+    ensures { IfOk result (λ counts. counts.items ≡ map (λ row. count_by (λ bit. bit) row.bits) (parts_of T.BITS (seen seats.entry) (chunk_count size) (chunk size))) }
 {
     seats
-        .chunks(width)
+        .chunks(size)
         .map(|row| row.count_ones())
         .collect(alloc)
 }

@@ -23,8 +23,8 @@ pub fn run_apart<T: BitStore, O: SliceOrder>(
     steps: &[(Side, Step)],
     out: &mut [Reply],
 )
-    requires mid { mid ≤ (seen_mut view.old).window.len }
-    requires room { length steps.now ≡ length out.old }
+    requires bound { mid ≤ (seen_mut view.old).window.len }
+    requires lengths { length steps.now ≡ length out.old }
     ensures replies { out.new ≡ replies_of (side_reply []) (side_lists []) (halves_of mid (seen_mut view.old).bits) steps.now }
     ensures bits { (seen_mut view.new).bits ≡ joined (list_after (side_lists []) (halves_of mid (seen_mut view.old).bits) steps.now) }
 {

@@ -24,7 +24,7 @@ pub fn allocate<T: BitStore, O: SliceOrder>(slots: &mut BitSliceMut<'_, T, O>) -
 /// Gives a slot back. Condition: it is one of the slots, and taken.
 #[tactic(auto, using(bitvec::specs::Laws::counted))]
 pub fn release<T: BitStore, O: SliceOrder>(slots: &mut BitSliceMut<'_, T, O>, slot: usize)
-    requires inside { slot < (seen_mut slots.old).window.len }
+    requires bound { slot < (seen_mut slots.old).window.len }
     requires taken { slice_index_or (seen_mut slots.old).bits slot false ≡ true }
     ensures free { (seen_mut slots.new).bits ≡ slice_set (seen_mut slots.old).bits slot false }
     ensures fewer { taken_in slots.new ≡ taken_in slots.old - 1 }

@@ -10,7 +10,7 @@ use bitvec::prelude::*;
 /// The words with the bits of four bytes each, the highest bit of each byte first.
 fn copied<'a>(words: &'a mut [u32], bytes: &[u8]) -> &'a mut [u32]
     requires fits { 32 * length words.old ≤ max_bits }
-    requires same { length bytes.now ≡ 4 * length words.old }
+    requires lengths { length bytes.now ≡ 4 * length words.old }
     ensures bits { lsb0_bits 32 result.now ≡ msb0_bits 8 bytes.now }
     ensures name { result.ghost_name ≡ words.entry.ghost_name }
 {
@@ -22,7 +22,7 @@ fn copied<'a>(words: &'a mut [u32], bytes: &[u8]) -> &'a mut [u32]
 /// Makes the bits of the words those of the bytes. Condition: four bytes a word.
 pub fn copy_bytes(words: &mut [u32], bytes: &[u8])
     requires fits { 32 * length words.old ≤ max_bits }
-    requires same { length bytes.now ≡ 4 * length words.old }
+    requires lengths { length bytes.now ≡ 4 * length words.old }
     ensures { lsb0_bits 32 words.new ≡ msb0_bits 8 bytes.now }
 {
     let _words = copied(words, bytes);

@@ -89,8 +89,8 @@ fn split_shows(alloc: Global, bytes: &mut [u8; 1], found: usize, text: &str) -> 
     shows(alloc, &split, text)
 }
 
-/// Whether a counted split that lends shows so, once its first piece from the end was found.
-fn counted_shows(alloc: Global, bytes: &mut [u8; 1], text: &str) -> bool {
+/// Whether a limited split that lends shows so, once its first piece from the end was found.
+fn limited_shows(alloc: Global, bytes: &mut [u8; 1], text: &str) -> bool {
     let mut view = BitSliceMut::<u8, Lsb0>::from_slice_mut(bytes).into_part(0..6);
     let mut counted = view.rsplitn_mut(2, |_, bit| *bit);
     let _some = counted.advance();
@@ -103,5 +103,5 @@ fn splits_that_lend(rt: HostRuntime) {
     assert!(rt; split_shows(rt.alloc(), &mut bytes, 0, "SplitsMut([0, 1, 0, 0, 1, 0])"));
     assert!(rt; split_shows(rt.alloc(), &mut bytes, 1, "SplitsMut([0, 0, 1, 0])"));
     assert!(rt; split_shows(rt.alloc(), &mut bytes, 3, "SplitsMut([])"));
-    assert!(rt; counted_shows(rt.alloc(), &mut bytes, "SplitsNMut([0, 1, 0, 0], 1)"));
+    assert!(rt; limited_shows(rt.alloc(), &mut bytes, "SplitsNMut([0, 1, 0, 0], 1)"));
 }

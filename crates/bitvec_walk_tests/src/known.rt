@@ -1,7 +1,7 @@
 //! What a caller knows of a view once pieces of it were lent.
 ghost use Rattle.std.specs.Prelude.{◌≡◌, ◌≤◌, length};
 ghost use Rattle.bitvec_edit.specs.slice.Views.{name_of, seen_mut};
-ghost use Rattle.bitvec_iter.specs.LentBits.{WritesLeft, bits_in_place, bits_left, bits_to_come, past_bits};
+ghost use Rattle.bitvec_iter.specs.LentBits.{WritesLeft, bit_walk_of, bits_in_place, bits_to_come, past_bits};
 ghost use Rattle.bitvec_edit.specs.elements.Asked.{RefillsWith};
 
 use bitvec_edit::BitEdits;
@@ -31,10 +31,10 @@ pub fn refill_behind<T: BitStore, O: BitOrder, F: FnMut(usize, bool) -> bool>(
     f: F,
 )
     requires { F.IsAlwaysCallable f }
-    ensures answers { RefillsWith F.FnMut f (bits_to_come (past_bits (bits_left bits.old) count))
-        (bits_in_place (past_bits (bits_left bits.old) count) (bits_left bits.new)) }
-    ensures walk { WritesLeft (past_bits (bits_left bits.old) count) (bits_left bits.new)
-        (bits_in_place (past_bits (bits_left bits.old) count) (bits_left bits.new)) }
+    ensures answers { RefillsWith F.FnMut f (bits_to_come (past_bits (bit_walk_of bits.old) count))
+        (bits_in_place (past_bits (bit_walk_of bits.old) count) (bit_walk_of bits.new)) }
+    ensures walk { WritesLeft (past_bits (bit_walk_of bits.old) count) (bit_walk_of bits.new)
+        (bits_in_place (past_bits (bit_walk_of bits.old) count) (bit_walk_of bits.new)) }
 {
     bits.pass(count);
     bits.for_each_bit_mut(f);

@@ -4,11 +4,11 @@ use Rattle.std.proofs.Common.{arith, ◌∙◌, ap, ⊎_elim}
 use Rattle.std.proofs.lemmas.Bool.{cases_eq, cases_lt}
 use Rattle.std.proofs.lemmas.Nat.{div-mul-add, div-add-mod', mod_below, mod-mul-add}
 use Rattle.bitvec_cells.specs.base.declared.part.Part.{Part}
-use Rattle.bitvec_cells.specs.Cost.{part_loads, touched}
+use Rattle.bitvec_cells.specs.Cost.{part_loads, touched_count}
 use Rattle.bitvec_cells.specs.WalkLaws.{div-order, touched-none, touched-some}
 
 -- a window touches an element
-pub touched-first : (b s n : ℕ) → 0 < n → touched b s n ≡ 1 + (touched b s n - 1)
+pub touched-first : (b s n : ℕ) → 0 < n → touched_count b s n ≡ 1 + (touched_count b s n - 1)
 touched-first b s zero more = absurd (omega arith)
 touched-first b s (suc n) more = let some = touched-some b s n in omega arith
 
@@ -29,7 +29,7 @@ before_edge b (suc p) m some edge =
     omega arith
 
 -- side by side at an edge of elements
-pub touched-edge : (b s t n : ℕ) → 0 < b → (s + t) % b ≡ 0 → touched b s (t + n) ≡ touched b s t + touched b (s + t) n
+pub touched-edge : (b s t n : ℕ) → 0 < b → (s + t) % b ≡ 0 → touched_count b s (t + n) ≡ touched_count b s t + touched_count b (s + t) n
 touched-edge b s zero n some edge =
     let none = touched-none b s in
     let same : zero + n ≡ n = omega arith in
@@ -61,7 +61,7 @@ inside_element b s t some inside =
     ap (λ (m : ℕ). m / b) last ∙ div-mul-add ((s + t) / b) b ((s + t) % b - 1) (omega arith)
 
 -- side by side within an element, which both touch
-pub touched-inside : (b s t n : ℕ) → 0 < b → 0 < t → 0 < (s + t) % b → touched b s (t + n) ≡ touched b s t + (touched b (s + t) n - 1)
+pub touched-inside : (b s t n : ℕ) → 0 < b → 0 < t → 0 < (s + t) % b → touched_count b s (t + n) ≡ touched_count b s t + (touched_count b (s + t) n - 1)
 touched-inside b s zero n some more inside = absurd (omega arith)
 touched-inside b s (suc t) zero some more inside =
     let none = touched-none b (s + suc t) in
@@ -81,7 +81,7 @@ touched-inside b s (suc t) (suc n) some more inside =
     rw all (omega arith)
 
 -- within one element
-pub touched-one : (b s n : ℕ) → 0 < b → 0 < n → s % b + n ≤ b → touched b s n ≡ 1
+pub touched-one : (b s n : ℕ) → 0 < b → 0 < n → s % b + n ≤ b → touched_count b s n ≡ 1
 touched-one b s zero some more fits = absurd (omega arith)
 touched-one b s (suc n) some more fits =
     let place = div-add-mod' s b in
@@ -91,7 +91,7 @@ touched-one b s (suc n) some more fits =
     omega arith
 
 -- of two elements
-pub touched-two : (b s n : ℕ) → 0 < b → n ≤ b → b < s % b + n → touched b s n ≡ 2
+pub touched-two : (b s n : ℕ) → 0 < b → n ≤ b → b < s % b + n → touched_count b s n ≡ 2
 touched-two b s zero some fits over = let head = mod_below s b some in absurd (omega arith)
 touched-two b s (suc n) some fits over =
     let place = div-add-mod' s b in
@@ -102,7 +102,7 @@ touched-two b s (suc n) some fits over =
     omega arith
 
 -- whole elements, and as many bits from an index on
-pub touched-whole : (b e count : ℕ) → 0 < b → touched b (e * b) (count * b) ≡ count
+pub touched-whole : (b e count : ℕ) → 0 < b → touched_count b (e * b) (count * b) ≡ count
 touched-whole b e zero some = let none : zero * b ≡ 0 = omega arith in rw none (touched-none b (e * b))
 touched-whole b e (suc c) some =
     let more : suc c * b ≡ suc (c * b + (b - 1)) = omega arith in
@@ -112,7 +112,7 @@ touched-whole b e (suc c) some =
     let start : e * b / b ≡ e = ap (λ (m : ℕ). m / b) (let same : e * b ≡ e * b + 0 = omega arith in same) ∙ div-mul-add e b 0 some in
     rw more (omega arith)
 
-pub touched-from : (b e skip count : ℕ) → 0 < skip → skip < b → touched b (e * b + skip) (count * b) - 1 ≡ count
+pub touched-from : (b e skip count : ℕ) → 0 < skip → skip < b → touched_count b (e * b + skip) (count * b) - 1 ≡ count
 touched-from b e skip zero some below =
     let none : zero * b ≡ 0 = omega arith in
     let empty = touched-none b (e * b + skip) in
@@ -133,7 +133,7 @@ edge_place b s n some edge =
     let same : s + n / b * b ≡ (s / b + n / b) * b + 0 = omega arith in
     rw same (mod-mul-add (s / b + n / b) b 0 some)
 
-pub touched-full : (b s n : ℕ) → 0 < b → s % b ≡ 0 → n % b ≡ 0 → touched b s n ≡ n / b
+pub touched-full : (b s n : ℕ) → 0 < b → s % b ≡ 0 → n % b ≡ 0 → touched_count b s n ≡ n / b
 touched-full b s n some edge full =
     let place = div-add-mod' s b in
     let all = div-add-mod' n b in
@@ -142,7 +142,7 @@ touched-full b s n some edge full =
     let len : n / b * b ≡ n = omega arith in
     rw (start, len) at whole
 
-pub touched-more : (b s n : ℕ) → 0 < b → s % b ≡ 0 → 0 < n % b → touched b s n ≡ n / b + 1
+pub touched-more : (b s n : ℕ) → 0 < b → s % b ≡ 0 → 0 < n % b → touched_count b s n ≡ n / b + 1
 touched-more b s n some edge left =
     let place = div-add-mod' s b in
     let all = div-add-mod' n b in
@@ -161,7 +161,7 @@ inside_place b s n some =
     let same : s + n / b * b ≡ (s / b + n / b) * b + s % b = omega arith in
     ap (λ (m : ℕ). m % b) same ∙ mod-mul-add (s / b + n / b) b (s % b) (mod_below s b some)
 
-pub touched-from_full : (b s n : ℕ) → 0 < b → 0 < s % b → n % b ≡ 0 → touched b s n - 1 ≡ n / b
+pub touched-from_full : (b s n : ℕ) → 0 < b → 0 < s % b → n % b ≡ 0 → touched_count b s n - 1 ≡ n / b
 touched-from_full b s n some inside full =
     let place = div-add-mod' s b in
     let all = div-add-mod' n b in
@@ -169,7 +169,7 @@ touched-from_full b s n some inside full =
     let len : n / b * b ≡ n = omega arith in
     rw (place, len) at whole
 
-pub touched-from_more : (b s n : ℕ) → 0 < b → 0 < s % b → 0 < n % b → touched b s n - 1 ≡ n / b + (touched b (s + n / b * b) (n % b) - 1)
+pub touched-from_more : (b s n : ℕ) → 0 < b → 0 < s % b → 0 < n % b → touched_count b s n - 1 ≡ n / b + (touched_count b (s + n / b * b) (n % b) - 1)
 touched-from_more b s n some inside left =
     let place = div-add-mod' s b in
     let all = div-add-mod' n b in
@@ -190,7 +190,7 @@ touched-from_more b s n some inside left =
     (cases_lt 0 (n / b * b))
 
 -- by some of its whole elements, and what is left
-pub touched-after : (b s n count : ℕ) → 0 < b → s % b ≡ 0 → count * b ≤ n → touched b s n ≡ count + touched b (s + count * b) (n - count * b)
+pub touched-after : (b s n count : ℕ) → 0 < b → s % b ≡ 0 → count * b ≤ n → touched_count b s n ≡ count + touched_count b (s + count * b) (n - count * b)
 touched-after b s n count some edge fits =
     let place = div-add-mod' s b in
     let same : s + count * b ≡ (s / b + count) * b + 0 = omega arith in
@@ -211,12 +211,12 @@ head_edge b s t n some part left =
     let next : s + t ≡ (s / b + 1) * b + 0 = omega arith in
     rw next (mod-mul-add (s / b + 1) b 0 some)
 
-pub touched-head : (b s t n : ℕ) → 0 < b → 0 < n → t ≡ min n (b - s % b) → touched b s t ≡ 1
+pub touched-head : (b s t n : ℕ) → 0 < b → 0 < n → t ≡ min n (b - s % b) → touched_count b s t ≡ 1
 touched-head b s t n some more part =
     let head = mod_below s b some in
     touched-one b s t some (omega arith) (omega arith)
 
-pub touched-rest : (b s t n : ℕ) → 0 < b → 0 < n → t ≡ min n (b - s % b) → t ≢ n → touched b s n ≡ 1 + touched b (s + t) (n - t)
+pub touched-rest : (b s t n : ℕ) → 0 < b → 0 < n → t ≡ min n (b - s % b) → t ≢ n → touched_count b s n ≡ 1 + touched_count b (s + t) (n - t)
 touched-rest b s t n some more part left =
     let first = touched-head b s t n some more part in
     let all : t + (n - t) ≡ n = omega arith in
@@ -224,12 +224,12 @@ touched-rest b s t n some more part left =
     omega arith
 
 -- whether something is left or not
-pub touched-parts : (b s t n : ℕ) → 0 < b → 0 < n → t ≡ min n (b - s % b) → touched b s n ≡ 1 + touched b (s + t) (n - t)
+pub touched-parts : (b s t n : ℕ) → 0 < b → 0 < n → t ≡ min n (b - s % b) → touched_count b s n ≡ 1 + touched_count b (s + t) (n - t)
 touched-parts b s t n some more part =
     ⊎_elim
     (λ (all : t ≡ n).
     let one = touched-head b s t n some more part in
-    let same = ap (touched b s) all in
+    let same = ap (touched_count b s) all in
     let none : n - t ≡ 0 = omega arith in
     let nothing = touched-none b (s + t) in
     rw none (omega arith))

@@ -11,7 +11,7 @@ use Rattle.bitvec_cells.specs.base.Parts.{first_part_of, part_window}
 use Rattle.bitvec_cells.specs.base.SliceLaws.{range-none}
 use Rattle.bitvec_cells.specs.base.Window.{window_after, window_of, window_until}
 use Rattle.bitvec_cells.specs.base.WritesLaws.{length-list, list-join}
-use Rattle.bitvec_cells.specs.Cost.{touched}
+use Rattle.bitvec_cells.specs.Cost.{touched_count}
 use Rattle.bitvec_words.specs.Elements.{elements_window, elements_window_from}
 use Rattle.bitvec_words.specs.TouchedLaws.{touched-first, touched-from, touched-inside}
 use Rattle.bitvec_cells.specs.WalkLaws.{first-len, touched-none}
@@ -32,7 +32,7 @@ behind-mod b s m some =
     ap (λ (n : ℕ). n % b) same ∙ mod-mul-add (s / b + m) b (s % b) (mod_below s b some)
 
 -- a window that begins inside an element touches, beside that one, each of the whole elements behind it, and what is behind them
-pub touched-behind_from : (b s n m : ℕ) → 0 < b → 0 < s % b → m * b ≤ n → touched b s n - 1 ≡ m + (touched b (s + m * b) (n - m * b) - 1)
+pub touched-behind_from : (b s n m : ℕ) → 0 < b → 0 < s % b → m * b ≤ n → touched_count b s n - 1 ≡ m + (touched_count b (s + m * b) (n - m * b) - 1)
 touched-behind_from b s n m some inside fits =
     let place = div-add-mod' s b in
     let whole = rw place at (touched-from b (s / b) (s % b) m inside (mod_below s b some)) in

@@ -4,7 +4,7 @@ ghost use Rattle.std.specs.Prelude.{◌≡◌, ◌+◌, ◌≤◌, false, replic
 ghost use Rattle.bitvec_cells.specs.base.Memory.{HasWindow, Writes, element_bits, list_in};
 ghost use Rattle.bitvec_cells.specs.base.Window.{write_at};
 ghost use Rattle.bitvec_cells.specs.Access.{CostsAtMost, OnlyReads};
-ghost use Rattle.bitvec_cells.specs.Cost.{fill_loads, touched};
+ghost use Rattle.bitvec_cells.specs.Cost.{fill_loads, touched_count};
 ghost use Rattle.bitvec_words.specs.Field.{lowest_bit, padded};
 
 use crate::WordOrder;
@@ -60,9 +60,9 @@ pub fn moved<O: WordOrder, T: BitStore, U: BitStore>(
 /// window touches once.
 pub fn load_field<O: WordOrder, C: CellsRead>(cells: &mut C, window: Window) -> u64
     requires window { HasWindow C.Elem.BITS (C.numbers cells.old) window }
-    requires size { window.len ≤ 64 }
+    requires bound { window.len ≤ 64 }
     ensures value { element_bits 64 O.at result ≡ padded 64 (list_in C.Elem.BITS O.at (C.numbers cells.old) window) }
-    ensures reads { OnlyReads C.CellsRead cells.old cells.new (touched C.Elem.BITS window.start window.len) }
+    ensures reads { OnlyReads C.CellsRead cells.old cells.new (touched_count C.Elem.BITS window.start window.len) }
 {
     let bits = C::Elem::BITS as usize;
     let mut field = 0;
@@ -82,10 +82,10 @@ pub fn load_field<O: WordOrder, C: CellsRead>(cells: &mut C, window: Window) -> 
 /// at most the first and the last.
 pub fn store_field<O: WordOrder, C: Cells>(cells: &mut C, window: Window, field: u64)
     requires window { HasWindow C.Elem.BITS (C.numbers cells.old) window }
-    requires size { window.len ≤ 64 }
+    requires bound { window.len ≤ 64 }
     ensures writes { Writes C.Elem.BITS O.at (C.numbers cells.old) (C.numbers cells.new) window
         (take window.len (element_bits 64 O.at field)) }
-    ensures cost { CostsAtMost C.CellsRead cells.old cells.new (fill_loads window.len) (touched C.Elem.BITS window.start window.len) }
+    ensures cost { CostsAtMost C.CellsRead cells.old cells.new (fill_loads window.len) (touched_count C.Elem.BITS window.start window.len) }
 {
     let bits = C::Elem::BITS as usize;
     let mut rest = window;

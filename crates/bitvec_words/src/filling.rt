@@ -2,7 +2,7 @@
 ghost use Rattle.std.specs.Prelude.{◌≡◌, ℕ, ◌+◌, ◌-◌, ◌*◌, ◌/◌, ◌%◌, ◌^◌, ◌<◌, ◌≤◌, if◌then◌else◌, Bool, not, map, replicate};
 ghost use Rattle.bitvec_cells.specs.base.Memory.{Edits, HasWindow, Writes};
 ghost use Rattle.bitvec_cells.specs.Access.{Costs, CostsAtMost};
-ghost use Rattle.bitvec_cells.specs.Cost.{fill_loads, touched};
+ghost use Rattle.bitvec_cells.specs.Cost.{fill_loads, touched_count};
 ghost use Rattle.bitvec_words.specs.Elements.{elements_window};
 
 use bitvec_cells::base::{BitOrder, Part, Window, first_part};
@@ -16,9 +16,9 @@ pub fn fill<O: BitOrder, C: Cells>(cells: &mut C, window: Window, bit: bool)
     requires { HasWindow C.Elem.BITS (C.numbers cells.old) window }
     ensures writes { Writes C.Elem.BITS O.at (C.numbers cells.old) (C.numbers cells.new) window
         (replicate window.len bit) }
-    ensures cost { CostsAtMost C.CellsRead cells.old cells.new (fill_loads window.len) (touched C.Elem.BITS window.start window.len) }
-    ensures stores { C.stores cells.new ≡ C.stores cells.old + touched C.Elem.BITS window.start window.len }
-    ensures loads { C.loads cells.new ≤ C.loads cells.old + touched C.Elem.BITS window.start window.len }
+    ensures cost { CostsAtMost C.CellsRead cells.old cells.new (fill_loads window.len) (touched_count C.Elem.BITS window.start window.len) }
+    ensures stores { C.stores cells.new ≡ C.stores cells.old + touched_count C.Elem.BITS window.start window.len }
+    ensures loads { C.loads cells.new ≤ C.loads cells.old + touched_count C.Elem.BITS window.start window.len }
 {
     if window.len == 0 {
         return;
@@ -39,9 +39,9 @@ fn fill_aligned<O: BitOrder, C: Cells>(cells: &mut C, window: Window, bit: bool)
     requires edge { window.start % C.Elem.BITS ≡ 0 }
     ensures writes { Writes C.Elem.BITS O.at (C.numbers cells.old) (C.numbers cells.new) window
         (replicate window.len bit) }
-    ensures cost { CostsAtMost C.CellsRead cells.old cells.new 1 (touched C.Elem.BITS window.start window.len) }
-    ensures stores { C.stores cells.new ≡ C.stores cells.old + touched C.Elem.BITS window.start window.len }
-    ensures loads { C.loads cells.new ≤ C.loads cells.old + touched C.Elem.BITS window.start window.len }
+    ensures cost { CostsAtMost C.CellsRead cells.old cells.new 1 (touched_count C.Elem.BITS window.start window.len) }
+    ensures stores { C.stores cells.new ≡ C.stores cells.old + touched_count C.Elem.BITS window.start window.len }
+    ensures loads { C.loads cells.new ≤ C.loads cells.old + touched_count C.Elem.BITS window.start window.len }
 {
     let bits = C::Elem::BITS as usize;
     let count = window.len / bits;
@@ -93,7 +93,7 @@ fn store_whole<O: BitOrder, C: Cells>(cells: &mut C, first: usize, count: usize,
 pub fn invert<O: BitOrder, C: Cells>(cells: &mut C, window: Window)
     requires { HasWindow C.Elem.BITS (C.numbers cells.old) window }
     ensures writes { Edits C.Elem.BITS O.at (C.numbers cells.old) (C.numbers cells.new) window (map not) }
-    ensures cost { let each = touched C.Elem.BITS window.start window.len in
+    ensures cost { let each = touched_count C.Elem.BITS window.start window.len in
         Costs C.CellsRead cells.old cells.new each each }
 {
     if window.len == 0 {
@@ -114,7 +114,7 @@ fn invert_aligned<O: BitOrder, C: Cells>(cells: &mut C, window: Window)
     requires window { HasWindow C.Elem.BITS (C.numbers cells.old) window }
     requires edge { window.start % C.Elem.BITS ≡ 0 }
     ensures writes { Edits C.Elem.BITS O.at (C.numbers cells.old) (C.numbers cells.new) window (map not) }
-    ensures cost { let each = touched C.Elem.BITS window.start window.len in
+    ensures cost { let each = touched_count C.Elem.BITS window.start window.len in
         Costs C.CellsRead cells.old cells.new each each }
 {
     let bits = C::Elem::BITS as usize;

@@ -3,7 +3,7 @@ ghost use Rattle.std.specs.Prelude.{◌≡◌, ℕ, ◌+◌, ◌-◌, ◌*◌, �
 ghost use Rattle.bitvec_cells.specs.base.Memory.{HasWindow, Writes, element_bits, list_in};
 ghost use Rattle.bitvec_cells.specs.base.Parts.{HasPart, part_window};
 ghost use Rattle.bitvec_cells.specs.Access.{Costs, OnlyReads};
-ghost use Rattle.bitvec_cells.specs.Cost.{part_loads, touched};
+ghost use Rattle.bitvec_cells.specs.Cost.{part_loads, touched_count};
 
 use crate::WordOrder;
 use crate::element::{joined, merged, toward_start};
@@ -41,7 +41,7 @@ pub fn field<O: WordOrder, C: CellsRead>(cells: &mut C, window: Window) -> (C::E
         ≡ list_in C.Elem.BITS O.at (C.numbers cells.old) window }
     ensures last { C.Elem.value result.1
         ≡ slice_index (C.numbers cells.old) ((window.start + window.len - 1) / C.Elem.BITS) }
-    ensures reads { OnlyReads C.CellsRead cells.old cells.new (touched C.Elem.BITS window.start window.len) }
+    ensures reads { OnlyReads C.CellsRead cells.old cells.new (touched_count C.Elem.BITS window.start window.len) }
 {
     let first = cells.load(window.start / C::Elem::BITS as usize);
     field_after::<O, C>(cells, window, first)
@@ -62,7 +62,7 @@ pub fn field_after<O: WordOrder, C: CellsRead>(
         ≡ list_in C.Elem.BITS O.at (C.numbers cells.old) window }
     ensures last { C.Elem.value result.1
         ≡ slice_index (C.numbers cells.old) ((window.start + window.len - 1) / C.Elem.BITS) }
-    ensures reads { OnlyReads C.CellsRead cells.old cells.new (touched C.Elem.BITS window.start window.len - 1) }
+    ensures reads { OnlyReads C.CellsRead cells.old cells.new (touched_count C.Elem.BITS window.start window.len - 1) }
 {
     let bits = C::Elem::BITS as usize;
     let skip = window.start % bits;

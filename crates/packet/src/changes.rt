@@ -43,7 +43,7 @@ fn changed<'a, A: Allocator>(
     changes: &[Change],
     bytes: &'a mut [u8],
 ) -> &'a mut [u8]
-    requires few { length bytes.old ≤ 65535 }
+    requires bound { length bytes.old ≤ 65535 }
     requires bits { bits_of layout.now ≡ 8 * length bytes.old }
     requires word_bits { bits_of words.now ≡ 8 * length bytes.old }
     requires fields { AreFields (fields_of layout.now) }
@@ -67,7 +67,7 @@ pub fn set_fields<A: Allocator>(
     changes: &[Change],
     bytes: &mut [u8],
 )
-    requires few { length bytes.old ≤ 65535 }
+    requires bound { length bytes.old ≤ 65535 }
     requires bits { bits_of layout.now ≡ 8 * length bytes.old }
     requires word_bits { bits_of words.now ≡ 8 * length bytes.old }
     requires fields { AreFields (fields_of layout.now) }

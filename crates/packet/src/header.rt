@@ -64,7 +64,7 @@ fn layout_of_words<A: Allocator + Copy>(
     bytes: &[u8],
     count: usize,
 ) -> Result<Layout<A>, Fault>
-    requires bytes { length bytes.now ≤ 65535 }
+    requires bound { length bytes.now ≤ 65535 }
     requires few { count ≤ 30 }
     ensures layout { IfOk result (IsLayoutOf bytes.now (word_windows count)) }
     ensures fault { IfErr result (λ fault. (fault ≡ Fault.Memory) ⊎ ((fault ≡ Fault.Truncated) × (IsLayout (8 * length bytes.now) (word_windows count) → ⊥))) }
@@ -82,7 +82,7 @@ fn layout_of_words<A: Allocator + Copy>(
 /// The number of a field of a packet: it has no more bits than the field. Conditions: the layout is of
 /// the packet, which has at most 65,535 bytes, and there is such a field.
 pub(crate) fn read_field<A: Allocator>(layout: &Layout<A>, bytes: &[u8], number: usize) -> u128
-    requires bytes { length bytes.now ≤ 65535 }
+    requires bound { length bytes.now ≤ 65535 }
     requires bits { bits_of layout.now ≡ 8 * length bytes.now }
     requires field { number < length (fields_of layout.now) }
     ensures number { result ≡ number_at bytes.now (field_at (fields_of layout.now) number) }

@@ -30,7 +30,7 @@ fn print_field<W: Write>(output: &mut W, field: Field, number: u128) -> io::Resu
 /// The sum of the words of a packet's header. Conditions: the packet has at most 65,535 bytes, and this
 /// header.
 fn packet_sum<A: Allocator>(header: &Header<A>, bytes: &[u8]) -> u128
-    requires few { length bytes.now ≤ 65535 }
+    requires bound { length bytes.now ≤ 65535 }
     requires header { IsHeader bytes.now header.now }
     ensures { result ≡ sum_words (numbers_at bytes.now (header_windows bytes.now)) }
 {
@@ -52,7 +52,7 @@ fn print_lines<A: Allocator, W: Write>(
     layout: &Layout<A>,
     bytes: &[u8],
 ) -> io::Result<()>
-    requires few { length bytes.now ≤ 65535 }
+    requires bound { length bytes.now ≤ 65535 }
     requires bits { bits_of layout.now ≡ 8 * length bytes.now }
     requires fields { fields_of layout.now ≡ windows_of (places_of fields.now) }
     ensures { OnOk result (Appends (W.contents output.old) (W.contents output.new) (flat_map (field_text bytes.now) (places_of fields.now))) }
@@ -72,7 +72,7 @@ fn print_all<A: Allocator, W: Write>(
     bytes: &[u8],
     sum: u128,
 ) -> io::Result<()>
-    requires few { length bytes.now ≤ 65535 }
+    requires bound { length bytes.now ≤ 65535 }
     requires bits { bits_of layout.now ≡ 8 * length bytes.now }
     requires fields { fields_of layout.now ≡ windows_of (places_of fields.now) }
     ensures { OnOk result (Appends (W.contents output.old) (W.contents output.new) (flat_map (field_text bytes.now) (places_of fields.now) ++ verdict_text sum)) }
@@ -89,7 +89,7 @@ pub(crate) fn print_fields<A: Allocator, W: Write>(
     header: &Header<A>,
     bytes: &[u8],
 ) -> io::Result<()>
-    requires few { length bytes.now ≤ 65535 }
+    requires bound { length bytes.now ≤ 65535 }
     requires header { IsHeader bytes.now header.now }
     ensures { OnOk result (Appends (W.contents output.old) (W.contents output.new) (fields_text bytes.now)) }
 {

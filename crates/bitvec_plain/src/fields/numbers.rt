@@ -40,8 +40,8 @@ fn first_len(layout: Layout, place: usize, len: usize) -> usize
 
 /// The number of the bits from a place on, the first segment lowest.
 pub(super) fn load_le(layout: Layout, place: usize, list: &[bool]) -> u128
-    requires size { length list.now ≤ 128 }
-    requires room { place + length list.now < 2 ^ 64 }
+    requires bound { length list.now ≤ 128 }
+    requires end { place + length list.now < 2 ^ 64 }
     ensures { result ≡ loaded_le layout.high layout.bits place list.now }
 {
     if list.is_empty() {
@@ -58,8 +58,8 @@ pub(super) fn load_le(layout: Layout, place: usize, list: &[bool]) -> u128
 
 /// The number of the bits from a place on, the first segment highest.
 pub(super) fn load_be(layout: Layout, place: usize, list: &[bool]) -> u128
-    requires size { length list.now ≤ 128 }
-    requires room { place + length list.now < 2 ^ 64 }
+    requires bound { length list.now ≤ 128 }
+    requires end { place + length list.now < 2 ^ 64 }
     ensures { result ≡ loaded_be layout.high layout.bits place list.now }
 {
     if list.is_empty() {
@@ -73,8 +73,8 @@ pub(super) fn load_be(layout: Layout, place: usize, list: &[bool]) -> u128
 
 /// Gives the bits from a place on those of a number, the first segment lowest.
 pub(super) fn store_le(layout: Layout, place: usize, list: &mut [bool], value: u128)
-    requires size { length list.old ≤ 128 }
-    requires room { place + length list.old < 2 ^ 64 }
+    requires bound { length list.old ≤ 128 }
+    requires end { place + length list.old < 2 ^ 64 }
     ensures { list.new ≡ stored_le layout.high layout.bits place value list.old }
 {
     if list.is_empty() {
@@ -90,8 +90,8 @@ pub(super) fn store_le(layout: Layout, place: usize, list: &mut [bool], value: u
 
 /// Gives the bits from a place on those of a number, the first segment highest.
 pub(super) fn store_be(layout: Layout, place: usize, list: &mut [bool], value: u128)
-    requires size { length list.old ≤ 128 }
-    requires room { place + length list.old < 2 ^ 64 }
+    requires bound { length list.old ≤ 128 }
+    requires end { place + length list.old < 2 ^ 64 }
     ensures { list.new ≡ stored_be layout.high layout.bits place value list.old }
 {
     if list.is_empty() {

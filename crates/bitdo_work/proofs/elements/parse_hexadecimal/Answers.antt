@@ -9,7 +9,7 @@ pub returns-then-is_hexadecimal : goal.returns-then-is_hexadecimal
 returns-then-is_hexadecimal c =
     let e : c.ok.result ≡ hexadecimal_of c.args.digits c.args.word.now =
     c.ok.ensures.value ∙ hexadecimal_of-parse c.args.word.now c.args.digits c.from_str_radix.result c.from_str_radix.ensures.value c.if-word-digits.true
-    (sym c.if-is_hexadecimal.ensures) c.requires.some c.requires.fits in
+    (sym c.if-is_hexadecimal.ensures) c.requires.some c.requires.bound in
     record {
       number = e;
       bound = subst (λ o. IfSome o (λ number. number < 16 ^ c.args.digits)) (sym e) (hexadecimal_of-bound c.args.word.now c.args.digits);

@@ -8,7 +8,7 @@ returns-then-is_seamless-clause-fit g c =
 
 pub returns-clause-numbers : goal.returns-clause-numbers
 returns-clause-numbers g c =
-    read-all _ _ _ _ _ _ c.loop-number.out (c.loop-number.auto.out ∙ c.requires.places) (λ k low. c.loop-number.invariant k (omega arith))
+    read-all _ _ _ _ _ _ c.loop-number.out (c.loop-number.auto.out ∙ c.requires.lengths) (λ k low. c.loop-number.invariant k (omega arith))
 
 pub returns-clause-fit : goal.returns-clause-fit
 returns-clause-fit g c =

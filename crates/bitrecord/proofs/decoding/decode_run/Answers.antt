@@ -46,7 +46,7 @@ loop-field-preserved g c =
     let inv = c.loop-field.invariant in
     let from = c.loop-field.auto.field in
     let test = c.loop-field-test.true in
-    let places = c.loop-field.auto.out ∙ c.requires.places in
+    let places = c.loop-field.auto.out ∙ c.requires.lengths in
     let below = c.requires.run.below in
     let told = run-split g.O.WordOrder.HIGH c.args.view c.args.endian layout.bits c.args.first c.args.last n c.loop-field.word c.split_off-number.result.0 c.split_off-number.result.1 layout.fields.items c.requires.seamless layout.layout c.requires.bits c.requires.run
     c.requires.several (omega arith) (omega arith) (inv.word (omega arith)) (rw c.field.ensures at c.split_off-number.ensures) in

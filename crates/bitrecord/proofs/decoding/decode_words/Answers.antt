@@ -11,7 +11,7 @@ loop-number-preserved g c =
     let below = run.below in
     let order = run.order in
     let long = c.loop-number.auto.out in
-    let places = c.requires.places in
+    let places = c.requires.lengths in
     record {
       within = omega arith;
       numbers = elim c.if-last-number.branch [
@@ -28,4 +28,4 @@ pub returns : goal.returns
 returns g c =
     let number = c.loop-number-test.false in
     let len = c.len.ensures in
-    read-all _ _ _ _ _ _ c.loop-number.out (c.loop-number.auto.out ∙ c.requires.places) (λ k low. c.loop-number.invariant.numbers k (omega arith))
+    read-all _ _ _ _ _ _ c.loop-number.out (c.loop-number.auto.out ∙ c.requires.lengths) (λ k low. c.loop-number.invariant.numbers k (omega arith))

@@ -10,7 +10,7 @@ loop-count-init g c =
     let bits =
     c.into_part-view.ensures.bits
     ∙ ap (λ (l : List Bool). slice_range l (window.start + c.args.from) (window.start + window.len)) c.from_slice.ensures.bits
-    ∙ rest-list g.T.BitStore.BITS g.O.BitOrder.at (map g.T.BitStore.value c.args.elements.now) window c.args.from c.requires.window c.requires.from in
+    ∙ rest-list g.T.BitStore.BITS g.O.BitOrder.at (map g.T.BitStore.value c.args.elements.now) window c.args.from c.requires.window c.requires.bound in
     record {
       left = sym (c.iter_ones-walk.ensures.indices ∙ ap (places_of true) bits);
       front = refl;
@@ -25,7 +25,7 @@ overflow_add-indices g c =
     let xs = map g.T.BitStore.value c.args.elements.now in
     let list = list_in g.T.BitStore.BITS g.O.BitOrder.at xs c.args.window in
     let below = next-below (drop c.args.from list) c.loop-count.count c.in-Some.index _ (c.loop-count.invariant.left ∙ c.in-Some.ensures.steps) in
-    record { fits = index-fits g.T.BitStore.BITS g.O.BitOrder.at xs c.args.window c.args.from c.requires.window c.requires.from c.in-Some.index below }
+    record { fits = index-fits g.T.BitStore.BITS g.O.BitOrder.at xs c.args.window c.args.from c.requires.window c.requires.bound c.in-Some.index below }
 
 pub loop-count-preserved : goal.loop-count-preserved
 loop-count-preserved g c =

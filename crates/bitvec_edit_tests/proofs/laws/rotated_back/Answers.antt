@@ -7,5 +7,5 @@ use Rattle.bitvec_edit_tests.proofs.laws.rotated_back.Goals as goal
 pub returns : goal.returns
 returns g c =
     let view = c.from_slice_mut-view.result in
-    let inside = subst (λ n. c.args.by ≤ n) (sym (length_bits g.T.BitStore.BITS g.O.BitOrder.at g.T.BitStore.value view.elements.now view.head view.len view.inside ∙ c.from_slice_mut-view.ensures.whole.len)) c.requires.by in
+    let inside = subst (λ n. c.args.by ≤ n) (sym (length_bits g.T.BitStore.BITS g.O.BitOrder.at g.T.BitStore.value view.elements.now view.head view.len view.inside ∙ c.from_slice_mut-view.ensures.whole.len)) c.requires.bound in
     c.into_slice.ensures.memory ∙ rotated-back view _ _ c.args.by inside c.rotate_left.ensures c.rotate_right.ensures ∙ c.from_slice_mut-view.ensures.whole.memory

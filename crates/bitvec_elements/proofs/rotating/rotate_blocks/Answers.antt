@@ -13,7 +13,7 @@ loop-count-init g c =
     let at = g.O.BitOrder.at in
     let now = map g.T.BitStore.value c.args.cells.now in
     record {
-      within = let fits = c.requires.by in omega arith;
+      within = let fits = c.requires.bound in omega arith;
       shorter = let count = c.min-count.ensures in omega arith;
       many = c.requires.many;
       writes = Writes-nothing b at now now c.args.window c.requires.window refl;
@@ -98,8 +98,8 @@ loop-count-preserved g c =
       rotated = rw holds (same ∙ inv.rotated);
     }
 
-pub after-rest-requires-clause-count : goal.after-rest-requires-clause-count
-after-rest-requires-clause-count g c = let within = c.loop-count.invariant.within in omega arith
+pub after-rest-requires-clause-bound : goal.after-rest-requires-clause-bound
+after-rest-requires-clause-bound g c = let within = c.loop-count.invariant.within in omega arith
 
 pub rotate_front-requires-clause-window : goal.rotate_front-requires-clause-window
 rotate_front-requires-clause-window g c =
@@ -107,8 +107,8 @@ rotate_front-requires-clause-window g c =
     let within = inv.within in
     rw c.after-rest.ensures (HasWindow-range _ _ c.args.window c.loop-count.done c.args.window.len (HasWindow-kept _ _ _ _ c.requires.window inv.writes.elements) (omega arith) (omega arith))
 
-pub rotate_front-requires-clause-by : goal.rotate_front-requires-clause-by
-rotate_front-requires-clause-by g c = let within = c.loop-count.invariant.within in rw c.after-rest.ensures (omega arith)
+pub rotate_front-requires-clause-bound : goal.rotate_front-requires-clause-bound
+rotate_front-requires-clause-bound g c = let within = c.loop-count.invariant.within in rw c.after-rest.ensures (omega arith)
 
 pub rotate_back-requires-clause-window : goal.rotate_back-requires-clause-window
 rotate_back-requires-clause-window g c =
@@ -116,8 +116,8 @@ rotate_back-requires-clause-window g c =
     let within = inv.within in
     rw c.after-rest.ensures (HasWindow-range _ _ c.args.window c.loop-count.done c.args.window.len (HasWindow-kept _ _ _ _ c.requires.window inv.writes.elements) (omega arith) (omega arith))
 
-pub rotate_back-requires-clause-by : goal.rotate_back-requires-clause-by
-rotate_back-requires-clause-by g c = let within = c.loop-count.invariant.within in rw c.after-rest.ensures (omega arith)
+pub rotate_back-requires-clause-bound : goal.rotate_back-requires-clause-bound
+rotate_back-requires-clause-bound g c = let within = c.loop-count.invariant.within in rw c.after-rest.ensures (omega arith)
 
 pub rotate_back-requires-clause-few : goal.rotate_back-requires-clause-few
 rotate_back-requires-clause-few g c =

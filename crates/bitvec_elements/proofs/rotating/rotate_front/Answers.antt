@@ -13,7 +13,7 @@ returns g c =
     let long = length-list g.T.BitStore.BITS g.O.BitOrder.at (map g.T.BitStore.value c.args.cells.now) c.args.window c.requires.window in
     let len = c.args.window.len in
     let by = c.args.by in
-    let fits = c.requires.by in
+    let fits = c.requires.bound in
     record {
       writes = Writes-aside _ _ _ _ _ _ _ c.args.window _ 0 by (len - by) len _ _ c.requires.window (search rules) (omega arith) fits (omega arith) (omega arith)
           (rw c.range.ensures at c.copy_from_block_in.ensures.writes) c.copy_within_in.ensures.writes (rw c.range-behind.ensures at c.copy_from_block_in-2.ensures.writes)

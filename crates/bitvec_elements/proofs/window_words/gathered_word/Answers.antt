@@ -34,7 +34,7 @@ loop-rest-preserved g c =
     rw c.after-rest.ensures (record {
       walk = Walked-next _ _ _ _ some more step inv.walk;
       numbers = c.load-element.ensures.numbers ∙ inv.numbers;
-      value = gathered-next _ _ _ _ _ _ _ _ _ _ _ _ some more c.requires.size step refl c.requires.window inv.walk loaded first c.moved-word.ensures inv.value;
+      value = gathered-next _ _ _ _ _ _ _ _ _ _ _ _ some more c.requires.bound step refl c.requires.window inv.walk loaded first c.moved-word.ensures inv.value;
     })
 
 pub load-element-requires : goal.load-element-requires

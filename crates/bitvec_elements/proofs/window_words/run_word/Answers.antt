@@ -12,7 +12,7 @@ use Rattle.bitvec_elements.proofs.window_words.run_word.Goals as goal
 
 pub returns-then-skip-eq0 : goal.returns-then-skip-eq0
 returns-then-skip-eq0 g c =
-    let size = c.requires.size in
+    let size = c.requires.bound in
     loaded-whole g.T.BitStore.BITS g.W.BitOrder.at c.args.window g.met.T.BitStore.width_law (rw c.BITS-bits.ensures at c.if-bits-gt-WORD_BITS.false) (omega arith) (rw c.BITS-bits.ensures at c.if-skip-eq0.true) _ _ c.requires.window
     (rw (c.BITS-bits.ensures, c.new-cells.ensures.numbers) at c.load_elements-word.ensures.value)
 
@@ -29,7 +29,7 @@ returns g c =
     let has = c.requires.window in
     let low = has.within.start in
     let high = has.within.len in
-    let size : window.len ≡ 64 = let most = c.requires.size in omega arith in
+    let size : window.len ≡ 64 = let most = c.requires.bound in omega arith in
     let narrow = rw c.BITS-bits.ensures at c.if-bits-gt-WORD_BITS.false in
     let some = width_some _ g.met.T.BitStore.width_law in
     let whole = word_whole b g.met.T.BitStore.width_law narrow in

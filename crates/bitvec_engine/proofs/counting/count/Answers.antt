@@ -2,7 +2,7 @@ use Rattle.std.proofs.Common.{◌≡◌, ◌<◌, ℕ, ◌-◌, arith, rules, re
 use Rattle.bitvec_combine.specs.base.declared.part.Part.{Part}
 use Rattle.bitvec_combine.specs.base.Parts.{first_part_of}
 use Rattle.bitvec_combine.specs.store.WidthLaws.{width_some}
-use Rattle.bitvec_combine.specs.walk.Cost.{touched}
+use Rattle.bitvec_combine.specs.walk.Cost.{touched_count}
 use Rattle.bitvec_combine.specs.walk.WalkLaws.{touched-none}
 use Rattle.bitvec_combine.specs.words.FieldLaws.{first_part-long}
 use Rattle.bitvec_combine.specs.words.TouchedLaws.{touched-head, touched-rest}
@@ -25,7 +25,7 @@ returns-then-passed-window-clause-reads g c =
     let some = width_some _ g.met.C.Elem.BitStore.width_law in
     let step = first_part-long c.len-passed.result b c.BITS-bits.result c.args.window c.first_part-head.result c.len-passed.ensures c.first_part-head.ensures c.BITS-bits.ensures in
     let one = touched-head b c.args.window.start c.len-passed.result c.args.window.len some (omega arith) step in
-    let all = ap (touched b c.args.window.start) c.if-passed-window.true in
+    let all = ap (touched_count b c.args.window.start) c.if-passed-window.true in
     record { numbers = search rules; borrow = search rules; loads = omega arith; stores = search rules }
 
 pub overflow_add-result : goal.overflow_add-result

@@ -13,4 +13,4 @@ returns-clause-writes g c =
     Writes-next (λ l. write_at l 0 (reverse (slice_range l 0 len))) has
     (Writes-next (λ l. write_at l by (reverse (slice_range l by len))) has c.reverse_range.ensures.writes c.reverse_range-2.ensures.writes refl)
     c.reverse_range-3.ensures.writes
-    (reversals-rotate by len _ (sym (length-list _ g.O.BitOrder.at _ _ has)) c.requires.by)
+    (reversals-rotate by len _ (sym (length-list _ g.O.BitOrder.at _ _ has)) c.requires.bound)

@@ -3,7 +3,7 @@ use Rattle.bitvec_combine.specs.base.Lists.{first_place}
 use Rattle.bitvec_combine.specs.base.Window.{window_range}
 use Rattle.bitvec_combine.specs.base.WritesLaws.{HasWindow-range}
 use Rattle.bitvec_combine.specs.store.WidthLaws.{width_some}
-use Rattle.bitvec_combine.specs.walk.Cost.{touched}
+use Rattle.bitvec_combine.specs.walk.Cost.{touched_count}
 use Rattle.bitvec_combine.specs.walk.WalkLaws.{first_loads-most}
 use Rattle.bitvec_engine.proofs.WordScanLemmas.{front-bits, touched-blocks}
 use Rattle.bitvec_engine.proofs.scanning_words.first_in_front.Goals as goal
@@ -23,7 +23,7 @@ returns-then-inside-gt0-clause-reads g c =
     let reads = rw scan.value at scan.reads in
     let start : window.start + 0 ≡ window.start = omega arith in
     let all : count - 0 ≡ count = omega arith in
-    let same : touched b (window.start + 0) (count - 0) ≡ touched b window.start count = rw (start, all) refl in
+    let same : touched_count b (window.start + 0) (count - 0) ≡ touched_count b window.start count = rw (start, all) refl in
     record { numbers = scan.reads.numbers; borrow = scan.reads.borrow; loads = omega arith; stores = scan.reads.stores }
 
 pub returns-then-blocks-gt0-clause-reads : goal.returns-then-blocks-gt0-clause-reads

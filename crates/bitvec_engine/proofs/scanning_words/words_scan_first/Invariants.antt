@@ -1,7 +1,7 @@
 use Rattle.std.proofs.Common.{◌≡◌, ◌+◌, ◌≤◌, None}
 use Rattle.bitvec_combine.specs.base.Lists.{first_place}
 use Rattle.bitvec_combine.specs.base.Memory.{list_in}
-use Rattle.bitvec_combine.specs.walk.Cost.{touched}
+use Rattle.bitvec_combine.specs.walk.Cost.{touched_count}
 use Rattle.bitvec_combine.specs.walk.Walk.{passed}
 use Rattle.bitvec_engine.proofs.scanning_words.words_scan_first.Given as goal
 
@@ -16,7 +16,7 @@ invariant-loop-rest g l =
       none : None ≡ first_place l.want (list_in b g.O.BitOrder.at (cells.numbers l.fn.cells) (passed window l.rest));
       numbers : cells.numbers l.cells ≡ cells.numbers l.fn.cells;
       borrow : cells.borrow l.cells ≡ cells.borrow l.fn.cells;
-      loads : cells.loads l.cells + touched b l.rest.start l.rest.len ≤ cells.loads l.fn.cells + touched b window.start window.len;
+      loads : cells.loads l.cells + touched_count b l.rest.start l.rest.len ≤ cells.loads l.fn.cells + touched_count b window.start window.len;
       stores : cells.stores l.cells ≡ cells.stores l.fn.cells;
     }
 

@@ -15,4 +15,4 @@ returns-clause-writes g c =
     let zeros : len - (len - by) ≡ by = omega arith in
     Writes-next (λ l. write_at l (len - by) (replicate (len - (len - by)) false)) has copied
     (Writes-range _ _ _ _ _ (len - by) len _ (HasWindow-kept _ _ _ _ has copied.elements) (omega arith) (omega arith) cleared)
-    (rw zeros (copy-shifts_start by len _ (sym (length-list _ g.O.BitOrder.at _ _ has)) c.requires.by))
+    (rw zeros (copy-shifts_start by len _ (sym (length-list _ g.O.BitOrder.at _ _ has)) c.requires.bound))

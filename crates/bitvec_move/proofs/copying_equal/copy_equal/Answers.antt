@@ -3,7 +3,7 @@ use Rattle.bitvec_words.specs.base.declared.part.Part.{Part}
 use Rattle.bitvec_words.specs.base.Parts.{first_part_of}
 use Rattle.bitvec_words.specs.base.WritesLaws.{Writes-is}
 use Rattle.bitvec_words.specs.store.WidthLaws.{width_some}
-use Rattle.bitvec_words.specs.walk.Cost.{touched}
+use Rattle.bitvec_words.specs.walk.Cost.{touched_count}
 use Rattle.bitvec_words.specs.FieldLaws.{Writes-head, first_part-long, list-head}
 use Rattle.bitvec_words.specs.TouchedLaws.{part_loads-most, touched-head, touched-rest}
 use Rattle.bitvec_move.proofs.copying_equal.copy_equal.Goals as goal
@@ -14,7 +14,7 @@ returns-then-passed-to-clause-cost g c =
     let some = width_some _ g.met.C.Elem.BitStore.width_law in
     let step = first_part-long c.len-passed.result b c.BITS-bits.result c.args.to c.first_part-head.result c.len-passed.ensures c.first_part-head.ensures c.BITS-bits.ensures in
     let one = touched-head b c.args.to.start c.len-passed.result c.args.to.len some c.requires.some step in
-    let all = ap (touched b c.args.to.start) c.if-passed-to.true in
+    let all = ap (touched_count b c.args.to.start) c.if-passed-to.true in
     let most = part_loads-most b c.first_part-head.result in
     record { borrow = search rules; loads = omega arith; stores = omega arith }
 
@@ -25,7 +25,7 @@ returns-then-passed-to-clause-right g c =
     let step = first_part-long c.len-passed.result b c.BITS-bits.result c.args.to c.first_part-head.result c.len-passed.ensures c.first_part-head.ensures c.BITS-bits.ensures in
     let same : c.len-passed.result ≡ min c.args.from.len (b - c.args.from.start % b) = rw (c.requires.lengths, c.requires.phases) at step in
     let one = touched-head b c.args.from.start c.len-passed.result c.args.from.len some (omega arith) same in
-    let all = ap (touched b c.args.from.start) (c.if-passed-to.true ∙ c.requires.lengths) in
+    let all = ap (touched_count b c.args.from.start) (c.if-passed-to.true ∙ c.requires.lengths) in
     record { numbers = search rules; borrow = search rules; loads = omega arith; stores = search rules }
 
 pub returns-clause-writes : goal.returns-clause-writes

@@ -3,7 +3,7 @@ use Rattle.bitvec_words.specs.store.WidthLaws.{width_some}
 use Rattle.bitvec_words.specs.base.Memory.{list_in}
 use Rattle.bitvec_words.specs.base.ReversalLaws.{mirror-all, mirror-none}
 use Rattle.bitvec_words.specs.base.WritesLaws.{Writes-is, Writes-next, Writes-start, length-list}
-use Rattle.bitvec_words.specs.walk.Cost.{step_span, touched, work_steps}
+use Rattle.bitvec_words.specs.walk.Cost.{step_span, touched_count, work_steps}
 use Rattle.bitvec_words.specs.walk.CostLaws.{touched_enough}
 use Rattle.bitvec_move.specs.MirrorLaws.{mirror-exchange}
 use Rattle.bitvec_move.specs.ReversalLaws.{Edits-middle, steps-some}
@@ -92,5 +92,5 @@ returns-clause-cost g c =
     let steps = steps-pairs n pair (omega arith) in
     let more = steps-some (n - pair * 128) (omega arith) in
     let each = touched_enough b true rest.start rest.len some in
-    let within = words-cost (work_steps true n) (work_steps true (n - pair * 128)) pair span (touched b rest.start rest.len) steps more (subst (λ (m : ℕ). touched b rest.start rest.len ≤ work_steps true m * span) size each) in
+    let within = words-cost (work_steps true n) (work_steps true (n - pair * 128)) pair span (touched_count b rest.start rest.len) steps more (subst (λ (m : ℕ). touched_count b rest.start rest.len ≤ work_steps true m * span) size each) in
     record { borrow = cost.borrow ∙ inv.borrow; loads = omega arith; stores = omega arith }

@@ -4,7 +4,7 @@ use Rattle.std.proofs.lemmas.Nat.{mod_below}
 use Rattle.bitvec_words.specs.base.declared.part.Part.{Part}
 use Rattle.bitvec_words.specs.base.Parts.{first_part_of}
 use Rattle.bitvec_words.specs.store.WidthLaws.{width_some}
-use Rattle.bitvec_words.specs.walk.Cost.{touched}
+use Rattle.bitvec_words.specs.walk.Cost.{touched_count}
 use Rattle.bitvec_words.specs.FieldLaws.{first_part-long}
 use Rattle.bitvec_move.specs.SwapLaws.{Writes-exchanged, beside-head, beside-parted}
 use Rattle.bitvec_words.specs.TouchedLaws.{apart_edge, inside_element, touched-first, touched-head, touched-inside, touched-rest}
@@ -16,7 +16,7 @@ returns-then-passed-left_window-clause-cost g c =
     let some = width_some _ g.met.C.Elem.BitStore.width_law in
     let step = first_part-long c.len-passed.result b c.BITS-bits.result c.args.left_window c.first_part-head.result c.len-passed.ensures c.first_part-head.ensures c.BITS-bits.ensures in
     let one = touched-head b c.args.left_window.start c.len-passed.result c.args.left_window.len some c.requires.some step in
-    let all = ap (touched b c.args.left_window.start) c.if-passed-left_window.true in
+    let all = ap (touched_count b c.args.left_window.start) c.if-passed-left_window.true in
     record { borrow = search rules; loads = omega arith; stores = omega arith }
 
 pub returns-then-passed-left_window-clause-right_cost : goal.returns-then-passed-left_window-clause-right_cost

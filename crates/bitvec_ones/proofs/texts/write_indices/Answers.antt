@@ -3,7 +3,7 @@ use Rattle.std.specs.Fmt.{HasWritten, decimal}
 use Rattle.std.specs.List.{join_by}
 use Rattle.std.proofs.Output.{has_written_append, has_written_of_eq}
 use Rattle.bitvec_query.specs.traits.Listing.{comma, separator}
-use Rattle.bitvec_ones.specs.Indices.{indices_left}
+use Rattle.bitvec_ones.specs.Indices.{remaining_indices}
 use Rattle.bitvec_ones.proofs.PushedLemmas.{joined-push, separator-later}
 use Rattle.bitvec_ones.proofs.texts.write_indices.Goals as goal
 
@@ -13,7 +13,7 @@ loop-index-preserved g c =
     let index = c.in-Some.index in
     let before = c.loop-index.invariant in (
       separator-later yielded index,
-      append_assoc yielded (index ∷ []) (indices_left c.next.new.self) ∙ ap (λ l. yielded ++ l) (sym c.in-Some.ensures.steps) ∙ before.1,
+      append_assoc yielded (index ∷ []) (remaining_indices c.next.new.self) ∙ ap (λ l. yielded ++ l) (sym c.in-Some.ensures.steps) ∙ before.1,
       λ plain.
           let so_far = before.2 plain in
           let lead : HasWritten g.W.Write.write_str_gives c.loop-index.f (separator c.loop-index.passed) c.write_str.new.self = search rules in

@@ -1,7 +1,7 @@
 use Rattle.std.proofs.Common.{◌≡◌, ◌+◌, ◌≤◌, ◌++◌, drop, take}
 use Rattle.bitvec_query.specs.base.Lists.{places_of}
 use Rattle.bitvec_query.specs.base.Memory.{list_in}
-use Rattle.bitvec_query.specs.walk.Cost.{touched}
+use Rattle.bitvec_query.specs.walk.Cost.{touched_count}
 use Rattle.bitvec_ones.specs.Loads.{rest_loads}
 use Rattle.bitvec_ones.specs.Places.{IsRestOf, places_left}
 use Rattle.bitvec_ones.specs.Turns.{count_given, turns_give}
@@ -16,6 +16,6 @@ invariant-loop-number g l =
       gives : take l.number l.out ++ turns_give (places_left l.want list l.rest) (drop l.number l.turns) ≡ turns_give (places_of l.want list) l.turns;
       numbers : g.C.CellsRead.numbers l.cells ≡ g.C.CellsRead.numbers l.fn.cells;
       borrow : g.C.CellsRead.borrow l.cells ≡ g.C.CellsRead.borrow l.fn.cells;
-      loads : g.C.CellsRead.loads l.cells + rest_loads b l.window l.rest ≤ g.C.CellsRead.loads l.fn.cells + (touched b l.window.start l.window.len + count_given (take l.number l.out));
+      loads : g.C.CellsRead.loads l.cells + rest_loads b l.window l.rest ≤ g.C.CellsRead.loads l.fn.cells + (touched_count b l.window.start l.window.len + count_given (take l.number l.out));
       stores : g.C.CellsRead.stores l.cells ≡ g.C.CellsRead.stores l.fn.cells;
     }

@@ -19,7 +19,7 @@ copy_from_block_in-requires-clause-window g c =
     let fits = repeat-fits bits c.loop-number.number c.args.copies (g.T.BitStore.BITS * length c.args.cells.now) (omega arith) (rw long c.requires.room) in
     let spread = rw long at fits in
     let size : length (map g.T.BitStore.value c.loop-number.cells) ≡ length c.args.cells.now = length-map c.loop-number.cells g.T.BitStore.value ∙ c.loop-number.invariant.1 in
-    rw (same) (record { fits = rw size c.requires.bounded; within = record { start = rw size (omega arith); len = rw size (omega arith) } })
+    rw (same) (record { fits = rw size c.requires.fits; within = record { start = rw size (omega arith); len = rw size (omega arith) } })
 
 pub loop-number-preserved : goal.loop-number-preserved
 loop-number-preserved g c =

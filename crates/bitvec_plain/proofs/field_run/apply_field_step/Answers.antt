@@ -1,6 +1,6 @@
 use Rattle.std.proofs.Common.{◌≡◌, length, inl, inr, sym, false, ◌∙◌, ap}
 use Rattle.bitvec_run.specs.base.Window.{write_at}
-use Rattle.bitvec_run.specs.Rows.{Row, range_lies}
+use Rattle.bitvec_run.specs.Rows.{CommandRow, range_lies}
 use Rattle.bitvec_plain.proofs.FieldSteps.{field_list-in, field_reply-in, field_step-out}
 use Rattle.bitvec_plain.proofs.Steps.{out_of_range, put_mid-write_at}
 use Rattle.bitvec_plain.proofs.field_run.apply_field_step.Goals as goal
@@ -15,10 +15,10 @@ out c =
     ]
 
 pub returns-then-step-clause-reply : goal.returns-then-step-clause-reply
-returns-then-step-clause-reply c = ap (λ (r : Row). r.reply c.args.list.now) (sym (field_step-out c.args.layout.high c.args.layout.bits c.args.place c.args.right.now _ c.args.step (out c)))
+returns-then-step-clause-reply c = ap (λ (r : CommandRow). r.reply c.args.list.now) (sym (field_step-out c.args.layout.high c.args.layout.bits c.args.place c.args.right.now _ c.args.step (out c)))
 
 pub returns-then-step-clause-list : goal.returns-then-step-clause-list
-returns-then-step-clause-list c = ap (λ (r : Row). r.list c.args.list.now) (sym (field_step-out c.args.layout.high c.args.layout.bits c.args.place c.args.right.now _ c.args.step (out c)))
+returns-then-step-clause-list c = ap (λ (r : CommandRow). r.list c.args.list.now) (sym (field_step-out c.args.layout.high c.args.layout.bits c.args.place c.args.right.now _ c.args.step (out c)))
 
 pub returns-clause-reply : goal.returns-clause-reply
 returns-clause-reply c = c.apply_field.ensures.reply ∙ sym (field_reply-in c.args.layout.high c.args.layout.bits c.args.place c.args.right.now c.args.list.now c.args.step c.if-step.false c.if-step-list.false)

@@ -9,13 +9,13 @@ use Rattle.bitvec_run.proofs.step.carry_out.Goals as goal
 pub returns-in-Some : goal.returns-in-Some
 returns-in-Some g c =
     let right = list_in g.C.Elem.BitStore.BITS g.O.BitOrder.at (g.D.CellsRead.numbers c.args.right.now) c.args.source in
-    let refusal = sym (c.step_refusal.ensures.refusal right (length-list _ _ _ _ c.requires.source)) ∙ c.in-Some.is in
+    let refusal = sym (c.step_refusal.ensures.refusal right (length-list _ _ _ _ c.requires.right_window)) ∙ c.in-Some.is in
     rw (outcome-is (step_row right c.args.window.len c.args.step) (Some c.in-Some.refusal) refusal) (search (rules, Writes-nothing))
 
 pub returns-in-None : goal.returns-in-None
 returns-in-None g c =
     let right = list_in g.C.Elem.BitStore.BITS g.O.BitOrder.at (g.D.CellsRead.numbers c.args.right.now) c.args.source in
-    let refusal = sym (c.step_refusal.ensures.refusal right (length-list _ _ _ _ c.requires.source)) ∙ c.in-None.is in
+    let refusal = sym (c.step_refusal.ensures.refusal right (length-list _ _ _ _ c.requires.right_window)) ∙ c.in-None.is in
     let fits = c.in-None.ensures.fits in
     let did = rw c.range-target.ensures at c.command.ensures in
     rw (step-does right c.args.window.len c.args.step refusal)

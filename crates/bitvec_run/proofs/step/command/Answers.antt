@@ -4,7 +4,7 @@ use Rattle.bitvec_run.proofs.step.command.Goals as goal
 
 pub returns-in-Get : goal.returns-in-Get
 returns-in-Get g c = record {
-  left = Answers-follow g.C.CellsRead _ _ _ _ c.args.target _ _ _ c.requires.target (c.query.ensures _);
+  left = Answers-follow g.C.CellsRead _ _ _ _ c.args.target _ _ _ c.requires.window (c.query.ensures _);
   right = search rules;
 }
 

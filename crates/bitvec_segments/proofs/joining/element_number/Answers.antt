@@ -11,7 +11,7 @@ use Rattle.bitvec_segments.proofs.joining.element_number.Goals as goal
 pub returns-clause-value : goal.returns-clause-value
 returns-clause-value g c =
     c.part_number.ensures.value
-    ∙ ap (segment_number g.O.WordOrder.HIGH) (list-whole _ _ _ c.args.element c.BITS.result c.BITS.ensures c.requires.inside)
+    ∙ ap (segment_number g.O.WordOrder.HIGH) (list-whole _ _ _ c.args.element c.BITS.result c.BITS.ensures c.requires.bound)
 
 pub returns-clause-fits : goal.returns-clause-fits
 returns-clause-fits g c =

@@ -30,7 +30,7 @@ overflow_add-number g c =
     let part : c.first_part-part.result ≡ first_part_of b rest = c.first_part-part.ensures ∙ ap (λ (n : ℕ). first_part_of n rest) c.BITS-bits.ensures in
     let number = rw (part, inv.reads.numbers) at c.part_number.ensures.value in
     let next = Loaded-next _ _ _ at _ window rest _ _ _ some more (c.len-len.ensures ∙ ap (λ (p : Part). p.to - p.from) part) c.requires.window inv.walk number inv.value in
-    let fits = Loaded-fits _ _ _ at _ window _ _ c.requires.window c.requires.size next in
+    let fits = Loaded-fits _ _ _ at _ window _ _ c.requires.window c.requires.bound next in
     let kept = (parts_kept _ _ fits).1 in
     rw (c.lower_bits-below.ensures.bits, kept) (record { fits = fits })
 
@@ -49,7 +49,7 @@ loop-rest-preserved g c =
     let each = touched-next b window rest c.len-len.result some more (omega arith) (omega arith) inv.walk in
     let number = rw (part, inv.reads.numbers) at c.part_number.ensures.value in
     let next = Loaded-next _ _ _ at _ window rest _ _ _ some more step c.requires.window inv.walk number inv.value in
-    let fits = Loaded-fits _ _ _ at _ window _ _ c.requires.window c.requires.size next in
+    let fits = Loaded-fits _ _ _ at _ window _ _ c.requires.window c.requires.bound next in
     let kept = (parts_kept _ _ fits).1 in
     rw c.after-rest.ensures (record {
       walk = Walked-next _ _ _ _ some more step inv.walk;

@@ -1,5 +1,5 @@
 use Rattle.bitvec_words.specs.cells.Access.{OnlyReads}
-use Rattle.bitvec_words.specs.walk.Cost.{touched}
+use Rattle.bitvec_words.specs.walk.Cost.{touched_count}
 use Rattle.bitvec_words.specs.walk.Walk.{Walked, passed}
 use Rattle.bitvec_segments.proofs.WalkLemmas.{Loaded}
 use Rattle.bitvec_segments.proofs.loading.load_many.Given as goal
@@ -11,7 +11,7 @@ invariant-loop-rest g l =
     record {
       walk : Walked b l.fn.window l.rest;
       value : Loaded g.E.Endian.BIG g.O.WordOrder.HIGH b g.O.BitOrder.at (g.C.CellsRead.numbers l.fn.cells) l.fn.window l.rest l.number;
-      reads : OnlyReads g.C.CellsRead l.fn.cells l.cells (touched b part.start part.len);
+      reads : OnlyReads g.C.CellsRead l.fn.cells l.cells (touched_count b part.start part.len);
     }
 
 abbrev pub decreases-loop-rest : goal.decreases-loop-rest

@@ -2,7 +2,7 @@ use Rattle.std.proofs.Common.{◌≡◌, ◌*◌, ◌%◌, take}
 use Rattle.bitvec_words.specs.base.Memory.{Writes, list_in}
 use Rattle.bitvec_words.specs.cells.Access.{CostsAtMost}
 use Rattle.bitvec_segments.specs.Segments.{stored}
-use Rattle.bitvec_words.specs.walk.Cost.{touched}
+use Rattle.bitvec_words.specs.walk.Cost.{touched_count}
 use Rattle.bitvec_words.specs.walk.Walk.{Walked, edge_loads, passed}
 use Rattle.bitvec_segments.proofs.WalkLemmas.{Left}
 use Rattle.bitvec_segments.proofs.whole.store_whole.Given as goal
@@ -20,7 +20,7 @@ invariant-loop-rest g l =
       walk : Walked b l.fn.window l.rest;
       writes : Writes b at old (g.C.CellsRead.numbers l.cells) part (take part.len target);
       left : Left g.E.Endian.BIG g.O.WordOrder.HIGH b target (list_in b at old l.rest) l.fn.window l.rest l.fn.number;
-      cost : CostsAtMost g.C.CellsRead l.fn.cells l.cells (edge_loads l.fn.window l.rest) (touched b part.start part.len);
+      cost : CostsAtMost g.C.CellsRead l.fn.cells l.cells (edge_loads l.fn.window l.rest) (touched_count b part.start part.len);
     }
 
 abbrev pub decreases-loop-rest : goal.decreases-loop-rest

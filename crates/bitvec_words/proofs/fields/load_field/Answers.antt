@@ -37,6 +37,6 @@ loop-rest-preserved g c =
     let start = inv.walk.start in
     rw c.after-rest.ensures (record {
       walk = Walked-next _ _ _ _ some more step inv.walk;
-      value = field-next _ _ _ _ _ _ _ _ _ _ some more c.requires.size step refl c.requires.window inv.walk loaded moved inv.value;
+      value = field-next _ _ _ _ _ _ _ _ _ _ some more c.requires.bound step refl c.requires.window inv.walk loaded moved inv.value;
       reads = record { numbers = c.load-element.ensures.numbers ∙ inv.reads.numbers; borrow = c.load-element.ensures.borrow ∙ inv.reads.borrow; loads = omega arith; stores = c.load-element.ensures.stores ∙ inv.reads.stores };
     })

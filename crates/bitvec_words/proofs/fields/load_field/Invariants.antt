@@ -1,7 +1,7 @@
 use Rattle.std.proofs.Common.{◌≡◌}
 use Rattle.bitvec_cells.specs.base.Memory.{element_bits, list_in}
 use Rattle.bitvec_cells.specs.Access.{OnlyReads}
-use Rattle.bitvec_cells.specs.Cost.{touched}
+use Rattle.bitvec_cells.specs.Cost.{touched_count}
 use Rattle.bitvec_cells.specs.Walk.{Walked, passed}
 use Rattle.bitvec_words.specs.Field.{padded}
 use Rattle.bitvec_words.proofs.fields.load_field.Given as goal
@@ -13,7 +13,7 @@ invariant-loop-rest g l =
     record {
       walk : Walked b l.fn.window l.rest;
       value : element_bits 64 g.O.BitOrder.at l.field ≡ padded 64 (list_in b g.O.BitOrder.at (g.C.CellsRead.numbers l.fn.cells) part);
-      reads : OnlyReads g.C.CellsRead l.fn.cells l.cells (touched b part.start part.len);
+      reads : OnlyReads g.C.CellsRead l.fn.cells l.cells (touched_count b part.start part.len);
     }
 
 abbrev pub decreases-loop-rest : goal.decreases-loop-rest

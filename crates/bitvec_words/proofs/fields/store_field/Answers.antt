@@ -37,6 +37,6 @@ loop-rest-preserved g c =
     let start = inv.walk.start in
     rw c.after-rest.ensures (record {
       walk = Walked-next _ _ _ _ some more step inv.walk;
-      writes = Writes-next_field _ _ _ _ _ _ _ _ _ _ _ some more c.requires.size step refl c.requires.window inv.walk moved inv.writes ensures.writes;
+      writes = Writes-next_field _ _ _ _ _ _ _ _ _ _ _ some more c.requires.bound step refl c.requires.window inv.walk moved inv.writes ensures.writes;
       cost = record { borrow = search rules; loads = omega arith; stores = omega arith };
     })

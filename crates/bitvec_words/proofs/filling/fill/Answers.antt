@@ -3,7 +3,7 @@ use Rattle.bitvec_cells.specs.base.declared.part.Part.{Part}
 use Rattle.bitvec_cells.specs.base.Parts.{first_part_of}
 use Rattle.bitvec_cells.specs.base.WritesLaws.{Writes-empty, Writes-is}
 use Rattle.bitvec_cells.specs.store.WidthLaws.{width_some}
-use Rattle.bitvec_cells.specs.Cost.{touched}
+use Rattle.bitvec_cells.specs.Cost.{touched_count}
 use Rattle.bitvec_cells.specs.WalkLaws.{first-len, touched-none}
 use Rattle.bitvec_words.specs.FieldLaws.{Writes-head, first_part-long}
 use Rattle.bitvec_words.specs.FillingLaws.{fill_loads-some, replicate-is, replicate-parts}
@@ -26,7 +26,7 @@ returns-then-passed-window-clause-cost g c =
     let some = width_some _ g.met.C.Elem.BitStore.width_law in
     let step = first_part-long c.len-passed.result b c.BITS-bits.result c.args.window c.first_part-head.result c.len-passed.ensures c.first_part-head.ensures c.BITS-bits.ensures in
     let one = touched-head b c.args.window.start c.len-passed.result c.args.window.len some (omega arith) step in
-    let all = ap (touched b c.args.window.start) c.if-passed-window.true in
+    let all = ap (touched_count b c.args.window.start) c.if-passed-window.true in
     let most = part_loads-most b c.first_part-head.result in
     let edges = fill_loads-some c.args.window.len c.if-window-eq0.false in
     record { borrow = search rules; loads = omega arith; stores = omega arith }
@@ -37,7 +37,7 @@ returns-then-passed-window-clause-stores g c =
     let some = width_some _ g.met.C.Elem.BitStore.width_law in
     let step = first_part-long c.len-passed.result b c.BITS-bits.result c.args.window c.first_part-head.result c.len-passed.ensures c.first_part-head.ensures c.BITS-bits.ensures in
     let one = touched-head b c.args.window.start c.len-passed.result c.args.window.len some (omega arith) step in
-    let all = ap (touched b c.args.window.start) c.if-passed-window.true in
+    let all = ap (touched_count b c.args.window.start) c.if-passed-window.true in
     omega arith
 
 pub returns-then-passed-window-clause-loads : goal.returns-then-passed-window-clause-loads
@@ -46,7 +46,7 @@ returns-then-passed-window-clause-loads g c =
     let some = width_some _ g.met.C.Elem.BitStore.width_law in
     let step = first_part-long c.len-passed.result b c.BITS-bits.result c.args.window c.first_part-head.result c.len-passed.ensures c.first_part-head.ensures c.BITS-bits.ensures in
     let one = touched-head b c.args.window.start c.len-passed.result c.args.window.len some (omega arith) step in
-    let all = ap (touched b c.args.window.start) c.if-passed-window.true in
+    let all = ap (touched_count b c.args.window.start) c.if-passed-window.true in
     let most = part_loads-most b c.first_part-head.result in
     omega arith
 

@@ -5,4 +5,4 @@ pub returns : goal.returns
 returns g c =
     let v = c.args.self in
     part_view _ _ _ v.elements.now v.head v.len v.inside _ c.args.range.start c.args.range.end g.met.T.BitStore.width_law c.requires.0 c.requires.1
-    (rw (c.touched-cells.ensures.first, c.touched-cells.ensures.end, c.BITS.ensures) at c.from_parts.ensures)
+    (rw (c.touched_range-cells.ensures.first, c.touched_range-cells.ensures.end, c.BITS.ensures) at c.from_parts.ensures)

@@ -2,12 +2,12 @@
 use Rattle.bitvec_slice.specs.lends.Steps.{refl, [], ◌∷◌, full_share, a_type, dcons, dnil, erased, NamedLft, layout, bounded, copied, param, copied_laws, param_laws, part_apart, tail, behind_ty}
 use denote.Struct.Field.{rows}
 use Rattle.bitvec_split.specs.AnyLender.{of_four, begins, lends_range}
-use Rattle.bitvec_split.specs.CountedLending.{with_elements}
-use Rattle.bitvec_split.specs.contracts.counted_lending.SplitsNMut.{struct, the_type, the_row}
-use Rattle.bitvec_split.specs.contracts.counted_lending.SplitsNMut.elements_part_mut.Key.{name as #self}
-use Rattle.bitvec_split.proofs.counted_lending.SplitsNMut.TheLaws.{the_loose}
-use Rattle.bitvec_split.proofs.counted_lending.SplitsNMut.elements_part_mut.Statement.{statement}
-use Rattle.bitvec_split.proofs.counted_lending.SplitsNMut.elements_part_mut.Code as code
+use Rattle.bitvec_split.specs.LimitedLending.{with_elements}
+use Rattle.bitvec_split.specs.contracts.limited_lending.SplitsNMut.{struct, the_type, the_row}
+use Rattle.bitvec_split.specs.contracts.limited_lending.SplitsNMut.elements_part_mut.Key.{name as #self}
+use Rattle.bitvec_split.proofs.limited_lending.SplitsNMut.TheLaws.{the_loose}
+use Rattle.bitvec_split.proofs.limited_lending.SplitsNMut.elements_part_mut.Statement.{statement}
+use Rattle.bitvec_split.proofs.limited_lending.SplitsNMut.elements_part_mut.Code as code
 
 pub elements_part_mut_spec : {M : Type 1} → statement M
 elements_part_mut_spec 𝓤 𝓛 𝓜 𝓡 wired T O P W LT LO LP LW CT g gd c cd o od _ _ _ =

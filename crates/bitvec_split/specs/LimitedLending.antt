@@ -1,4 +1,4 @@
--- What a counted split that lends ends as, where a piece was lent.
+-- What a limited split that lends ends as, where a piece was lent.
 use Rattle.std.specs.Prelude.{ℕ, ◌+◌, ◌*◌, ◌≤◌, List}
 use Rattle.std.specs.Borrow.{Fml, GName, MutBor, RattleType, Array, follows}
 use Rattle.std.proofs.Common.{subst}
@@ -7,8 +7,8 @@ use Rattle.bitvec_slice.specs.store.declared.store.BitStore.{Ghosts as Store}
 use Rattle.bitvec_slice.specs.base.declared.order.BitOrder.{Ghosts as Order}
 use Rattle.bitvec_slice.specs.base.Window.{max_bits}
 use Rattle.bitvec_slice.specs.Touched.{end_touched, first_touched}
-use Rattle.bitvec_split.specs.declared.counted_lending.SplitsNMut.{SplitsNMut}
-use Rattle.bitvec_split.specs.contracts.counted_lending.SplitsNMut.{the_row}
+use Rattle.bitvec_split.specs.declared.limited_lending.SplitsNMut.{SplitsNMut}
+use Rattle.bitvec_split.specs.contracts.limited_lending.SplitsNMut.{the_row}
 
 module _ {T O P W : Type 0} {t : Store T} {o : Order O} where
   -- the split as before, but for its elements, which are xs, cut or filled up to as many as before

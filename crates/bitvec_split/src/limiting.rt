@@ -25,11 +25,11 @@ pub type RSplitN<'a, T, O, P> = SplitsN<'a, T, O, P, Reversed>;
 impl<'a, T: BitStore, O: BitOrder, P: FnMut(usize, &bool) -> bool, W: Way> SplitsN<'a, T, O, P, W> {
     ghost use Rattle.bitvec_slice.specs.Views.{seen};
     ghost use Rattle.bitvec_split.specs.Splits.{MayGoOn, unsplit};
-    ghost use Rattle.bitvec_split.specs.Views.{counted_of};
+    ghost use Rattle.bitvec_split.specs.Views.{limited_of};
 
     /// The pieces of a view, which last as long as what it borrows. The crate has no such call.
     pub fn new(bits: BitSlice<'a, T, O>, count: usize, pred: P) -> Self
-        ensures { counted_of result ≡ record { left = unsplit W.INCLUSIVE (seen bits.entry) pred; count = count } }
+        ensures { limited_of result ≡ record { left = unsplit W.INCLUSIVE (seen bits.entry) pred; count = count } }
     {
         SplitsN {
             parts: Splits::new(bits, pred),
@@ -41,16 +41,16 @@ impl<'a, T: BitStore, O: BitOrder, P: FnMut(usize, &bool) -> bool, W: Way> Split
 impl<'a, T: BitStore, O: BitOrder, P: FnMut(usize, &bool) -> bool, W: Way> Iterator
     for SplitsN<'a, T, O, P, W> {
     ghost use Rattle.bitvec_slice.specs.Views.{seen};
-    ghost use Rattle.bitvec_split.specs.Splits.{CountedNext, MayGoOn, counted_most, least};
-    ghost use Rattle.bitvec_split.specs.Views.{counted_of};
+    ghost use Rattle.bitvec_split.specs.Splits.{LimitedNext, MayGoOn, least, limited_most};
+    ghost use Rattle.bitvec_split.specs.Views.{limited_of};
 
     type Item = BitSlice<'a, T, O>;
 
-    ghost can_next = { λ s. MayGoOn P.FnMut (counted_of s).left };
+    ghost can_next = { λ s. MayGoOn P.FnMut (limited_of s).left };
 
-    ghost next_gives = { λ s r t. CountedNext T.BITS P.FnMut W.INCLUSIVE W.REVERSED (counted_of s) (option_map seen r) (counted_of t) };
+    ghost next_gives = { λ s r t. LimitedNext T.BITS P.FnMut W.INCLUSIVE W.REVERSED (limited_of s) (option_map seen r) (limited_of t) };
 
-    ghost remaining = { λ s. at_most (counted_most (counted_of s)) };
+    ghost remaining = { λ s. at_most (limited_most (limited_of s)) };
 
     fn next(&mut self) -> Option<BitSlice<'a, T, O>> {
         let piece = match self.count {
@@ -63,9 +63,9 @@ impl<'a, T: BitStore, O: BitOrder, P: FnMut(usize, &bool) -> bool, W: Way> Itera
     }
 
     fn size_hint(&self) -> (usize, Option<usize>)
-        ensures exact { result ≡ (min (least (counted_of self.now).left) (counted_of self.now).count, Some (counted_most (counted_of self.now))) }
-        ensures lower { IsWithinCount result.0 (at_most (counted_most (counted_of self.now))) }
-        ensures upper { IfSome result.1 (UpTo (at_most (counted_most (counted_of self.now)))) }
+        ensures exact { result ≡ (min (least (limited_of self.now).left) (limited_of self.now).count, Some (limited_most (limited_of self.now))) }
+        ensures lower { IsWithinCount result.0 (at_most (limited_most (limited_of self.now))) }
+        ensures upper { IfSome result.1 (UpTo (at_most (limited_most (limited_of self.now)))) }
     {
         let (least, most) = self.parts.bounds();
         (least.min(self.count), Some(most.min(self.count)))

@@ -4,7 +4,7 @@ use Rattle.std.proofs.lemmas.Grind.{div_ceil_times}
 use Rattle.bitvec_elements.specs.store.WidthLaws.{width_some}
 use Rattle.bitvec_slice.specs.Touched.{Touches, end_touched}
 use Rattle.bitvec_slice.specs.TouchedLaws.{touches}
-use Rattle.bitvec_slice.proofs.touching.touched.Goals as goal
+use Rattle.bitvec_slice.proofs.touching.touched_range.Goals as goal
 
 -- the elements up to the last that is touched have the places
 held : (b start end : ℕ) → 0 < b → start ≤ end → Touches b (end_touched b end) start end

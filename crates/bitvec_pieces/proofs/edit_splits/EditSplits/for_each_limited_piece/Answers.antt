@@ -1,9 +1,9 @@
 use Rattle.std.proofs.Common.{Some, [], refl}
 use Rattle.bitvec_pieces.specs.ShownLaws.{may-return, returned}
-use Rattle.bitvec_pieces.specs.ToSplit.{counted_at}
+use Rattle.bitvec_pieces.specs.ToSplit.{limited_at}
 use Rattle.bitvec_pieces.specs.SplitEdits.{Editing}
-use Rattle.bitvec_pieces.specs.TurnsLaws.{counted-on, given-piece, piece-given, piece-lies, seen-same, turns-next}
-use Rattle.bitvec_pieces.proofs.edit_splits.EditSplits.for_each_counted_piece.Goals as goal
+use Rattle.bitvec_pieces.specs.TurnsLaws.{given-piece, limited-on, piece-given, piece-lies, seen-same, turns-next}
+use Rattle.bitvec_pieces.proofs.edit_splits.EditSplits.for_each_limited_piece.Goals as goal
 
 pub edit-requires : goal.edit-requires
 edit-requires g c = (c.requires.edit _ _).accepts _ (given-piece c.loop-range.invariant.turns c.in-Some.ensures.takes c.narrow-window.ensures)
@@ -25,7 +25,7 @@ loop-range-preserved g c =
     let left = c.loop-range.left in
     let shown = g.met.Self.EditSplits.shown in
     let same = seen-same left.from left.to (shown c.loop-range.self) (shown c.args.self.now) far.rest in
-    let gave = counted-on g.P.FnMut g.W.Way.INCLUSIVE g.W.Way.REVERSED _ (g.Self.EditSplits.seen c.args.self.now) left c.counted_step.new.left c.loop-range.pred c.counted_step.new.pred c.loop-range.count c.counted_step.new.count (Some c.in-Some.range) same c.in-Some.ensures.piece in
+    let gave = limited-on g.P.FnMut g.W.Way.INCLUSIVE g.W.Way.REVERSED _ (g.Self.EditSplits.seen c.args.self.now) left c.limited_step.new.left c.loop-range.pred c.limited_step.new.pred c.loop-range.count c.limited_step.new.count (Some c.in-Some.range) same c.in-Some.ensures.piece in
     record {
       turns = turns-next far takes gave (piece-given far takes narrowed) c.edit.ensures kept (returned (piece-lies far takes) narrowed kept c.stand_at.ensures);
       callable = c.in-Some.ensures.callable;
@@ -38,8 +38,8 @@ returns g c =
     let view = g.Self.EditSplits.seen c.args.self.now in
     let shown = g.met.Self.EditSplits.shown in
     let same = seen-same left.from left.to (shown c.loop-range.self) (shown c.args.self.now) far.rest in
-    let none = rw c.in_default.is at c.counted_step.ensures.piece in
-    let last = counted_at view left c.loop-range.count c.loop-range.pred in
+    let none = rw c.in_default.is at c.limited_step.ensures.piece in
+    let last = limited_at view left c.loop-range.count c.loop-range.pred in
     let ended : Editing _ = record { bits = (g.Self.EditParts.shows c.loop-range.self).bits; edit = c.loop-range.edit; number = c.loop-range.number } in
     let (all, gives, edits) = far.ends [] last ended refl refl in
     record {

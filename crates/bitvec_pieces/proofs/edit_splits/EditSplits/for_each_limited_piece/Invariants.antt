@@ -1,0 +1,17 @@
+use Rattle.bitvec_split.specs.Lent.{LimitedNextIn, MayGoOnIn, unsplit_in}
+use Rattle.bitvec_pieces.specs.ToSplit.{left_at, limited_at, most_left}
+use Rattle.bitvec_pieces.specs.TurnsLaws.{TurnsSoFar}
+use Rattle.bitvec_pieces.proofs.edit_splits.EditSplits.for_each_limited_piece.Given as goal
+
+abbrev pub invariant-loop-range : goal.invariant-loop-range
+invariant-loop-range g l =
+    let shows = g.Self.EditParts.shows in
+    let view = g.Self.EditSplits.seen l.fn.self in
+    record {
+      turns : TurnsSoFar shows (goal.F-step g) (shows l.fn.self) (LimitedNextIn g.P.FnMut g.W.Way.INCLUSIVE g.W.Way.REVERSED)
+          (record { left = unsplit_in g.W.Way.INCLUSIVE view l.fn.pred; count = l.fn.count }) l.fn.edit (limited_at view l.left l.count l.pred) l.left (shows l.self) l.edit l.number;
+      callable : MayGoOnIn g.P.FnMut (left_at view l.left l.pred);
+    }
+
+abbrev pub decreases-loop-range : goal.decreases-loop-range
+decreases-loop-range g l = most_left l.left
