@@ -135,7 +135,7 @@ pub(crate) fn combine_whole<O: BitOrder, C: Cells, D: CellsRead<Elem = C::Elem>>
 }
 
 /// From how many bytes on a loop for just their shift is worth the choice.
-pub(crate) const MANY_BYTES: usize = 64;
+const MANY_BYTES: usize = 64;
 
 /// Combines `count` whole elements with the bits at the index `skip` of an element of another
 /// memory on, where that element is `carry`. It gives the last element loaded.

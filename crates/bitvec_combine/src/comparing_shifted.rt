@@ -8,7 +8,6 @@ ghost use Rattle.bitvec_move.specs.cells.Access.{OnlyReads, OnlyReadsAtMost};
 ghost use Rattle.bitvec_move.specs.walk.Cost.{touched_count};
 ghost use Rattle.bitvec_move.specs.words.Elements.{elements_window, elements_window_from};
 
-use crate::combining_elements::MANY_BYTES;
 use crate::comparing_equal::{elements_per_test, is_zero};
 use bitvec_move::base::{BitOrder, Part, Window, first_part};
 use bitvec_move::cells::CellsRead;
@@ -118,7 +117,7 @@ fn equal_carried<O: WordOrder, C: CellsRead, D: CellsRead<Elem = C::Elem>>(
     let mut last = carry;
     for test in 0..tests {
         let passed = test * span;
-        let (found, next) = shifted_differences::<O, C, D>(
+        let (found, next) = tested_differences::<O, C, D>(
             left,
             first + passed,
             right,
@@ -239,10 +238,35 @@ fn shifted_differences<O: WordOrder, C: CellsRead, D: CellsRead<Elem = C::Elem>>
             left, first, right, source, carry, skip, count,
         );
     }
-    if C::Elem::BITS == u8::BITS && count >= MANY_BYTES {
+    carried_differences::<O, C, D, Whole<C::Elem>>(left, first, right, source, carry, skip, count)
+}
+
+/// The same of as many elements as there are in a test, of which there may be many.
+fn tested_differences<O: WordOrder, C: CellsRead, D: CellsRead<Elem = C::Elem>>(
+    left: &mut C,
+    first: usize,
+    right: &mut D,
+    source: usize,
+    carry: C::Elem,
+    skip: usize,
+    count: usize,
+) -> (C::Elem, C::Elem)
+    requires window { HasWindow C.Elem.BITS (C.numbers left.old) (elements_window C.Elem.BITS first count) }
+    requires right_window { HasWindow C.Elem.BITS (D.numbers right.old) (elements_window_from C.Elem.BITS source skip count) }
+    requires some { 0 < skip }
+    requires bound { skip < C.Elem.BITS }
+    requires carry { C.Elem.value carry ≡ slice_index (D.numbers right.old) source }
+    ensures value { (C.Elem.value result.0 == 0)
+        ≡ same_bits (list_in C.Elem.BITS O.at (C.numbers left.old) (elements_window C.Elem.BITS first count))
+        (list_in C.Elem.BITS O.at (D.numbers right.old) (elements_window_from C.Elem.BITS source skip count)) }
+    ensures carried { C.Elem.value result.1 ≡ slice_index (D.numbers right.old) (source + count) }
+    ensures reads { OnlyReads C.CellsRead left.old left.new count }
+    ensures right { OnlyReads D.CellsRead right.old right.new count }
+{
+    if C::Elem::BITS == u8::BITS {
         return differences_of_bytes::<O, C, D>(left, first, right, source, carry, skip, count);
     }
-    carried_differences::<O, C, D, Whole<C::Elem>>(left, first, right, source, carry, skip, count)
+    shifted_differences::<O, C, D>(left, first, right, source, carry, skip, count)
 }
 
 /// The same for bytes, with a loop for each `skip`, as operators have it.

@@ -8,8 +8,8 @@ use Rattle.bitvec_move.specs.words.TouchedLaws.{touched-after}
 use Rattle.bitvec_move.specs.words.WholeLaws.{HasWindow-part, list-elements, list-elements_from, long-elements_from, touched-behind_from, whole_fits}
 use Rattle.bitvec_combine.proofs.comparing_shifted.equal_carried.Goals as goal
 
-pub shifted_differences-found-requires-clause-window : goal.shifted_differences-found-requires-clause-window
-shifted_differences-found-requires-clause-window g c =
+pub tested_differences-found-requires-clause-window : goal.tested_differences-found-requires-clause-window
+tested_differences-found-requires-clause-window g c =
     let b = g.C.Elem.BitStore.BITS in
     let k = c.elements_per_test-span.result in
     let more = rw c.BITS-bits.ensures at c.loop-test-test.true in
@@ -19,8 +19,8 @@ shifted_differences-found-requires-clause-window g c =
     let lengths = c.requires.lengths in
     rw (c.BITS-bits.ensures, c.loop-test.invariant.reads.numbers) (HasWindow-part b (g.C.CellsRead.numbers c.args.left.now) c.args.left_window (elements_window b (c.args.left_window.start / b + c.loop-test.test * k) k) c.requires.window (omega arith) (omega arith))
 
-pub shifted_differences-found-requires-clause-right_window : goal.shifted_differences-found-requires-clause-right_window
-shifted_differences-found-requires-clause-right_window g c =
+pub tested_differences-found-requires-clause-right_window : goal.tested_differences-found-requires-clause-right_window
+tested_differences-found-requires-clause-right_window g c =
     let b = g.C.Elem.BitStore.BITS in
     let k = c.elements_per_test-span.result in
     let more = rw (c.BITS-bits.ensures, c.requires.lengths) at c.loop-test-test.true in
@@ -41,7 +41,7 @@ returns-then-not-is_zero-clause-value g c =
     let fits = whole_fits b c.args.left_window.len (passed + k) (omega arith) in
     let lengths = c.requires.lengths in
     let other_fits : (passed + k) * b ≤ c.args.right_window.len = omega arith in
-    let told = rw (c.BITS-bits.ensures, inv.reads.numbers, inv.right.numbers) at c.shifted_differences-found.ensures.value in
+    let told = rw (c.BITS-bits.ensures, inv.reads.numbers, inv.right.numbers) at c.tested_differences-found.ensures.value in
     same-apart _ _ _ _ _ _
     (long-elements_from _ _ _ _ _ _ passed k c.requires.window c.requires.right_window c.requires.edge fits other_fits)
     (list-elements _ _ _ _ passed k c.requires.window c.requires.edge fits)
@@ -84,8 +84,8 @@ loop-test-preserved g c =
     let fits = whole_fits b c.args.left_window.len (passed + k) (omega arith) in
     let lengths = c.requires.lengths in
     let other_fits : (passed + k) * b ≤ c.args.right_window.len = omega arith in
-    let told = rw (c.BITS-bits.ensures, inv.reads.numbers, inv.right.numbers) at c.shifted_differences-found.ensures.value in
-    let carried = rw inv.right.numbers at c.shifted_differences-found.ensures.carried in
+    let told = rw (c.BITS-bits.ensures, inv.reads.numbers, inv.right.numbers) at c.tested_differences-found.ensures.value in
+    let carried = rw inv.right.numbers at c.tested_differences-found.ensures.carried in
     let next : (c.loop-test.test + 1) * k ≡ c.loop-test.test * k + k = omega arith in
     record {
       same = rw next
