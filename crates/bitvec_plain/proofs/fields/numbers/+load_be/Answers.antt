@@ -9,12 +9,12 @@ overflow_add-result t c =
     let layout = c.args.layout in
     let list = c.args.list.now in
     let more = some-bits list c.if-is_empty.ensures in
-    let joined = be-joined layout.high layout.bits c.args.place list _ _ _ layout.some more c.requires.size c.first_len-len.ensures c.segment_number-first.ensures c.load_be-rest.ensures in
-    rw joined (record { fits = be-fits layout.high layout.bits c.args.place list _ _ c.load_be-rest.result layout.some more c.requires.size c.first_len-len.ensures c.segment_number-first.ensures })
+    let joined = be-joined layout.high layout.bits c.args.place list _ _ _ layout.some more c.requires.bound c.first_len-len.ensures c.segment_number-first.ensures c.load_be-rest.ensures in
+    rw joined (record { fits = be-fits layout.high layout.bits c.args.place list _ _ c.load_be-rest.result layout.some more c.requires.bound c.first_len-len.ensures c.segment_number-first.ensures })
 
 pub returns : goal.returns
 returns t c =
     let layout = c.args.layout in
     let list = c.args.list.now in
     let more = some-bits list c.if-is_empty.ensures in
-    be-joined layout.high layout.bits c.args.place list _ _ _ layout.some more c.requires.size c.first_len-len.ensures c.segment_number-first.ensures c.load_be-rest.ensures
+    be-joined layout.high layout.bits c.args.place list _ _ _ layout.some more c.requires.bound c.first_len-len.ensures c.segment_number-first.ensures c.load_be-rest.ensures
