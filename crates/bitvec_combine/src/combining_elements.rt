@@ -8,6 +8,7 @@ ghost use Rattle.bitvec_move.specs.walk.Cost.{touched_count};
 ghost use Rattle.bitvec_move.specs.words.Elements.{elements_window, elements_window_from};
 ghost use Rattle.bitvec_move.specs.words.Operator.{operator};
 
+use bitvec_move::MANY_BYTES;
 use bitvec_move::base::{BitOrder, Part, Window, first_part};
 use bitvec_move::cells::{Cells, CellsRead};
 use bitvec_move::store::BitStore;
@@ -133,9 +134,6 @@ pub(crate) fn combine_whole<O: BitOrder, C: Cells, D: CellsRead<Elem = C::Elem>>
         left.store(first + step, op.of_elements::<O, C::Elem>(element, other));
     }
 }
-
-/// From how many bytes on a loop for just their shift is worth the choice.
-const MANY_BYTES: usize = 64;
 
 /// Combines `count` whole elements with the bits at the index `skip` of an element of another
 /// memory on, where that element is `carry`. It gives the last element loaded.

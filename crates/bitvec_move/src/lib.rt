@@ -53,6 +53,7 @@ pub mod words {
 
 pub use copying::copy;
 pub use copying_equal::copy_equal;
+pub use copying_shifted::MANY_BYTES;
 pub use copying_within::copy_within;
 pub use reversing::reverse;
 pub use swapping::swap;
