@@ -3,7 +3,7 @@ use Rattle.bitvec_words.specs.base.Memory.{Writes, element_bits, list_in}
 use Rattle.bitvec_words.specs.cells.Access.{Costs}
 use Rattle.bitvec_words.specs.Elements.{elements_window, elements_window_from}
 use Rattle.bitvec_move.specs.WaitingLaws.{HasEnds}
-use Rattle.bitvec_move.proofs.swapping_shifted.swap_across.Given as goal
+use Rattle.bitvec_move.proofs.swapping_shifted.swap_each.Given as goal
 
 abbrev pub invariant-loop-step : goal.invariant-loop-step
 invariant-loop-step g l =
