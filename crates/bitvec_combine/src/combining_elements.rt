@@ -8,13 +8,13 @@ ghost use Rattle.bitvec_move.specs.walk.Cost.{touched_count};
 ghost use Rattle.bitvec_move.specs.words.Elements.{elements_window, elements_window_from};
 ghost use Rattle.bitvec_move.specs.words.Operator.{operator};
 
-use bitvec_move::MANY_BYTES;
 use bitvec_move::base::{BitOrder, Part, Window, first_part};
 use bitvec_move::cells::{Cells, CellsRead};
 use bitvec_move::store::BitStore;
 use bitvec_move::words::{
     BitOp, Carried, Lanes, Whole, WordOrder, field, fill, merged, toward_end,
 };
+use bitvec_move::{MANY_BYTES, at_known_skip};
 
 /// Replaces the bits of a part by what the operator makes of them and the bits of an element at the
 /// same indices.
@@ -164,60 +164,14 @@ pub(crate) fn combine_joined<O: WordOrder, C: Cells, D: CellsRead<Elem = C::Elem
         return combine_pairs::<O, C, D>(left, first, right, source, carry, skip, count, op);
     }
     if C::Elem::BITS == u8::BITS && count >= MANY_BYTES {
-        return combine_bytes::<O, C, D>(left, first, right, source, carry, skip, count, op);
+        return at_known_skip!(
+            skip,
+            combine_carried::<O, C, D, Whole<C::Elem>>(
+                left, first, right, source, carry, skip, count, op
+            )
+        );
     }
     combine_carried::<O, C, D, Whole<C::Elem>>(left, first, right, source, carry, skip, count, op)
-}
-
-/// The same for bytes, with a loop for each `skip`: the compiler makes the shifts of many bytes at
-/// once of masks, which it makes anew in each turn of a loop where it doesn't know by how much.
-#[inline(always)]
-fn combine_bytes<O: WordOrder, C: Cells, D: CellsRead<Elem = C::Elem>>(
-    left: &mut C,
-    first: usize,
-    right: &mut D,
-    source: usize,
-    carry: C::Elem,
-    skip: usize,
-    count: usize,
-    op: BitOp,
-) -> C::Elem
-    requires bytes { C.Elem.BITS ≡ 8 }
-    requires window { HasWindow C.Elem.BITS (C.numbers left.old) (elements_window C.Elem.BITS first count) }
-    requires right_window { HasWindow C.Elem.BITS (D.numbers right.old) (elements_window_from C.Elem.BITS source skip count) }
-    requires some { 0 < skip }
-    requires bound { skip < C.Elem.BITS }
-    requires carry { C.Elem.value carry ≡ slice_index (D.numbers right.old) source }
-    ensures writes { Writes C.Elem.BITS O.at (C.numbers left.old) (C.numbers left.new) (elements_window C.Elem.BITS first count)
-        (combined (operator op) (list_in C.Elem.BITS O.at (C.numbers left.old) (elements_window C.Elem.BITS first count))
-        (list_in C.Elem.BITS O.at (D.numbers right.old) (elements_window_from C.Elem.BITS source skip count))) }
-    ensures carried { C.Elem.value result ≡ slice_index (D.numbers right.old) (source + count) }
-    ensures cost { Costs C.CellsRead left.old left.new count count }
-    ensures right { OnlyReads D.CellsRead right.old right.new count }
-{
-    match skip {
-        1 => combine_carried::<O, C, D, Whole<C::Elem>>(
-            left, first, right, source, carry, 1, count, op,
-        ),
-        2 => combine_carried::<O, C, D, Whole<C::Elem>>(
-            left, first, right, source, carry, 2, count, op,
-        ),
-        3 => combine_carried::<O, C, D, Whole<C::Elem>>(
-            left, first, right, source, carry, 3, count, op,
-        ),
-        4 => combine_carried::<O, C, D, Whole<C::Elem>>(
-            left, first, right, source, carry, 4, count, op,
-        ),
-        5 => combine_carried::<O, C, D, Whole<C::Elem>>(
-            left, first, right, source, carry, 5, count, op,
-        ),
-        6 => combine_carried::<O, C, D, Whole<C::Elem>>(
-            left, first, right, source, carry, 6, count, op,
-        ),
-        _ => combine_carried::<O, C, D, Whole<C::Elem>>(
-            left, first, right, source, carry, 7, count, op,
-        ),
-    }
 }
 
 /// The same for elements of 128 bits, two a turn: the compiler writes a loop over such elements out

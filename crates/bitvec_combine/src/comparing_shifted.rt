@@ -9,6 +9,7 @@ ghost use Rattle.bitvec_move.specs.walk.Cost.{touched_count};
 ghost use Rattle.bitvec_move.specs.words.Elements.{elements_window, elements_window_from};
 
 use crate::comparing_equal::{elements_per_test, is_zero};
+use bitvec_move::at_known_skip;
 use bitvec_move::base::{BitOrder, Part, Window, first_part};
 use bitvec_move::cells::CellsRead;
 use bitvec_move::store::BitStore;
@@ -264,57 +265,14 @@ fn tested_differences<O: WordOrder, C: CellsRead, D: CellsRead<Elem = C::Elem>>(
     ensures right { OnlyReads D.CellsRead right.old right.new count }
 {
     if C::Elem::BITS == u8::BITS {
-        return differences_of_bytes::<O, C, D>(left, first, right, source, carry, skip, count);
+        return at_known_skip!(
+            skip,
+            carried_differences::<O, C, D, Whole<C::Elem>>(
+                left, first, right, source, carry, skip, count
+            )
+        );
     }
     shifted_differences::<O, C, D>(left, first, right, source, carry, skip, count)
-}
-
-/// The same for bytes, with a loop for each `skip`, as operators have it.
-fn differences_of_bytes<O: WordOrder, C: CellsRead, D: CellsRead<Elem = C::Elem>>(
-    left: &mut C,
-    first: usize,
-    right: &mut D,
-    source: usize,
-    carry: C::Elem,
-    skip: usize,
-    count: usize,
-) -> (C::Elem, C::Elem)
-    requires bytes { C.Elem.BITS ≡ 8 }
-    requires window { HasWindow C.Elem.BITS (C.numbers left.old) (elements_window C.Elem.BITS first count) }
-    requires right_window { HasWindow C.Elem.BITS (D.numbers right.old) (elements_window_from C.Elem.BITS source skip count) }
-    requires some { 0 < skip }
-    requires bound { skip < C.Elem.BITS }
-    requires carry { C.Elem.value carry ≡ slice_index (D.numbers right.old) source }
-    ensures value { (C.Elem.value result.0 == 0)
-        ≡ same_bits (list_in C.Elem.BITS O.at (C.numbers left.old) (elements_window C.Elem.BITS first count))
-        (list_in C.Elem.BITS O.at (D.numbers right.old) (elements_window_from C.Elem.BITS source skip count)) }
-    ensures carried { C.Elem.value result.1 ≡ slice_index (D.numbers right.old) (source + count) }
-    ensures reads { OnlyReads C.CellsRead left.old left.new count }
-    ensures right { OnlyReads D.CellsRead right.old right.new count }
-{
-    match skip {
-        1 => carried_differences::<O, C, D, Whole<C::Elem>>(
-            left, first, right, source, carry, 1, count,
-        ),
-        2 => carried_differences::<O, C, D, Whole<C::Elem>>(
-            left, first, right, source, carry, 2, count,
-        ),
-        3 => carried_differences::<O, C, D, Whole<C::Elem>>(
-            left, first, right, source, carry, 3, count,
-        ),
-        4 => carried_differences::<O, C, D, Whole<C::Elem>>(
-            left, first, right, source, carry, 4, count,
-        ),
-        5 => carried_differences::<O, C, D, Whole<C::Elem>>(
-            left, first, right, source, carry, 5, count,
-        ),
-        6 => carried_differences::<O, C, D, Whole<C::Elem>>(
-            left, first, right, source, carry, 6, count,
-        ),
-        _ => carried_differences::<O, C, D, Whole<C::Elem>>(
-            left, first, right, source, carry, 7, count,
-        ),
-    }
 }
 
 /// The same, with each element carried to the next turn in a form that fits the width.

@@ -7,6 +7,7 @@ ghost use Rattle.bitvec_words.specs.cells.Access.{Costs, CostsAtMost, OnlyReads}
 ghost use Rattle.bitvec_words.specs.walk.Cost.{part_loads, touched_count};
 ghost use Rattle.bitvec_words.specs.Elements.{elements_window, elements_window_from};
 
+use crate::{MANY_BYTES, at_known_skip};
 use bitvec_words::base::{BitOrder, Part, Window, first_part};
 use bitvec_words::cells::{Cells, CellsRead};
 use bitvec_words::store::BitStore;
@@ -128,9 +129,6 @@ fn shift_tail<O: WordOrder, C: Cells, D: CellsRead<Elem = C::Elem>>(
     store_part::<O, C>(left, part, front);
 }
 
-/// From how many bytes on a loop for just their shift is worth the choice.
-pub const MANY_BYTES: usize = 64;
-
 /// Copies `count` whole elements from the bits at the index `skip` of an element on, each with one
 /// load and one store, where that element is `carry`. It gives the last element loaded.
 #[inline(always)]
@@ -158,44 +156,12 @@ fn shift_whole<O: WordOrder, C: Cells, D: CellsRead<Elem = C::Elem>>(
         return shift_carried::<O, C, D, Lanes>(left, first, right, source, carry, skip, count);
     }
     if C::Elem::BITS == u8::BITS && count >= MANY_BYTES {
-        return shift_bytes::<O, C, D>(left, first, right, source, carry, skip, count);
+        return at_known_skip!(
+            skip,
+            shift_carried::<O, C, D, Whole<C::Elem>>(left, first, right, source, carry, skip, count)
+        );
     }
     shift_carried::<O, C, D, Whole<C::Elem>>(left, first, right, source, carry, skip, count)
-}
-
-/// The same for bytes, with a loop for each `skip`: the compiler makes the shifts of many bytes at
-/// once of masks, which it makes anew in each turn of a loop where it doesn't know by how much.
-#[inline(always)]
-fn shift_bytes<O: WordOrder, C: Cells, D: CellsRead<Elem = C::Elem>>(
-    left: &mut C,
-    first: usize,
-    right: &mut D,
-    source: usize,
-    carry: C::Elem,
-    skip: usize,
-    count: usize,
-) -> C::Elem
-    requires bytes { C.Elem.BITS ≡ 8 }
-    requires window { HasWindow C.Elem.BITS (C.numbers left.old) (elements_window C.Elem.BITS first count) }
-    requires right_window { HasWindow C.Elem.BITS (D.numbers right.old) (elements_window_from C.Elem.BITS source skip count) }
-    requires some { 0 < skip }
-    requires bound { skip < C.Elem.BITS }
-    requires carry { C.Elem.value carry ≡ slice_index (D.numbers right.old) source }
-    ensures writes { Writes C.Elem.BITS O.at (C.numbers left.old) (C.numbers left.new) (elements_window C.Elem.BITS first count)
-        (list_in C.Elem.BITS O.at (D.numbers right.old) (elements_window_from C.Elem.BITS source skip count)) }
-    ensures carried { C.Elem.value result ≡ slice_index (D.numbers right.old) (source + count) }
-    ensures cost { Costs C.CellsRead left.old left.new 0 count }
-    ensures right { OnlyReads D.CellsRead right.old right.new count }
-{
-    match skip {
-        1 => shift_carried::<O, C, D, Whole<C::Elem>>(left, first, right, source, carry, 1, count),
-        2 => shift_carried::<O, C, D, Whole<C::Elem>>(left, first, right, source, carry, 2, count),
-        3 => shift_carried::<O, C, D, Whole<C::Elem>>(left, first, right, source, carry, 3, count),
-        4 => shift_carried::<O, C, D, Whole<C::Elem>>(left, first, right, source, carry, 4, count),
-        5 => shift_carried::<O, C, D, Whole<C::Elem>>(left, first, right, source, carry, 5, count),
-        6 => shift_carried::<O, C, D, Whole<C::Elem>>(left, first, right, source, carry, 6, count),
-        _ => shift_carried::<O, C, D, Whole<C::Elem>>(left, first, right, source, carry, 7, count),
-    }
 }
 
 /// The same, with each element carried to the next turn in a form that fits the width.

@@ -2,6 +2,33 @@
 //! put in the opposite order.
 #![tactic(auto)]
 
+/// From how many bytes on a loop for just their shift is worth the choice.
+pub const MANY_BYTES: usize = 64;
+
+/// A call with its `skip`, of bytes (1 to 7), as a number that the compiler knows, so that there is a
+/// loop for each: it shifts many bytes at once by masks, which it makes anew in each turn of a loop
+/// where it doesn't know by how much.
+#[macro_export]
+macro_rules! at_known_skip {
+    ($skip:ident, $call:expr) => {
+        $crate::at_known_skip!($skip, $call, 1 2 3 4 5 6)
+    };
+    ($skip:ident, $call:expr, $($known:literal)*) => {
+        match $skip {
+            $(
+                $known => {
+                    let $skip = $known;
+                    $call
+                }
+            )*
+            _ => {
+                let $skip = 7;
+                $call
+            }
+        }
+    };
+}
+
 mod copying;
 mod copying_equal;
 mod copying_shifted;
@@ -53,7 +80,6 @@ pub mod words {
 
 pub use copying::copy;
 pub use copying_equal::copy_equal;
-pub use copying_shifted::MANY_BYTES;
 pub use copying_within::copy_within;
 pub use reversing::reverse;
 pub use swapping::swap;

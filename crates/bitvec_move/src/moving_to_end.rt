@@ -6,8 +6,8 @@ ghost use Rattle.bitvec_words.specs.cells.Access.{Costs, CostsAtMost};
 ghost use Rattle.bitvec_words.specs.walk.Cost.{touched_count};
 ghost use Rattle.bitvec_words.specs.Elements.{elements_window, elements_window_from};
 
-use crate::copying_shifted::MANY_BYTES;
 use crate::moving_edge::move_edge;
+use crate::{MANY_BYTES, at_known_skip};
 use bitvec_words::base::{BitOrder, Window, first_part};
 use bitvec_words::cells::Cells;
 use bitvec_words::store::BitStore;
@@ -125,39 +125,12 @@ fn shift_whole_to_end<O: WordOrder, C: Cells>(
     if C::Elem::BITS == u128::BITS {
         shift_carried_to_end::<O, C, Lanes>(cells, first, source, skip, count);
     } else if C::Elem::BITS == u8::BITS && count >= MANY_BYTES {
-        shift_bytes_to_end::<O, C>(cells, first, source, skip, count);
+        at_known_skip!(
+            skip,
+            shift_carried_to_end::<O, C, Whole<C::Elem>>(cells, first, source, skip, count)
+        );
     } else {
         shift_carried_to_end::<O, C, Whole<C::Elem>>(cells, first, source, skip, count);
-    }
-}
-
-/// The same for bytes, with a loop for each `skip`, as copies from another memory have it.
-#[inline(always)]
-fn shift_bytes_to_end<O: WordOrder, C: Cells>(
-    cells: &mut C,
-    first: usize,
-    source: usize,
-    skip: usize,
-    count: usize,
-)
-    requires bytes { C.Elem.BITS ≡ 8 }
-    requires window { HasWindow C.Elem.BITS (C.numbers cells.old) (elements_window C.Elem.BITS first count) }
-    requires source { HasWindow C.Elem.BITS (C.numbers cells.old) (elements_window_from C.Elem.BITS source skip count) }
-    requires some { 0 < skip }
-    requires bound { skip < C.Elem.BITS }
-    requires towards_end { source ≤ first }
-    ensures writes { Writes C.Elem.BITS O.at (C.numbers cells.old) (C.numbers cells.new) (elements_window C.Elem.BITS first count)
-        (list_in C.Elem.BITS O.at (C.numbers cells.old) (elements_window_from C.Elem.BITS source skip count)) }
-    ensures cost { Costs C.CellsRead cells.old cells.new (count + 1) count }
-{
-    match skip {
-        1 => shift_carried_to_end::<O, C, Whole<C::Elem>>(cells, first, source, 1, count),
-        2 => shift_carried_to_end::<O, C, Whole<C::Elem>>(cells, first, source, 2, count),
-        3 => shift_carried_to_end::<O, C, Whole<C::Elem>>(cells, first, source, 3, count),
-        4 => shift_carried_to_end::<O, C, Whole<C::Elem>>(cells, first, source, 4, count),
-        5 => shift_carried_to_end::<O, C, Whole<C::Elem>>(cells, first, source, 5, count),
-        6 => shift_carried_to_end::<O, C, Whole<C::Elem>>(cells, first, source, 6, count),
-        _ => shift_carried_to_end::<O, C, Whole<C::Elem>>(cells, first, source, 7, count),
     }
 }
 

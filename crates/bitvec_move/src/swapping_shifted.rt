@@ -7,7 +7,7 @@ ghost use Rattle.bitvec_words.specs.cells.Access.{Costs};
 ghost use Rattle.bitvec_words.specs.walk.Cost.{touched_count};
 ghost use Rattle.bitvec_words.specs.Elements.{elements_window, elements_window_from};
 
-use crate::copying_shifted::MANY_BYTES;
+use crate::{MANY_BYTES, at_known_skip};
 use bitvec_words::base::{BitOrder, Part, Window, first_part};
 use bitvec_words::cells::{Cells, CellsRead};
 use bitvec_words::store::BitStore;
@@ -119,44 +119,12 @@ fn swap_across<O: WordOrder, C: Cells, D: Cells + CellsRead<Elem = C::Elem>>(
     ensures right_cost { Costs D.CellsRead right.old right.new count count }
 {
     if C::Elem::BITS == u8::BITS && count >= MANY_BYTES {
-        return swap_bytes::<O, C, D>(left, first, right, source, waiting, skip, count);
+        return at_known_skip!(
+            skip,
+            swap_each::<O, C, D>(left, first, right, source, waiting, skip, count)
+        );
     }
     swap_each::<O, C, D>(left, first, right, source, waiting, skip, count)
-}
-
-/// The same for bytes, with a loop for each `skip`, as copies have it.
-#[inline(always)]
-fn swap_bytes<O: WordOrder, C: Cells, D: Cells + CellsRead<Elem = C::Elem>>(
-    left: &mut C,
-    first: usize,
-    right: &mut D,
-    source: usize,
-    waiting: C::Elem,
-    skip: usize,
-    count: usize,
-) -> C::Elem
-    requires bytes { C.Elem.BITS ≡ 8 }
-    requires window { HasWindow C.Elem.BITS (C.numbers left.old) (elements_window C.Elem.BITS first count) }
-    requires right_window { HasWindow C.Elem.BITS (D.numbers right.old) (elements_window_from C.Elem.BITS source skip count) }
-    requires some { 0 < skip }
-    requires bound { skip < C.Elem.BITS }
-    ensures writes { Writes C.Elem.BITS O.at (C.numbers left.old) (C.numbers left.new) (elements_window C.Elem.BITS first count)
-        (list_in C.Elem.BITS O.at (slice_set (D.numbers right.old) source (C.Elem.value waiting)) (elements_window_from C.Elem.BITS source skip count)) }
-    ensures cost { Costs C.CellsRead left.old left.new count count }
-    ensures right_writes { Writes C.Elem.BITS O.at (slice_set (D.numbers right.old) source (C.Elem.value waiting))
-        (slice_set (D.numbers right.new) (source + count) (C.Elem.value result)) (elements_window_from C.Elem.BITS source skip count)
-        (list_in C.Elem.BITS O.at (C.numbers left.old) (elements_window C.Elem.BITS first count)) }
-    ensures right_cost { Costs D.CellsRead right.old right.new count count }
-{
-    match skip {
-        1 => swap_each::<O, C, D>(left, first, right, source, waiting, 1, count),
-        2 => swap_each::<O, C, D>(left, first, right, source, waiting, 2, count),
-        3 => swap_each::<O, C, D>(left, first, right, source, waiting, 3, count),
-        4 => swap_each::<O, C, D>(left, first, right, source, waiting, 4, count),
-        5 => swap_each::<O, C, D>(left, first, right, source, waiting, 5, count),
-        6 => swap_each::<O, C, D>(left, first, right, source, waiting, 6, count),
-        _ => swap_each::<O, C, D>(left, first, right, source, waiting, 7, count),
-    }
 }
 
 /// The same, an element a turn.
