@@ -8,7 +8,7 @@ use bitvec_engine::base::{BitOrder, HiLo, Lsb0, Msb0, Window};
 use bitvec_engine::cells::{Exclusive, Shared, has_window};
 use bitvec_engine::store::BitStore;
 use bitvec_engine::{BitOp, SliceOrder};
-use bitvec_test_support::mixed_elements;
+use bitvec_test_support::fill_mixed;
 use std::alloc::AllocError;
 use std::process::Abort;
 
@@ -195,19 +195,15 @@ fn sweep_within<T: BitStore, O: SliceOrder, R: Abort + AllocGlobal>(rt: &R, side
 
 /// Both sweeps on elements with no pattern.
 fn sweep_all<T: BitStore, O: SliceOrder, R: Abort + AllocGlobal>(rt: &R) {
-    let left = mixed_elements::<T, _>(rt.alloc(), LEFT, COUNT);
-    let right = mixed_elements::<T, _>(rt.alloc(), RIGHT, COUNT);
-    match (left, right) {
-        (Ok(left), Ok(right)) => {
-            let sides = Sides {
-                left: &left,
-                right: &right,
-            };
-            sweep::<T, O, R>(rt, sides);
-            sweep_within::<T, O, R>(rt, sides);
-        }
-        _ => assert!(rt; false),
-    }
+    let (mut left, mut right) = ([T::ZERO; COUNT], [T::ZERO; COUNT]);
+    fill_mixed(LEFT, &mut left);
+    fill_mixed(RIGHT, &mut right);
+    let sides = Sides {
+        left: &left,
+        right: &right,
+    };
+    sweep::<T, O, R>(rt, sides);
+    sweep_within::<T, O, R>(rt, sides);
 }
 
 /// The same at each width.
