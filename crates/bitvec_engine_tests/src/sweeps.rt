@@ -9,7 +9,6 @@ use bitvec_engine::cells::{Exclusive, Shared, has_window};
 use bitvec_engine::store::BitStore;
 use bitvec_engine::{BitOp, SliceOrder};
 use bitvec_test_support::fill_mixed;
-use std::alloc::AllocError;
 use std::process::Abort;
 
 const LEFT: u64 = 0x9E37_79B9_7F4A_7C15;
@@ -31,8 +30,8 @@ const TWO_SIDED: [Command; 6] = [
 /// The elements of two memories.
 #[derive(Clone, Copy, Drop)]
 struct Sides<'a, T> {
-    left: &'a [T],
-    right: &'a [T],
+    left: &'a [T; COUNT],
+    right: &'a [T; COUNT],
 }
 
 /// Whether the elements' numbers are the same.
@@ -44,23 +43,15 @@ fn same_numbers<T: BitStore>(left: &[T], right: &[T]) -> bool {
             .all(|(element, other)| element.to_u128() == other.to_u128())
 }
 
-/// Both memories after a command.
-#[derive(Drop)]
-struct Both<T> {
-    left: Vec<T>,
-    right: Vec<T>,
-}
-
 /// Both memories after a command by an order.
-fn carried<T: BitStore, O: SliceOrder, R: Abort + AllocGlobal>(
+fn carried<T: BitStore, O: SliceOrder, R: Abort>(
     rt: &R,
     command: Command,
     sides: Sides<T>,
     to: Window,
     from: Window,
-) -> Result<Both<T>, AllocError> {
-    let mut left = Vec::from_slice(rt.alloc(), sides.left)?;
-    let mut right = Vec::from_slice(rt.alloc(), sides.right)?;
+) -> ([T; COUNT], [T; COUNT]) {
+    let (mut left, mut right) = (*sides.left, *sides.right);
     carry_out::<O, _, _, R>(
         rt,
         command,
@@ -69,25 +60,20 @@ fn carried<T: BitStore, O: SliceOrder, R: Abort + AllocGlobal>(
         &mut Exclusive::new(&mut right),
         from,
     );
-    Ok(Both { left, right })
+    (left, right)
 }
 
 /// Whether a command by the order and bit by bit does the same to the same elements.
-fn agrees<T: BitStore, O: SliceOrder, R: Abort + AllocGlobal>(
+fn agrees<T: BitStore, O: SliceOrder, R: Abort>(
     rt: &R,
     command: Command,
     sides: Sides<T>,
     to: Window,
     from: Window,
 ) -> bool {
-    let both = carried::<T, O, R>(rt, command, sides, to, from);
-    let plain = carried::<T, BitByBit<O>, R>(rt, command, sides, to, from);
-    match (both, plain) {
-        (Ok(both), Ok(plain)) => {
-            same_numbers(&both.left, &plain.left) && same_numbers(&both.right, &plain.right)
-        }
-        _ => false,
-    }
+    let (left, right) = carried::<T, O, R>(rt, command, sides, to, from);
+    let (plain_left, plain_right) = carried::<T, BitByBit<O>, R>(rt, command, sides, to, from);
+    same_numbers(&left, &plain_left) && same_numbers(&right, &plain_right)
 }
 
 /// Whether the order says that the windows' bits are the same.
@@ -116,7 +102,8 @@ fn flip<T: BitStore, O: BitOrder>(elements: &mut [T], place: usize) {
 /// does, and one on either side of it.
 fn equality_tells<T: BitStore, O: SliceOrder, R: Abort>(
     rt: &R,
-    both: &mut Both<T>,
+    left: &mut [T; COUNT],
+    right: &[T; COUNT],
     to: Window,
     from: Window,
 ) -> bool
@@ -126,18 +113,18 @@ fn equality_tells<T: BitStore, O: SliceOrder, R: Abort>(
     let end = to.start + to.len;
     let mut tells = true;
     for place in to.start.saturating_sub(1)..end + 1 {
-        let same = are_equal::<T, O, R>(rt, &both.left, to, &both.right, from);
-        flip::<T, O>(&mut both.left, place);
+        let same = are_equal::<T, O, R>(rt, left, to, right, from);
+        flip::<T, O>(left, place);
         let outside = place < to.start || place >= end;
-        let equal = are_equal::<T, O, R>(rt, &both.left, to, &both.right, from);
+        let equal = are_equal::<T, O, R>(rt, left, to, right, from);
         tells &= same && equal == outside;
-        flip::<T, O>(&mut both.left, place);
+        flip::<T, O>(left, place);
     }
     tells
 }
 
 /// The same of a copy that is made bit by bit.
-fn equality_agrees<T: BitStore, O: SliceOrder, R: Abort + AllocGlobal>(
+fn equality_agrees<T: BitStore, O: SliceOrder, R: Abort>(
     rt: &R,
     sides: Sides<T>,
     to: Window,
@@ -146,14 +133,12 @@ fn equality_agrees<T: BitStore, O: SliceOrder, R: Abort + AllocGlobal>(
     requires start { to.start < 2 ^ 32 }
     requires len { to.len < 2 ^ 32 }
 {
-    match carried::<T, BitByBit<O>, R>(rt, Command::Copy, sides, to, from) {
-        Ok(mut both) => equality_tells::<T, O, R>(rt, &mut both, to, from),
-        Err(_) => false,
-    }
+    let (mut left, right) = carried::<T, BitByBit<O>, R>(rt, Command::Copy, sides, to, from);
+    equality_tells::<T, O, R>(rt, &mut left, &right, to, from)
 }
 
 /// Every command and equality, in windows of few bits up to 1,000.
-fn sweep<T: BitStore, O: SliceOrder, R: Abort + AllocGlobal>(rt: &R, sides: Sides<T>) {
+fn sweep<T: BitStore, O: SliceOrder, R: Abort>(rt: &R, sides: Sides<T>) {
     let width = T::BITS as usize;
     for len in [0, 1, width - 1, width, width + 1, 63, 64, 65, 130, 1000] {
         for start in [0, 1, width - 1] {
@@ -179,7 +164,7 @@ fn sweep<T: BitStore, O: SliceOrder, R: Abort + AllocGlobal>(rt: &R, sides: Side
 }
 
 /// Overlapping copies by every distance up to 70 places, both ways.
-fn sweep_within<T: BitStore, O: SliceOrder, R: Abort + AllocGlobal>(rt: &R, sides: Sides<T>) {
+fn sweep_within<T: BitStore, O: SliceOrder, R: Abort>(rt: &R, sides: Sides<T>) {
     for start in [0, 1, T::BITS as usize - 1] {
         let window = Window { start, len: 150 };
         for by in 0..71 {
@@ -194,7 +179,7 @@ fn sweep_within<T: BitStore, O: SliceOrder, R: Abort + AllocGlobal>(rt: &R, side
 }
 
 /// Both sweeps on elements with no pattern.
-fn sweep_all<T: BitStore, O: SliceOrder, R: Abort + AllocGlobal>(rt: &R) {
+fn sweep_all<T: BitStore, O: SliceOrder, R: Abort>(rt: &R) {
     let (mut left, mut right) = ([T::ZERO; COUNT], [T::ZERO; COUNT]);
     fill_mixed(LEFT, &mut left);
     fill_mixed(RIGHT, &mut right);
@@ -207,7 +192,7 @@ fn sweep_all<T: BitStore, O: SliceOrder, R: Abort + AllocGlobal>(rt: &R) {
 }
 
 /// The same at each width.
-fn sweep_each_width<O: SliceOrder, R: Abort + AllocGlobal>(rt: &R) {
+fn sweep_each_width<O: SliceOrder, R: Abort>(rt: &R) {
     sweep_all::<u8, O, R>(rt);
     sweep_all::<u16, O, R>(rt);
     sweep_all::<u32, O, R>(rt);
