@@ -107,10 +107,7 @@ fn check<T: BitStore, O: SliceOrder, R: Abort + AllocGlobal>(
 
 /// Every command in windows of few bits, of about an element and of several elements, at the
 /// start of an element, behind its first bit and at its last bit, on both sides.
-fn check_windows<T: BitStore, O: SliceOrder, R: Abort + AllocGlobal>(
-    rt: &R,
-    sides: Sides<'_, T>,
-) {
+fn check_windows<T: BitStore, O: SliceOrder, R: Abort + AllocGlobal>(rt: &R, sides: Sides<'_, T>) {
     let width = T::BITS as usize;
     for len in [0, 1, width - 1, width, width + 1, 130] {
         for start in [0, 1, width - 1] {

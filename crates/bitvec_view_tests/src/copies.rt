@@ -25,7 +25,14 @@ fn holds<O: SliceOrder>(copy: Copied<O>, start: usize, len: usize, elements: &[u
 fn bits_around_a_copy_are_zero(rt: HostRuntime) {
     let mut bytes = [0xB4u8, 0x6E];
     let view = BitSlice::<u8, Lsb0>::from_slice(&bytes);
-    assert!(rt; holds(view.into_part(4..12).to_bitvec(rt.alloc()), 4, 8, &[0xB0, 0x0E]));
+    assert!(rt;
+        holds(
+            view.into_part(4..12).to_bitvec(rt.alloc()),
+            4,
+            8,
+            &[0xB0, 0x0E]
+        )
+    );
     assert!(rt; holds(view.into_part(5..5).to_bitvec(rt.alloc()), 0, 0, &[]));
     let view = BitSlice::<u8, Msb0>::from_slice(&bytes).into_part(4..12);
     assert!(rt; holds(view.to_bitvec(rt.alloc()), 4, 8, &[0x04, 0x60]));
@@ -84,6 +91,9 @@ fn as_mut_bitslice_lends_the_bits_alone(rt: HostRuntime) {
         // bits 3 to 20 alone are copied, and zeros stand around them
         let place = index.wrapping_add(3);
         let wanted = flipped([0xA0, 0x3C, 0x19], place, place.wrapping_add(1));
-        assert!(rt; flips_to(view.to_bitvec(rt.alloc()), index, window, wanted), "{index}");
+        assert!(rt;
+            flips_to(view.to_bitvec(rt.alloc()), index, window, wanted),
+            "{index}"
+        );
     }
 }

@@ -110,7 +110,10 @@ fn finds_as_text<T: BitStore, O: SliceOrder, U: BitStore, P: BitOrder>(
 fn table<T: BitStore, O: SliceOrder, U: BitStore, P: BitOrder, R: Abort>(rt: &R) {
     for text in HAYSTACKS {
         for needle in NEEDLES {
-            assert!(rt; finds_as_text::<T, O, U, P>(text, needle), "{needle} in {text}");
+            assert!(rt;
+                finds_as_text::<T, O, U, P>(text, needle),
+                "{needle} in {text}"
+            );
         }
     }
 }

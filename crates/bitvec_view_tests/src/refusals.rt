@@ -92,7 +92,11 @@ fn clone_asks_once(refusing: &Refusing<Global>, granted: u64) -> bool {
 }
 
 /// Whether a clone was the second request: granted where two are, or refused.
-fn is_second(copy: Result<Refused<'_>, AllocError>, refusing: &Refusing<Global>, granted: u64) -> bool {
+fn is_second(
+    copy: Result<Refused<'_>, AllocError>,
+    refusing: &Refusing<Global>,
+    granted: u64,
+) -> bool {
     match copy {
         Ok(copy) => {
             granted > 1

@@ -177,7 +177,10 @@ fn views_in_order(rt: HostRuntime) {
         ((0, 3), (0, 3), Ordering::Equal),
     ] {
         let view = part(&[0x02], from, to);
-        assert!(rt; compare(view, part(&[0x02], start, end), order), "{from} {to}");
+        assert!(rt;
+            compare(view, part(&[0x02], start, end), order),
+            "{from} {to}"
+        );
     }
 }
 
