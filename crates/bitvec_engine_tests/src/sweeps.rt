@@ -8,7 +8,8 @@ use bitvec_engine::base::{BitOrder, HiLo, Lsb0, Msb0, Window};
 use bitvec_engine::cells::{Exclusive, Shared, has_window};
 use bitvec_engine::store::BitStore;
 use bitvec_engine::{BitOp, SliceOrder};
-use bitvec_test_support::fill_mixed;
+use bitvec_test_support::mixed_elements;
+use std::alloc::AllocError;
 use std::process::Abort;
 
 const LEFT: u64 = 0x9E37_79B9_7F4A_7C15;
@@ -30,8 +31,8 @@ const TWO_SIDED: [Command; 6] = [
 /// The elements of two memories.
 #[derive(Clone, Copy, Drop)]
 struct Sides<'a, T> {
-    left: &'a [T; COUNT],
-    right: &'a [T; COUNT],
+    left: &'a [T],
+    right: &'a [T],
 }
 
 /// Whether the elements' numbers are the same.
@@ -43,15 +44,23 @@ fn same_numbers<T: BitStore>(left: &[T], right: &[T]) -> bool {
             .all(|(element, other)| element.to_u128() == other.to_u128())
 }
 
+/// Both memories after a command.
+#[derive(Drop)]
+struct Both<T> {
+    left: Vec<T>,
+    right: Vec<T>,
+}
+
 /// Both memories after a command by an order.
-fn carried<T: BitStore, O: SliceOrder, R: Abort>(
+fn carried<T: BitStore, O: SliceOrder, R: Abort + AllocGlobal>(
     rt: &R,
     command: Command,
     sides: Sides<T>,
     to: Window,
     from: Window,
-) -> ([T; COUNT], [T; COUNT]) {
-    let (mut left, mut right) = (*sides.left, *sides.right);
+) -> Result<Both<T>, AllocError> {
+    let mut left = Vec::from_slice(rt.alloc(), sides.left)?;
+    let mut right = Vec::from_slice(rt.alloc(), sides.right)?;
     carry_out::<O, _, _, R>(
         rt,
         command,
@@ -60,20 +69,25 @@ fn carried<T: BitStore, O: SliceOrder, R: Abort>(
         &mut Exclusive::new(&mut right),
         from,
     );
-    (left, right)
+    Ok(Both { left, right })
 }
 
 /// Whether a command by the order and bit by bit does the same to the same elements.
-fn agrees<T: BitStore, O: SliceOrder, R: Abort>(
+fn agrees<T: BitStore, O: SliceOrder, R: Abort + AllocGlobal>(
     rt: &R,
     command: Command,
     sides: Sides<T>,
     to: Window,
     from: Window,
 ) -> bool {
-    let (left, right) = carried::<T, O, R>(rt, command, sides, to, from);
-    let (plain_left, plain_right) = carried::<T, BitByBit<O>, R>(rt, command, sides, to, from);
-    same_numbers(&left, &plain_left) && same_numbers(&right, &plain_right)
+    let both = carried::<T, O, R>(rt, command, sides, to, from);
+    let plain = carried::<T, BitByBit<O>, R>(rt, command, sides, to, from);
+    match (both, plain) {
+        (Ok(both), Ok(plain)) => {
+            same_numbers(&both.left, &plain.left) && same_numbers(&both.right, &plain.right)
+        }
+        _ => false,
+    }
 }
 
 /// Whether the order says that the windows' bits are the same.
@@ -102,8 +116,7 @@ fn flip<T: BitStore, O: BitOrder>(elements: &mut [T], place: usize) {
 /// does, and one on either side of it.
 fn equality_tells<T: BitStore, O: SliceOrder, R: Abort>(
     rt: &R,
-    left: &mut [T; COUNT],
-    right: &[T; COUNT],
+    both: &mut Both<T>,
     to: Window,
     from: Window,
 ) -> bool
@@ -113,18 +126,18 @@ fn equality_tells<T: BitStore, O: SliceOrder, R: Abort>(
     let end = to.start + to.len;
     let mut tells = true;
     for place in to.start.saturating_sub(1)..end + 1 {
-        let same = are_equal::<T, O, R>(rt, left, to, right, from);
-        flip::<T, O>(left, place);
+        let same = are_equal::<T, O, R>(rt, &both.left, to, &both.right, from);
+        flip::<T, O>(&mut both.left, place);
         let outside = place < to.start || place >= end;
-        let equal = are_equal::<T, O, R>(rt, left, to, right, from);
+        let equal = are_equal::<T, O, R>(rt, &both.left, to, &both.right, from);
         tells &= same && equal == outside;
-        flip::<T, O>(left, place);
+        flip::<T, O>(&mut both.left, place);
     }
     tells
 }
 
 /// The same of a copy that is made bit by bit.
-fn equality_agrees<T: BitStore, O: SliceOrder, R: Abort>(
+fn equality_agrees<T: BitStore, O: SliceOrder, R: Abort + AllocGlobal>(
     rt: &R,
     sides: Sides<T>,
     to: Window,
@@ -133,12 +146,14 @@ fn equality_agrees<T: BitStore, O: SliceOrder, R: Abort>(
     requires start { to.start < 2 ^ 32 }
     requires len { to.len < 2 ^ 32 }
 {
-    let (mut left, right) = carried::<T, BitByBit<O>, R>(rt, Command::Copy, sides, to, from);
-    equality_tells::<T, O, R>(rt, &mut left, &right, to, from)
+    match carried::<T, BitByBit<O>, R>(rt, Command::Copy, sides, to, from) {
+        Ok(mut both) => equality_tells::<T, O, R>(rt, &mut both, to, from),
+        Err(_) => false,
+    }
 }
 
 /// Every command and equality, in windows of few bits up to 1,000.
-fn sweep<T: BitStore, O: SliceOrder, R: Abort>(rt: &R, sides: Sides<T>) {
+fn sweep<T: BitStore, O: SliceOrder, R: Abort + AllocGlobal>(rt: &R, sides: Sides<T>) {
     let width = T::BITS as usize;
     for len in [0, 1, width - 1, width, width + 1, 63, 64, 65, 130, 1000] {
         for start in [0, 1, width - 1] {
@@ -164,7 +179,7 @@ fn sweep<T: BitStore, O: SliceOrder, R: Abort>(rt: &R, sides: Sides<T>) {
 }
 
 /// Overlapping copies by every distance up to 70 places, both ways.
-fn sweep_within<T: BitStore, O: SliceOrder, R: Abort>(rt: &R, sides: Sides<T>) {
+fn sweep_within<T: BitStore, O: SliceOrder, R: Abort + AllocGlobal>(rt: &R, sides: Sides<T>) {
     for start in [0, 1, T::BITS as usize - 1] {
         let window = Window { start, len: 150 };
         for by in 0..71 {
@@ -179,20 +194,24 @@ fn sweep_within<T: BitStore, O: SliceOrder, R: Abort>(rt: &R, sides: Sides<T>) {
 }
 
 /// Both sweeps on elements with no pattern.
-fn sweep_all<T: BitStore, O: SliceOrder, R: Abort>(rt: &R) {
-    let (mut left, mut right) = ([T::ZERO; COUNT], [T::ZERO; COUNT]);
-    fill_mixed(LEFT, &mut left);
-    fill_mixed(RIGHT, &mut right);
-    let sides = Sides {
-        left: &left,
-        right: &right,
-    };
-    sweep::<T, O, R>(rt, sides);
-    sweep_within::<T, O, R>(rt, sides);
+fn sweep_all<T: BitStore, O: SliceOrder, R: Abort + AllocGlobal>(rt: &R) {
+    let left = mixed_elements::<T, _>(rt.alloc(), LEFT, COUNT);
+    let right = mixed_elements::<T, _>(rt.alloc(), RIGHT, COUNT);
+    match (left, right) {
+        (Ok(left), Ok(right)) => {
+            let sides = Sides {
+                left: &left,
+                right: &right,
+            };
+            sweep::<T, O, R>(rt, sides);
+            sweep_within::<T, O, R>(rt, sides);
+        }
+        _ => assert!(rt; false),
+    }
 }
 
 /// The same at each width.
-fn sweep_each_width<O: SliceOrder, R: Abort>(rt: &R) {
+fn sweep_each_width<O: SliceOrder, R: Abort + AllocGlobal>(rt: &R) {
     sweep_all::<u8, O, R>(rt);
     sweep_all::<u16, O, R>(rt);
     sweep_all::<u32, O, R>(rt);

@@ -7,7 +7,7 @@ use bitvec_plain::commands::{Reply, Step, Window};
 use bitvec_plain::engine::SliceOrder;
 use bitvec_plain::store::BitStore;
 use bitvec_plain::{bits_of_elements, plain_run, same_bits};
-use bitvec_test_support::fill_mixed;
+use bitvec_test_support::mixed_elements;
 use std::alloc::Global;
 use std::process::Abort;
 
@@ -122,23 +122,34 @@ fn check_windows<T: BitStore, O: SliceOrder, R: Abort + AllocGlobal>(rt: &R, sid
     }
 }
 
-/// The same on elements with no pattern.
-fn agrees_everywhere<T: BitStore, O: SliceOrder, R: Abort + AllocGlobal>(rt: &R) {
-    let (mut left, mut right) = ([T::ZERO; COUNT], [T::ZERO; COUNT]);
-    fill_mixed(LEFT, &mut left);
-    fill_mixed(RIGHT, &mut right);
-    let left_bits = bits_of_elements::<T, O, _>(rt.alloc(), &left);
-    let right_bits = bits_of_elements::<T, O, _>(rt.alloc(), &right);
+/// The same on these elements.
+fn check_elements<T: BitStore, O: SliceOrder, R: Abort + AllocGlobal>(
+    rt: &R,
+    left: &[T],
+    right: &[T],
+) {
+    let left_bits = bits_of_elements::<T, O, _>(rt.alloc(), left);
+    let right_bits = bits_of_elements::<T, O, _>(rt.alloc(), right);
     match (left_bits, right_bits) {
         (Ok(left_bits), Ok(right_bits)) => {
             let sides = Sides {
-                left: &left,
-                right: &right,
+                left,
+                right,
                 left_bits: &left_bits,
                 right_bits: &right_bits,
             };
             check_windows::<T, O, R>(rt, sides);
         }
+        _ => assert!(rt; false),
+    }
+}
+
+/// The same on elements with no pattern.
+fn agrees_everywhere<T: BitStore, O: SliceOrder, R: Abort + AllocGlobal>(rt: &R) {
+    let left = mixed_elements::<T, _>(rt.alloc(), LEFT, COUNT);
+    let right = mixed_elements::<T, _>(rt.alloc(), RIGHT, COUNT);
+    match (left, right) {
+        (Ok(left), Ok(right)) => check_elements::<T, O, R>(rt, &left, &right),
         _ => assert!(rt; false),
     }
 }

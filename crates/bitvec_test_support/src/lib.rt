@@ -31,7 +31,7 @@ pub mod store {
 pub use counted::Counted;
 pub use ends::{stays_ended, stays_ended_at_both};
 pub use memory::{MEMORIES, bits_of, flip, flipped};
-pub use mixed::fill_mixed;
+pub use mixed::mixed_elements;
 pub use refusing::Refusing;
 pub use streams::{FailingReader, FailingWriter, OneByteReader};
 pub use texts::{prints, shows};

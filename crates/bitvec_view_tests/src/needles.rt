@@ -5,6 +5,7 @@ use bitvec_owned::query::base::{BitOrder, HiLo, Lsb0, Msb0};
 use bitvec_owned::query::engine::SliceOrder;
 use bitvec_owned::query::slice::BitSlice;
 use bitvec_owned::query::store::BitStore;
+use std::alloc::{AllocError, Global};
 use std::process::Abort;
 
 const HAYSTACKS: [&str; 5] = ["", "1", "0100101101", "111111111", "0000000001000"];
@@ -25,9 +26,13 @@ const NEEDLES: [&str; 12] = [
 ];
 
 /// Three elements with those bits from an index on, in an order; all other bits are 0.
-fn packed<T: BitStore, O: BitOrder>(bits: &str, start: usize) -> [T; 3] {
+fn packed<T: BitStore, O: BitOrder>(
+    alloc: Global,
+    bits: &str,
+    start: usize,
+) -> Result<Vec<T>, AllocError> {
+    let mut elements = vec![in alloc; T::ZERO; 3]?;
     let width = T::BITS as usize;
-    let mut elements = [T::ZERO; 3];
     for (index, bit) in bits.bytes().enumerate() {
         let place = start.saturating_add(index);
         if let Some(element) = elements.get_mut(place / width) {
@@ -36,7 +41,7 @@ fn packed<T: BitStore, O: BitOrder>(bits: &str, start: usize) -> [T; 3] {
             }
         }
     }
-    elements
+    Ok(elements)
 }
 
 /// Whether a needle is in a text, before it and behind it, and how much is left without it there.
@@ -81,7 +86,7 @@ fn by_views<T: BitStore, O: SliceOrder, U: BitStore, P: BitOrder>(
 
 /// So many bits from an index on.
 fn bits_at<T: BitStore, O: BitOrder>(
-    elements: &[T; 3],
+    elements: &[T],
     start: usize,
     len: usize,
 ) -> Option<BitSlice<'_, T, O>> {
@@ -91,27 +96,41 @@ fn bits_at<T: BitStore, O: BitOrder>(
     }
 }
 
-/// Whether the answers of views are those of texts.
-fn finds_as_text<T: BitStore, O: SliceOrder, U: BitStore, P: BitOrder>(
+/// Whether the answers of views of these elements are those of texts.
+fn answers_as_texts<T: BitStore, O: SliceOrder, U: BitStore, P: BitOrder>(
+    cells: &[T],
+    parts: &[U],
     text: &str,
     needle: &str,
 ) -> bool {
-    let cells = packed::<T, O>(text, 3);
-    let parts = packed::<U, P>(needle, 1);
-    let view = bits_at::<T, O>(&cells, 3, text.len());
-    let part = bits_at::<U, P>(&parts, 1, needle.len());
+    let view = bits_at::<T, O>(cells, 3, text.len());
+    let part = bits_at::<U, P>(parts, 1, needle.len());
     match (view, part) {
         (Some(view), Some(part)) => by_views(view, part) == by_texts(text, needle),
         _ => false,
     }
 }
 
+/// Whether the needle stands in the text as a view of its bits does in another.
+fn finds_as_text<T: BitStore, O: SliceOrder, U: BitStore, P: BitOrder>(
+    alloc: Global,
+    text: &str,
+    needle: &str,
+) -> bool {
+    let cells = packed::<T, O>(alloc, text, 3);
+    let parts = packed::<U, P>(alloc, needle, 1);
+    match (cells, parts) {
+        (Ok(cells), Ok(parts)) => answers_as_texts::<T, O, U, P>(&cells, &parts, text, needle),
+        _ => false,
+    }
+}
+
 /// The whole table, for a pair of element types and orders.
-fn table<T: BitStore, O: SliceOrder, U: BitStore, P: BitOrder, R: Abort>(rt: &R) {
+fn table<T: BitStore, O: SliceOrder, U: BitStore, P: BitOrder, R: Abort + AllocGlobal>(rt: &R) {
     for text in HAYSTACKS {
         for needle in NEEDLES {
             assert!(rt;
-                finds_as_text::<T, O, U, P>(text, needle),
+                finds_as_text::<T, O, U, P>(rt.alloc(), text, needle),
                 "{needle} in {text}"
             );
         }
@@ -119,7 +138,7 @@ fn table<T: BitStore, O: SliceOrder, U: BitStore, P: BitOrder, R: Abort>(rt: &R)
 }
 
 /// The whole table, with needles of two widths and three orders.
-fn every_needle<T: BitStore, O: SliceOrder, R: Abort>(rt: &R) {
+fn every_needle<T: BitStore, O: SliceOrder, R: Abort + AllocGlobal>(rt: &R) {
     table::<T, O, u8, Lsb0, R>(rt);
     table::<T, O, u8, Msb0, R>(rt);
     table::<T, O, u8, HiLo, R>(rt);
