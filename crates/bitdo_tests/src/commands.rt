@@ -1,10 +1,9 @@
 //! What each command answers and leaves.
 use crate::support::{expect, expect_run};
 use std::process::Abort;
-use std::test::Fail;
 
 #[test]
-fn commands_work_on_their_own_bits(rt: HostRuntime) -> Result<(), Fail> {
+fn commands_work_on_their_own_bits(rt: HostRuntime) {
     let fills = "0 5 fill 1\n0 6 fill 1\n1 4 shift_end 4\n1 4 count_ones\n";
     for (args, input, printed) in [
         (
@@ -33,13 +32,12 @@ fn commands_work_on_their_own_bits(rt: HostRuntime) -> Result<(), Fail> {
             "index 1\nindex 0\nindex 4\nindex 7\nbit 1\nbit 0\n= 16\n",
         ),
     ] {
-        expect(&rt, args, input, 0, printed)?;
+        expect(&rt, args, input, 0, printed);
     }
-    Ok(())
 }
 
 #[test]
-fn commands_ask_beside_a_right_window(rt: HostRuntime) -> Result<(), Fail> {
+fn commands_ask_beside_a_right_window(rt: HostRuntime) {
     let lines = [
         ("0 5 last_one", "index 3"),
         ("0 2 first_zero", "index none"),
@@ -54,11 +52,11 @@ fn commands_ask_beside_a_right_window(rt: HostRuntime) -> Result<(), Fail> {
         ("0 2 cmp 0 2", "order equal"),
         ("0 4 cmp 0 4", "order greater"),
     ];
-    expect_run(&rt, "8 lsb0 0B 03 0 5", &lines, "= 0B")
+    expect_run(&rt, "8 lsb0 0B 03 0 5", &lines, "= 0B");
 }
 
 #[test]
-fn commands_change_by_a_right_window(rt: HostRuntime) -> Result<(), Fail> {
+fn commands_change_by_a_right_window(rt: HostRuntime) {
     let lines = [
         ("0 8 copy_from 0 3", "refused length"),
         ("0 8 copy_from 6 3", "refused right"),
@@ -69,21 +67,20 @@ fn commands_change_by_a_right_window(rt: HostRuntime) -> Result<(), Fail> {
         ("0 8 copy_within 2 6 5", "refused dest"),
         ("0 8 rotate_left 3", "done"),
     ];
-    expect_run(&rt, "8 msb0 F0 A0 0 8", &lines, "= 80")?;
+    expect_run(&rt, "8 msb0 F0 A0 0 8", &lines, "= 80");
     for (commands, printed) in [
         ("0 3 copy_from 0 3", "done\n= B0\n"),
         ("0 3 copy_from 0 3\n0 8 xor 0 3", "done\ndone\n= 10\n"),
     ] {
-        expect(&rt, "8 msb0 F0 A0 0 8", commands, 0, printed)?;
+        expect(&rt, "8 msb0 F0 A0 0 8", commands, 0, printed);
     }
     for (command, printed) in [
         ("0 4 and 0 2", "done\n= 03\n"),
         ("0 4 or 1 3", "done\n= 0B\n"),
         ("1 4 or 0 3", "done\n= 0F\n"),
     ] {
-        expect(&rt, "8 lsb0 0B 03 0 5", command, 0, printed)?;
+        expect(&rt, "8 lsb0 0B 03 0 5", command, 0, printed);
     }
-    Ok(())
 }
 
 /// Each command's word, and how many arguments it takes.
@@ -119,34 +116,28 @@ const ARGUMENTS: [(&str, usize); 29] = [
     ("all", 0),
 ];
 
+/// So many zeros as arguments.
+const ZEROS: [&str; 5] = ["", " 0", " 0 0", " 0 0 0", " 0 0 0 0"];
+
+/// Asserts what is printed of a command with those arguments, and a line behind it that is none.
+fn expect_before_no_line<R: Abort + AllocGlobal>(rt: &R, word: &str, zeros: &str, printed: &str) {
+    match format!(in rt.alloc(); "0 8 {word}{zeros}\nno line") {
+        Ok(input) => expect(rt, "8 lsb0 00 00 0 8", input.as_str(), 2, printed),
+        Err(_) => assert!(rt; false),
+    }
+}
+
 /// A line is good where only the bad one after it is named.
 #[test]
-fn each_command_takes_so_many_arguments(rt: HostRuntime) -> Result<(), Fail> {
+fn each_command_takes_so_many_arguments(rt: HostRuntime) {
     for (word, count) in ARGUMENTS {
-        for given in 0..5 {
+        for (given, zeros) in ZEROS.into_iter().enumerate() {
             let printed = if given == count {
                 "bad line 2\n"
             } else {
                 "bad line 1\n"
             };
-            expect_zeros(&rt, word, given, printed)?;
+            expect_before_no_line(&rt, word, zeros, printed);
         }
     }
-    Ok(())
-}
-
-/// Asserts what is printed of a command with so many zeros as arguments, and a line behind it that is none.
-fn expect_zeros<R: Abort + AllocGlobal>(
-    rt: &R,
-    word: &str,
-    zeros: usize,
-    printed: &str,
-) -> Result<(), Fail> {
-    let mut input = String::from_str(rt.alloc(), "0 8 ")?;
-    input.push_str(word)?;
-    for _ in 0..zeros {
-        input.push_str(" 0")?;
-    }
-    input.push_str("\nno line")?;
-    expect(rt, "8 lsb0 00 00 0 8", input.as_str(), 2, printed)
 }

@@ -1,9 +1,9 @@
 //! Readers and writers that give little or fail, and want of memory.
-use crate::support::{expect_read, is_enough, status, words};
+use crate::support::{add_lines, expect_read, least_requests, status, words};
 use bitvec_test_support::{FailingReader, FailingWriter, OneByteReader};
+use std::alloc::Global;
 use std::io::ErrorKind;
 use std::process::Abort;
-use std::test::Fail;
 
 const ARGS: &str = "8 lsb0 01,02 FF 0 16";
 
@@ -12,24 +12,22 @@ const INPUT: &[u8] = b"0 8 get 0\r\n\n0 16 count_ones\n0 8 set 7 1";
 const PRINTED: &[u8] = b"bit 1\ncount 2\ndone\n= 81,02\n";
 
 #[test]
-fn a_byte_a_read_is_enough(rt: HostRuntime) -> Result<(), Fail> {
-    expect_read(&rt, ARGS, &mut OneByteReader::new(INPUT), 0, PRINTED)
+fn a_byte_a_read_is_enough(rt: HostRuntime) {
+    expect_read(&rt, ARGS, &mut OneByteReader::new(INPUT), 0, PRINTED);
 }
 
 #[test]
-fn many_chunks_are_one_input(rt: HostRuntime) -> Result<(), Fail> {
+fn many_chunks_are_one_input(rt: HostRuntime) {
     let mut input = Vec::new(rt.alloc());
     let mut printed = Vec::new(rt.alloc());
-    for _ in 0..500 {
-        input.extend_from_slice(b"0 16 count_ones\n")?;
-        printed.extend_from_slice(b"count 2\n")?;
-    }
-    printed.extend_from_slice(b"= 01,02\n")?;
-    expect_read(&rt, ARGS, &mut input.as_slice(), 0, printed.as_slice())
+    assert!(rt; add_lines(&mut input, b"0 16 count_ones\n", 500));
+    assert!(rt; add_lines(&mut printed, b"count 2\n", 500));
+    assert!(rt; add_lines(&mut printed, b"= 01,02\n", 1));
+    expect_read(&rt, ARGS, &mut input.as_slice(), 0, printed.as_slice());
 }
 
 #[test]
-fn a_reader_that_fails_is_bad_input(rt: HostRuntime) -> Result<(), Fail> {
+fn a_reader_that_fails_is_bad_input(rt: HostRuntime) {
     for (given, kind) in [
         (b"".as_slice(), ErrorKind::TimedOut),
         (INPUT, ErrorKind::TimedOut),
@@ -41,14 +39,13 @@ fn a_reader_that_fails_is_bad_input(rt: HostRuntime) -> Result<(), Fail> {
             ("8 lsb0 01 - 8 1", b"bad input\n".as_slice()),
             ("8 lsb0 0 - 0 8", b"bad arguments\n".as_slice()),
         ] {
-            expect_read(&rt, args, &mut FailingReader::new(given, kind), 2, printed)?;
+            expect_read(&rt, args, &mut FailingReader::new(given, kind), 2, printed);
         }
     }
-    Ok(())
 }
 
 #[test]
-fn an_input_is_text_before_its_first_line(rt: HostRuntime) -> Result<(), Fail> {
+fn an_input_is_text_before_its_first_line(rt: HostRuntime) {
     for given in [
         b"\xFF".as_slice(),
         b"no line\n\xC3".as_slice(),
@@ -56,51 +53,46 @@ fn an_input_is_text_before_its_first_line(rt: HostRuntime) -> Result<(), Fail> {
         b"0 8 get 0\n\xE2\x82".as_slice(),
         b"0 8 get 0\n\xF0\x9F\x98".as_slice(),
     ] {
-        expect_read(&rt, ARGS, &mut OneByteReader::new(given), 2, b"bad input\n")?;
+        expect_read(&rt, ARGS, &mut OneByteReader::new(given), 2, b"bad input\n");
     }
-    Ok(())
 }
 
 /// A character of the input may come in several reads.
 #[test]
-fn a_character_may_be_cut_by_reads(rt: HostRuntime) -> Result<(), Fail> {
+fn a_character_may_be_cut_by_reads(rt: HostRuntime) {
     let mut input = OneByteReader::new(b"0 8 get 0\n\xE2\x82\xAC\n");
-    expect_read(&rt, ARGS, &mut input, 2, b"bad line 2\n")
+    expect_read(&rt, ARGS, &mut input, 2, b"bad line 2\n");
+}
+
+/// Whether a run with that output ends with status 1.
+fn ends_with_1(alloc: Global, args: &str, input: &[u8], output: &mut FailingWriter) -> bool {
+    let mut input = input;
+    match words(alloc, args) {
+        Ok(args) => status(alloc, args.as_slice(), &mut input, output) == 1,
+        Err(_) => false,
+    }
 }
 
 /// Asserts the status of a run whose output fails behind each of its first so many bytes.
-fn expect_failed_output<R: Abort + AllocGlobal>(
-    rt: &R,
-    args: &str,
-    input: &[u8],
-    printed: usize,
-) -> Result<(), Fail> {
-    let args = words(rt.alloc(), args)?;
+fn expect_failed_output<R: Abort + AllocGlobal>(rt: &R, args: &str, input: &[u8], printed: usize) {
     for room in 0..=printed {
-        let mut input = input;
         let mut output = FailingWriter::new(room, ErrorKind::StorageFull);
-        let ended = status(rt.alloc(), args.as_slice(), &mut input, &mut output);
-        assert!(rt; ended == 1, "with room for {room}");
+        assert!(rt;
+            ends_with_1(rt.alloc(), args, input, &mut output),
+            "with room for {room}"
+        );
     }
-    Ok(())
 }
 
 #[test]
-fn an_output_that_fails_is_status_1(rt: HostRuntime) -> Result<(), Fail> {
-    expect_failed_output(&rt, ARGS, INPUT, PRINTED.len())?;
-    expect_failed_output(&rt, ARGS, b"no line", "bad line 1\n".len())?;
-    expect_failed_output(&rt, "8 lsb0 0 - 0 8", b"", "bad arguments\n".len())
+fn an_output_that_fails_is_status_1(rt: HostRuntime) {
+    expect_failed_output(&rt, ARGS, INPUT, PRINTED.len());
+    expect_failed_output(&rt, ARGS, b"no line", "bad line 1\n".len());
+    expect_failed_output(&rt, "8 lsb0 0 - 0 8", b"", "bad arguments\n".len());
 }
 
 #[test]
-fn want_of_memory_is_told_at_each_request(rt: HostRuntime) -> Result<(), Fail> {
-    let args = words(rt.alloc(), ARGS)?;
-    for requests in 0..100 {
-        if is_enough(&rt, args.as_slice(), INPUT, requests, PRINTED)? {
-            // One at least for each memory, the input, the steps and the replies.
-            assert!(rt; requests >= 5, "{requests} requests");
-            return Ok(());
-        }
-    }
-    panic!(rt; "100 requests aren't enough")
+fn want_of_memory_is_told_at_each_request(rt: HostRuntime) {
+    // One at least for each memory, the input, the steps and the replies.
+    assert!(rt; least_requests(&rt, ARGS, INPUT, PRINTED) >= Some(5));
 }

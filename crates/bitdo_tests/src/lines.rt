@@ -1,9 +1,8 @@
 //! The lines of the input.
 use crate::support::expect;
-use std::test::Fail;
 
 #[test]
-fn lines_are_ended_in_three_ways(rt: HostRuntime) -> Result<(), Fail> {
+fn lines_are_ended_in_three_ways(rt: HostRuntime) {
     for (input, printed) in [
         ("", "= 01\n"),
         ("\n\r\n\n", "= 01\n"),
@@ -15,9 +14,8 @@ fn lines_are_ended_in_three_ways(rt: HostRuntime) -> Result<(), Fail> {
         ("0 8 get 18446744073709551615", "refused index\n= 01\n"),
         ("18446744073709551615 0 get 0", "refused range\n= 01\n"),
     ] {
-        expect(&rt, "8 lsb0 01 - 0 8", input, 0, printed)?;
+        expect(&rt, "8 lsb0 01 - 0 8", input, 0, printed);
     }
-    Ok(())
 }
 
 /// Lines that are none, with a `|` between two.
@@ -35,23 +33,21 @@ const BAD_LINES: &str =
     0 8 count_ones 0|0 8 get ٣|0 8 get\u{A0}0|0 8 get 0\u{2028}0 8 get 0|\u{FEFF}0 8 get 0";
 
 #[test]
-fn other_lines_are_bad(rt: HostRuntime) -> Result<(), Fail> {
+fn other_lines_are_bad(rt: HostRuntime) {
     for line in BAD_LINES.split('|') {
-        expect(&rt, "8 lsb0 01 - 0 8", line, 2, "bad line 1\n")?;
+        expect(&rt, "8 lsb0 01 - 0 8", line, 2, "bad line 1\n");
     }
-    Ok(())
 }
 
 #[test]
-fn the_first_bad_line_is_named(rt: HostRuntime) -> Result<(), Fail> {
+fn the_first_bad_line_is_named(rt: HostRuntime) {
     for (input, printed) in [
         ("0 8 set 0 1\n0 8 set 0 2\n", "bad line 2\n"),
         ("0 8 fill 1\n0 8 fill 2\n", "bad line 2\n"),
         ("\n\r\n0 8 get 0\n\nno\nnor this\n", "bad line 5\n"),
         ("0 8 get 9\n9 8 get 0\n\nno", "bad line 4\n"),
     ] {
-        expect(&rt, "8 lsb0 00 - 0 8", input, 2, printed)?;
-        expect(&rt, "8 lsb0 00 - 8 1", input, 2, printed)?;
+        expect(&rt, "8 lsb0 00 - 0 8", input, 2, printed);
+        expect(&rt, "8 lsb0 00 - 8 1", input, 2, printed);
     }
-    Ok(())
 }

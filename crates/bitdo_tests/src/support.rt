@@ -4,7 +4,6 @@ use bitvec_test_support::Refusing;
 use std::alloc::{AllocError, Allocator, Global};
 use std::io::{Read, Write};
 use std::process::Abort;
-use std::test::Fail;
 
 /// The words of a text, cut at each space.
 pub(crate) fn words(alloc: Global, text: &str) -> Result<Vec<String>, AllocError> {
@@ -25,6 +24,18 @@ pub(crate) fn status<A: Allocator + Clone + Drop, R: Read, W: Write>(
     work(alloc, args, input, output)
 }
 
+/// Whether `work` prints so on these arguments and this input, and ends with that status.
+fn works<I: Read>(alloc: Global, args: &str, input: &mut I, ended: u8, printed: &[u8]) -> bool {
+    match words(alloc, args) {
+        Ok(args) => {
+            let mut output = Vec::new(alloc);
+            let got = status(alloc, args.as_slice(), input, &mut output);
+            got == ended && output.as_slice() == printed
+        }
+        Err(_) => false,
+    }
+}
+
 /// Asserts what `work` prints on these arguments and this reader's input, and its status.
 pub(crate) fn expect_read<R: Abort + AllocGlobal, I: Read>(
     rt: &R,
@@ -32,36 +43,8 @@ pub(crate) fn expect_read<R: Abort + AllocGlobal, I: Read>(
     input: &mut I,
     ended: u8,
     printed: &[u8],
-) -> Result<(), Fail> {
-    let args = words(rt.alloc(), args)?;
-    let mut output = Vec::new(rt.alloc());
-    let got = status(rt.alloc(), args.as_slice(), input, &mut output);
-    assert!(rt; output.as_slice() == printed);
-    assert!(rt; got == ended);
-    Ok(())
-}
-
-/// Whether a run that is granted so many requests for memory makes no more. Asserts what it prints then, and
-/// that else it tells of the want of memory, and its status.
-pub(crate) fn is_enough<R: Abort + AllocGlobal>(
-    rt: &R,
-    args: &[String],
-    input: &[u8],
-    requests: u64,
-    printed: &[u8],
-) -> Result<bool, Fail> {
-    let refusing = Refusing::new(rt.alloc(), requests);
-    let mut bytes = input;
-    let mut output = Vec::new(rt.alloc());
-    let got = status(&refusing, args, &mut bytes, &mut output);
-    let (ended, printed) = if refusing.granted_all() {
-        (0, printed)
-    } else {
-        (3, b"run error: memory\n".as_slice())
-    };
-    assert!(rt; output.as_slice() == printed, "after {requests}");
-    assert!(rt; got == ended, "after {requests}");
-    Ok(ended == 0)
+) {
+    assert!(rt; works(rt.alloc(), args, input, ended, printed), "on {args}");
 }
 
 /// Asserts what `work` prints on these arguments and this input, and its status.
@@ -71,14 +54,17 @@ pub(crate) fn expect<R: Abort + AllocGlobal>(
     input: &str,
     ended: u8,
     printed: &str,
-) -> Result<(), Fail> {
-    let args = words(rt.alloc(), args)?;
+) {
     let mut bytes = input.as_bytes();
-    let mut output = Vec::new(rt.alloc());
-    let got = status(rt.alloc(), args.as_slice(), &mut bytes, &mut output);
-    assert!(rt; output.as_slice() == printed.as_bytes(), "on {input:?}");
-    assert!(rt; got == ended, "on {input:?}");
-    Ok(())
+    assert!(rt;
+        works(rt.alloc(), args, &mut bytes, ended, printed.as_bytes()),
+        "{args} on {input:?}"
+    );
+}
+
+/// Adds a line to a text. The answer is whether there was memory.
+fn add_line(text: &mut String, line: &str) -> bool {
+    text.push_str(line).is_ok() && text.push('\n').is_ok()
 }
 
 /// Asserts that the lines of one run are answered so, and that it leaves this memory.
@@ -87,16 +73,67 @@ pub(crate) fn expect_run<R: Abort + AllocGlobal>(
     args: &str,
     lines: &[(&str, &str)],
     memory: &str,
-) -> Result<(), Fail> {
+) {
     let mut input = String::new(rt.alloc());
     let mut printed = String::new(rt.alloc());
+    let mut is_made = true;
     for (line, reply) in lines {
-        input.push_str(line)?;
-        input.push('\n')?;
-        printed.push_str(reply)?;
-        printed.push('\n')?;
+        is_made &= add_line(&mut input, line) && add_line(&mut printed, reply);
     }
-    printed.push_str(memory)?;
-    printed.push('\n')?;
-    expect(rt, args, input.as_str(), 0, printed.as_str())
+    assert!(rt; is_made && add_line(&mut printed, memory));
+    expect(rt, args, input.as_str(), 0, printed.as_str());
+}
+
+/// Adds a line to a text so many times. The answer is whether there was memory.
+pub(crate) fn add_lines(text: &mut Vec<u8>, line: &[u8], lines: usize) -> bool {
+    let mut is_made = true;
+    for _ in 0..lines {
+        is_made &= text.extend_from_slice(line).is_ok();
+    }
+    is_made
+}
+
+/// Whether a run that is granted so many requests for memory makes no more. Asserts what it prints then, and
+/// that else it tells of the want of memory, and its status.
+fn is_enough<R: Abort + AllocGlobal>(
+    rt: &R,
+    args: &[String],
+    input: &[u8],
+    requests: u64,
+    printed: &[u8],
+) -> bool {
+    let refusing = Refusing::new(rt.alloc(), requests);
+    let mut bytes = input;
+    let mut output = Vec::new(rt.alloc());
+    let got = status(&refusing, args, &mut bytes, &mut output);
+    let (ended, printed) = if refusing.granted_all() {
+        (0, printed)
+    } else {
+        (3, b"run error: memory\n".as_slice())
+    };
+    assert!(rt;
+        got == ended && output.as_slice() == printed,
+        "after {requests}"
+    );
+    ended == 0
+}
+
+/// The least number of requests below 100 that a run needs, which prints so, if one is enough.
+pub(crate) fn least_requests<R: Abort + AllocGlobal>(
+    rt: &R,
+    args: &str,
+    input: &[u8],
+    printed: &[u8],
+) -> Option<u64> {
+    match words(rt.alloc(), args) {
+        Ok(args) => {
+            for requests in 0..100 {
+                if is_enough(rt, args.as_slice(), input, requests, printed) {
+                    return Some(requests);
+                }
+            }
+            None
+        }
+        Err(_) => None,
+    }
 }

@@ -55,12 +55,11 @@ fn counts<T: BitStore>(element: T) -> [u32; 3] {
 
 /// What the operations give of a row's numbers, if they are elements' and a number of bits.
 fn answers<T: BitStore>(row: &Row) -> Option<([u128; 6], [u32; 3])> {
-    let left = element::<T>(row.left)?;
-    let right = element::<T>(row.right)?;
-    if row.by < T::BITS {
-        Some((results(left, right, row.by), counts(left)))
-    } else {
-        None
+    match (element::<T>(row.left), element::<T>(row.right)) {
+        (Some(left), Some(right)) if row.by < T::BITS => {
+            Some((results(left, right, row.by), counts(left)))
+        }
+        _ => None,
     }
 }
 

@@ -8,10 +8,9 @@ use crate::{
 use bitvec_query::base::Msb0;
 use bitvec_query::slice::{BitSlice, BitSliceMut};
 use std::alloc::AllocError;
-use std::test::Fail;
 
 #[test]
-fn bits_from_both_ends(rt: HostRuntime) -> Result<(), Fail> {
+fn bits_from_both_ends(rt: HostRuntime) {
     let cells = [0x17u8];
     let view = BitSlice::<u8, Msb0>::from_slice(&cells);
     let mut bits = view.iter();
@@ -21,9 +20,11 @@ fn bits_from_both_ends(rt: HostRuntime) -> Result<(), Fail> {
     assert!(rt;
         (read(Some(bits.as_ref())), read(Some(bits.as_slice()))) == (Some((3, 3)), Some((3, 3)))
     );
-    let mut copy = bits.clone()?;
-    assert!(rt; (copy.next().map(|bit| *bit), bits.size_hint()) == (Some(false), (3, Some(3))));
-    Ok(())
+    match bits.clone() {
+        Ok(mut copy) => assert!(rt; copy.next().map(|bit| *bit) == Some(false)),
+        Err(_) => assert!(rt; false),
+    }
+    assert!(rt; bits.size_hint() == (3, Some(3)));
 }
 
 #[test]

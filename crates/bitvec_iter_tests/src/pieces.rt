@@ -4,7 +4,6 @@ use crate::reading::read;
 use bitvec_iter::IterCalls;
 use bitvec_query::base::Msb0;
 use bitvec_query::slice::{BitSlice, BitSliceMut};
-use std::test::Fail;
 
 #[test]
 fn the_back_of_chunks(rt: HostRuntime) {
@@ -40,17 +39,20 @@ fn whole_chunks_from_the_end(rt: HostRuntime) {
 }
 
 #[test]
-fn a_clone_walks_alone(rt: HostRuntime) -> Result<(), Fail> {
+fn a_clone_walks_alone(rt: HostRuntime) {
     let cells = [0x17u8];
     let view = BitSlice::<u8, Msb0>::from_slice(&cells);
     let mut chunks = view.chunks(3);
     assert!(rt; read(chunks.next()) == Some((3, 0)));
     assert!(rt; chunks.size_hint() == (2, Some(2)));
-    let mut copy = chunks.clone()?;
-    assert!(rt; read(copy.next()) == Some((3, 5)));
-    assert!(rt; read(copy.next()) == Some((2, 3)));
+    match chunks.clone() {
+        Ok(mut copy) => {
+            assert!(rt; read(copy.next()) == Some((3, 5)));
+            assert!(rt; read(copy.next()) == Some((2, 3)));
+        }
+        Err(_) => assert!(rt; false),
+    }
     assert!(rt; read(chunks.next()) == Some((3, 5)));
-    Ok(())
 }
 
 #[test]

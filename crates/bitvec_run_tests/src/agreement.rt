@@ -10,125 +10,176 @@ use bitvec_plain::{bits_of_elements, plain_run, same_bits};
 use bitvec_test_support::mixed_elements;
 use std::alloc::Global;
 use std::process::Abort;
-use std::test::Fail;
 
-const LEFT: u64 = 0x9E37_79B9_7F4A_7C15;
+pub(crate) const LEFT: u64 = 0x9E37_79B9_7F4A_7C15;
 
-const RIGHT: u64 = 0xBF58_476D_1CE4_E5B9;
+pub(crate) const RIGHT: u64 = 0xBF58_476D_1CE4_E5B9;
 
-/// So many elements hold a window of 131 bits from the last bit of the first element on.
-const COUNT: usize = 18;
+/// So many elements hold a window of 136 bits from the last bit of the first element on.
+pub(crate) const COUNT: usize = 18;
 
-/// What a run replies, and the bits of the memory that it leaves.
-#[derive(Drop)]
-struct Outcome {
-    replies: Vec<Reply>,
-    bits: Vec<bool>,
+/// Two memories and their bits.
+#[derive(Clone, Copy)]
+pub(crate) struct Sides<'a, T> {
+    pub(crate) left: &'a [T],
+    pub(crate) right: &'a [T],
+    pub(crate) left_bits: &'a [bool],
+    pub(crate) right_bits: &'a [bool],
 }
 
-/// The outcome of a run of those steps in that window.
-fn by_run<T: BitStore, O: SliceOrder>(
+/// Whether elements have that list in a window, and the bits as before outside.
+pub(crate) fn leaves<T: BitStore, O: SliceOrder>(
     alloc: Global,
-    left: &[T],
-    right: &[T],
+    elements: &[T],
     window: Window,
-    steps: &[Step],
-) -> Result<Outcome, Fail> {
-    let mut cells = Vec::from_slice(alloc, left)?;
-    let replies = answer::<T, O, _>(alloc, &mut cells, window, right, steps)?;
-    let bits = bits_of_elements::<T, O, _>(alloc, &cells)?;
-    Ok(Outcome { replies, bits })
-}
-
-/// The same by the plain program, and no bit outside the window changed.
-fn by_lists<T: BitStore, O: SliceOrder>(
-    alloc: Global,
-    left: &[T],
-    right: &[T],
-    window: Window,
-    steps: &[Step],
-) -> Result<Outcome, Fail> {
-    let before = bits_of_elements::<T, O, _>(alloc, left)?;
-    let right_bits = bits_of_elements::<T, O, _>(alloc, right)?;
+    list: &[bool],
+    before: &[bool],
+) -> bool {
     let end = window.start.saturating_add(window.len);
-    let list = before.get(window.start..end).ok_or("a window outside")?;
-    let plain = plain_run(alloc, list, &right_bits, steps)?;
-    let mut bits = Vec::from_slice(alloc, before.get(..window.start).unwrap_or(&[]))?;
-    bits.extend_from_slice(&plain.list)?;
-    bits.extend_from_slice(before.get(end..).unwrap_or(&[]))?;
-    Ok(Outcome {
-        replies: plain.replies,
-        bits,
-    })
+    match bits_of_elements::<T, O, _>(alloc, elements) {
+        Ok(bits) => {
+            has_part(&bits, 0, window.start, before.get(..window.start))
+                && has_part(&bits, window.start, end, Some(list))
+                && has_part(&bits, end, before.len(), before.get(end..))
+                && bits.len() == before.len()
+        }
+        Err(_) => false,
+    }
 }
 
-/// A run of those steps in that window, and the same by the plain program.
-fn agrees<T: BitStore, O: SliceOrder, R: Abort + AllocGlobal>(
-    rt: &R,
-    left: &[T],
+/// Whether bits have that list from one index up to another.
+fn has_part(bits: &[bool], from: usize, to: usize, list: Option<&[bool]>) -> bool {
+    match (bits.get(from..to), list) {
+        (Some(part), Some(list)) => same_bits(part, list),
+        _ => false,
+    }
+}
+
+/// Whether a run of those steps replies so.
+fn replies_so<T: BitStore, O: SliceOrder>(
+    alloc: Global,
+    cells: &mut [T],
     right: &[T],
     window: Window,
     steps: &[Step],
-) -> Result<(), Fail> {
-    let run = by_run::<T, O>(rt.alloc(), left, right, window, steps)?;
-    let plain = by_lists::<T, O>(rt.alloc(), left, right, window, steps)?;
-    assert!(rt;
-        run.replies.as_slice() == plain.replies.as_slice(),
-        "{window:?}"
-    );
-    assert!(rt; same_bits(&run.bits, &plain.bits), "{window:?}");
-    Ok(())
+    wanted: &[Reply],
+) -> bool {
+    match answer::<T, O, _>(alloc, cells, window, right, steps) {
+        Ok(replies) => replies.as_slice() == wanted,
+        Err(_) => false,
+    }
+}
+
+/// Whether a run of those steps in that window replies and leaves what the plain program does.
+fn agrees<T: BitStore, O: SliceOrder>(
+    alloc: Global,
+    cells: &mut [T],
+    sides: Sides<'_, T>,
+    window: Window,
+    steps: &[Step],
+) -> bool {
+    let end = window.start.saturating_add(window.len);
+    let list = sides.left_bits.get(window.start..end).unwrap_or(&[]);
+    match plain_run(alloc, list, sides.right_bits, steps) {
+        Ok(plain) => {
+            replies_so::<T, O>(alloc, cells, sides.right, window, steps, &plain.replies)
+                && leaves::<T, O>(alloc, cells, window, &plain.list, sides.left_bits)
+        }
+        Err(_) => false,
+    }
+}
+
+/// A run of those steps in that window agrees with the plain program.
+fn check<T: BitStore, O: SliceOrder, R: Abort + AllocGlobal>(
+    rt: &R,
+    sides: Sides<'_, T>,
+    window: Window,
+    steps: &[Step],
+) {
+    match Vec::from_slice(rt.alloc(), sides.left) {
+        Ok(mut cells) => {
+            let is_same = agrees::<T, O>(rt.alloc(), &mut cells, sides, window, steps);
+            assert!(rt; is_same, "{window:?}");
+        }
+        Err(_) => assert!(rt; false),
+    }
 }
 
 /// Every command in windows of few bits, of about an element and of several elements, at the
 /// start of an element, behind its first bit and at its last bit, on both sides.
-fn agrees_everywhere<T: BitStore, O: SliceOrder, R: Abort + AllocGlobal>(
-    rt: &R,
-) -> Result<(), Fail> {
-    let left = mixed_elements::<T, _>(rt.alloc(), LEFT, COUNT)?;
-    let right = mixed_elements::<T, _>(rt.alloc(), RIGHT, COUNT)?;
+fn check_windows<T: BitStore, O: SliceOrder, R: Abort + AllocGlobal>(rt: &R, sides: Sides<'_, T>) {
     let width = T::BITS as usize;
     for len in [0, 1, width - 1, width, width + 1, 130] {
         for start in [0, 1, width - 1] {
             let window = Window { start, len };
-            agrees::<T, O, R>(rt, &left, &right, window, &queries(len))?;
-            agrees::<T, O, R>(rt, &left, &right, window, &edits(len))?;
-            agrees::<T, O, R>(rt, &left, &right, window, &moves(len))?;
+            check::<T, O, R>(rt, sides, window, &queries(len));
+            check::<T, O, R>(rt, sides, window, &edits(len));
+            check::<T, O, R>(rt, sides, window, &moves(len));
             for right_start in [0, 1, width - 1] {
-                let steps = right_commands(len, right_start);
-                agrees::<T, O, R>(rt, &left, &right, window, &steps)?;
+                check::<T, O, R>(rt, sides, window, &right_commands(len, right_start));
             }
         }
     }
-    Ok(())
+}
+
+/// The same on these elements.
+fn check_elements<T: BitStore, O: SliceOrder, R: Abort + AllocGlobal>(
+    rt: &R,
+    left: &[T],
+    right: &[T],
+) {
+    let left_bits = bits_of_elements::<T, O, _>(rt.alloc(), left);
+    let right_bits = bits_of_elements::<T, O, _>(rt.alloc(), right);
+    match (left_bits, right_bits) {
+        (Ok(left_bits), Ok(right_bits)) => {
+            let sides = Sides {
+                left,
+                right,
+                left_bits: &left_bits,
+                right_bits: &right_bits,
+            };
+            check_windows::<T, O, R>(rt, sides);
+        }
+        _ => assert!(rt; false),
+    }
+}
+
+/// The same on elements with no pattern.
+fn agrees_everywhere<T: BitStore, O: SliceOrder, R: Abort + AllocGlobal>(rt: &R) {
+    let left = mixed_elements::<T, _>(rt.alloc(), LEFT, COUNT);
+    let right = mixed_elements::<T, _>(rt.alloc(), RIGHT, COUNT);
+    match (left, right) {
+        (Ok(left), Ok(right)) => check_elements::<T, O, R>(rt, &left, &right),
+        _ => assert!(rt; false),
+    }
 }
 
 /// The same at each width.
-fn agrees_at_each_width<O: SliceOrder, R: Abort + AllocGlobal>(rt: &R) -> Result<(), Fail> {
-    agrees_everywhere::<u8, O, R>(rt)?;
-    agrees_everywhere::<u16, O, R>(rt)?;
-    agrees_everywhere::<u32, O, R>(rt)?;
-    agrees_everywhere::<u64, O, R>(rt)?;
-    agrees_everywhere::<u128, O, R>(rt)?;
-    agrees_everywhere::<usize, O, R>(rt)
+fn agrees_at_each_width<O: SliceOrder, R: Abort + AllocGlobal>(rt: &R) {
+    agrees_everywhere::<u8, O, R>(rt);
+    agrees_everywhere::<u16, O, R>(rt);
+    agrees_everywhere::<u32, O, R>(rt);
+    agrees_everywhere::<u64, O, R>(rt);
+    agrees_everywhere::<u128, O, R>(rt);
+    agrees_everywhere::<usize, O, R>(rt);
 }
 
 #[test]
-fn the_low_bit_first_agrees_with_the_plain_program(rt: HostRuntime) -> Result<(), Fail> {
-    agrees_at_each_width::<Lsb0, _>(&rt)
+fn the_low_bit_first_agrees_with_the_plain_program(rt: HostRuntime) {
+    agrees_at_each_width::<Lsb0, _>(&rt);
 }
 
 #[test]
-fn the_high_bit_first_agrees_with_the_plain_program(rt: HostRuntime) -> Result<(), Fail> {
-    agrees_at_each_width::<Msb0, _>(&rt)
+fn the_high_bit_first_agrees_with_the_plain_program(rt: HostRuntime) {
+    agrees_at_each_width::<Msb0, _>(&rt);
 }
 
 #[test]
-fn the_high_half_first_agrees_with_the_plain_program(rt: HostRuntime) -> Result<(), Fail> {
-    agrees_at_each_width::<HiLo, _>(&rt)
+fn the_high_half_first_agrees_with_the_plain_program(rt: HostRuntime) {
+    agrees_at_each_width::<HiLo, _>(&rt);
 }
 
 #[test]
-fn an_own_order_agrees_with_the_plain_program(rt: HostRuntime) -> Result<(), Fail> {
-    agrees_at_each_width::<Scattered, _>(&rt)
+fn an_own_order_agrees_with_the_plain_program(rt: HostRuntime) {
+    agrees_at_each_width::<Scattered, _>(&rt);
 }

@@ -3,10 +3,9 @@ ghost use Rattle.std.specs.Prelude.{◌<◌, ◌^◌};
 
 use bitvec_plain::commands::{Op, Window};
 use bitvec_plain::field_runs::{FieldOp, FieldStep};
-use std::alloc::{AllocError, Global};
 
 /// How many steps are drawn for a window.
-const COUNT: usize = 60;
+pub(crate) const COUNT: usize = 60;
 
 /// A stream of numbers with no pattern.
 #[derive(Drop)]
@@ -56,19 +55,20 @@ impl Draws {
 }
 
 /// Steps in a window of that many bits: sub-ranges of any length, some of which reach past its end.
-pub(crate) fn draw_steps(
-    alloc: Global,
-    draws: &mut Draws,
-    len: usize,
-) -> Result<Vec<FieldStep>, AllocError>
+pub(crate) fn draw_steps(draws: &mut Draws, len: usize) -> [FieldStep; COUNT]
     requires { len < 2 ^ 32 }
 {
-    let mut steps = Vec::new(alloc);
-    for _ in 0..COUNT {
+    let count = FieldStep {
+        from: 0,
+        to: 0,
+        op: FieldOp::Plain(Op::CountOnes),
+    };
+    let mut steps = [count; COUNT];
+    for step in &mut steps {
         let from = draws.below(len + 1);
         let to = from + draws.below(len + 2 - from);
         let op = draws.op();
-        steps.push(FieldStep { from, to, op })?;
+        *step = FieldStep { from, to, op };
     }
-    Ok(steps)
+    steps
 }

@@ -57,8 +57,10 @@ fn count_replies<R: Abort + AllocGlobal>(
 ) -> Result<usize, RunError> {
     let mut cells = Untouched::new(rt, len);
     let mut right = Untouched::new(rt, right_len);
-    let replies = run::<Lsb0, _, _, _>(rt.alloc(), &mut cells, window, &mut right, steps)?;
-    Ok(replies.len())
+    match run::<Lsb0, _, _, _>(rt.alloc(), &mut cells, window, &mut right, steps) {
+        Ok(replies) => Ok(replies.len()),
+        Err(error) => Err(error),
+    }
 }
 
 #[test]

@@ -2,11 +2,10 @@
 use crate::own_order::Scattered;
 use crate::slices::{FOUR_NIBBLES_REPLIES, answer, four_nibbles, step};
 use bitvec_plain::base::{HiLo, Lsb0};
-use bitvec_plain::commands::{Op, Refusal, Reply, Step, Window};
+use bitvec_plain::commands::{Op, Refusal, Reply, RunError, Step, Window};
 use bitvec_plain::engine::SliceOrder;
 use bitvec_plain::store::BitStore;
 use std::process::Abort;
-use std::test::Fail;
 
 #[derive(Drop)]
 pub(crate) struct Row<'a> {
@@ -17,44 +16,46 @@ pub(crate) struct Row<'a> {
     pub(crate) after: &'a [u8],
 }
 
-pub(crate) fn check<O: SliceOrder, R: Abort + AllocGlobal>(
-    rt: &R,
-    cells: &mut [u8],
-    row: &Row,
-) -> Result<(), Fail> {
-    let replies = answer::<u8, O, _>(rt.alloc(), cells, row.window, row.right, row.steps)?;
-    assert!(rt; replies.as_slice() == row.replies);
+/// Whether a run was made, and replies so.
+fn replies_so(replies: Result<Vec<Reply>, RunError>, wanted: &[Reply]) -> bool {
+    match replies {
+        Ok(replies) => replies.as_slice() == wanted,
+        Err(_) => false,
+    }
+}
+
+pub(crate) fn check<O: SliceOrder, R: Abort + AllocGlobal>(rt: &R, cells: &mut [u8], row: &Row) {
+    let replies = answer::<u8, O, _>(rt.alloc(), cells, row.window, row.right, row.steps);
+    assert!(rt; replies_so(replies, row.replies));
     assert!(rt; &*cells == row.after);
-    Ok(())
 }
 
 /// The row of four nibbles in elements that are zero, and the numbers that it leaves there.
-pub(crate) fn check_four_nibbles<T: BitStore, R: Abort + AllocGlobal>(
+fn check_four_nibbles<T: BitStore, R: Abort + AllocGlobal>(
     rt: &R,
     cells: &mut [T],
     after: &[u128],
-) -> Result<(), Fail> {
+) {
     let window = Window { start: 0, len: 16 };
-    let replies = answer::<T, Lsb0, _>(rt.alloc(), cells, window, &[], &four_nibbles())?;
-    assert!(rt; replies.as_slice() == FOUR_NIBBLES_REPLIES.as_slice());
+    let replies = answer::<T, Lsb0, _>(rt.alloc(), cells, window, &[], &four_nibbles());
+    assert!(rt; replies_so(replies, &FOUR_NIBBLES_REPLIES));
     assert!(rt; cells.len() == after.len());
     for (cell, number) in cells.iter().zip(after) {
         assert!(rt; cell.to_u128() == *number);
     }
-    Ok(())
 }
 
 #[test]
-fn a_bit_of_each_nibble_is_set_and_counted(rt: HostRuntime) -> Result<(), Fail> {
-    check_four_nibbles(&rt, &mut [0u8, 0], &[0x21, 0x84])?;
-    check_four_nibbles(&rt, &mut [0u16], &[0x8421])?;
-    check_four_nibbles(&rt, &mut [0u32, 0], &[0x8421, 0])?;
-    check_four_nibbles(&rt, &mut [0u64], &[0x8421])?;
-    check_four_nibbles(&rt, &mut [0usize, 0], &[0x8421, 0])
+fn a_bit_of_each_nibble_is_set_and_counted(rt: HostRuntime) {
+    check_four_nibbles(&rt, &mut [0u8, 0], &[0x21, 0x84]);
+    check_four_nibbles(&rt, &mut [0u16], &[0x8421]);
+    check_four_nibbles(&rt, &mut [0u32, 0], &[0x8421, 0]);
+    check_four_nibbles(&rt, &mut [0u64], &[0x8421]);
+    check_four_nibbles(&rt, &mut [0usize, 0], &[0x8421, 0]);
 }
 
 #[test]
-fn a_refused_step_changes_nothing_and_the_next_follows(rt: HostRuntime) -> Result<(), Fail> {
+fn a_refused_step_changes_nothing_and_the_next_follows(rt: HostRuntime) {
     let row = Row {
         window: Window { start: 3, len: 4 },
         right: &[],
@@ -76,11 +77,11 @@ fn a_refused_step_changes_nothing_and_the_next_follows(rt: HostRuntime) -> Resul
         ],
         after: &[0xFF],
     };
-    check::<Lsb0, _>(&rt, &mut [0xFF], &row)
+    check::<Lsb0, _>(&rt, &mut [0xFF], &row);
 }
 
 #[test]
-fn places_follow_the_order(rt: HostRuntime) -> Result<(), Fail> {
+fn places_follow_the_order(rt: HostRuntime) {
     let bits = [false, true, false, true, true, false, true, false];
     for (index, bit) in bits.into_iter().enumerate() {
         let row = Row {
@@ -90,7 +91,7 @@ fn places_follow_the_order(rt: HostRuntime) -> Result<(), Fail> {
             replies: &[Reply::Bit(bit)],
             after: &[0xA5],
         };
-        check::<HiLo, _>(&rt, &mut [0xA5], &row)?;
+        check::<HiLo, _>(&rt, &mut [0xA5], &row);
     }
     let row = Row {
         window: Window { start: 0, len: 8 },
@@ -99,11 +100,11 @@ fn places_follow_the_order(rt: HostRuntime) -> Result<(), Fail> {
         replies: &[Reply::Bit(true)],
         after: &[0x10],
     };
-    check::<HiLo, _>(&rt, &mut [0x10], &row)
+    check::<HiLo, _>(&rt, &mut [0x10], &row);
 }
 
 #[test]
-fn a_memory_may_be_empty_and_a_window_may_lie_at_its_end(rt: HostRuntime) -> Result<(), Fail> {
+fn a_memory_may_be_empty_and_a_window_may_lie_at_its_end(rt: HostRuntime) {
     let empty = Row {
         window: Window { start: 0, len: 0 },
         right: &[],
@@ -111,7 +112,7 @@ fn a_memory_may_be_empty_and_a_window_may_lie_at_its_end(rt: HostRuntime) -> Res
         replies: &[Reply::Count(0), Reply::Refused(Refusal::Range)],
         after: &[],
     };
-    check::<Lsb0, _>(&rt, &mut [], &empty)?;
+    check::<Lsb0, _>(&rt, &mut [], &empty);
     let end = Row {
         window: Window { start: 16, len: 0 },
         right: &[],
@@ -119,12 +120,12 @@ fn a_memory_may_be_empty_and_a_window_may_lie_at_its_end(rt: HostRuntime) -> Res
         replies: &[Reply::Count(0)],
         after: &[0x5A, 0xC3],
     };
-    check::<Lsb0, _>(&rt, &mut [0x5A, 0xC3], &end)
+    check::<Lsb0, _>(&rt, &mut [0x5A, 0xC3], &end);
 }
 
 // Indices 0, 1 and 2 of a byte are bits 3, 0 and 5.
 #[test]
-fn an_own_order_is_followed(rt: HostRuntime) -> Result<(), Fail> {
+fn an_own_order_is_followed(rt: HostRuntime) {
     let row = Row {
         window: Window { start: 0, len: 8 },
         right: &[],
@@ -132,5 +133,5 @@ fn an_own_order_is_followed(rt: HostRuntime) -> Result<(), Fail> {
         replies: &[Reply::Done, Reply::Count(1)],
         after: &[0x29],
     };
-    check::<Scattered, _>(&rt, &mut [0x00], &row)
+    check::<Scattered, _>(&rt, &mut [0x00], &row);
 }

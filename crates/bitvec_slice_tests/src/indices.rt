@@ -133,9 +133,10 @@ fn a_part_for_writing_leaves_the_others(rt: HostRuntime) {
 /// Where a range of three elements' bits stands among the elements that it keeps.
 fn place_of(from: usize, to: usize) -> Option<(usize, usize)> {
     let cells = [0u8; 3];
-    let part = BitSlice::<u8, Lsb0>::from_slice(&cells).get(from..to)?;
-    let window = part.window();
-    Some((window.start, window.len))
+    match BitSlice::<u8, Lsb0>::from_slice(&cells).get(from..to) {
+        Some(part) => Some((part.window().start, part.window().len)),
+        None => None,
+    }
 }
 
 #[test]

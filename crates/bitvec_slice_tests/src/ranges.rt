@@ -8,33 +8,33 @@ use bitvec_query::store::BitStore;
 use std::test::Fail;
 
 /// The view 0, 1, 0, 0, 1 of a byte.
-fn five_bits(cells: &[u8; 1]) -> Option<BitSlice<'_, u8, Lsb0>> {
-    BitSlice::from_slice(cells).get(..5)
+fn five_bits(cells: &[u8; 1]) -> BitSlice<'_, u8, Lsb0> {
+    BitSlice::from_slice(cells).into_part(0..5)
 }
 
 /// The counts of the range from an index up to another.
 fn between(first: usize, end: usize) -> Option<(usize, usize)> {
-    counts(five_bits(&[0x12])?.get(first..end))
+    counts(five_bits(&[0x12]).get(first..end))
 }
 
 /// The counts of the range from an index to another, which it has too.
 fn through(first: usize, last: usize) -> Option<(usize, usize)> {
-    counts(five_bits(&[0x12])?.get(first..=last))
+    counts(five_bits(&[0x12]).get(first..=last))
 }
 
 /// The counts of the range from an index on.
 fn from(first: usize) -> Option<(usize, usize)> {
-    counts(five_bits(&[0x12])?.get(first..))
+    counts(five_bits(&[0x12]).get(first..))
 }
 
 /// The counts of the range up to an index.
 fn up_to(end: usize) -> Option<(usize, usize)> {
-    counts(five_bits(&[0x12])?.get(..end))
+    counts(five_bits(&[0x12]).get(..end))
 }
 
 /// The counts of the range to an index, which it has too.
 fn up_through(last: usize) -> Option<(usize, usize)> {
-    counts(five_bits(&[0x12])?.get(..=last))
+    counts(five_bits(&[0x12]).get(..=last))
 }
 
 #[test]
@@ -79,7 +79,7 @@ fn ranges_of_one_end(rt: HostRuntime) {
 
 #[test]
 fn a_pair_of_bits_and_all(rt: HostRuntime) -> Result<(), Fail> {
-    let view = five_bits(&[0x12]).ok_or("no such bits")?;
+    let view = five_bits(&[0x12]);
     assert!(rt; counts(view.get(..)) == Some((5, 2)));
     assert!(rt; view.get(5).is_none());
     assert!(rt; *view.get(4).ok_or("no such bit")?);

@@ -126,11 +126,7 @@ fn values_of(
     if back {
         return domain.values().rev().collect(alloc);
     }
-    let mut values = Vec::new(alloc);
-    for value in domain {
-        values.push(value)?;
-    }
-    Ok(values)
+    domain.into_iter().collect(alloc)
 }
 
 /// Whether a list was made, and has these values.

@@ -8,14 +8,14 @@ pub fn mixed_elements<T: BitStore, A: Allocator>(
     seed: u64,
     count: usize,
 ) -> Result<Vec<T, A>, AllocError> {
+    let mut elements = vec![in alloc; T::ZERO; count]?;
     let mut number = seed;
-    let mut elements = Vec::new(alloc);
-    for _ in 0..count {
+    for element in &mut elements {
         number = number.wrapping_mul(0x5851_F42D_4C95_7F2D).wrapping_add(1);
         let low = number ^ number >> 29;
         let high = low.wrapping_mul(0x9E37_79B9_7F4A_7C15);
         let mixed = (high as u128) << 64 | low as u128;
-        elements.push(T::from_u128(mixed & T::ALL.to_u128()))?;
+        *element = T::from_u128(mixed & T::ALL.to_u128());
     }
     Ok(elements)
 }

@@ -10,10 +10,10 @@ ghost use Rattle.bitvec.specs.Sides.{halves_of, joined, side_lists, side_reply};
 ghost use Rattle.bitvec.specs.Views.{seen, seen_mut};
 
 use crate::filled::fill_all;
+use crate::guide::has_bytes;
 use bitvec::prelude::*;
 use bitvec::run::{Op, Reply, Side, Step, run_halves};
 use std::alloc::{AllocError, Global};
-use std::test::Fail;
 
 /// Runs steps through the bits before `mid` and those from it on: both are what the steps make of
 /// their lists. Conditions: `mid` is at most `len`, and `out` has a place for each reply.
@@ -100,16 +100,30 @@ fn halves_are_run(rt: HostRuntime) {
     assert!(rt; cells == [0b0101_0111]);
 }
 
+/// Whether a flipped copy was made, of so many ones, and has that byte.
+fn flips(alloc: Global, view: BitSlice<'_, u8, Lsb0>, wanted: usize, byte: u8) -> bool {
+    match flipped_copy(alloc, view) {
+        Ok((copy, ones)) => ones == wanted && copy.as_raw_slice() == [byte].as_slice(),
+        Err(_) => false,
+    }
+}
+
+/// Whether a copy was made, and has that byte once its elements are filled.
+fn fills(copy: Result<BitVec<u8, Lsb0, Global>, AllocError>, byte: u8) -> bool {
+    match copy {
+        Ok(mut copy) => {
+            fill_elements(&mut copy, true);
+            copy.as_raw_slice() == [byte].as_slice()
+        }
+        Err(_) => false,
+    }
+}
+
 #[test]
-fn copies_are_made(rt: HostRuntime) -> Result<(), Fail> {
+fn copies_are_made(rt: HostRuntime) {
     let cells = [0x31u8];
     let view = BitSlice::<u8, Lsb0>::from_slice(&cells);
-    assert!(rt; twice(rt.alloc(), view)?.as_raw_slice() == [0x31, 0x31].as_slice());
-    let (copy, ones) = flipped_copy(rt.alloc(), view)?;
-    assert!(rt; copy.as_raw_slice() == [0xCE].as_slice());
-    assert!(rt; ones == 3);
-    let mut filled = view.to_bitvec(rt.alloc())?;
-    fill_elements(&mut filled, true);
-    assert!(rt; filled.as_raw_slice() == [0xFF].as_slice());
-    Ok(())
+    assert!(rt; has_bytes(twice(rt.alloc(), view), &[0x31, 0x31]));
+    assert!(rt; flips(rt.alloc(), view, 3, 0xCE));
+    assert!(rt; fills(view.to_bitvec(rt.alloc()), 0xFF));
 }

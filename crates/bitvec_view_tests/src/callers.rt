@@ -57,7 +57,7 @@ mod tests {
     use super::{backwards, before_one, flipped};
     use bitvec_owned::query::base::Lsb0;
     use bitvec_owned::query::slice::BitSlice;
-    use std::test::Fail;
+    use std::alloc::Global;
 
     #[test]
     fn bits_before_the_first_one(rt: HostRuntime) {
@@ -66,15 +66,32 @@ mod tests {
         assert!(rt; before_one(BitSlice::<u8, Lsb0>::from_slice(&[0])) == 8);
     }
 
+    /// Whether a flipped copy was made, of so many ones and with these elements.
+    fn flips(
+        alloc: Global,
+        view: BitSlice<'_, u8, Lsb0>,
+        wanted: usize,
+        elements: [u8; 2],
+    ) -> bool {
+        match flipped(alloc, view) {
+            Ok((copy, ones)) => ones == wanted && copy.as_raw_slice() == elements.as_slice(),
+            Err(_) => false,
+        }
+    }
+
+    /// Whether a copy in the opposite order was made, with these elements.
+    fn reverses(alloc: Global, view: BitSlice<'_, u8, Lsb0>, elements: [u8; 2]) -> bool {
+        match backwards(alloc, view) {
+            Ok(copy) => copy.as_raw_slice() == elements.as_slice(),
+            Err(_) => false,
+        }
+    }
+
     #[test]
-    fn copies_are_edited(rt: HostRuntime) -> Result<(), Fail> {
+    fn copies_are_edited(rt: HostRuntime) {
         let cells = [0x48u8, 0x01];
         let view = BitSlice::<u8, Lsb0>::from_slice(&cells).into_part(3..9);
-        let (copy, ones) = flipped(rt.alloc(), view)?;
-        assert!(rt; copy.as_raw_slice() == [0xB0u8, 0x00].as_slice());
-        assert!(rt; ones == 3);
-        let copy = backwards(rt.alloc(), view)?;
-        assert!(rt; copy.as_raw_slice() == [0x28u8, 0x01].as_slice());
-        Ok(())
+        assert!(rt; flips(rt.alloc(), view, 3, [0xB0, 0x00]));
+        assert!(rt; reverses(rt.alloc(), view, [0x28, 0x01]));
     }
 }

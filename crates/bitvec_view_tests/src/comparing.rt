@@ -4,10 +4,9 @@ use crate::laws::{compare_both_ways, order_agrees};
 use bitvec_owned::query::base::{Lsb0, Msb0};
 use bitvec_owned::query::slice::BitSlice;
 use std::cmp::Ordering;
-use std::test::Fail;
 
 #[test]
-fn first_bit_that_differs_decides(rt: HostRuntime) -> Result<(), Fail> {
+fn first_bit_that_differs_decides(rt: HostRuntime) {
     let bits = [0b0100_1010u8];
     let bits = BitSlice::<u8, Msb0>::from_slice(&bits);
     let short = bits.into_part(0..2);
@@ -15,7 +14,6 @@ fn first_bit_that_differs_decides(rt: HostRuntime) -> Result<(), Fail> {
     assert!(rt; short.cmp(&long) == Ordering::Less);
     assert!(rt; bits.into_part(1..2).cmp(&long) == Ordering::Greater);
     assert!(rt; short.cmp(&bits.into_part(3..5)) == Ordering::Equal);
-    Ok(())
 }
 
 #[test]
@@ -64,12 +62,11 @@ fn bit_700_of_1000_decides_under_msb0(rt: HostRuntime) {
 }
 
 #[test]
-fn long_beginning_is_less(rt: HostRuntime) -> Result<(), Fail> {
+fn long_beginning_is_less(rt: HostRuntime) {
     let bits = [0b0101_1010u8; 125];
     let bits = BitSlice::<u8, Lsb0>::from_slice(&bits);
     let beginning = bits.into_part(0..600);
     assert!(rt; beginning.cmp(&bits) == Ordering::Less);
     assert!(rt; bits.cmp(&beginning) == Ordering::Greater);
     assert!(rt; beginning.cmp(&bits.into_part(8..608)) == Ordering::Equal);
-    Ok(())
 }

@@ -4,7 +4,6 @@ use crate::laws::{equal_views_hash_alike, hash_of};
 use bitvec_owned::query::base::Lsb0;
 use bitvec_owned::query::slice::BitSlice;
 use std::hash::{DefaultHasher, Hash, Hasher};
-use std::test::Fail;
 
 #[test]
 fn each_bit_is_fed_without_their_number(rt: HostRuntime) {

@@ -23,94 +23,96 @@ fn asked_once(refusing: &Refusing<Global>, bytes: u64) -> bool {
     refusing.granted() == 1 && refusing.bytes() == bytes && refusing.granted_all()
 }
 
+/// Whether one request was made: granted for a sequence of these elements, or refused with this error.
+fn asks_once<E: PartialEq + Drop>(
+    made: Result<Refused<'_>, E>,
+    refusing: &Refusing<Global>,
+    elements: &[u8],
+    refusal: &E,
+) -> bool {
+    match made {
+        Ok(bits) => {
+            bits.as_raw_slice() == elements && asked_once(refusing, elements.len() as u64)
+        }
+        Err(error) => error == *refusal && refusing.granted() == 0 && refusing.refused() == 1,
+    }
+}
+
 #[test]
 fn a_copy_asks_once(rt: HostRuntime) {
     let bytes = BYTES;
     let view = BitSlice::<u8, Lsb0>::from_slice(&bytes).into_part(4..124);
-    let mut needed = None;
     for granted in 0..9 {
         let refusing = Refusing::new(rt.alloc(), granted);
-        match view.to_bitvec(&refusing) {
-            Ok(copy) => {
-                assert!(rt; copy.as_raw_slice() == COPY.as_slice());
-                assert!(rt; asked_once(&refusing, 16));
-                needed = needed.or(Some(granted));
-            }
-            Err(AllocError) => assert!(rt; !refusing.granted_all()),
-        }
+        let copy = view.to_bitvec(&refusing);
+        assert!(rt; copy.is_ok() == (granted > 0));
+        assert!(rt; asks_once(copy, &refusing, &COPY, &AllocError));
     }
-    assert!(rt; needed == Some(1));
     assert!(rt; bytes == BYTES);
 }
 
 #[test]
 fn the_old_name_of_a_copy_asks_once(rt: HostRuntime) {
     let mut bytes = BYTES;
-    let mut needed = None;
     for granted in 0..9 {
         let refusing = Refusing::new(rt.alloc(), granted);
         let view = BitSliceMut::<u8, Lsb0>::from_slice_mut(&mut bytes).into_part(4..124);
-        match view.to_vec(&refusing) {
-            Ok(copy) => {
-                assert!(rt; copy.as_raw_slice() == COPY.as_slice());
-                assert!(rt; asked_once(&refusing, 16));
-                needed = needed.or(Some(granted));
-            }
-            Err(AllocError) => assert!(rt; !refusing.granted_all()),
-        }
+        let copy = view.to_vec(&refusing);
+        assert!(rt; copy.is_ok() == (granted > 0));
+        assert!(rt; asks_once(copy, &refusing, &COPY, &AllocError));
         assert!(rt; bytes == BYTES);
     }
-    assert!(rt; needed == Some(1));
 }
 
 #[test]
 fn a_repeat_asks_once(rt: HostRuntime) {
     let mut bytes = BYTES;
-    let mut needed = None;
     for granted in 0..9 {
         let refusing = Refusing::new(rt.alloc(), granted);
         let view = BitSliceMut::<u8, Lsb0>::from_slice_mut(&mut bytes).into_part(4..124);
-        match view.repeat(&refusing, 3) {
-            Ok(copies) => {
-                assert!(rt; copies.as_raw_slice() == THREE_COPIES.as_slice());
-                assert!(rt; asked_once(&refusing, 45));
-                needed = needed.or(Some(granted));
-            }
-            Err(error) => {
-                assert!(rt; error == RepeatError::Memory);
-                assert!(rt; !refusing.granted_all());
-            }
-        }
+        let copies = view.repeat(&refusing, 3);
+        assert!(rt; copies.is_ok() == (granted > 0));
+        assert!(rt; asks_once(copies, &refusing, &THREE_COPIES, &RepeatError::Memory));
         assert!(rt; bytes == BYTES);
     }
-    assert!(rt; needed == Some(1));
 }
 
-/// What a sequence and its clone hold, whose allocator grants so many requests.
-fn clone_of(refusing: &Refusing<Global>) -> Result<bool, AllocError> {
-    let bits: Refused<'_> = BitSlice::<u8, Lsb0>::from_slice(&BYTES)
-        .into_part(4..124)
-        .to_bitvec(refusing)?;
-    let copy: Result<Refused<'_>, AllocError> = bits.clone();
-    let is_kept = bits.as_raw_slice() == COPY.as_slice();
-    Ok(is_kept && copy?.as_raw_slice() == COPY.as_slice())
+/// Whether a copy and its clone ask for memory once each, the first so many requests being granted, and hold
+/// the bits where they are made.
+fn clone_asks_once(refusing: &Refusing<Global>, granted: u64) -> bool {
+    let view = BitSlice::<u8, Lsb0>::from_slice(&BYTES).into_part(4..124);
+    let bits: Result<Refused<'_>, AllocError> = view.to_bitvec(refusing);
+    match bits {
+        Ok(bits) => {
+            let copy: Result<Refused<'_>, AllocError> = bits.clone();
+            bits.as_raw_slice() == COPY.as_slice() && is_second(copy, refusing, granted)
+        }
+        Err(AllocError) => granted == 0 && refusing.refused() == 1,
+    }
+}
+
+/// Whether a clone was the second request: granted where two are, or refused.
+fn is_second(
+    copy: Result<Refused<'_>, AllocError>,
+    refusing: &Refusing<Global>,
+    granted: u64,
+) -> bool {
+    match copy {
+        Ok(copy) => {
+            granted > 1
+                && copy.as_raw_slice() == COPY.as_slice()
+                && (refusing.granted(), refusing.bytes()) == (2, 2 * 16)
+        }
+        Err(AllocError) => granted == 1 && refusing.refused() == 1,
+    }
 }
 
 #[test]
 fn a_clone_asks_once(rt: HostRuntime) {
-    let mut needed = None;
     for granted in 0..9 {
         let refusing = Refusing::new(rt.alloc(), granted);
-        match clone_of(&refusing) {
-            Ok(holds) => {
-                assert!(rt; holds);
-                assert!(rt; (refusing.granted(), refusing.bytes()) == (2, 2 * 16));
-                needed = needed.or(Some(granted));
-            }
-            Err(AllocError) => assert!(rt; refusing.refused() == 1),
-        }
+        assert!(rt; clone_asks_once(&refusing, granted), "{granted}");
     }
-    assert!(rt; needed == Some(2));
 }
 
 /// Whether a sequence was made, and is empty.

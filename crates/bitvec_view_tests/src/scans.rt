@@ -7,86 +7,88 @@ use bitvec_owned::query::slice::{BitSlice, BitSliceMut};
 use bitvec_owned::query::store::BitStore;
 use std::cmp::Ordering;
 
-/// The ones before the first zero, the zeros before the first one, and the same behind the last.
-fn runs<T: BitStore, O: SliceOrder, V: BitQueries<T, O>>(view: &V) -> [usize; 4] {
-    [
-        view.leading_ones(),
-        view.leading_zeros(),
-        view.trailing_ones(),
-        view.trailing_zeros(),
-    ]
+/// Whether these are the ones before the first zero, the zeros before the first one, and the same behind the
+/// last.
+fn has_runs<T: BitStore, O: SliceOrder, V: BitQueries<T, O>>(view: &V, runs: [usize; 4]) -> bool {
+    let [leading_ones, leading_zeros, trailing_ones, trailing_zeros] = runs;
+    view.leading_ones() == leading_ones
+        && view.leading_zeros() == leading_zeros
+        && view.trailing_ones() == trailing_ones
+        && view.trailing_zeros() == trailing_zeros
 }
 
-/// Where the first one, the first zero, the last one and the last zero are.
-fn places<T: BitStore, O: SliceOrder, V: BitQueries<T, O>>(view: &V) -> [Option<usize>; 4] {
-    [
-        view.first_one(),
-        view.first_zero(),
-        view.last_one(),
-        view.last_zero(),
-    ]
+/// Whether the first one, the first zero, the last one and the last zero are there.
+fn has_places<T: BitStore, O: SliceOrder, V: BitQueries<T, O>>(
+    view: &V,
+    places: [Option<usize>; 4],
+) -> bool {
+    let [first_one, first_zero, last_one, last_zero] = places;
+    view.first_one() == first_one
+        && view.first_zero() == first_zero
+        && view.last_one() == last_one
+        && view.last_zero() == last_zero
 }
 
-/// Whether any bit is 1, all are, none is, not all are, and some are and some are not.
-fn answers<T: BitStore, O: SliceOrder, V: BitQueries<T, O>>(view: &V) -> [bool; 5] {
-    [
-        view.any(),
-        view.all(),
-        view.not_any(),
-        view.not_all(),
-        view.some(),
-    ]
+/// Whether it is so that any bit is 1, all are, none is, not all are, and some are and some are not.
+fn answers<T: BitStore, O: SliceOrder, V: BitQueries<T, O>>(view: &V, wanted: [bool; 5]) -> bool {
+    let [any, all, not_any, not_all, some] = wanted;
+    view.any() == any
+        && view.all() == all
+        && view.not_any() == not_any
+        && view.not_all() == not_all
+        && view.some() == some
 }
 
 #[test]
 fn runs_of_ones_and_zeros(rt: HostRuntime) {
     let cells = [0x0Bu8];
     let view = BitSlice::<u8, Lsb0>::from_slice(&cells).into_part(0..5);
-    assert!(rt; runs(&view) == [2, 0, 0, 1]);
-    assert!(rt; places(&view) == [Some(0), Some(2), Some(3), Some(4)]);
-    assert!(rt; answers(&view) == [true, false, false, true, true]);
+    assert!(rt; has_runs(&view, [2, 0, 0, 1]));
+    assert!(rt; has_places(&view, [Some(0), Some(2), Some(3), Some(4)]));
+    assert!(rt; answers(&view, [true, false, false, true, true]));
 }
 
 #[test]
 fn a_bit_that_does_not_occur(rt: HostRuntime) {
     let zeros = [0u8; 2];
     let view = BitSlice::<u8, Msb0>::from_slice(&zeros);
-    assert!(rt; runs(&view) == [0, 16, 0, 16]);
-    assert!(rt; places(&view) == [None, Some(0), None, Some(15)]);
-    assert!(rt; answers(&view) == [false, false, true, true, false]);
+    assert!(rt; has_runs(&view, [0, 16, 0, 16]));
+    assert!(rt; has_places(&view, [None, Some(0), None, Some(15)]));
+    assert!(rt; answers(&view, [false, false, true, true, false]));
 }
 
 #[test]
 fn a_writable_view_of_ones(rt: HostRuntime) {
     let mut ones = [0xFFu8; 2];
     let view = BitSliceMut::<u8, Msb0>::from_slice_mut(&mut ones);
-    assert!(rt; runs(&view) == [16, 0, 16, 0]);
-    assert!(rt; places(&view) == [Some(0), None, Some(15), None]);
-    assert!(rt; answers(&view) == [true, true, false, false, false]);
+    assert!(rt; has_runs(&view, [16, 0, 16, 0]));
+    assert!(rt; has_places(&view, [Some(0), None, Some(15), None]));
+    assert!(rt; answers(&view, [true, true, false, false, false]));
 }
 
 #[test]
 fn the_empty_view(rt: HostRuntime) {
     let view = BitSlice::<u8, Lsb0>::empty();
-    assert!(rt; runs(&view) == [0, 0, 0, 0]);
-    assert!(rt; places(&view) == [None, None, None, None]);
-    assert!(rt; answers(&view) == [false, true, true, false, false]);
+    assert!(rt; has_runs(&view, [0, 0, 0, 0]));
+    assert!(rt; has_places(&view, [None, None, None, None]));
+    assert!(rt; answers(&view, [false, true, true, false, false]));
 }
 
-/// Whether a view contains the bits `from` up to `to` of another, begins with them, and ends with
-/// them.
-fn stand<T: BitStore, O: SliceOrder, U: BitStore, P: BitOrder>(
+/// Whether it is so that a view contains a part of another, begins with it, and ends with it.
+fn stands<T: BitStore, O: SliceOrder, U: BitStore, P: BitOrder>(
     view: BitSlice<'_, T, O>,
-    needles: BitSlice<'_, U, P>,
-    from: usize,
-    to: usize,
-) -> Option<[bool; 3]> {
-    let needle = needles.get(from..to)?;
-    Some([
-        view.contains(needle),
-        view.starts_with(needle),
-        view.ends_with(needle),
-    ])
+    part: Option<BitSlice<'_, U, P>>,
+    wanted: [bool; 3],
+) -> bool {
+    let [contains, starts, ends] = wanted;
+    match part {
+        Some(needle) => {
+            view.contains(needle) == contains
+                && view.starts_with(needle) == starts
+                && view.ends_with(needle) == ends
+        }
+        None => false,
+    }
 }
 
 // The view is 0, 1, 0, 0, 1, 0, 1, 1, 0, 1, the needles 0, 1, 0, 1, 1 and eleven zeros.
@@ -105,10 +107,7 @@ fn needles_of_another_width_and_order(rt: HostRuntime) {
         (4, 4, [true, true, true]),
         (0, 16, [false, false, false]),
     ] {
-        assert!(rt;
-            stand(view, needles, from, to) == Some(found),
-            "{from} {to}"
-        );
+        assert!(rt; stands(view, needles.get(from..to), found), "{from} {to}");
     }
 }
 
@@ -117,7 +116,10 @@ fn is_left<T: BitStore, O: SliceOrder, U: BitStore, P: BitOrder>(
     rest: Option<BitSlice<'_, T, O>>,
     bits: Option<BitSlice<'_, U, P>>,
 ) -> Option<bool> {
-    Some(rest?.eq_bits(bits?))
+    match (rest, bits) {
+        (Some(rest), Some(bits)) => Some(rest.eq_bits(bits)),
+        _ => None,
+    }
 }
 
 /// The bits of a byte from one index up to another, the lowest first.
@@ -154,21 +156,31 @@ fn a_writable_view_without_its_ends(rt: HostRuntime) {
     assert!(rt; is_left(rest, part(&[0x12], 0, 5)) == Some(true));
 }
 
-/// How two ranges of a byte compare.
-fn compare(byte: &[u8; 1], range: (usize, usize), other: (usize, usize)) -> Option<Ordering> {
-    let view = part(byte, range.0, range.1)?;
-    Some(view.cmp_bits(part(byte, other.0, other.1)?))
+/// Whether two parts are there, and compare so.
+fn compare(
+    view: Option<BitSlice<'_, u8, Lsb0>>,
+    other: Option<BitSlice<'_, u8, Lsb0>>,
+    order: Ordering,
+) -> bool {
+    match (view, other) {
+        (Some(view), Some(other)) => view.cmp_bits(other) == order,
+        _ => false,
+    }
 }
 
 // The byte is 0, 1, 0.
 #[test]
 fn views_in_order(rt: HostRuntime) {
-    for (range, other, order) in [
+    for ((from, to), (start, end), order) in [
         ((0, 2), (0, 3), Ordering::Less),
         ((1, 2), (0, 2), Ordering::Greater),
         ((0, 3), (0, 3), Ordering::Equal),
     ] {
-        assert!(rt; compare(&[0x02], range, other) == Some(order));
+        let view = part(&[0x02], from, to);
+        assert!(rt;
+            compare(view, part(&[0x02], start, end), order),
+            "{from} {to}"
+        );
     }
 }
 
