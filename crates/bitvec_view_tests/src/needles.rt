@@ -5,8 +5,9 @@ use bitvec_owned::query::base::{BitOrder, HiLo, Lsb0, Msb0};
 use bitvec_owned::query::engine::SliceOrder;
 use bitvec_owned::query::slice::BitSlice;
 use bitvec_owned::query::store::BitStore;
-use std::alloc::{AllocError, Global};
+use std::alloc::{AllocError, Allocator};
 use std::process::Abort;
+use std::test::Fail;
 
 const HAYSTACKS: [&str; 5] = ["", "1", "0100101101", "111111111", "0000000001000"];
 
@@ -26,13 +27,13 @@ const NEEDLES: [&str; 12] = [
 ];
 
 /// Three elements with those bits from an index on, in an order; all other bits are 0.
-fn packed<T: BitStore, O: BitOrder>(
-    alloc: Global,
+fn packed<T: BitStore, O: BitOrder, A: Allocator>(
+    alloc: A,
     bits: &str,
     start: usize,
-) -> Result<Vec<T>, AllocError> {
-    let mut elements = vec![in alloc; T::ZERO; 3]?;
+) -> Result<Vec<T, A>, AllocError> {
     let width = T::BITS as usize;
+    let mut elements = vec![in alloc; T::ZERO; 3]?;
     for (index, bit) in bits.bytes().enumerate() {
         let place = start.saturating_add(index);
         if let Some(element) = elements.get_mut(place / width) {
@@ -61,10 +62,7 @@ fn by_texts(text: &str, needle: &str) -> Answers {
 
 /// How many bits a view has, if there is one.
 fn len<T: BitStore, O: BitOrder>(view: Option<BitSlice<'_, T, O>>) -> Option<usize> {
-    match view {
-        Some(view) => Some(view.len()),
-        None => None,
-    }
+    Some(view?.len())
 }
 
 /// The answers of views.
@@ -84,75 +82,55 @@ fn by_views<T: BitStore, O: SliceOrder, U: BitStore, P: BitOrder>(
     (found, left)
 }
 
-/// So many bits from an index on.
-fn bits_at<T: BitStore, O: BitOrder>(
-    elements: &[T],
-    start: usize,
-    len: usize,
-) -> Option<BitSlice<'_, T, O>> {
-    match BitSlice::try_from_slice(elements) {
-        Ok(all) => all.get(start..start.saturating_add(len)),
-        Err(_) => None,
-    }
-}
-
-/// Whether the answers of views of these elements are those of texts.
-fn answers_as_texts<T: BitStore, O: SliceOrder, U: BitStore, P: BitOrder>(
-    cells: &[T],
-    parts: &[U],
+/// Whether the needle stands in the text, by its own search.
+fn finds_as_text<T: BitStore, O: SliceOrder, U: BitStore, P: BitOrder, R: Abort + AllocGlobal>(
+    rt: &R,
     text: &str,
     needle: &str,
-) -> bool {
-    let view = bits_at::<T, O>(cells, 3, text.len());
-    let part = bits_at::<U, P>(parts, 1, needle.len());
-    match (view, part) {
-        (Some(view), Some(part)) => by_views(view, part) == by_texts(text, needle),
-        _ => false,
-    }
-}
-
-/// Whether the needle stands in the text as a view of its bits does in another.
-fn finds_as_text<T: BitStore, O: SliceOrder, U: BitStore, P: BitOrder>(
-    alloc: Global,
-    text: &str,
-    needle: &str,
-) -> bool {
-    let cells = packed::<T, O>(alloc, text, 3);
-    let parts = packed::<U, P>(alloc, needle, 1);
-    match (cells, parts) {
-        (Ok(cells), Ok(parts)) => answers_as_texts::<T, O, U, P>(&cells, &parts, text, needle),
-        _ => false,
-    }
+) -> Result<(), Fail> {
+    let cells = packed::<T, O, _>(rt.alloc(), text, 3)?;
+    let parts = packed::<U, P, _>(rt.alloc(), needle, 1)?;
+    let all = BitSlice::<T, O>::try_from_slice(&cells).map_err(|_| "too long")?;
+    let end = text.len().saturating_add(3);
+    let view = all.get(3..end).ok_or("no such bits")?;
+    let others = BitSlice::<U, P>::try_from_slice(&parts).map_err(|_| "too long")?;
+    let end = needle.len().saturating_add(1);
+    let part = others.get(1..end).ok_or("no such bits")?;
+    assert!(rt;
+        by_views(view, part) == by_texts(text, needle),
+        "{needle} in {text}"
+    );
+    Ok(())
 }
 
 /// The whole table, for a pair of element types and orders.
-fn table<T: BitStore, O: SliceOrder, U: BitStore, P: BitOrder, R: Abort + AllocGlobal>(rt: &R) {
+fn table<T: BitStore, O: SliceOrder, U: BitStore, P: BitOrder, R: Abort + AllocGlobal>(
+    rt: &R,
+) -> Result<(), Fail> {
     for text in HAYSTACKS {
         for needle in NEEDLES {
-            assert!(rt;
-                finds_as_text::<T, O, U, P>(rt.alloc(), text, needle),
-                "{needle} in {text}"
-            );
+            finds_as_text::<T, O, U, P, R>(rt, text, needle)?;
         }
     }
+    Ok(())
 }
 
 /// The whole table, with needles of two widths and three orders.
-fn every_needle<T: BitStore, O: SliceOrder, R: Abort + AllocGlobal>(rt: &R) {
-    table::<T, O, u8, Lsb0, R>(rt);
-    table::<T, O, u8, Msb0, R>(rt);
-    table::<T, O, u8, HiLo, R>(rt);
-    table::<T, O, u16, Lsb0, R>(rt);
-    table::<T, O, u16, Msb0, R>(rt);
-    table::<T, O, u16, HiLo, R>(rt);
+fn every_needle<T: BitStore, O: SliceOrder, R: Abort + AllocGlobal>(rt: &R) -> Result<(), Fail> {
+    table::<T, O, u8, Lsb0, R>(rt)?;
+    table::<T, O, u8, Msb0, R>(rt)?;
+    table::<T, O, u8, HiLo, R>(rt)?;
+    table::<T, O, u16, Lsb0, R>(rt)?;
+    table::<T, O, u16, Msb0, R>(rt)?;
+    table::<T, O, u16, HiLo, R>(rt)
 }
 
 #[test]
-fn needles_are_found_as_in_texts(rt: HostRuntime) {
-    every_needle::<u8, Lsb0, _>(&rt);
-    every_needle::<u8, Msb0, _>(&rt);
-    every_needle::<u8, HiLo, _>(&rt);
-    every_needle::<u16, Lsb0, _>(&rt);
-    every_needle::<u16, Msb0, _>(&rt);
-    every_needle::<u16, HiLo, _>(&rt);
+fn needles_are_found_as_in_texts(rt: HostRuntime) -> Result<(), Fail> {
+    every_needle::<u8, Lsb0, _>(&rt)?;
+    every_needle::<u8, Msb0, _>(&rt)?;
+    every_needle::<u8, HiLo, _>(&rt)?;
+    every_needle::<u16, Lsb0, _>(&rt)?;
+    every_needle::<u16, Msb0, _>(&rt)?;
+    every_needle::<u16, HiLo, _>(&rt)
 }
