@@ -1,4 +1,5 @@
-//! Tests of the program's work: what it prints and which status it gives.
+//! Tests of the program's work: what it prints and which status it gives; and of the allocator that refuses it
+//! memory.
 #![tactic(auto)]
 
 #[cfg(test)]
@@ -13,6 +14,8 @@ mod growth;
 mod lines;
 #[cfg(test)]
 mod refusals;
+#[cfg(test)]
+mod refusing;
 #[cfg(test)]
 mod rows;
 #[cfg(test)]

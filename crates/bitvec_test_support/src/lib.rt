@@ -9,8 +9,6 @@ mod memory;
 mod mixed;
 pub mod refusing;
 pub mod streams;
-#[cfg(test)]
-mod tests;
 mod texts;
 
 /// What crates above name of `bitvec_base`.
