@@ -32,14 +32,6 @@ fn copy_between<C: Cells, D: CellsRead<Elem = C::Elem>>(to: &mut C, from: &mut D
     to.store(index, element);
 }
 
-fn set_first(cells: &mut [u8])
-    requires { 0 < length cells.old }
-    ensures { cells.new ≡ slice_set cells.old 0 7 }
-{
-    let mut accessor = Exclusive::new(cells);
-    accessor.store(0, 7);
-}
-
 pub(crate) fn set_first_to<T: BitStore>(cells: &mut [T], element: T)
     requires { 0 < length cells.old }
     ensures { map T.value cells.new ≡ slice_set (map T.value cells.old) 0 (T.value element) }
@@ -48,25 +40,10 @@ pub(crate) fn set_first_to<T: BitStore>(cells: &mut [T], element: T)
     accessor.store(0, element);
 }
 
-fn first<T: BitStore>(cells: &[T]) -> T
-    requires { 0 < length cells.now }
-    ensures { T.value result ≡ slice_index (map T.value cells.now) 0 }
-{
-    Shared::new(cells).load(0)
-}
-
 fn copy_first_in<T: BitStore>(cells: &mut [T], index: usize)
     requires { index < length cells.old }
     ensures { map T.value cells.new
         ≡ slice_set (map T.value cells.old) index (slice_index (map T.value cells.old) 0) }
-{
-    let mut accessor = Exclusive::new(cells);
-    copy_first(&mut accessor, index);
-}
-
-fn copy_first_in_bytes(cells: &mut [u8], index: usize)
-    requires { index < length cells.old }
-    ensures { cells.new ≡ slice_set cells.old index (slice_index cells.old 0) }
 {
     let mut accessor = Exclusive::new(cells);
     copy_first(&mut accessor, index);
@@ -96,28 +73,14 @@ fn copy_first_in_halves<T: BitStore>(cells: &mut [T], mid: usize)
 }
 
 #[test]
-fn a_store_reaches_the_slice(rt: HostRuntime) {
-    let mut bytes = [1, 2, 3];
-    set_first(&mut bytes);
-    assert!(rt; bytes == [7, 2, 3]);
-    let mut words = [1u64, 2];
-    set_first_to(&mut words, u64::MAX);
-    assert!(rt; words == [u64::MAX, 2]);
-    assert!(rt; first(&words) == u64::MAX);
-}
-
-#[test]
-fn generic_code_reaches_the_slices(rt: HostRuntime) {
+fn a_store_reaches_the_slices(rt: HostRuntime) {
     let mut cells = [1u16, 2, 3];
+    set_first_to(&mut cells, 9);
     copy_first_in(&mut cells, 2);
-    assert!(rt; cells == [1, 2, 1]);
+    assert!(rt; cells == [9, 2, 9]);
     copy_from(&mut cells, &[4, 5, 6], 1);
-    assert!(rt; cells == [1, 5, 1]);
-    copy_first_in_halves(&mut cells, 1);
-    assert!(rt; cells == [1, 1, 1]);
-    let mut bytes = [8, 9];
-    copy_first_in_bytes(&mut bytes, 1);
-    assert!(rt; bytes == [8, 8]);
+    copy_first_in_halves(&mut cells, 2);
+    assert!(rt; cells == [9, 5, 9]);
 }
 
 #[test]

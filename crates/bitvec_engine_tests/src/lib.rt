@@ -1,13 +1,9 @@
-//! Callers of elements, orders and accessors, and what no clause of these says; commands on whole windows by
-//! words, against the same bit by bit, and what they ask of elements.
+//! Callers of elements, orders, accessors and searches, and what no clause of these says: also what commands on
+//! whole windows ask of elements.
 #![tactic(auto)]
 
 #[cfg(test)]
 mod accessors;
-#[cfg(test)]
-mod bit_by_bit;
-#[cfg(test)]
-mod commands;
 #[cfg(test)]
 mod costs;
 #[cfg(test)]
@@ -24,8 +20,6 @@ mod searches;
 mod sizes;
 #[cfg(test)]
 mod striding;
-#[cfg(test)]
-mod sweeps;
 #[cfg(test)]
 mod tallied;
 #[cfg(test)]

@@ -1,15 +1,11 @@
 //! What the elements that a command stores are made of.
 ghost use Rattle.std.specs.Prelude.{◌≡◌};
 
-use crate::bit_by_bit::BitByBit;
-use crate::commands::{Command, carry_out};
 use crate::tally::Tally;
-use bitvec_engine::base::{Lsb0, Msb0, Window};
-use bitvec_engine::cells::{Cells, CellsRead, Exclusive};
+use bitvec_engine::base::{HiLo, Lsb0, Msb0, Window};
+use bitvec_engine::cells::{Cells, CellsRead, Exclusive, has_window};
 use bitvec_engine::store::BitStore;
 use bitvec_engine::{BitOp, SliceOrder};
-use std::process::Abort;
-use std::test::Fail;
 
 /// An accessor whose elements are of no operation when they are loaded, and which adds up the
 /// operations of those that are stored; at most `u64::MAX`.
@@ -48,9 +44,45 @@ impl<C: Cells + CellsRead<Elem = Tally>> Cells for Tallied<C> {
     }
 }
 
-/// A command on 4,096 zeros inside an element's bits and as many ones of another memory: how many
-/// operations the stored elements are of, on each side.
-fn operations_of<O: SliceOrder, R: Abort>(rt: &R, command: Command) -> (u64, u64) {
+/// A command on a window of one memory and a window of another.
+#[derive(Clone, Copy)]
+enum Command {
+    Copy,
+    Swap,
+    Or,
+}
+
+/// Bits of 65 elements, from a bit inside the first one on.
+const LEFT: Window = Window {
+    start: 5,
+    len: 4096,
+};
+
+/// As many bits, from another one on.
+const RIGHT: Window = Window {
+    start: 3,
+    len: 4096,
+};
+
+/// Carries a command out on the left window and the right one, if the memories have these, and says so.
+fn carry_out<O: SliceOrder, C: Cells, D: Cells + CellsRead<Elem = C::Elem>>(
+    command: Command,
+    left: &mut C,
+    right: &mut D,
+) -> bool {
+    if !has_window(left, LEFT) || !has_window(right, RIGHT) {
+        return false;
+    }
+    match command {
+        Command::Copy => O::block_copy::<C, D>(left, LEFT, right, RIGHT),
+        Command::Swap => O::block_swap::<C, D>(left, LEFT, right, RIGHT),
+        Command::Or => O::block_op::<C, D>(left, LEFT, right, RIGHT, BitOp::Or),
+    }
+    true
+}
+
+/// How many operations the stored elements are of, on each side, where a command goes over zeros and ones.
+fn operations_of<O: SliceOrder>(command: Command) -> Option<(u64, u64)> {
     let mut zeros = [Tally::ZERO; 65];
     let mut ones = [Tally::ALL; 65];
     let mut left = Tallied {
@@ -61,33 +93,28 @@ fn operations_of<O: SliceOrder, R: Abort>(rt: &R, command: Command) -> (u64, u64
         inner: Exclusive::new(&mut ones),
         operations: 0,
     };
-    let to = Window {
-        start: 5,
-        len: 4096,
-    };
-    let from = Window {
-        start: 3,
-        len: 4096,
-    };
-    carry_out::<O, _, _, R>(rt, command, &mut left, to, &mut right, from);
-    (left.operations, right.operations)
-}
-
-/// The operations of a word, where a bit at a time takes more.
-fn takes_words<O: SliceOrder, R: Abort>(rt: &R) {
-    for command in [Command::Copy, Command::Combine(BitOp::Or), Command::Swap] {
-        let (left, right) = operations_of::<O, R>(rt, command);
-        assert!(rt;
-            left <= 8000 && right <= 8000,
-            "{command:?}: {left}, {right}"
-        );
-        let (left, _) = operations_of::<BitByBit<O>, R>(rt, command);
-        assert!(rt; left > 8000, "{command:?}: {left}");
+    if carry_out::<O, _, _>(command, &mut left, &mut right) {
+        Some((left.operations, right.operations))
+    } else {
+        None
     }
 }
 
+/// Whether the elements that each command stores are of the operations of words, or of more.
+fn takes_words<O: SliceOrder>(is_by_words: bool) -> bool {
+    for command in [Command::Copy, Command::Or, Command::Swap] {
+        match operations_of::<O>(command) {
+            Some((left, right)) if (left <= 8000 && right <= 8000) == is_by_words => {}
+            _ => return false,
+        }
+    }
+    true
+}
+
+// Under an order that has no words, bits at different places of elements go one by one.
 #[test]
 fn a_stored_element_is_of_few_operations(rt: HostRuntime) {
-    takes_words::<Lsb0, _>(&rt);
-    takes_words::<Msb0, _>(&rt);
+    assert!(rt; takes_words::<Lsb0>(true));
+    assert!(rt; takes_words::<Msb0>(true));
+    assert!(rt; takes_words::<HiLo>(false));
 }

@@ -49,41 +49,9 @@ fn ends_of_three_bits(rt: HostRuntime) {
 }
 
 #[test]
-fn an_empty_view_has_no_ends(rt: HostRuntime) {
-    assert!(rt; ends(BitSlice::<u16, Msb0>::empty()) == ([None; 2], [None; 2]));
-    let mut view = BitSliceMut::<u16, Msb0>::empty_mut();
-    assert!(rt; ends_of_writable(&view) == ([None; 2], [None; 2]));
-    assert!(rt; view.first_mut().is_none());
-    assert!(rt; view.last_mut().is_none());
-}
-
-#[test]
 fn ends_of_a_writable_view(rt: HostRuntime) {
     let mut cells = [0x80u8, 0x10];
     let view = BitSliceMut::<u8, Msb0>::from_slice_mut(&mut cells);
     let wanted = [Some((true, 15, 1)), Some((false, 15, 2))];
     assert!(rt; ends_of_writable(&view) == ([Some(true), Some(false)], wanted));
-}
-
-/// Flips the first and the last bit of an element.
-fn flip_ends<T: BitStore, O: BitOrder>(element: &mut T) {
-    let mut view = BitSliceMut::<T, O>::from_element_mut(element);
-    if let Some(mut bit) = view.first_mut() {
-        let old = *bit;
-        bit.set(!old);
-    }
-    if let Some(mut bit) = view.last_mut() {
-        let old = *bit;
-        bit.set(!old);
-    }
-}
-
-#[test]
-fn ends_that_are_written(rt: HostRuntime) {
-    let mut byte = 0xFEu8;
-    flip_ends::<u8, Lsb0>(&mut byte);
-    assert!(rt; byte == 0x7F);
-    let mut word = 0x0100u16;
-    flip_ends::<u16, Msb0>(&mut word);
-    assert!(rt; word == 0x8101);
 }

@@ -25,7 +25,6 @@ fn a_clone_has_the_same_bits(rt: HostRuntime) -> Result<(), Fail> {
     let view = BitSlice::<u8, Lsb0>::from_slice(&cells).into_part(4..12);
     let copy = view.clone()?;
     assert!(rt; view == copy);
-    assert!(rt; (copy.len(), copy.window()) == (8, view.window()));
     Ok(())
 }
 
@@ -35,9 +34,4 @@ fn equal_bits_at_other_places(rt: HostRuntime) {
     let part = BitSlice::<u8, Lsb0>::from_slice(&low).into_part(4..12);
     assert!(rt; have_same_bits(part, BitSlice::from_slice(&[0xF5])));
     assert!(rt; part != BitSlice::from_slice(&[0x75]));
-    assert!(rt; part != BitSlice::from_slice(&low));
-    let high = [0x05u8, 0xF0];
-    let part = BitSlice::<u8, Msb0>::from_slice(&high).into_part(4..12);
-    assert!(rt; part == BitSlice::from_slice(&[0x5F]));
-    assert!(rt; part != BitSlice::from_slice(&[0x5E]));
 }

@@ -12,75 +12,45 @@ fn five_bits(cells: &[u8; 1]) -> BitSlice<'_, u8, Lsb0> {
     BitSlice::from_slice(cells).into_part(0..5)
 }
 
-/// The counts of the range from an index up to another.
-fn between(first: usize, end: usize) -> Option<(usize, usize)> {
-    counts(five_bits(&[0x12]).get(first..end))
-}
-
-/// The counts of the range from an index to another, which it has too.
-fn through(first: usize, last: usize) -> Option<(usize, usize)> {
-    counts(five_bits(&[0x12]).get(first..=last))
-}
-
-/// The counts of the range from an index on.
-fn from(first: usize) -> Option<(usize, usize)> {
-    counts(five_bits(&[0x12]).get(first..))
-}
-
-/// The counts of the range up to an index.
-fn up_to(end: usize) -> Option<(usize, usize)> {
-    counts(five_bits(&[0x12]).get(..end))
-}
-
-/// The counts of the range to an index, which it has too.
-fn up_through(last: usize) -> Option<(usize, usize)> {
-    counts(five_bits(&[0x12]).get(..=last))
-}
-
-#[test]
-fn ranges_of_two_ends(rt: HostRuntime) {
-    for (first, end, found) in [
-        (5, 5, Some((0, 0))),
-        (1, 4, Some((3, 1))),
-        (10, 12, None),
-        (4, 6, None),
-        (4, 3, None),
-    ] {
-        assert!(rt; between(first, end) == found, "{first} {end}");
-    }
-    for (first, last, found) in [
-        (1, 2, Some((2, 1))),
-        (1, 4, Some((4, 2))),
-        (5, 5, None),
-        (2, 1, None),
-        (0, usize::MAX, None),
-    ] {
-        assert!(rt; through(first, last) == found, "{first} {last}");
-    }
-}
-
-#[test]
-fn ranges_of_one_end(rt: HostRuntime) {
-    for (first, found) in [
-        (2, Some((3, 1))),
-        (5, Some((0, 0))),
-        (6, None),
-        (usize::MAX, None),
-    ] {
-        assert!(rt; from(first) == found, "{first}");
-    }
-    for (end, found) in [(4, Some((4, 1))), (6, None)] {
-        assert!(rt; up_to(end) == found, "{end}");
-    }
-    for (last, found) in [(1, Some((2, 1))), (5, None), (usize::MAX, None)] {
-        assert!(rt; up_through(last) == found, "{last}");
-    }
-}
-
-#[test]
-fn a_pair_of_bits_and_all(rt: HostRuntime) -> Result<(), Fail> {
+/// The counts of a range of that view: one up to an index, through one, from one on, and so forth.
+fn counts_of(kind: usize, first: usize, end: usize) -> Option<(usize, usize)> {
     let view = five_bits(&[0x12]);
-    assert!(rt; counts(view.get(..)) == Some((5, 2)));
+    let part = match kind {
+        0 => view.get(first..end),
+        1 => view.get(first..=end),
+        2 => view.get(first..),
+        3 => view.get(..end),
+        4 => view.get(..=end),
+        _ => view.get(..),
+    };
+    counts(part)
+}
+
+#[test]
+fn each_kind_of_range_by_get(rt: HostRuntime) {
+    for (kind, first, end, found) in [
+        (0, 5, 5, Some((0, 0))),
+        (0, 1, 4, Some((3, 1))),
+        (0, 4, 6, None),
+        (0, 4, 3, None),
+        (1, 1, 4, Some((4, 2))),
+        (1, 5, 5, None),
+        (1, 0, usize::MAX, None),
+        (2, 2, 0, Some((3, 1))),
+        (2, 6, 0, None),
+        (3, 0, 4, Some((4, 1))),
+        (3, 0, 6, None),
+        (4, 0, 1, Some((2, 1))),
+        (4, 0, usize::MAX, None),
+        (5, 0, 0, Some((5, 2))),
+    ] {
+        assert!(rt; counts_of(kind, first, end) == found, "{kind} {first} {end}");
+    }
+}
+
+#[test]
+fn a_pair_of_bits(rt: HostRuntime) -> Result<(), Fail> {
+    let view = five_bits(&[0x12]);
     assert!(rt; view.get(5).is_none());
     assert!(rt; *view.get(4).ok_or("no such bit")?);
     let pair = view.get(1..=2).ok_or("no such bits")?;
@@ -115,5 +85,4 @@ fn a_bit_by_index(rt: HostRuntime) {
     let cells = [0x12u8];
     let view = BitSlice::<u8, Lsb0>::from_slice(&cells);
     assert!(rt; (*4.index(view), *view.get_unchecked(5)) == (true, false));
-    assert!(rt; (view[0], view[1], view[7]) == (false, true, false));
 }

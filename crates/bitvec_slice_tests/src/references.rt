@@ -2,7 +2,7 @@
 ghost use Rattle.std.specs.Prelude.{◌*◌, ◌≤◌, length};
 ghost use Rattle.bitvec_query.specs.base.Window.{max_bits};
 
-use bitvec_query::base::{BitOrder, Lsb0, Msb0};
+use bitvec_query::base::{BitOrder, Lsb0};
 use bitvec_query::slice::{BitRef, BitSlice, BitSliceMut};
 use bitvec_query::store::BitStore;
 
@@ -39,34 +39,6 @@ fn a_reference_writes_at_once(rt: HostRuntime) {
         assert!(rt; write_thrice::<u8, Lsb0>(&mut cells, index) == read);
         assert!(rt; cells == [after]);
     }
-}
-
-#[test]
-fn a_reference_stands_where_the_order_says(rt: HostRuntime) {
-    let mut cells = [0xFFFFu16, 0];
-    let read = write_thrice::<u16, Msb0>(&mut cells, 17);
-    assert!(rt; read == Some((false, true, false)));
-    assert!(rt; cells == [0xFFFF, 0x4000]);
-}
-
-/// Clears the bit at an index through the call that gives no `Option`.
-fn clear<T: BitStore, O: BitOrder>(elements: &mut [T], from: usize, index: usize)
-    requires { T.BITS * length elements.old ≤ max_bits }
-{
-    let mut view = BitSliceMut::<T, O>::from_slice_mut(elements);
-    if let Some(mut part) = view.get_mut(from..) {
-        if index < part.len() {
-            let mut bit = part.bit_mut(index);
-            bit.set(false);
-        }
-    }
-}
-
-#[test]
-fn the_bit_of_a_part(rt: HostRuntime) {
-    let mut cells = [0xFFu8, 0xFF];
-    clear::<u8, Lsb0>(&mut cells, 3, 7);
-    assert!(rt; cells == [0xFF, 0xFB]);
 }
 
 /// A reference's bit, read through a copy.

@@ -7,7 +7,7 @@ ghost use Rattle.bitvec_query.specs.slice.Views.{seen_mut};
 use bitvec_edit::BitEdits;
 use bitvec_query::base::Lsb0;
 use bitvec_query::engine::SliceOrder;
-use bitvec_query::slice::{BitSliceIndex, BitSliceMut};
+use bitvec_query::slice::BitSliceMut;
 use bitvec_query::store::BitStore;
 
 /// Fills the bits before `mid` and flips those from it on, if they share no element, and says
@@ -37,58 +37,11 @@ fn fill_and_flip_in(elements: &mut [u8], mid: usize) -> bool
     mid <= view.len() && fill_and_flip(&mut view, mid)
 }
 
-/// Fills the bits before `mid`, if they share no element with the others, and says whether it did.
-fn fill_before<T: BitStore, O: SliceOrder>(view: &mut BitSliceMut<'_, T, O>, mid: usize) -> bool
-    requires { mid ≤ (seen_mut view.old).window.len }
-{
-    match view.split_apart_mut(mid) {
-        Some((mut front, _rest)) => {
-            front.fill(true);
-            true
-        }
-        None => false,
-    }
-}
-
-/// The same of bits 3 to 13 of two elements.
-fn fill_before_in(elements: &mut [u8; 2], mid: usize) -> bool
-    requires { mid ≤ 10 }
-{
-    let all = BitSliceMut::<u8, Lsb0>::from_slice_mut(elements);
-    let mut view = (3..13).index_mut(all);
-    fill_before(&mut view, mid)
-}
-
 #[test]
 fn two_parts_are_written_at_once(rt: HostRuntime) {
     let mut cells = [0x0F, 0x0F, 0x0F];
     assert!(rt; fill_and_flip_in(&mut cells, 8));
     assert!(rt; cells == [0xFF, 0xF0, 0xF0]);
-}
-
-#[test]
-fn an_element_is_not_cut(rt: HostRuntime) {
-    let mut cells = [0x0F, 0x0F];
     assert!(rt; !fill_and_flip_in(&mut cells, 12));
-    assert!(rt; cells == [0x0F, 0x0F]);
-}
-
-#[test]
-fn a_part_may_be_empty(rt: HostRuntime) {
-    let mut cells = [0x0F, 0x0F];
-    assert!(rt; fill_and_flip_in(&mut cells, 0));
-    assert!(rt; cells == [0xF0, 0xF0]);
-    assert!(rt; fill_and_flip_in(&mut cells, 16));
-    assert!(rt; cells == [0xFF, 0xFF]);
-}
-
-#[test]
-fn a_part_comes_apart_at_an_edge_or_an_end(rt: HostRuntime) {
-    let mut cells = [0x00, 0x00];
-    assert!(rt; fill_before_in(&mut cells, 5));
-    assert!(rt; cells == [0xF8, 0x00]);
-    assert!(rt; fill_before_in(&mut cells, 0) && !fill_before_in(&mut cells, 4));
-    assert!(rt; cells == [0xF8, 0x00]);
-    assert!(rt; fill_before_in(&mut cells, 10));
-    assert!(rt; cells == [0xF8, 0x1F]);
+    assert!(rt; cells == [0xFF, 0xF0, 0xF0]);
 }
