@@ -21,23 +21,29 @@ fn holds<O: SliceOrder>(copy: Copied<O>, start: usize, len: usize, elements: &[u
     }
 }
 
+/// A copy of the bits 4 to 12 of two bytes.
+fn middle<O: SliceOrder>(
+    alloc: Global,
+    bytes: &[u8; 2],
+) -> Result<BitVec<u8, O, Global>, AllocError> {
+    BitSlice::<u8, O>::from_slice(bytes)
+        .into_part(4..12)
+        .to_bitvec(alloc)
+}
+
+/// The same by the old name of a copy, of a writable view.
+fn middle_of_writable(alloc: Global, bytes: &mut [u8; 2]) -> Copied<Lsb0> {
+    BitSliceMut::<u8, Lsb0>::from_slice_mut(bytes)
+        .into_part(4..12)
+        .to_vec(alloc)
+}
+
 #[test]
 fn bits_around_a_copy_are_zero(rt: HostRuntime) {
     let mut bytes = [0xB4u8, 0x6E];
-    let view = BitSlice::<u8, Lsb0>::from_slice(&bytes);
-    assert!(rt;
-        holds(
-            view.into_part(4..12).to_bitvec(rt.alloc()),
-            4,
-            8,
-            &[0xB0, 0x0E]
-        )
-    );
-    assert!(rt; holds(view.into_part(5..5).to_bitvec(rt.alloc()), 0, 0, &[]));
-    let view = BitSlice::<u8, Msb0>::from_slice(&bytes).into_part(4..12);
-    assert!(rt; holds(view.to_bitvec(rt.alloc()), 4, 8, &[0x04, 0x60]));
-    let view = BitSliceMut::<u8, Lsb0>::from_slice_mut(&mut bytes).into_part(4..12);
-    assert!(rt; holds(view.to_vec(rt.alloc()), 4, 8, &[0xB0, 0x0E]));
+    assert!(rt; holds::<Lsb0>(middle(rt.alloc(), &bytes), 4, 8, &[0xB0, 0x0E]));
+    assert!(rt; holds::<Msb0>(middle(rt.alloc(), &bytes), 4, 8, &[0x04, 0x60]));
+    assert!(rt; holds(middle_of_writable(rt.alloc(), &mut bytes), 4, 8, &[0xB0, 0x0E]));
 }
 
 /// Whether a copy was made, and its elements are zero after an and with no bits.
@@ -56,8 +62,7 @@ fn is_cleared(copy: Copied<Lsb0>) -> bool {
 
 #[test]
 fn a_copy_is_written(rt: HostRuntime) {
-    let view = BitSlice::<u8, Lsb0>::from_slice(&[0xB4, 0x6E]).into_part(4..12);
-    assert!(rt; is_cleared(view.to_bitvec(rt.alloc())));
+    assert!(rt; is_cleared(middle(rt.alloc(), &[0xB4, 0x6E])));
 }
 
 /// Flips a bit of a copy.

@@ -13,8 +13,6 @@ mod hashing;
 #[cfg(test)]
 mod laws;
 #[cfg(test)]
-mod needles;
-#[cfg(test)]
 mod owned;
 #[cfg(test)]
 mod refusals;

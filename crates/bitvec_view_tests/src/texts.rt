@@ -39,41 +39,12 @@ fn letters(rt: HostRuntime) {
 }
 
 #[test]
-fn no_bits(rt: HostRuntime) {
-    let empty = BitSlice::<u8, Lsb0>::empty();
-    let binary = Binary(empty);
-    let hex = LowerHex(empty);
-    assert!(rt; prints(rt.alloc(), &empty, "[]"));
-    assert!(rt; prints(rt.alloc(), &binary, "[]"));
-    assert!(rt; prints(rt.alloc(), &hex, "[]"));
-}
-
-#[test]
-fn a_wide_element(rt: HostRuntime) {
-    let bits = [1u128];
-    let view = BitSlice::<u128, Lsb0>::from_slice(&bits);
-    let hex = LowerHex(view);
-    let octal = Octal(view);
-    assert!(rt; prints(rt.alloc(), &hex, "[80000000000000000000000000000000]"));
-    assert!(rt;
-        prints(
-            rt.alloc(),
-            &octal,
-            "[2000000000000000000000000000000000000000000]"
-        )
-    );
-}
-
-#[test]
 fn splits(rt: HostRuntime) {
     let bits = [0b0001_0010u8];
     let view = BitSlice::<u8, Lsb0>::from_slice(&bits).into_part(0..6);
     let mut split = view.split(|_, bit| *bit);
     let _piece = split.next();
     assert!(rt; shows(rt.alloc(), &split, "Splits([0, 0, 1, 0])"));
-    let _piece = split.next();
-    let _piece = split.next();
-    assert!(rt; shows(rt.alloc(), &split, "Splits([])"));
     let mut counted = view.rsplitn(2, |_, bit| *bit);
     let _piece = counted.next();
     assert!(rt; shows(rt.alloc(), &counted, "SplitsN([0, 1, 0, 0], 1)"));
@@ -100,7 +71,6 @@ fn limited_shows(alloc: Global, bytes: &mut [u8; 1], text: &str) -> bool {
 #[test]
 fn splits_that_lend(rt: HostRuntime) {
     let mut bytes = [0b0001_0010u8];
-    assert!(rt; split_shows(rt.alloc(), &mut bytes, 0, "SplitsMut([0, 1, 0, 0, 1, 0])"));
     assert!(rt; split_shows(rt.alloc(), &mut bytes, 1, "SplitsMut([0, 0, 1, 0])"));
     assert!(rt; split_shows(rt.alloc(), &mut bytes, 3, "SplitsMut([])"));
     assert!(rt; limited_shows(rt.alloc(), &mut bytes, "SplitsNMut([0, 1, 0, 0], 1)"));

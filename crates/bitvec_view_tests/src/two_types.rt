@@ -66,18 +66,6 @@ fn pairs_of_types_go_by_bits(rt: HostRuntime) {
     let left = BitSliceMut::<u8, Msb0>::from_slice_mut(&mut bytes).into_part(3..203);
     let right = BitSliceMut::<u16, Lsb0>::from_slice_mut(&mut halves).into_part(29..229);
     assert!(rt; goes_by_bits(left, right));
-    let (mut words, mut wide) = ([0u64; 6], [0u128; 3]);
-    let left = BitSliceMut::<u64, Lsb0>::from_slice_mut(&mut words).into_part(5..205);
-    let right = BitSliceMut::<u128, Msb0>::from_slice_mut(&mut wide).into_part(0..200);
-    assert!(rt; goes_by_bits(left, right));
-}
-
-#[test]
-fn another_order_goes_by_bits(rt: HostRuntime) {
-    let (mut bytes, mut words) = ([0u8; 40], [0u64; 6]);
-    let left = BitSliceMut::<u8, Lsb0>::from_slice_mut(&mut bytes).into_part(3..203);
-    let right = BitSliceMut::<u64, HiLo>::from_slice_mut(&mut words).into_part(29..229);
-    assert!(rt; goes_by_bits(left, right));
     let (mut halves, mut others) = ([0u16; 20], [0u8; 40]);
     let left = BitSliceMut::<u16, HiLo>::from_slice_mut(&mut halves).into_part(0..200);
     let right = BitSliceMut::<u8, Msb0>::from_slice_mut(&mut others).into_part(5..205);
