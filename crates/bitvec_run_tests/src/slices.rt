@@ -12,13 +12,13 @@ use std::alloc::Allocator;
 
 /// A bit set in each of four nibbles, and their count.
 pub(crate) fn four_nibbles() -> [Step; 5] {
-    [
-        step(0, 4, Op::Set(0, true)),
-        step(4, 8, Op::Set(1, true)),
-        step(8, 12, Op::Set(2, true)),
-        step(12, 16, Op::Set(3, true)),
-        step(0, 16, Op::CountOnes),
-    ]
+    steps([
+        (0, 4, Op::Set(0, true)),
+        (4, 8, Op::Set(1, true)),
+        (8, 12, Op::Set(2, true)),
+        (12, 16, Op::Set(3, true)),
+        (0, 16, Op::CountOnes),
+    ])
 }
 
 /// What those steps reply.
@@ -30,8 +30,17 @@ pub(crate) const FOUR_NIBBLES_REPLIES: [Reply; 5] = [
     Reply::Count(4),
 ];
 
-/// A step, on one line.
-pub(crate) fn step(from: usize, to: usize, op: Op) -> Step {
+/// A row of a table of steps: from, up to, and the command.
+pub(crate) type StepRow = (usize, usize, Op);
+
+/// The steps of a table.
+pub(crate) fn steps<const N: usize>(rows: [StepRow; N]) -> [Step; N] {
+    rows.map(step)
+}
+
+/// The step of a row.
+pub(crate) fn step(row: StepRow) -> Step {
+    let (from, to, op) = row;
     Step { from, to, op }
 }
 

@@ -1,8 +1,8 @@
 //! Worked rows of what goes by words: the memory afterwards, within so many loads and stores.
-use crate::slices::step;
+use crate::slices::{StepRow, step};
 use bitvec_plain::base::{Lsb0, Msb0};
 use bitvec_plain::cells::{Exclusive, Shared};
-use bitvec_plain::commands::{Op, Reply, Step, Window, run};
+use bitvec_plain::commands::{Op, Reply, Window, run};
 use bitvec_plain::engine::SliceOrder;
 use bitvec_plain::store::BitStore;
 use bitvec_test_support::Counted;
@@ -31,17 +31,17 @@ fn takes<T: BitStore, O: SliceOrder, A: Allocator>(
     alloc: A,
     elements: &mut [T],
     right: &[T],
-    step: Step,
+    row: StepRow,
     most: Most,
     reply: Reply,
 ) -> bool {
     let window = Window {
         start: 0,
-        len: step.to,
+        len: row.1,
     };
     let mut cells = Counted::new(Exclusive::new(elements));
     let mut source = Counted::new(Shared::new(right));
-    match run::<O, _, _, _>(alloc, &mut cells, window, &mut source, &[step]) {
+    match run::<O, _, _, _>(alloc, &mut cells, window, &mut source, &[step(row)]) {
         Ok(replies) => {
             replies.as_slice() == [reply].as_slice()
                 && cells.loads() <= most.loads
@@ -57,44 +57,35 @@ fn check<T: BitStore, O: SliceOrder, R: Abort + AllocGlobal>(
     rt: &R,
     elements: &mut [T],
     right: &[T],
-    step: Step,
+    row: StepRow,
     most: Most,
     reply: Reply,
 ) {
     assert!(rt;
-        takes::<T, O, _>(rt.alloc(), elements, right, step, most, reply),
-        "{step:?}"
+        takes::<T, O, _>(rt.alloc(), elements, right, row, most, reply),
+        "{row:?}"
     );
 }
 
 #[test]
-fn a_copy_within_goes_either_way(rt: HostRuntime) {
-    let mut bytes = [0x01u8, 0, 0, 0, 0, 0, 0, 0x20, 0, 0];
-    let later = step(0, 80, Op::CopyWithin(0, 70, 3));
-    check::<u8, Lsb0, _>(&rt, &mut bytes, &[], later, at_most(22, 18, 0), Reply::Done);
-    assert!(rt; bytes == [0x09u8, 0, 0, 0, 0, 0, 0, 0, 0x01, 0]);
+fn a_move_goes_by_words(rt: HostRuntime) {
     let mut bytes = [0x80u8, 0, 0, 0, 0, 0, 0, 0x04, 0, 0];
+    let later = (0, 80, Op::CopyWithin(0, 70, 3));
     check::<u8, Msb0, _>(&rt, &mut bytes, &[], later, at_most(22, 18, 0), Reply::Done);
     assert!(rt; bytes == [0x90u8, 0, 0, 0, 0, 0, 0, 0, 0x80, 0]);
-    let mut bytes = [0x01u8, 0, 0, 0, 0, 0, 0, 0x20, 0, 0];
-    let earlier = step(0, 80, Op::CopyWithin(3, 73, 0));
-    check::<u8, Lsb0, _>(
-        &rt,
-        &mut bytes,
-        &[],
-        earlier,
-        at_most(22, 18, 0),
-        Reply::Done,
-    );
-    assert!(rt; bytes == [0u8, 0, 0, 0, 0, 0, 0, 0x04, 0, 0]);
+    let mut pair = [1u64, 2];
+    let reverse = (0, 128, Op::Reverse);
+    check::<u64, Lsb0, _>(&rt, &mut pair, &[], reverse, at_most(12, 6, 0), Reply::Done);
+    assert!(rt; pair == [0x4000_0000_0000_0000, 0x8000_0000_0000_0000]);
 }
 
+// 128 bits are two steps, each of which touches at most two wide elements.
 #[test]
-fn an_operator_and_an_equality_go_by_words(rt: HostRuntime) {
+fn two_windows_are_gone_over_by_words(rt: HostRuntime) {
     let mut elements = [0xFFFF_FFFFu32; 5];
-    let right = [0x5555_5555u32; 5];
     let other = Window { start: 1, len: 130 };
-    let and = step(0, 130, Op::And(other));
+    let and = (0, 130, Op::And(other));
+    let right = [0x5555_5555u32; 5];
     check::<u32, Lsb0, _>(
         &rt,
         &mut elements,
@@ -105,55 +96,28 @@ fn an_operator_and_an_equality_go_by_words(rt: HostRuntime) {
     );
     let half = 0xAAAA_AAAA;
     assert!(rt; elements == [half, half, half, half, 0xFFFF_FFFE]);
-    let mut bytes = [0xFFu8; 9];
-    let other = Window { start: 5, len: 64 };
-    let eq = step(3, 67, Op::Eq(other));
+    let mut wide = [0u128; 2];
+    let other = Window { start: 3, len: 64 };
+    let copy = (64, 128, Op::CopyFrom(other));
+    check::<u128, Lsb0, _>(
+        &rt,
+        &mut wide,
+        &[u128::MAX; 2],
+        copy,
+        at_most(2, 2, 2),
+        Reply::Done,
+    );
+    assert!(rt; wide == [(u64::MAX as u128) << 64, 0]);
+    let eq = (3, 67, Op::Eq(Window { start: 5, len: 64 }));
+    let ones = [0xFFu8; 9];
     check::<u8, Lsb0, _>(
         &rt,
-        &mut bytes,
-        &[0xFF; 9],
+        &mut [0xFF; 9],
+        &ones,
         eq,
         at_most(9, 0, 9),
         Reply::Bit(true),
     );
-    let mut near = [0xFF; 9];
-    near[8] = 0x0F;
-    check::<u8, Msb0, _>(
-        &rt,
-        &mut bytes,
-        &near,
-        eq,
-        at_most(9, 0, 9),
-        Reply::Bit(false),
-    );
-}
-
-#[test]
-fn reversals_and_rotations_go_by_words(rt: HostRuntime) {
-    let mut pair = [1u64, 2];
-    let reverse = step(0, 128, Op::Reverse);
-    check::<u64, Lsb0, _>(&rt, &mut pair, &[], reverse, at_most(12, 6, 0), Reply::Done);
-    assert!(rt; pair == [0x4000_0000_0000_0000, 0x8000_0000_0000_0000]);
-    let mut pair = [1u64, 2];
-    let rotate = step(0, 128, Op::RotateLeft(64));
-    check::<u64, Lsb0, _>(&rt, &mut pair, &[], rotate, at_most(28, 14, 0), Reply::Done);
-    assert!(rt; pair == [2, 1]);
-    let mut halves = [7u64; 64];
-    halves[0] = 1;
-    halves[33] = 2;
-    let rotate = step(0, 4096, Op::RotateLeft(2048));
-    check::<u64, Lsb0, _>(
-        &rt,
-        &mut halves,
-        &[],
-        rotate,
-        at_most(524, 262, 0),
-        Reply::Done,
-    );
-    let mut after = [7u64; 64];
-    after[32] = 1;
-    after[1] = 2;
-    assert!(rt; halves == after);
 }
 
 /// Exchanges 64 bits of two pairs of elements, and gives the loads and stores of each side.
