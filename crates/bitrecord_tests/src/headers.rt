@@ -1,6 +1,7 @@
 //! Records that others have published.
+use crate::coded::{decodes, encodes};
+use bitrecord::Endian;
 use bitrecord::bits::{BitSlice, BitSliceMut, Lsb0, Msb0, Window};
-use bitrecord::{Endian, Layout, decode, encode};
 
 /// A header of the Internet protocol, version 4, without options.
 const IP: [u8; 20] = [
@@ -28,47 +29,46 @@ const IP_NUMBERS: [u128; 13] = [
     0xC0A8_00C7,
 ];
 
-#[test]
-fn an_internet_header(rt: HostRuntime) {
+/// Fields of these widths, one behind the other.
+fn placed(widths: [usize; 13]) -> [Window; 13] {
     let mut fields = [Window { start: 0, len: 0 }; 13];
     let mut start = 0usize;
-    for number in 0..13 {
-        let len = IP_WIDTHS[number];
-        fields[number] = Window { start, len };
+    for (field, len) in fields.iter_mut().zip(widths) {
+        *field = Window { start, len };
         start = start.wrapping_add(len);
     }
+    fields
+}
+
+#[test]
+fn an_internet_header(rt: HostRuntime) {
+    let fields = placed(IP_WIDTHS);
     let mut numbers = [0u128; 13];
-    let mut bytes = [0u8; 20];
-    match Layout::new(rt.alloc(), 160, &fields) {
-        Ok(layout) => {
-            let header = BitSlice::<u8, Msb0>::from_slice(&IP);
-            if layout.len() == 13 && layout.bits() == header.len() {
-                decode(&layout, Endian::Big, header, &mut numbers);
-                let mut view = BitSliceMut::<u8, Msb0>::from_slice_mut(&mut bytes);
-                assert!(rt; encode(&layout, Endian::Big, &numbers, &mut view) == Ok(()));
-            }
-        }
-        Err(_) => assert!(rt; false),
-    }
+    let header = BitSlice::<u8, Msb0>::from_slice(&IP);
+    assert!(rt; decodes(rt.alloc(), Endian::Big, &fields, header, &mut numbers));
     assert!(rt; numbers == IP_NUMBERS);
+    let mut bytes = [0u8; 20];
+    let mut view = BitSliceMut::<u8, Msb0>::from_slice_mut(&mut bytes);
+    assert!(rt; encodes(rt.alloc(), Endian::Big, &fields, &IP_NUMBERS, &mut view));
     assert!(rt; bytes == IP);
 }
 
 #[test]
 fn a_signal_on_a_bus(rt: HostRuntime) {
-    let mut bytes = [0u8; 8];
+    let fields = [Window { start: 12, len: 12 }];
     let mut number = [0u128];
-    match Layout::new(rt.alloc(), 64, &[Window { start: 12, len: 12 }]) {
-        Ok(layout) => {
-            let mut view = BitSliceMut::<u8, Lsb0>::from_slice_mut(&mut bytes);
-            if layout.len() == 1 && layout.bits() == view.len() {
-                assert!(rt; encode(&layout, Endian::Little, &[0xABC], &mut view) == Ok(()));
-                let view = BitSlice::<u8, Lsb0>::from_slice(&bytes);
-                decode(&layout, Endian::Little, view, &mut number);
-            }
-        }
-        Err(_) => assert!(rt; false),
-    }
+    let mut bytes = [0u8; 8];
+    let mut view = BitSliceMut::<u8, Lsb0>::from_slice_mut(&mut bytes);
+    assert!(rt; encodes(rt.alloc(), Endian::Little, &fields, &[0xABC], &mut view));
+    assert!(rt;
+        decodes(
+            rt.alloc(),
+            Endian::Little,
+            &fields,
+            view.as_ref(),
+            &mut number
+        )
+    );
     assert!(rt; bytes == [0, 0xC0, 0xAB, 0, 0, 0, 0, 0]);
     assert!(rt; number == [0xABC]);
 }
@@ -83,21 +83,9 @@ fn a_date_and_time_of_a_file(rt: HostRuntime) {
         Window { start: 21, len: 4 },
         Window { start: 25, len: 7 },
     ];
+    let values = [15, 45, 23, 31, 12, 44];
     let mut words = [0u16; 2];
-    match Layout::new(rt.alloc(), 32, &fields) {
-        Ok(layout) => {
-            let mut view = BitSliceMut::<u16, Lsb0>::from_slice_mut(&mut words);
-            if layout.bits() == view.len() {
-                let answer = encode(
-                    &layout,
-                    Endian::Little,
-                    &[15, 45, 23, 31, 12, 44],
-                    &mut view,
-                );
-                assert!(rt; answer == Ok(()));
-            }
-        }
-        Err(_) => assert!(rt; false),
-    }
+    let mut view = BitSliceMut::<u16, Lsb0>::from_slice_mut(&mut words);
+    assert!(rt; encodes(rt.alloc(), Endian::Little, &fields, &values, &mut view));
     assert!(rt; words == [0xBDAF, 0x599F]);
 }

@@ -2,6 +2,8 @@
 #![tactic(auto)]
 
 #[cfg(test)]
+mod coded;
+#[cfg(test)]
 mod headers;
 #[cfg(test)]
 mod laws;
@@ -9,5 +11,3 @@ mod laws;
 mod memory;
 #[cfg(test)]
 mod records;
-#[cfg(test)]
-mod words;

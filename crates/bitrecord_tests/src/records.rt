@@ -1,114 +1,86 @@
 //! Small records, each refusal, and single fields.
-ghost use Rattle.std.specs.Prelude.{◌≡◌};
 
+use crate::coded::{decodes, encodes};
 use bitrecord::bits::{BitSlice, BitSliceMut, Msb0, Window};
-use bitrecord::{EncodeError, Endian, Layout, LayoutError, decode, decode_one, encode, encode_one};
+use bitrecord::{EncodeError, Endian, Layout, LayoutError, decode_one, encode, encode_one};
 use bitvec_test_support::prints;
 use std::alloc::Global;
 
-/// A field.
-fn field(start: usize, len: usize) -> Window
-    ensures { result ≡ record { start = start; len = len } }
-{
-    Window { start, len }
-}
-
 /// Three bits, seven and six.
-fn three() -> [Window; 3] {
-    [field(0, 3), field(3, 7), field(10, 6)]
-}
-
-/// What encoding answers, and the bytes and the numbers decoded afterwards, of three fields of 16 bits.
-fn coded(
-    alloc: Global,
-    endian: Endian,
-    fields: &[Window],
-    values: &[u128],
-    start: [u8; 2],
-) -> Result<(Result<(), EncodeError>, [u8; 2], [u128; 3]), LayoutError> {
-    let layout = Layout::new(alloc, 16, fields)?;
-    let mut bytes = start;
-    let mut numbers = [0u128; 3];
-    let mut view = BitSliceMut::<u8, Msb0>::from_slice_mut(&mut bytes);
-    if view.len() != layout.bits() || layout.len() != 3 {
-        return Ok((Err(EncodeError::Count), start, numbers));
-    }
-    let answer = encode(&layout, endian, values, &mut view);
-    decode(
-        &layout,
-        endian,
-        BitSlice::<u8, Msb0>::from_slice(&bytes),
-        &mut numbers,
-    );
-    Ok((answer, bytes, numbers))
-}
+const THREE: [Window; 3] = [
+    Window { start: 0, len: 3 },
+    Window { start: 3, len: 7 },
+    Window { start: 10, len: 6 },
+];
 
 #[test]
 fn three_fields_from_both_ends(rt: HostRuntime) {
-    let values = [5, 85, 33];
-    let big = coded(rt.alloc(), Endian::Big, &three(), &values, [0, 0]);
-    assert!(rt; big == Ok((Ok(()), [0xB5, 0x61], values)));
-    let little = coded(rt.alloc(), Endian::Little, &three(), &values, [0, 0]);
-    assert!(rt; little == Ok((Ok(()), [0xB5, 0xA1], values)));
+    for (endian, bytes) in [(Endian::Big, [0xB5, 0x61]), (Endian::Little, [0xB5, 0xA1])] {
+        let mut numbers = [0u128; 3];
+        let mut cells = [0u8; 2];
+        let mut view = BitSliceMut::<u8, Msb0>::from_slice_mut(&mut cells);
+        assert!(rt; encodes(rt.alloc(), endian, &THREE, &[5, 85, 33], &mut view));
+        assert!(rt; decodes(rt.alloc(), endian, &THREE, view.as_ref(), &mut numbers));
+        assert!(rt; cells == bytes);
+        assert!(rt; numbers == [5, 85, 33]);
+    }
 }
 
-#[test]
-fn the_order_of_fields_is_free(rt: HostRuntime) {
-    let fields = [field(10, 6), field(0, 3), field(3, 7)];
-    let turned = coded(rt.alloc(), Endian::Big, &fields, &[33, 5, 85], [0, 0]);
-    assert!(rt; turned == Ok((Ok(()), [0xB5, 0x61], [33, 5, 85])));
-}
+/// Fourteen bits behind the first, in three fields, of which the last stands first.
+const TURNED: [Window; 3] = [
+    Window { start: 13, len: 1 },
+    Window { start: 1, len: 3 },
+    Window { start: 4, len: 9 },
+];
 
 #[test]
 fn bits_around_a_record_stay(rt: HostRuntime) {
     let mut bytes = [0xFFu8; 3];
-    let fields = three();
-    match Layout::new(rt.alloc(), 16, &fields) {
-        Ok(layout) => {
-            let mut view = BitSliceMut::<u8, Msb0>::from_slice_mut(&mut bytes).into_part(4..20);
-            if layout.bits() == view.len() {
-                let answer = encode(&layout, Endian::Big, &[5, 85, 33], &mut view);
-                assert!(rt; answer == Ok(()));
-            }
-        }
-        Err(_) => assert!(rt; false),
+    let mut view = BitSliceMut::<u8, Msb0>::from_slice_mut(&mut bytes).into_part(5..20);
+    assert!(rt; encodes(rt.alloc(), Endian::Big, &TURNED, &[1, 2, 0], &mut view));
+    assert!(rt; bytes == [0xFD, 0x00, 0x3F]);
+}
+
+/// Why the values of three fields are refused.
+fn refusal_of(alloc: Global, values: &[u128]) -> Option<EncodeError> {
+    let mut bytes = [0u8; 2];
+    let mut view = BitSliceMut::<u8, Msb0>::from_slice_mut(&mut bytes);
+    match Layout::new(alloc, view.len(), &THREE) {
+        Ok(layout) => encode(&layout, Endian::Big, values, &mut view).err(),
+        Err(_) => None,
     }
-    assert!(rt; bytes == [0xFB, 0x56, 0x1F]);
 }
 
 #[test]
-fn refused_values_are_not_written(rt: HostRuntime) {
-    let kept = [5, 21, 26];
-    let range = coded(
-        rt.alloc(),
-        Endian::Big,
-        &three(),
-        &[5, 128, 33],
-        [0xA5, 0x5A],
-    );
-    assert!(rt; range == Ok((Err(EncodeError::Range(1)), [0xA5, 0x5A], kept)));
-    let count = coded(rt.alloc(), Endian::Big, &three(), &[5, 85], [0xA5, 0x5A]);
-    assert!(rt; count == Ok((Err(EncodeError::Count), [0xA5, 0x5A], kept)));
+fn values_are_refused(rt: HostRuntime) {
+    assert!(rt; refusal_of(rt.alloc(), &[5, 128, 33]) == Some(EncodeError::Range(1)));
+    assert!(rt; refusal_of(rt.alloc(), &[5, 85]) == Some(EncodeError::Count));
 }
 
-/// Why there is no layout of 16 bits.
-fn refusal(alloc: Global, fields: &[Window]) -> Option<LayoutError> {
-    match Layout::new(alloc, 16, fields) {
-        Ok(_) => None,
-        Err(why) => Some(why),
-    }
+/// Why there is no layout of 16 bits of two fields.
+fn refusal(alloc: Global, first: (usize, usize), second: (usize, usize)) -> Option<LayoutError> {
+    let fields = [
+        Window {
+            start: first.0,
+            len: first.1,
+        },
+        Window {
+            start: second.0,
+            len: second.1,
+        },
+    ];
+    Layout::new(alloc, 16, &fields).err()
 }
 
 #[test]
 fn fields_are_refused_in_order(rt: HostRuntime) {
-    let overlap = [field(0, 3), field(2, 4), field(5, 3)];
-    assert!(rt; refusal(rt.alloc(), &overlap) == Some(LayoutError::Overlap(0, 1)));
-    let later = [field(8, 2), field(0, 3), field(5, 4), field(2, 4)];
-    assert!(rt; refusal(rt.alloc(), &later) == Some(LayoutError::Overlap(0, 2)));
-    let width = [field(10, 7), field(0, 0)];
-    assert!(rt; refusal(rt.alloc(), &width) == Some(LayoutError::Width(1)));
-    assert!(rt; refusal(rt.alloc(), &[field(usize::MAX, 1)]) == Some(LayoutError::Outside(0)));
-    assert!(rt; refusal(rt.alloc(), &three()) == None);
+    for (first, second, why) in [
+        ((10, 7), (0, 0), LayoutError::Width(1)),
+        ((usize::MAX, 1), (0, 3), LayoutError::Outside(0)),
+        ((0, 3), (2, 4), LayoutError::Overlap(0, 1)),
+    ] {
+        assert!(rt; refusal(rt.alloc(), first, second) == Some(why));
+    }
 }
 
 #[test]
@@ -127,22 +99,30 @@ fn refusals_have_texts(rt: HostRuntime) {
     assert!(rt; prints(rt.alloc(), &range, "value 3 doesn't fit its field"));
 }
 
+/// Reads the second of three fields and writes the third, if the calls on the layout answer as they should.
+fn read_and_write(layout: &Layout<Global>, bytes: &mut [u8; 2]) -> Option<u128> {
+    if layout.bits() != 16 || layout.len() != 3 || layout.is_empty() {
+        return None;
+    }
+    if layout.fields().len() != 3 || layout.field(2) != THREE[2] {
+        return None;
+    }
+    let second = decode_one(
+        layout,
+        Endian::Big,
+        BitSlice::<u8, Msb0>::from_slice(bytes),
+        1,
+    );
+    let mut view = BitSliceMut::<u8, Msb0>::from_slice_mut(bytes);
+    encode_one(layout, Endian::Big, 2, 63, &mut view).ok()?;
+    Some(second)
+}
+
 #[test]
 fn single_fields(rt: HostRuntime) {
     let mut bytes = [0xB5u8, 0x61];
-    match Layout::new(rt.alloc(), 16, &three()) {
-        Ok(layout) => {
-            if layout.bits() == 16 && layout.len() == 3 && !layout.is_empty() {
-                let view = BitSlice::<u8, Msb0>::from_slice(&bytes);
-                assert!(rt; decode_one(&layout, Endian::Big, view, 1) == 85);
-                let mut view = BitSliceMut::<u8, Msb0>::from_slice_mut(&mut bytes);
-                let large = encode_one(&layout, Endian::Big, 2, 64, &mut view);
-                assert!(rt; large == Err(EncodeError::Range(2)));
-                assert!(rt; encode_one(&layout, Endian::Big, 2, 63, &mut view) == Ok(()));
-                assert!(rt; layout.fields().len() == 3);
-                assert!(rt; layout.field(2) == field(10, 6));
-            }
-        }
+    match Layout::new(rt.alloc(), 16, &THREE) {
+        Ok(layout) => assert!(rt; read_and_write(&layout, &mut bytes) == Some(85)),
         Err(_) => assert!(rt; false),
     }
     assert!(rt; bytes == [0xB5, 0x7F]);

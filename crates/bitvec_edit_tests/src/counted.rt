@@ -1,5 +1,7 @@
 //! Calls on chunks by closures go from chunk 0 on: a closure that counts its calls writes the count into
 //! each chunk of the bits 3 up to 21 of three bytes.
+ghost use Rattle.bitvec_edit.specs.slice.Views.{seen_mut};
+ghost use Rattle.bitvec_edit.specs.slice.Writes.{WritesBits};
 
 use bitvec_edit::BitEdits;
 use bitvec_edit::base::Lsb0;
@@ -17,48 +19,41 @@ fn digit(number: usize, index: usize) -> bool {
     }
 }
 
-/// Writes into each chunk of four bits its number among the calls, from 1 on.
+/// Writes into a chunk its number among the calls, from 1 on.
+fn count_chunk(calls: &mut usize, chunk: &mut BitSliceMut<'_, u8, Lsb0>)
+    ensures { WritesBits chunk.old chunk.new (seen_mut chunk.new).bits }
+{
+    let number = calls.wrapping_add(1);
+    *calls = number;
+    chunk.fill_with(|index| digit(number, index));
+}
+
+/// Writes into each chunk of four bits its number among the calls.
 fn count_chunks(bytes: &mut [u8; 3]) {
     let mut view = BitSliceMut::<u8, Lsb0>::from_slice_mut(bytes).into_part(3..21);
     let mut calls = 0usize;
-    view.for_each_chunk_mut(4, |_index, chunk| {
-        calls = calls.wrapping_add(1);
-        let number = calls;
-        chunk.fill_with(|index| digit(number, index));
-    });
+    view.for_each_chunk_mut(4, |_index, chunk| count_chunk(&mut calls, chunk));
 }
 
 /// The same of the chunks from the end.
 fn count_back_chunks(bytes: &mut [u8; 3]) {
     let mut view = BitSliceMut::<u8, Lsb0>::from_slice_mut(bytes).into_part(3..21);
     let mut calls = 0usize;
-    view.for_each_rchunk_mut(4, |_index, chunk| {
-        calls = calls.wrapping_add(1);
-        let number = calls;
-        chunk.fill_with(|index| digit(number, index));
-    });
+    view.for_each_rchunk_mut(4, |_index, chunk| count_chunk(&mut calls, chunk));
 }
 
 /// The same of the whole chunks.
 fn count_whole_chunks(bytes: &mut [u8; 3]) {
     let mut view = BitSliceMut::<u8, Lsb0>::from_slice_mut(bytes).into_part(3..21);
     let mut calls = 0usize;
-    view.for_each_chunk_exact_mut(4, |_index, chunk| {
-        calls = calls.wrapping_add(1);
-        let number = calls;
-        chunk.fill_with(|index| digit(number, index));
-    });
+    view.for_each_chunk_exact_mut(4, |_index, chunk| count_chunk(&mut calls, chunk));
 }
 
 /// The same of the whole chunks from the end.
 fn count_whole_back_chunks(bytes: &mut [u8; 3]) {
     let mut view = BitSliceMut::<u8, Lsb0>::from_slice_mut(bytes).into_part(3..21);
     let mut calls = 0usize;
-    view.for_each_rchunk_exact_mut(4, |_index, chunk| {
-        calls = calls.wrapping_add(1);
-        let number = calls;
-        chunk.fill_with(|index| digit(number, index));
-    });
+    view.for_each_rchunk_exact_mut(4, |_index, chunk| count_chunk(&mut calls, chunk));
 }
 
 /// The bits, with 1, 2, 3 and so on at these places in turn.

@@ -16,6 +16,4 @@ mod old_names;
 #[cfg(test)]
 mod pieces;
 #[cfg(test)]
-mod swaps;
-#[cfg(test)]
 mod transfers;

@@ -20,16 +20,6 @@ pub fn parity<T: BitStore, O: BitOrder>(bits: BitSlice<'_, T, O>) -> bool
     bits.iter().by_vals().filter(|bit| *bit).count() % 2 == 1
 }
 
-/// The bits, as truth values.
-pub fn as_bools<T: BitStore, O: BitOrder>(
-    alloc: Global,
-    bits: BitSlice<'_, T, O>,
-) -> Result<Vec<bool>, AllocError>
-    ensures { IfOk result (λ bools. bools.items ≡ (seen bits.entry).bits) }
-{
-    bits.iter().by_vals().collect(alloc)
-}
-
 /// The bits, the last first.
 pub fn backwards<T: BitStore, O: BitOrder>(
     alloc: Global,
@@ -80,13 +70,6 @@ pub fn mixed_pairs<T: BitStore, O: SliceOrder>(bits: BitSlice<'_, T, O>) -> usiz
     ensures { result ≡ count_by (λ pair. list_any (λ bit. bit) pair.bits && not (list_all (λ bit. bit) pair.bits)) (parts_of T.BITS (seen bits.entry) (window_count 2) (window 2)) }
 {
     bits.windows(2).filter(|pair| pair.some()).count()
-}
-
-/// The bit that is so many behind the first: `nth` gives it, and `None` exactly where there is none.
-pub fn bit_behind<T: BitStore, O: BitOrder>(bits: BitSlice<'_, T, O>, count: usize) -> Option<bool>
-    ensures { MatchOption result (length (seen bits.entry).bits ≤ count) (λ bit. (count < length (seen bits.entry).bits) × (bit ≡ slice_index_or (seen bits.entry).bits count bit)) }
-{
-    bits.iter().by_vals().nth(count)
 }
 
 /// The bit that is so many before the last: `nth_back` gives it, and `None` exactly where there is

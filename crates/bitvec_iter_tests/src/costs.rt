@@ -41,11 +41,3 @@ fn a_number_takes_its_elements_once(rt: HostRuntime) {
     assert!(rt; is_within(taken, 2, 3));
     assert!(rt; bytes == [0x03, 0x00, 0xF0]);
 }
-
-#[test]
-fn a_number_of_no_bits_takes_nothing(rt: HostRuntime) {
-    let mut bytes = [0x03u8, 0xC0, 0xFF];
-    let taken = tallies(rt.alloc(), &mut bytes, 3, 3, FieldOp::StoreLe(1));
-    assert!(rt; is_within(taken, 0, 0));
-    assert!(rt; bytes == [0x03, 0xC0, 0xFF]);
-}

@@ -23,21 +23,6 @@ pub fn stored_then_loaded_le<T: BitStore, O: FieldOrder, I: Integral>(
     view.load_le::<I>()
 }
 
-/// The same with the first segment highest.
-pub fn stored_then_loaded_be<T: BitStore, O: FieldOrder, I: Integral>(
-    view: &mut BitSliceMut<'_, T, O>,
-    value: I,
-) -> I
-    requires some { 0 < (seen_mut view.old).window.len }
-    requires bound { (seen_mut view.old).window.len ≤ I.BITS }
-    ensures { let n = (seen_mut view.old).window.len in
-        I.value result ≡ integer_of I.SIGNED n (remainder_of n (I.value value)) }
-{
-    let _bits = view.len();
-    view.store_be::<I>(value);
-    view.load_be::<I>()
-}
-
 /// Loads a number and stores it: the bits are as before, so no other bits have this number.
 pub fn loaded_then_stored_le<T: BitStore, O: FieldOrder>(view: &mut BitSliceMut<'_, T, O>)
     requires some { 0 < (seen_mut view.old).window.len }

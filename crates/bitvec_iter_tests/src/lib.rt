@@ -7,8 +7,6 @@ mod bits;
 #[cfg(test)]
 mod callers;
 #[cfg(test)]
-mod chunks;
-#[cfg(test)]
 mod costs;
 #[cfg(test)]
 mod growth;
@@ -35,13 +33,12 @@ mod widths;
 
 #[cfg(test)]
 pub use callers::{
-    as_bools, backwards, bit_before, bit_behind, differences, first_bits, joined, mixed_pairs,
-    numbered, ones_by_chunks, ones_by_loop, ones_of_chunks, parity, parity_by_fold,
+    backwards, bit_before, differences, first_bits, joined, mixed_pairs, numbered, ones_by_chunks,
+    ones_by_loop, ones_of_chunks, parity, parity_by_fold,
 };
 #[cfg(test)]
 pub use laws::{
-    loaded_then_stored_be, loaded_then_stored_le, same_in_one_element, stored_then_loaded_be,
-    stored_then_loaded_le,
+    loaded_then_stored_be, loaded_then_stored_le, same_in_one_element, stored_then_loaded_le,
 };
 #[cfg(test)]
 pub use parts::{load_at, store_at};

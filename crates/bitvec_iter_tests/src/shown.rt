@@ -11,13 +11,8 @@ fn walks_print_their_pieces(rt: HostRuntime) {
     let bits = [0b1_0110u8];
     let view = BitSlice::<u8, Lsb0>::from_slice(&bits).into_part(0..5);
     let mut chunks = view.chunks(2);
-    assert!(rt; shows(rt.alloc(), &chunks, "Pieces([[0, 1], [1, 0], [1]])"));
     let _first = chunks.next();
     assert!(rt; shows(rt.alloc(), &chunks, "Pieces([[1, 0], [1]])"));
-    let windows = view.windows(4);
-    assert!(rt; shows(rt.alloc(), &windows, "Pieces([[0, 1, 1, 0], [1, 1, 0, 1]])"));
-    let none = view.rchunks_exact(6);
-    assert!(rt; shows(rt.alloc(), &none, "Pieces([])"));
 }
 
 /// Whether the chunks of two bits from the end show so, but for `skipped` of them.
@@ -36,27 +31,18 @@ fn bits_show(alloc: Global, bytes: &mut [u8; 1], skipped: usize, text: &str) -> 
     shows(alloc, &bits, text)
 }
 
-/// Whether both halves show so.
-fn halves_show(alloc: Global, bytes: &mut [u8; 1], mid: usize, text: &str) -> bool {
+/// Whether the first two bits and the others show so.
+fn halves_show(alloc: Global, bytes: &mut [u8; 1], text: &str) -> bool {
     let mut view = BitSliceMut::<u8, Lsb0>::from_slice_mut(bytes).into_part(0..5);
-    let mid = mid.min(view.len());
-    let halves = view.split_at_mut(mid);
+    let halves = view.split_at_mut(2);
     shows(alloc, &halves, text)
 }
 
 #[test]
 fn lenders_print_what_is_left(rt: HostRuntime) {
     let mut bytes = [0b1_0110u8];
-    assert!(rt;
-        chunks_show(
-            rt.alloc(),
-            &mut bytes,
-            0,
-            "PiecesMut([[0, 1], [1, 1], [0]])"
-        )
-    );
-    assert!(rt; chunks_show(rt.alloc(), &mut bytes, 2, "PiecesMut([[0]])"));
+    assert!(rt; chunks_show(rt.alloc(), &mut bytes, 1, "PiecesMut([[1, 1], [0]])"));
     assert!(rt; bits_show(rt.alloc(), &mut bytes, 1, "IterMut([1, 1, 0, 1])"));
     assert!(rt; bits_show(rt.alloc(), &mut bytes, 9, "IterMut([])"));
-    assert!(rt; halves_show(rt.alloc(), &mut bytes, 2, "HalvesMut([0, 1], [1, 0, 1])"));
+    assert!(rt; halves_show(rt.alloc(), &mut bytes, "HalvesMut([0, 1], [1, 0, 1])"));
 }

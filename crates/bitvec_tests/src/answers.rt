@@ -1,5 +1,5 @@
 //! What a caller knows of the answers that it got, by a set of laws a function.
-ghost use Rattle.std.specs.Prelude.{◌≡◌, ◌≢◌, ℕ, ◌*◌, ◌<◌, ◌≤◌, ◌↔◌, IfNone, IfSome, IsTrue, Some, None, false, true, slice_index_or};
+ghost use Rattle.std.specs.Prelude.{◌≡◌, ◌≢◌, ℕ, ◌<◌, ◌≤◌, ◌↔◌, IfNone, IfSome, IsTrue, None, false, true, slice_index_or};
 ghost use Rattle.bitvec.specs.Counts.{ones_of, zeros_of};
 ghost use Rattle.bitvec.specs.Lists.{last_place};
 ghost use Rattle.bitvec.specs.Views.{seen, seen_mut};
@@ -39,35 +39,6 @@ pub fn write_and_read<T: BitStore, O: SliceOrder>(
 {
     view.set(index, bit);
     (view[index], view[other])
-}
-
-/// Writes a bit, and gives the one at any index, if there is one.
-#[tactic(auto, using(bitvec::specs::Laws::written))]
-pub fn write_and_get<T: BitStore, O: SliceOrder>(
-    view: &mut BitSliceMut<'_, T, O>,
-    index: usize,
-    bit: bool,
-    other: usize,
-) -> Option<bool>
-    requires { index < (seen_mut view.old).window.len }
-    ensures written { other ≡ index → result ≡ Some bit }
-    ensures kept { other ≢ index → IfSome result (λ found. found ≡ slice_index_or (seen_mut view.old).bits other false) }
-    ensures window { (seen_mut view.new).window ≡ (seen_mut view.old).window }
-{
-    view.set(index, bit);
-    match view.get(other) {
-        Some(found) => Some(*found),
-        None => None,
-    }
-}
-
-/// How many bits are 1 and how many 0: together all.
-#[tactic(auto, using(bitvec::specs::Laws::counted))]
-pub fn count_both<T: BitStore, O: SliceOrder>(view: BitSlice<'_, T, O>) -> usize
-    ensures { result ≡ (seen view.entry).window.len }
-{
-    let _len = view.len();
-    view.count_ones() + view.count_zeros()
 }
 
 /// Flips all bits, and gives how many were 0.
@@ -158,7 +129,6 @@ fn bits_are_written_and_read(rt: HostRuntime) {
     let mut view = BitSliceMut::<u8, Lsb0>::from_slice_mut(&mut cells);
     assert!(rt; clear_last(&mut view) == Some(8));
     assert!(rt; write_and_read(&mut view, 0, 2, true) == (true, true));
-    assert!(rt; write_and_get(&mut view, 1, false, 16) == None);
     assert!(rt; cells == [0b0010_1101, 0]);
 }
 
@@ -166,7 +136,6 @@ fn bits_are_written_and_read(rt: HostRuntime) {
 fn bits_are_counted(rt: HostRuntime) {
     let mut cells = [0b0010_1101u8, 0];
     let mut view = BitSliceMut::<u8, Lsb0>::from_slice_mut(&mut cells);
-    assert!(rt; count_both(view.as_ref()) == 16);
     assert!(rt; count_parts(view.as_ref(), 3) == 4);
     assert!(rt; move_and_count(&mut view, 7) == (4, 12));
     assert!(rt; flip_and_count(&mut view) == 12);

@@ -1,8 +1,7 @@
 //! A device with arrays of its own, whose bits views read and write.
-ghost use Rattle.std.specs.Prelude.{◌≡◌, ◌*◌, ◌<◌, ◌≤◌, IfSome, false, length, replicate, slice_index_or, slice_set};
+ghost use Rattle.std.specs.Prelude.{◌≡◌, ◌*◌, ◌<◌, IfSome, false, replicate, slice_index_or};
 ghost use Rattle.bitvec.specs.Arrays.{lsb0_bits, msb0_bits};
 ghost use Rattle.bitvec.specs.Views.{seen, seen_mut};
-ghost use Rattle.bitvec.specs.Window.{max_bits};
 
 use crate::filled::fill_all;
 use bitvec::prelude::*;
@@ -75,15 +74,6 @@ impl Device {
         }
     }
 
-    /// Makes one control bit `bit`; all others stay. Condition: the index is below 128.
-    pub fn set_control(&mut self, index: usize, bit: bool)
-        requires { index < 128 }
-        ensures control { lsb0_bits 32 self.new.control ≡ slice_set (lsb0_bits 32 self.old.control) index bit }
-        ensures flags { self.new.flags ≡ self.old.flags }
-    {
-        set_bit(&mut self.control, index, bit);
-    }
-
     /// Clears all flags; the control words stay.
     pub fn clear_flags(&mut self)
         ensures flags { msb0_bits 64 self.new.flags ≡ replicate 128 false }
@@ -103,44 +93,15 @@ impl Device {
     }
 }
 
-/// The words with one bit made `bit`.
-fn with_bit(words: &mut [u32], index: usize, bit: bool) -> &mut [u32]
-    requires fits { 32 * length words.old ≤ max_bits }
-    requires bound { index < 32 * length words.old }
-    ensures bits { lsb0_bits 32 result.now ≡ slice_set (lsb0_bits 32 words.old) index bit }
-    ensures name { result.ghost_name ≡ words.entry.ghost_name }
-{
-    let mut view = BitSliceMut::<u32, Lsb0>::from_slice_mut(words);
-    view.set(index, bit);
-    view.into_slice()
-}
-
-/// Makes one bit of the words `bit`. Condition: the index is one of their bits'.
-fn set_bit(words: &mut [u32], index: usize, bit: bool)
-    requires fits { 32 * length words.old ≤ max_bits }
-    requires bound { index < 32 * length words.old }
-    ensures { lsb0_bits 32 words.new ≡ slice_set (lsb0_bits 32 words.old) index bit }
-{
-    let _words = with_bit(words, index, bit);
-}
-
 #[test]
 fn a_device_starts(rt: HostRuntime) {
     let mut device = Device::new();
     device.start();
-    device.set_control(33, true);
-    assert!(rt; device.control == [0xF, 2, 0, 0]);
-    assert!(rt; device.word(1).count_ones() == 1);
-    assert!(rt; device.control_bit(33) == Some(true));
-    assert!(rt; device.control_bit(128) == None);
-}
-
-#[test]
-fn a_device_is_written(rt: HostRuntime) {
-    let mut device = Device::new();
     device.word_mut(2).fill(true);
-    device.sign(3).set(true);
-    assert!(rt; device.control == [0, 0, 0xFFFF_FFFF, 1 << 31]);
+    device.sign(1).set(true);
+    assert!(rt; device.control == [0xF, 1 << 31, 0xFFFF_FFFF, 0]);
+    assert!(rt; device.word(1).count_ones() == 1);
+    assert!(rt; device.control_bit(33) == Some(false));
     device.flags = [7, 7];
     device.clear_flags();
     assert!(rt; device.flags == [0, 0]);

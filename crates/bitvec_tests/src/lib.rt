@@ -1,5 +1,5 @@
 //! Callers of `bitvec`, who depend on it alone: the functions of docs/GUIDE.md, and the blocks of
-//! docs/CALLING.md that name no other crate.
+//! docs/CALLING.md that name no other crate, with what their callers know.
 #![tactic(auto)]
 
 #[cfg(test)]
@@ -7,11 +7,19 @@ mod answers;
 #[cfg(test)]
 mod device;
 #[cfg(test)]
+mod edits_composed;
+#[cfg(test)]
+mod edits_known;
+#[cfg(test)]
 mod filled;
 #[cfg(test)]
 mod guide;
 #[cfg(test)]
+mod lends_known;
+#[cfg(test)]
 mod number_set;
+#[cfg(test)]
+mod numbers_known;
 #[cfg(test)]
 mod own_element;
 #[cfg(test)]
@@ -23,4 +31,10 @@ mod runs_known;
 #[cfg(test)]
 mod slots;
 #[cfg(test)]
+mod split_edits;
+#[cfg(test)]
+mod splits_known;
+#[cfg(test)]
 mod transfers;
+#[cfg(test)]
+mod walks_known;

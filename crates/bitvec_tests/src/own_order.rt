@@ -95,12 +95,3 @@ fn an_own_order_is_followed(rt: HostRuntime) {
     part.reverse();
     assert!(rt; cells == [0xC7, 0x18]);
 }
-
-#[test]
-fn and_in_wide_elements(rt: HostRuntime) {
-    let mut cells = [0u128];
-    let view = BitSliceMut::<u128, Rotated>::from_slice_mut(&mut cells);
-    let mut part = view.into_part(124..128);
-    part.fill(true);
-    assert!(rt; cells == [1 << 127 | 7]);
-}

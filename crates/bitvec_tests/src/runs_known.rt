@@ -73,30 +73,15 @@ pub fn fill_elements<T: BitStore, O: SliceOrder>(bits: &mut BitVec<T, O, Global>
 #[test]
 fn halves_are_run(rt: HostRuntime) {
     let mut cells = [0b0101_0110u8];
-    let mut out = [Reply::Done; 2];
-    let steps = [
-        (
-            Side::Left,
-            Step {
-                from: 0,
-                to: 3,
-                op: Op::Fill(true),
-            },
-        ),
-        (
-            Side::Right,
-            Step {
-                from: 0,
-                to: 5,
-                op: Op::CountOnes,
-            },
-        ),
-    ];
+    let mut out = [Reply::Done; 1];
+    let step = Step {
+        from: 0,
+        to: 3,
+        op: Op::Fill(true),
+    };
     let mut view = BitSliceMut::<u8, Lsb0>::from_slice_mut(&mut cells);
-    if view.len() == 8 {
-        run_apart(&mut view, 3, &steps, &mut out);
-    }
-    assert!(rt; out == [Reply::Done, Reply::Count(2)]);
+    run_apart(&mut view, 3, &[(Side::Left, step)], &mut out);
+    assert!(rt; out == [Reply::Done]);
     assert!(rt; cells == [0b0101_0111]);
 }
 

@@ -1,5 +1,5 @@
 //! What callers know of the indices that walks give them.
-ghost use Rattle.std.specs.Prelude.{◌≡◌, ◌≤◌, IfOk, false, length, reverse, sum, true};
+ghost use Rattle.std.specs.Prelude.{◌≡◌, IfOk, false, reverse, true};
 ghost use Rattle.bitvec_ones.specs.base.Lists.{places_of};
 ghost use Rattle.bitvec_ones.specs.slice.Views.{seen, seen_mut};
 
@@ -41,11 +41,4 @@ pub fn ones_in_turn<T: BitStore, O: SliceOrder, A: Allocator>(
         list.push(index)?;
     }
     Ok(list)
-}
-
-/// How many ones there are, by the walk's length.
-pub fn number_of_ones<T: BitStore, O: SliceOrder>(view: BitSlice<'_, T, O>) -> usize
-    ensures { result ≡ length (places_of true (seen view.entry).bits) }
-{
-    view.iter_ones().len()
 }

@@ -25,27 +25,6 @@ fn paint<O: SliceOrder>(bytes: &mut [u8; 1], mid: usize)
     }
 }
 
-/// How many bits a view's halves have, and how many of them the left one.
-fn lens_of_halves<O: SliceOrder>(bytes: &mut [u8; 2], mid: usize) -> (usize, usize)
-    requires { mid ≤ 16 }
-{
-    let mut view = BitSliceMut::<u8, O>::from_slice_mut(bytes);
-    let halves = view.split_at_mut(mid);
-    (halves.len(), halves.mid())
-}
-
-#[test]
-fn halves_tell_where_they_meet(rt: HostRuntime) {
-    assert!(rt; lens_of_halves::<Lsb0>(&mut [0, 0], 5) == (16, 5));
-}
-
-#[test]
-fn left_is_filled_and_right_cleared(rt: HostRuntime) {
-    let mut bytes = [0xF0];
-    paint::<Lsb0>(&mut bytes, 4);
-    assert!(rt; bytes == [0x0F]);
-}
-
 #[test]
 fn halves_meet_inside_an_element(rt: HostRuntime) {
     let mut bytes = [0x0F];
@@ -53,63 +32,17 @@ fn halves_meet_inside_an_element(rt: HostRuntime) {
     assert!(rt; bytes == [0xF8]);
 }
 
-/// Flips all bits but the first, by the halves that are cut there.
-fn invert_rest(bytes: &mut [u8; 1]) {
+/// How many bits two halves have, how many of them the left one, and how many the right.
+fn lens_of_halves(bytes: &mut [u8; 2]) -> [usize; 3] {
     let mut view = BitSliceMut::<u8, Lsb0>::from_slice_mut(bytes);
-    if let Some(mut halves) = view.split_first_mut() {
-        let mut rest = halves.right_mut();
-        rest.invert();
-    }
-}
-
-/// Flips the last bit, by the halves that are cut before it.
-fn invert_last(bytes: &mut [u8; 1]) {
-    let mut view = BitSliceMut::<u8, Lsb0>::from_slice_mut(bytes);
-    if let Some(mut halves) = view.split_last_mut() {
-        let mut last = halves.right_mut();
-        last.invert();
-    }
+    let mut halves = view.split_at_unchecked_mut(5);
+    let right = halves.right_mut().len();
+    [halves.len(), halves.mid(), right]
 }
 
 #[test]
-fn the_first_bit_and_the_last_are_cut_off(rt: HostRuntime) {
-    let mut bytes = [0x00];
-    invert_rest(&mut bytes);
-    assert!(rt; bytes == [0xFE]);
-    let mut bytes = [0x00];
-    invert_last(&mut bytes);
-    assert!(rt; bytes == [0x80]);
-}
-
-/// Whether the view has a first bit, and a last one.
-fn has_first(view: &mut BitSliceMut<'_, u8, Lsb0>) -> bool {
-    view.split_first_mut().is_some()
-}
-
-fn has_last(view: &mut BitSliceMut<'_, u8, Lsb0>) -> bool {
-    view.split_last_mut().is_some()
-}
-
-#[test]
-fn a_view_of_no_bits_has_no_first_and_no_last(rt: HostRuntime) {
-    let mut view = BitSliceMut::empty_mut();
-    assert!(rt; !has_first(&mut view));
-    assert!(rt; !has_last(&mut view));
-}
-
-/// How long the right half is of a cut at the end.
-fn right_of_all(view: &mut BitSliceMut<'_, u8, Lsb0>) -> usize {
-    let end = view.len();
-    let mut halves = view.split_at_unchecked_mut(end);
-    let right = halves.right_mut();
-    right.len()
-}
-
-#[test]
-fn a_cut_at_the_end_leaves_nothing_on_the_right(rt: HostRuntime) {
-    let mut bytes = [0x00u8];
-    let mut view = BitSliceMut::from_slice_mut(&mut bytes);
-    assert!(rt; right_of_all(&mut view) == 0);
+fn halves_tell_where_they_meet(rt: HostRuntime) {
+    assert!(rt; lens_of_halves(&mut [0, 0]) == [16, 5, 11]);
 }
 
 /// What is flipped of the halves that a cut at an end gives.

@@ -8,6 +8,7 @@ mod callers;
 mod chunks;
 #[cfg(test)]
 mod halves;
+#[cfg(test)]
 pub mod known;
 #[cfg(test)]
 mod lent_bits;

@@ -28,45 +28,6 @@ fn a_remainder_is_taken_once(rt: HostRuntime) {
     assert!(rt; bytes == [0xC0]);
 }
 
-/// Takes the remainder, sets the first bit of each chunk that comes at three calls, and gives how many
-/// were there, and how many came.
-fn set_first_bits(view: &mut BitSliceMut<'_, u8, Lsb0>) -> (usize, usize) {
-    let mut chunks = view.chunks_exact_mut(3);
-    let count = chunks.len();
-    {
-        let _rest = chunks.take_remainder();
-    }
-    let mut came = 0usize;
-    for _ in 0..3 {
-        if let Some(mut chunk) = chunks.next_mut() {
-            came = came.wrapping_add(1);
-            if !chunk.is_empty() {
-                chunk.set(0, true);
-            }
-        }
-    }
-    (count, came)
-}
-
-/// How long the remainder is at the end, where it was taken before.
-fn left_at_the_end(view: &mut BitSliceMut<'_, u8, Lsb0>) -> usize {
-    let mut chunks = view.chunks_exact_mut(3);
-    {
-        let _rest = chunks.take_remainder();
-    }
-    let rest = chunks.into_remainder();
-    rest.len()
-}
-
-#[test]
-fn the_chunks_still_come(rt: HostRuntime) {
-    let mut bytes = [0x00u8];
-    let mut view = BitSliceMut::from_slice_mut(&mut bytes);
-    assert!(rt; set_first_bits(&mut view) == (2, 2));
-    assert!(rt; left_at_the_end(&mut view) == 0);
-    assert!(rt; bytes == [0x09]);
-}
-
 /// Sets what is left before the chunks from the end.
 fn set_left_over(view: &mut BitSliceMut<'_, u8, Lsb0>) {
     let chunks = view.rchunks_exact_mut(3);

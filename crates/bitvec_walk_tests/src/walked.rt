@@ -219,7 +219,6 @@ fn chunks_by_nth_back_mut(rt: HostRuntime) {
 #[test]
 fn chunks_by_turns(rt: HostRuntime) {
     walk_each_way(&rt, &BY_TURNS);
-    walk_each_way(&rt, &[Call::Next, Call::NextBack]);
 }
 
 #[test]
@@ -245,5 +244,4 @@ fn bits_by_nth_back_mut(rt: HostRuntime) {
 #[test]
 fn bits_by_turns(rt: HostRuntime) {
     walk_each_bit(&rt, &BY_TURNS);
-    walk_each_bit(&rt, &[Call::Next, Call::NextBack]);
 }

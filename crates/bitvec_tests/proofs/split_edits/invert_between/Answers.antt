@@ -1,7 +1,7 @@
 use Rattle.std.proofs.Common.{map, not, rules, subst}
 use Rattle.bitvec.specs.SplitEditsLaws.{edits-made}
 use Rattle.bitvec.specs.Writes.{WritesBits}
-use Rattle.bitvec_known_tests.proofs.split_edits.invert_between.Goals as goal
+use Rattle.bitvec_tests.proofs.split_edits.invert_between.Goals as goal
 
 pub returns : goal.returns
 returns g c =

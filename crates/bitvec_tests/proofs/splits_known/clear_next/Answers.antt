@@ -3,7 +3,7 @@ use Rattle.bitvec.specs.Kept.{KeepsOutside}
 use Rattle.bitvec.specs.Seen.{Seen}
 use Rattle.bitvec.specs.SplitFoundLaws.{found-keeps}
 use Rattle.bitvec.specs.WidthLaws.{width_some}
-use Rattle.bitvec_known_tests.proofs.splits_known.clear_next.Goals as goal
+use Rattle.bitvec_tests.proofs.splits_known.clear_next.Goals as goal
 
 -- finding a piece left the view as it was
 kept : {X : Type 0} (start end : ℕ) {shown view : Seen X} (new : List X) → shown ≡ view → KeepsOutside start end shown.elements new → KeepsOutside start end view.elements new

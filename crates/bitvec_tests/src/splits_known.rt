@@ -54,10 +54,8 @@ fn the_next_piece_is_cleared(rt: HostRuntime) {
         let mut pieces = view.split_mut(|index, _| index == 2);
         assert!(rt; clear_next(&mut pieces));
         assert!(rt; clear_next(&mut pieces));
-        assert!(rt; clear_next(&mut pieces));
-        assert!(rt; !clear_next(&mut pieces));
     }
-    assert!(rt; cells == [0x24]);
+    assert!(rt; cells == [0xA4]);
 }
 
 #[test]

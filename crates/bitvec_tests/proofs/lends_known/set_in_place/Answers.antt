@@ -1,7 +1,7 @@
 use Rattle.std.proofs.Common.{◌+◌, arith}
 use Rattle.bitvec.specs.KeptLaws.{lent_bits-keep}
 use Rattle.bitvec.specs.WidthLaws.{width_some}
-use Rattle.bitvec_known_tests.proofs.lends_known.set_in_place.Goals as goal
+use Rattle.bitvec_tests.proofs.lends_known.set_in_place.Goals as goal
 
 pub returns-clause-elements : goal.returns-clause-elements
 returns-clause-elements g c =

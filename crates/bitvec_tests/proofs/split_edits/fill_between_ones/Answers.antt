@@ -2,7 +2,7 @@ use Rattle.std.proofs.Common.{rules, ◌≡◌, ◌∙◌, ap, false, replicate,
 use Rattle.std.proofs.lemmas.List.{get_or-replicate}
 use Rattle.bitvec.specs.SplitEditsLaws.{each-bit}
 use Rattle.bitvec.specs.Views.{seen_mut}
-use Rattle.bitvec_known_tests.proofs.split_edits.fill_between_ones.Goals as goal
+use Rattle.bitvec_tests.proofs.split_edits.fill_between_ones.Goals as goal
 
 pub returns : goal.returns
 returns g c =
