@@ -25,15 +25,19 @@ fn copy_in_steps<O: ByWords, C: Cells, D: CellsRead<Elem = C::Elem>>(
     O::block_copy::<C, D>(left, to, right, from);
 }
 
-// A copy of 130 bits: three steps, of at most nine bytes each.
-#[test]
-fn a_copy_goes_in_steps(rt: HostRuntime) {
+/// Whether a copy of 130 bits takes three steps at most, of at most nine bytes each.
+fn takes_three_steps<O: ByWords>() -> bool {
     let mut zeros = [0u8; 18];
     let ones = [0xFFu8; 18];
     let mut left = Counted::new(Exclusive::new(&mut zeros));
     let mut right = Counted::new(Shared::new(&ones));
     let to = Window { start: 5, len: 130 };
     let from = Window { start: 3, len: 130 };
-    copy_in_steps::<Msb0, _, _>(&mut left, to, &mut right, from);
-    assert!(rt; left.loads() <= 6 && left.stores() <= 27 && right.loads() <= 27);
+    copy_in_steps::<O, _, _>(&mut left, to, &mut right, from);
+    left.loads() <= 6 && left.stores() <= 27 && right.loads() <= 27
+}
+
+#[test]
+fn a_copy_goes_in_steps(rt: HostRuntime) {
+    assert!(rt; takes_three_steps::<Msb0>());
 }

@@ -1,59 +1,31 @@
-//! Searches of windows of zeros but for one element: what is found, and that no element is loaded twice.
+//! Searches of windows of zeros but for one 1: where it is found, and that no element is loaded twice.
 use bitvec_engine::SliceOrder;
 use bitvec_engine::base::{HiLo, Lsb0, Msb0, Window};
 use bitvec_engine::cells::{Shared, has_window};
 use bitvec_engine::store::BitStore;
 use bitvec_test_support::Counted;
 
-/// The first 1 of a window and the loads that it took to find it, if the elements have the window.
-fn first_one<T: BitStore, O: SliceOrder>(
-    elements: &[T],
-    window: Window,
-) -> Option<(Option<usize>, u64)> {
+/// Whether the first 1 of the bits 3 up to 703 is at this index of them, and no element is loaded twice.
+fn finds<T: BitStore, O: SliceOrder>(elements: &[T], index: usize) -> bool {
+    let window = Window { start: 3, len: 700 };
     let mut cells = Counted::new(Shared::new(elements));
-    if has_window(&cells, window) {
-        let found = O::search_first::<Counted<Shared<T>>>(&mut cells, window, true);
-        Some((found, cells.loads()))
-    } else {
-        None
-    }
-}
-
-/// Makes all bits of an element 1, or 0.
-fn put<T: BitStore>(elements: &mut [T], index: usize, bit: bool) {
-    if let Some(element) = elements.get_mut(index) {
-        *element = if bit { T::ALL } else { T::ZERO };
-    }
-}
-
-/// Whether searches from bit 3 of the first element up to bit 5 of the last one find the ones of each
-/// element in turn, and load no element twice. All elements are 0 before and after.
-fn finds_each_element<T: BitStore, O: SliceOrder>(elements: &mut [T]) -> bool {
-    let width = T::BITS as usize;
-    let count = elements.len();
-    if count < 2 || count > 100 {
-        return false;
-    }
-    let window = Window {
-        start: 3,
-        len: (count - 1) * width + 2,
-    };
-    for index in 0..count {
-        put(elements, index, true);
-        let place = (index * width).saturating_sub(3);
-        match first_one::<T, O>(elements, window) {
-            Some((found, loads)) if found == Some(place) && loads <= count as u64 => {}
-            _ => return false,
-        }
-        put(elements, index, false);
-    }
-    true
+    has_window(&cells, window)
+        && O::search_first::<Counted<Shared<T>>>(&mut cells, window, true) == Some(index)
+        && cells.loads() <= elements.len() as u64
 }
 
 #[test]
-fn each_element_is_found(rt: HostRuntime) {
-    assert!(rt; finds_each_element::<u8, Lsb0>(&mut [0; 89]));
-    assert!(rt; finds_each_element::<u16, HiLo>(&mut [0; 45]));
-    assert!(rt; finds_each_element::<u64, Msb0>(&mut [0; 12]));
-    assert!(rt; finds_each_element::<u128, Lsb0>(&mut [0; 6]));
+fn a_search_loads_no_element_twice(rt: HostRuntime) {
+    let mut bytes = [0u8; 88];
+    bytes[70] = 0x10;
+    assert!(rt; finds::<u8, Lsb0>(&bytes, 561));
+    let mut halves = [0u16; 44];
+    halves[20] = 0x0001;
+    assert!(rt; finds::<u16, HiLo>(&halves, 321));
+    let mut words = [0u64; 11];
+    words[10] = 1 << 62;
+    assert!(rt; finds::<u64, Msb0>(&words, 638));
+    let mut wide = [0u128; 6];
+    wide[5] = 1;
+    assert!(rt; finds::<u128, Lsb0>(&wide, 637));
 }
