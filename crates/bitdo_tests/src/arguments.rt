@@ -1,5 +1,5 @@
 //! The words after the program's name.
-use crate::support::{expect, status};
+use crate::support::expect;
 
 #[test]
 fn memories_have_digits_in_either_case(rt: HostRuntime) {
@@ -50,18 +50,4 @@ fn other_words_are_bad(rt: HostRuntime) {
     ] {
         expect(&rt, args, "no line\n", 2, "bad arguments\n");
     }
-}
-
-#[test]
-fn no_words_are_bad(rt: HostRuntime) {
-    let args: Vec<String> = Vec::new(rt.alloc());
-    let mut output = Vec::new(rt.alloc());
-    let ended = status(
-        rt.alloc(),
-        args.as_slice(),
-        &mut b"".as_slice(),
-        &mut output,
-    );
-    assert!(rt; ended == 2);
-    assert!(rt; output.as_slice() == b"bad arguments\n".as_slice());
 }

@@ -1,5 +1,5 @@
-//! Readers and writers that give little or fail, and want of memory.
-use crate::support::{add_lines, expect_read, least_requests, status, words};
+//! Readers and writers that give little or fail.
+use crate::support::{expect_read, status, words};
 use bitvec_test_support::{FailingReader, FailingWriter, OneByteReader};
 use std::alloc::Global;
 use std::io::ErrorKind;
@@ -14,16 +14,6 @@ const PRINTED: &[u8] = b"bit 1\ncount 2\ndone\n= 81,02\n";
 #[test]
 fn a_byte_a_read_is_enough(rt: HostRuntime) {
     expect_read(&rt, ARGS, &mut OneByteReader::new(INPUT), 0, PRINTED);
-}
-
-#[test]
-fn many_chunks_are_one_input(rt: HostRuntime) {
-    let mut input = Vec::new(rt.alloc());
-    let mut printed = Vec::new(rt.alloc());
-    assert!(rt; add_lines(&mut input, b"0 16 count_ones\n", 500));
-    assert!(rt; add_lines(&mut printed, b"count 2\n", 500));
-    assert!(rt; add_lines(&mut printed, b"= 01,02\n", 1));
-    expect_read(&rt, ARGS, &mut input.as_slice(), 0, printed.as_slice());
 }
 
 #[test]
@@ -67,10 +57,7 @@ fn a_character_may_be_cut_by_reads(rt: HostRuntime) {
 /// Whether a run with that output ends with status 1.
 fn ends_with_1(alloc: Global, args: &str, input: &[u8], output: &mut FailingWriter) -> bool {
     let mut input = input;
-    match words(alloc, args) {
-        Ok(args) => status(alloc, args.as_slice(), &mut input, output) == 1,
-        Err(_) => false,
-    }
+    status(alloc, words(alloc, args).as_slice(), &mut input, output) == 1
 }
 
 /// Asserts the status of a run whose output fails behind each of its first so many bytes.
@@ -89,10 +76,4 @@ fn an_output_that_fails_is_status_1(rt: HostRuntime) {
     expect_failed_output(&rt, ARGS, INPUT, PRINTED.len());
     expect_failed_output(&rt, ARGS, b"no line", "bad line 1\n".len());
     expect_failed_output(&rt, "8 lsb0 0 - 0 8", b"", "bad arguments\n".len());
-}
-
-#[test]
-fn want_of_memory_is_told_at_each_request(rt: HostRuntime) {
-    // One at least for each memory, the input, the steps and the replies.
-    assert!(rt; least_requests(&rt, ARGS, INPUT, PRINTED) >= Some(5));
 }

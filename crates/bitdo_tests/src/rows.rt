@@ -40,6 +40,12 @@ fn a_run_prints_its_replies_and_the_memory(rt: HostRuntime) {
             "count 0\n= 00,00\n",
         ),
         ("8 lsb0 00 FF,00 0 8", "", 0, "= 00\n"),
+        (
+            "128 msb0 00000000000000000000000000000000 - 0 128",
+            "0 4 fill 1\n",
+            0,
+            "done\n= F0000000000000000000000000000000\n",
+        ),
     ] {
         expect(&rt, args, input, status, printed);
     }
@@ -84,13 +90,6 @@ fn each_width_has_each_order(rt: HostRuntime) {
     ] {
         expect(&rt, args, "0 8 set 0 1", 0, printed);
     }
-}
-
-#[test]
-fn an_element_of_two_words_is_filled_from_its_high_end(rt: HostRuntime) {
-    let filled = "done\n= F0000000000000000000000000000000\n";
-    let args = "128 msb0 00000000000000000000000000000000 - 0 128";
-    expect(&rt, args, "0 4 fill 1", 0, filled);
 }
 
 #[test]

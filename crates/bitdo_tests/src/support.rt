@@ -1,17 +1,27 @@
 //! A call of `work` on plain texts.
 use bitdo_work::work;
 use bitvec_test_support::Refusing;
-use std::alloc::{AllocError, Allocator, Global};
+use std::alloc::{Allocator, Global};
 use std::io::{Read, Write};
 use std::process::Abort;
 
-/// The words of a text, cut at each space.
-pub(crate) fn words(alloc: Global, text: &str) -> Result<Vec<String>, AllocError> {
+/// Adds a word to a list. The answer is whether there was memory.
+fn add_word(alloc: Global, words: &mut Vec<String>, word: &str) -> bool {
+    match String::from_str(alloc, word) {
+        Ok(word) => words.push(word).is_ok(),
+        Err(_) => false,
+    }
+}
+
+/// The words of a text, cut at each space, as far as there is memory.
+pub(crate) fn words(alloc: Global, text: &str) -> Vec<String> {
     let mut words = Vec::new(alloc);
     for word in text.split(' ') {
-        words.push(String::from_str(alloc, word)?)?;
+        if !add_word(alloc, &mut words, word) {
+            return words;
+        }
     }
-    Ok(words)
+    words
 }
 
 /// The program's work, and the status that it ends with.
@@ -26,14 +36,9 @@ pub(crate) fn status<A: Allocator + Clone + Drop, R: Read, W: Write>(
 
 /// Whether `work` prints so on these arguments and this input, and ends with that status.
 fn works<I: Read>(alloc: Global, args: &str, input: &mut I, ended: u8, printed: &[u8]) -> bool {
-    match words(alloc, args) {
-        Ok(args) => {
-            let mut output = Vec::new(alloc);
-            let got = status(alloc, args.as_slice(), input, &mut output);
-            got == ended && output.as_slice() == printed
-        }
-        Err(_) => false,
-    }
+    let args = words(alloc, args);
+    let mut output = Vec::new(alloc);
+    status(alloc, args.as_slice(), input, &mut output) == ended && output.as_slice() == printed
 }
 
 /// Asserts what `work` prints on these arguments and this reader's input, and its status.
@@ -60,28 +65,6 @@ pub(crate) fn expect<R: Abort + AllocGlobal>(
         works(rt.alloc(), args, &mut bytes, ended, printed.as_bytes()),
         "{args} on {input:?}"
     );
-}
-
-/// Adds a line to a text. The answer is whether there was memory.
-fn add_line(text: &mut String, line: &str) -> bool {
-    text.push_str(line).is_ok() && text.push('\n').is_ok()
-}
-
-/// Asserts that the lines of one run are answered so, and that it leaves this memory.
-pub(crate) fn expect_run<R: Abort + AllocGlobal>(
-    rt: &R,
-    args: &str,
-    lines: &[(&str, &str)],
-    memory: &str,
-) {
-    let mut input = String::new(rt.alloc());
-    let mut printed = String::new(rt.alloc());
-    let mut is_made = true;
-    for (line, reply) in lines {
-        is_made &= add_line(&mut input, line) && add_line(&mut printed, reply);
-    }
-    assert!(rt; is_made && add_line(&mut printed, memory));
-    expect(rt, args, input.as_str(), 0, printed.as_str());
 }
 
 /// Adds a line to a text so many times. The answer is whether there was memory.
@@ -125,15 +108,11 @@ pub(crate) fn least_requests<R: Abort + AllocGlobal>(
     input: &[u8],
     printed: &[u8],
 ) -> Option<u64> {
-    match words(rt.alloc(), args) {
-        Ok(args) => {
-            for requests in 0..100 {
-                if is_enough(rt, args.as_slice(), input, requests, printed) {
-                    return Some(requests);
-                }
-            }
-            None
+    let args = words(rt.alloc(), args);
+    for requests in 0..100 {
+        if is_enough(rt, args.as_slice(), input, requests, printed) {
+            return Some(requests);
         }
-        Err(_) => None,
     }
+    None
 }

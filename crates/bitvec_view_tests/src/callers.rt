@@ -1,6 +1,6 @@
-//! Callers of a split and of owned sequences, with contracts of their own.
-ghost use Rattle.std.specs.Prelude.{◌≡◌, IfOk, count_by, false, find, map, not, reverse, slice_index_or, unwrap_or};
-ghost use Rattle.bitvec_owned.specs.query.slice.Views.{seen};
+//! Callers of views, of a split and of owned sequences, with contracts of their own.
+ghost use Rattle.std.specs.Prelude.{◌≡◌, ◌<◌, ◌≤◌, ◌↔◌, IfOk, IfSome, IsSome, count_by, false, find, map, not, reverse, slice_index_or, slice_range, unwrap_or};
+ghost use Rattle.bitvec_owned.specs.query.slice.Views.{seen, seen_mut};
 ghost use Rattle.bitvec_owned.specs.Copies.{Holds, copy_start};
 ghost use Rattle.bitvec_owned.specs.Owned.{owned};
 ghost use Rattle.bitvec_split.specs.Asked.{upward};
@@ -9,7 +9,7 @@ use bitvec_owned::edit::BitEdits;
 use bitvec_owned::query::BitQueries;
 use bitvec_owned::query::base::BitOrder;
 use bitvec_owned::query::engine::SliceOrder;
-use bitvec_owned::query::slice::BitSlice;
+use bitvec_owned::query::slice::{BitSlice, BitSliceMut};
 use bitvec_owned::query::store::BitStore;
 use bitvec_owned::{BitVec, ToBitVec};
 use bitvec_split::SplitCalls;
@@ -50,6 +50,51 @@ pub fn backwards<T: BitStore, O: SliceOrder>(
     let mut copy = view.to_bitvec(alloc)?;
     copy.reverse();
     Ok(copy)
+}
+
+/// How many of the bits before an index are 1, if the view has such.
+pub fn ones_before<T: BitStore, O: SliceOrder>(
+    view: BitSlice<'_, T, O>,
+    index: usize,
+) -> Option<usize>
+    ensures some { IsSome result ↔ index ≤ (seen view.entry).window.len }
+    ensures value { IfSome result
+        (λ count. count ≡ count_by (λ bit. bit) (slice_range (seen view.entry).bits 0 index)) }
+{
+    match view.get(..index) {
+        Some(part) => Some(part.count_ones()),
+        None => None,
+    }
+}
+
+/// The bit at an index of a writable view, read through a reference that could write it.
+pub fn bit_at<T: BitStore, O: BitOrder>(
+    view: &mut BitSliceMut<'_, T, O>,
+    index: usize,
+) -> Option<bool>
+    ensures some { IsSome result ↔ index < (seen_mut view.old).window.len }
+    ensures value { IfSome result (λ bit. bit ≡ slice_index_or (seen_mut view.old).bits index false) }
+{
+    match view.get_mut(index) {
+        Some(bit) => Some(*bit),
+        None => None,
+    }
+}
+
+/// Fills the bits before an index, and gives how many the view has, which stays.
+pub fn fill_before<T: BitStore, O: SliceOrder>(
+    view: &mut BitSliceMut<'_, T, O>,
+    index: usize,
+) -> usize
+    requires { index ≤ (seen_mut view.old).window.len }
+    ensures value { result ≡ (seen_mut view.old).window.len }
+    ensures window { (seen_mut view.new).window ≡ (seen_mut view.old).window }
+{
+    {
+        let mut front = view.part_mut(0..index);
+        front.fill(true);
+    }
+    view.len()
 }
 
 #[cfg(test)]

@@ -1,9 +1,9 @@
 //! The first and the last bit of a view.
-use bitvec_query::BitQueries;
-use bitvec_query::base::{BitOrder, Lsb0, Msb0};
-use bitvec_query::engine::SliceOrder;
-use bitvec_query::slice::{BitRef, BitSlice, BitSliceMut};
-use bitvec_query::store::BitStore;
+use bitvec_owned::query::BitQueries;
+use bitvec_owned::query::base::{BitOrder, Lsb0, Msb0};
+use bitvec_owned::query::engine::SliceOrder;
+use bitvec_owned::query::slice::{BitRef, BitSlice, BitSliceMut};
+use bitvec_owned::query::store::BitStore;
 
 /// The bit that is referred to, if one is.
 fn read<T: BitStore, O: BitOrder>(bit: Option<BitRef<'_, T, O>>) -> Option<bool> {

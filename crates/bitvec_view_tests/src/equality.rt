@@ -1,12 +1,12 @@
 //! `==` of views of one type.
 ghost use Rattle.std.specs.Prelude.{◌≡◌};
-ghost use Rattle.bitvec_query.specs.base.Lists.{same_bits};
-ghost use Rattle.bitvec_query.specs.slice.Views.{seen};
+ghost use Rattle.bitvec_owned.specs.query.base.Lists.{same_bits};
+ghost use Rattle.bitvec_owned.specs.query.slice.Views.{seen};
 
-use bitvec_query::base::{Lsb0, Msb0};
-use bitvec_query::engine::SliceOrder;
-use bitvec_query::slice::BitSlice;
-use bitvec_query::store::BitStore;
+use bitvec_owned::query::base::{Lsb0, Msb0};
+use bitvec_owned::query::engine::SliceOrder;
+use bitvec_owned::query::slice::BitSlice;
+use bitvec_owned::query::store::BitStore;
 use std::test::Fail;
 
 /// Whether two views have the same bits, whatever lifetimes they have.

@@ -2,9 +2,9 @@
 //! of which kind a domain is.
 ghost use Rattle.std.specs.Prelude.{◌≤◌};
 
-use bitvec_edit::reference::BitRefMut;
-use bitvec_query::base::{Lsb0, Msb0};
-use bitvec_query::slice::{BitSlice, BitSliceMut};
+use bitvec_owned::edit::reference::BitRefMut;
+use bitvec_owned::query::base::{Lsb0, Msb0};
+use bitvec_owned::query::slice::{BitSlice, BitSliceMut};
 use bitvec_test_support::{prints, shows};
 use std::alloc::{AllocError, Global};
 

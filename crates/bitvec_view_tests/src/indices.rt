@@ -1,15 +1,15 @@
 //! Indices and ranges of indices of a view.
 ghost use Rattle.std.specs.Prelude.{◌*◌, ◌≤◌, length};
-ghost use Rattle.bitvec_query.specs.base.Window.{max_bits};
-ghost use Rattle.bitvec_query.specs.slice.Views.{seen_mut};
+ghost use Rattle.bitvec_owned.specs.query.base.Window.{max_bits};
+ghost use Rattle.bitvec_owned.specs.query.slice.Views.{seen_mut};
 
 use crate::callers::fill_before;
-use bitvec_edit::BitEdits;
-use bitvec_query::BitQueries;
-use bitvec_query::base::{BitOrder, Lsb0, Window};
-use bitvec_query::engine::SliceOrder;
-use bitvec_query::slice::{BitSlice, BitSliceIndex, BitSliceMut, Viewed, ViewedMut};
-use bitvec_query::store::BitStore;
+use bitvec_owned::edit::BitEdits;
+use bitvec_owned::query::BitQueries;
+use bitvec_owned::query::base::{BitOrder, Lsb0, Window};
+use bitvec_owned::query::engine::SliceOrder;
+use bitvec_owned::query::slice::{BitSlice, BitSliceIndex, BitSliceMut, Viewed, ViewedMut};
+use bitvec_owned::query::store::BitStore;
 
 /// How many bits a range has, and how many of them are 1.
 pub(crate) fn counts<T: BitStore, O: SliceOrder>(

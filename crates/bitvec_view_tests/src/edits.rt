@@ -1,13 +1,13 @@
 //! Edits of views: what a user does, and what the user's elements are afterwards.
 ghost use Rattle.std.specs.Prelude.{◌*◌, ◌≤◌, length};
-ghost use Rattle.bitvec_query.specs.base.Window.{max_bits};
+ghost use Rattle.bitvec_owned.specs.query.base.Window.{max_bits};
 
-use bitvec_edit::BitEdits;
-use bitvec_query::BitQueries;
-use bitvec_query::base::{HiLo, Lsb0, Msb0};
-use bitvec_query::engine::SliceOrder;
-use bitvec_query::slice::{BitSlice, BitSliceMut};
-use bitvec_query::store::BitStore;
+use bitvec_owned::edit::BitEdits;
+use bitvec_owned::query::BitQueries;
+use bitvec_owned::query::base::{HiLo, Lsb0, Msb0};
+use bitvec_owned::query::engine::SliceOrder;
+use bitvec_owned::query::slice::{BitSlice, BitSliceMut};
+use bitvec_owned::query::store::BitStore;
 
 /// Makes the bits `from` up to `to` all `bit`, if the elements have them.
 pub fn fill_range<T: BitStore, O: SliceOrder>(

@@ -1,13 +1,13 @@
 //! Views that are made of no element, of one, and of slices of any length.
-ghost use Rattle.bitvec_query.specs.slice.Seen.{CoversElements};
-ghost use Rattle.bitvec_query.specs.slice.Views.{seen, seen_mut};
+ghost use Rattle.bitvec_owned.specs.query.slice.Seen.{CoversElements};
+ghost use Rattle.bitvec_owned.specs.query.slice.Views.{seen, seen_mut};
 
-use bitvec_edit::BitEdits;
-use bitvec_query::BitQueries;
-use bitvec_query::base::{BitOrder, HiLo, Lsb0, Msb0};
-use bitvec_query::engine::SliceOrder;
-use bitvec_query::slice::{BitSlice, BitSliceMut, from_mut, from_ref};
-use bitvec_query::store::BitStore;
+use bitvec_owned::edit::BitEdits;
+use bitvec_owned::query::BitQueries;
+use bitvec_owned::query::base::{BitOrder, HiLo, Lsb0, Msb0};
+use bitvec_owned::query::engine::SliceOrder;
+use bitvec_owned::query::slice::{BitSlice, BitSliceMut, from_mut, from_ref};
+use bitvec_owned::query::store::BitStore;
 
 /// How many bits a view has, and how many elements.
 fn sizes<T: BitStore, O: BitOrder>(view: BitSlice<'_, T, O>) -> (usize, usize)

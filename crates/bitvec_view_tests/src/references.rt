@@ -1,10 +1,10 @@
 //! References to one bit: what they read, and what they write.
 ghost use Rattle.std.specs.Prelude.{◌*◌, ◌≤◌, length};
-ghost use Rattle.bitvec_query.specs.base.Window.{max_bits};
+ghost use Rattle.bitvec_owned.specs.query.base.Window.{max_bits};
 
-use bitvec_query::base::{BitOrder, Lsb0};
-use bitvec_query::slice::{BitRef, BitSlice, BitSliceMut};
-use bitvec_query::store::BitStore;
+use bitvec_owned::query::base::{BitOrder, Lsb0};
+use bitvec_owned::query::slice::{BitRef, BitSlice, BitSliceMut};
+use bitvec_owned::query::store::BitStore;
 
 /// Writes the bit at an index to 1, to 0 and to 1 again, if the elements have it: gives the bit
 /// before the first write, and those after the first and the second.

@@ -1,10 +1,10 @@
 //! Each kind of range of a view: whether it is there, and what bits it has.
 use crate::indices::counts;
-use bitvec_query::BitQueries;
-use bitvec_query::base::Lsb0;
-use bitvec_query::engine::SliceOrder;
-use bitvec_query::slice::{BitSlice, BitSliceIndex};
-use bitvec_query::store::BitStore;
+use bitvec_owned::query::BitQueries;
+use bitvec_owned::query::base::Lsb0;
+use bitvec_owned::query::engine::SliceOrder;
+use bitvec_owned::query::slice::{BitSlice, BitSliceIndex};
+use bitvec_owned::query::store::BitStore;
 use std::test::Fail;
 
 /// The view 0, 1, 0, 0, 1 of a byte.
@@ -44,7 +44,10 @@ fn each_kind_of_range_by_get(rt: HostRuntime) {
         (4, 0, usize::MAX, None),
         (5, 0, 0, Some((5, 2))),
     ] {
-        assert!(rt; counts_of(kind, first, end) == found, "{kind} {first} {end}");
+        assert!(rt;
+            counts_of(kind, first, end) == found,
+            "{kind} {first} {end}"
+        );
     }
 }
 
