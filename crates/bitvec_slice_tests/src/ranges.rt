@@ -32,9 +32,12 @@ fn each_kind_of_range_by_get(rt: HostRuntime) {
         (0, 5, 5, Some((0, 0))),
         (0, 1, 4, Some((3, 1))),
         (0, 4, 6, None),
+        (0, 10, 12, None),
         (0, 4, 3, None),
         (1, 1, 4, Some((4, 2))),
+        (1, 1, 2, Some((2, 1))),
         (1, 5, 5, None),
+        (1, 2, 1, None),
         (1, 0, usize::MAX, None),
         (2, 2, 0, Some((3, 1))),
         (2, 6, 0, None),
@@ -44,7 +47,10 @@ fn each_kind_of_range_by_get(rt: HostRuntime) {
         (4, 0, usize::MAX, None),
         (5, 0, 0, Some((5, 2))),
     ] {
-        assert!(rt; counts_of(kind, first, end) == found, "{kind} {first} {end}");
+        assert!(rt;
+            counts_of(kind, first, end) == found,
+            "{kind} {first} {end}"
+        );
     }
 }
 

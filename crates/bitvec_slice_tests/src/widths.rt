@@ -7,8 +7,7 @@ use bitvec_query::store::BitStore;
 
 /// Fills three elements' bits from 5 on but the last 3; in what it lends of that, sets the first
 /// bit and inverts the second element; and clears bit 6 of all. Of other lengths it touches none.
-pub fn edit_twice<T: BitStore, O: SliceOrder>(elements: &mut [T])
-{
+pub fn edit_twice<T: BitStore, O: SliceOrder>(elements: &mut [T]) {
     let bits = T::BITS as usize;
     let mut view = match BitSliceMut::<T, O>::try_from_slice_mut(elements) {
         Ok(view) => view,

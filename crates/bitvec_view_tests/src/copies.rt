@@ -43,7 +43,14 @@ fn bits_around_a_copy_are_zero(rt: HostRuntime) {
     let mut bytes = [0xB4u8, 0x6E];
     assert!(rt; holds::<Lsb0>(middle(rt.alloc(), &bytes), 4, 8, &[0xB0, 0x0E]));
     assert!(rt; holds::<Msb0>(middle(rt.alloc(), &bytes), 4, 8, &[0x04, 0x60]));
-    assert!(rt; holds(middle_of_writable(rt.alloc(), &mut bytes), 4, 8, &[0xB0, 0x0E]));
+    assert!(rt;
+        holds(
+            middle_of_writable(rt.alloc(), &mut bytes),
+            4,
+            8,
+            &[0xB0, 0x0E]
+        )
+    );
 }
 
 /// Whether a copy was made, and its elements are zero after an and with no bits.
