@@ -15,14 +15,20 @@ const THREE: [Window; 3] = [
 
 #[test]
 fn three_fields_from_both_ends(rt: HostRuntime) {
-    for (endian, bytes) in [(Endian::Big, [0xB5, 0x61]), (Endian::Little, [0xB5, 0xA1])] {
+    let [first, second, third] = THREE;
+    let turned = [third, first, second];
+    for (endian, fields, values, bytes) in [
+        (Endian::Big, THREE, [5, 85, 33], [0xB5, 0x61]),
+        (Endian::Little, THREE, [5, 85, 33], [0xB5, 0xA1]),
+        (Endian::Big, turned, [33, 5, 85], [0xB5, 0x61]),
+    ] {
         let mut numbers = [0u128; 3];
         let mut cells = [0u8; 2];
         let mut view = BitSliceMut::<u8, Msb0>::from_slice_mut(&mut cells);
-        assert!(rt; encodes(rt.alloc(), endian, &THREE, &[5, 85, 33], &mut view));
-        assert!(rt; decodes(rt.alloc(), endian, &THREE, view.as_ref(), &mut numbers));
+        assert!(rt; encodes(rt.alloc(), endian, &fields, &values, &mut view));
+        assert!(rt; decodes(rt.alloc(), endian, &fields, view.as_ref(), &mut numbers));
         assert!(rt; cells == bytes);
-        assert!(rt; numbers == [5, 85, 33]);
+        assert!(rt; numbers == values);
     }
 }
 
@@ -39,12 +45,15 @@ fn bits_around_a_record_stay(rt: HostRuntime) {
     let mut view = BitSliceMut::<u8, Msb0>::from_slice_mut(&mut bytes).into_part(5..20);
     assert!(rt; encodes(rt.alloc(), Endian::Big, &TURNED, &[1, 2, 0], &mut view));
     assert!(rt; bytes == [0xFD, 0x00, 0x3F]);
+    let mut bytes = [0xFFu8; 3];
+    let mut view = BitSliceMut::<u8, Msb0>::from_slice_mut(&mut bytes).into_part(4..20);
+    assert!(rt; encodes(rt.alloc(), Endian::Big, &THREE, &[5, 85, 33], &mut view));
+    assert!(rt; bytes == [0xFB, 0x56, 0x1F]);
 }
 
 /// Why the values of three fields are refused.
-fn refusal_of(alloc: Global, values: &[u128]) -> Option<EncodeError> {
-    let mut bytes = [0u8; 2];
-    let mut view = BitSliceMut::<u8, Msb0>::from_slice_mut(&mut bytes);
+fn refusal_of(alloc: Global, values: &[u128], bytes: &mut [u8; 2]) -> Option<EncodeError> {
+    let mut view = BitSliceMut::<u8, Msb0>::from_slice_mut(bytes);
     match Layout::new(alloc, view.len(), &THREE) {
         Ok(layout) => encode(&layout, Endian::Big, values, &mut view).err(),
         Err(_) => None,
@@ -53,33 +62,32 @@ fn refusal_of(alloc: Global, values: &[u128]) -> Option<EncodeError> {
 
 #[test]
 fn values_are_refused(rt: HostRuntime) {
-    assert!(rt; refusal_of(rt.alloc(), &[5, 128, 33]) == Some(EncodeError::Range(1)));
-    assert!(rt; refusal_of(rt.alloc(), &[5, 85]) == Some(EncodeError::Count));
-}
-
-/// Why there is no layout of 16 bits of two fields.
-fn refusal(alloc: Global, first: (usize, usize), second: (usize, usize)) -> Option<LayoutError> {
-    let fields = [
-        Window {
-            start: first.0,
-            len: first.1,
-        },
-        Window {
-            start: second.0,
-            len: second.1,
-        },
-    ];
-    Layout::new(alloc, 16, &fields).err()
+    let mut bytes = [0xA5u8, 0x5A];
+    let range = refusal_of(rt.alloc(), &[5, 128, 33], &mut bytes);
+    assert!(rt; range == Some(EncodeError::Range(1)));
+    let count = refusal_of(rt.alloc(), &[5, 85], &mut bytes);
+    assert!(rt; count == Some(EncodeError::Count));
+    assert!(rt; bytes == [0xA5, 0x5A]);
 }
 
 #[test]
 fn fields_are_refused_in_order(rt: HostRuntime) {
-    for (first, second, why) in [
-        ((10, 7), (0, 0), LayoutError::Width(1)),
-        ((usize::MAX, 1), (0, 3), LayoutError::Outside(0)),
-        ((0, 3), (2, 4), LayoutError::Overlap(0, 1)),
+    let wide = [Window { start: 10, len: 7 }, Window { start: 0, len: 0 }];
+    let far = [Window {
+        start: usize::MAX,
+        len: 1,
+    }];
+    let touching = [
+        Window { start: 0, len: 3 },
+        Window { start: 2, len: 4 },
+        Window { start: 5, len: 3 },
+    ];
+    for (fields, why) in [
+        (wide.as_slice(), LayoutError::Width(1)),
+        (far.as_slice(), LayoutError::Outside(0)),
+        (touching.as_slice(), LayoutError::Overlap(0, 1)),
     ] {
-        assert!(rt; refusal(rt.alloc(), first, second) == Some(why));
+        assert!(rt; Layout::new(rt.alloc(), 16, fields).err() == Some(why));
     }
 }
 

@@ -5,25 +5,44 @@ use bitvec_edit::BitEdits;
 use bitvec_edit::base::Lsb0;
 use bitvec_edit::slice::BitSliceMut;
 
-/// Moves the first five bits by rotations, an exchange of two, a reversal, a copy and shifts.
-fn move_five(bytes: &mut [u8; 1]) {
+/// Edits the first five bits, by one call a number.
+fn edit_five(bytes: &mut [u8; 1], kind: usize) {
     let mut five = BitSliceMut::<u8, Lsb0>::from_slice_mut(bytes).into_part(0..5);
-    five.rotate_left(2);
-    five.rotate_right(1);
-    five.swap(0, 4);
-    five.reverse();
-    five.copy_within(0..3, 2);
-    five.shift_end(1);
-    five.shift_start(2);
+    match kind {
+        0 => five.rotate_left(2),
+        1 => five.rotate_right(2),
+        2 => five.copy_within(5..5, 5),
+        3 => five.swap(0, 4),
+        4 => five.part_mut(1..4).reverse(),
+        5 => five.shift_start(5),
+        6 => five.fill(true),
+        7 => five.fill_with(|index| index % 2 == 0),
+        8 => five.copy_within(1..5, 0),
+        _ => five.shift_end(1),
+    }
 }
 
-// The five are 0, 1, 0, 0, 1; then 0, 0, 1, 0, 1; 1, 0, 0, 1, 0; 0, 0, 0, 1, 1; 1, 1, 0, 0, 0; 1, 1, 1, 1, 0;
-// 0, 1, 1, 1, 1; and 1, 1, 1, 0, 0.
+/// The byte before each edit and after it: the last three bits stay.
+const FIVE_EDITED: [(u8, u8); 10] = [
+    (0xF2, 0xF4),
+    (0xF4, 0xF2),
+    (0xF2, 0xF2),
+    (0xF2, 0xE3),
+    (0xE3, 0xE9),
+    (0xF2, 0xE0),
+    (0xE0, 0xFF),
+    (0xFF, 0xF5),
+    (0xF5, 0xFA),
+    (0xFA, 0xF4),
+];
+
 #[test]
-fn five_bits_are_moved(rt: HostRuntime) {
-    let mut bytes = [0xF2u8];
-    move_five(&mut bytes);
-    assert!(rt; bytes == [0xE7]);
+fn five_bits_are_edited(rt: HostRuntime) {
+    for (kind, (before, after)) in FIVE_EDITED.into_iter().enumerate() {
+        let mut bytes = [before];
+        edit_five(&mut bytes, kind);
+        assert!(rt; bytes == [after], "{kind}");
+    }
 }
 
 /// Exchanges two ranges of the first five bits, and then replaces the second bit, which is given.

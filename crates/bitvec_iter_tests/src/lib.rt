@@ -7,6 +7,8 @@ mod bits;
 #[cfg(test)]
 mod callers;
 #[cfg(test)]
+mod chunks;
+#[cfg(test)]
 mod costs;
 #[cfg(test)]
 mod growth;

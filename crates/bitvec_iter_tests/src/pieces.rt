@@ -1,54 +1,150 @@
 //! Walks over the pieces of 0, 0, 0, 1, 0, 1, 1, 1, of which no two of one length above 2 are the same.
 
 use crate::reading::read;
-use bitvec_iter::IterCalls;
+use bitvec_iter::{Cutting, IterCalls, Pieces};
 use bitvec_query::base::Msb0;
 use bitvec_query::slice::{BitSlice, BitSliceMut};
 
+/// A call on a walk.
+#[derive(Clone, Copy)]
+enum Call {
+    Next,
+    Back,
+    Nth(usize),
+    NthBack(usize),
+}
+
+/// How many bits a piece has, and the number that they write.
+type Read = Option<(usize, u32)>;
+
+/// What four calls give; none if anything comes at ten more calls from either end, or is left.
+fn take_four<C: Cutting>(
+    mut pieces: Pieces<'_, u8, Msb0, C>,
+    calls: [Call; 4],
+) -> Option<[Read; 4]> {
+    let mut given = [None; 4];
+    for (piece, call) in given.iter_mut().zip(calls) {
+        *piece = read(match call {
+            Call::Next => pieces.next(),
+            Call::Back => pieces.next_back(),
+            Call::Nth(skipped) => pieces.nth(skipped),
+            Call::NthBack(skipped) => pieces.nth_back(skipped),
+        });
+    }
+    let mut ended = pieces.len() == 0;
+    for _ in 0..10 {
+        ended &= pieces.next().is_none() && pieces.next_back().is_none();
+    }
+    if ended { Some(given) } else { None }
+}
+
+/// How the bits are cut: the windows are of the first five.
+#[derive(Clone, Copy, Debug)]
+enum Kind {
+    Chunks,
+    ExactChunks,
+    BackChunks,
+    ExactBackChunks,
+    Windows,
+}
+
+/// What four calls give of the pieces of three bits.
+fn given(kind: Kind, calls: [Call; 4]) -> Option<[Read; 4]> {
+    let view = BitSlice::<u8, Msb0>::from_slice(&[0x17]);
+    match kind {
+        Kind::Chunks => take_four(view.chunks(3), calls),
+        Kind::ExactChunks => take_four(view.chunks_exact(3), calls),
+        Kind::BackChunks => take_four(view.rchunks(3), calls),
+        Kind::ExactBackChunks => take_four(view.rchunks_exact(3), calls),
+        Kind::Windows => take_four(view.into_part(0..5).windows(3), calls),
+    }
+}
+
+const FORWARD: [Call; 4] = [Call::Next, Call::Next, Call::Next, Call::Next];
+
+const BACK: [Call; 4] = [Call::NthBack(0), Call::Back, Call::Back, Call::Back];
+
+const FAR: [Call; 4] = [Call::Nth(usize::MAX), Call::Next, Call::Nth(0), Call::Back];
+
 #[test]
-fn both_ends_of_chunks(rt: HostRuntime) {
+fn pieces_from_both_ends(rt: HostRuntime) {
+    let second = [Call::Nth(1), Call::Back, Call::Next, Call::Back];
+    let last = [Call::NthBack(1), Call::Next, Call::Back, Call::Next];
+    for (kind, calls, wanted) in [
+        (
+            Kind::Chunks,
+            FORWARD,
+            [Some((3, 0)), Some((3, 5)), Some((2, 3)), None],
+        ),
+        (
+            Kind::Chunks,
+            BACK,
+            [Some((2, 3)), Some((3, 5)), Some((3, 0)), None],
+        ),
+        (
+            Kind::Chunks,
+            second,
+            [Some((3, 5)), Some((2, 3)), None, None],
+        ),
+        (
+            Kind::BackChunks,
+            FORWARD,
+            [Some((3, 7)), Some((3, 2)), Some((2, 0)), None],
+        ),
+        (
+            Kind::ExactBackChunks,
+            FORWARD,
+            [Some((3, 7)), Some((3, 2)), None, None],
+        ),
+        (
+            Kind::ExactBackChunks,
+            last,
+            [Some((3, 7)), None, None, None],
+        ),
+        (
+            Kind::Windows,
+            FORWARD,
+            [Some((3, 0)), Some((3, 1)), Some((3, 2)), None],
+        ),
+        (
+            Kind::Windows,
+            last,
+            [Some((3, 1)), Some((3, 0)), None, None],
+        ),
+        (Kind::Chunks, FAR, [None; 4]),
+        (Kind::ExactChunks, FAR, [None; 4]),
+        (Kind::BackChunks, FAR, [None; 4]),
+        (Kind::ExactBackChunks, FAR, [None; 4]),
+        (Kind::Windows, FAR, [None; 4]),
+    ] {
+        assert!(rt; given(kind, calls) == Some(wanted), "{kind:?}");
+    }
+}
+
+#[test]
+fn a_clone_walks_alone(rt: HostRuntime) {
     let cells = [0x17u8];
     let view = BitSlice::<u8, Msb0>::from_slice(&cells);
     let mut chunks = view.chunks(3);
-    assert!(rt; read(chunks.nth(1)) == Some((3, 5)));
-    assert!(rt; chunks.size_hint() == (1, Some(1)));
-    if let Ok(mut copy) = chunks.clone() {
-        assert!(rt; read(copy.next_back()) == Some((2, 3)));
+    assert!(rt; read(chunks.next()) == Some((3, 0)));
+    assert!(rt; chunks.size_hint() == (2, Some(2)));
+    match chunks.clone() {
+        Ok(copy) => {
+            let wanted = [Some((3, 5)), Some((2, 3)), None, None];
+            assert!(rt; take_four(copy, FORWARD) == Some(wanted));
+        }
+        Err(_) => assert!(rt; false),
     }
-    assert!(rt; read(chunks.next()) == Some((2, 3)));
-    assert!(rt; read(chunks.next_back()) == None);
+    assert!(rt; read(chunks.next()) == Some((3, 5)));
 }
 
 #[test]
-fn whole_chunks_from_the_end(rt: HostRuntime) {
-    let cells = [0x17u8];
-    let view = BitSlice::<u8, Msb0>::from_slice(&cells);
-    let mut chunks = view.rchunks_exact(3);
-    assert!(rt; read(chunks.nth_back(1)) == Some((3, 7)));
-    assert!(rt; read(Some(chunks.remainder())) == Some((2, 0)));
-}
-
-#[test]
-fn chunks_from_the_end(rt: HostRuntime) {
+fn what_no_piece_has(rt: HostRuntime) {
     let mut cells = [0x17u8];
     let view = BitSliceMut::<u8, Msb0>::from_slice_mut(&mut cells);
-    let mut chunks = view.rchunks(3);
-    assert!(rt; read(chunks.next()) == Some((3, 7)));
-}
-
-#[test]
-fn whole_chunks(rt: HostRuntime) {
-    let mut cells = [0x17u8];
-    let view = BitSliceMut::<u8, Msb0>::from_slice_mut(&mut cells);
+    assert!(rt; read(Some(view.rchunks_exact(3).remainder())) == Some((2, 0)));
     let mut front = view.chunks_exact(3);
     assert!(rt; (read(front.next_back()), front.len()) == (Some((3, 5)), 1));
     assert!(rt; read(Some(front.remainder())) == Some((2, 3)));
-}
-
-#[test]
-fn windows_of_five_bits(rt: HostRuntime) {
-    let cells = [0x17u8];
-    let view = BitSlice::<u8, Msb0>::from_slice(&cells).into_part(0..5);
-    let mut windows = view.windows(3);
-    assert!(rt; (read(windows.next()), read(windows.next_back())) == (Some((3, 0)), Some((3, 2))));
+    assert!(rt; view.into_part(0..5).windows(6).len() == 0);
 }

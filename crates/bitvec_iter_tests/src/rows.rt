@@ -12,6 +12,13 @@ fn a_field_over_two_elements_is_read_from_either_end(rt: HostRuntime) {
 }
 
 #[test]
+fn a_signed_load_is_extended(rt: HostRuntime) {
+    let cells = [0x06u8];
+    assert!(rt; load_at::<u8, Lsb0, u8>(&cells, 1..3, true) == Some(3));
+    assert!(rt; load_at::<u8, Lsb0, i8>(&cells, 1..3, true) == Some(-1));
+}
+
+#[test]
 fn a_negative_number_comes_back(rt: HostRuntime) {
     for (le, bytes) in [(true, [0x01, 0xC0]), (false, [0x03, 0x40])] {
         let mut cells = [0u8, 0];

@@ -50,6 +50,17 @@ fn numbers_are_loaded_stored_and_refused(rt: HostRuntime) {
 }
 
 #[test]
+fn a_field_has_at_most_128_bits(rt: HostRuntime) {
+    let mut cells = [1u8, 0, 0, 0, 0, 0, 0, 0, 0, 0, 0, 0, 0, 0, 0, 0x80, 0xFF];
+    let steps = [step(0, 129, FieldOp::LoadLe), step(0, 128, FieldOp::LoadLe)];
+    let wanted = [
+        Reply::Refused(Refusal::Width),
+        Reply::Number(0x8000_0000_0000_0000_0000_0000_0000_0001),
+    ];
+    assert!(rt; answers(rt.alloc(), &mut cells, 136, &steps, &wanted));
+}
+
+#[test]
 fn a_number_across_two_wide_elements(rt: HostRuntime) {
     let mut cells = [0u128; 2];
     let steps = [

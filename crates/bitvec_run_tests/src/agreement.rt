@@ -109,7 +109,7 @@ fn check<T: BitStore, O: SliceOrder, R: Abort + AllocGlobal>(
 /// start of an element, behind its first bit and at its last bit, on both sides.
 fn check_windows<T: BitStore, O: SliceOrder, R: Abort + AllocGlobal>(rt: &R, sides: Sides<'_, T>) {
     let width = T::BITS as usize;
-    for len in [0, 1, width - 1, width, width + 1, 130, MOST] {
+    for len in [0, 1, width - 1, width, width + 1, 64, 65, 130, MOST] {
         for start in [0, 1, width - 1] {
             let window = Window { start, len };
             check::<T, O, R>(rt, sides, window, &queries(len));

@@ -53,15 +53,20 @@ fn an_operator_takes_zeros_past_the_right_window(rt: HostRuntime) {
     }
 }
 
-// The bits 01001 turn to 00101, and back.
+// The bits 01001 turn to 00101, and back, to 11000, and to 10010.
 #[test]
-fn a_rotation_turns_back(rt: HostRuntime) {
+fn five_bits_are_moved(rt: HostRuntime) {
     let mut bits = [0x12];
-    for (op, after) in [(Op::RotateLeft(2), 0x14), (Op::RotateRight(2), 0x12)] {
+    for (step, after) in [
+        ((0, 5, Op::RotateLeft(2)), 0x14),
+        ((0, 5, Op::RotateRight(2)), 0x12),
+        ((0, 5, Op::Swap(0, 4)), 0x03),
+        ((1, 4, Op::Reverse), 0x09),
+    ] {
         let row = Row {
             window: Window { start: 0, len: 5 },
             right: &[],
-            steps: &steps([(0, 5, op)]),
+            steps: &steps([step]),
             replies: &[Reply::Done],
             after: &[after],
         };

@@ -68,6 +68,7 @@ fn an_edit_takes_few_loads_and_stores(rt: HostRuntime) {
         ((60, 80, Op::Replace(0, true)), (2, 1, 0)),
         ((60, 80, Op::Swap(0, 19)), (4, 2, 0)),
         ((67, 4000, Op::Fill(true)), (2, 492, 0)),
+        ((3, 21, Op::Fill(true)), (2, 3, 0)),
         ((67, 67, Op::Fill(true)), (0, 0, 0)),
         ((67, 75, Op::Invert), (2, 2, 0)),
         ((67, 83, Op::Reverse), (22, 18, 0)),

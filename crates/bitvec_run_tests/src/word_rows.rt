@@ -69,14 +69,43 @@ fn check<T: BitStore, O: SliceOrder, R: Abort + AllocGlobal>(
 
 #[test]
 fn a_move_goes_by_words(rt: HostRuntime) {
-    let mut bytes = [0x80u8, 0, 0, 0, 0, 0, 0, 0x04, 0, 0];
+    let most = at_most(22, 18, 0);
     let later = (0, 80, Op::CopyWithin(0, 70, 3));
-    check::<u8, Msb0, _>(&rt, &mut bytes, &[], later, at_most(22, 18, 0), Reply::Done);
+    let earlier = (0, 80, Op::CopyWithin(3, 73, 0));
+    for (copy, after) in [
+        (later, [0x09u8, 0, 0, 0, 0, 0, 0, 0, 0x01, 0]),
+        (earlier, [0u8, 0, 0, 0, 0, 0, 0, 0x04, 0, 0]),
+    ] {
+        let mut bytes = [0x01u8, 0, 0, 0, 0, 0, 0, 0x20, 0, 0];
+        check::<u8, Lsb0, _>(&rt, &mut bytes, &[], copy, most, Reply::Done);
+        assert!(rt; bytes == after);
+    }
+    let mut bytes = [0x80u8, 0, 0, 0, 0, 0, 0, 0x04, 0, 0];
+    check::<u8, Msb0, _>(&rt, &mut bytes, &[], later, most, Reply::Done);
     assert!(rt; bytes == [0x90u8, 0, 0, 0, 0, 0, 0, 0, 0x80, 0]);
-    let mut pair = [1u64, 2];
-    let reverse = (0, 128, Op::Reverse);
-    check::<u64, Lsb0, _>(&rt, &mut pair, &[], reverse, at_most(12, 6, 0), Reply::Done);
-    assert!(rt; pair == [0x4000_0000_0000_0000, 0x8000_0000_0000_0000]);
+}
+
+#[test]
+fn a_turn_goes_by_words(rt: HostRuntime) {
+    let reversed = [0x4000_0000_0000_0000, 0x8000_0000_0000_0000];
+    for (op, most, after) in [
+        (Op::Reverse, at_most(12, 6, 0), reversed),
+        (Op::RotateLeft(64), at_most(28, 14, 0), [2, 1]),
+    ] {
+        let mut pair = [1u64, 2];
+        check::<u64, Lsb0, _>(&rt, &mut pair, &[], (0, 128, op), most, Reply::Done);
+        assert!(rt; pair == after);
+    }
+    let mut halves = [7u64; 64];
+    halves[0] = 1;
+    halves[33] = 2;
+    let rotate = (0, 4096, Op::RotateLeft(2048));
+    let most = at_most(524, 262, 0);
+    check::<u64, Lsb0, _>(&rt, &mut halves, &[], rotate, most, Reply::Done);
+    let mut after = [7u64; 64];
+    after[32] = 1;
+    after[1] = 2;
+    assert!(rt; halves == after);
 }
 
 // 128 bits are two steps, each of which touches at most two wide elements.
@@ -97,17 +126,17 @@ fn two_windows_are_gone_over_by_words(rt: HostRuntime) {
     let half = 0xAAAA_AAAA;
     assert!(rt; elements == [half, half, half, half, 0xFFFF_FFFE]);
     let mut wide = [0u128; 2];
-    let other = Window { start: 3, len: 64 };
-    let copy = (64, 128, Op::CopyFrom(other));
+    let other = Window { start: 3, len: 128 };
+    let copy = (64, 192, Op::CopyFrom(other));
     check::<u128, Lsb0, _>(
         &rt,
         &mut wide,
         &[u128::MAX; 2],
         copy,
-        at_most(2, 2, 2),
+        at_most(4, 4, 4),
         Reply::Done,
     );
-    assert!(rt; wide == [(u64::MAX as u128) << 64, 0]);
+    assert!(rt; wide == [u128::MAX << 64, u128::MAX >> 64]);
     let eq = (3, 67, Op::Eq(Window { start: 5, len: 64 }));
     let ones = [0xFFu8; 9];
     check::<u8, Lsb0, _>(

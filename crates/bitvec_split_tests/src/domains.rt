@@ -51,13 +51,16 @@ fn read_part(cells: &[u8; 1]) -> Read {
     }
 }
 
-/// Reads the bits 10 up to 14 of two bytes, and then stores a value's.
-fn store_part(cells: &mut [u8; 2], value: u8) -> Read {
-    let mut range = BitSliceMut::<u8, Lsb0>::from_slice_mut(cells).into_part(10..14);
+/// Reads the bits 2 up to 6 of a byte, and then stores a value's, or else flips them.
+fn write_part(cells: &mut [u8; 1], value: Option<u8>) -> Read {
+    let mut range = BitSliceMut::<u8, Lsb0>::from_slice_mut(cells).into_part(2..6);
     match range.domain_mut() {
         DomainMut::Enclave(mut part) => {
             let read = (part.load_value(), part.head(), part.tail(), part.mask());
-            part.store_value(value);
+            match value {
+                Some(value) => part.store_value(value),
+                None => part.invert(),
+            }
             Some(read)
         }
         DomainMut::Region { .. } => None,
@@ -67,9 +70,11 @@ fn store_part(cells: &mut [u8; 2], value: u8) -> Read {
 #[test]
 fn an_enclave_has_its_bits_alone(rt: HostRuntime) {
     assert!(rt; read_part(&[0xB4]) == Some((0x34, 2, 6, 0x3C)));
-    let mut cells = [0xB4u8, 0xB4];
-    assert!(rt; store_part(&mut cells, 0xFF) == Some((0x34, 2, 6, 0x3C)));
-    assert!(rt; cells == [0xB4, 0xBC]);
+    let mut cells = [0xB4u8];
+    for (value, read, after) in [(Some(0xFF), 0x34, 0xBC), (None, 0x3C, 0x80)] {
+        assert!(rt; write_part(&mut cells, value) == Some((read, 2, 6, 0x3C)));
+        assert!(rt; cells == [after]);
+    }
 }
 
 /// The whole elements of a domain that has no parts of elements.

@@ -59,12 +59,29 @@ fn inclusive_splits_at_ones(rt: HostRuntime) {
 }
 
 #[test]
+fn splits_of_no_bits(rt: HostRuntime) {
+    let none = BitSlice::<u16, Lsb0>::from_slice(&[]);
+    assert!(rt; numbers(none.split(is_one)) == [0b1, 0, 0, 0]);
+    let mut asked = false;
+    let mut pieces = none.split_inclusive(|_, bit| {
+        asked = true;
+        *bit
+    });
+    assert!(rt; pieces.size_hint() == (0, Some(0)));
+    assert!(rt; pieces.next().is_none());
+    assert!(rt; pieces.next_back().is_none());
+    drop(pieces);
+    assert!(rt; !asked);
+}
+
+#[test]
 fn limited_splits_at_ones(rt: HostRuntime) {
     // 0, 1, 0, 0, 1
     let mut cells = [0x48u8];
     let view = BitSliceMut::<u8, Msb0>::from_slice_mut(&mut cells).into_part(0..5);
     assert!(rt; numbers(view.splitn(2, is_one)) == [0b1_0, 0b1_001, 0, 0]);
     assert!(rt; numbers(view.rsplitn(2, is_one)) == [0b1, 0b1_0100, 0, 0]);
+    assert!(rt; numbers(view.splitn(0, is_one)) == [0, 0, 0, 0]);
 }
 
 #[test]
@@ -72,7 +89,10 @@ fn how_many_pieces_may_come(rt: HostRuntime) {
     // 0, 1, 0, 0, 1
     let cells = [0x12u64];
     let view = BitSlice::<u64, Lsb0>::from_slice(&cells).into_part(0..5);
-    assert!(rt; view.split(is_one).size_hint() == (1, Some(6)));
+    let mut pieces = view.split(is_one);
+    assert!(rt; pieces.size_hint() == (1, Some(6)));
+    assert!(rt; pieces.next().is_some());
+    assert!(rt; pieces.size_hint() == (1, Some(4)));
     assert!(rt; view.splitn(2, |_, bit| *bit).size_hint() == (1, Some(2)));
     assert!(rt; view.splitn(0, |_, bit| *bit).size_hint() == (0, Some(0)));
 }

@@ -27,6 +27,7 @@ fn sizes_of_writable<T: BitStore, O: BitOrder>(view: BitSliceMut<'_, T, O>) -> (
 fn an_empty_view_has_no_bit(rt: HostRuntime) {
     assert!(rt; sizes(BitSlice::<u64, Msb0>::default()) == (0, 0));
     assert!(rt; BitSlice::<u8, Lsb0>::empty().is_empty());
+    assert!(rt; BitSlice::<u8, Lsb0>::from_slice(&[]).len() == 0);
     assert!(rt; BitSliceMut::<u8, Lsb0>::empty_mut().is_empty());
     assert!(rt; sizes_of_writable(BitSliceMut::<u32, HiLo>::default()) == (0, 0));
 }

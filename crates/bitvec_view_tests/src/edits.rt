@@ -31,7 +31,11 @@ pub fn fill_range<T: BitStore, O: SliceOrder>(
 #[test]
 fn fill_leaves_the_neighbours(rt: HostRuntime) {
     let mut cells = [0u8, 0, 0];
+    assert!(rt; fill_range::<u8, Lsb0>(&mut cells, 3, 21, true));
+    assert!(rt; cells == [0xF8, 0xFF, 0x1F]);
+    let mut cells = [0u8, 0, 0];
     assert!(rt; fill_range::<u8, Msb0>(&mut cells, 3, 21, true));
+    assert!(rt; cells == [0x1F, 0xFF, 0xF8]);
     assert!(rt; fill_range::<u8, Msb0>(&mut cells, 11, 13, false));
     assert!(rt; cells == [0x1F, 0xE7, 0xF8]);
     assert!(rt; fill_range::<u8, HiLo>(&mut cells, 0, 3, true));

@@ -46,6 +46,8 @@ fn runs_of_ones_and_zeros(rt: HostRuntime) {
     assert!(rt; has_runs(&view, [2, 0, 0, 1]));
     assert!(rt; has_places(&view, [Some(0), Some(2), Some(3), Some(4)]));
     assert!(rt; answers(&view, [true, false, false, true, true]));
+    let empty = BitSlice::<u8, Lsb0>::empty();
+    assert!(rt; answers(&empty, [false, true, true, false, false]));
 }
 
 #[test]
@@ -86,6 +88,8 @@ fn needles_of_another_width_and_order(rt: HostRuntime) {
         (0, 3, [true, true, false]),
         (1, 4, [true, false, true]),
         (4, 4, [true, true, true]),
+        (5, 9, [false, false, false]),
+        (2, 5, [true, false, false]),
         (0, 16, [false, false, false]),
     ] {
         assert!(rt; stands(view, needles.get(from..to), found), "{from} {to}");
@@ -137,11 +141,24 @@ fn a_writable_view_without_its_ends(rt: HostRuntime) {
     assert!(rt; is_left(rest, part(&[0x12], 0, 5)) == Some(true));
 }
 
+/// How two parts compare, where both are there.
+fn order(
+    view: Option<BitSlice<'_, u8, Lsb0>>,
+    other: Option<BitSlice<'_, u8, Lsb0>>,
+) -> Option<Ordering> {
+    match (view, other) {
+        (Some(view), Some(other)) => Some(view.cmp_bits(other)),
+        _ => None,
+    }
+}
+
+// The parts are of 0, 1, 0.
 #[test]
-fn views_of_two_orders_compared(rt: HostRuntime) {
-    let low = [0x21u8];
-    let high = [0x84u8];
-    let view = BitSlice::<u8, Lsb0>::from_slice(&low);
-    assert!(rt; view.eq_bits(BitSlice::<u8, Msb0>::from_slice(&high)));
-    assert!(rt; view.cmp_bits(BitSlice::<u8, Lsb0>::from_slice(&high)) == Ordering::Greater);
+fn views_compared(rt: HostRuntime) {
+    for (from, end, wanted) in [(0, 3, Ordering::Less), (1, 2, Ordering::Greater)] {
+        let found = order(part(&[0x02], from, 2), part(&[0x02], 0, end));
+        assert!(rt; found == Some(wanted), "{from}");
+    }
+    let view = BitSlice::<u8, Lsb0>::from_slice(&[0x21]);
+    assert!(rt; view.eq_bits(BitSlice::<u8, Msb0>::from_slice(&[0x84])));
 }

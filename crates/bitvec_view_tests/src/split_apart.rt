@@ -37,6 +37,35 @@ fn fill_and_flip_in(elements: &mut [u8], mid: usize) -> bool
     mid <= view.len() && fill_and_flip(&mut view, mid)
 }
 
+/// Fills the bits before `mid` of the bits 3 up to 13, if these come apart there, and says whether it did.
+fn fill_before(bytes: &mut [u8; 2], mid: usize) -> bool {
+    let mut view = BitSliceMut::<u8, Lsb0>::from_slice_mut(bytes).into_part(3..13);
+    if mid > view.len() {
+        return false;
+    }
+    match view.split_apart_mut(mid) {
+        Some((mut front, _rest)) => {
+            front.fill(true);
+            true
+        }
+        None => false,
+    }
+}
+
+#[test]
+fn a_part_comes_apart_at_an_edge_or_an_end(rt: HostRuntime) {
+    for (mid, apart, after) in [
+        (5, true, [0xF8, 0x00]),
+        (0, true, [0x00, 0x00]),
+        (10, true, [0xF8, 0x1F]),
+        (4, false, [0x00, 0x00]),
+    ] {
+        let mut bytes = [0x00, 0x00];
+        assert!(rt; fill_before(&mut bytes, mid) == apart, "{mid}");
+        assert!(rt; bytes == after, "{mid}");
+    }
+}
+
 #[test]
 fn two_parts_are_written_at_once(rt: HostRuntime) {
     let mut cells = [0x0F, 0x0F, 0x0F];

@@ -17,15 +17,33 @@ fn one_element(rt: HostRuntime) {
 }
 
 #[test]
-fn two_elements(rt: HostRuntime) {
+fn two_elements_and_none(rt: HostRuntime) {
     let bits = [0x21u8, 0x84];
     let view = BitSlice::<u8, Lsb0>::from_slice(&bits).into_part(4..12);
-    let hex = UpperHex(view);
-    let binary = Binary(view);
-    assert!(rt; prints(rt.alloc(), &hex, "[4, 2]"));
-    assert!(rt; prints(rt.alloc(), &binary, "[0100, 0010]"));
-    assert!(rt; prints(rt.alloc(), &view, "[0, 1, 0, 0, 0, 0, 1, 0]"));
-    assert!(rt; shows(rt.alloc(), &view, "[0, 1, 0, 0, 0, 0, 1, 0]"));
+    for (view, hex, binary, text) in [
+        (view, "[4, 2]", "[0100, 0010]", "[0, 1, 0, 0, 0, 0, 1, 0]"),
+        (BitSlice::empty(), "[]", "[]", "[]"),
+    ] {
+        assert!(rt; prints(rt.alloc(), &UpperHex(view), hex));
+        assert!(rt; prints(rt.alloc(), &Binary(view), binary));
+        assert!(rt; prints(rt.alloc(), &view, text));
+        assert!(rt; shows(rt.alloc(), &view, text));
+    }
+}
+
+#[test]
+fn a_wide_element(rt: HostRuntime) {
+    let bits = [1u128];
+    let view = BitSlice::<u128, Lsb0>::from_slice(&bits);
+    let octal = "[2000000000000000000000000000000000000000000]";
+    assert!(rt;
+        prints(
+            rt.alloc(),
+            &LowerHex(view),
+            "[80000000000000000000000000000000]"
+        )
+    );
+    assert!(rt; prints(rt.alloc(), &Octal(view), octal));
 }
 
 #[test]

@@ -2,7 +2,7 @@
 ghost use Rattle.std.specs.Prelude.{◌≤◌};
 
 use bitvec_edit::BitEdits;
-use bitvec_edit::base::{Lsb0, Msb0, Window};
+use bitvec_edit::base::{Lsb0, Window};
 use bitvec_edit::engine::SliceOrder;
 use bitvec_edit::slice::BitSliceMut;
 use bitvec_iter::PieceCallsMut;
@@ -27,9 +27,9 @@ fn paint<O: SliceOrder>(bytes: &mut [u8; 1], mid: usize)
 
 #[test]
 fn halves_meet_inside_an_element(rt: HostRuntime) {
-    let mut bytes = [0x0F];
-    paint::<Msb0>(&mut bytes, 5);
-    assert!(rt; bytes == [0xF8]);
+    let mut bytes = [0xF0];
+    paint::<Lsb0>(&mut bytes, 4);
+    assert!(rt; bytes == [0x0F]);
 }
 
 /// How many bits two halves have, how many of them the left one, and how many the right.

@@ -4,27 +4,31 @@ use bitvec_edit::base::Lsb0;
 use bitvec_edit::slice::BitSliceMut;
 use bitvec_iter::PieceCallsMut;
 
-/// Sets the remainder of the chunks of three bits, twice.
-fn set_remainder(bytes: &mut [u8; 1]) -> (usize, usize) {
+/// How many chunks of three bits there are, how many bits their remainder has, which is set, how many it has
+/// when it is taken again, how many chunks come then, and how many bits are left at the end.
+fn set_remainder(bytes: &mut [u8; 1]) -> [usize; 5] {
     let mut view = BitSliceMut::<u8, Lsb0>::from_slice_mut(bytes);
     let mut chunks = view.chunks_exact_mut(3);
-    let mut lengths = (0, 0);
-    {
+    let count = chunks.len();
+    let first = {
         let mut rest = chunks.take_remainder();
         rest.fill(true);
-        lengths.0 = rest.len();
+        rest.len()
+    };
+    let again = chunks.take_remainder().len();
+    let mut came = 0usize;
+    for _ in 0..3 {
+        if chunks.next_mut().is_some() {
+            came = came.wrapping_add(1);
+        }
     }
-    {
-        let again = chunks.take_remainder();
-        lengths.1 = again.len();
-    }
-    lengths
+    [count, first, again, came, chunks.into_remainder().len()]
 }
 
 #[test]
 fn a_remainder_is_taken_once(rt: HostRuntime) {
     let mut bytes = [0x00];
-    assert!(rt; set_remainder(&mut bytes) == (2, 0));
+    assert!(rt; set_remainder(&mut bytes) == [2, 2, 0, 2, 0]);
     assert!(rt; bytes == [0xC0]);
 }
 

@@ -43,3 +43,12 @@ fn turns_under_another_order(rt: HostRuntime) {
     assert!(rt; out == [Some(6), Some(1), Some(3)]);
     assert!(rt; loads <= 4);
 }
+
+#[test]
+fn turns_over_zeros(rt: HostRuntime) {
+    let window = Window { start: 2, len: 3 };
+    let mut out = [Some(0); 2];
+    let loads = walk::<Lsb0>(&[0xF7], window, false, &[Back, Back], &mut out);
+    assert!(rt; out == [Some(1), None]);
+    assert!(rt; loads <= 2);
+}

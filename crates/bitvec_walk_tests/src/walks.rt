@@ -12,6 +12,7 @@ fn ones_from_both_ends(rt: HostRuntime) {
     let view = BitSlice::<u8, Lsb0>::from_slice(&cells);
     let mut ones = view.iter_ones();
     assert!(rt; (ones.next(), ones.next_back()) == (Some(0), Some(5)));
+    assert!(rt; (ones.next(), ones.next_back()) == (None, None));
 }
 
 #[test]
