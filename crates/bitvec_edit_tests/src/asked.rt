@@ -2,8 +2,7 @@
 //! the user's elements are afterwards, the bits outside the view too.
 
 use crate::laws::{
-    filled_by, filled_by_count, filled_with_even, inverted_twice, refilled_by, reversed_twice,
-    rotated_back,
+    filled_by, filled_with_even, inverted_twice, refilled_by, reversed_twice, rotated_back,
 };
 use bitvec_edit::BitEdits;
 use bitvec_edit::base::{HiLo, Lsb0, Msb0};
@@ -50,14 +49,22 @@ fn edits_that_undo_one_another(rt: HostRuntime) {
 }
 
 #[test]
-fn bits_by_closures(rt: HostRuntime) {
+fn bits_by_their_indices(rt: HostRuntime) {
     let mut cells = [0xFFu8];
     filled_with_even::<u8, Lsb0>(&mut cells);
     assert!(rt; cells == [0x55]);
-    filled_by_count::<u8, Msb0>(&mut cells);
-    assert!(rt; cells == [0x24]);
+}
+
+#[test]
+fn bits_by_a_closure_of_the_callers(rt: HostRuntime) {
+    let mut cells = [0u8];
     filled_by::<u8, Lsb0, _>(&mut cells, |index| index >= 3);
     assert!(rt; cells == [0xF8]);
+}
+
+#[test]
+fn bits_by_a_closure_that_is_told_them(rt: HostRuntime) {
+    let mut cells = [0x0Fu8];
     refilled_by::<u8, Lsb0, _>(&mut cells, |index, bit| bit != (index % 2 == 0));
-    assert!(rt; cells == [0xAD]);
+    assert!(rt; cells == [0x5A]);
 }

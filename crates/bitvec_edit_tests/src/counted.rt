@@ -1,4 +1,4 @@
-//! Calls on chunks by closures go from chunk 0 on: a closure that counts its calls writes the count into
+//! Calls on chunks by closures go from chunk 0 on: a closure that counts its calls writes as many ones into
 //! each chunk of the bits 3 up to 21 of three bytes.
 ghost use Rattle.bitvec_edit.specs.slice.Views.{seen_mut};
 ghost use Rattle.bitvec_edit.specs.slice.Writes.{WritesBits};
@@ -9,26 +9,16 @@ use bitvec_edit::slice::BitSliceMut;
 use bitvec_pieces::EditParts;
 use bitvec_test_support::{MEMORIES, bits_of};
 
-/// The bit of a number at an index: those of the lowest three, and behind them zeros.
-fn digit(number: usize, index: usize) -> bool {
-    match index {
-        0 => number % 2 == 1,
-        1 => number / 2 % 2 == 1,
-        2 => number / 4 % 2 == 1,
-        _ => false,
-    }
-}
-
-/// Writes into a chunk its number among the calls, from 1 on.
+/// Writes into a chunk as many ones as there were calls, this one among them, and zeros behind them.
 fn count_chunk(calls: &mut usize, chunk: &mut BitSliceMut<'_, u8, Lsb0>)
     ensures { WritesBits chunk.old chunk.new (seen_mut chunk.new).bits }
 {
     let number = calls.wrapping_add(1);
     *calls = number;
-    chunk.fill_with(|index| digit(number, index));
+    chunk.fill_with(|index| index < number);
 }
 
-/// Writes into each chunk of four bits its number among the calls.
+/// Writes into each chunk of four bits which call it got.
 fn count_chunks(bytes: &mut [u8; 3]) {
     let mut view = BitSliceMut::<u8, Lsb0>::from_slice_mut(bytes).into_part(3..21);
     let mut calls = 0usize;
@@ -56,13 +46,13 @@ fn count_whole_back_chunks(bytes: &mut [u8; 3]) {
     view.for_each_rchunk_exact_mut(4, |_index, chunk| count_chunk(&mut calls, chunk));
 }
 
-/// The bits, with 1, 2, 3 and so on at these places in turn.
+/// The bits, with one one, two, three and so on at these places in turn, and zeros behind them.
 fn counted(bytes: [u8; 3], places: &[(usize, usize)]) -> [bool; 24] {
     let mut bits = bits_of(bytes);
     for (index, (from, to)) in places.iter().enumerate() {
         if let Some(part) = bits.get_mut(*from..*to) {
             for (place, bit) in part.iter_mut().enumerate() {
-                *bit = digit(index.wrapping_add(1), place);
+                *bit = place <= index;
             }
         }
     }

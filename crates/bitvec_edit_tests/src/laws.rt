@@ -1,5 +1,5 @@
 //! What edits of a view that undo one another come to, and what closures fill it with.
-ghost use Rattle.std.specs.Prelude.{◌≡◌, ℕ, ◌+◌, ◌*◌, ◌%◌, ◌^◌, ◌<◌, ◌≤◌, ◌==◌, length, map};
+ghost use Rattle.std.specs.Prelude.{◌≡◌, ℕ, ◌*◌, ◌%◌, ◌≤◌, ◌==◌, length, map};
 ghost use Rattle.std.specs.List.{range_with_len};
 ghost use Rattle.bitvec_edit.specs.base.Memory.{memory_bits};
 ghost use Rattle.bitvec_edit.specs.base.Window.{max_bits};
@@ -55,25 +55,6 @@ pub fn filled_with_even<T: BitStore, O: SliceOrder>(elements: &mut [T]) -> &mut 
 {
     let mut view = BitSliceMut::<T, O>::from_slice_mut(elements);
     view.fill_with(|index| index % 2 == 0);
-    view.into_slice()
-}
-
-/// Makes each third bit of the elements 1 and the others 0, by a count of the calls.
-pub fn filled_by_count<T: BitStore, O: SliceOrder>(elements: &mut [T]) -> &mut [T]
-    requires { T.BITS * length elements.old ≤ max_bits }
-    ensures { memory_bits T.BITS O.at (map T.value result.now)
-        ≡ map (λ i. (i + 1) % 3 == 0) (range_with_len 0 (T.BITS * length elements.old)) }
-{
-    let mut view = BitSliceMut::<T, O>::from_slice_mut(elements);
-    let mut calls = 0usize;
-    view.fill_with(
-        move |_index|
-            requires { calls + 1 < 2 ^ 64 }
-        {
-            calls += 1;
-            calls % 3 == 0
-        },
-    );
     view.into_slice()
 }
 

@@ -1,5 +1,5 @@
 //! What a caller knows of the parts of a view that is cut at the edges of elements.
-ghost use Rattle.std.specs.Prelude.{◌≡◌, ◌≤◌, ℕ, count_by};
+ghost use Rattle.std.specs.Prelude.{◌≡◌, ℕ, count_by};
 ghost use Rattle.std.specs.Option.{option_map};
 ghost use Rattle.bitvec_edit.specs.domain.Cuts.{cut_of};
 ghost use Rattle.bitvec_query.specs.slice.Domains.{enclave_view, region_views, views_in};
@@ -23,17 +23,6 @@ fn enclave_len<T: BitStore, O: BitOrder>(view: BitSlice<'_, T, O>) -> Option<usi
     }
 }
 
-/// The same of a writable view.
-fn enclave_len_mut<T: BitStore, O: BitOrder>(view: &mut BitSliceMut<'_, T, O>) -> Option<usize>
-    ensures { let cut = views_in T.BITS O.at T.value (seen_mut view.old).elements (cut_of T.BITS (seen_mut view.old).window) in
-        result ≡ option_map (λ part. part.window.len) (enclave_view cut) }
-{
-    match view.bit_domain_mut().enclave() {
-        Some(part) => Some(part.len()),
-        None => None,
-    }
-}
-
 /// How many bits the head, the body and the tail of a region have.
 fn region_lens<T: BitStore, O: BitOrder>(view: BitSlice<'_, T, O>) -> Option<(usize, usize, usize)>
     ensures { let cut = views_in T.BITS O.at T.value (seen view.entry).elements (cut_of T.BITS (seen view.entry).window) in
@@ -46,32 +35,7 @@ fn region_lens<T: BitStore, O: BitOrder>(view: BitSlice<'_, T, O>) -> Option<(us
     }
 }
 
-/// The same of a writable view.
-fn region_lens_mut<T: BitStore, O: BitOrder>(
-    view: &mut BitSliceMut<'_, T, O>,
-) -> Option<(usize, usize, usize)>
-    ensures { let cut = views_in T.BITS O.at T.value (seen_mut view.old).elements (cut_of T.BITS (seen_mut view.old).window) in
-        option_map {U = ℕ × (ℕ × ℕ)} (λ lens. (lens.0, (lens.1, lens.2))) result
-        ≡ option_map {U = ℕ × (ℕ × ℕ)} (λ parts. (parts.0.window.len, (parts.1.0.window.len, parts.1.1.window.len))) (region_views cut) }
-{
-    match view.bit_domain_mut().region() {
-        Some((head, body, tail)) => Some((head.len(), body.len(), tail.len())),
-        None => None,
-    }
-}
-
-/// How many bits are 1, added up over the parts.
-fn ones_by_parts<T: BitStore, O: SliceOrder>(view: BitSlice<'_, T, O>) -> usize
-    ensures { result ≡ count_by (λ bit. bit) (seen view.entry).bits }
-{
-    let mut ones = 0;
-    for part in view.bit_domain() {
-        ones += part.count_ones();
-    }
-    ones
-}
-
-/// The same of a writable view.
+/// How many bits of a writable view are 1, added up over the parts.
 fn ones_by_parts_mut<T: BitStore, O: SliceOrder>(view: &mut BitSliceMut<'_, T, O>) -> usize
     ensures { result ≡ count_by (λ bit. bit) (seen_mut view.old).bits }
 {
@@ -82,23 +46,13 @@ fn ones_by_parts_mut<T: BitStore, O: SliceOrder>(view: &mut BitSliceMut<'_, T, O
     ones
 }
 
-/// A view of a range of three bytes.
-fn range_of(cells: &[u8; 3], from: usize, to: usize) -> BitSlice<'_, u8, Msb0>
-    requires order { from ≤ to }
-    requires bound { to ≤ 24 }
-{
-    BitSlice::from_slice(cells).into_part(from..to)
-}
-
 #[test]
 fn a_view_within_one_element_is_an_enclave(rt: HostRuntime) {
     let mut cells = [0x0Fu8, 0x12, 0x80];
-    assert!(rt; enclave_len(range_of(&cells, 9, 15)) == Some(6));
-    assert!(rt; region_lens(range_of(&cells, 4, 17)) == Some((4, 8, 1)));
-    assert!(rt; ones_by_parts(range_of(&cells, 4, 17)) == 7);
+    let view = BitSlice::<u8, Msb0>::from_slice(&cells);
+    assert!(rt; enclave_len(view.into_part(9..15)) == Some(6));
+    assert!(rt; region_lens(view.into_part(4..17)) == Some((4, 8, 1)));
     let mut view = BitSliceMut::<u8, Msb0>::from_slice_mut(&mut cells);
-    assert!(rt; enclave_len_mut(&mut view) == None);
-    assert!(rt; region_lens_mut(&mut view) == Some((0, 24, 0)));
     assert!(rt; ones_by_parts_mut(&mut view) == 7);
 }
 

@@ -1,11 +1,11 @@
 //! What callers know of the indices that walks give them.
-ghost use Rattle.std.specs.Prelude.{◌≡◌, IfOk, false, reverse, true};
+ghost use Rattle.std.specs.Prelude.{◌≡◌, IfOk, true};
 ghost use Rattle.bitvec_ones.specs.base.Lists.{places_of};
-ghost use Rattle.bitvec_ones.specs.slice.Views.{seen, seen_mut};
+ghost use Rattle.bitvec_ones.specs.slice.Views.{seen};
 
 use bitvec_ones::OnesCalls;
 use bitvec_ones::engine::SliceOrder;
-use bitvec_ones::slice::{BitSlice, BitSliceMut};
+use bitvec_ones::slice::BitSlice;
 use bitvec_ones::store::BitStore;
 use std::alloc::{AllocError, Allocator};
 
@@ -17,16 +17,6 @@ pub fn ones_of<T: BitStore, O: SliceOrder, A: Allocator>(
     ensures { IfOk result (λ list. list.items ≡ places_of true (seen view.entry).bits) }
 {
     view.iter_ones().collect(alloc)
-}
-
-/// The indices of all zeros of a writable view, from the back.
-pub fn zeros_from_the_back<T: BitStore, O: SliceOrder, A: Allocator>(
-    alloc: A,
-    view: &BitSliceMut<'_, T, O>,
-) -> Result<Vec<usize, A>, AllocError>
-    ensures { IfOk result (λ list. list.items ≡ reverse (places_of false (seen_mut view.now).bits)) }
-{
-    view.iter_zeros().rev().collect(alloc)
 }
 
 /// The indices of all ones, one by one.

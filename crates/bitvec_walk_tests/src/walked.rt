@@ -3,7 +3,7 @@
 //! the bytes are compared at the end. Of 30 rounds many go past the end.
 
 use bitvec_edit::base::Lsb0;
-use bitvec_edit::slice::BitSliceMut;
+use bitvec_edit::slice::{BitRefMut, BitSliceMut};
 use bitvec_iter::{Cutting, IterMut, PieceCallsMut, PiecesMut};
 use bitvec_test_support::{MEMORIES, bits_of, flip};
 use std::process::Abort;
@@ -39,19 +39,17 @@ fn flip_place(places: &mut Iter<'_, Place>, bits: &mut [bool; 24], call: Call) -
         Call::Nth(skipped) => places.nth(skipped),
         Call::NthBack(skipped) => places.nth_back(skipped),
     };
-    let (from, to) = *place?;
-    flip(bits, from, to);
-    Some(to.saturating_sub(from))
+    match place {
+        Some((from, to)) => {
+            flip(bits, *from, *to);
+            Some(to.saturating_sub(*from))
+        }
+        None => None,
+    }
 }
 
-/// Calls a walk over chunks, flips the chunk that comes, and gives how many bits it has.
-fn flip_chunk<C: Cutting>(chunks: &mut PiecesMut<'_, u8, Lsb0, C>, call: Call) -> Option<usize> {
-    let chunk = match call {
-        Call::Next => chunks.next_mut(),
-        Call::NextBack => chunks.next_back_mut(),
-        Call::Nth(skipped) => chunks.nth_mut(skipped),
-        Call::NthBack(skipped) => chunks.nth_back_mut(skipped),
-    };
+/// Flips a chunk, if one came, and gives how many bits it has.
+fn flip_lent(chunk: Option<BitSliceMut<'_, u8, Lsb0>>) -> Option<usize> {
     match chunk {
         Some(chunk) => {
             let len = chunk.len();
@@ -62,14 +60,18 @@ fn flip_chunk<C: Cutting>(chunks: &mut PiecesMut<'_, u8, Lsb0, C>, call: Call) -
     }
 }
 
-/// Calls a walk over bits, flips the bit that comes, and gives that it is one.
-fn flip_bit(bits: &mut IterMut<'_, u8, Lsb0>, call: Call) -> Option<usize> {
-    let bit = match call {
-        Call::Next => bits.next_mut(),
-        Call::NextBack => bits.next_back_mut(),
-        Call::Nth(skipped) => bits.nth_mut(skipped),
-        Call::NthBack(skipped) => bits.nth_back_mut(skipped),
-    };
+/// Calls a walk over chunks, flips the chunk that comes, and gives how many bits it has.
+fn flip_chunk<C: Cutting>(chunks: &mut PiecesMut<'_, u8, Lsb0, C>, call: Call) -> Option<usize> {
+    match call {
+        Call::Next => flip_lent(chunks.next_mut()),
+        Call::NextBack => flip_lent(chunks.next_back_mut()),
+        Call::Nth(skipped) => flip_lent(chunks.nth_mut(skipped)),
+        Call::NthBack(skipped) => flip_lent(chunks.nth_back_mut(skipped)),
+    }
+}
+
+/// Flips a bit, if one came, and gives that it is one.
+fn flip_lent_bit(bit: Option<BitRefMut<'_, u8, Lsb0>>) -> Option<usize> {
     match bit {
         Some(mut bit) => {
             let old = *bit;
@@ -77,6 +79,16 @@ fn flip_bit(bits: &mut IterMut<'_, u8, Lsb0>, call: Call) -> Option<usize> {
             Some(1)
         }
         None => None,
+    }
+}
+
+/// Calls a walk over bits, flips the bit that comes, and gives that it is one.
+fn flip_bit(bits: &mut IterMut<'_, u8, Lsb0>, call: Call) -> Option<usize> {
+    match call {
+        Call::Next => flip_lent_bit(bits.next_mut()),
+        Call::NextBack => flip_lent_bit(bits.next_back_mut()),
+        Call::Nth(skipped) => flip_lent_bit(bits.nth_mut(skipped)),
+        Call::NthBack(skipped) => flip_lent_bit(bits.nth_back_mut(skipped)),
     }
 }
 
