@@ -1,1 +1,1 @@
-mod HeadLemmas
+mod PlaceLemmas

@@ -1,5 +1,5 @@
--- What a window's first part, and the window behind it, are to what they are handed to. A width comes as `w`, the number in the code, which is `b`.
-use Rattle.std.proofs.Common.{◌≡◌, ◌≢◌, ℕ, ◌+◌, ◌-◌, ◌*◌, ◌/◌, ◌%◌, ◌^◌, ◌<◌, ◌≤◌, min, List, length, arith}
+-- Where elements, parts and windows lie, as calls need it. A width comes as `w`, the number in the code, which is `b`.
+use Rattle.std.proofs.Common.{◌≡◌, ◌≢◌, ℕ, ◌+◌, ◌-◌, ◌*◌, ◌/◌, ◌%◌, ◌^◌, ◌<◌, ◌≤◌, min, List, length, refl, arith}
 use Rattle.std.proofs.Math.Nat.{mul-le-mul_left}
 use Rattle.std.proofs.lemmas.Nat.{div-add-mod', mod_below}
 use Rattle.bitvec_words.specs.base.declared.part.Part.{Part}
@@ -78,3 +78,32 @@ pub tail-word : (b w : ℕ) (xs : List ℕ) (window : Window) (n : ℕ) → IsWi
 tail-word b w xs window n width is has short left =
     let inside = tail-inside b w xs window n width is has short left in
     fits-word b (window.start / w + n / w) xs window width has (omega arith)
+
+-- ---- an element of a window of whole elements, and the next one where the window begins inside an element
+
+pub inside : (b : ℕ) (xs ys : List ℕ) (first count i : ℕ) → IsWidth b → HasWindow b xs (elements_window b first count) → i < count → length ys ≡ length xs
+    → first + i < length ys
+inside b xs ys first count i width has more same =
+    let start = has.within.start in
+    let len = has.within.len in
+    let order = mul-le-mul_left b more in
+    let some = width_some b width in
+    rw same (element_of b (first + i) 0 (length xs) (omega arith))
+
+pub inside-word : (b : ℕ) (xs : List ℕ) (first count i : ℕ) → IsWidth b → HasWindow b xs (elements_window b first count) → i < count → first + i < 2 ^ 64
+inside-word b xs first count i width has more =
+    let here = inside b xs xs first count i width has more refl in
+    fits-word b (first + i) xs (elements_window b first count) width has (omega arith)
+
+pub next-inside : (b : ℕ) (xs ys : List ℕ) (first skip count i : ℕ) → HasWindow b xs (elements_window_from b first skip count) → 0 < skip → i < count → length ys ≡ length xs
+    → first + i + 1 < length ys
+next-inside b xs ys first skip count i has some more same =
+    let start = has.within.start in
+    let len = has.within.len in
+    let order = mul-le-mul_left b more in
+    rw same (element_of b (first + i + 1) (skip - 1) (length xs) (omega arith))
+
+pub next-word : (b : ℕ) (xs : List ℕ) (first skip count i : ℕ) → IsWidth b → HasWindow b xs (elements_window_from b first skip count) → 0 < skip → i < count → first + i + 1 < 2 ^ 64
+next-word b xs first skip count i width has some more =
+    let here = next-inside b xs xs first skip count i has some more refl in
+    fits-word b (first + i + 1) xs (elements_window_from b first skip count) width has (omega arith)
