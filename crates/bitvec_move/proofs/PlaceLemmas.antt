@@ -14,6 +14,7 @@ use Rattle.bitvec_words.specs.Elements.{elements_window, elements_window_from}
 use Rattle.bitvec_words.specs.FieldLaws.{element_of}
 use Rattle.bitvec_words.specs.FieldWalkLaws.{HasPart-first}
 use Rattle.bitvec_words.specs.TouchedLaws.{head_edge}
+use Rattle.bitvec_move.specs.WordLaws.{word_whole}
 
 pub width-some : (b w : ℕ) → IsWidth b → w ≡ b → 0 < w
 width-some b w width is = rw is (width_some b width)
@@ -107,3 +108,23 @@ pub next-word : (b : ℕ) (xs : List ℕ) (first skip count i : ℕ) → IsWidth
 next-word b xs first skip count i width has some more =
     let here = next-inside b xs xs first skip count i has some more refl in
     fits-word b (first + i + 1) xs (elements_window_from b first skip count) width has (omega arith)
+
+pub from-inside : (b : ℕ) (xs ys : List ℕ) (first skip count i : ℕ) → HasWindow b xs (elements_window_from b first skip count) → 0 < skip → i ≤ count → length ys ≡ length xs
+    → first + i < length ys
+from-inside b xs ys first skip count i has some most same =
+    let start = has.within.start in
+    let len = has.within.len in
+    let order = mul-le-mul_left b most in
+    rw same (element_of b (first + i) (skip - 1) (length xs) (omega arith))
+
+pub from-word : (b : ℕ) (xs : List ℕ) (first skip count i : ℕ) → IsWidth b → HasWindow b xs (elements_window_from b first skip count) → 0 < skip → i ≤ count → first + i < 2 ^ 64
+from-word b xs first skip count i width has some most =
+    let here = from-inside b xs xs first skip count i has some most refl in
+    fits-word b (first + i) xs (elements_window_from b first skip count) width has (omega arith)
+
+-- an element in a word
+pub word-place : (b w i : ℕ) → IsWidth b → w ≡ b → b ≤ 64 → i < 64 / w → i * w + w ≤ 64
+word-place b w i width is narrow more =
+    let whole = word_whole b width narrow in
+    let order = mul-le-mul_left b (rw is at more) in
+    rw is (omega arith)
