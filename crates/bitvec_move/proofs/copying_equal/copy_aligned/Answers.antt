@@ -3,7 +3,7 @@ use Rattle.bitvec_words.specs.store.WidthLaws.{width_some}
 use Rattle.bitvec_words.specs.base.WritesLaws.{Writes-is}
 use Rattle.bitvec_words.specs.FieldLaws.{Writes-tail, list-tail}
 use Rattle.bitvec_words.specs.TouchedLaws.{part_loads-most, touched-full, touched-more}
-use Rattle.bitvec_move.proofs.PlaceLemmas.{tail-inside, tail-part, tail-word, whole-window, width-some}
+use Rattle.bitvec_move.specs.PlaceLaws.{tail-inside, tail-part, tail-word, whole-window, width-some}
 use Rattle.bitvec_move.proofs.copying_equal.copy_aligned.Goals as goal
 
 pub nonzero_div-count : goal.nonzero_div-count

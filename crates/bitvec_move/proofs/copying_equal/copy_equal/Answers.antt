@@ -6,7 +6,7 @@ use Rattle.bitvec_words.specs.store.WidthLaws.{width_some}
 use Rattle.bitvec_words.specs.walk.Cost.{touched_count}
 use Rattle.bitvec_words.specs.FieldLaws.{Writes-head, first_part-long, list-head}
 use Rattle.bitvec_words.specs.TouchedLaws.{part_loads-most, touched-head, touched-rest}
-use Rattle.bitvec_move.proofs.PlaceLemmas.{behind-edge, head-element, head-part, width-some}
+use Rattle.bitvec_move.specs.PlaceLaws.{behind-edge, head-element, head-part, width-some}
 use Rattle.bitvec_move.proofs.copying_equal.copy_equal.Goals as goal
 
 pub first_part-head-requires-clause-bits : goal.first_part-head-requires-clause-bits

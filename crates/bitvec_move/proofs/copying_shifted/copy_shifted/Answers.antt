@@ -7,7 +7,7 @@ use Rattle.bitvec_words.specs.store.WidthLaws.{width_some}
 use Rattle.bitvec_words.specs.walk.Cost.{touched_count}
 use Rattle.bitvec_words.specs.FieldLaws.{Writes-head, first_part-long, list-parted}
 use Rattle.bitvec_words.specs.TouchedLaws.{apart_edge, inside_element, part_loads-most, touched-first, touched-head, touched-inside, touched-rest}
-use Rattle.bitvec_move.proofs.PlaceLemmas.{behind-edge, head-element, head-part, width-some}
+use Rattle.bitvec_move.specs.PlaceLaws.{behind-edge, head-element, head-part, width-some}
 use Rattle.bitvec_move.proofs.copying_shifted.copy_shifted.Goals as goal
 
 pub nonzero_rem-to : goal.nonzero_rem-to

@@ -2,7 +2,7 @@ use Rattle.std.proofs.Common.{◌≡◌, ◌∙◌, ap, arith, refl, rules, slic
 use Rattle.bitvec_words.specs.store.WidthLaws.{width_some}
 use Rattle.bitvec_words.specs.base.WritesLaws.{Writes-is}
 use Rattle.bitvec_words.specs.FieldLaws.{Writes-element, Writes-no_element, list-joined}
-use Rattle.bitvec_move.proofs.PlaceLemmas.{inside, inside-word, next-inside, next-word}
+use Rattle.bitvec_move.specs.PlaceLaws.{inside, inside-word, next-inside, next-word}
 use Rattle.bitvec_move.proofs.copying_shifted.shift_carried.Goals as goal
 
 pub overflow_add-source : goal.overflow_add-source

@@ -2,7 +2,7 @@ use Rattle.std.proofs.Common.{◌≡◌, ◌<◌, ◌+◌, ◌-◌, arith, rules
 use Rattle.bitvec_words.specs.store.WidthLaws.{width_some}
 use Rattle.bitvec_words.specs.base.WritesLaws.{Writes-is}
 use Rattle.bitvec_move.specs.WithinLaws.{Writes-element_ahead, Writes-no_element_ahead, element-left_ahead, list-joined_ahead}
-use Rattle.bitvec_move.proofs.PlaceLemmas.{from-inside, from-word, inside, inside-word}
+use Rattle.bitvec_move.specs.PlaceLaws.{from-inside, from-word, inside, inside-word}
 use Rattle.bitvec_move.proofs.moving_to_end.shift_carried_to_end.Goals as goal
 
 pub overflow_add-source : goal.overflow_add-source

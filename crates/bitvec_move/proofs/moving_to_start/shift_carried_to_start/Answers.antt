@@ -4,7 +4,7 @@ use Rattle.bitvec_words.specs.base.Memory.{element_bits}
 use Rattle.bitvec_words.specs.base.WritesLaws.{Writes-is}
 use Rattle.bitvec_words.specs.FieldLaws.{Writes-element, Writes-no_element, list-joined}
 use Rattle.bitvec_move.specs.WithinLaws.{element-left}
-use Rattle.bitvec_move.proofs.PlaceLemmas.{from-inside, inside, inside-word, next-inside, next-word}
+use Rattle.bitvec_move.specs.PlaceLaws.{from-inside, inside, inside-word, next-inside, next-word}
 use Rattle.bitvec_move.proofs.moving_to_start.shift_carried_to_start.Goals as goal
 
 pub load-requires : goal.load-requires

@@ -2,7 +2,7 @@ use Rattle.std.proofs.Common.{arith, rules, refl}
 use Rattle.bitvec_words.specs.store.WidthLaws.{width_some}
 use Rattle.bitvec_move.specs.SwapLaws.{Writes-exchanged, beside-tail}
 use Rattle.bitvec_words.specs.TouchedLaws.{touched-full, touched-more}
-use Rattle.bitvec_move.proofs.PlaceLemmas.{tail-inside, tail-part, tail-word, whole-window, width-some}
+use Rattle.bitvec_move.specs.PlaceLaws.{tail-inside, tail-part, tail-word, whole-window, width-some}
 use Rattle.bitvec_move.proofs.swapping_equal.swap_aligned.Goals as goal
 
 pub nonzero_div-count : goal.nonzero_div-count

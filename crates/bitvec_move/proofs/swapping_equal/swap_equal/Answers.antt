@@ -6,7 +6,7 @@ use Rattle.bitvec_words.specs.walk.Cost.{touched_count}
 use Rattle.bitvec_words.specs.FieldLaws.{first_part-long}
 use Rattle.bitvec_move.specs.SwapLaws.{Writes-exchanged, beside-head}
 use Rattle.bitvec_words.specs.TouchedLaws.{touched-head, touched-rest}
-use Rattle.bitvec_move.proofs.PlaceLemmas.{behind-edge, head-element, head-part, width-some}
+use Rattle.bitvec_move.specs.PlaceLaws.{behind-edge, head-element, head-part, width-some}
 use Rattle.bitvec_move.proofs.swapping_equal.swap_equal.Goals as goal
 
 pub nonzero_div-right_window : goal.nonzero_div-right_window

@@ -6,7 +6,7 @@ use Rattle.bitvec_words.specs.base.Window.{write_at}
 use Rattle.bitvec_words.specs.FieldLaws.{Writes-no_element}
 use Rattle.bitvec_move.specs.SwapLaws.{next_element}
 use Rattle.bitvec_move.specs.WaitingLaws.{across-bits, across-element, across-next, across-none, ends-joined, ends-next, ends-start, range-carried}
-use Rattle.bitvec_move.proofs.PlaceLemmas.{inside, inside-word, next-word}
+use Rattle.bitvec_move.specs.PlaceLaws.{inside, inside-word, next-word}
 use Rattle.bitvec_move.proofs.swapping_shifted.swap_each.Goals as goal
 
 pub overflow_add-first : goal.overflow_add-first

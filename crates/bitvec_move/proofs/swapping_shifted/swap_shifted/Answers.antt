@@ -8,7 +8,7 @@ use Rattle.bitvec_words.specs.walk.Cost.{touched_count}
 use Rattle.bitvec_words.specs.FieldLaws.{first_part-long}
 use Rattle.bitvec_move.specs.SwapLaws.{Writes-exchanged, beside-head, beside-parted}
 use Rattle.bitvec_words.specs.TouchedLaws.{apart_edge, inside_element, touched-first, touched-head, touched-inside, touched-rest}
-use Rattle.bitvec_move.proofs.PlaceLemmas.{behind-edge, head-element, head-part, width-some}
+use Rattle.bitvec_move.specs.PlaceLaws.{behind-edge, head-element, head-part, width-some}
 use Rattle.bitvec_move.proofs.swapping_shifted.swap_shifted.Goals as goal
 
 pub nonzero_div-right_window : goal.nonzero_div-right_window

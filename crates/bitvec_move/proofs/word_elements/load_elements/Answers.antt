@@ -13,7 +13,7 @@ use Rattle.bitvec_words.specs.Field.{padded}
 use Rattle.bitvec_words.specs.FieldLaws.{list-element}
 use Rattle.bitvec_words.specs.MovedLaws.{element-joined, padded-none}
 use Rattle.bitvec_move.specs.WordLaws.{list-no_element, padded-all, word_whole}
-use Rattle.bitvec_move.proofs.PlaceLemmas.{inside, inside-word, width-some, word-place}
+use Rattle.bitvec_move.specs.PlaceLaws.{inside, inside-word, width-some, word-place}
 use Rattle.bitvec_move.proofs.word_elements.load_elements.Goals as goal
 
 pub nonzero_div-step-end : goal.nonzero_div-step-end

@@ -7,7 +7,7 @@ use Rattle.bitvec_words.specs.base.WritesLaws.{Writes-is}
 use Rattle.bitvec_words.specs.Elements.{elements_window}
 use Rattle.bitvec_words.specs.FieldLaws.{Writes-element}
 use Rattle.bitvec_move.specs.WordLaws.{Writes-none_taken, take-all, word-part, word_whole}
-use Rattle.bitvec_move.proofs.PlaceLemmas.{inside, inside-word, width-some, word-place}
+use Rattle.bitvec_move.specs.PlaceLaws.{inside, inside-word, width-some, word-place}
 use Rattle.bitvec_move.proofs.word_elements.store_elements.Goals as goal
 
 pub nonzero_div-step-end : goal.nonzero_div-step-end
