@@ -4,6 +4,7 @@ use Rattle.bitvec_words.specs.WholeLaws.{behind-mod}
 use Rattle.bitvec_words.specs.walk.WalkLaws.{div-order}
 use Rattle.std.proofs.lemmas.Nat.{div-add-mod', mod_below}
 use Rattle.bitvec_words.specs.store.WidthLaws.{width_some}
+use Rattle.bitvec_words.specs.TouchedLaws.{touched-after}
 use Rattle.bitvec_move.specs.WithinLaws.{Writes-move_back, touched-split_whole}
 use Rattle.bitvec_move.specs.PlaceLaws.{whole-window, whole-window_from, width-some}
 use Rattle.bitvec_move.proofs.moving_to_end.move_aligned_to_end.Goals as goal
@@ -47,7 +48,6 @@ move_edge-requires-clause-one g c =
     let parts = div-add-mod' c.args.to.len b in
     let edge = c.requires.edge in
     rw (c.after.ensures, c.BITS-bits.ensures) (omega arith)
-use Rattle.bitvec_words.specs.TouchedLaws.{touched-after}
 
 pub returns-clause-writes : goal.returns-clause-writes
 returns-clause-writes g c =
