@@ -1,10 +1,33 @@
-use Rattle.std.proofs.Common.{◌≡◌, ◌≤◌, ◌*◌, ◌/◌, arith, rules}
+use Rattle.std.proofs.Common.{◌≡◌, ◌≤◌, ◌*◌, ◌/◌, arith, rules, ◌∙◌}
+use Rattle.bitvec_move.specs.words.WholeLaws.{behind-mod}
 use Rattle.std.proofs.lemmas.Nat.{div-add-mod'}
 use Rattle.bitvec_move.specs.store.WidthLaws.{width_some}
 use Rattle.bitvec_move.specs.words.CombinedLaws.{Writes-all_met, Writes-some_met}
 use Rattle.bitvec_move.specs.words.Operator.{operator}
 use Rattle.bitvec_move.specs.words.TouchedLaws.{touched-after, touched-full}
+use Rattle.bitvec_move.specs.PlaceLaws.{whole-window, width-some}
 use Rattle.bitvec_combine.proofs.combining.combine_aligned.Goals as goal
+
+pub nonzero_div-count : goal.nonzero_div-count
+nonzero_div-count g c = let some = width-some _ _ g.met.C.Elem.BitStore.width_law c.BITS-bits.ensures in omega arith
+
+pub nonzero_div-first : goal.nonzero_div-first
+nonzero_div-first g c = let some = width-some _ _ g.met.C.Elem.BitStore.width_law c.BITS-bits.ensures in omega arith
+
+pub nonzero_div-source : goal.nonzero_div-source
+nonzero_div-source g c = let some = width-some _ _ g.met.C.Elem.BitStore.width_law c.BITS-bits.ensures in omega arith
+
+pub combine_whole-requires-clause-window : goal.combine_whole-requires-clause-window
+combine_whole-requires-clause-window g c = whole-window _ _ _ c.args.to _ g.met.C.Elem.BitStore.width_law c.BITS-bits.ensures c.requires.window c.requires.edge (let lengths = c.requires.lengths in omega arith)
+
+pub combine_whole-requires-clause-right_window : goal.combine_whole-requires-clause-right_window
+combine_whole-requires-clause-right_window g c = whole-window _ _ _ c.args.from _ g.met.C.Elem.BitStore.width_law c.BITS-bits.ensures c.requires.right_window c.requires.right_edge (omega arith)
+
+pub combine_end-requires-clause-edge : goal.combine_end-requires-clause-edge
+combine_end-requires-clause-edge g c =
+    let b = g.C.Elem.BitStore.BITS in
+    let some = width_some _ g.met.C.Elem.BitStore.width_law in
+    rw (c.after-rest.ensures, c.BITS-bits.ensures) (behind-mod b c.args.to.start (c.args.from.len / b) some ∙ c.requires.edge)
 
 pub returns-then-tail-eq0-clause-writes : goal.returns-then-tail-eq0-clause-writes
 returns-then-tail-eq0-clause-writes g c =

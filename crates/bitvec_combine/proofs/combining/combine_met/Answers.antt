@@ -7,7 +7,20 @@ use Rattle.bitvec_move.specs.words.CombinedLaws.{Writes-first_met}
 use Rattle.bitvec_move.specs.words.FieldLaws.{first_part-long}
 use Rattle.bitvec_move.specs.words.Operator.{operator}
 use Rattle.bitvec_move.specs.words.TouchedLaws.{inside_element, touched-edge, touched-inside, touched-parts}
+use Rattle.bitvec_move.specs.PlaceLaws.{head-part, width-some}
 use Rattle.bitvec_combine.proofs.combining.combine_met.Goals as goal
+
+pub nonzero_rem-behind : goal.nonzero_rem-behind
+nonzero_rem-behind g c = let some = width-some _ _ g.met.C.Elem.BitStore.width_law c.BITS-bits.ensures in omega arith
+
+pub first_part-head-requires-clause-bits : goal.first_part-head-requires-clause-bits
+first_part-head-requires-clause-bits g c = width-some _ _ g.met.C.Elem.BitStore.width_law c.BITS-bits.ensures
+
+pub combine_head-carry-requires-clause-part : goal.combine_head-carry-requires-clause-part
+combine_head-carry-requires-clause-part g c =
+    let lengths = c.requires.lengths in
+    let some = c.requires.some in
+    head-part _ _ _ c.args.to _ g.met.C.Elem.BitStore.width_law c.BITS-bits.ensures c.first_part-head.ensures (omega arith) c.requires.window
 
 pub returns-then-passed-to-clause-cost : goal.returns-then-passed-to-clause-cost
 returns-then-passed-to-clause-cost g c =

@@ -1,10 +1,55 @@
-use Rattle.std.proofs.Common.{◌≡◌, ◌≤◌, ◌*◌, ◌/◌, ◌%◌, ◌-◌, ◌+◌, arith, rules}
-use Rattle.std.proofs.lemmas.Nat.{div-add-mod'}
+use Rattle.std.proofs.Common.{◌≡◌, ◌≤◌, ◌*◌, ◌/◌, ◌%◌, ◌-◌, ◌+◌, arith, rules, ◌∙◌}
+use Rattle.bitvec_move.specs.WaitingLaws.{behind-element}
+use Rattle.bitvec_move.specs.words.WholeLaws.{behind-mod}
+use Rattle.std.proofs.lemmas.Nat.{div-add-mod', mod_below}
 use Rattle.bitvec_move.specs.store.WidthLaws.{width_some}
 use Rattle.bitvec_move.specs.words.CombinedLaws.{Writes-all_met, Writes-some_met}
 use Rattle.bitvec_move.specs.words.Operator.{operator}
 use Rattle.bitvec_move.specs.words.TouchedLaws.{touched-after, touched-from_full, touched-from_more}
+use Rattle.bitvec_move.specs.PlaceLaws.{whole-window, whole-window_from, width-some}
 use Rattle.bitvec_combine.proofs.combining.combine_shifted.Goals as goal
+
+pub nonzero_div-count : goal.nonzero_div-count
+nonzero_div-count g c = let some = width-some _ _ g.met.C.Elem.BitStore.width_law c.BITS-bits.ensures in omega arith
+
+pub nonzero_div-first : goal.nonzero_div-first
+nonzero_div-first g c = let some = width-some _ _ g.met.C.Elem.BitStore.width_law c.BITS-bits.ensures in omega arith
+
+pub nonzero_div-source : goal.nonzero_div-source
+nonzero_div-source g c = let some = width-some _ _ g.met.C.Elem.BitStore.width_law c.BITS-bits.ensures in omega arith
+
+pub nonzero_rem-skip : goal.nonzero_rem-skip
+nonzero_rem-skip g c = let some = width-some _ _ g.met.C.Elem.BitStore.width_law c.BITS-bits.ensures in omega arith
+
+pub combine_joined-last-requires-clause-window : goal.combine_joined-last-requires-clause-window
+combine_joined-last-requires-clause-window g c = whole-window _ _ _ c.args.to _ g.met.C.Elem.BitStore.width_law c.BITS-bits.ensures c.requires.window c.requires.edge (let lengths = c.requires.lengths in omega arith)
+
+pub combine_joined-last-requires-clause-right_window : goal.combine_joined-last-requires-clause-right_window
+combine_joined-last-requires-clause-right_window g c = whole-window_from _ _ _ c.args.from _ g.met.C.Elem.BitStore.width_law c.BITS-bits.ensures c.requires.right_window (omega arith)
+
+pub combine_joined-last-requires-clause-some : goal.combine_joined-last-requires-clause-some
+combine_joined-last-requires-clause-some g c = rw c.BITS-bits.ensures c.requires.phase
+
+pub combine_joined-last-requires-clause-bound : goal.combine_joined-last-requires-clause-bound
+combine_joined-last-requires-clause-bound g c =
+    let b = g.C.Elem.BitStore.BITS in
+    let some = width_some _ g.met.C.Elem.BitStore.width_law in
+    rw c.BITS-bits.ensures (mod_below c.args.from.start b some)
+
+pub combine_joined-last-requires-clause-carry : goal.combine_joined-last-requires-clause-carry
+combine_joined-last-requires-clause-carry g c = rw c.BITS-bits.ensures c.requires.carry
+
+pub combine_end-requires-clause-edge : goal.combine_end-requires-clause-edge
+combine_end-requires-clause-edge g c =
+    let b = g.C.Elem.BitStore.BITS in
+    let some = width_some _ g.met.C.Elem.BitStore.width_law in
+    rw (c.after-rest.ensures, c.BITS-bits.ensures) (behind-mod b c.args.to.start (c.args.from.len / b) some ∙ c.requires.edge)
+
+pub field_after-front-requires-clause-first : goal.field_after-front-requires-clause-first
+field_after-front-requires-clause-first g c =
+    let b = g.C.Elem.BitStore.BITS in
+    let some = width_some _ g.met.C.Elem.BitStore.width_law in
+    rw (c.after-tail.ensures, c.BITS-bits.ensures, c.combine_joined-last.ensures.right.numbers, behind-element b c.args.from.start (c.args.from.len / b) some) (rw c.BITS-bits.ensures at c.combine_joined-last.ensures.carried)
 
 pub returns-then-tail-eq0-clause-writes : goal.returns-then-tail-eq0-clause-writes
 returns-then-tail-eq0-clause-writes g c =

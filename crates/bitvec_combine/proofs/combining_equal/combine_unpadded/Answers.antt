@@ -10,7 +10,43 @@ use Rattle.bitvec_move.specs.words.Elements.{elements_window}
 use Rattle.bitvec_move.specs.words.FieldLaws.{list-tail}
 use Rattle.bitvec_move.specs.words.Operator.{operator}
 use Rattle.bitvec_move.specs.words.TouchedLaws.{touched-full, touched-more}
+use Rattle.bitvec_move.specs.PlaceLaws.{tail-inside, tail-part, tail-word, whole-window, width-some}
 use Rattle.bitvec_combine.proofs.combining_equal.combine_unpadded.Goals as goal
+
+pub nonzero_div-count : goal.nonzero_div-count
+nonzero_div-count g c = let some = width-some _ _ g.met.C.Elem.BitStore.width_law c.BITS-bits.ensures in omega arith
+
+pub nonzero_div-first : goal.nonzero_div-first
+nonzero_div-first g c = let some = width-some _ _ g.met.C.Elem.BitStore.width_law c.BITS-bits.ensures in omega arith
+
+pub nonzero_div-source : goal.nonzero_div-source
+nonzero_div-source g c = let some = width-some _ _ g.met.C.Elem.BitStore.width_law c.BITS-bits.ensures in omega arith
+
+pub nonzero_rem-rest : goal.nonzero_rem-rest
+nonzero_rem-rest g c = let some = width-some _ _ g.met.C.Elem.BitStore.width_law c.BITS-bits.ensures in omega arith
+
+pub combine_whole-requires-clause-window : goal.combine_whole-requires-clause-window
+combine_whole-requires-clause-window g c = whole-window _ _ _ c.args.to _ g.met.C.Elem.BitStore.width_law c.BITS-bits.ensures c.requires.window c.requires.edge (omega arith)
+
+pub combine_whole-requires-clause-right_window : goal.combine_whole-requires-clause-right_window
+combine_whole-requires-clause-right_window g c = whole-window _ _ _ c.args.from _ g.met.C.Elem.BitStore.width_law c.BITS-bits.ensures c.requires.right_window c.requires.right_edge (let lengths = c.requires.lengths in omega arith)
+
+pub overflow_add-tail : goal.overflow_add-tail
+overflow_add-tail g c =
+    let below = tail-word _ _ _ c.args.to c.args.to.len g.met.C.Elem.BitStore.width_law c.BITS-bits.ensures c.requires.window (omega arith) (let left = c.if-rest-eq0.false in omega arith) in
+    omega arith
+
+pub overflow_add-source : goal.overflow_add-source
+overflow_add-source g c =
+    let below = tail-word _ _ _ c.args.from c.args.to.len g.met.C.Elem.BitStore.width_law c.BITS-bits.ensures c.requires.right_window (let lengths = c.requires.lengths in omega arith) (let left = c.if-rest-eq0.false in omega arith) in
+    omega arith
+
+pub combine_element-requires-clause-part : goal.combine_element-requires-clause-part
+combine_element-requires-clause-part g c = tail-part _ _ _ _ c.args.to _ g.met.C.Elem.BitStore.width_law c.BITS-bits.ensures c.requires.window (omega arith) (let left = c.if-rest-eq0.false in omega arith) c.combine_whole.ensures.writes.elements
+
+pub combine_element-requires-clause-source : goal.combine_element-requires-clause-source
+combine_element-requires-clause-source g c =
+    rw c.combine_whole.ensures.right.numbers (tail-inside _ _ _ c.args.from _ g.met.C.Elem.BitStore.width_law c.BITS-bits.ensures c.requires.right_window (let lengths = c.requires.lengths in omega arith) (let left = c.if-rest-eq0.false in omega arith))
 
 pub returns-then-rest-eq0-clause-cost : goal.returns-then-rest-eq0-clause-cost
 returns-then-rest-eq0-clause-cost g c =

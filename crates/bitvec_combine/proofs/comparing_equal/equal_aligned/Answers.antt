@@ -5,8 +5,33 @@ use Rattle.bitvec_move.specs.words.Elements.{elements_window}
 use Rattle.bitvec_move.specs.store.WidthLaws.{width_some}
 use Rattle.bitvec_move.specs.words.SameLaws.{same-apart, same-then}
 use Rattle.bitvec_move.specs.words.TouchedLaws.{touched-after}
-use Rattle.bitvec_move.specs.words.WholeLaws.{HasWindow-part, list-elements, long-elements, whole_fits}
+use Rattle.bitvec_move.specs.words.WholeLaws.{HasWindow-part, list-elements, long-elements, whole_fits, behind-mod}
+use Rattle.bitvec_move.specs.PlaceLaws.{width-some}
 use Rattle.bitvec_combine.proofs.comparing_equal.equal_aligned.Goals as goal
+
+pub nonzero_div-first : goal.nonzero_div-first
+nonzero_div-first g c = let some = width-some _ _ g.met.C.Elem.BitStore.width_law c.BITS-bits.ensures in omega arith
+
+pub nonzero_div-source : goal.nonzero_div-source
+nonzero_div-source g c = let some = width-some _ _ g.met.C.Elem.BitStore.width_law c.BITS-bits.ensures in omega arith
+
+pub nonzero_div-tests : goal.nonzero_div-tests
+nonzero_div-tests g c = let some = width-some _ _ g.met.C.Elem.BitStore.width_law c.BITS-bits.ensures in omega arith
+
+pub elements_per_test-span-requires : goal.elements_per_test-span-requires
+elements_per_test-span-requires g c = let some = width-some _ _ g.met.C.Elem.BitStore.width_law c.BITS-bits.ensures in omega arith
+
+pub equal_aligned_rest-requires-clause-edge : goal.equal_aligned_rest-requires-clause-edge
+equal_aligned_rest-requires-clause-edge g c =
+    let b = g.C.Elem.BitStore.BITS in
+    let some = width_some _ g.met.C.Elem.BitStore.width_law in
+    rw (c.after.ensures, c.BITS-bits.ensures) (behind-mod b c.args.left_window.start (c.args.left_window.len / b / c.elements_per_test-span.result * c.elements_per_test-span.result) some ∙ c.requires.edge)
+
+pub equal_aligned_rest-requires-clause-right_edge : goal.equal_aligned_rest-requires-clause-right_edge
+equal_aligned_rest-requires-clause-right_edge g c =
+    let b = g.C.Elem.BitStore.BITS in
+    let some = width_some _ g.met.C.Elem.BitStore.width_law in
+    rw (c.after-2.ensures, c.BITS-bits.ensures) (behind-mod b c.args.right_window.start (c.args.left_window.len / b / c.elements_per_test-span.result * c.elements_per_test-span.result) some ∙ c.requires.right_edge)
 
 pub differences-found-requires-clause-window : goal.differences-found-requires-clause-window
 differences-found-requires-clause-window g c =

@@ -4,7 +4,44 @@ use Rattle.bitvec_move.specs.words.FieldLaws.{list-tail}
 use Rattle.bitvec_move.specs.words.SameLaws.{same-apart, same-then}
 use Rattle.bitvec_move.specs.words.TouchedLaws.{touched-after, touched-more}
 use Rattle.bitvec_move.specs.words.WholeLaws.{long-whole, whole_fits}
+use Rattle.bitvec_move.specs.PlaceLaws.{tail-inside, tail-part, tail-word, whole-window, width-some}
 use Rattle.bitvec_combine.proofs.comparing_equal.equal_aligned_rest.Goals as goal
+
+pub nonzero_div-count : goal.nonzero_div-count
+nonzero_div-count g c = let some = width-some _ _ g.met.C.Elem.BitStore.width_law c.BITS-bits.ensures in omega arith
+
+pub nonzero_div-first : goal.nonzero_div-first
+nonzero_div-first g c = let some = width-some _ _ g.met.C.Elem.BitStore.width_law c.BITS-bits.ensures in omega arith
+
+pub nonzero_div-source : goal.nonzero_div-source
+nonzero_div-source g c = let some = width-some _ _ g.met.C.Elem.BitStore.width_law c.BITS-bits.ensures in omega arith
+
+pub nonzero_rem-rest : goal.nonzero_rem-rest
+nonzero_rem-rest g c = let some = width-some _ _ g.met.C.Elem.BitStore.width_law c.BITS-bits.ensures in omega arith
+
+pub differences-found-requires-clause-window : goal.differences-found-requires-clause-window
+differences-found-requires-clause-window g c = whole-window _ _ _ c.args.left_window _ g.met.C.Elem.BitStore.width_law c.BITS-bits.ensures c.requires.window c.requires.edge (omega arith)
+
+pub differences-found-requires-clause-right_window : goal.differences-found-requires-clause-right_window
+differences-found-requires-clause-right_window g c = whole-window _ _ _ c.args.right_window _ g.met.C.Elem.BitStore.width_law c.BITS-bits.ensures c.requires.right_window c.requires.right_edge (let lengths = c.requires.lengths in omega arith)
+
+pub overflow_add-tail : goal.overflow_add-tail
+overflow_add-tail g c =
+    let below = tail-word _ _ _ c.args.left_window c.args.left_window.len g.met.C.Elem.BitStore.width_law c.BITS-bits.ensures c.requires.window (omega arith) (let left = c.if-rest-eq0.false in omega arith) in
+    omega arith
+
+pub overflow_add-source : goal.overflow_add-source
+overflow_add-source g c =
+    let below = tail-word _ _ _ c.args.right_window c.args.left_window.len g.met.C.Elem.BitStore.width_law c.BITS-bits.ensures c.requires.right_window (let lengths = c.requires.lengths in omega arith) (let left = c.if-rest-eq0.false in omega arith) in
+    omega arith
+
+pub equal_part-requires-clause-part : goal.equal_part-requires-clause-part
+equal_part-requires-clause-part g c =
+    rw c.differences-found.ensures.reads.numbers (tail-part _ _ _ _ c.args.left_window _ g.met.C.Elem.BitStore.width_law c.BITS-bits.ensures c.requires.window (omega arith) (let left = c.if-rest-eq0.false in omega arith) refl)
+
+pub equal_part-requires-clause-source : goal.equal_part-requires-clause-source
+equal_part-requires-clause-source g c =
+    rw c.differences-found.ensures.right.numbers (tail-inside _ _ _ c.args.right_window _ g.met.C.Elem.BitStore.width_law c.BITS-bits.ensures c.requires.right_window (let lengths = c.requires.lengths in omega arith) (let left = c.if-rest-eq0.false in omega arith))
 
 pub returns-then-not-is_zero-clause-value : goal.returns-then-not-is_zero-clause-value
 returns-then-not-is_zero-clause-value g c =

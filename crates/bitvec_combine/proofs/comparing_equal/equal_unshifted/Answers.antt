@@ -6,7 +6,37 @@ use Rattle.bitvec_move.specs.words.FieldLaws.{first_part-long, list-head}
 use Rattle.bitvec_move.specs.words.SameLaws.{same-apart, same-then}
 use Rattle.bitvec_move.specs.words.TouchedLaws.{touched-first, touched-rest}
 use Rattle.bitvec_move.specs.words.WholeLaws.{long-head}
+use Rattle.bitvec_move.specs.PlaceLaws.{behind-edge, head-element, head-part, width-some}
 use Rattle.bitvec_combine.proofs.comparing_equal.equal_unshifted.Goals as goal
+
+pub nonzero_div-right_window : goal.nonzero_div-right_window
+nonzero_div-right_window g c = let some = width-some _ _ g.met.C.Elem.BitStore.width_law c.BITS-bits.ensures in omega arith
+
+pub first_part-head-requires-clause-bits : goal.first_part-head-requires-clause-bits
+first_part-head-requires-clause-bits g c = width-some _ _ g.met.C.Elem.BitStore.width_law c.BITS-bits.ensures
+
+pub equal_part-requires-clause-part : goal.equal_part-requires-clause-part
+equal_part-requires-clause-part g c = head-part _ _ _ c.args.left_window _ g.met.C.Elem.BitStore.width_law c.BITS-bits.ensures c.first_part-head.ensures c.requires.some c.requires.window
+
+pub equal_part-requires-clause-source : goal.equal_part-requires-clause-source
+equal_part-requires-clause-source g c =
+    let lengths = c.requires.lengths in
+    let some = c.requires.some in
+    head-element _ _ _ c.args.right_window g.met.C.Elem.BitStore.width_law c.BITS-bits.ensures (omega arith) c.requires.right_window
+
+pub equal_aligned-requires-clause-edge : goal.equal_aligned-requires-clause-edge
+equal_aligned-requires-clause-edge g c =
+    let b = g.C.Elem.BitStore.BITS in
+    let step = first_part-long c.len-passed.result b c.BITS-bits.result c.args.left_window c.first_part-head.result c.len-passed.ensures c.first_part-head.ensures c.BITS-bits.ensures in
+    behind-edge _ _ c.args.left_window _ g.met.C.Elem.BitStore.width_law c.after.ensures step c.if-passed-left_window.false
+
+pub equal_aligned-requires-clause-right_edge : goal.equal_aligned-requires-clause-right_edge
+equal_aligned-requires-clause-right_edge g c =
+    let b = g.C.Elem.BitStore.BITS in
+    let step = first_part-long c.len-passed.result b c.BITS-bits.result c.args.left_window c.first_part-head.result c.len-passed.ensures c.first_part-head.ensures c.BITS-bits.ensures in
+    let same : c.len-passed.result ≡ min c.args.right_window.len (b - c.args.right_window.start % b) = rw (c.requires.lengths, c.requires.phases) at step in
+    let left : c.len-passed.result ≢ c.args.right_window.len = λ e. c.if-passed-left_window.false (omega arith) in
+    behind-edge b _ c.args.right_window _ g.met.C.Elem.BitStore.width_law c.after-2.ensures same left
 
 pub returns-then-not-equal_part-clause-value : goal.returns-then-not-equal_part-clause-value
 returns-then-not-equal_part-clause-value g c =

@@ -1,4 +1,4 @@
-use Rattle.std.proofs.Common.{◌==◌, ℕ, List, Bool, ◌++◌, arith, rules, ◌∙◌, ap, slice_index}
+use Rattle.std.proofs.Common.{◌==◌, ℕ, List, Bool, ◌++◌, arith, rules, ◌∙◌, ap, slice_index, ◌≡◌, refl}
 use Rattle.std.proofs.Math.Nat.{mul-le-mul_left}
 use Rattle.bitvec_move.specs.store.WidthLaws.{width_some}
 use Rattle.bitvec_move.specs.base.Memory.{element_bits, list_in}
@@ -6,7 +6,49 @@ use Rattle.bitvec_move.specs.words.Elements.{elements_window, elements_window_fr
 use Rattle.bitvec_move.specs.words.FieldLaws.{list-element, list-joined}
 use Rattle.bitvec_move.specs.words.SameLaws.{same-element}
 use Rattle.bitvec_move.specs.words.WholeLaws.{HasWindow-part, same-empty, same-length}
+use Rattle.bitvec_move.specs.PlaceLaws.{inside, inside-word, next-inside, next-word}
 use Rattle.bitvec_combine.proofs.comparing_shifted.carried_differences.Goals as goal
+
+pub overflow_add-source : goal.overflow_add-source
+overflow_add-source g c =
+    let below = next-word _ _ _ _ _ _ g.met.C.Elem.BitStore.width_law c.requires.right_window c.requires.some c.loop-step-test.true in
+    omega arith
+
+pub overflow_add-source-in-loop-step : goal.overflow_add-source-in-loop-step
+overflow_add-source-in-loop-step g c =
+    let below = next-word _ _ _ _ _ _ g.met.C.Elem.BitStore.width_law c.requires.right_window c.requires.some c.loop-step-test.true in
+    omega arith
+
+pub load-requires : goal.load-requires
+load-requires g c = rw c.loop-step.invariant.right.numbers (next-inside _ _ _ _ _ _ _ c.requires.right_window c.requires.some c.loop-step-test.true refl)
+
+pub overflow_add-first : goal.overflow_add-first
+overflow_add-first g c =
+    let below = inside-word _ _ _ _ _ g.met.C.Elem.BitStore.width_law c.requires.window c.loop-step-test.true in
+    omega arith
+
+pub load-element-requires : goal.load-element-requires
+load-element-requires g c = rw c.loop-step.invariant.reads.numbers (inside _ _ _ _ _ _ g.met.C.Elem.BitStore.width_law c.requires.window c.loop-step-test.true refl)
+
+pub returns-clause-value : goal.returns-clause-value
+returns-clause-value g c =
+    let all : c.loop-step.step ≡ c.args.count = omega arith in
+    rw (← all) c.loop-step.invariant.found
+
+pub returns-clause-carried : goal.returns-clause-carried
+returns-clause-carried g c =
+    let all : c.loop-step.step ≡ c.args.count = omega arith in
+    rw (← all) (c.element.ensures ∙ c.loop-step.invariant.carried)
+
+pub returns-clause-reads : goal.returns-clause-reads
+returns-clause-reads g c =
+    let all : c.loop-step.step ≡ c.args.count = omega arith in
+    rw (← all) c.loop-step.invariant.reads
+
+pub returns-clause-right : goal.returns-clause-right
+returns-clause-right g c =
+    let all : c.loop-step.step ≡ c.args.count = omega arith in
+    rw (← all) c.loop-step.invariant.right
 
 pub loop-step-init : goal.loop-step-init
 loop-step-init g c = record {

@@ -1,12 +1,59 @@
 use Rattle.std.proofs.Common.{◌≡◌, ◌≤◌, ℕ, ◌+◌, ◌*◌, ◌/◌, ◌%◌, arith, rules, sym, ◌∙◌, ap, slice_index}
+use Rattle.bitvec_move.specs.WaitingLaws.{behind-element}
 use Rattle.std.proofs.Math.Nat.{mul-le-mul_left}
-use Rattle.std.proofs.lemmas.Nat.{div-add-mod'}
+use Rattle.std.proofs.lemmas.Nat.{div-add-mod', mod_below}
 use Rattle.bitvec_move.specs.words.Elements.{elements_window, elements_window_from}
 use Rattle.bitvec_move.specs.store.WidthLaws.{width_some}
 use Rattle.bitvec_move.specs.words.SameLaws.{same-apart, same-then}
 use Rattle.bitvec_move.specs.words.TouchedLaws.{touched-after}
-use Rattle.bitvec_move.specs.words.WholeLaws.{HasWindow-part, list-elements, list-elements_from, long-elements_from, touched-behind_from, whole_fits}
+use Rattle.bitvec_move.specs.words.WholeLaws.{HasWindow-part, list-elements, list-elements_from, long-elements_from, touched-behind_from, whole_fits, behind-mod}
+use Rattle.bitvec_move.specs.PlaceLaws.{width-some}
 use Rattle.bitvec_combine.proofs.comparing_shifted.equal_carried.Goals as goal
+
+pub nonzero_div-first : goal.nonzero_div-first
+nonzero_div-first g c = let some = width-some _ _ g.met.C.Elem.BitStore.width_law c.BITS-bits.ensures in omega arith
+
+pub nonzero_div-source : goal.nonzero_div-source
+nonzero_div-source g c = let some = width-some _ _ g.met.C.Elem.BitStore.width_law c.BITS-bits.ensures in omega arith
+
+pub nonzero_div-tests : goal.nonzero_div-tests
+nonzero_div-tests g c = let some = width-some _ _ g.met.C.Elem.BitStore.width_law c.BITS-bits.ensures in omega arith
+
+pub elements_per_test-span-requires : goal.elements_per_test-span-requires
+elements_per_test-span-requires g c = let some = width-some _ _ g.met.C.Elem.BitStore.width_law c.BITS-bits.ensures in omega arith
+
+pub nonzero_rem-skip : goal.nonzero_rem-skip
+nonzero_rem-skip g c = let some = width-some _ _ g.met.C.Elem.BitStore.width_law c.BITS-bits.ensures in omega arith
+
+pub tested_differences-found-requires-clause-some : goal.tested_differences-found-requires-clause-some
+tested_differences-found-requires-clause-some g c = rw c.BITS-bits.ensures c.requires.phase
+
+pub tested_differences-found-requires-clause-bound : goal.tested_differences-found-requires-clause-bound
+tested_differences-found-requires-clause-bound g c =
+    let b = g.C.Elem.BitStore.BITS in
+    let some = width_some _ g.met.C.Elem.BitStore.width_law in
+    rw c.BITS-bits.ensures (mod_below c.args.right_window.start b some)
+
+pub equal_carried_rest-requires-clause-edge : goal.equal_carried_rest-requires-clause-edge
+equal_carried_rest-requires-clause-edge g c =
+    let b = g.C.Elem.BitStore.BITS in
+    let some = width_some _ g.met.C.Elem.BitStore.width_law in
+    rw (c.after.ensures, c.BITS-bits.ensures) (behind-mod b c.args.left_window.start (c.args.left_window.len / b / c.elements_per_test-span.result * c.elements_per_test-span.result) some ∙ c.requires.edge)
+
+pub equal_carried_rest-requires-clause-phase : goal.equal_carried_rest-requires-clause-phase
+equal_carried_rest-requires-clause-phase g c =
+    let b = g.C.Elem.BitStore.BITS in
+    let some = width_some _ g.met.C.Elem.BitStore.width_law in
+    rw (c.after-2.ensures, c.BITS-bits.ensures, behind-mod b c.args.right_window.start (c.args.left_window.len / b / c.elements_per_test-span.result * c.elements_per_test-span.result) some) c.requires.phase
+
+pub equal_carried_rest-requires-clause-carry : goal.equal_carried_rest-requires-clause-carry
+equal_carried_rest-requires-clause-carry g c =
+    let b = g.C.Elem.BitStore.BITS in
+    let some = width_some _ g.met.C.Elem.BitStore.width_law in
+    let end = rw c.BITS-bits.ensures at c.loop-test-test.false in
+    let most = rw c.BITS-bits.ensures at c.loop-test.auto.test-end in
+    let all : c.loop-test.test ≡ c.args.left_window.len / b / c.elements_per_test-span.result = omega arith in
+    rw (c.after-2.ensures, c.BITS-bits.ensures, c.loop-test.invariant.right.numbers, behind-element b c.args.right_window.start (c.args.left_window.len / b / c.elements_per_test-span.result * c.elements_per_test-span.result) some) (rw (all, c.BITS-bits.ensures) at c.loop-test.invariant.carried)
 
 pub tested_differences-found-requires-clause-window : goal.tested_differences-found-requires-clause-window
 tested_differences-found-requires-clause-window g c =

@@ -1,11 +1,61 @@
 use Rattle.std.proofs.Common.{◌≡◌, ◌+◌, ◌-◌, ◌*◌, ◌/◌, ◌%◌, arith, rules, refl, sym, ◌∙◌}
-use Rattle.std.proofs.lemmas.Nat.{div-add-mod'}
+use Rattle.bitvec_move.specs.WaitingLaws.{behind-element}
+use Rattle.std.proofs.lemmas.Nat.{div-add-mod', mod_below}
 use Rattle.bitvec_move.specs.store.WidthLaws.{width_some}
 use Rattle.bitvec_move.specs.words.FieldLaws.{list-rest, list-tail}
 use Rattle.bitvec_move.specs.words.SameLaws.{same-apart, same-then}
 use Rattle.bitvec_move.specs.words.TouchedLaws.{touched-after, touched-from_more, touched-more}
 use Rattle.bitvec_move.specs.words.WholeLaws.{long-whole_from, touched-behind_from, whole_fits}
+use Rattle.bitvec_move.specs.PlaceLaws.{tail-inside, tail-word, whole-window, whole-window_from, width-some}
 use Rattle.bitvec_combine.proofs.comparing_shifted.equal_carried_rest.Goals as goal
+
+pub nonzero_div-count : goal.nonzero_div-count
+nonzero_div-count g c = let some = width-some _ _ g.met.C.Elem.BitStore.width_law c.BITS-bits.ensures in omega arith
+
+pub nonzero_div-first : goal.nonzero_div-first
+nonzero_div-first g c = let some = width-some _ _ g.met.C.Elem.BitStore.width_law c.BITS-bits.ensures in omega arith
+
+pub nonzero_div-source : goal.nonzero_div-source
+nonzero_div-source g c = let some = width-some _ _ g.met.C.Elem.BitStore.width_law c.BITS-bits.ensures in omega arith
+
+pub nonzero_rem-skip : goal.nonzero_rem-skip
+nonzero_rem-skip g c = let some = width-some _ _ g.met.C.Elem.BitStore.width_law c.BITS-bits.ensures in omega arith
+
+pub nonzero_rem-left_window : goal.nonzero_rem-left_window
+nonzero_rem-left_window g c = let some = width-some _ _ g.met.C.Elem.BitStore.width_law c.BITS-bits.ensures in omega arith
+
+pub shifted_differences-found-requires-clause-window : goal.shifted_differences-found-requires-clause-window
+shifted_differences-found-requires-clause-window g c = whole-window _ _ _ c.args.left_window _ g.met.C.Elem.BitStore.width_law c.BITS-bits.ensures c.requires.window c.requires.edge (omega arith)
+
+pub shifted_differences-found-requires-clause-right_window : goal.shifted_differences-found-requires-clause-right_window
+shifted_differences-found-requires-clause-right_window g c = whole-window_from _ _ _ c.args.right_window _ g.met.C.Elem.BitStore.width_law c.BITS-bits.ensures c.requires.right_window (let lengths = c.requires.lengths in omega arith)
+
+pub shifted_differences-found-requires-clause-some : goal.shifted_differences-found-requires-clause-some
+shifted_differences-found-requires-clause-some g c = rw c.BITS-bits.ensures c.requires.phase
+
+pub shifted_differences-found-requires-clause-bound : goal.shifted_differences-found-requires-clause-bound
+shifted_differences-found-requires-clause-bound g c =
+    let b = g.C.Elem.BitStore.BITS in
+    let some = width_some _ g.met.C.Elem.BitStore.width_law in
+    rw c.BITS-bits.ensures (mod_below c.args.right_window.start b some)
+
+pub shifted_differences-found-requires-clause-carry : goal.shifted_differences-found-requires-clause-carry
+shifted_differences-found-requires-clause-carry g c = rw c.BITS-bits.ensures c.requires.carry
+
+pub overflow_add-first : goal.overflow_add-first
+overflow_add-first g c =
+    let below = tail-word _ _ _ c.args.left_window c.args.left_window.len g.met.C.Elem.BitStore.width_law c.BITS-bits.ensures c.requires.window (omega arith) (let left = c.if-left_window-bits-eq0.false in omega arith) in
+    omega arith
+
+pub equal_shifted_tail-requires-clause-element : goal.equal_shifted_tail-requires-clause-element
+equal_shifted_tail-requires-clause-element g c =
+    rw c.shifted_differences-found.ensures.reads.numbers (tail-inside _ _ _ c.args.left_window _ g.met.C.Elem.BitStore.width_law c.BITS-bits.ensures c.requires.window (omega arith) (let left = c.if-left_window-bits-eq0.false in omega arith))
+
+pub equal_shifted_tail-requires-clause-carry : goal.equal_shifted_tail-requires-clause-carry
+equal_shifted_tail-requires-clause-carry g c =
+    let b = g.C.Elem.BitStore.BITS in
+    let some = width_some _ g.met.C.Elem.BitStore.width_law in
+    rw (c.after.ensures, c.BITS-bits.ensures, c.shifted_differences-found.ensures.right.numbers, behind-element b c.args.right_window.start (c.args.left_window.len / b) some) (rw c.BITS-bits.ensures at c.shifted_differences-found.ensures.carried)
 
 pub returns-then-not-is_zero-clause-value : goal.returns-then-not-is_zero-clause-value
 returns-then-not-is_zero-clause-value g c =

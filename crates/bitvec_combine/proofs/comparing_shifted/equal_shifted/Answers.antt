@@ -8,7 +8,45 @@ use Rattle.bitvec_move.specs.words.FieldLaws.{first_part-long, list-head, list-p
 use Rattle.bitvec_move.specs.words.SameLaws.{same-apart, same-then}
 use Rattle.bitvec_move.specs.words.TouchedLaws.{apart_edge, inside_element, touched-first, touched-inside, touched-rest}
 use Rattle.bitvec_move.specs.words.WholeLaws.{long-parted}
+use Rattle.bitvec_move.specs.PlaceLaws.{behind-edge, head-element, head-part, width-some}
 use Rattle.bitvec_combine.proofs.comparing_shifted.equal_shifted.Goals as goal
+
+pub nonzero_rem-left_window : goal.nonzero_rem-left_window
+nonzero_rem-left_window g c = let some = width-some _ _ g.met.C.Elem.BitStore.width_law c.BITS-bits.ensures in omega arith
+
+pub nonzero_div-right_window : goal.nonzero_div-right_window
+nonzero_div-right_window g c = let some = width-some _ _ g.met.C.Elem.BitStore.width_law c.BITS-bits.ensures in omega arith
+
+pub first_part-head-requires-clause-bits : goal.first_part-head-requires-clause-bits
+first_part-head-requires-clause-bits g c = width-some _ _ g.met.C.Elem.BitStore.width_law c.BITS-bits.ensures
+
+pub load-carry-requires : goal.load-carry-requires
+load-carry-requires g c =
+    let lengths = c.requires.lengths in
+    let some = c.requires.some in
+    head-element _ _ _ c.args.right_window g.met.C.Elem.BitStore.width_law c.BITS-bits.ensures (omega arith) c.requires.right_window
+
+pub equal_carried-requires-clause-edge : goal.equal_carried-requires-clause-edge
+equal_carried-requires-clause-edge g c = rw c.BITS-bits.ensures at c.if-left_window-bits-eq0.true
+
+pub equal_carried-requires-clause-carry : goal.equal_carried-requires-clause-carry
+equal_carried-requires-clause-carry g c = rw (c.load-carry.ensures.numbers, ← c.BITS-bits.ensures) c.load-carry.ensures.value
+
+pub equal_shifted_head-same-requires-clause-part : goal.equal_shifted_head-same-requires-clause-part
+equal_shifted_head-same-requires-clause-part g c = head-part _ _ _ c.args.left_window _ g.met.C.Elem.BitStore.width_law c.BITS-bits.ensures c.first_part-head.ensures c.requires.some c.requires.window
+
+pub equal_carried-requires-2-clause-edge : goal.equal_carried-requires-2-clause-edge
+equal_carried-requires-2-clause-edge g c =
+    let b = g.C.Elem.BitStore.BITS in
+    let step = first_part-long c.len-passed.result b c.BITS-bits.result c.args.left_window c.first_part-head.result c.len-passed.ensures c.first_part-head.ensures c.BITS-bits.ensures in
+    behind-edge _ _ c.args.left_window _ g.met.C.Elem.BitStore.width_law c.after.ensures step c.if-passed-left_window.false
+
+pub equal_carried-requires-2-clause-phase : goal.equal_carried-requires-2-clause-phase
+equal_carried-requires-2-clause-phase g c =
+    let b = g.C.Elem.BitStore.BITS in
+    let some = width_some _ g.met.C.Elem.BitStore.width_law in
+    let step = first_part-long c.len-passed.result b c.BITS-bits.result c.args.left_window c.first_part-head.result c.len-passed.ensures c.first_part-head.ensures c.BITS-bits.ensures in
+    rw c.after-2.ensures (apart_edge b c.args.left_window.start c.args.right_window.start c.len-passed.result c.args.left_window.len some step c.if-passed-left_window.false c.requires.phases)
 
 pub returns-then-left_window-bits-eq0-clause-right : goal.returns-then-left_window-bits-eq0-clause-right
 returns-then-left_window-bits-eq0-clause-right g c =

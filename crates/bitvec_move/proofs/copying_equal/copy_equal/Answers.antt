@@ -6,7 +6,36 @@ use Rattle.bitvec_words.specs.store.WidthLaws.{width_some}
 use Rattle.bitvec_words.specs.walk.Cost.{touched_count}
 use Rattle.bitvec_words.specs.FieldLaws.{Writes-head, first_part-long, list-head}
 use Rattle.bitvec_words.specs.TouchedLaws.{part_loads-most, touched-head, touched-rest}
+use Rattle.bitvec_move.specs.PlaceLaws.{behind-edge, head-element, head-part, width-some}
 use Rattle.bitvec_move.proofs.copying_equal.copy_equal.Goals as goal
+
+pub first_part-head-requires-clause-bits : goal.first_part-head-requires-clause-bits
+first_part-head-requires-clause-bits g c = width-some _ _ g.met.C.Elem.BitStore.width_law c.BITS-bits.ensures
+
+pub nonzero_div-from : goal.nonzero_div-from
+nonzero_div-from g c = let some = width-some _ _ g.met.C.Elem.BitStore.width_law c.BITS-bits.ensures in omega arith
+
+pub copy_part-requires-clause-part : goal.copy_part-requires-clause-part
+copy_part-requires-clause-part g c = head-part _ _ _ c.args.to _ g.met.C.Elem.BitStore.width_law c.BITS-bits.ensures c.first_part-head.ensures c.requires.some c.requires.window
+
+pub copy_part-requires-clause-source : goal.copy_part-requires-clause-source
+copy_part-requires-clause-source g c =
+    let lengths = c.requires.lengths in
+    let some = c.requires.some in
+    head-element _ _ _ c.args.from g.met.C.Elem.BitStore.width_law c.BITS-bits.ensures (omega arith) c.requires.right_window
+
+pub copy_aligned-requires-clause-edge : goal.copy_aligned-requires-clause-edge
+copy_aligned-requires-clause-edge g c =
+    let step = first_part-long c.len-passed.result _ c.BITS-bits.result c.args.to c.first_part-head.result c.len-passed.ensures c.first_part-head.ensures c.BITS-bits.ensures in
+    behind-edge _ _ c.args.to _ g.met.C.Elem.BitStore.width_law c.after.ensures step c.if-passed-to.false
+
+pub copy_aligned-requires-clause-right_edge : goal.copy_aligned-requires-clause-right_edge
+copy_aligned-requires-clause-right_edge g c =
+    let b = g.C.Elem.BitStore.BITS in
+    let step = first_part-long c.len-passed.result b c.BITS-bits.result c.args.to c.first_part-head.result c.len-passed.ensures c.first_part-head.ensures c.BITS-bits.ensures in
+    let same : c.len-passed.result ≡ min c.args.from.len (b - c.args.from.start % b) = rw (c.requires.lengths, c.requires.phases) at step in
+    let left : c.len-passed.result ≢ c.args.from.len = λ e. c.if-passed-to.false (omega arith) in
+    behind-edge b _ c.args.from _ g.met.C.Elem.BitStore.width_law c.after-2.ensures same left
 
 pub returns-then-passed-to-clause-cost : goal.returns-then-passed-to-clause-cost
 returns-then-passed-to-clause-cost g c =

@@ -1,10 +1,62 @@
 use Rattle.std.proofs.Common.{◌≡◌, ◌+◌, ◌-◌, ◌*◌, ◌/◌, ◌%◌, arith, rules}
-use Rattle.std.proofs.lemmas.Nat.{div-add-mod'}
+use Rattle.bitvec_move.specs.WaitingLaws.{behind-element}
+use Rattle.std.proofs.lemmas.Nat.{div-add-mod', mod_below}
 use Rattle.bitvec_words.specs.base.WritesLaws.{Writes-is}
 use Rattle.bitvec_words.specs.store.WidthLaws.{width_some}
 use Rattle.bitvec_words.specs.FieldLaws.{Writes-tail, list-rest}
 use Rattle.bitvec_words.specs.TouchedLaws.{touched-from_full, touched-from_more, touched-full, touched-more}
+use Rattle.bitvec_move.specs.PlaceLaws.{tail-inside, tail-word, whole-window, whole-window_from, width-some}
 use Rattle.bitvec_move.proofs.copying_shifted.copy_rest.Goals as goal
+
+pub nonzero_div-count : goal.nonzero_div-count
+nonzero_div-count g c = let some = width-some _ _ g.met.C.Elem.BitStore.width_law c.BITS-bits.ensures in omega arith
+
+pub nonzero_div-first : goal.nonzero_div-first
+nonzero_div-first g c = let some = width-some _ _ g.met.C.Elem.BitStore.width_law c.BITS-bits.ensures in omega arith
+
+pub nonzero_div-source : goal.nonzero_div-source
+nonzero_div-source g c = let some = width-some _ _ g.met.C.Elem.BitStore.width_law c.BITS-bits.ensures in omega arith
+
+pub nonzero_rem-skip : goal.nonzero_rem-skip
+nonzero_rem-skip g c = let some = width-some _ _ g.met.C.Elem.BitStore.width_law c.BITS-bits.ensures in omega arith
+
+pub nonzero_rem-to : goal.nonzero_rem-to
+nonzero_rem-to g c = let some = width-some _ _ g.met.C.Elem.BitStore.width_law c.BITS-bits.ensures in omega arith
+
+pub shift_whole-last-requires-clause-window : goal.shift_whole-last-requires-clause-window
+shift_whole-last-requires-clause-window g c = whole-window _ _ _ c.args.to _ g.met.C.Elem.BitStore.width_law c.BITS-bits.ensures c.requires.window c.requires.edge (omega arith)
+
+pub shift_whole-last-requires-clause-right_window : goal.shift_whole-last-requires-clause-right_window
+shift_whole-last-requires-clause-right_window g c = whole-window_from _ _ _ c.args.from _ g.met.C.Elem.BitStore.width_law c.BITS-bits.ensures c.requires.right_window (let lengths = c.requires.lengths in omega arith)
+
+pub shift_whole-last-requires-clause-some : goal.shift_whole-last-requires-clause-some
+shift_whole-last-requires-clause-some g c = rw c.BITS-bits.ensures c.requires.phase
+
+pub shift_whole-last-requires-clause-bound : goal.shift_whole-last-requires-clause-bound
+shift_whole-last-requires-clause-bound g c =
+    let b = g.C.Elem.BitStore.BITS in
+    let some = width_some _ g.met.C.Elem.BitStore.width_law in
+    rw c.BITS-bits.ensures (mod_below c.args.from.start b some)
+
+pub shift_whole-last-requires-clause-carry : goal.shift_whole-last-requires-clause-carry
+shift_whole-last-requires-clause-carry g c = rw c.BITS-bits.ensures c.requires.carry
+
+pub overflow_add-first : goal.overflow_add-first
+overflow_add-first g c =
+    let below = tail-word _ _ _ c.args.to c.args.to.len g.met.C.Elem.BitStore.width_law c.BITS-bits.ensures c.requires.window (omega arith) (let left = c.if-to-bits-eq0.false in omega arith) in
+    omega arith
+
+pub shift_tail-requires-clause-element : goal.shift_tail-requires-clause-element
+shift_tail-requires-clause-element g c =
+    let here = tail-inside _ _ _ c.args.to c.args.to.len g.met.C.Elem.BitStore.width_law c.BITS-bits.ensures c.requires.window (omega arith) (let left = c.if-to-bits-eq0.false in omega arith) in
+    let kept = c.shift_whole-last.ensures.writes.elements in
+    omega arith
+
+pub shift_tail-requires-clause-carry : goal.shift_tail-requires-clause-carry
+shift_tail-requires-clause-carry g c =
+    let b = g.C.Elem.BitStore.BITS in
+    let some = width_some _ g.met.C.Elem.BitStore.width_law in
+    rw (c.after.ensures, c.BITS-bits.ensures, c.shift_whole-last.ensures.right.numbers, behind-element b c.args.from.start (c.args.to.len / b) some) (rw c.BITS-bits.ensures at c.shift_whole-last.ensures.carried)
 
 pub returns-then-to-bits-eq0-clause-cost : goal.returns-then-to-bits-eq0-clause-cost
 returns-then-to-bits-eq0-clause-cost g c =

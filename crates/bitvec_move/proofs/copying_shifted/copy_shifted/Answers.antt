@@ -7,7 +7,45 @@ use Rattle.bitvec_words.specs.store.WidthLaws.{width_some}
 use Rattle.bitvec_words.specs.walk.Cost.{touched_count}
 use Rattle.bitvec_words.specs.FieldLaws.{Writes-head, first_part-long, list-parted}
 use Rattle.bitvec_words.specs.TouchedLaws.{apart_edge, inside_element, part_loads-most, touched-first, touched-head, touched-inside, touched-rest}
+use Rattle.bitvec_move.specs.PlaceLaws.{behind-edge, head-element, head-part, width-some}
 use Rattle.bitvec_move.proofs.copying_shifted.copy_shifted.Goals as goal
+
+pub nonzero_rem-to : goal.nonzero_rem-to
+nonzero_rem-to g c = let some = width-some _ _ g.met.C.Elem.BitStore.width_law c.BITS-bits.ensures in omega arith
+
+pub nonzero_div-from : goal.nonzero_div-from
+nonzero_div-from g c = let some = width-some _ _ g.met.C.Elem.BitStore.width_law c.BITS-bits.ensures in omega arith
+
+pub first_part-head-requires-clause-bits : goal.first_part-head-requires-clause-bits
+first_part-head-requires-clause-bits g c = width-some _ _ g.met.C.Elem.BitStore.width_law c.BITS-bits.ensures
+
+pub load-carry-requires : goal.load-carry-requires
+load-carry-requires g c =
+    let lengths = c.requires.lengths in
+    let some = c.requires.some in
+    head-element _ _ _ c.args.from g.met.C.Elem.BitStore.width_law c.BITS-bits.ensures (omega arith) c.requires.right_window
+
+pub copy_rest-requires-clause-edge : goal.copy_rest-requires-clause-edge
+copy_rest-requires-clause-edge g c = rw c.BITS-bits.ensures at c.if-to-bits-eq0.true
+
+pub copy_rest-requires-clause-carry : goal.copy_rest-requires-clause-carry
+copy_rest-requires-clause-carry g c = rw (c.load-carry.ensures.numbers, ← c.BITS-bits.ensures) c.load-carry.ensures.value
+
+pub shift_head-carry-requires-clause-part : goal.shift_head-carry-requires-clause-part
+shift_head-carry-requires-clause-part g c = head-part _ _ _ c.args.to _ g.met.C.Elem.BitStore.width_law c.BITS-bits.ensures c.first_part-head.ensures c.requires.some c.requires.window
+
+pub copy_rest-requires-2-clause-edge : goal.copy_rest-requires-2-clause-edge
+copy_rest-requires-2-clause-edge g c =
+    let b = g.C.Elem.BitStore.BITS in
+    let step = first_part-long c.len-passed.result b c.BITS-bits.result c.args.to c.first_part-head.result c.len-passed.ensures c.first_part-head.ensures c.BITS-bits.ensures in
+    behind-edge _ _ c.args.to _ g.met.C.Elem.BitStore.width_law c.after.ensures step c.if-passed-to.false
+
+pub copy_rest-requires-2-clause-phase : goal.copy_rest-requires-2-clause-phase
+copy_rest-requires-2-clause-phase g c =
+    let b = g.C.Elem.BitStore.BITS in
+    let some = width_some _ g.met.C.Elem.BitStore.width_law in
+    let step = first_part-long c.len-passed.result b c.BITS-bits.result c.args.to c.first_part-head.result c.len-passed.ensures c.first_part-head.ensures c.BITS-bits.ensures in
+    rw c.after-2.ensures (apart_edge b c.args.to.start c.args.from.start c.len-passed.result c.args.to.len some step c.if-passed-to.false c.requires.phases)
 
 pub returns-then-to-bits-eq0-clause-right : goal.returns-then-to-bits-eq0-clause-right
 returns-then-to-bits-eq0-clause-right g c =

@@ -1,8 +1,50 @@
-use Rattle.std.proofs.Common.{◌∙◌, ap, arith, rules, slice_index}
+use Rattle.std.proofs.Common.{◌≡◌, ◌∙◌, ap, arith, refl, rules, slice_index}
 use Rattle.bitvec_words.specs.store.WidthLaws.{width_some}
 use Rattle.bitvec_words.specs.base.WritesLaws.{Writes-is}
 use Rattle.bitvec_words.specs.FieldLaws.{Writes-element, Writes-no_element, list-joined}
+use Rattle.bitvec_move.specs.PlaceLaws.{inside, inside-word, next-inside, next-word}
 use Rattle.bitvec_move.proofs.copying_shifted.shift_carried.Goals as goal
+
+pub overflow_add-source : goal.overflow_add-source
+overflow_add-source g c =
+    let below = next-word _ _ _ _ _ _ g.met.C.Elem.BitStore.width_law c.requires.right_window c.requires.some c.loop-step-test.true in
+    omega arith
+
+pub overflow_add-source-in-loop-step : goal.overflow_add-source-in-loop-step
+overflow_add-source-in-loop-step g c =
+    let below = next-word _ _ _ _ _ _ g.met.C.Elem.BitStore.width_law c.requires.right_window c.requires.some c.loop-step-test.true in
+    omega arith
+
+pub load-requires : goal.load-requires
+load-requires g c = rw c.loop-step.invariant.right.numbers (next-inside _ _ _ _ _ _ _ c.requires.right_window c.requires.some c.loop-step-test.true refl)
+
+pub overflow_add-first : goal.overflow_add-first
+overflow_add-first g c =
+    let below = inside-word _ _ _ _ _ g.met.C.Elem.BitStore.width_law c.requires.window c.loop-step-test.true in
+    omega arith
+
+pub store-requires : goal.store-requires
+store-requires g c = inside _ _ _ _ _ _ g.met.C.Elem.BitStore.width_law c.requires.window c.loop-step-test.true c.loop-step.invariant.writes.elements
+
+pub returns-clause-writes : goal.returns-clause-writes
+returns-clause-writes g c =
+    let all : c.loop-step.step ≡ c.args.count = omega arith in
+    rw (← all) c.loop-step.invariant.writes
+
+pub returns-clause-carried : goal.returns-clause-carried
+returns-clause-carried g c =
+    let all : c.loop-step.step ≡ c.args.count = omega arith in
+    rw (← all) (c.element.ensures ∙ c.loop-step.invariant.carried)
+
+pub returns-clause-cost : goal.returns-clause-cost
+returns-clause-cost g c =
+    let all : c.loop-step.step ≡ c.args.count = omega arith in
+    rw (← all) c.loop-step.invariant.cost
+
+pub returns-clause-right : goal.returns-clause-right
+returns-clause-right g c =
+    let all : c.loop-step.step ≡ c.args.count = omega arith in
+    rw (← all) c.loop-step.invariant.right
 
 pub loop-step-init : goal.loop-step-init
 loop-step-init g c = record {

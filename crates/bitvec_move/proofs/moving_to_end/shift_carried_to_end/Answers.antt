@@ -2,7 +2,46 @@ use Rattle.std.proofs.Common.{◌≡◌, ◌<◌, ◌+◌, ◌-◌, arith, rules
 use Rattle.bitvec_words.specs.store.WidthLaws.{width_some}
 use Rattle.bitvec_words.specs.base.WritesLaws.{Writes-is}
 use Rattle.bitvec_move.specs.WithinLaws.{Writes-element_ahead, Writes-no_element_ahead, element-left_ahead, list-joined_ahead}
+use Rattle.bitvec_move.specs.PlaceLaws.{from-inside, from-word, inside, inside-word}
 use Rattle.bitvec_move.proofs.moving_to_end.shift_carried_to_end.Goals as goal
+
+pub overflow_add-source : goal.overflow_add-source
+overflow_add-source g c =
+    let below = from-word _ _ _ _ _ c.args.count g.met.C.Elem.BitStore.width_law c.requires.source c.requires.some (omega arith) in
+    omega arith
+
+pub load-requires : goal.load-requires
+load-requires g c = from-inside _ _ _ _ _ _ _ c.requires.source c.requires.some (omega arith) refl
+
+pub overflow_add-source-in-loop-step : goal.overflow_add-source-in-loop-step
+overflow_add-source-in-loop-step g c =
+    let below = from-word _ _ _ _ _ (c.loop-step.step - 1) g.met.C.Elem.BitStore.width_law c.requires.source c.requires.some (omega arith) in
+    omega arith
+
+pub load-requires-in-loop-step : goal.load-requires-in-loop-step
+load-requires-in-loop-step g c = from-inside _ _ _ _ _ _ (c.loop-step.step - 1) c.requires.source c.requires.some (omega arith) c.loop-step.invariant.writes.elements
+
+pub overflow_add-first : goal.overflow_add-first
+overflow_add-first g c =
+    let below = inside-word _ _ _ _ (c.loop-step.step - 1) g.met.C.Elem.BitStore.width_law c.requires.window (omega arith) in
+    omega arith
+
+pub store-requires : goal.store-requires
+store-requires g c = rw c.load-in-loop-step.ensures.numbers (inside _ _ _ _ _ (c.loop-step.step - 1) g.met.C.Elem.BitStore.width_law c.requires.window (omega arith) c.loop-step.invariant.writes.elements)
+
+pub returns-clause-writes : goal.returns-clause-writes
+returns-clause-writes g c =
+    let none : c.loop-step.step ≡ 0 = omega arith in
+    let all : c.args.count - 0 ≡ c.args.count = omega arith in
+    let to : c.args.first + 0 ≡ c.args.first = omega arith in
+    let from : c.args.source + 0 ≡ c.args.source = omega arith in
+    rw (none, to, from, all) at c.loop-step.invariant.writes
+
+pub returns-clause-cost : goal.returns-clause-cost
+returns-clause-cost g c =
+    let none : c.loop-step.step ≡ 0 = omega arith in
+    let all : c.args.count - 0 ≡ c.args.count = omega arith in
+    rw (none, all) at c.loop-step.invariant.cost
 
 pub loop-step-init : goal.loop-step-init
 loop-step-init g c =

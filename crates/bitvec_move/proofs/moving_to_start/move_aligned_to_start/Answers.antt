@@ -1,9 +1,52 @@
 use Rattle.std.proofs.Common.{◌≤◌, ◌*◌, ◌/◌, arith, rules, refl}
-use Rattle.std.proofs.lemmas.Nat.{div-add-mod'}
+use Rattle.bitvec_words.specs.WholeLaws.{behind-mod}
+use Rattle.bitvec_words.specs.walk.WalkLaws.{div-order}
+use Rattle.std.proofs.lemmas.Nat.{div-add-mod', mod_below}
 use Rattle.bitvec_words.specs.store.WidthLaws.{width_some}
-use Rattle.bitvec_move.specs.WithinLaws.{Writes-move_next, touched-split_whole}
-use Rattle.bitvec_move.proofs.moving_to_start.move_aligned_to_start.Goals as goal
 use Rattle.bitvec_words.specs.TouchedLaws.{touched-after}
+use Rattle.bitvec_move.specs.WithinLaws.{Writes-move_next, touched-split_whole}
+use Rattle.bitvec_move.specs.PlaceLaws.{whole-window, whole-window_from, width-some}
+use Rattle.bitvec_move.proofs.moving_to_start.move_aligned_to_start.Goals as goal
+
+pub nonzero_div-count : goal.nonzero_div-count
+nonzero_div-count g c = let some = width-some _ _ g.met.C.Elem.BitStore.width_law c.BITS-bits.ensures in omega arith
+
+pub nonzero_div-first : goal.nonzero_div-first
+nonzero_div-first g c = let some = width-some _ _ g.met.C.Elem.BitStore.width_law c.BITS-bits.ensures in omega arith
+
+pub nonzero_div-source : goal.nonzero_div-source
+nonzero_div-source g c = let some = width-some _ _ g.met.C.Elem.BitStore.width_law c.BITS-bits.ensures in omega arith
+
+pub nonzero_rem-skip : goal.nonzero_rem-skip
+nonzero_rem-skip g c = let some = width-some _ _ g.met.C.Elem.BitStore.width_law c.BITS-bits.ensures in omega arith
+
+pub move_elements_to_start-requires-clause-window : goal.move_elements_to_start-requires-clause-window
+move_elements_to_start-requires-clause-window g c = whole-window _ _ _ c.args.to _ g.met.C.Elem.BitStore.width_law c.BITS-bits.ensures c.requires.window c.requires.edge (omega arith)
+
+pub move_elements_to_start-requires-clause-source : goal.move_elements_to_start-requires-clause-source
+move_elements_to_start-requires-clause-source g c = whole-window_from _ _ _ c.args.from _ g.met.C.Elem.BitStore.width_law c.BITS-bits.ensures c.requires.source (let lengths = c.requires.lengths in omega arith)
+
+pub move_elements_to_start-requires-clause-bound : goal.move_elements_to_start-requires-clause-bound
+move_elements_to_start-requires-clause-bound g c =
+    let b = g.C.Elem.BitStore.BITS in
+    let some = width_some _ g.met.C.Elem.BitStore.width_law in
+    rw c.BITS-bits.ensures (mod_below c.args.from.start b some)
+
+pub move_elements_to_start-requires-clause-towards_start : goal.move_elements_to_start-requires-clause-towards_start
+move_elements_to_start-requires-clause-towards_start g c =
+    let b = g.C.Elem.BitStore.BITS in
+    let some = width_some _ g.met.C.Elem.BitStore.width_law in
+    rw c.BITS-bits.ensures (div-order b c.args.to.start c.args.from.start some c.requires.towards_start)
+
+pub move_edge-requires-clause-one : goal.move_edge-requires-clause-one
+move_edge-requires-clause-one g c =
+    let b = g.C.Elem.BitStore.BITS in
+    let some = width_some _ g.met.C.Elem.BitStore.width_law in
+    let phase = behind-mod b c.args.to.start (c.args.to.len / b) some in
+    let below = mod_below c.args.to.len b some in
+    let parts = div-add-mod' c.args.to.len b in
+    let edge = c.requires.edge in
+    rw (c.after.ensures, c.BITS-bits.ensures) (omega arith)
 
 pub returns-clause-writes : goal.returns-clause-writes
 returns-clause-writes g c =

@@ -1,10 +1,47 @@
-use Rattle.std.proofs.Common.{ℕ, ◌+◌, arith, rules, ap, slice_index}
+use Rattle.std.proofs.Common.{ℕ, ◌+◌, arith, rules, ap, slice_index, ◌≡◌, refl}
 use Rattle.bitvec_words.specs.store.WidthLaws.{width_some}
 use Rattle.bitvec_words.specs.base.Memory.{element_bits}
 use Rattle.bitvec_words.specs.base.WritesLaws.{Writes-is}
 use Rattle.bitvec_words.specs.FieldLaws.{Writes-element, Writes-no_element, list-joined}
 use Rattle.bitvec_move.specs.WithinLaws.{element-left}
+use Rattle.bitvec_move.specs.PlaceLaws.{from-inside, inside, inside-word, next-inside, next-word}
 use Rattle.bitvec_move.proofs.moving_to_start.shift_carried_to_start.Goals as goal
+
+pub load-requires : goal.load-requires
+load-requires g c =
+    let here = from-inside _ _ _ _ _ _ 0 c.requires.source c.requires.some (omega arith) refl in
+    omega arith
+
+pub overflow_add-source : goal.overflow_add-source
+overflow_add-source g c =
+    let below = next-word _ _ _ _ _ _ g.met.C.Elem.BitStore.width_law c.requires.source c.requires.some c.loop-step-test.true in
+    omega arith
+
+pub overflow_add-source-in-loop-step : goal.overflow_add-source-in-loop-step
+overflow_add-source-in-loop-step g c =
+    let below = next-word _ _ _ _ _ _ g.met.C.Elem.BitStore.width_law c.requires.source c.requires.some c.loop-step-test.true in
+    omega arith
+
+pub load-requires-in-loop-step : goal.load-requires-in-loop-step
+load-requires-in-loop-step g c = next-inside _ _ _ _ _ _ _ c.requires.source c.requires.some c.loop-step-test.true c.loop-step.invariant.writes.elements
+
+pub overflow_add-first : goal.overflow_add-first
+overflow_add-first g c =
+    let below = inside-word _ _ _ _ _ g.met.C.Elem.BitStore.width_law c.requires.window c.loop-step-test.true in
+    omega arith
+
+pub store-requires : goal.store-requires
+store-requires g c = rw c.load-in-loop-step.ensures.numbers (inside _ _ _ _ _ _ g.met.C.Elem.BitStore.width_law c.requires.window c.loop-step-test.true c.loop-step.invariant.writes.elements)
+
+pub returns-clause-writes : goal.returns-clause-writes
+returns-clause-writes g c =
+    let all : c.loop-step.step ≡ c.args.count = omega arith in
+    rw (← all) c.loop-step.invariant.writes
+
+pub returns-clause-cost : goal.returns-clause-cost
+returns-clause-cost g c =
+    let all : c.loop-step.step ≡ c.args.count = omega arith in
+    rw (← all) c.loop-step.invariant.cost
 
 pub loop-step-init : goal.loop-step-init
 loop-step-init g c =

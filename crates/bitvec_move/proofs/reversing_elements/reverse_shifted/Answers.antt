@@ -1,4 +1,4 @@
-use Rattle.std.proofs.Common.{◌≡◌, ℕ, ◌+◌, ◌-◌, ◌*◌, ◌/◌, ◌<◌, ◌≤◌, arith, rules, ap, ◌∙◌}
+use Rattle.std.proofs.Common.{◌≡◌, ℕ, ◌+◌, ◌-◌, ◌*◌, ◌/◌, ◌<◌, ◌≤◌, arith, rules, ap, ◌∙◌, refl}
 use Rattle.std.proofs.Math.Nat.{mul-le-mul_left}
 use Rattle.bitvec_words.specs.store.WidthLaws.{width_some}
 use Rattle.bitvec_words.specs.base.Memory.{element_bits, list_in}
@@ -7,7 +7,54 @@ use Rattle.bitvec_words.specs.base.WritesLaws.{length-list}
 use Rattle.bitvec_words.specs.Elements.{elements_window}
 use Rattle.bitvec_move.specs.Settled.{front_reversed}
 use Rattle.bitvec_move.specs.SettledLaws.{Settled-left, Settled-pair, Settled-rest, Settled-start, element-before, element-inside, length-front_reversed, reversed-behind, reversed-first, reversed-last, reversed-start, settled-all}
+use Rattle.bitvec_move.specs.PlaceLaws.{fits-word, inside, inside-word}
 use Rattle.bitvec_move.proofs.reversing_elements.reverse_shifted.Goals as goal
+
+pub overflow_add-last : goal.overflow_add-last
+overflow_add-last g c =
+    let here = inside _ _ _ _ _ (c.args.count - 1) g.met.C.Elem.BitStore.width_law c.requires.window (omega arith) refl in
+    let below = fits-word _ (c.args.first + c.args.count) _ _ g.met.C.Elem.BitStore.width_law c.requires.window (omega arith) in
+    omega arith
+
+pub load-high-requires : goal.load-high-requires
+load-high-requires g c =
+    let here = inside _ _ _ _ _ (c.args.count - 1) g.met.C.Elem.BitStore.width_law c.requires.window (omega arith) refl in
+    omega arith
+
+pub overflow_add-first : goal.overflow_add-first
+overflow_add-first g c =
+    let below = inside-word _ _ _ _ c.loop-pair.pair g.met.C.Elem.BitStore.width_law c.requires.window (omega arith) in
+    omega arith
+
+pub load-low-requires : goal.load-low-requires
+load-low-requires g c =
+    let here = inside _ _ _ _ _ c.loop-pair.pair g.met.C.Elem.BitStore.width_law c.requires.window (omega arith) c.loop-pair.invariant.writes.elements in
+    omega arith
+
+pub load-next-requires : goal.load-next-requires
+load-next-requires g c =
+    let here = inside _ _ _ _ _ (c.args.count - 1 - c.loop-pair.pair - 1) g.met.C.Elem.BitStore.width_law c.requires.window (omega arith) c.loop-pair.invariant.writes.elements in
+    rw c.load-low.ensures.numbers (omega arith)
+
+pub overflow_add-first-in-loop-pair : goal.overflow_add-first-in-loop-pair
+overflow_add-first-in-loop-pair g c =
+    let below = inside-word _ _ _ _ c.loop-pair.pair g.met.C.Elem.BitStore.width_law c.requires.window (omega arith) in
+    omega arith
+
+pub store-requires : goal.store-requires
+store-requires g c =
+    let here = inside _ _ _ _ _ c.loop-pair.pair g.met.C.Elem.BitStore.width_law c.requires.window (omega arith) c.loop-pair.invariant.writes.elements in
+    rw (c.load-next.ensures.numbers, c.load-low.ensures.numbers) (omega arith)
+
+pub overflow_add-first-then-count-eq1 : goal.overflow_add-first-then-count-eq1
+overflow_add-first-then-count-eq1 g c =
+    let below = inside-word _ _ _ _ (c.args.count / 2) g.met.C.Elem.BitStore.width_law c.requires.window (omega arith) in
+    omega arith
+
+pub store-requires-then-count-eq1 : goal.store-requires-then-count-eq1
+store-requires-then-count-eq1 g c =
+    let here = inside _ _ _ _ _ (c.args.count / 2) g.met.C.Elem.BitStore.width_law c.requires.window (omega arith) c.loop-pair.invariant.writes.elements in
+    omega arith
 
 pub loop-pair-init : goal.loop-pair-init
 loop-pair-init g c =

@@ -2,7 +2,45 @@ use Rattle.std.proofs.Common.{arith, rules, refl}
 use Rattle.bitvec_words.specs.store.WidthLaws.{width_some}
 use Rattle.bitvec_move.specs.SwapLaws.{Writes-exchanged, beside-tail}
 use Rattle.bitvec_words.specs.TouchedLaws.{touched-full, touched-more}
+use Rattle.bitvec_move.specs.PlaceLaws.{tail-inside, tail-part, tail-word, whole-window, width-some}
 use Rattle.bitvec_move.proofs.swapping_equal.swap_aligned.Goals as goal
+
+pub nonzero_div-count : goal.nonzero_div-count
+nonzero_div-count g c = let some = width-some _ _ g.met.C.Elem.BitStore.width_law c.BITS-bits.ensures in omega arith
+
+pub nonzero_div-first : goal.nonzero_div-first
+nonzero_div-first g c = let some = width-some _ _ g.met.C.Elem.BitStore.width_law c.BITS-bits.ensures in omega arith
+
+pub nonzero_div-source : goal.nonzero_div-source
+nonzero_div-source g c = let some = width-some _ _ g.met.C.Elem.BitStore.width_law c.BITS-bits.ensures in omega arith
+
+pub nonzero_rem-rest : goal.nonzero_rem-rest
+nonzero_rem-rest g c = let some = width-some _ _ g.met.C.Elem.BitStore.width_law c.BITS-bits.ensures in omega arith
+
+pub swap_whole-requires-clause-window : goal.swap_whole-requires-clause-window
+swap_whole-requires-clause-window g c = whole-window _ _ _ c.args.left_window _ g.met.C.Elem.BitStore.width_law c.BITS-bits.ensures c.requires.window c.requires.edge (omega arith)
+
+pub swap_whole-requires-clause-right_window : goal.swap_whole-requires-clause-right_window
+swap_whole-requires-clause-right_window g c = whole-window _ _ _ c.args.right_window _ g.met.C.Elem.BitStore.width_law c.BITS-bits.ensures c.requires.right_window c.requires.right_edge (let lengths = c.requires.lengths in omega arith)
+
+pub overflow_add-tail : goal.overflow_add-tail
+overflow_add-tail g c =
+    let below = tail-word _ _ _ c.args.left_window c.args.left_window.len g.met.C.Elem.BitStore.width_law c.BITS-bits.ensures c.requires.window (omega arith) (let left = c.if-rest-eq0.false in omega arith) in
+    omega arith
+
+pub overflow_add-source : goal.overflow_add-source
+overflow_add-source g c =
+    let below = tail-word _ _ _ c.args.right_window c.args.left_window.len g.met.C.Elem.BitStore.width_law c.BITS-bits.ensures c.requires.right_window (let lengths = c.requires.lengths in omega arith) (let left = c.if-rest-eq0.false in omega arith) in
+    omega arith
+
+pub swap_part-requires-clause-part : goal.swap_part-requires-clause-part
+swap_part-requires-clause-part g c = tail-part _ _ _ _ c.args.left_window _ g.met.C.Elem.BitStore.width_law c.BITS-bits.ensures c.requires.window (omega arith) (let left = c.if-rest-eq0.false in omega arith) c.swap_whole.ensures.writes.elements
+
+pub swap_part-requires-clause-source : goal.swap_part-requires-clause-source
+swap_part-requires-clause-source g c =
+    let inside = tail-inside _ _ _ c.args.right_window c.args.left_window.len g.met.C.Elem.BitStore.width_law c.BITS-bits.ensures c.requires.right_window (let lengths = c.requires.lengths in omega arith) (let left = c.if-rest-eq0.false in omega arith) in
+    let kept = c.swap_whole.ensures.right_writes.elements in
+    omega arith
 
 pub returns-then-rest-eq0-clause-cost : goal.returns-then-rest-eq0-clause-cost
 returns-then-rest-eq0-clause-cost g c =

@@ -1,4 +1,4 @@
-use Rattle.std.proofs.Common.{◌∙◌, ◌+◌, arith, rules, ap, slice_index}
+use Rattle.std.proofs.Common.{◌∙◌, ◌+◌, arith, rules, ap, slice_index, ◌≡◌}
 use Rattle.bitvec_words.specs.store.WidthLaws.{width_some}
 use Rattle.bitvec_words.specs.base.Memory.{element_bits}
 use Rattle.bitvec_words.specs.base.MemoryLaws.{length-element_bits}
@@ -6,7 +6,61 @@ use Rattle.bitvec_words.specs.base.Window.{write_at}
 use Rattle.bitvec_words.specs.FieldLaws.{Writes-no_element}
 use Rattle.bitvec_move.specs.SwapLaws.{next_element}
 use Rattle.bitvec_move.specs.WaitingLaws.{across-bits, across-element, across-next, across-none, ends-joined, ends-next, ends-start, range-carried}
+use Rattle.bitvec_move.specs.PlaceLaws.{inside, inside-word, next-word}
 use Rattle.bitvec_move.proofs.swapping_shifted.swap_each.Goals as goal
+
+pub overflow_add-first : goal.overflow_add-first
+overflow_add-first g c =
+    let below = inside-word _ _ _ _ _ g.met.C.Elem.BitStore.width_law c.requires.window c.loop-step-test.true in
+    omega arith
+
+pub overflow_add-first-in-loop-step : goal.overflow_add-first-in-loop-step
+overflow_add-first-in-loop-step g c =
+    let below = inside-word _ _ _ _ _ g.met.C.Elem.BitStore.width_law c.requires.window c.loop-step-test.true in
+    omega arith
+
+pub overflow_add-source : goal.overflow_add-source
+overflow_add-source g c =
+    let below = next-word _ _ _ _ _ _ g.met.C.Elem.BitStore.width_law c.requires.right_window c.requires.some c.loop-step-test.true in
+    omega arith
+
+pub overflow_add-source-in-loop-step : goal.overflow_add-source-in-loop-step
+overflow_add-source-in-loop-step g c =
+    let below = next-word _ _ _ _ _ _ g.met.C.Elem.BitStore.width_law c.requires.right_window c.requires.some c.loop-step-test.true in
+    omega arith
+
+pub overflow_add-source-in-loop-step-2 : goal.overflow_add-source-in-loop-step-2
+overflow_add-source-in-loop-step-2 g c =
+    let below = next-word _ _ _ _ _ _ g.met.C.Elem.BitStore.width_law c.requires.right_window c.requires.some c.loop-step-test.true in
+    omega arith
+
+pub store-requires : goal.store-requires
+store-requires g c = rw c.load-element.ensures.numbers (inside _ _ _ _ _ _ g.met.C.Elem.BitStore.width_law c.requires.window c.loop-step-test.true c.loop-step.invariant.writes.elements)
+
+pub store-requires-in-loop-step : goal.store-requires-in-loop-step
+store-requires-in-loop-step g c =
+    let next = across-next _ _ _ _ _ _ _ _ _ _ _ c.requires.some c.requires.right_window c.loop-step-test.true c.loop-step.invariant.right_writes in
+    rw c.load-next.ensures.numbers (omega arith)
+
+pub returns-clause-writes : goal.returns-clause-writes
+returns-clause-writes g c =
+    let all : c.loop-step.step ≡ c.args.count = omega arith in
+    rw (← all) c.loop-step.invariant.writes
+
+pub returns-clause-cost : goal.returns-clause-cost
+returns-clause-cost g c =
+    let all : c.loop-step.step ≡ c.args.count = omega arith in
+    rw (← all) c.loop-step.invariant.cost
+
+pub returns-clause-right_writes : goal.returns-clause-right_writes
+returns-clause-right_writes g c =
+    let all : c.loop-step.step ≡ c.args.count = omega arith in
+    rw (← all) c.loop-step.invariant.right_writes
+
+pub returns-clause-right_cost : goal.returns-clause-right_cost
+returns-clause-right_cost g c =
+    let all : c.loop-step.step ≡ c.args.count = omega arith in
+    rw (← all) c.loop-step.invariant.right_cost
 
 pub loop-step-init : goal.loop-step-init
 loop-step-init g c = record {

@@ -8,7 +8,39 @@ use Rattle.bitvec_words.specs.walk.Cost.{touched_count}
 use Rattle.bitvec_words.specs.FieldLaws.{first_part-long}
 use Rattle.bitvec_move.specs.SwapLaws.{Writes-exchanged, beside-head, beside-parted}
 use Rattle.bitvec_words.specs.TouchedLaws.{apart_edge, inside_element, touched-first, touched-head, touched-inside, touched-rest}
+use Rattle.bitvec_move.specs.PlaceLaws.{behind-edge, head-element, head-part, width-some}
 use Rattle.bitvec_move.proofs.swapping_shifted.swap_shifted.Goals as goal
+
+pub nonzero_div-right_window : goal.nonzero_div-right_window
+nonzero_div-right_window g c = let some = width-some _ _ g.met.C.Elem.BitStore.width_law c.BITS-bits.ensures in omega arith
+
+pub nonzero_div-met : goal.nonzero_div-met
+nonzero_div-met g c = let some = width-some _ _ g.met.C.Elem.BitStore.width_law c.BITS-bits.ensures in omega arith
+
+pub first_part-head-requires-clause-bits : goal.first_part-head-requires-clause-bits
+first_part-head-requires-clause-bits g c = width-some _ _ g.met.C.Elem.BitStore.width_law c.BITS-bits.ensures
+
+pub load-waiting-requires : goal.load-waiting-requires
+load-waiting-requires g c =
+    let lengths = c.requires.lengths in
+    let some = c.requires.some in
+    head-element _ _ _ c.args.right_window g.met.C.Elem.BitStore.width_law c.BITS-bits.ensures (omega arith) c.requires.right_window
+
+pub swap_waiting-last-requires-clause-part : goal.swap_waiting-last-requires-clause-part
+swap_waiting-last-requires-clause-part g c = head-part _ _ _ c.args.left_window _ g.met.C.Elem.BitStore.width_law c.BITS-bits.ensures c.first_part-head.ensures c.requires.some c.requires.window
+
+pub swap_rest-requires-clause-edge : goal.swap_rest-requires-clause-edge
+swap_rest-requires-clause-edge g c =
+    let b = g.C.Elem.BitStore.BITS in
+    let step = first_part-long c.len-passed.result b c.BITS-bits.result c.args.left_window c.first_part-head.result c.len-passed.ensures c.first_part-head.ensures c.BITS-bits.ensures in
+    behind-edge _ _ c.args.left_window _ g.met.C.Elem.BitStore.width_law c.after-rest.ensures step c.if-passed-left_window.false
+
+pub swap_rest-requires-clause-phase : goal.swap_rest-requires-clause-phase
+swap_rest-requires-clause-phase g c =
+    let b = g.C.Elem.BitStore.BITS in
+    let some = width_some _ g.met.C.Elem.BitStore.width_law in
+    let step = first_part-long c.len-passed.result b c.BITS-bits.result c.args.left_window c.first_part-head.result c.len-passed.ensures c.first_part-head.ensures c.BITS-bits.ensures in
+    rw c.after-behind.ensures (apart_edge b c.args.left_window.start c.args.right_window.start c.len-passed.result c.args.left_window.len some step c.if-passed-left_window.false c.requires.phases)
 
 pub returns-then-passed-left_window-clause-cost : goal.returns-then-passed-left_window-clause-cost
 returns-then-passed-left_window-clause-cost g c =

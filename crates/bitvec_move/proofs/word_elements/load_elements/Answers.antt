@@ -1,4 +1,4 @@
-use Rattle.std.proofs.Common.{◌≡◌, ℕ, ◌+◌, ◌*◌, ◌/◌, arith, rules, ap, sym, ◌∙◌, false, replicate, slice_index}
+use Rattle.std.proofs.Common.{◌≡◌, ℕ, ◌+◌, ◌*◌, ◌/◌, arith, rules, ap, sym, ◌∙◌, false, replicate, slice_index, refl}
 use Rattle.std.proofs.Math.Nat.{mul-le-mul_left}
 use Rattle.bitvec_words.specs.store.WidthLaws.{width_some}
 use Rattle.bitvec_words.specs.base.Memory.{element_bits, list_in}
@@ -13,7 +13,36 @@ use Rattle.bitvec_words.specs.Field.{padded}
 use Rattle.bitvec_words.specs.FieldLaws.{list-element}
 use Rattle.bitvec_words.specs.MovedLaws.{element-joined, padded-none}
 use Rattle.bitvec_move.specs.WordLaws.{list-no_element, padded-all, word_whole}
+use Rattle.bitvec_move.specs.PlaceLaws.{inside, inside-word, width-some, word-place}
 use Rattle.bitvec_move.proofs.word_elements.load_elements.Goals as goal
+
+pub nonzero_div-step-end : goal.nonzero_div-step-end
+nonzero_div-step-end g c = let some = width-some _ _ g.met.C.Elem.BitStore.width_law c.BITS-bits.ensures in omega arith
+
+pub overflow_mul-step : goal.overflow_mul-step
+overflow_mul-step g c =
+    let place = word-place _ _ _ g.met.C.Elem.BitStore.width_law c.BITS-bits.ensures c.requires.narrow c.loop-step-test.true in
+    omega arith
+
+pub overflow_add-first : goal.overflow_add-first
+overflow_add-first g c =
+    let below = inside-word _ _ _ _ _ g.met.C.Elem.BitStore.width_law c.requires.window (rw c.BITS-bits.ensures at c.loop-step-test.true) in
+    omega arith
+
+pub moved-word-requires-clause-target : goal.moved-word-requires-clause-target
+moved-word-requires-clause-target g c =
+    let place = word-place _ _ _ g.met.C.Elem.BitStore.width_law c.BITS-bits.ensures c.requires.narrow c.loop-step-test.true in
+    omega arith
+
+pub load-element-requires : goal.load-element-requires
+load-element-requires g c = rw c.loop-step.invariant.reads.numbers (inside _ _ _ _ _ _ g.met.C.Elem.BitStore.width_law c.requires.window (rw c.BITS-bits.ensures at c.loop-step-test.true) refl)
+
+pub returns-clause-reads : goal.returns-clause-reads
+returns-clause-reads g c =
+    let end = rw c.BITS-bits.ensures at c.loop-step-test.false in
+    let most = rw c.BITS-bits.ensures at c.loop-step.auto.step-end in
+    let all : c.loop-step.step ≡ 64 / g.C.Elem.BitStore.BITS = omega arith in
+    rw (← all) c.loop-step.invariant.reads
 
 pub loop-step-init : goal.loop-step-init
 loop-step-init g c = record {

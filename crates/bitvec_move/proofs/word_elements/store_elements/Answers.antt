@@ -7,7 +7,36 @@ use Rattle.bitvec_words.specs.base.WritesLaws.{Writes-is}
 use Rattle.bitvec_words.specs.Elements.{elements_window}
 use Rattle.bitvec_words.specs.FieldLaws.{Writes-element}
 use Rattle.bitvec_move.specs.WordLaws.{Writes-none_taken, take-all, word-part, word_whole}
+use Rattle.bitvec_move.specs.PlaceLaws.{inside, inside-word, width-some, word-place}
 use Rattle.bitvec_move.proofs.word_elements.store_elements.Goals as goal
+
+pub nonzero_div-step-end : goal.nonzero_div-step-end
+nonzero_div-step-end g c = let some = width-some _ _ g.met.C.Elem.BitStore.width_law c.BITS-bits.ensures in omega arith
+
+pub overflow_mul-step : goal.overflow_mul-step
+overflow_mul-step g c =
+    let place = word-place _ _ _ g.met.C.Elem.BitStore.width_law c.BITS-bits.ensures c.requires.narrow c.loop-step-test.true in
+    omega arith
+
+pub overflow_add-first : goal.overflow_add-first
+overflow_add-first g c =
+    let below = inside-word _ _ _ _ _ g.met.C.Elem.BitStore.width_law c.requires.window (rw c.BITS-bits.ensures at c.loop-step-test.true) in
+    omega arith
+
+pub moved-element-requires-clause-source : goal.moved-element-requires-clause-source
+moved-element-requires-clause-source g c =
+    let place = word-place _ _ _ g.met.C.Elem.BitStore.width_law c.BITS-bits.ensures c.requires.narrow c.loop-step-test.true in
+    omega arith
+
+pub store-requires : goal.store-requires
+store-requires g c = inside _ _ _ _ _ _ g.met.C.Elem.BitStore.width_law c.requires.window (rw c.BITS-bits.ensures at c.loop-step-test.true) c.loop-step.invariant.writes.elements
+
+pub returns-clause-cost : goal.returns-clause-cost
+returns-clause-cost g c =
+    let end = rw c.BITS-bits.ensures at c.loop-step-test.false in
+    let most = rw c.BITS-bits.ensures at c.loop-step.auto.step-end in
+    let all : c.loop-step.step ≡ 64 / g.C.Elem.BitStore.BITS = omega arith in
+    rw (← all) c.loop-step.invariant.cost
 
 pub loop-step-init : goal.loop-step-init
 loop-step-init g c = record {
