@@ -1,8 +1,8 @@
 //! The values of the elements that a view touches, one by one.
-ghost use Rattle.std.specs.Prelude.{◌≡◌};
+ghost use Rattle.std.specs.Prelude.{◌≡◌, [], ◌∷◌, MatchOption, None};
 ghost use Rattle.std.specs.Iterator.{YieldsFirstBy, YieldsLastBy, item_count};
-ghost use Rattle.bitvec_domain.specs.Domains.{pieces_of};
-ghost use Rattle.bitvec_domain.specs.Values.{numbers_of_pieces};
+ghost use Rattle.bitvec_domain.specs.Domains.{pieces_of, seen_part_if};
+ghost use Rattle.bitvec_domain.specs.Values.{numbers_if, numbers_of_pieces};
 
 use crate::{Domain, PartialElement};
 use bitvec_base::BitOrder;
@@ -55,6 +55,17 @@ impl<'a, T: BitStore, O: BitOrder> IntoIterator for Domain<'a, T, O> {
     }
 }
 
+// the value of the part, if there is one, which is none afterwards
+fn take_value<'a, T: BitStore, O: BitOrder>(
+    part: &mut Option<PartialElement<'a, T, O>>,
+) -> Option<T>
+    ensures value { MatchOption result (numbers_if T.BITS O.at T.value (seen_part_if part.old) ≡ []) (λ x. numbers_if T.BITS O.at T.value (seen_part_if part.old) ≡ T.value x ∷ []) }
+    ensures after { part.new ≡ None }
+{
+    let part = part.take()?;
+    Some(part.load_value())
+}
+
 impl<'a, T: BitStore, O: BitOrder> Iterator for DomainValues<'a, T, O> {
     ghost use Rattle.bitvec_domain.specs.Values.{values_left};
 
@@ -66,15 +77,14 @@ impl<'a, T: BitStore, O: BitOrder> Iterator for DomainValues<'a, T, O> {
 
     /// The first of the values that are still to come.
     fn next(&mut self) -> Option<T> {
-        if let Some(part) = self.head.take() {
-            return Some(part.load_value());
+        if let Some(value) = take_value(&mut self.head) {
+            return Some(value);
         }
         if let Some((first, rest)) = self.body.split_first() {
             self.body = rest;
             return Some(*first);
         }
-        let part = self.tail.take()?;
-        Some(part.load_value())
+        take_value(&mut self.tail)
     }
 }
 
@@ -85,15 +95,14 @@ impl<'a, T: BitStore, O: BitOrder> DoubleEndedIterator for DomainValues<'a, T, O
 
     /// The last of the values that are still to come.
     fn next_back(&mut self) -> Option<T> {
-        if let Some(part) = self.tail.take() {
-            return Some(part.load_value());
+        if let Some(value) = take_value(&mut self.tail) {
+            return Some(value);
         }
         if let Some((last, rest)) = self.body.split_last() {
             self.body = rest;
             return Some(*last);
         }
-        let part = self.head.take()?;
-        Some(part.load_value())
+        take_value(&mut self.head)
     }
 }
 

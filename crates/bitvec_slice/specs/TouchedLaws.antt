@@ -1,13 +1,13 @@
 -- The elements that a range of places touches hold the range's bits.
 use Rattle.std.specs.Prelude.{◌≡◌, ℕ, ◌+◌, ◌-◌, ◌*◌, ◌%◌, ◌<◌, ◌≤◌, Bool, List, length, slice_range}
 use Rattle.std.proofs.Common.{arith, ◌∙◌, ap}
-use Rattle.std.proofs.Math.Nat.{add-mul, lt_of_mul-lt-mul_right, mul-le-mul_right}
+use Rattle.std.proofs.Math.Nat.{add-mul, lt_of_mul-lt-mul_right, mul-le-mul_left, mul-le-mul_right}
 use Rattle.std.proofs.lemmas.Grind.{div_ceil_times}
 use Rattle.std.proofs.lemmas.Nat.{div-add-mod', mod_below}
 use Rattle.bitvec_elements.specs.base.Memory.{memory_bits}
 use Rattle.bitvec_elements.specs.base.MemoryLaws.{length-memory_bits, memory-range}
 use Rattle.bitvec_elements.specs.base.SliceLaws.{range-same}
-use Rattle.bitvec_elements.specs.base.WriteLaws.{range-range}
+use Rattle.bitvec_elements.specs.base.WriteLaws.{length-slice_range, range-range}
 use Rattle.bitvec_slice.specs.Touched.{Touches, end_touched, first_touched, touched_elements}
 
 module _ (b n start end : ℕ) (some : 0 < b) (order : start ≤ end) (bound : end ≤ b * n) where
@@ -47,3 +47,23 @@ touched-bits b at xs start end n some sum bound =
     ap (λ (l : List Bool). slice_range l (start % b) (start % b + n)) (memory-range b at xs first last some is.order is.bound)
     ∙ range-range memory (first * b) (last * b) (start % b) (start % b + n) (omega arith) (omega arith)
     ∙ range-same memory _ _ _ _ begins (omega arith)
+
+-- the elements that a range of a view's bits touches are some of its own, and have room for the range
+module _ {X : Type 0} (b : ℕ) (cells : List X) (start len from to : ℕ) (some : 0 < b) (inside : start + len ≤ b * length cells) (order : from ≤ to) (bound : to ≤ len) where
+  touches_range : Touches b (length cells) (start + from) (start + to)
+  touches_range = touches b (length cells) (start + from) (start + to) some (omega arith) (omega arith)
+
+  pub touched_end : end_touched b (start + to) ≤ length cells
+  touched_end = touches_range.bound
+
+  length-touched : length (touched_elements b cells (start + from) (start + to)) ≡ end_touched b (start + to) - first_touched b (start + from)
+  length-touched = length-slice_range cells (first_touched b (start + from)) (end_touched b (start + to)) touched_end
+
+  pub touched_holds : (start + from) % b + (to - from) ≤ b * length (touched_elements b cells (start + from) (start + to))
+  touched_holds = let holds = touches_range.holds in rw length-touched (omega arith)
+
+  pub touched_few : (most : ℕ) → b * length cells ≤ most → b * length (touched_elements b cells (start + from) (start + to)) ≤ most
+  touched_few most few =
+      let within = touched_end in
+      let fewer = mul-le-mul_left {m = end_touched b (start + to) - first_touched b (start + from)} {n = length cells} b (omega arith) in
+      rw length-touched (omega arith)

@@ -142,12 +142,11 @@ impl<P: FnMut(usize, &bool) -> bool, W: Way> Course<P, W> {
         ensures stays { StaysIn (left_on (seen bits.entry) self.old) result (left_on (seen bits.entry) self.new) }
         ensures piece { LimitedStepIn P.FnMut W.INCLUSIVE W.REVERSED count (left_on (seen bits.entry) self.old) result (left_on (seen bits.entry) self.new) }
     {
-        let range = match count {
+        match count {
             0 => None,
             1 => self.finish(bits),
             _ => self.step(bits),
-        }?;
-        Some(range)
+        }
     }
 
     /// How many pieces come at least, and how many at most.

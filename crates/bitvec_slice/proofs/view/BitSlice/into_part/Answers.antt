@@ -1,5 +1,19 @@
+use Rattle.bitvec_elements.specs.store.WidthLaws.{width_some}
 use Rattle.bitvec_slice.specs.SeenLaws.{part_view}
+use Rattle.bitvec_slice.specs.TouchedLaws.{touched_few, touched_holds}
 use Rattle.bitvec_slice.proofs.view.BitSlice.into_part.Goals as goal
+
+pub from_parts-requires-clause-inside : goal.from_parts-requires-clause-inside
+from_parts-requires-clause-inside g c =
+    let v = c.args.self in
+    rw (c.touched_range-cells.ensures.first, c.touched_range-cells.ensures.end, c.BITS.ensures)
+    (touched_holds g.T.BitStore.BITS v.elements.now v.head v.len c.args.range.start c.args.range.end (width_some _ g.met.T.BitStore.width_law) v.inside c.requires.0 c.requires.1)
+
+pub from_parts-requires-clause-fits : goal.from_parts-requires-clause-fits
+from_parts-requires-clause-fits g c =
+    let v = c.args.self in
+    rw (c.touched_range-cells.ensures.first, c.touched_range-cells.ensures.end)
+    (touched_few g.T.BitStore.BITS v.elements.now v.head v.len c.args.range.start c.args.range.end (width_some _ g.met.T.BitStore.width_law) v.inside c.requires.0 c.requires.1 _ v.bounded)
 
 pub returns : goal.returns
 returns g c =
