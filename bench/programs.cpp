@@ -1,5 +1,5 @@
-// Times runs of `bitvec_times`, which is given as the first argument, and prints two tables in Markdown:
-// records beside a struct of bit fields, and elements of 128 bits beside those of 64.
+// Times runs of `bitvec_times`, which is given as the first argument, and prints four tables in Markdown:
+// records beside a struct of bit fields, elements of 128 bits beside those of 64, views of two types, and walks over ones.
 #include "header.hpp"
 #include <algorithm>
 #include <chrono>
@@ -135,6 +135,19 @@ static void widths(const char *program) {
         }
 }
 
+// The sum of the indices of the ones, which are one bit in `every`.
+static void walks(const char *program) {
+    std::printf("\n### A walk over the ones of 1048576 bits, in bits per ns\n\n"
+                "| ones | u8 | u64 | u128 |\n|---|---|---|---|\n");
+    for (unsigned every : {61u, 2u}) {
+        double speeds[3];
+        const unsigned widths[] = {8, 64, 128};
+        for (int i = 0; i < 3; ++i)
+            speeds[i] = 1048576 / time_runs(program, "walk", widths[i], every, 400);
+        std::printf("| 1 in %u | %.3g | %.3g | %.3g |\n", every, speeds[0], speeds[1], speeds[2]);
+    }
+}
+
 // Of two views, the right one of elements of 16 bits.
 static void mixed(const char *program) {
     std::printf("\n### 1048576 bits of views of two types, the right one of u16, in bits per ns\n\n"
@@ -148,4 +161,5 @@ int main(int, char **words) {
     records(words[1]);
     widths(words[1]);
     mixed(words[1]);
+    walks(words[1]);
 }

@@ -4,12 +4,14 @@
 //! OPERATION is `copy`, `count`, `equality`, `or`, `reverse` or `search`, of 2^20 bits in elements of
 //! WIDTH bits, under `Lsb0`; the right side begins PHASE bits into an element. Or it is `eq_bits`,
 //! `cmp_bits`, `or_bits` or `clone_from_bitslice`, whose right side has elements of 16 bits. Or it is
-//! `encode` or `decode`, of the header of a packet, in bytes.
+//! `walk`, over the ones of as many bits, of which one in PHASE is 1. Or it is `encode` or `decode`, of
+//! the header of a packet, in bytes.
 #![tactic(auto)]
 
 mod mixed;
 mod operation;
 mod record;
+mod walk;
 
 use mixed::{Mixed, carry_out_mixed};
 use operation::{Operation, carry_out_times};
@@ -18,6 +20,7 @@ use std::alloc::Allocator;
 use std::env;
 use std::process::ExitCode;
 use std::rt::Env;
+use walk::walk_times;
 
 /// The sum that the words after the program's name ask for. None where they ask for none.
 fn sum<A: Allocator + Copy>(alloc: A, words: &[String]) -> Option<u128> {
@@ -32,9 +35,10 @@ fn sum<A: Allocator + Copy>(alloc: A, words: &[String]) -> Option<u128> {
         "decode" => return decode_times(alloc, times),
         _ => {}
     }
-    let sum = match Mixed::of(name.as_str()) {
-        Some(mixed) => sum_of_mixed(alloc, mixed, width, times)?,
-        None => {
+    let sum = match (name.as_str(), Mixed::of(name.as_str())) {
+        ("walk", _) => sum_of_walk(alloc, width, phase, times)?,
+        (_, Some(mixed)) => sum_of_mixed(alloc, mixed, width, times)?,
+        _ => {
             let operation = Operation::of(name.as_str())?;
             sum_of_operation(alloc, operation, width, phase, times)?
         }
@@ -68,6 +72,21 @@ fn sum_of_mixed<A: Allocator + Copy>(
     match width {
         "8" => carry_out_mixed::<u8, u16, A>(alloc, operation, times),
         "64" => carry_out_mixed::<u64, u16, A>(alloc, operation, times),
+        _ => None,
+    }
+}
+
+/// The sum of walks over elements of a width. None where no such width is timed.
+fn sum_of_walk<A: Allocator + Copy>(
+    alloc: A,
+    width: &str,
+    every: usize,
+    times: usize,
+) -> Option<usize> {
+    match width {
+        "8" => walk_times::<u8, A>(alloc, every, times),
+        "64" => walk_times::<u64, A>(alloc, every, times),
+        "128" => walk_times::<u128, A>(alloc, every, times),
         _ => None,
     }
 }
