@@ -1,6 +1,5 @@
 //! Worked rows of one command or a few.
 use crate::rows::{Row, check};
-use crate::slices::steps;
 use bitvec_plain::base::{HiLo, Lsb0, Msb0};
 use bitvec_plain::commands::{Op, Refusal, Reply, Window};
 
@@ -9,7 +8,7 @@ fn a_window_inside_an_element_is_filled(rt: HostRuntime) {
     let row = Row {
         window: Window { start: 2, len: 5 },
         right: &[],
-        steps: &steps([
+        steps: &steps!([
             (0, 5, Op::Fill(true)),
             (0, 6, Op::Fill(true)),
             (1, 4, Op::ShiftEnd(4)),
@@ -31,7 +30,7 @@ fn a_fill_follows_the_order(rt: HostRuntime) {
     let row = Row {
         window: Window { start: 0, len: 8 },
         right: &[],
-        steps: &steps([(0, 3, Op::Fill(true))]),
+        steps: &steps!([(0, 3, Op::Fill(true))]),
         replies: &[Reply::Done],
         after: &[0x70],
     };
@@ -45,7 +44,7 @@ fn an_operator_takes_zeros_past_the_right_window(rt: HostRuntime) {
         let row = Row {
             window: Window { start: 0, len: 8 },
             right: &[0xA0],
-            steps: &steps([(0, 8, op)]),
+            steps: &steps!([(0, 8, op)]),
             replies: &[Reply::Done],
             after: &[after],
         };
@@ -61,7 +60,7 @@ fn a_rotation_turns_back(rt: HostRuntime) {
         let row = Row {
             window: Window { start: 0, len: 5 },
             right: &[],
-            steps: &steps([(0, 5, op)]),
+            steps: &steps!([(0, 5, op)]),
             replies: &[Reply::Done],
             after: &[after],
         };
@@ -75,7 +74,7 @@ fn a_bit_that_is_nowhere_has_no_last_place(rt: HostRuntime) {
         let row = Row {
             window: Window { start: 0, len: 16 },
             right: &[],
-            steps: &steps([(0, 16, op)]),
+            steps: &steps!([(0, 16, op)]),
             replies: &[Reply::Index(None)],
             after: &[byte, byte],
         };
