@@ -1,6 +1,5 @@
 //! Worked rows of one command or a few.
 use crate::rows::{Row, check};
-use crate::slices::steps;
 use bitvec_plain::base::{HiLo, Lsb0, Msb0};
 use bitvec_plain::commands::{Op, Refusal, Reply, Window};
 
@@ -9,7 +8,7 @@ fn a_window_inside_an_element_is_filled(rt: HostRuntime) {
     let row = Row {
         window: Window { start: 2, len: 5 },
         right: &[],
-        steps: &steps([
+        steps: &steps!([
             (0, 5, Op::Fill(true)),
             (0, 6, Op::Fill(true)),
             (1, 4, Op::ShiftEnd(4)),
@@ -31,7 +30,7 @@ fn a_fill_follows_the_order(rt: HostRuntime) {
     let row = Row {
         window: Window { start: 0, len: 8 },
         right: &[],
-        steps: &steps([(0, 3, Op::Fill(true))]),
+        steps: &steps!([(0, 3, Op::Fill(true))]),
         replies: &[Reply::Done],
         after: &[0x70],
     };
@@ -45,7 +44,7 @@ fn an_operator_takes_zeros_past_the_right_window(rt: HostRuntime) {
         let row = Row {
             window: Window { start: 0, len: 8 },
             right: &[0xA0],
-            steps: &steps([(0, 8, op)]),
+            steps: &steps!([(0, 8, op)]),
             replies: &[Reply::Done],
             after: &[after],
         };
@@ -57,16 +56,16 @@ fn an_operator_takes_zeros_past_the_right_window(rt: HostRuntime) {
 #[test]
 fn five_bits_are_moved(rt: HostRuntime) {
     let mut bits = [0x12];
-    for (step, after) in [
-        ((0, 5, Op::RotateLeft(2)), 0x14),
-        ((0, 5, Op::RotateRight(2)), 0x12),
-        ((0, 5, Op::Swap(0, 4)), 0x03),
-        ((1, 4, Op::Reverse), 0x09),
+    for (from, to, op, after) in [
+        (0, 5, Op::RotateLeft(2), 0x14),
+        (0, 5, Op::RotateRight(2), 0x12),
+        (0, 5, Op::Swap(0, 4), 0x03),
+        (1, 4, Op::Reverse, 0x09),
     ] {
         let row = Row {
             window: Window { start: 0, len: 5 },
             right: &[],
-            steps: &steps([step]),
+            steps: &steps!([(from, to, op)]),
             replies: &[Reply::Done],
             after: &[after],
         };
@@ -80,7 +79,7 @@ fn a_bit_that_is_nowhere_has_no_last_place(rt: HostRuntime) {
         let row = Row {
             window: Window { start: 0, len: 16 },
             right: &[],
-            steps: &steps([(0, 16, op)]),
+            steps: &steps!([(0, 16, op)]),
             replies: &[Reply::Index(None)],
             after: &[byte, byte],
         };

@@ -2,6 +2,14 @@
 //! run says.
 #![tactic(auto)]
 
+/// The steps of a table of rows: from, up to, and the command.
+#[cfg(test)]
+macro_rules! steps {
+    ([$(($from:expr, $to:expr, $op:expr)),* $(,)?]) => {
+        [$(bitvec_plain::commands::Step { from: $from, to: $to, op: $op }),*]
+    };
+}
+
 #[cfg(test)]
 mod agreement;
 #[cfg(test)]

@@ -1,6 +1,6 @@
 //! Worked rows: what a run replies, and the memory that it leaves.
 use crate::own_order::Scattered;
-use crate::slices::{FOUR_NIBBLES_REPLIES, answer, four_nibbles, steps};
+use crate::slices::{FOUR_NIBBLES_REPLIES, answer, four_nibbles};
 use bitvec_plain::base::{HiLo, Lsb0};
 use bitvec_plain::commands::{Op, Refusal, Reply, RunError, Step, Window};
 use bitvec_plain::engine::SliceOrder;
@@ -59,7 +59,7 @@ fn a_refused_step_changes_nothing_and_the_next_follows(rt: HostRuntime) {
     let row = Row {
         window: Window { start: 3, len: 4 },
         right: &[],
-        steps: &steps([
+        steps: &steps!([
             (0, 4, Op::CountOnes),
             (1, 5, Op::Get(0)),
             (0, 4, Op::Get(4)),
@@ -87,7 +87,7 @@ fn places_follow_the_order(rt: HostRuntime) {
         let row = Row {
             window: Window { start: 0, len: 8 },
             right: &[],
-            steps: &steps([(0, 8, Op::Get(index))]),
+            steps: &steps!([(0, 8, Op::Get(index))]),
             replies: &[Reply::Bit(bit)],
             after: &[0xA5],
         };
@@ -96,7 +96,7 @@ fn places_follow_the_order(rt: HostRuntime) {
     let row = Row {
         window: Window { start: 0, len: 8 },
         right: &[],
-        steps: &steps([(0, 8, Op::Get(0))]),
+        steps: &steps!([(0, 8, Op::Get(0))]),
         replies: &[Reply::Bit(true)],
         after: &[0x10],
     };
@@ -108,7 +108,7 @@ fn a_memory_may_be_empty_and_a_window_may_lie_at_its_end(rt: HostRuntime) {
     let empty = Row {
         window: Window { start: 0, len: 0 },
         right: &[],
-        steps: &steps([(0, 0, Op::CountOnes), (0, 1, Op::Get(0))]),
+        steps: &steps!([(0, 0, Op::CountOnes), (0, 1, Op::Get(0))]),
         replies: &[Reply::Count(0), Reply::Refused(Refusal::Range)],
         after: &[],
     };
@@ -116,7 +116,7 @@ fn a_memory_may_be_empty_and_a_window_may_lie_at_its_end(rt: HostRuntime) {
     let end = Row {
         window: Window { start: 16, len: 0 },
         right: &[],
-        steps: &steps([(0, 0, Op::CountOnes)]),
+        steps: &steps!([(0, 0, Op::CountOnes)]),
         replies: &[Reply::Count(0)],
         after: &[0x5A, 0xC3],
     };
@@ -129,7 +129,7 @@ fn an_own_order_is_followed(rt: HostRuntime) {
     let row = Row {
         window: Window { start: 0, len: 8 },
         right: &[],
-        steps: &steps([(0, 3, Op::Fill(true)), (2, 5, Op::CountOnes)]),
+        steps: &steps!([(0, 3, Op::Fill(true)), (2, 5, Op::CountOnes)]),
         replies: &[Reply::Done, Reply::Count(1)],
         after: &[0x29],
     };

@@ -12,7 +12,7 @@ use std::alloc::Allocator;
 
 /// A bit set in each of four nibbles, and their count.
 pub(crate) fn four_nibbles() -> [Step; 5] {
-    steps([
+    steps!([
         (0, 4, Op::Set(0, true)),
         (4, 8, Op::Set(1, true)),
         (8, 12, Op::Set(2, true)),
@@ -32,11 +32,6 @@ pub(crate) const FOUR_NIBBLES_REPLIES: [Reply; 5] = [
 
 /// A row of a table of steps: from, up to, and the command.
 pub(crate) type StepRow = (usize, usize, Op);
-
-/// The steps of a table.
-pub(crate) fn steps<const N: usize>(rows: [StepRow; N]) -> [Step; N] {
-    rows.map(step)
-}
 
 /// The step of a row.
 pub(crate) fn step(row: StepRow) -> Step {

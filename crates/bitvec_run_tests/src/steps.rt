@@ -1,14 +1,13 @@
 //! Steps that hold every command, with arguments that fit and with others that don't.
 ghost use Rattle.std.specs.Prelude.{◌^◌, ◌<◌};
 
-use crate::slices::steps;
 use bitvec_plain::commands::{Op, Step, Window};
 
 /// Commands that only read, in a window of that many bits; then fills, and what is left to find.
 pub(crate) fn queries(len: usize) -> [Step; 21]
     requires { len < 2 ^ 32 }
 {
-    steps([
+    steps!([
         (0, len, Op::Get(0)),
         (0, len, Op::Get(len / 2)),
         (0, len, Op::Get(len)),
@@ -38,7 +37,7 @@ pub(crate) fn edits(len: usize) -> [Step; 17]
     requires { len < 2 ^ 32 }
 {
     let last = len.saturating_sub(1);
-    steps([
+    steps!([
         (0, len, Op::Set(len / 2, true)),
         (0, len, Op::Set(last, false)),
         (0, len, Op::Set(len, true)),
@@ -64,7 +63,7 @@ pub(crate) fn moves(len: usize) -> [Step; 21]
     requires { len < 2 ^ 32 }
 {
     let last = len.saturating_sub(1);
-    steps([
+    steps!([
         (0, len, Op::Reverse),
         (1, len, Op::Reverse),
         (0, len, Op::RotateLeft(len / 3)),
@@ -112,7 +111,7 @@ pub(crate) fn right_commands(len: usize, start: usize) -> [Step; 33]
         start,
         len: usize::MAX,
     };
-    steps([
+    steps!([
         (0, len, Op::Eq(same)),
         (0, len, Op::Cmp(same)),
         (0, len, Op::StartsWith(half)),
