@@ -1,5 +1,5 @@
 //! Edits of parts of a view by closures: what a caller knows of the view afterwards.
-ghost use Rattle.std.specs.Prelude.{◌≡◌, ℕ, ◌+◌, ◌*◌, ◌%◌, ◌<◌, ◌≤◌, ◌==◌, ◌++◌, map, not, replicate, reverse, slice_range, slice_set, true};
+ghost use Rattle.std.specs.Prelude.{◌≡◌, ℕ, ◌+◌, ◌*◌, ◌<◌, ◌≤◌, ◌++◌, map, not, replicate, reverse, slice_range, slice_set, true};
 ghost use Rattle.bitvec_edit.specs.base.Lists.{rotated_left};
 ghost use Rattle.bitvec_edit.specs.base.Window.{write_at};
 ghost use Rattle.bitvec_pieces.specs.cutting.Cutting.{back_chunk, chunk_count, cut, whole_chunk, whole_count};
@@ -44,17 +44,6 @@ pub fn set_and_reverse<T: BitStore, O: SliceOrder>(
     })
 }
 
-/// Makes the bits 3 and 4 ones, as a part of a part.
-pub fn fill_within<T: BitStore, O: SliceOrder>(view: &mut BitSliceMut<'_, T, O>)
-    requires { 6 ≤ (seen_mut view.old).window.len }
-    ensures { WritesBits view.old view.new (write_at (seen_mut view.old).bits 1
-        (write_at (slice_range (seen_mut view.old).bits 1 6) 2 (replicate 2 true))) }
-{
-    view.edit_with(1..6, |piece| {
-        piece.edit_with(2..4, |inner| inner.fill(true))
-    });
-}
-
 /// Makes the bits before `mid` ones, and flips those from it.
 pub fn fill_then_invert<T: BitStore, O: SliceOrder>(view: &mut BitSliceMut<'_, T, O>, mid: usize)
     requires { mid ≤ (seen_mut view.old).window.len }
@@ -79,14 +68,6 @@ pub fn invert_by_chunks<T: BitStore, O: SliceOrder>(view: &mut BitSliceMut<'_, T
     ensures { WritesBits view.old view.new (map not (seen_mut view.old).bits) }
 {
     view.for_each_chunk_mut(size, |_index, piece| piece.invert());
-}
-
-/// Makes each second chunk of eight bits ones, and the others zeros.
-pub fn stripe<T: BitStore, O: SliceOrder>(view: &mut BitSliceMut<'_, T, O>)
-    ensures { (k : ℕ) → k * 8 + 8 ≤ (seen_mut view.old).window.len
-        → slice_range (seen_mut view.new).bits (k * 8) (k * 8 + 8) ≡ replicate 8 (k % 2 == 1) }
-{
-    view.for_each_chunk_mut(8, |index, piece| piece.fill(index % 2 == 1));
 }
 
 /// Flips each chunk of `size` bits, counted from the end.

@@ -3,7 +3,7 @@
 //! the bytes are compared at the end. Of 30 rounds many go past the end.
 
 use bitvec_edit::base::Lsb0;
-use bitvec_edit::slice::{BitRefMut, BitSliceMut};
+use bitvec_edit::slice::BitSliceMut;
 use bitvec_iter::{Cutting, IterMut, PieceCallsMut, PiecesMut};
 use bitvec_test_support::{MEMORIES, bits_of, flip};
 use std::process::Abort;
@@ -70,8 +70,14 @@ fn flip_chunk<C: Cutting>(chunks: &mut PiecesMut<'_, u8, Lsb0, C>, call: Call) -
     }
 }
 
-/// Flips a bit, if one came, and gives that it is one.
-fn flip_lent_bit(bit: Option<BitRefMut<'_, u8, Lsb0>>) -> Option<usize> {
+/// Calls a walk over bits, flips the bit that comes, and gives that it is one.
+fn flip_bit(bits: &mut IterMut<'_, u8, Lsb0>, call: Call) -> Option<usize> {
+    let bit = match call {
+        Call::Next => bits.next_mut(),
+        Call::NextBack => bits.next_back_mut(),
+        Call::Nth(skipped) => bits.nth_mut(skipped),
+        Call::NthBack(skipped) => bits.nth_back_mut(skipped),
+    };
     match bit {
         Some(mut bit) => {
             let old = *bit;
@@ -79,16 +85,6 @@ fn flip_lent_bit(bit: Option<BitRefMut<'_, u8, Lsb0>>) -> Option<usize> {
             Some(1)
         }
         None => None,
-    }
-}
-
-/// Calls a walk over bits, flips the bit that comes, and gives that it is one.
-fn flip_bit(bits: &mut IterMut<'_, u8, Lsb0>, call: Call) -> Option<usize> {
-    match call {
-        Call::Next => flip_lent_bit(bits.next_mut()),
-        Call::NextBack => flip_lent_bit(bits.next_back_mut()),
-        Call::Nth(skipped) => flip_lent_bit(bits.nth_mut(skipped)),
-        Call::NthBack(skipped) => flip_lent_bit(bits.nth_back_mut(skipped)),
     }
 }
 
