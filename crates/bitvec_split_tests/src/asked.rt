@@ -3,7 +3,7 @@
 use bitvec_query::base::{BitOrder, Lsb0, Msb0};
 use bitvec_query::slice::BitSlice;
 use bitvec_query::store::BitStore;
-use bitvec_split::{SplitCalls, Splits, Way};
+use bitvec_split::SplitCalls;
 
 /// Appends the digit above an index.
 fn logged(log: u32, index: usize) -> u32 {
@@ -41,13 +41,15 @@ fn place<T: BitStore, O: BitOrder>(piece: Option<BitSlice<'_, T, O>>) -> Option<
     Some((window.start, window.len))
 }
 
-/// The places of the first pieces from the front, or by turns from the front and the back.
-fn take_places<W: Way, P: FnMut(usize, &bool) -> bool>(
-    mut pieces: Splits<'_, u8, Lsb0, P, W>,
-    by_turns: bool,
-) -> [Option<(usize, usize)>; 6]
-    requires { (pred : P) → P.IsAlwaysCallable pred }
-{
+/// The places of the first pieces of six zeros, from the front, or by turns from the front and the back, where the
+/// predicate says yes at each second asking.
+fn places_of_six(by_turns: bool) -> [Option<(usize, usize)>; 6] {
+    let mut asked = 0u32;
+    let view = BitSlice::<u8, Lsb0>::from_slice(&[0]).into_part(0..6);
+    let mut pieces = view.split(|_index, _bit| {
+        asked = asked.wrapping_add(1);
+        asked % 2 == 0
+    });
     let mut places = [None; 6];
     for (call, taken) in places.iter_mut().enumerate() {
         *taken = if by_turns && call % 2 == 1 {
@@ -57,17 +59,6 @@ fn take_places<W: Way, P: FnMut(usize, &bool) -> bool>(
         };
     }
     places
-}
-
-/// The same of six zeros, by a predicate that says yes at each second asking.
-fn places_of_six(by_turns: bool) -> [Option<(usize, usize)>; 6] {
-    let mut asked = 0u32;
-    let view = BitSlice::<u8, Lsb0>::from_slice(&[0]).into_part(0..6);
-    let pieces = view.split(|_index, _bit| {
-        asked = asked.wrapping_add(1);
-        asked % 2 == 0
-    });
-    take_places(pieces, by_turns)
 }
 
 // The predicate is asked through its own states.
