@@ -118,5 +118,8 @@ count-left b at p xs first count passed m n some has fits words left =
     (words ∙ count-orders b (λ c i. i) at (itself b) p xs first passed some (HasWindow-elements b at xs first count has first passed (omega arith) (omega arith)))
     left
 
+pub words-some : (b : ℕ) → IsWidth b → b ≤ 64 → 0 < 64 / b
+words-some b width = at_each_width (λ n. n ≤ 64 → 0 < 64 / n) (λ _. omega arith) (λ _. omega arith) (λ _. omega arith) (λ _. omega arith) (λ narrow. absurd (omega arith)) b width
+
 pub words-within : (b count : ℕ) → IsWidth b → b ≤ 64 → count / (64 / b) * (64 / b) ≤ count
 words-within b count width narrow = let parts = div-add-mod' count (64 / b) in omega arith
