@@ -49,9 +49,9 @@ pub trait IterCalls<T: BitStore> {
     /// size is above 0.
     ///
     /// ```
-    /// let cells = [0x17u8];
     /// let view = BitSlice::<u8, Msb0>::from_slice(&cells);
-    /// assert!(rt; read(view.chunks(usize::MAX).next_back()) == Some((8, 0x17)));
+    /// let mut chunks = view.chunks(3);
+    /// assert!(rt; read(chunks.next()) == Some((3, 0)));
     /// ```
     fn chunks(self, size: usize) -> Self::Chunks
         requires { 0 < size }
@@ -81,7 +81,6 @@ pub trait IterCalls<T: BitStore> {
     /// Condition: the size is above 0.
     ///
     /// ```
-    /// let view = BitSliceMut::<u8, Msb0>::from_slice_mut(&mut cells);
     /// let mut chunks = view.rchunks(3);
     /// assert!(rt; read(chunks.next()) == Some((3, 7)));
     /// ```
@@ -97,9 +96,7 @@ pub trait IterCalls<T: BitStore> {
     /// the size is above 0.
     ///
     /// ```
-    /// let view = BitSlice::<u8, Msb0>::from_slice(&cells);
-    /// let mut chunks = view.rchunks_exact(3);
-    /// assert!(rt; read(chunks.nth_back(1)) == Some((3, 7)));
+    /// assert!(rt; read(Some(view.rchunks_exact(3).remainder())) == Some((2, 0)));
     /// ```
     fn rchunks_exact(self, size: usize) -> Self::RChunksExact
         requires { 0 < size }

@@ -190,9 +190,8 @@ pub trait BitQueries<T: BitStore, O: SliceOrder> {
     /// Whether the other view has the same bits: `==` of `bitvec`, which compares views of any types.
     ///
     /// ```
-    /// let high = [0x84u8];
-    /// let view = BitSlice::<u8, Lsb0>::from_slice(&low);
-    /// assert!(rt; view.eq_bits(BitSlice::<u8, Msb0>::from_slice(&high)));
+    /// let view = BitSlice::<u8, Lsb0>::from_slice(&[0x21]);
+    /// assert!(rt; view.eq_bits(BitSlice::<u8, Msb0>::from_slice(&[0x84])));
     /// ```
     fn eq_bits<'b, U: BitStore, P: BitOrder>(&self, other: BitSlice<'b, U, P>) -> bool
         ensures { result ≡ same_bits (shows self.now).bits (seen other.entry).bits }
