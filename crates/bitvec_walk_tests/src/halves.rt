@@ -36,8 +36,12 @@ fn halves_meet_inside_an_element(rt: HostRuntime) {
 fn lens_of_halves(bytes: &mut [u8; 2]) -> [usize; 3] {
     let mut view = BitSliceMut::<u8, Lsb0>::from_slice_mut(bytes);
     let mut halves = view.split_at_unchecked_mut(5);
-    let right = halves.right_mut().len();
-    [halves.len(), halves.mid(), right]
+    let lens = (halves.len(), halves.mid());
+    let right = {
+        let half = halves.right_mut();
+        half.len()
+    };
+    [lens.0, lens.1, right]
 }
 
 #[test]
