@@ -5,7 +5,7 @@ use bitvec_edit::slice::BitSliceMut;
 use bitvec_iter::PieceCallsMut;
 
 /// How many chunks of three bits there are, how many bits their remainder has, which is set, how many it has
-/// when it is taken again, how many chunks come then, and how many bits are left at the end.
+/// when it is taken again, how many the chunks have that come then, and how many are left at the end.
 fn set_remainder(bytes: &mut [u8; 1]) -> [usize; 5] {
     let mut view = BitSliceMut::<u8, Lsb0>::from_slice_mut(bytes);
     let mut chunks = view.chunks_exact_mut(3);
@@ -15,20 +15,27 @@ fn set_remainder(bytes: &mut [u8; 1]) -> [usize; 5] {
         rest.fill(true);
         rest.len()
     };
-    let again = chunks.take_remainder().len();
+    let again = {
+        let rest = chunks.take_remainder();
+        rest.len()
+    };
     let mut came = 0usize;
     for _ in 0..3 {
-        if chunks.next_mut().is_some() {
-            came = came.wrapping_add(1);
+        if let Some(chunk) = chunks.next_mut() {
+            came = came.wrapping_add(chunk.len());
         }
     }
-    [count, first, again, came, chunks.into_remainder().len()]
+    let left = {
+        let rest = chunks.into_remainder();
+        rest.len()
+    };
+    [count, first, again, came, left]
 }
 
 #[test]
 fn a_remainder_is_taken_once(rt: HostRuntime) {
     let mut bytes = [0x00];
-    assert!(rt; set_remainder(&mut bytes) == [2, 2, 0, 2, 0]);
+    assert!(rt; set_remainder(&mut bytes) == [2, 2, 0, 6, 0]);
     assert!(rt; bytes == [0xC0]);
 }
 
