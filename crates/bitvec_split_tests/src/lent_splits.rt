@@ -5,7 +5,7 @@
 
 use bitvec_query::base::Lsb0;
 use bitvec_query::slice::BitSliceMut;
-use bitvec_split::{SplitCallsMut, SplitsMut, SplitsNMut, Way};
+use bitvec_split::SplitCallsMut;
 use bitvec_test_support::{MEMORIES, bits_of, flip};
 use std::process::Abort;
 
@@ -154,38 +154,55 @@ enum Kind {
 /// What thirty calls of a split give: how many bits each piece has.
 type Lengths = [Option<usize>; 30];
 
-/// Calls a split thirty times, flips what comes, and gives how many bits each piece has.
-fn take_pieces<W: Way, P: FnMut(usize, &bool) -> bool>(
-    pieces: &mut SplitsMut<'_, u8, Lsb0, P, W>,
-    ends: Ends,
-) -> Lengths
-    requires { (pred : P) → P.IsAlwaysCallable pred }
-{
-    let mut lengths = [None; 30];
-    for (call, length) in lengths.iter_mut().enumerate() {
-        let piece = if ends.is_back(call) {
-            pieces.next_back_mut()
-        } else {
-            pieces.next_mut()
-        };
-        if let Some(piece) = piece {
-            *length = Some(piece.len());
-            let _flipped = !piece;
-        }
-    }
-    lengths
-}
-
 /// Calls a split of the bits 3 up to 21 thirty times, and gives what came and what was asked.
 fn split_in(bytes: &mut [u8; 3], kind: Kind, ends: Ends) -> (Lengths, Asked) {
+    let mut lengths = [None; 30];
     let mut asked = Asked::new();
     let mut view = BitSliceMut::<u8, Lsb0>::from_slice_mut(bytes).into_part(3..21);
-    let pred = |index: usize, bit: &bool| asked.hears(index, *bit);
-    let lengths = match kind {
-        Kind::Between => take_pieces(&mut view.split_mut(pred), ends),
-        Kind::Inclusive => take_pieces(&mut view.split_inclusive_mut(pred), ends),
-        Kind::Reversed => take_pieces(&mut view.rsplit_mut(pred), ends),
-    };
+    match kind {
+        Kind::Between => {
+            let mut pieces = view.split_mut(|index, bit| asked.hears(index, *bit));
+            for (call, length) in lengths.iter_mut().enumerate() {
+                let piece = if ends.is_back(call) {
+                    pieces.next_back_mut()
+                } else {
+                    pieces.next_mut()
+                };
+                if let Some(piece) = piece {
+                    *length = Some(piece.len());
+                    let _flipped = !piece;
+                }
+            }
+        }
+        Kind::Inclusive => {
+            let mut pieces = view.split_inclusive_mut(|index, bit| asked.hears(index, *bit));
+            for (call, length) in lengths.iter_mut().enumerate() {
+                let piece = if ends.is_back(call) {
+                    pieces.next_back_mut()
+                } else {
+                    pieces.next_mut()
+                };
+                if let Some(piece) = piece {
+                    *length = Some(piece.len());
+                    let _flipped = !piece;
+                }
+            }
+        }
+        Kind::Reversed => {
+            let mut pieces = view.rsplit_mut(|index, bit| asked.hears(index, *bit));
+            for (call, length) in lengths.iter_mut().enumerate() {
+                let piece = if ends.is_back(call) {
+                    pieces.next_back_mut()
+                } else {
+                    pieces.next_mut()
+                };
+                if let Some(piece) = piece {
+                    *length = Some(piece.len());
+                    let _flipped = !piece;
+                }
+            }
+        }
+    }
     (lengths, asked)
 }
 
@@ -233,32 +250,28 @@ fn pieces_by_turns(rt: HostRuntime) {
     splits_as_list(&rt, Ends::ByTurns);
 }
 
-/// Calls a limited split thirty times, flips what comes, and gives how many bits each piece has.
-fn take_limited<W: Way, P: FnMut(usize, &bool) -> bool>(
-    pieces: &mut SplitsNMut<'_, u8, Lsb0, P, W>,
-) -> Lengths
-    requires { (pred : P) → P.IsAlwaysCallable pred }
-{
-    let mut lengths = [None; 30];
-    for length in &mut lengths {
-        if let Some(piece) = pieces.next_mut() {
-            *length = Some(piece.len());
-            let _flipped = !piece;
-        }
-    }
-    lengths
-}
-
 /// Calls a split into a number of pieces at most thirty times, from the front of the view or from its back.
 fn split_into(bytes: &mut [u8; 3], count: usize, reversed: bool) -> (Lengths, Asked) {
+    let mut lengths = [None; 30];
     let mut asked = Asked::new();
     let mut view = BitSliceMut::<u8, Lsb0>::from_slice_mut(bytes).into_part(3..21);
-    let pred = |index: usize, bit: &bool| asked.hears(index, *bit);
-    let lengths = if reversed {
-        take_limited(&mut view.rsplitn_mut(count, pred))
+    if reversed {
+        let mut pieces = view.rsplitn_mut(count, |index, bit| asked.hears(index, *bit));
+        for length in &mut lengths {
+            if let Some(piece) = pieces.next_mut() {
+                *length = Some(piece.len());
+                let _flipped = !piece;
+            }
+        }
     } else {
-        take_limited(&mut view.splitn_mut(count, pred))
-    };
+        let mut pieces = view.splitn_mut(count, |index, bit| asked.hears(index, *bit));
+        for length in &mut lengths {
+            if let Some(piece) = pieces.next_mut() {
+                *length = Some(piece.len());
+                let _flipped = !piece;
+            }
+        }
+    }
     (lengths, asked)
 }
 

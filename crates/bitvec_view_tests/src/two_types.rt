@@ -66,6 +66,10 @@ fn pairs_of_types_go_by_bits(rt: HostRuntime) {
     let left = BitSliceMut::<u8, Msb0>::from_slice_mut(&mut bytes).into_part(3..203);
     let right = BitSliceMut::<u16, Lsb0>::from_slice_mut(&mut halves).into_part(29..229);
     assert!(rt; goes_by_bits(left, right));
+}
+
+#[test]
+fn another_order_goes_by_bits(rt: HostRuntime) {
     let (mut halves, mut others) = ([0u16; 20], [0u8; 40]);
     let left = BitSliceMut::<u16, HiLo>::from_slice_mut(&mut halves).into_part(0..200);
     let right = BitSliceMut::<u8, Msb0>::from_slice_mut(&mut others).into_part(5..205);
