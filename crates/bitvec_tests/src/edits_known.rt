@@ -1,9 +1,10 @@
 //! What a caller knows of the bits after calls that move and exchange them.
-ghost use Rattle.std.specs.Prelude.{◌≡◌, ◌-◌, ◌*◌, ◌<◌, ◌≤◌, map, not, reverse, slice_set};
+ghost use Rattle.std.specs.Prelude.{◌≡◌, ◌-◌, ◌*◌, ◌<◌, ◌≤◌, length, map, not, reverse, slice_set};
 ghost use Rattle.std.specs.List.{swap};
 ghost use Rattle.bitvec.specs.Lists.{copied_within, rotated_left, shifted_end, shifted_start};
 ghost use Rattle.bitvec.specs.Swaps.{swapped_within};
 ghost use Rattle.bitvec.specs.Views.{seen_mut};
+ghost use Rattle.bitvec.specs.Window.{max_bits};
 
 use bitvec::prelude::*;
 
@@ -105,14 +106,32 @@ fn bits_are_moved(rt: HostRuntime) {
     assert!(rt; cells == [0b1011_1101]);
 }
 
-/// Exchanges the first four bits of a byte with those of another, and then with those of a word, which has the
-/// other order.
-fn exchange_fours(byte: &mut [u8; 1], other: &mut [u8; 1], word: &mut [u16; 1]) {
-    let mut part = BitSliceMut::<u8, Msb0>::from_slice_mut(byte).into_part(0..4);
-    let mut others = BitSliceMut::<u8, Msb0>::from_slice_mut(other).into_part(0..4);
-    exchange(&mut part, &mut others);
-    let mut words = BitSliceMut::<u16, Lsb0>::from_slice_mut(word).into_part(0..4);
-    exchange_bits(&mut part, &mut words);
+/// Exchanges the first four bits of the bytes with those of others.
+fn exchange_four(elements: &mut [u8], others: &mut [u8])
+    requires fits { 8 * length elements.old ≤ max_bits }
+    requires others_fit { 8 * length others.old ≤ max_bits }
+{
+    let mut view = BitSliceMut::<u8, Msb0>::from_slice_mut(elements);
+    let mut other_view = BitSliceMut::<u8, Msb0>::from_slice_mut(others);
+    if let Some(mut part) = view.get_mut(0..4) {
+        if let Some(mut other) = other_view.get_mut(0..4) {
+            exchange(&mut part, &mut other);
+        }
+    }
+}
+
+/// The same with words, which have the other order.
+fn exchange_four_of_words(elements: &mut [u8], others: &mut [u16])
+    requires fits { 8 * length elements.old ≤ max_bits }
+    requires others_fit { 16 * length others.old ≤ max_bits }
+{
+    let mut view = BitSliceMut::<u8, Msb0>::from_slice_mut(elements);
+    let mut other_view = BitSliceMut::<u16, Lsb0>::from_slice_mut(others);
+    if let Some(mut part) = view.get_mut(0..4) {
+        if let Some(mut other) = other_view.get_mut(0..4) {
+            exchange_bits(&mut part, &mut other);
+        }
+    }
 }
 
 #[test]
@@ -120,7 +139,8 @@ fn bits_are_exchanged(rt: HostRuntime) {
     let mut left = [0x0Fu8];
     let mut right = [0xA0u8];
     let mut word = [0x8001u16];
-    exchange_fours(&mut left, &mut right, &mut word);
+    exchange_four(&mut left, &mut right);
+    exchange_four_of_words(&mut left, &mut word);
     assert!(rt; left == [0x8F]);
     assert!(rt; right == [0x00]);
     assert!(rt; word == [0x8005]);
