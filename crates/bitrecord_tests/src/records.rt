@@ -45,6 +45,10 @@ fn bits_around_a_record_stay(rt: HostRuntime) {
     let mut view = BitSliceMut::<u8, Msb0>::from_slice_mut(&mut bytes).into_part(5..20);
     assert!(rt; encodes(rt.alloc(), Endian::Big, &TURNED, &[1, 2, 0], &mut view));
     assert!(rt; bytes == [0xFD, 0x00, 0x3F]);
+}
+
+#[test]
+fn bits_before_a_record_and_behind_it_stay(rt: HostRuntime) {
     let mut bytes = [0xFFu8; 3];
     let mut view = BitSliceMut::<u8, Msb0>::from_slice_mut(&mut bytes).into_part(4..20);
     assert!(rt; encodes(rt.alloc(), Endian::Big, &THREE, &[5, 85, 33], &mut view));
