@@ -6,5 +6,6 @@ pub mod LineLaws
 pub mod OptionLaws
 pub mod ReadLaws
 pub mod RequestLaws
+pub mod RunLaws
 pub mod SplitLaws
 pub mod WordLaws

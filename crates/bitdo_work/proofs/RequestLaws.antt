@@ -1,12 +1,13 @@
 -- What is asked for, by the texts of the memories, and the faults that follow.
-use Rattle.std.proofs.Common.{◌≡◌, ℕ, ◌&&◌, List, Option, Some, None, is_some, IsSome, ◌⊎◌, inl, inr, refl, ap}
+use Rattle.std.proofs.Common.{◌≡◌, ℕ, ◌&&◌, List, length, Option, Some, None, is_some, IsSome, ◌⊎◌, inl, inr, refl, ap}
 use Rattle.bitvec_run.specs.base.declared.window.Window.{Window}
 use Rattle.bitvec_run.specs.declared.command.Reply.{Reply}
 use Rattle.bitvec_run.specs.declared.command.RunError.{RunError}
 use Rattle.bitvec_run.specs.declared.command.Step.{Step}
+use Rattle.bitvec_run.specs.Runs.{FailsRun}
 use Rattle.bitdo_work.specs.Arguments.{Request, request, request_by_texts}
 use Rattle.bitdo_work.specs.Elements.{elements_of}
-use Rattle.bitdo_work.specs.Program.{GivesSteps, IsRun, FailsRun, HasRun, HasRunError, HasFault}
+use Rattle.bitdo_work.specs.Program.{GivesSteps, IsRun, HasRun, HasRunError, HasFault}
 use Rattle.bitdo_work.specs.declared.fault.Fault.{Fault}
 use Rattle.bitdo_work.specs.declared.fault.Fault.TheVariants.{Arguments, Memory}
 
@@ -32,7 +33,7 @@ module _ (b : ℕ) (at : ℕ → ℕ → ℕ) (memory right : List ℕ) (window 
       record { given = request b at elements others window; given_is = request_by_texts-is elements others e f; steps = steps; input = input; run = run }
 
   pub HasRunError_by_texts : {old new : Option (List ℕ)} {elements others : List ℕ} {steps : List Step} {why : RunError}
-      → elements_of b memory ≡ Some elements → elements_of b right ≡ Some others → GivesSteps old new steps → FailsRun (request b at elements others window) steps why
+      → elements_of b memory ≡ Some elements → elements_of b right ≡ Some others → GivesSteps old new steps → FailsRun b elements window others (length steps) why
       → HasRunError (request_by_texts b at memory right window) old new why
   HasRunError_by_texts {elements = elements} {others = others} {steps = steps} e f input fails =
       record { given = request b at elements others window; given_is = request_by_texts-is elements others e f; steps = steps; input = input; fails = fails }

@@ -2,13 +2,12 @@
 use Rattle.std.specs.Prelude.{◌≡◌, ℕ, ◌^◌, ◌<◌, ◌≤◌, Bool, List, length, Option, Some, None, IsSome, All}
 use Rattle.std.specs.Io.KnownBytes.{Appends, Consumes, IsAtEnd}
 use Rattle.std.specs.Str.{IsUtf8}
-use Rattle.bitvec_run.specs.base.Memory.{FitsMaxBits, HasWindow, Writes, list_in, memory_bits}
+use Rattle.bitvec_run.specs.base.Memory.{Writes, list_in, memory_bits}
 use Rattle.bitvec_run.specs.declared.command.Reply.{Reply}
 use Rattle.bitvec_run.specs.declared.command.RunError.{RunError}
-use Rattle.bitvec_run.specs.declared.command.RunError.TheVariants as error
 use Rattle.bitvec_run.specs.declared.command.Step.{Step}
 use Rattle.bitvec_run.specs.Fold.{list_after, replies_of}
-use Rattle.bitvec_run.specs.Runs.{CanRun, step_list, step_reply}
+use Rattle.bitvec_run.specs.Runs.{CanRun, FailsRun, step_list, step_reply}
 use Rattle.bitdo_work.specs.Arguments.{Request}
 use Rattle.bitdo_work.specs.Faults.{status_of, fault_text}
 use Rattle.bitdo_work.specs.Steps.{steps_of, bad_line_of}
@@ -59,12 +58,6 @@ pub record IsRun (given : Request) (steps : List Step) (replies : List Reply) (a
   pub replies_is : replies ≡ replies_of (step_reply (right_bits given)) (step_list (right_bits given)) (list_before given) steps
   pub writes : Writes given.bits given.at given.memory after given.window (list_after (step_list (right_bits given)) (list_before given) steps)
 
--- when a run of the steps isn't made
-abbrev pub FailsRun : Request → List Step → RunError → Type 0
-FailsRun given steps error.Window = ¬ HasWindow given.bits given.memory given.window
-FailsRun given steps error.Right = HasWindow given.bits given.memory given.window × (¬ FitsMaxBits given.bits given.right)
-FailsRun given steps error.Memory = CanRun given.bits given.memory given.window given.right × (0 < length steps)
-
 -- ---- the whole
 
 -- a run of the request and the input, which answers so and leaves these elements
@@ -89,7 +82,7 @@ pub record HasRunError (request : Option Request) (old new : Option (List ℕ)) 
   pub given_is : request ≡ Some given
   pub steps : List Step
   pub input : GivesSteps old new steps
-  pub fails : FailsRun given steps why
+  pub fails : FailsRun given.bits given.memory given.window given.right (length steps) why
 
 -- when each fault comes
 abbrev pub HasFault : Option Request → Option (List ℕ) → Option (List ℕ) → Fault → Type 0

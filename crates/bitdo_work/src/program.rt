@@ -1,9 +1,10 @@
 //! The whole program, but for what a process is.
-ghost use Rattle.std.specs.Prelude.{◌≡◌, ℕ, ◌⊎◌, ◌≤◌, is_some, map, string_bytes, IfOk, IfErr, IsSome};
+ghost use Rattle.std.specs.Prelude.{◌≡◌, ℕ, ◌⊎◌, ◌≤◌, is_some, length, map, string_bytes, IfOk, IfErr, IsSome};
 ghost use Rattle.std.specs.Io.KnownBytes.{Appends};
+ghost use Rattle.bitvec_run.specs.Runs.{FailsRun};
 ghost use Rattle.bitdo_work.specs.Arguments.{request, request_of, typed_request, ordered_request, own_request};
 ghost use Rattle.bitdo_work.specs.Faults.{status_of, fault_text};
-ghost use Rattle.bitdo_work.specs.Program.{IsRun, FailsRun, HasRun, HasFault, PrintsRun, PrintsFault, Works};
+ghost use Rattle.bitdo_work.specs.Program.{IsRun, HasRun, HasFault, PrintsRun, PrintsFault, Works};
 ghost use Rattle.bitdo_work.specs.Texts.{line_of};
 
 use crate::arguments::Arguments;
@@ -32,7 +33,7 @@ fn run_elements<T: BitStore, O: SliceOrder, A: Allocator>(
 ) -> Result<Vec<Reply, A>, RunError>
     ensures run { IfOk result (λ replies. IsRun (request T.BITS O.at (map T.value memory.old) (map T.value right.now) window)
         steps.now replies.items (map T.value memory.new)) }
-    ensures error { IfErr result (FailsRun (request T.BITS O.at (map T.value memory.old) (map T.value right.now) window) steps.now) }
+    ensures error { IfErr result (FailsRun T.BITS (map T.value memory.old) window (map T.value right.now) (length steps.now)) }
 {
     let mut cells = Exclusive::new(memory);
     let mut right = Shared::new(right);

@@ -1,19 +1,21 @@
 -- A run, step by step, whatever a step is.
-use Rattle.std.specs.Prelude.{◌≡◌, ℕ, ◌+◌, ◌*◌, ◌<◌, Bool, List, [], ◌∷◌, ◌++◌, length, take, slice_index_or}
-use Rattle.std.proofs.Common.{arith, sym, ◌∙◌, ap}
+use Rattle.std.specs.Prelude.{◌≡◌, ℕ, ◌+◌, ◌*◌, ◌<◌, ◌≤◌, Bool, refl, List, [], ◌∷◌, ◌++◌, length, take, slice_index_or}
+use Rattle.std.proofs.Common.{arith, sym, ◌∙◌, ap, subst}
+use Rattle.std.proofs.lemmas.List.{take_all}
 use Rattle.bitvec_engine.specs.base.declared.window.Window.{Window}
 use Rattle.bitvec_engine.specs.base.Memory.{HasWindow, Writes, FitsMaxBits, list_in, memory_bits}
 use Rattle.bitvec_engine.specs.base.MemoryLaws.{length-memory_bits}
 use Rattle.bitvec_engine.specs.base.SliceLaws.{range-all}
 use Rattle.bitvec_engine.specs.base.Window.{window_of}
-use Rattle.bitvec_engine.specs.base.WritesLaws.{Writes-holds, Writes-is, Writes-then}
+use Rattle.bitvec_engine.specs.base.WritesLaws.{Writes-holds, Writes-is, Writes-nothing, Writes-then}
 use Rattle.bitvec_engine.specs.cells.declared.cells.CellsRead.{Ghosts as Access}
 use Rattle.bitvec_run.specs.declared.command.Reply.{Reply}
+use Rattle.bitvec_run.specs.Costs.{Cost, place_of}
 use Rattle.bitvec_run.specs.Fold.{list_after, replies_of}
-use Rattle.bitvec_run.specs.FoldLaws.{after-next, replies-next}
-use Rattle.bitvec_run.specs.Follows.{Follows}
+use Rattle.bitvec_run.specs.FoldLaws.{after-next, costs-next, reads-next, replies-next}
+use Rattle.bitvec_run.specs.Follows.{Follows, FollowsBoth}
 use Rattle.bitvec_run.specs.Rows.{CommandRow, row_list, row_reply}
-use Rattle.bitvec_run.specs.Runs.{whole_window}
+use Rattle.bitvec_run.specs.Runs.{RunsBy, whole_window}
 
 -- all bits of a memory are its list
 pub list-whole : (b : ℕ) (at : ℕ → ℕ → ℕ) (xs : List ℕ) → list_in b at xs (whole_window b xs) ≡ memory_bits b at xs
@@ -51,3 +53,34 @@ module _ {E C S : Type 0} (access : Access C E) (row_of : ℕ → S → CommandR
             ∙ ap (λ (n : ℕ). (row_of n step).list list_now) long
             ∙ sym (after-next (row_list row_of) list steps i d below));
       }
+
+-- the same with what it took of the two memories, after no step, one step more, and all of them
+module _ {E F C D S : Type 0} (access : Access C E) (beside : Access D F) (row_of : ℕ → S → CommandRow) where
+  pub RunsBy-start : (b : ℕ) (at : ℕ → ℕ → ℕ) (words : Bool) (window : Window) (steps : List S) (old : C) (right : D) (made : List Reply) → HasWindow b (access.numbers old) window → made ≡ []
+      → RunsBy access beside row_of b at words window (take 0 steps) old old right right made
+  RunsBy-start b at words window steps old right made has none = record {
+    replies = none;
+    writes = Writes-nothing b at (access.numbers old) _ window has refl;
+    cost = record { borrow = refl; loads = omega arith; stores = omega arith };
+    right = record { numbers = refl; borrow = refl; loads = omega arith; stores = refl };
+  }
+
+  pub RunsBy-next : (b : ℕ) (at : ℕ → ℕ → ℕ) (words : Bool) (window : Window) (steps : List S) (i : ℕ) (d : S) (old now new : C) (right_old right_now right_new : D) (made : List Reply) (result : Reply)
+      → HasWindow b (access.numbers old) window → i < length steps
+      → RunsBy access beside row_of b at words window (take i steps) old now right_old right_now made
+      → FollowsBoth access beside b at words (row_of window.len (slice_index_or steps i d)) window now new right_now right_new result
+      → RunsBy access beside row_of b at words window (take (i + 1) steps) old new right_old right_new (made ++ (result ∷ []))
+  RunsBy-next b at words window steps i d old now new right_old right_now right_new made result has below before did =
+      let cost : S → Cost = λ step. (row_of window.len step).cost (place_of b words window) in
+      let next = Ran-next access row_of b at words _ steps i d window old now new made result has below (record { replies = before.replies; writes = before.writes }) did.left in
+      record {
+        replies = next.replies;
+        writes = next.writes;
+        cost = costs-next access cost old now new steps i d below before.cost did.left.cost;
+        right = reads-next beside cost right_old right_now right_new steps i d below before.right did.right;
+      }
+
+  pub RunsBy-all : (b : ℕ) (at : ℕ → ℕ → ℕ) (words : Bool) (window : Window) (steps : List S) (i : ℕ) (old new : C) (right_old right_new : D) (made : List Reply) → length steps ≤ i
+      → RunsBy access beside row_of b at words window (take i steps) old new right_old right_new made → RunsBy access beside row_of b at words window steps old new right_old right_new made
+  RunsBy-all b at words window steps i old new right_old right_new made over ran =
+      subst (λ (done : List S). RunsBy access beside row_of b at words window done old new right_old right_new made) (take_all i steps over) ran

@@ -1,21 +1,44 @@
 -- When a run is made, and what its steps mean on plain lists of truth values.
 --
 -- `right` is the right list, and `list` the window's, of n bits.
-use Rattle.std.specs.Prelude.{ℕ, ◌+◌, ◌-◌, ◌*◌, ◌≤◌, Bool, if◌then◌else◌, List, length}
+use Rattle.std.specs.Prelude.{◌≡◌, ℕ, ◌+◌, ◌-◌, ◌*◌, ◌<◌, ◌≤◌, Bool, if◌then◌else◌, List, length}
 use Rattle.bitvec_engine.specs.base.declared.window.Window.{Window}
-use Rattle.bitvec_engine.specs.base.Memory.{FitsMaxBits, HasWindow}
+use Rattle.bitvec_engine.specs.base.Memory.{FitsMaxBits, HasWindow, Writes, list_in}
+use Rattle.bitvec_engine.specs.cells.declared.cells.CellsRead.{Ghosts as Access}
+use Rattle.bitvec_engine.specs.cells.Access.{CostsAtMost, OnlyReadsAtMost}
 use Rattle.bitvec_run.specs.declared.command.Refusal.{Refusal}
 use Rattle.bitvec_run.specs.declared.command.Reply.{Reply}
+use Rattle.bitvec_run.specs.declared.command.RunError.{RunError}
+use Rattle.bitvec_run.specs.declared.command.RunError.TheVariants as error
 use Rattle.bitvec_run.specs.declared.command.Step.{Step}
 use Rattle.bitvec_run.specs.Commands.{op_row}
-use Rattle.bitvec_run.specs.Costs.{Cost, Place}
+use Rattle.bitvec_run.specs.Costs.{Cost, Place, place_of}
+use Rattle.bitvec_run.specs.Fold.{cost_of, list_after, replies_of}
 use Rattle.bitvec_run.specs.Groups.{FitsList, FitsRight}
-use Rattle.bitvec_run.specs.Rows.{CommandRow, on_range, outcome, range_lies, refused}
+use Rattle.bitvec_run.specs.Rows.{CommandRow, on_range, outcome, range_lies, refused, row_list, row_reply}
 
 -- the memory has the window, and the right memory has at most `max_bits` bits
 pub record CanRun (b : ℕ) (xs : List ℕ) (window : Window) (ys : List ℕ) : Type 0 where
   pub has_window : HasWindow b xs window
   pub right_fits : FitsMaxBits b ys
+
+-- when a run of n steps isn't made: the window is tested first
+abbrev pub FailsRun : ℕ → List ℕ → Window → List ℕ → ℕ → RunError → Type 0
+FailsRun b xs window ys n error.Window = ¬ HasWindow b xs window
+FailsRun b xs window ys n error.Right = HasWindow b xs window × (¬ FitsMaxBits b ys)
+FailsRun b xs window ys n error.Memory = CanRun b xs window ys × (0 < n)
+
+-- what steps that are rows, on a list of n bits, may cost together
+abbrev pub run_cost : {S : Type 0} → (ℕ → S → CommandRow) → ℕ → Place → List S → Cost
+run_cost row_of n place steps = cost_of (λ step. (row_of n step).cost place) steps
+
+-- what a run of such steps through a window did: what it replied, what it left, and what it took at most of the memory and of the right one
+module _ {E F C D S : Type 0} (access : Access C E) (beside : Access D F) (row_of : ℕ → S → CommandRow) where
+  pub record RunsBy (b : ℕ) (at : ℕ → ℕ → ℕ) (words : Bool) (window : Window) (steps : List S) (old new : C) (right_old right_new : D) (made : List Reply) : Type 0 where
+    pub replies : made ≡ replies_of (row_reply row_of) (row_list row_of) (list_in b at (access.numbers old) window) steps
+    pub writes : Writes b at (access.numbers old) (access.numbers new) window (list_after (row_list row_of) (list_in b at (access.numbers old) window) steps)
+    pub cost : CostsAtMost access old new (run_cost row_of window.len (place_of b words window) steps).loads (run_cost row_of window.len (place_of b words window) steps).stores
+    pub right : OnlyReadsAtMost beside right_old right_new (run_cost row_of window.len (place_of b words window) steps).right_loads
 
 -- all bits of a memory
 abbrev pub whole_window : ℕ → List ℕ → Window

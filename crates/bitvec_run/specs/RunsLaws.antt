@@ -1,13 +1,17 @@
--- A step that isn't refused is its command on its range.
-use Rattle.std.specs.Prelude.{◌≡◌, ℕ, ◌-◌, ◌≤◌, Bool, true, false, Option, Some, None, List, length, refl, IfNone}
-use Rattle.std.proofs.Common.{sym, ◌∙◌, ap, ⊎_elim}
+-- A step that isn't refused is its command on its range; when the errors of a run come.
+use Rattle.std.specs.Prelude.{◌≡◌, ℕ, ◌-◌, ◌<◌, ◌≤◌, ◌↔◌, Bool, true, false, Option, Some, None, List, length, refl, Err, IfErr, IfNone, IsOk, Ok, OnOk, Result}
+use Rattle.std.proofs.Common.{arith, sym, ◌∙◌, ap, ⊎_elim}
 use Rattle.std.proofs.lemmas.Bool.{cases_Bool}
+use Rattle.bitvec_engine.specs.base.declared.window.Window.{Window}
+use Rattle.bitvec_engine.specs.base.Memory.{FitsMaxBits, HasWindow}
 use Rattle.bitvec_run.specs.declared.command.Refusal.{Refusal}
+use Rattle.bitvec_run.specs.declared.command.RunError.{RunError}
+use Rattle.bitvec_run.specs.declared.command.RunError.TheVariants as error
 use Rattle.bitvec_run.specs.declared.command.Step.{Step}
 use Rattle.bitvec_run.specs.Commands.{op_row, op_refusal}
 use Rattle.bitvec_run.specs.CommandsLaws.{fits_list, fits_right}
 use Rattle.bitvec_run.specs.Rows.{CommandRow, on_range, outcome, range_lies, refused, unless_refused}
-use Rattle.bitvec_run.specs.Runs.{StepFits, step_outcome, step_row}
+use Rattle.bitvec_run.specs.Runs.{CanRun, FailsRun, StepFits, step_outcome, step_row}
 
 -- what comes of a row, by its refusal
 pub outcome-is : (row : CommandRow) (refusal : Option Refusal) → row.refusal ≡ refusal → outcome row ≡ unless_refused refusal row
@@ -41,3 +45,25 @@ refusal-fits right n step None order bound is = record {
   right = fits_right right (step.to - step.from) step.op (sym is);
 }
 refusal-fits right n step (Some refusal) order bound is = tt
+
+-- where a run is made only if it can be, and else says why it isn't, each error comes exactly where it should
+module _ {A : Type 0} (b : ℕ) (xs : List ℕ) (window : Window) (ys : List ℕ) (n : ℕ) where
+  pub window-error : (result : Result A RunError) → OnOk result (CanRun b xs window ys) → IfErr result (FailsRun b xs window ys n) → (result ≡ Err error.Window) ↔ (¬ HasWindow b xs window)
+  window-error (Ok value) made fails = (λ is. cc, λ none. absurd (none made.has_window))
+  window-error (Err error.Window) made fails = (λ is. fails, λ none. refl)
+  window-error (Err error.Right) made fails = (λ is. cc, λ none. absurd (none fails.0))
+  window-error (Err error.Memory) made fails = (λ is. cc, λ none. absurd (none fails.0.has_window))
+
+  pub right-error : (result : Result A RunError) → OnOk result (CanRun b xs window ys) → IfErr result (FailsRun b xs window ys n)
+      → (result ≡ Err error.Right) ↔ (HasWindow b xs window × (¬ FitsMaxBits b ys))
+  right-error (Ok value) made fails = (λ is. cc, λ wrong. absurd (wrong.1 made.right_fits))
+  right-error (Err error.Window) made fails = (λ is. cc, λ wrong. absurd (fails wrong.0))
+  right-error (Err error.Right) made fails = (λ is. fails, λ wrong. refl)
+  right-error (Err error.Memory) made fails = (λ is. cc, λ wrong. absurd (wrong.1 fails.0.right_fits))
+
+  -- and of no steps a run that can be made is made
+  pub no-steps : (result : Result A RunError) → IfErr result (FailsRun b xs window ys n) → CanRun b xs window ys → n ≡ 0 → IsOk result
+  no-steps (Ok value) fails can none = refl
+  no-steps (Err error.Window) fails can none = absurd (fails can.has_window)
+  no-steps (Err error.Right) fails can none = absurd (fails.1 can.right_fits)
+  no-steps (Err error.Memory) fails can none = absurd (omega (arith, fails.1, none))

@@ -1,10 +1,8 @@
 //! Runs of whole lists of commands.
-ghost use Rattle.std.specs.Prelude.{◌≡◌, ℕ, ◌*◌, ◌<◌, ◌≤◌, ◌↔◌, length, IfOk, OnOk, OnErr, IsOk, Err};
-ghost use Rattle.bitvec_engine.specs.base.Memory.{FitsMaxBits, HasWindow, Writes, list_in, memory_bits};
-ghost use Rattle.bitvec_engine.specs.cells.Access.{CostsAtMost, OnlyReads, OnlyReadsAtMost};
-ghost use Rattle.bitvec_run.specs.Costs.{place_of};
-ghost use Rattle.bitvec_run.specs.Fold.{cost_of, list_after, replies_of};
-ghost use Rattle.bitvec_run.specs.Runs.{CanRun, step_cost, step_list, step_reply, whole_window};
+ghost use Rattle.std.specs.Prelude.{◌≡◌, ℕ, ◌*◌, ◌<◌, ◌≤◌, length, IfErr, IfOk, OnErr, OnOk};
+ghost use Rattle.bitvec_engine.specs.base.Memory.{FitsMaxBits, memory_bits};
+ghost use Rattle.bitvec_engine.specs.cells.Access.{OnlyReads};
+ghost use Rattle.bitvec_run.specs.Runs.{CanRun, FailsRun, RunsBy, step_outcome, whole_window};
 
 use crate::step::carry_out;
 use crate::{Reply, RunError, Step};
@@ -39,26 +37,13 @@ where
     A: Allocator,
     C: Cells,
     D: CellsRead<Elem = C::Elem>,
-    ensures replies { let other = memory_bits C.Elem.BITS O.at (D.numbers right.old) in
-        let list = list_in C.Elem.BITS O.at (C.numbers cells.old) window in
-        IfOk result (λ replies. replies.items ≡ replies_of (step_reply other) (step_list other) list steps.now) }
-    ensures writes { let other = memory_bits C.Elem.BITS O.at (D.numbers right.old) in
-        let list = list_in C.Elem.BITS O.at (C.numbers cells.old) window in
-        OnOk result (Writes C.Elem.BITS O.at (C.numbers cells.old) (C.numbers cells.new) window (list_after (step_list other) list steps.now)) }
-    ensures cost { let spent = cost_of (step_cost (memory_bits C.Elem.BITS O.at (D.numbers right.old)) window.len (place_of C.Elem.BITS O.WORDS window)) steps.now in
-        CostsAtMost C.CellsRead cells.old cells.new spent.loads spent.stores }
-    ensures right { let spent = cost_of (step_cost (memory_bits C.Elem.BITS O.at (D.numbers right.old)) window.len (place_of C.Elem.BITS O.WORDS window)) steps.now in
-        OnlyReadsAtMost D.CellsRead right.old right.new spent.right_loads }
-    ensures unchanged { OnErr result (OnlyReads C.CellsRead cells.old cells.new 0 × OnlyReads D.CellsRead right.old right.new 0) }
+    ensures runs { let row = step_outcome (memory_bits C.Elem.BITS O.at (D.numbers right.old)) in
+        IfOk result (λ replies. RunsBy C.CellsRead D.CellsRead row C.Elem.BITS O.at O.WORDS window steps.now cells.old cells.new right.old right.new replies.items) }
 
     // When it is made, and when each error comes.
     ensures made { OnOk result (CanRun C.Elem.BITS (C.numbers cells.old) window (D.numbers right.old)) }
-    ensures window_error { (result ≡ Err RunError.Window) ↔ (¬ HasWindow C.Elem.BITS (C.numbers cells.old) window) }
-    ensures right_error { (result ≡ Err RunError.Right)
-        ↔ (HasWindow C.Elem.BITS (C.numbers cells.old) window × (¬ FitsMaxBits C.Elem.BITS (D.numbers right.old))) }
-    ensures memory_error { result ≡ Err RunError.Memory
-        → CanRun C.Elem.BITS (C.numbers cells.old) window (D.numbers right.old) × (0 < length steps.now) }
-    ensures no_steps { CanRun C.Elem.BITS (C.numbers cells.old) window (D.numbers right.old) → length steps.now ≡ 0 → IsOk result }
+    ensures fails { IfErr result (FailsRun C.Elem.BITS (C.numbers cells.old) window (D.numbers right.old) (length steps.now)) }
+    ensures unchanged { OnErr result (OnlyReads C.CellsRead cells.old cells.new 0 × OnlyReads D.CellsRead right.old right.new 0) }
 {
     if !has_window(cells, window) {
         return Err(RunError::Window);

@@ -1,9 +1,4 @@
 //! A run on slices, and the row that several tests share.
-ghost use Rattle.std.specs.Prelude.{◌≡◌, IfOk, OnOk, OnErr, map};
-ghost use Rattle.bitvec_plain.specs.base.Memory.{Writes, list_in, memory_bits};
-ghost use Rattle.bitvec_plain.specs.commands.Fold.{list_after, replies_of};
-ghost use Rattle.bitvec_plain.specs.commands.Runs.{step_list, step_reply};
-
 use bitvec_plain::cells::{Exclusive, Shared};
 use bitvec_plain::commands::{Op, Reply, RunError, Step, Window, run};
 use bitvec_plain::engine::SliceOrder;
@@ -40,27 +35,6 @@ pub(crate) fn step(row: StepRow) -> Step {
 }
 
 /// A run through a window of a slice; the right memory is a slice too.
-pub(crate) fn run_in<T: BitStore, O: SliceOrder, A: Allocator>(
-    alloc: A,
-    cells: &mut [T],
-    window: Window,
-    right: &[T],
-    steps: &[Step],
-) -> Result<Vec<Reply, A>, RunError>
-    ensures replies { let other = memory_bits T.BITS O.at (map T.value right.now) in
-        let list = list_in T.BITS O.at (map T.value cells.old) window in
-        IfOk result (λ replies. replies.items ≡ replies_of (step_reply other) (step_list other) list steps.now) }
-    ensures writes { let other = memory_bits T.BITS O.at (map T.value right.now) in
-        let list = list_in T.BITS O.at (map T.value cells.old) window in
-        OnOk result (Writes T.BITS O.at (map T.value cells.old) (map T.value cells.new) window (list_after (step_list other) list steps.now)) }
-    ensures unchanged { OnErr result (map T.value cells.new ≡ map T.value cells.old) }
-{
-    let mut left = Exclusive::new(cells);
-    let mut source = Shared::new(right);
-    run::<O, A, _, _>(alloc, &mut left, window, &mut source, steps)
-}
-
-/// The same for tests, which compare plain values.
 pub(crate) fn answer<T: BitStore, O: SliceOrder, A: Allocator>(
     alloc: A,
     cells: &mut [T],
@@ -68,5 +42,7 @@ pub(crate) fn answer<T: BitStore, O: SliceOrder, A: Allocator>(
     right: &[T],
     steps: &[Step],
 ) -> Result<Vec<Reply, A>, RunError> {
-    run_in::<T, O, A>(alloc, cells, window, right, steps)
+    let mut left = Exclusive::new(cells);
+    let mut source = Shared::new(right);
+    run::<O, A, _, _>(alloc, &mut left, window, &mut source, steps)
 }
