@@ -39,9 +39,9 @@ pub use Rattle.bitvec_owned.specs.Copies
 pub use Rattle.bitvec_owned.specs.Owned
 pub use Rattle.bitvec_owned.specs.Writes as OwnedWrites
 pub use Rattle.bitvec_pieces.specs.CoversLaws as SplitCoversLaws
+pub use Rattle.bitvec_pieces.specs.InPlace
 pub use Rattle.bitvec_pieces.specs.LeftLaws
 pub use Rattle.bitvec_pieces.specs.Pieces
-pub use Rattle.bitvec_pieces.specs.Shown
 pub use Rattle.bitvec_pieces.specs.SplitEdits
 pub use Rattle.bitvec_pieces.specs.SplitEditsLaws
 pub use Rattle.bitvec_pieces.specs.WritesLaws

@@ -9,7 +9,7 @@ pub use bitvec_owned::edit::BitEdits;
 pub use bitvec_owned::edit::base::{BitOrder, BitSpanError, HiLo, Lsb0, Msb0};
 pub use bitvec_owned::edit::engine::SliceOrder;
 pub use bitvec_owned::edit::slice::{
-    BitDomain, BitRef, BitRefMut, BitSlice, BitSliceIndex, BitSliceMut, Domain, DomainMut,
+    BitDomain, BitRef, BitRefMut, BitSlice, BitSliceIndex, BitSliceMut, Domain, DomainMut, View,
 };
 pub use bitvec_owned::edit::store::BitStore;
 pub use bitvec_owned::{BitVec, RepeatError, ToBitVec};

@@ -11,8 +11,8 @@ pub use bitvec_ones::{IndexWalk, IterOnes, IterZeros, Ones, OnesCalls, Places, W
 pub use bitvec_owned::ToBitVec;
 pub use bitvec_owned::edit::BitEdits;
 pub use bitvec_owned::edit::slice::{
-    BitRefIter, BitSlice, BitSliceIndex, BitSliceMut, BitValIter, Iter, Viewed, ViewedMut,
-    from_mut, from_ref,
+    BitRefIter, BitSlice, BitSliceIndex, BitSliceMut, BitValIter, Iter, Shows, View, ViewMut,
+    Viewed, ViewedMut, from_mut, from_ref,
 };
 pub use bitvec_pieces::split::{
     Forward, Inclusive, LimitedSplitWalk, RSplit, RSplitMut, RSplitN, RSplitNMut, Reversed, Split,

@@ -6,6 +6,7 @@ pub use Rattle.bitvec_slice.specs.Indices
 pub use Rattle.bitvec_slice.specs.KeptLaws
 pub use Rattle.bitvec_slice.specs.Seen
 pub use Rattle.bitvec_slice.specs.SeenLaws
+pub use Rattle.bitvec_slice.specs.Showing
 pub use Rattle.bitvec_slice.specs.Touched
 pub use Rattle.bitvec_slice.specs.Views
 pub use Rattle.bitvec_slice.specs.Walks

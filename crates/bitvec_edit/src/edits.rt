@@ -1,5 +1,5 @@
 //! Edits of writable views.
-ghost use Rattle.std.specs.Prelude.{◌≡◌, ◌<◌, ◌≤◌, Bool, List, false, length, map, not, replicate, reverse, slice_index_or, slice_set};
+ghost use Rattle.std.specs.Prelude.{◌≡◌, ◌<◌, ◌≤◌, false, length, map, not, replicate, reverse, slice_index_or, slice_set};
 ghost use Rattle.std.specs.List.{swap};
 ghost use Rattle.bitvec_slice.specs.base.Lists.{FitsWithin, combined, copied_within, rotated_left, rotated_right, shifted_end, shifted_start};
 ghost use Rattle.bitvec_slice.specs.elements.Asked.{CallableBelow, CallableOnBits, FillsWith, RefillsWith};
@@ -10,23 +10,21 @@ ghost use Rattle.bitvec_slice.specs.Writes.{WritesBits};
 ghost use Rattle.bitvec_edit.specs.elements.Swaps.{LieApart, swapped_within};
 
 use bitvec_slice::base::BitOrder;
+use bitvec_slice::elements::{
+    combine_in, copy_from_in, copy_within_in, fill_in, fill_with_in, for_each_in, invert_in,
+    replace_in, reverse_in, rotate_left_in, rotate_right_in, set_in, shift_end_in, shift_start_in,
+    swap_in, swap_with_in, swap_within_in,
+};
+use bitvec_slice::engine::{BitOp, SliceOrder};
 use bitvec_slice::store::BitStore;
-use bitvec_slice::{BitSlice, BitSliceMut};
+use bitvec_slice::{BitSlice, BitSliceMut, Inside, View, ViewMut};
 use std::ops::Range;
 
 /// `bitvec`'s edits of a `&mut BitSlice`: those of single bits and of all, those that move its bits,
 /// take those of another view, which may have any element type and order, or ask a closure for them.
 /// With a view of the same type, [`BitSliceMut`] has `copy_from_bitslice`, `swap_with_bitslice` and the
 /// operators. Indices and amounts are in bits.
-pub trait BitEdits<T> {
-    ghost use Rattle.bitvec_slice.specs.Seen.{Seen};
-
-    // What contracts see of the view.
-    ghost shows: { Self → Seen T };
-
-    // Holds of the view before and after a call that gave it these bits and left all others.
-    ghost writes: { Self → Self → List Bool → Type 0 };
-
+pub trait BitEdits<T: BitStore, O: SliceOrder>: ViewMut<T, O> {
     /// Makes the bit at an index `bit`. Condition: the index is below `len`.
     ///
     /// ```
@@ -34,15 +32,23 @@ pub trait BitEdits<T> {
     /// view.set(17, true);
     /// assert!(rt; view.into_slice()[1] == 2);
     /// ```
-    fn set(&mut self, index: usize, bit: bool)
-        requires { index < (shows self.old).window.len }
-        ensures { writes self.old self.new (slice_set (shows self.old).bits index bit) };
+    final fn set(&mut self, index: usize, bit: bool)
+        requires { index < (Self.shows self.old).window.len }
+        ensures { Self.writes self.old self.new (slice_set (Self.shows self.old).bits index bit) }
+    {
+        let window = self.window();
+        set_in::<T, O>(self.elements_mut(Inside), window, index, bit);
+    }
 
     /// Makes the bit at an index `bit`, and gives the old one. Condition: the index is below `len`.
-    fn replace(&mut self, index: usize, bit: bool) -> bool
-        requires { index < (shows self.old).window.len }
-        ensures value { result ≡ slice_index_or (shows self.old).bits index false }
-        ensures bits { writes self.old self.new (slice_set (shows self.old).bits index bit) };
+    final fn replace(&mut self, index: usize, bit: bool) -> bool
+        requires { index < (Self.shows self.old).window.len }
+        ensures value { result ≡ slice_index_or (Self.shows self.old).bits index false }
+        ensures bits { Self.writes self.old self.new (slice_set (Self.shows self.old).bits index bit) }
+    {
+        let window = self.window();
+        replace_in::<T, O>(self.elements_mut(Inside), window, index, bit)
+    }
 
     /// Exchanges the bits at two indices, which may be one. Condition: both are below `len`.
     ///
@@ -50,10 +56,14 @@ pub trait BitEdits<T> {
     /// let last = view.len() - 1;
     /// view.swap(0, last);
     /// ```
-    fn swap(&mut self, first: usize, second: usize)
-        requires first { first < (shows self.old).window.len }
-        requires second { second < (shows self.old).window.len }
-        ensures { writes self.old self.new (swap (shows self.old).bits first second) };
+    final fn swap(&mut self, first: usize, second: usize)
+        requires first { first < (Self.shows self.old).window.len }
+        requires second { second < (Self.shows self.old).window.len }
+        ensures { Self.writes self.old self.new (swap (Self.shows self.old).bits first second) }
+    {
+        let window = self.window();
+        swap_in::<T, O>(self.elements_mut(Inside), window, first, second);
+    }
 
     /// Makes each bit `bit`.
     ///
@@ -62,8 +72,12 @@ pub trait BitEdits<T> {
     /// let mut slots = BitSliceMut::<u8, Lsb0>::from_slice_mut(&mut cells);
     /// slots.fill(true);
     /// ```
-    fn fill(&mut self, bit: bool)
-        ensures { writes self.old self.new (replicate (shows self.old).window.len bit) };
+    final fn fill(&mut self, bit: bool)
+        ensures { Self.writes self.old self.new (replicate (Self.shows self.old).window.len bit) }
+    {
+        let window = self.window();
+        fill_in::<T, O>(self.elements_mut(Inside), window, bit);
+    }
 
     /// Flips each bit: `!` of `bitvec`.
     ///
@@ -72,8 +86,12 @@ pub trait BitEdits<T> {
     /// view.invert();
     /// let view = !view;
     /// ```
-    fn invert(&mut self)
-        ensures { writes self.old self.new (map not (shows self.old).bits) };
+    final fn invert(&mut self)
+        ensures { Self.writes self.old self.new (map not (Self.shows self.old).bits) }
+    {
+        let window = self.window();
+        invert_in::<T, O>(self.elements_mut(Inside), window);
+    }
 
     /// Puts the bits in the opposite order.
     ///
@@ -81,8 +99,12 @@ pub trait BitEdits<T> {
     /// part.reverse();
     /// assert!(rt; cells == [0xC7, 0x18]);
     /// ```
-    fn reverse(&mut self)
-        ensures { writes self.old self.new (reverse (shows self.old).bits) };
+    final fn reverse(&mut self)
+        ensures { Self.writes self.old self.new (reverse (Self.shows self.old).bits) }
+    {
+        let window = self.window();
+        reverse_in::<T, O>(self.elements_mut(Inside), window);
+    }
 
     /// Rotates the bits so that the one at `by` comes first. Condition: `by` is at most `len`.
     ///
@@ -91,9 +113,13 @@ pub trait BitEdits<T> {
     /// view.rotate_left(by);
     /// view.rotate_right(by);
     /// ```
-    fn rotate_left(&mut self, by: usize)
-        requires { by ≤ (shows self.old).window.len }
-        ensures { writes self.old self.new (rotated_left by (shows self.old).bits) };
+    final fn rotate_left(&mut self, by: usize)
+        requires { by ≤ (Self.shows self.old).window.len }
+        ensures { Self.writes self.old self.new (rotated_left by (Self.shows self.old).bits) }
+    {
+        let window = self.window();
+        rotate_left_in::<T, O>(self.elements_mut(Inside), window, by);
+    }
 
     /// Rotates the bits so that the last `by` come first. Condition: `by` is at most `len`.
     ///
@@ -102,9 +128,13 @@ pub trait BitEdits<T> {
     /// view.rotate_left(by);
     /// view.rotate_right(by);
     /// ```
-    fn rotate_right(&mut self, by: usize)
-        requires { by ≤ (shows self.old).window.len }
-        ensures { writes self.old self.new (rotated_right by (shows self.old).bits) };
+    final fn rotate_right(&mut self, by: usize)
+        requires { by ≤ (Self.shows self.old).window.len }
+        ensures { Self.writes self.old self.new (rotated_right by (Self.shows self.old).bits) }
+    {
+        let window = self.window();
+        rotate_right_in::<T, O>(self.elements_mut(Inside), window, by);
+    }
 
     /// Shifts the bits by `by` places towards the start: the first `by` are lost, and as many zeros
     /// follow the others. Condition: `by` is at most `len`.
@@ -113,9 +143,13 @@ pub trait BitEdits<T> {
     /// view.shift_start(1);
     /// view.set(view.len() - 1, bit);
     /// ```
-    fn shift_start(&mut self, by: usize)
-        requires { by ≤ (shows self.old).window.len }
-        ensures { writes self.old self.new (shifted_start by (shows self.old).bits) };
+    final fn shift_start(&mut self, by: usize)
+        requires { by ≤ (Self.shows self.old).window.len }
+        ensures { Self.writes self.old self.new (shifted_start by (Self.shows self.old).bits) }
+    {
+        let window = self.window();
+        shift_start_in::<T, O>(self.elements_mut(Inside), window, by);
+    }
 
     /// Shifts the bits by `by` places towards the end: the last `by` are lost, and as many zeros
     /// stand before the others. Condition: `by` is at most `len`.
@@ -124,9 +158,13 @@ pub trait BitEdits<T> {
     /// view.shift_end(1);
     /// view.set(0, bit);
     /// ```
-    fn shift_end(&mut self, by: usize)
-        requires { by ≤ (shows self.old).window.len }
-        ensures { writes self.old self.new (shifted_end by (shows self.old).bits) };
+    final fn shift_end(&mut self, by: usize)
+        requires { by ≤ (Self.shows self.old).window.len }
+        ensures { Self.writes self.old self.new (shifted_end by (Self.shows self.old).bits) }
+    {
+        let window = self.window();
+        shift_end_in::<T, O>(self.elements_mut(Inside), window, by);
+    }
 
     /// Copies the bits of a range to `dest` on, also where they overlap. Condition:
     /// `start <= end <= len`, and `dest + (end - start) <= len`.
@@ -134,9 +172,13 @@ pub trait BitEdits<T> {
     /// ```
     /// view.copy_within(0..width, width);
     /// ```
-    fn copy_within(&mut self, src: Range<usize>, dest: usize)
-        requires { FitsWithin src.start src.end dest (shows self.old).window.len }
-        ensures { writes self.old self.new (copied_within src.start src.end dest (shows self.old).bits) };
+    final fn copy_within(&mut self, src: Range<usize>, dest: usize)
+        requires { FitsWithin src.start src.end dest (Self.shows self.old).window.len }
+        ensures { Self.writes self.old self.new (copied_within src.start src.end dest (Self.shows self.old).bits) }
+    {
+        let window = self.window();
+        copy_within_in::<T, O>(self.elements_mut(Inside), window, src, dest);
+    }
 
     /// Exchanges the bits of a range with as many from `dest` on. Condition: `start <= end <= len`,
     /// `dest + (end - start) <= len`, and the two ranges lie apart. The crate has no such call: there it
@@ -145,68 +187,72 @@ pub trait BitEdits<T> {
     /// ```
     /// view.swap_within(0..width, view.len() - width);
     /// ```
-    fn swap_within(&mut self, src: Range<usize>, dest: usize)
-        requires fits { FitsWithin src.start src.end dest (shows self.old).window.len }
+    final fn swap_within(&mut self, src: Range<usize>, dest: usize)
+        requires fits { FitsWithin src.start src.end dest (Self.shows self.old).window.len }
         requires apart { LieApart src.start src.end dest }
-        ensures { writes self.old self.new (swapped_within src.start src.end dest (shows self.old).bits) };
+        ensures { Self.writes self.old self.new (swapped_within src.start src.end dest (Self.shows self.old).bits) }
+    {
+        let window = self.window();
+        swap_within_in::<T, O>(self.elements_mut(Inside), window, src, dest);
+    }
 
     /// The same as [`BitEdits::set`], under the same condition.
-    fn set_unchecked(&mut self, index: usize, bit: bool)
-        requires { index < (shows self.old).window.len }
-        ensures { writes self.old self.new (slice_set (shows self.old).bits index bit) }
+    final fn set_unchecked(&mut self, index: usize, bit: bool)
+        requires { index < (Self.shows self.old).window.len }
+        ensures { Self.writes self.old self.new (slice_set (Self.shows self.old).bits index bit) }
     {
         self.set(index, bit);
     }
 
     /// The same as [`BitEdits::replace`], under the same condition.
-    fn replace_unchecked(&mut self, index: usize, bit: bool) -> bool
-        requires { index < (shows self.old).window.len }
-        ensures value { result ≡ slice_index_or (shows self.old).bits index false }
-        ensures bits { writes self.old self.new (slice_set (shows self.old).bits index bit) }
+    final fn replace_unchecked(&mut self, index: usize, bit: bool) -> bool
+        requires { index < (Self.shows self.old).window.len }
+        ensures value { result ≡ slice_index_or (Self.shows self.old).bits index false }
+        ensures bits { Self.writes self.old self.new (slice_set (Self.shows self.old).bits index bit) }
     {
         self.replace(index, bit)
     }
 
     /// The same as [`BitEdits::swap`], under the same condition.
-    fn swap_unchecked(&mut self, first: usize, second: usize)
-        requires first { first < (shows self.old).window.len }
-        requires second { second < (shows self.old).window.len }
-        ensures { writes self.old self.new (swap (shows self.old).bits first second) }
+    final fn swap_unchecked(&mut self, first: usize, second: usize)
+        requires first { first < (Self.shows self.old).window.len }
+        requires second { second < (Self.shows self.old).window.len }
+        ensures { Self.writes self.old self.new (swap (Self.shows self.old).bits first second) }
     {
         self.swap(first, second);
     }
 
     /// The same as [`BitEdits::copy_within`], under the same condition.
-    fn copy_within_unchecked(&mut self, src: Range<usize>, dest: usize)
-        requires { FitsWithin src.start src.end dest (shows self.old).window.len }
-        ensures { writes self.old self.new (copied_within src.start src.end dest (shows self.old).bits) }
+    final fn copy_within_unchecked(&mut self, src: Range<usize>, dest: usize)
+        requires { FitsWithin src.start src.end dest (Self.shows self.old).window.len }
+        ensures { Self.writes self.old self.new (copied_within src.start src.end dest (Self.shows self.old).bits) }
     {
         self.copy_within(src, dest);
     }
 
     /// The old name of [`BitEdits::shift_start`].
     #[deprecated]
-    fn shift_left(&mut self, by: usize)
-        requires { by ≤ (shows self.old).window.len }
-        ensures { writes self.old self.new (shifted_start by (shows self.old).bits) }
+    final fn shift_left(&mut self, by: usize)
+        requires { by ≤ (Self.shows self.old).window.len }
+        ensures { Self.writes self.old self.new (shifted_start by (Self.shows self.old).bits) }
     {
         self.shift_start(by);
     }
 
     /// The old name of [`BitEdits::shift_end`].
     #[deprecated]
-    fn shift_right(&mut self, by: usize)
-        requires { by ≤ (shows self.old).window.len }
-        ensures { writes self.old self.new (shifted_end by (shows self.old).bits) }
+    final fn shift_right(&mut self, by: usize)
+        requires { by ≤ (Self.shows self.old).window.len }
+        ensures { Self.writes self.old self.new (shifted_end by (Self.shows self.old).bits) }
     {
         self.shift_end(by);
     }
 
     /// The old name of [`BitEdits::clone_from_bitslice`].
     #[deprecated]
-    fn clone_from_slice<U: BitStore, P: BitOrder>(&mut self, src: BitSlice<'_, U, P>)
-        requires { (shows self.old).window.len ≡ (seen src).window.len }
-        ensures { writes self.old self.new (seen src.entry).bits }
+    final fn clone_from_slice<U: BitStore, P: BitOrder>(&mut self, src: BitSlice<'_, U, P>)
+        requires { (Self.shows self.old).window.len ≡ (seen src).window.len }
+        ensures { Self.writes self.old self.new (seen src.entry).bits }
     {
         self.clone_from_bitslice(src);
     }
@@ -217,19 +263,30 @@ pub trait BitEdits<T> {
     /// let mut view = BitSliceMut::<u32, Lsb0>::from_slice_mut(words);
     /// view.clone_from_bitslice(BitSlice::<u8, Msb0>::from_slice(bytes));
     /// ```
-    fn clone_from_bitslice<U: BitStore, P: BitOrder>(&mut self, src: BitSlice<'_, U, P>)
-        requires { (shows self.old).window.len ≡ (seen src).window.len }
-        ensures { writes self.old self.new (seen src.entry).bits };
+    final fn clone_from_bitslice<U: BitStore, P: BitOrder>(&mut self, src: BitSlice<'_, U, P>)
+        requires { (Self.shows self.old).window.len ≡ (seen src).window.len }
+        ensures { Self.writes self.old self.new (seen src.entry).bits }
+    {
+        let window = self.window();
+        let from = src.window();
+        copy_from_in::<T, O, U, P>(self.elements_mut(Inside), window, src.elements(), from);
+    }
 
     /// Makes each bit 1 if it and the one at its index in `src`, which counts as 0 past its end,
     /// both are: `&=` for any element type and order.
-    fn and_bits<U: BitStore, P: BitOrder>(&mut self, src: BitSlice<'_, U, P>)
-        ensures { writes self.old self.new (combined (operator And) (shows self.old).bits (seen src.entry).bits) };
+    final fn and_bits<U: BitStore, P: BitOrder>(&mut self, src: BitSlice<'_, U, P>)
+        ensures { Self.writes self.old self.new (combined (operator And) (Self.shows self.old).bits (seen src.entry).bits) }
+    {
+        self.combine_bits(src, BitOp::And);
+    }
 
     /// Makes each bit 1 if it or the one at its index in `src`, which counts as 0 past its end, is:
     /// `|=` for any element type and order.
-    fn or_bits<U: BitStore, P: BitOrder>(&mut self, src: BitSlice<'_, U, P>)
-        ensures { writes self.old self.new (combined (operator Or) (shows self.old).bits (seen src.entry).bits) };
+    final fn or_bits<U: BitStore, P: BitOrder>(&mut self, src: BitSlice<'_, U, P>)
+        ensures { Self.writes self.old self.new (combined (operator Or) (Self.shows self.old).bits (seen src.entry).bits) }
+    {
+        self.combine_bits(src, BitOp::Or);
+    }
 
     /// Makes each bit 1 if it and the one at its index in `src`, which counts as 0 past its end,
     /// differ: `^=` for any element type and order.
@@ -237,8 +294,11 @@ pub trait BitEdits<T> {
     /// ```
     /// view.xor_bits(mask);
     /// ```
-    fn xor_bits<U: BitStore, P: BitOrder>(&mut self, src: BitSlice<'_, U, P>)
-        ensures { writes self.old self.new (combined (operator Xor) (shows self.old).bits (seen src.entry).bits) };
+    final fn xor_bits<U: BitStore, P: BitOrder>(&mut self, src: BitSlice<'_, U, P>)
+        ensures { Self.writes self.old self.new (combined (operator Xor) (Self.shows self.old).bits (seen src.entry).bits) }
+    {
+        self.combine_bits(src, BitOp::Xor);
+    }
 
     /// Exchanges the bits with those of a view of any element type and order. Condition: the views
     /// are as long.
@@ -246,10 +306,20 @@ pub trait BitEdits<T> {
     /// ```
     /// view.swap_with_bits(other);
     /// ```
-    fn swap_with_bits<U: BitStore, P: BitOrder>(&mut self, other: &mut BitSliceMut<'_, U, P>)
-        requires { (shows self.old).window.len ≡ (seen_mut other.old).window.len }
-        ensures bits { writes self.old self.new (seen_mut other.old).bits }
-        ensures other_bits { WritesBits other.old other.new (shows self.old).bits };
+    final fn swap_with_bits<U: BitStore, P: BitOrder>(&mut self, other: &mut BitSliceMut<'_, U, P>)
+        requires { (Self.shows self.old).window.len ≡ (seen_mut other.old).window.len }
+        ensures bits { Self.writes self.old self.new (seen_mut other.old).bits }
+        ensures other_bits { WritesBits other.old other.new (Self.shows self.old).bits }
+    {
+        let window = self.window();
+        let other_window = other.window();
+        swap_with_in::<T, O, U, P>(
+            self.elements_mut(Inside),
+            window,
+            other.elements_mut(Inside),
+            other_window,
+        );
+    }
 
     /// Makes each bit what `f` answers for its index: `f` is called once for each index, in
     /// ascending order from 0 on, and what it keeps goes from each call to the next. Condition:
@@ -260,11 +330,15 @@ pub trait BitEdits<T> {
     /// let mut view = BitSliceMut::<T, O>::from_slice_mut(elements);
     /// view.fill_with(|index| index % 2 == 0);
     /// ```
-    fn fill_with<F: FnMut(usize) -> bool>(&mut self, f: F)
-        requires { CallableBelow F.FnMut f (shows self.old).window.len }
-        ensures answers { FillsWith F.FnMut f (shows self.new).bits }
-        ensures bits { writes self.old self.new (shows self.new).bits }
-        ensures len { length (shows self.new).bits ≡ (shows self.old).window.len };
+    final fn fill_with<F: FnMut(usize) -> bool>(&mut self, f: F)
+        requires { CallableBelow F.FnMut f (Self.shows self.old).window.len }
+        ensures answers { FillsWith F.FnMut f (Self.shows self.new).bits }
+        ensures bits { Self.writes self.old self.new (Self.shows self.new).bits }
+        ensures len { length (Self.shows self.new).bits ≡ (Self.shows self.old).window.len }
+    {
+        let window = self.window();
+        fill_with_in::<T, O, F>(self.elements_mut(Inside), window, f);
+    }
 
     /// Makes each bit what `f` answers for its index and the bit that stands there: `f` is called
     /// once for each index, in ascending order from 0 on, and what it keeps goes from each call to
@@ -274,9 +348,23 @@ pub trait BitEdits<T> {
     /// ```
     /// five.for_each(|index, bit| bit != (index == 0));
     /// ```
-    fn for_each<F: FnMut(usize, bool) -> bool>(&mut self, f: F)
-        requires { CallableOnBits F.FnMut f (shows self.old).bits }
-        ensures answers { RefillsWith F.FnMut f (shows self.old).bits (shows self.new).bits }
-        ensures bits { writes self.old self.new (shows self.new).bits }
-        ensures len { length (shows self.new).bits ≡ (shows self.old).window.len };
+    final fn for_each<F: FnMut(usize, bool) -> bool>(&mut self, f: F)
+        requires { CallableOnBits F.FnMut f (Self.shows self.old).bits }
+        ensures answers { RefillsWith F.FnMut f (Self.shows self.old).bits (Self.shows self.new).bits }
+        ensures bits { Self.writes self.old self.new (Self.shows self.new).bits }
+        ensures len { length (Self.shows self.new).bits ≡ (Self.shows self.old).window.len }
+    {
+        let window = self.window();
+        for_each_in::<T, O, F>(self.elements_mut(Inside), window, f);
+    }
+
+    /// Makes each bit what `op` makes of it and the one at its index in `src`, which counts as 0 past its end.
+    #[doc(hidden)]
+    final fn combine_bits<U: BitStore, P: BitOrder>(&mut self, src: BitSlice<'_, U, P>, op: BitOp)
+        ensures { Self.writes self.old self.new (combined (operator op) (Self.shows self.old).bits (seen src.entry).bits) }
+    {
+        let window = self.window();
+        let from = src.window();
+        combine_in::<T, O, U, P>(self.elements_mut(Inside), window, src.elements(), from, op);
+    }
 }

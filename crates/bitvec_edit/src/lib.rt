@@ -75,8 +75,8 @@ pub mod reference {
 pub mod slice {
     pub use bitvec_slice::{
         BitDomain, BitDomainParts, BitRef, BitRefIter, BitRefMut, BitSlice, BitSliceIndex,
-        BitSliceMut, BitValIter, Domain, DomainMut, Iter, RawElements, Viewed, ViewedMut, from_mut,
-        from_ref,
+        BitSliceMut, BitValIter, Domain, DomainMut, Inside, Iter, Shows, View, ViewMut, Viewed,
+        ViewedMut, from_mut, from_ref,
     };
 }
 

@@ -6,13 +6,12 @@ ghost use Rattle.bitvec_iter.specs.Parts.{parts_of};
 
 use crate::PieceWalk;
 use bitvec_cutting::{InChunks, InChunksFromEnd, InExactChunks, InExactChunksFromEnd, InWindows};
+use bitvec_slice::Shows;
 use bitvec_slice::store::BitStore;
 
 /// The walks of `bitvec`'s `BitSlice` over its parts, for both view types: of a `BitSlice` they live as
 /// long as its elements, of a `&BitSliceMut` as long as that borrow. Sizes are in bits.
-pub trait IterCalls<T: BitStore> {
-    ghost use Rattle.bitvec_slice.specs.Seen.{Seen};
-
+pub trait IterCalls<T: BitStore>: Shows<T> {
     /// What `windows` makes.
     type Windows: PieceWalk<T, InWindows>;
 
@@ -28,9 +27,6 @@ pub trait IterCalls<T: BitStore> {
     /// What `rchunks_exact` makes.
     type RChunksExact: PieceWalk<T, InExactChunksFromEnd>;
 
-    // What contracts see of the view.
-    ghost shows: { Self → Seen T };
-
     /// Windows of that many bits, each one bit behind the one before it. Condition: the size is above
     /// 0.
     ///
@@ -39,8 +35,8 @@ pub trait IterCalls<T: BitStore> {
     /// ```
     fn windows(self, size: usize) -> Self::Windows
         requires { 0 < size }
-        ensures pieces { Self.Windows.left result ≡ parts_of T.BITS (shows self) (window_count size) (window size) }
-        ensures view { Self.Windows.walked result ≡ shows self }
+        ensures pieces { Self.Windows.left result ≡ parts_of T.BITS (Self.shows self) (window_count size) (window size) }
+        ensures view { Self.Windows.walked result ≡ Self.shows self }
         ensures size { (Self.Windows.cut_by result).size ≡ size }
         ensures bound { length (Self.Windows.left result) ≤ max_bits }
         ensures runs { Self.Windows.Yields result };
@@ -55,8 +51,8 @@ pub trait IterCalls<T: BitStore> {
     /// ```
     fn chunks(self, size: usize) -> Self::Chunks
         requires { 0 < size }
-        ensures pieces { Self.Chunks.left result ≡ parts_of T.BITS (shows self) (chunk_count size) (chunk size) }
-        ensures view { Self.Chunks.walked result ≡ shows self }
+        ensures pieces { Self.Chunks.left result ≡ parts_of T.BITS (Self.shows self) (chunk_count size) (chunk size) }
+        ensures view { Self.Chunks.walked result ≡ Self.shows self }
         ensures size { (Self.Chunks.cut_by result).size ≡ size }
         ensures bound { length (Self.Chunks.left result) ≤ max_bits }
         ensures runs { Self.Chunks.Yields result };
@@ -71,8 +67,8 @@ pub trait IterCalls<T: BitStore> {
     /// ```
     fn chunks_exact(self, size: usize) -> Self::ChunksExact
         requires { 0 < size }
-        ensures pieces { Self.ChunksExact.left result ≡ parts_of T.BITS (shows self) (whole_count size) (whole_chunk size) }
-        ensures view { Self.ChunksExact.walked result ≡ shows self }
+        ensures pieces { Self.ChunksExact.left result ≡ parts_of T.BITS (Self.shows self) (whole_count size) (whole_chunk size) }
+        ensures view { Self.ChunksExact.walked result ≡ Self.shows self }
         ensures size { (Self.ChunksExact.cut_by result).size ≡ size }
         ensures bound { length (Self.ChunksExact.left result) ≤ max_bits }
         ensures runs { Self.ChunksExact.Yields result };
@@ -86,8 +82,8 @@ pub trait IterCalls<T: BitStore> {
     /// ```
     fn rchunks(self, size: usize) -> Self::RChunks
         requires { 0 < size }
-        ensures pieces { Self.RChunks.left result ≡ parts_of T.BITS (shows self) (chunk_count size) (back_chunk size) }
-        ensures view { Self.RChunks.walked result ≡ shows self }
+        ensures pieces { Self.RChunks.left result ≡ parts_of T.BITS (Self.shows self) (chunk_count size) (back_chunk size) }
+        ensures view { Self.RChunks.walked result ≡ Self.shows self }
         ensures size { (Self.RChunks.cut_by result).size ≡ size }
         ensures bound { length (Self.RChunks.left result) ≤ max_bits }
         ensures runs { Self.RChunks.Yields result };
@@ -100,8 +96,8 @@ pub trait IterCalls<T: BitStore> {
     /// ```
     fn rchunks_exact(self, size: usize) -> Self::RChunksExact
         requires { 0 < size }
-        ensures pieces { Self.RChunksExact.left result ≡ parts_of T.BITS (shows self) (whole_count size) (back_chunk size) }
-        ensures view { Self.RChunksExact.walked result ≡ shows self }
+        ensures pieces { Self.RChunksExact.left result ≡ parts_of T.BITS (Self.shows self) (whole_count size) (back_chunk size) }
+        ensures view { Self.RChunksExact.walked result ≡ Self.shows self }
         ensures size { (Self.RChunksExact.cut_by result).size ≡ size }
         ensures bound { length (Self.RChunksExact.left result) ≤ max_bits }
         ensures runs { Self.RChunksExact.Yields result };

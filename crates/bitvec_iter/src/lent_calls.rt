@@ -1,5 +1,5 @@
 //! The calls on writable views that lend pieces.
-ghost use Rattle.std.specs.Prelude.{◌≡◌, ◌-◌, ◌<◌, ◌≤◌, List};
+ghost use Rattle.std.specs.Prelude.{◌≡◌, ◌-◌, ◌<◌, ◌≤◌};
 ghost use Rattle.std.specs.Borrow.{Array, follows, sem};
 ghost use Rattle.bitvec_cutting.specs.Cutting.{chunk_count, whole_count};
 
@@ -7,24 +7,18 @@ use crate::{
     ChunksExactMut, ChunksMut, HalvesMut, IterMut, PiecesMut, RChunksExactMut, RChunksMut,
 };
 use bitvec_cutting::{InChunks, InChunksFromEnd, InExactChunks, InExactChunksFromEnd};
-use bitvec_slice::BitSliceMut;
 use bitvec_slice::base::BitOrder;
 use bitvec_slice::store::BitStore;
+use bitvec_slice::{BitSliceMut, ViewMut};
 
 /// `bitvec`'s calls on a `&mut BitSlice` that give pieces of it for writing, lent one at a time.
 /// Indices and sizes are in bits.
-pub trait PieceCallsMut<T: BitStore, O: BitOrder> {
-    ghost use Rattle.bitvec_slice.specs.Seen.{IsGiven, Seen};
+pub trait PieceCallsMut<T: BitStore, O: BitOrder>: ViewMut<T, O> {
+    ghost use Rattle.bitvec_slice.specs.Seen.{IsGiven};
     ghost use Rattle.bitvec_iter.specs.LentBits.{IsAllOf, bit_walk_of, name_of_bits};
     ghost use Rattle.bitvec_iter.specs.Halves.{IsCutOf, name_of_halves};
     ghost use Rattle.bitvec_iter.specs.LentPieces.{name_of_pieces, walk_of};
     ghost use Rattle.bitvec_iter.specs.LentWalk.{IsWalkOf};
-
-    // What contracts see of the view.
-    ghost shows: { Self → Seen T };
-
-    // The view as before, but for its elements, which are these, cut or filled up to as many.
-    ghost with_elements: { Self → List T → Self };
 
     /// The bits.
     ///
@@ -33,8 +27,8 @@ pub trait PieceCallsMut<T: BitStore, O: BitOrder> {
     /// let mut bits = view.iter_mut();
     /// ```
     fn iter_mut(&mut self) -> IterMut<'_, T, O>
-        ensures* writes_back { sem 𝓛 (follows Self.row (Array T.row 0) self.entry.ghost_name (name_of_bits result) (with_elements self.old)) }
-        ensures walk { IsAllOf (shows self.old) (bit_walk_of result) };
+        ensures* writes_back { sem 𝓛 (follows Self.row (Array T.row 0) self.entry.ghost_name (name_of_bits result) (Self.with_elements self.old)) }
+        ensures walk { IsAllOf (Self.shows self.old) (bit_walk_of result) };
 
     /// The bits before the index `mid`, and those from it on. Condition: `mid` is at most `len`.
     ///
@@ -43,24 +37,24 @@ pub trait PieceCallsMut<T: BitStore, O: BitOrder> {
     /// let mut halves = view.split_at_mut(mid);
     /// ```
     fn split_at_mut(&mut self, mid: usize) -> HalvesMut<'_, T, O>
-        requires { mid ≤ (shows self.old).window.len }
-        ensures* writes_back { sem 𝓛 (follows Self.row (Array T.row 0) self.entry.ghost_name (name_of_halves result) (with_elements self.old)) }
-        ensures halves { IsCutOf (shows self.old) mid result };
+        requires { mid ≤ (Self.shows self.old).window.len }
+        ensures* writes_back { sem 𝓛 (follows Self.row (Array T.row 0) self.entry.ghost_name (name_of_halves result) (Self.with_elements self.old)) }
+        ensures halves { IsCutOf (Self.shows self.old) mid result };
 
     /// The same as [`PieceCallsMut::split_at_mut`], under the same condition.
     fn split_at_unchecked_mut(&mut self, mid: usize) -> HalvesMut<'_, T, O>
-        requires { mid ≤ (shows self.old).window.len }
-        ensures* writes_back { sem 𝓛 (follows Self.row (Array T.row 0) self.entry.ghost_name (name_of_halves result) (with_elements self.old)) }
-        ensures halves { IsCutOf (shows self.old) mid result };
+        requires { mid ≤ (Self.shows self.old).window.len }
+        ensures* writes_back { sem 𝓛 (follows Self.row (Array T.row 0) self.entry.ghost_name (name_of_halves result) (Self.with_elements self.old)) }
+        ensures halves { IsCutOf (Self.shows self.old) mid result };
 
     /// The first bit as the left half, and the others: `None` exactly where there is no bit.
     fn split_first_mut(&mut self) -> Option<HalvesMut<'_, T, O>>
-        ensures { IsGiven (0 < (shows self.old).window.len) (IsCutOf (shows self.old) 1) result };
+        ensures { IsGiven (0 < (Self.shows self.old).window.len) (IsCutOf (Self.shows self.old) 1) result };
 
     /// The last bit as the right half, and the others: `None` exactly where there is no bit.
     fn split_last_mut(&mut self) -> Option<HalvesMut<'_, T, O>>
-        ensures { IsGiven (0 < (shows self.old).window.len)
-            (IsCutOf (shows self.old) ((shows self.old).window.len - 1)) result };
+        ensures { IsGiven (0 < (Self.shows self.old).window.len)
+            (IsCutOf (Self.shows self.old) ((Self.shows self.old).window.len - 1)) result };
 
     /// The chunks of `size` bits from the first bit on: the last may be shorter. Condition: `size` is
     /// not 0.
@@ -71,8 +65,8 @@ pub trait PieceCallsMut<T: BitStore, O: BitOrder> {
     /// ```
     fn chunks_mut(&mut self, size: usize) -> ChunksMut<'_, T, O>
         requires { 0 < size }
-        ensures* writes_back { sem 𝓛 (follows Self.row (Array T.row 0) self.entry.ghost_name (name_of_pieces result) (with_elements self.old)) }
-        ensures walk { IsWalkOf (shows self.old) (chunk_count size (shows self.old).window.len) (walk_of result) }
+        ensures* writes_back { sem 𝓛 (follows Self.row (Array T.row 0) self.entry.ghost_name (name_of_pieces result) (Self.with_elements self.old)) }
+        ensures walk { IsWalkOf (Self.shows self.old) (chunk_count size (Self.shows self.old).window.len) (walk_of result) }
         ensures size { (walk_of result).cutting.size ≡ size };
 
     /// The whole chunks of `size` bits from the first bit on: the others are the remainder. Condition:
@@ -84,8 +78,8 @@ pub trait PieceCallsMut<T: BitStore, O: BitOrder> {
     /// ```
     fn chunks_exact_mut(&mut self, size: usize) -> ChunksExactMut<'_, T, O>
         requires { 0 < size }
-        ensures* writes_back { sem 𝓛 (follows Self.row (Array T.row 0) self.entry.ghost_name (name_of_pieces result) (with_elements self.old)) }
-        ensures walk { IsWalkOf (shows self.old) (whole_count size (shows self.old).window.len) (walk_of result) }
+        ensures* writes_back { sem 𝓛 (follows Self.row (Array T.row 0) self.entry.ghost_name (name_of_pieces result) (Self.with_elements self.old)) }
+        ensures walk { IsWalkOf (Self.shows self.old) (whole_count size (Self.shows self.old).window.len) (walk_of result) }
         ensures size { (walk_of result).cutting.size ≡ size };
 
     /// The chunks of `size` bits from the last bit on: the last, which begins the view, may be shorter.
@@ -97,8 +91,8 @@ pub trait PieceCallsMut<T: BitStore, O: BitOrder> {
     /// ```
     fn rchunks_mut(&mut self, size: usize) -> RChunksMut<'_, T, O>
         requires { 0 < size }
-        ensures* writes_back { sem 𝓛 (follows Self.row (Array T.row 0) self.entry.ghost_name (name_of_pieces result) (with_elements self.old)) }
-        ensures walk { IsWalkOf (shows self.old) (chunk_count size (shows self.old).window.len) (walk_of result) }
+        ensures* writes_back { sem 𝓛 (follows Self.row (Array T.row 0) self.entry.ghost_name (name_of_pieces result) (Self.with_elements self.old)) }
+        ensures walk { IsWalkOf (Self.shows self.old) (chunk_count size (Self.shows self.old).window.len) (walk_of result) }
         ensures size { (walk_of result).cutting.size ≡ size };
 
     /// The whole chunks of `size` bits from the last bit on: the others are the remainder. Condition:
@@ -111,19 +105,12 @@ pub trait PieceCallsMut<T: BitStore, O: BitOrder> {
     /// ```
     fn rchunks_exact_mut(&mut self, size: usize) -> RChunksExactMut<'_, T, O>
         requires { 0 < size }
-        ensures* writes_back { sem 𝓛 (follows Self.row (Array T.row 0) self.entry.ghost_name (name_of_pieces result) (with_elements self.old)) }
-        ensures walk { IsWalkOf (shows self.old) (whole_count size (shows self.old).window.len) (walk_of result) }
+        ensures* writes_back { sem 𝓛 (follows Self.row (Array T.row 0) self.entry.ghost_name (name_of_pieces result) (Self.with_elements self.old)) }
+        ensures walk { IsWalkOf (Self.shows self.old) (whole_count size (Self.shows self.old).window.len) (walk_of result) }
         ensures size { (walk_of result).cutting.size ≡ size };
 }
 
 impl<'a, T: BitStore, O: BitOrder> PieceCallsMut<T, O> for BitSliceMut<'a, T, O> {
-    ghost use Rattle.bitvec_slice.specs.Lending.{with_elements};
-    ghost use Rattle.bitvec_slice.specs.Views.{seen_mut};
-
-    ghost shows = { seen_mut };
-
-    ghost with_elements = { with_elements };
-
     fn iter_mut(&mut self) -> IterMut<'_, T, O> {
         IterMut::new(self)
     }

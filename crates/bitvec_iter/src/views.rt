@@ -1,6 +1,4 @@
 //! Both view types can be walked.
-ghost use Rattle.bitvec_slice.specs.Views.{seen, seen_mut};
-
 use crate::{Chunks, ChunksExact, IterCalls, Pieces, RChunks, RChunksExact, Windows};
 use bitvec_cutting::{InChunks, InChunksFromEnd, InExactChunks, InExactChunksFromEnd, InWindows};
 use bitvec_slice::base::BitOrder;
@@ -17,8 +15,6 @@ impl<'a, T: BitStore, O: BitOrder> IterCalls<T> for BitSlice<'a, T, O> {
     type RChunks = RChunks<'a, T, O>;
 
     type RChunksExact = RChunksExact<'a, T, O>;
-
-    ghost shows = { seen };
 
     fn windows(self, size: usize) -> Windows<'a, T, O> {
         Pieces::new(self, InWindows { size })
@@ -51,8 +47,6 @@ impl<'a, 'v, T: BitStore, O: BitOrder> IterCalls<T> for &'v BitSliceMut<'a, T, O
     type RChunks = RChunks<'v, T, O>;
 
     type RChunksExact = RChunksExact<'v, T, O>;
-
-    ghost shows = { λ view. seen_mut view.now };
 
     fn windows(self, size: usize) -> Windows<'v, T, O> {
         self.as_ref().windows(size)

@@ -35,7 +35,7 @@ pub mod query {
 
 /// What crates above name of `bitvec_slice`.
 pub mod slice {
-    pub use bitvec_query::slice::{BitSlice, BitSliceMut};
+    pub use bitvec_query::slice::{BitSlice, BitSliceMut, Shows, View};
 }
 
 /// What crates above name of `bitvec_store`.

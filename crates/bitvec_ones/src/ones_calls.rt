@@ -4,20 +4,16 @@ ghost use Rattle.bitvec_query.specs.base.Lists.{places_of};
 ghost use Rattle.bitvec_query.specs.base.Window.{max_bits};
 
 use crate::IndexWalk;
+use bitvec_query::slice::Shows;
 
 /// Walks over the indices of the bits of a view that are 1, or 0, for both view types: of a `BitSlice`
 /// they live as long as its elements, of a `&BitSliceMut` as long as that borrow.
-pub trait OnesCalls<T> {
-    ghost use Rattle.bitvec_query.specs.slice.Seen.{Seen};
-
+pub trait OnesCalls<T>: Shows<T> {
     /// What `iter_ones` makes.
     type Ones: IndexWalk;
 
     /// What `iter_zeros` makes.
     type Zeros: IndexWalk;
-
-    // What contracts see of the view.
-    ghost shows: { Self → Seen T };
 
     /// The indices of the bits that are 1, ascending.
     ///
@@ -27,7 +23,7 @@ pub trait OnesCalls<T> {
     /// assert!(rt; (ones.next(), ones.next_back()) == (Some(0), Some(5)));
     /// ```
     fn iter_ones(self) -> Self::Ones
-        ensures indices { Self.Ones.left result ≡ places_of true (shows self).bits }
+        ensures indices { Self.Ones.left result ≡ places_of true (Self.shows self).bits }
         ensures few { length (Self.Ones.left result) ≤ max_bits }
         ensures runs { Self.Ones.Ascends result }
         ensures runs_back { Self.Ones.Descends result };
@@ -40,7 +36,7 @@ pub trait OnesCalls<T> {
     /// assert!(rt; (zeros.next_back(), zeros.next()) == (Some(15), Some(4)));
     /// ```
     fn iter_zeros(self) -> Self::Zeros
-        ensures indices { Self.Zeros.left result ≡ places_of false (shows self).bits }
+        ensures indices { Self.Zeros.left result ≡ places_of false (Self.shows self).bits }
         ensures few { length (Self.Zeros.left result) ≤ max_bits }
         ensures runs { Self.Zeros.Ascends result }
         ensures runs_back { Self.Zeros.Descends result };

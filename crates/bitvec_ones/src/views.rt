@@ -1,6 +1,4 @@
 //! The two view types are walked.
-ghost use Rattle.bitvec_query.specs.slice.Views.{seen, seen_mut};
-
 use crate::{IterOnes, IterZeros, OnesCalls, Places};
 use bitvec_query::engine::SliceOrder;
 use bitvec_query::slice::{BitSlice, BitSliceMut};
@@ -10,8 +8,6 @@ impl<'a, T: BitStore, O: SliceOrder> OnesCalls<T> for BitSlice<'a, T, O> {
     type Ones = IterOnes<'a, T, O>;
 
     type Zeros = IterZeros<'a, T, O>;
-
-    ghost shows = { seen };
 
     fn iter_ones(self) -> IterOnes<'a, T, O> {
         Places::new(self)
@@ -26,8 +22,6 @@ impl<'a, 'v, T: BitStore, O: SliceOrder> OnesCalls<T> for &'v BitSliceMut<'a, T,
     type Ones = IterOnes<'v, T, O>;
 
     type Zeros = IterZeros<'v, T, O>;
-
-    ghost shows = { λ view. seen_mut view.now };
 
     fn iter_ones(self) -> IterOnes<'v, T, O> {
         self.as_ref().iter_ones()

@@ -1,9 +1,9 @@
 -- Elements that were 0, and into which a list was written.
-use Rattle.std.specs.Prelude.{◌≡◌, ℕ, zero, suc, ◌+◌, ◌*◌, ◌<◌, ◌≤◌, Bool, false, List, ◌++◌, drop, length, map, replicate, refl, take}
+use Rattle.std.specs.Prelude.{◌≡◌, ℕ, zero, suc, ◌+◌, ◌*◌, ◌<◌, ◌≤◌, Bool, false, List, length, map, replicate, refl}
 use Rattle.std.specs.Int.{div_ceil}
 use Rattle.std.proofs.Common.{◌∙◌, ap, arith}
 use Rattle.std.proofs.lemmas.Grind.{div_ceil_times}
-use Rattle.std.proofs.lemmas.List.{length-map, length-replicate, take_at}
+use Rattle.std.proofs.lemmas.List.{length-replicate}
 use Rattle.bitvec_edit.specs.base.FilledLaws.{bits-zeros}
 use Rattle.bitvec_edit.specs.base.Memory.{memory_bits}
 use Rattle.bitvec_edit.specs.base.Window.{window_of, write_at}
@@ -45,10 +45,3 @@ module _ {T : Type 0} (b : ℕ) (at : ℕ → ℕ → ℕ) (value : T → ℕ) (
       let size : length cells ≡ count = many ∙ ap length filled ∙ length-replicate count none in
       let before : memory_bits b at (map value old) ≡ replicate (b * length cells) false = rw (size, filled) (zeros none count is_zero) in
       rw is (holds cells from n list long (size ∙ rounded) (written ∙ ap (λ (memory : List Bool). write_at memory from list) before))
-
--- lists as long as each other, seen through their numbers; and a list put in the place of one as long
-pub same_length : {X Y : Type 0} (f : X → Y) (xs ys : List X) → length (map f xs) ≡ length (map f ys) → length xs ≡ length ys
-same_length f xs ys same = let first = length-map xs f in let second = length-map ys f in omega arith
-
-pub refilled : {X : Type 0} (xs old : List X) (n : ℕ) → length xs ≡ n → take n (xs ++ drop (length xs) old) ≡ xs
-refilled xs old n long = take_at xs (drop (length xs) old) n long

@@ -1,3 +1,2 @@
-mod Edited
 mod Held
 mod Repeats

@@ -5,3 +5,4 @@ pub mod Copies
 pub mod Lending
 pub mod Owned
 pub mod Writes
+pub mod WritesLaws

@@ -5,13 +5,12 @@
 mod bit_vec;
 mod cloning;
 mod copying;
-mod edits;
 mod equality;
 mod iterating;
-mod queries;
 mod repeating;
 mod texts;
 mod to_bitvec;
+mod views;
 mod zeros;
 
 /// What crates above name of `bitvec_edit`.

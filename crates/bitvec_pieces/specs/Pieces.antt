@@ -1,11 +1,12 @@
 -- Pieces of a view that are lent to closures in its place, and what the closures leave.
 use Rattle.std.specs.Prelude.{◌≡◌, ℕ, ◌+◌, ◌-◌, ◌<◌, ◌≤◌, ◌⊎◌, ◌++◌, Bool, List, slice_index_or, ⊤}
-use Rattle.std.specs.Borrow.{MutBor}
+use Rattle.std.specs.Borrow.{GName, MutBor}
 use Rattle.std.specs.declared.ops.Range.{Range}
 use Rattle.bitvec_split.specs.base.Window.{max_bits, window_range, write_at}
 use Rattle.bitvec_split.specs.base.declared.window.Window.{Window}
 use Rattle.bitvec_cutting.specs.Cutting.{back_chunk, chunk, chunk_count, cut, whole_chunk, whole_count}
-use Rattle.bitvec_pieces.specs.Shown.{Shown, StandsAt, StaysInPlace}
+use Rattle.bitvec_split.specs.slice.Seen.{Seen}
+use Rattle.bitvec_pieces.specs.InPlace.{StandsAt, StaysInPlace}
 
 abbrev pub range_of : ℕ → ℕ → Range ℕ
 range_of from to = record { start = from; end = to }
@@ -41,34 +42,35 @@ abbrev pub IsLeftOut : WayToCut → ℕ → ℕ → Type 0
 IsLeftOut way len i = (k : ℕ) → k < way.count len → (i < (way.place len k).start) ⊎ ((way.place len k).end ≤ i)
 
 -- the piece is the view's bits in the range
-pub record IsPieceOf (view : Shown) (range : Range ℕ) (piece : Shown) : Type 0 where
+pub record IsPieceOf {T : Type 0} (view : Seen T) (range : Range ℕ) (piece : Seen T) : Type 0 where
   pub bits : piece.bits ≡ cut view.bits range
   pub start : piece.window.start ≡ view.window.start + range.start
   pub len : piece.window.len ≡ range.end - range.start
 
 -- the view is narrowed to its bits in the range, and `window` is where it stood
-pub record Narrows (view : Shown) (range : Range ℕ) (window : Window) (piece : Shown) : Type 0 where
-  pub stood : window ≡ view.window
-  pub stands : StandsAt view (window_range view.window range.start range.end) piece
-  pub part : IsPieceOf view range piece
+pub record Narrows {V T : Type 0} (shows : V → Seen T) (named : V → GName) (view : V) (range : Range ℕ) (window : Window) (piece : V) : Type 0 where
+  pub stood : window ≡ (shows view).window
+  pub stands : StandsAt shows named view (window_range (shows view).window range.start range.end) piece
+  pub part : IsPieceOf (shows view) range (shows piece)
 
 -- the piece is that of the number, which has some bits
-pub record IsNumbered (view : Shown) (way : WayToCut) (number : ℕ) (piece : Shown) : Type 0 where
+pub record IsNumbered {T : Type 0} (view : Seen T) (way : WayToCut) (number : ℕ) (piece : Seen T) : Type 0 where
   pub part : IsPieceOf view (way.place view.window.len number) piece
   pub below : number < way.count view.window.len
   pub bound : number < max_bits
   pub some : 0 < piece.window.len
 
-module _ {V : Type 0} (shows : V → Shown) where
+module _ {V T : Type 0} (shows : V → Seen T) (named : V → GName) where
   -- an edit with this `pre` may be called on any such piece, and one with this `post` leaves it in its place
-  pub record MayEdit {R : Type 0} (pre : MutBor V → Type 0) (post : MutBor V → R → MutBor V → Type 0) (IsPiece : Shown → Type 0) : Type 0 where
+  pub record MayEdit {R : Type 0} (pre : MutBor V → Type 0) (post : MutBor V → R → MutBor V → Type 0) (IsPiece : Seen T → Type 0) : Type 0 where
     pub accepts : (p : MutBor V) → IsPiece (shows p.now) → pre p
-    pub in_place : (p q : MutBor V) (r : R) → IsPiece (shows p.now) → post p r q → StaysInPlace (shows p.now) (shows q.now)
+    pub in_place : (p q : MutBor V) (r : R) → IsPiece (shows p.now) → post p r q → StaysInPlace shows named p.now q.now
 
   -- so it is of an edit with these steps, in any of its states, on each piece
-  abbrev pub MayEditEach : {F : Type 0} → (F → ℕ → MutBor V → Type 0) → (F → ℕ → MutBor V → ⊤ → MutBor V → F → Type 0) → Shown → WayToCut → Type 0
+  abbrev pub MayEditEach : {F : Type 0} → (F → ℕ → MutBor V → Type 0) → (F → ℕ → MutBor V → ⊤ → MutBor V → F → Type 0) → Seen T → WayToCut → Type 0
   MayEditEach {F} pre step view way = (f : F) (k : ℕ) → MayEdit (pre f k) (λ p r q. (g : F) × step f k p r q g) (IsNumbered view way k)
 
+module _ {V T : Type 0} (shows : V → Seen T) where
   -- such an edit was called on the piece, and the view has there the bits that it left
   pub record EditsPiece {R : Type 0} (writes : V → V → List Bool → Type 0) (post : MutBor V → R → MutBor V → Type 0) (before : V) (range : Range ℕ) (r : R) (after : V) : Type 0 where
     pub piece : MutBor V
@@ -90,7 +92,7 @@ module _ {V : Type 0} (shows : V → Shown) where
     pub written : writes before after ((shows first_left.now).bits ++ (shows second_left.now).bits)
 
   -- a step of such an edit was made at the piece of the number, and left this list there
-  pub record EditsNumbered {F : Type 0} (step : F → ℕ → MutBor V → ⊤ → MutBor V → F → Type 0) (view : Shown) (way : WayToCut) (number : ℕ) (list : List Bool) : Type 0 where
+  pub record EditsNumbered {F : Type 0} (step : F → ℕ → MutBor V → ⊤ → MutBor V → F → Type 0) (view : Seen T) (way : WayToCut) (number : ℕ) (list : List Bool) : Type 0 where
     pub before : F
     pub after : F
     pub piece : MutBor V
@@ -99,9 +101,10 @@ module _ {V : Type 0} (shows : V → Shown) where
     pub stepped : step before number piece tt left after
     pub bits : list ≡ (shows left.now).bits
 
+module _ {V T : Type 0} (shows : V → Seen T) (named : V → GName) where
   -- so it was at each piece, the bits in no piece are as before, and so is all else
   pub record EditsPieces {F : Type 0} (writes : V → V → List Bool → Type 0) (step : F → ℕ → MutBor V → ⊤ → MutBor V → F → Type 0) (before : V) (way : WayToCut) (after : V) : Type 0 where
-    pub pieces : (k : ℕ) → k < way.count (shows before).window.len → EditsNumbered step (shows before) way k (cut (shows after).bits (way.place (shows before).window.len k))
+    pub pieces : (k : ℕ) → k < way.count (shows before).window.len → EditsNumbered shows step (shows before) way k (cut (shows after).bits (way.place (shows before).window.len k))
     pub others : (i : ℕ) (d : Bool) → IsLeftOut way (shows before).window.len i → slice_index_or (shows after).bits i d ≡ slice_index_or (shows before).bits i d
-    pub stays : StaysInPlace (shows before) (shows after)
+    pub stays : StaysInPlace shows named before after
     pub written : writes before after (shows after).bits

@@ -1,18 +1,13 @@
 -- Pieces of a view that a split gives in turn, and that a closure edits.
 use Rattle.std.specs.Prelude.{◌≡◌, ℕ, ◌+◌, ◌≤◌, Bool, List, Option, Some, None, ⊤}
-use Rattle.std.specs.Borrow.{MutBor}
+use Rattle.std.specs.Borrow.{GName, MutBor}
 use Rattle.std.specs.List.{FoldsTo}
 use Rattle.std.specs.declared.ops.Range.{Range}
 use Rattle.bitvec_split.specs.base.Window.{max_bits, write_at}
 use Rattle.bitvec_cutting.specs.Cutting.{LiesIn}
 use Rattle.bitvec_split.specs.slice.Seen.{Seen}
 use Rattle.bitvec_pieces.specs.Pieces.{IsPieceOf, MayEdit}
-use Rattle.bitvec_pieces.specs.Shown.{Shown, StaysInPlace}
-
--- what contracts see of a view is what it shows
-pub record IsSeenOf {T : Type 0} (view : Shown) (seen : Seen T) : Type 0 where
-  pub bits : seen.bits ≡ view.bits
-  pub window : seen.window ≡ view.window
+use Rattle.bitvec_pieces.specs.InPlace.{StaysInPlace}
 
 -- a split that begins so gave these pieces in turn, and then none
 pub record GivesInTurn {S : Type 0} (next : S → Option (Range ℕ) → S → Type 0) (first : S) (pieces : List (Range ℕ)) : Type 0 where
@@ -21,7 +16,7 @@ pub record GivesInTurn {S : Type 0} (next : S → Option (Range ℕ) → S → T
   pub ends : next last None last
 
 -- the piece is a range of the view, and not beyond those of which a view has so many
-pub record IsGivenPiece (view : Shown) (number : ℕ) (piece : Shown) : Type 0 where
+pub record IsGivenPiece {T : Type 0} (view : Seen T) (number : ℕ) (piece : Seen T) : Type 0 where
   pub range : Range ℕ
   pub lies : LiesIn view.window.len range
   pub part : IsPieceOf view range piece
@@ -34,26 +29,26 @@ pub record Editing (F : Type 0) : Type 0 where
   pub edit : F
   pub number : ℕ
 
-module _ {V : Type 0} (shows : V → Shown) where
+module _ {V T : Type 0} (shows : V → Seen T) (named : V → GName) where
   -- an edit with these steps may be called, in any of its states, on each such piece, and leaves it in its place
-  abbrev pub MayEditGiven : {F : Type 0} → (F → ℕ → MutBor V → Type 0) → (F → ℕ → MutBor V → ⊤ → MutBor V → F → Type 0) → Shown → Type 0
-  MayEditGiven {F} pre step view = (f : F) (k : ℕ) → MayEdit shows (pre f k) (λ p r q. (g : F) × step f k p r q g) (IsGivenPiece view k)
+  abbrev pub MayEditGiven : {F : Type 0} → (F → ℕ → MutBor V → Type 0) → (F → ℕ → MutBor V → ⊤ → MutBor V → F → Type 0) → Seen T → Type 0
+  MayEditGiven {F} pre step view = (f : F) (k : ℕ) → MayEdit shows named (pre f k) (λ p r q. (g : F) × step f k p r q g) (IsGivenPiece view k)
 
   -- it was called on the range of the view, as that was before all edits, and its number; the bits that it left stand there
-  pub record EditsNext {F : Type 0} (step : F → ℕ → MutBor V → ⊤ → MutBor V → F → Type 0) (view : Shown) (s : Editing F) (range : Range ℕ) (t : Editing F) : Type 0 where
+  pub record EditsNext {F : Type 0} (step : F → ℕ → MutBor V → ⊤ → MutBor V → F → Type 0) (view : V) (s : Editing F) (range : Range ℕ) (t : Editing F) : Type 0 where
     pub piece : MutBor V
     pub left : MutBor V
-    pub lies : LiesIn view.window.len range
-    pub is : IsPieceOf view range (shows piece.now)
+    pub lies : LiesIn (shows view).window.len range
+    pub is : IsPieceOf (shows view) range (shows piece.now)
     pub stepped : step s.edit s.number piece tt left t.edit
-    pub stays : StaysInPlace (shows piece.now) (shows left.now)
+    pub stays : StaysInPlace shows named piece.now left.now
     pub bits : t.bits ≡ write_at s.bits range.start (shows left.now).bits
     pub number : t.number ≡ s.number + 1
 
   -- so it was on each of the pieces in turn, from its first state on
-  pub record EditsInTurn {F : Type 0} (step : F → ℕ → MutBor V → ⊤ → MutBor V → F → Type 0) (view : Shown) (edit : F) (pieces : List (Range ℕ)) (new : List Bool) : Type 0 where
+  pub record EditsInTurn {F : Type 0} (step : F → ℕ → MutBor V → ⊤ → MutBor V → F → Type 0) (view : V) (edit : F) (pieces : List (Range ℕ)) (new : List Bool) : Type 0 where
     pub last : Editing F
-    pub edits : FoldsTo (EditsNext step view) (record { bits = view.bits; edit = edit; number = 0 }) pieces last
+    pub edits : FoldsTo (EditsNext step view) (record { bits = (shows view).bits; edit = edit; number = 0 }) pieces last
     pub bits : new ≡ last.bits
 
   -- a split of the view gave pieces, the edit was called on each in turn, and all else is as before
@@ -61,6 +56,6 @@ module _ {V : Type 0} (shows : V → Shown) where
       (next : S → Option (Range ℕ) → S → Type 0) (first : S) (before : V) (edit : F) (after : V) : Type 0 where
     pub pieces : List (Range ℕ)
     pub gives : GivesInTurn next first pieces
-    pub edits : EditsInTurn step (shows before) edit pieces (shows after).bits
-    pub stays : StaysInPlace (shows before) (shows after)
+    pub edits : EditsInTurn step before edit pieces (shows after).bits
+    pub stays : StaysInPlace shows named before after
     pub written : writes before after (shows after).bits

@@ -2,7 +2,6 @@
 use Rattle.std.specs.Prelude.{◌≡◌, ℕ, ◌+◌, ◌-◌, ◌<◌, ◌≤◌, ◌⊎◌, true, false, MatchOption, Option, if◌then◌else◌}
 use Rattle.std.specs.declared.ops.Range.{Range}
 use Rattle.bitvec_split.specs.slice.Seen.{Seen}
-use Rattle.bitvec_pieces.specs.Shown.{Shown}
 use Rattle.bitvec_split.specs.Lent.{LeftIn, LimitedSplitIn}
 use Rattle.bitvec_pieces.specs.declared.left.ToSplit.{ToSplit}
 
@@ -14,7 +13,7 @@ abbrev pub limited_at : {T P : Type 0} → Seen T → ToSplit → ℕ → P → 
 limited_at view left count pred = record { left = left_at view left pred; count = count }
 
 -- the view has the range that is left
-pub record IsLeftOf (view : Shown) (left : ToSplit) : Type 0 where
+pub record IsLeftOf {T : Type 0} (view : Seen T) (left : ToSplit) : Type 0 where
   pub order : left.from ≤ left.to
   pub bound : left.to ≤ view.window.len
 

@@ -1,7 +1,7 @@
 -- The pieces of a split that were edited so far, and one more.
 use Rattle.std.specs.Prelude.{◌≡◌, ℕ, ◌+◌, ◌-◌, ◌≤◌, ◌==◌, Bool, true, false, List, ◌∷◌, MatchOption, Option, Some, None, length, slice_range, ⊤, refl}
 use Rattle.std.specs.Bool.{MatchBool}
-use Rattle.std.specs.Borrow.{Bor, MutBor}
+use Rattle.std.specs.Borrow.{Bor, GName, MutBor}
 use Rattle.std.specs.Fn.{Mut}
 use Rattle.std.specs.List.{FoldsTo}
 use Rattle.std.specs.declared.ops.Range.{Range}
@@ -12,14 +12,15 @@ use Rattle.bitvec_split.specs.base.declared.window.Window.{Window}
 use Rattle.bitvec_cutting.specs.Cutting.{LiesIn}
 use Rattle.bitvec_split.specs.slice.Seen.{Seen}
 use Rattle.bitvec_pieces.specs.Pieces.{IsPieceOf, Narrows}
-use Rattle.bitvec_pieces.specs.Shown.{Shown, StaysInPlace, WritesShown}
-use Rattle.bitvec_pieces.specs.ShownLaws.{length-left, length-shown, piece-before, stays-then}
+use Rattle.bitvec_split.specs.slice.Showing.{ShowsElements}
+use Rattle.bitvec_pieces.specs.InPlace.{StaysInPlace, WritesInPlace}
+use Rattle.bitvec_pieces.specs.InPlaceLaws.{length-left, length-shown, piece-before, shown-fits, shown-within, stays-then}
 use Rattle.bitvec_split.specs.Asked.{Asked}
 use Rattle.bitvec_split.specs.Lent.{GivesAllIn, GivesRangeIn, LeftIn, LimitedNextIn, LimitedSplitIn, SplitNextIn, SplitRestIn}
 use Rattle.bitvec_split.specs.Splits.{SplitRule, row_of}
 use Rattle.bitvec_pieces.specs.ToSplit.{IsLeftOf, TakesFrom, left_at, limited_at, most_left}
 use Rattle.bitvec_pieces.specs.declared.left.ToSplit.{ToSplit}
-use Rattle.bitvec_pieces.specs.SplitEdits.{Editing, EditsNext, IsGivenPiece, IsSeenOf}
+use Rattle.bitvec_pieces.specs.SplitEdits.{Editing, EditsNext, IsGivenPiece}
 
 -- a range of two lists is the same where a wider one is
 kept-within : (a b : List Bool) (from to start end : ℕ) → slice_range a from to ≡ slice_range b from to → from ≤ start → start ≤ end → end ≤ to → to ≤ length a → to ≤ length b
@@ -30,11 +31,6 @@ kept-within a b from to start end same low order high fits fits2 =
     let one = range-range a from to (start - from) (end - from) (omega arith) fits in
     let two = range-range b from to (start - from) (end - from) (omega arith) fits2 in
     cc
-
--- what contracts see of two views has the same bits where the views have
-pub seen-same : {T : Type 0} {now view : Shown} {seen_now seen_view : Seen T} (from to : ℕ) → IsSeenOf now seen_now → IsSeenOf view seen_view → slice_range now.bits from to ≡ slice_range view.bits from to
-    → slice_range seen_now.bits from to ≡ slice_range seen_view.bits from to
-seen-same from to one two same = rw (one.bits, two.bits) same
 
 -- a step on one view is one on another that has the same bits where it asks
 module _ {T P : Type 0} (g : Mut P (ℕ × (Bor Bool × Unit {0})) Bool) (inclusive reversed : Bool) (now view : Seen T) (left after : ToSplit) (pred then : P) where
@@ -63,21 +59,21 @@ module _ {T P : Type 0} (g : Mut P (ℕ × (Bor Bool × Unit {0})) Bool) (inclus
       (gave.0, ap (λ (s : LimitedSplitIn T P). limited_at view (record { from = s.left.from; to = s.left.to; finished = s.left.finished }) s.count s.left.pred) gave.1)
   limited-on count less (Some piece) same gave = (gave.0, gave.1, either-on (count == 1) piece same gave.2)
 
-module _ {V F S : Type 0} (shows : V → Shown) (step : F → ℕ → MutBor V → ⊤ → MutBor V → F → Type 0) (view : Shown) (next : S → Option (Range ℕ) → S → Type 0) (first : S) (edit : F) where
+module _ {V T F S : Type 0} (shows : V → Seen T) (named : V → GName) (step : F → ℕ → MutBor V → ⊤ → MutBor V → F → Type 0) (view : V) (next : S → Option (Range ℕ) → S → Type 0) (first : S) (edit : F) where
   -- What comes from here on ends what came from the start on: the split of the view before all edits is at `s`,
   -- of which `left` is left, and the view is `now`, and there nothing is edited yet.
-  pub record TurnsSoFar (s : S) (left : ToSplit) (now : Shown) (f : F) (number : ℕ) : Type 0 where
-    pub stays : StaysInPlace view now
-    pub inside : IsLeftOf view left
-    pub rest : slice_range now.bits left.from left.to ≡ slice_range view.bits left.from left.to
-    pub few : number + most_left left ≤ view.window.len + 1
+  pub record TurnsSoFar (s : S) (left : ToSplit) (now : V) (f : F) (number : ℕ) : Type 0 where
+    pub stays : StaysInPlace shows named view now
+    pub inside : IsLeftOf (shows view) left
+    pub rest : slice_range (shows now).bits left.from left.to ≡ slice_range (shows view).bits left.from left.to
+    pub few : number + most_left left ≤ (shows view).window.len + 1
     pub ends : (pieces : List (Range ℕ)) (t : S) (e : Editing F) → FoldsTo (λ p r q. next p (Some r) q) s pieces t
-        → FoldsTo (EditsNext shows step view) (record { bits = now.bits; edit = f; number = number }) pieces e
-        → (all : List (Range ℕ)) × FoldsTo (λ p r q. next p (Some r) q) first all t × FoldsTo (EditsNext shows step view) (record { bits = view.bits; edit = edit; number = 0 }) all e
+        → FoldsTo (EditsNext shows named step view) (record { bits = (shows now).bits; edit = f; number = number }) pieces e
+        → (all : List (Range ℕ)) × FoldsTo (λ p r q. next p (Some r) q) first all t × FoldsTo (EditsNext shows named step view) (record { bits = (shows view).bits; edit = edit; number = 0 }) all e
 
-module _ {V F S : Type 0} {shows : V → Shown} {step : F → ℕ → MutBor V → ⊤ → MutBor V → F → Type 0} {view : Shown} {next : S → Option (Range ℕ) → S → Type 0} {first s : S} {edit : F} where
+module _ {V T F S : Type 0} {shows : V → Seen T} {named : V → GName} {step : F → ℕ → MutBor V → ⊤ → MutBor V → F → Type 0} {view : V} {next : S → Option (Range ℕ) → S → Type 0} {first s : S} {edit : F} where
   -- none at first
-  pub turns-none : {left : ToSplit} → first ≡ s → IsLeftOf view left → 0 + most_left left ≤ view.window.len + 1 → TurnsSoFar shows step view next first edit s left view edit 0
+  pub turns-none : {left : ToSplit} → first ≡ s → IsLeftOf (shows view) left → 0 + most_left left ≤ (shows view).window.len + 1 → TurnsSoFar shows named step view next first edit s left view edit 0
   turns-none same inside few = record {
     stays = record { outside = refl; window = refl; elements = refl; name = refl };
     inside = inside;
@@ -86,32 +82,32 @@ module _ {V F S : Type 0} {shows : V → Shown} {step : F → ℕ → MutBor V �
     ends = λ pieces t e gave edits. (pieces, subst (λ (q : S). FoldsTo (λ p r q. next p (Some r) q) q pieces t) (sym same) gave, edits);
   }
 
-  module _ {left after : ToSplit} {now : Shown} {f : F} {number : ℕ} {range : Range ℕ} (far : TurnsSoFar shows step view next first edit s left now f number) (takes : TakesFrom left range after) where
+  module _ {b : ℕ} {at : ℕ → ℕ → ℕ} {value : T → ℕ} (sound : (v : V) → ShowsElements b at value (shows v)) {left after : ToSplit} {now : V} {f : F} {number : ℕ} {range : Range ℕ} (far : TurnsSoFar shows named step view next first edit s left now f number) (takes : TakesFrom left range after) where
     -- the piece lies in the view as it is now, and is one of the view before
-    pub piece-lies : LiesIn now.window.len range
+    pub piece-lies : LiesIn (shows now).window.len range
     piece-lies =
         let same = ap (λ (w : Window). w.len) far.stays.window in
         let bound = far.inside.bound in
         let end = takes.end in
         (takes.order, omega arith)
 
-    same-at : (start end : ℕ) → left.from ≤ start → start ≤ end → end ≤ left.to → slice_range now.bits start end ≡ slice_range view.bits start end
+    same-at : (start end : ℕ) → left.from ≤ start → start ≤ end → end ≤ left.to → slice_range (shows now).bits start end ≡ slice_range (shows view).bits start end
     same-at start end low order high =
         let same = ap (λ (w : Window). w.len) far.stays.window in
         let bound = far.inside.bound in
-        let long = length-shown now in
-        let wide = length-shown view in
-        kept-within now.bits view.bits left.from left.to start end far.rest low order high (omega arith) (omega arith)
+        let long = length-shown (sound now) in
+        let wide = length-shown (sound view) in
+        kept-within (shows now).bits (shows view).bits left.from left.to start end far.rest low order high (omega arith) (omega arith)
 
-    pub piece-given : {window : Window} {piece : Shown} → Narrows now range window piece → IsPieceOf view range piece
+    pub piece-given : {window : Window} {piece : V} → Narrows shows named now range window piece → IsPieceOf (shows view) range (shows piece)
     piece-given narrowed = piece-before range far.stays (same-at range.start range.end takes.start takes.order takes.end) narrowed.part
 
-    pub given-piece : {window : Window} {piece : Shown} → Narrows now range window piece → IsGivenPiece view number piece
+    pub given-piece : {window : Window} {piece : V} → Narrows shows named now range window piece → IsGivenPiece (shows view) number (shows piece)
     given-piece narrowed =
         let few = far.few in
         let fewer = takes.fewer in
-        let fits = view.fits in
-        let within = view.within.len in
+        let fits = shown-fits (sound view) in
+        let within = (shown-within (sound view)).len in
         let bound = far.inside.bound in
         let end = takes.end in
         record {
@@ -123,27 +119,27 @@ module _ {V F S : Type 0} {shows : V → Shown} {step : F → ℕ → MutBor V �
         }
 
     -- it was edited, and the bits that are left are as before
-    pub turns-next : {t : S} {h : F} {p q : MutBor V} {later : Shown} → next s (Some range) t → IsPieceOf view range (shows p.now) → step f number p tt q h → StaysInPlace (shows p.now) (shows q.now)
-        → WritesShown now later (write_at now.bits range.start (shows q.now).bits) → TurnsSoFar shows step view next first edit t after later h (number + 1)
+    pub turns-next : {t : S} {h : F} {p q : MutBor V} {later : V} → next s (Some range) t → IsPieceOf (shows view) range (shows p.now) → step f number p tt q h → StaysInPlace shows named p.now q.now
+        → WritesInPlace shows named now later (write_at (shows now).bits range.start (shows q.now).bits) → TurnsSoFar shows named step view next first edit t after later h (number + 1)
     turns-next {t} {h} {p} {q} {later} gave is stepped kept wrote =
         let new = (shows q.now).bits in
-        let long = length-left is kept in
+        let long = length-left sound is kept in
         let same = ap (λ (w : Window). w.len) far.stays.window in
         let bound = far.inside.bound in
-        let wide = length-shown now in
+        let wide = length-shown (sound now) in
         let few = far.few in
         let fewer = takes.fewer in
         let order = takes.order in
         let end = takes.end in
         let to = takes.to in
-        let elsewhere : slice_range (write_at now.bits range.start new) after.from after.to ≡ slice_range now.bits after.from after.to =
-        ⊎_elim (λ behind. range-write_at_after now.bits range.start new after.from after.to (omega arith) (omega arith) (omega arith))
-        (λ before. range-write_at_before now.bits range.start new after.from after.to (omega arith) before) takes.apart in
+        let elsewhere : slice_range (write_at (shows now).bits range.start new) after.from after.to ≡ slice_range (shows now).bits after.from after.to =
+        ⊎_elim (λ behind. range-write_at_after (shows now).bits range.start new after.from after.to (omega arith) (omega arith) (omega arith))
+        (λ before. range-write_at_before (shows now).bits range.start new after.from after.to (omega arith) before) takes.apart in
         record {
           stays = stays-then far.stays wrote.stays;
           inside = record { order = takes.rest; bound = omega arith };
           rest = ap (λ (l : List Bool). slice_range l after.from after.to) wrote.bits ∙ elsewhere ∙ same-at after.from after.to takes.from takes.rest takes.to;
           few = omega arith;
           ends = λ pieces u e rest edits. far.ends (range ∷ pieces) u e (t, gave, rest)
-              (record { bits = later.bits; edit = h; number = number + 1 }, record { piece = p; left = q; lies = (order, omega arith); is = is; stepped = stepped; stays = kept; bits = wrote.bits; number = refl }, edits);
+              (record { bits = (shows later).bits; edit = h; number = number + 1 }, record { piece = p; left = q; lies = (order, omega arith); is = is; stepped = stepped; stays = kept; bits = wrote.bits; number = refl }, edits);
         }

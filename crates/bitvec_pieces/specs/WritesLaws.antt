@@ -7,7 +7,7 @@ use Rattle.bitvec_split.specs.slice.Seen.{outside_of}
 use Rattle.bitvec_split.specs.slice.Views.{name_of, seen_mut}
 use Rattle.bitvec_split.specs.slice.Writes.{WritesBits}
 use Rattle.bitvec_split.specs.slice.declared.view_mut.BitSliceMut.{BitSliceMut}
-use Rattle.bitvec_pieces.specs.ViewShown.{written_so}
+use Rattle.bitvec_pieces.specs.ViewInPlace.{written_so}
 
 module _ {T O : Type 0} {t : Store T} {o : Order O} where
   -- where all but a view's bits is as before, its bits were written

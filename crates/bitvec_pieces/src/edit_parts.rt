@@ -1,13 +1,15 @@
 //! Edits of parts of a view by closures.
-ghost use Rattle.std.specs.Prelude.{◌≡◌, ℕ, ◌<◌, ◌≤◌, Bool, List, length};
-ghost use Rattle.bitvec_split.specs.base.Window.{IsWithin, write_at};
+ghost use Rattle.std.specs.Prelude.{◌<◌, ◌≤◌, Bool, List, length};
+ghost use Rattle.std.specs.Borrow.{GName};
+ghost use Rattle.bitvec_split.specs.base.Window.{IsWithin};
 ghost use Rattle.bitvec_split.specs.slice.Indices.{HasRange};
-ghost use Rattle.bitvec_pieces.specs.Shown.{Shown, StandsAt, WritesShown};
+ghost use Rattle.bitvec_pieces.specs.InPlace.{StandsAt, WritesInPlace};
 ghost use Rattle.bitvec_pieces.specs.Pieces.{EditsHalves, EditsPiece, EditsPieces, IsApart, IsPieceOf, MayEdit, MayEditEach, Narrows, way_of, in_back_chunks, in_chunks, in_whole_back_chunks, in_whole_chunks, range_of};
 
-use crate::Inside;
 use bitvec_cutting::{Cutting, InChunks, InChunksFromEnd, InExactChunks, InExactChunksFromEnd};
-use bitvec_split::base::Window;
+use bitvec_split::base::{BitOrder, Window};
+use bitvec_split::slice::{Inside, View, ViewMut};
+use bitvec_split::store::BitStore;
 use std::ops::Range;
 
 /// Edits of parts of a writable view by closures, which take the view itself, narrowed to the part
@@ -19,36 +21,28 @@ use std::ops::Range;
 /// each edit of a view ensures; what it keeps in a captured `&mut` is not known afterwards, so a
 /// closure of `edit_with` gives back as its result what the caller is to know. The crate has no such
 /// calls: its parts are views of their own.
-pub trait EditParts: Sized {
-    // What the view shows: its memory, where it stands there, and its bits.
-    ghost shows: { Self → Shown };
-
-    // Holds of the view before and after a call that gave it these bits and left all others.
-    ghost writes: { Self → Self → List Bool → Type 0 };
-
-    /// Where the view stands among its elements.
-    #[doc(hidden)]
-    fn place(&self) -> Window
-        ensures { result ≡ (shows self.now).window };
+pub trait EditParts<T: BitStore, O: BitOrder>: ViewMut<T, O> + Sized {
+    // Which memory the view borrows, by its name among borrows.
+    ghost named: { Self → GName };
 
     /// Moves the view to another window of its elements, which it owes to leave. Condition: these
     /// have the window. Only crates that the library is made of have an `Inside` to call it with.
     #[doc(hidden)]
     fn stand_at(&mut self, window: Window, by: Inside)
-        requires { IsWithin window (length (shows self.old).memory) }
-        ensures { StandsAt (shows self.old) window (shows self.new) };
+        requires { IsWithin window (length (Self.shows self.old).memory) }
+        ensures { StandsAt Self.shows named self.old window self.new };
 
     // What shows new bits, and all else as before, was written so.
-    ghost written: { (before after : Self) (new : List Bool)
-        → WritesShown (shows before) (shows after) new → writes before after new };
+    ghost written_so: { (before after : Self) (new : List Bool)
+        → WritesInPlace Self.shows named before after new → Self.writes before after new };
 
     /// Narrows the view to a range of its bits, and gives where it stood. Condition: it has the range.
     #[doc(hidden)]
     final fn narrow(&mut self, range: Range<usize>) -> Window
-        requires { HasRange range (shows self.old).window.len }
-        ensures { Narrows (shows self.old) range result (shows self.new) }
+        requires { HasRange range (Self.shows self.old).window.len }
+        ensures { Narrows Self.shows named self.old range result self.new }
     {
-        let window = self.place();
+        let window = self.window();
         self.stand_at(
             Window {
                 start: window.start + range.start,
@@ -62,9 +56,9 @@ pub trait EditParts: Sized {
     /// `edit_with`, with all that the view shows as what a caller learns.
     #[doc(hidden)]
     final fn edit_shown<R, F: FnOnce(&mut Self) -> R>(&mut self, range: Range<usize>, edit: F) -> R
-        requires range { HasRange range (shows self.old).window.len }
-        requires edit { MayEdit shows (F.pre edit) (F.post edit) (IsPieceOf (shows self.old) range) }
-        ensures { EditsPiece shows (λ before after new. WritesShown (shows before) (shows after) new)
+        requires range { HasRange range (Self.shows self.old).window.len }
+        requires edit { MayEdit Self.shows named (F.pre edit) (F.post edit) (IsPieceOf (Self.shows self.old) range) }
+        ensures { EditsPiece Self.shows (WritesInPlace Self.shows named)
             (F.post edit) self.old range result self.new }
     {
         let window = self.narrow(range);
@@ -76,9 +70,9 @@ pub trait EditParts: Sized {
     /// Calls `edit` on the bits of a range, and gives its result. Conditions: `start <= end <= len`;
     /// `edit` may be called on a view of these bits, and leaves it in its place.
     final fn edit_with<R, F: FnOnce(&mut Self) -> R>(&mut self, range: Range<usize>, edit: F) -> R
-        requires range { HasRange range (shows self.old).window.len }
-        requires edit { MayEdit shows (F.pre edit) (F.post edit) (IsPieceOf (shows self.old) range) }
-        ensures { EditsPiece shows writes (F.post edit) self.old range result self.new }
+        requires range { HasRange range (Self.shows self.old).window.len }
+        requires edit { MayEdit Self.shows named (F.pre edit) (F.post edit) (IsPieceOf (Self.shows self.old) range) }
+        ensures { EditsPiece Self.shows Self.writes (F.post edit) self.old range result self.new }
     {
         self.edit_shown(range, edit)
     }
@@ -92,12 +86,12 @@ pub trait EditParts: Sized {
         left: L,
         right: R,
     ) -> (A, B)
-        requires bound { mid ≤ (shows self.old).window.len }
-        requires left { MayEdit shows (L.pre left) (L.post left) (IsPieceOf (shows self.old) (range_of 0 mid)) }
-        requires right { MayEdit shows (R.pre right) (R.post right) (IsPieceOf (shows self.old) (range_of mid (shows self.old).window.len)) }
-        ensures { EditsHalves shows writes (L.post left) (R.post right) self.old mid result.0 result.1 self.new }
+        requires bound { mid ≤ (Self.shows self.old).window.len }
+        requires left { MayEdit Self.shows named (L.pre left) (L.post left) (IsPieceOf (Self.shows self.old) (range_of 0 mid)) }
+        requires right { MayEdit Self.shows named (R.pre right) (R.post right) (IsPieceOf (Self.shows self.old) (range_of mid (Self.shows self.old).window.len)) }
+        ensures { EditsHalves Self.shows Self.writes (L.post left) (R.post right) self.old mid result.0 result.1 self.new }
     {
-        let len = self.place().len;
+        let len = self.window().len;
         let before = self.edit_shown(0..mid, left);
         let behind = self.edit_shown(mid..len, right);
         (before, behind)
@@ -112,11 +106,11 @@ pub trait EditParts: Sized {
         cutting: C,
         mut edit: F,
     )
-        requires apart { IsApart (way_of (C.pieces cutting) (C.place cutting)) (shows self.old).window.len }
-        requires edit { MayEditEach shows F.pre F.step (shows self.old) (way_of (C.pieces cutting) (C.place cutting)) }
-        ensures { EditsPieces shows writes F.step self.old (way_of (C.pieces cutting) (C.place cutting)) self.new }
+        requires apart { IsApart (way_of (C.pieces cutting) (C.place cutting)) (Self.shows self.old).window.len }
+        requires edit { MayEditEach Self.shows named F.pre F.step (Self.shows self.old) (way_of (C.pieces cutting) (C.place cutting)) }
+        ensures { EditsPieces Self.shows named Self.writes F.step self.old (way_of (C.pieces cutting) (C.place cutting)) self.new }
     {
-        let len = self.place().len;
+        let len = self.window().len;
         for number in 0..cutting.count(len) {
             let window = self.narrow(cutting.piece(len, number));
             edit(number, self);
@@ -129,8 +123,8 @@ pub trait EditParts: Sized {
     /// each chunk, whatever it keeps from the calls before, and leaves it in its place.
     final fn for_each_chunk_mut<F: FnMut(usize, &mut Self)>(&mut self, size: usize, edit: F)
         requires some { 0 < size }
-        requires edit { MayEditEach shows F.pre F.step (shows self.old) (in_chunks size) }
-        ensures { EditsPieces shows writes F.step self.old (in_chunks size) self.new }
+        requires edit { MayEditEach Self.shows named F.pre F.step (Self.shows self.old) (in_chunks size) }
+        ensures { EditsPieces Self.shows named Self.writes F.step self.old (in_chunks size) self.new }
     {
         self.for_each_piece_mut(InChunks { size }, edit)
     }
@@ -140,8 +134,8 @@ pub trait EditParts: Sized {
     /// Conditions: as of `for_each_chunk_mut`.
     final fn for_each_rchunk_mut<F: FnMut(usize, &mut Self)>(&mut self, size: usize, edit: F)
         requires some { 0 < size }
-        requires edit { MayEditEach shows F.pre F.step (shows self.old) (in_back_chunks size) }
-        ensures { EditsPieces shows writes F.step self.old (in_back_chunks size) self.new }
+        requires edit { MayEditEach Self.shows named F.pre F.step (Self.shows self.old) (in_back_chunks size) }
+        ensures { EditsPieces Self.shows named Self.writes F.step self.old (in_back_chunks size) self.new }
     {
         self.for_each_piece_mut(InChunksFromEnd { size }, edit)
     }
@@ -150,8 +144,8 @@ pub trait EditParts: Sized {
     /// the bits behind them stay. Conditions: as of `for_each_chunk_mut`.
     final fn for_each_chunk_exact_mut<F: FnMut(usize, &mut Self)>(&mut self, size: usize, edit: F)
         requires some { 0 < size }
-        requires edit { MayEditEach shows F.pre F.step (shows self.old) (in_whole_chunks size) }
-        ensures { EditsPieces shows writes F.step self.old (in_whole_chunks size) self.new }
+        requires edit { MayEditEach Self.shows named F.pre F.step (Self.shows self.old) (in_whole_chunks size) }
+        ensures { EditsPieces Self.shows named Self.writes F.step self.old (in_whole_chunks size) self.new }
     {
         self.for_each_piece_mut(InExactChunks { size }, edit)
     }
@@ -161,8 +155,8 @@ pub trait EditParts: Sized {
     /// `for_each_chunk_mut`.
     final fn for_each_rchunk_exact_mut<F: FnMut(usize, &mut Self)>(&mut self, size: usize, edit: F)
         requires some { 0 < size }
-        requires edit { MayEditEach shows F.pre F.step (shows self.old) (in_whole_back_chunks size) }
-        ensures { EditsPieces shows writes F.step self.old (in_whole_back_chunks size) self.new }
+        requires edit { MayEditEach Self.shows named F.pre F.step (Self.shows self.old) (in_whole_back_chunks size) }
+        ensures { EditsPieces Self.shows named Self.writes F.step self.old (in_whole_back_chunks size) self.new }
     {
         self.for_each_piece_mut(InExactChunksFromEnd { size }, edit)
     }

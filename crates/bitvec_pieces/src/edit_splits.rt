@@ -2,15 +2,17 @@
 ghost use Rattle.std.specs.Prelude.{◌≡◌, ◌-◌, ◌<◌, ◌≤◌, IfSome, false, true};
 ghost use Rattle.bitvec_cutting.specs.Cutting.{cut};
 ghost use Rattle.bitvec_split.specs.slice.Indices.{HasRange};
-ghost use Rattle.bitvec_split.specs.slice.Seen.{Seen};
 ghost use Rattle.bitvec_split.specs.Asked.{Asked, MayAsk};
 ghost use Rattle.bitvec_split.specs.Lent.{LimitedNextIn, MayGoOnIn, SplitNextIn, unsplit_in};
 ghost use Rattle.bitvec_split.specs.Splits.{asked_of, row_of};
 ghost use Rattle.bitvec_pieces.specs.ToSplit.{IsLeftOf, TakesFrom, left_at, limited_at};
-ghost use Rattle.bitvec_pieces.specs.SplitEdits.{EditsGiven, IsSeenOf, MayEditGiven};
+ghost use Rattle.bitvec_pieces.specs.SplitEdits.{EditsGiven, MayEditGiven};
 
-use crate::{EditParts, Inside, ToSplit};
-use bitvec_split::{Forward, Inclusive, Reversed, Way, cut_row};
+use crate::{EditParts, ToSplit};
+use bitvec_split::base::BitOrder;
+use bitvec_split::slice::{Inside, View};
+use bitvec_split::store::BitStore;
+use bitvec_split::{Forward, Inclusive, Reversed, Way, ask_row, cut_row};
 use std::ops::Range;
 
 /// Edits of the pieces of a writable view that a predicate splits, by closures, which take the view
@@ -25,14 +27,11 @@ use std::ops::Range;
 /// the view; the closure may be called on each range of the view, with a number not beyond its length,
 /// whatever it keeps from the calls before, and leaves it in its place. The crate has no such calls: its
 /// `split_mut` and kin give views of their own.
-pub trait EditSplits<T>: EditParts {
-    // What contracts see of the view.
-    ghost seen: { Self → Seen T };
-
+pub trait EditSplits<T: BitStore, O: BitOrder>: EditParts<T, O> {
     /// The index among the bits of a range about which `pred` says yes first, asked as a call of a split
     /// asks. Conditions: the view has the range; `pred` may be asked about its bits.
     #[doc(hidden)]
-    fn ask<W: Way, P: FnMut(usize, &bool) -> bool>(
+    final fn ask<W: Way, P: FnMut(usize, &bool) -> bool>(
         &self,
         range: Range<usize>,
         pred: &mut P,
@@ -41,10 +40,10 @@ pub trait EditSplits<T>: EditParts {
         requires callable { MayAsk P.FnMut (range.end - range.start) pred.old }
         ensures asked { Asked P.FnMut (cut (Self.shows self.now).bits range) pred.old (row_of W.INCLUSIVE W.REVERSED (range.end - range.start)).asks result pred.new }
         ensures callable { MayAsk P.FnMut (range.end - range.start) pred.new }
-        ensures inside { IfSome result (λ index. index < asked_of W.INCLUSIVE W.REVERSED (range.end - range.start)) };
-
-    // It has the bits that the view shows.
-    ghost shown: { (view : Self) → IsSeenOf (Self.EditParts.shows view) (seen view) };
+        ensures inside { IfSome result (λ index. index < asked_of W.INCLUSIVE W.REVERSED (range.end - range.start)) }
+    {
+        ask_row::<W, T, O, P>(self.as_bitslice().into_part(range), W::REVERSED, pred)
+    }
 
     /// The range of the next piece. Conditions: the view has the range that is left; `pred` may be asked
     /// about its bits.
@@ -56,9 +55,9 @@ pub trait EditSplits<T>: EditParts {
         pred: &mut P,
     ) -> Option<Range<usize>>
         requires inside { IsLeftOf (Self.shows self.now) left.old }
-        requires callable { MayGoOnIn P.FnMut (left_at (seen self.now) left.old pred.old) }
-        ensures piece { SplitNextIn P.FnMut W.INCLUSIVE W.REVERSED (left_at (seen self.now) left.old pred.old) result (left_at (seen self.now) left.new pred.new) }
-        ensures callable { MayGoOnIn P.FnMut (left_at (seen self.now) left.new pred.new) }
+        requires callable { MayGoOnIn P.FnMut (left_at (Self.shows self.now) left.old pred.old) }
+        ensures piece { SplitNextIn P.FnMut W.INCLUSIVE W.REVERSED (left_at (Self.shows self.now) left.old pred.old) result (left_at (Self.shows self.now) left.new pred.new) }
+        ensures callable { MayGoOnIn P.FnMut (left_at (Self.shows self.now) left.new pred.new) }
         ensures takes { IfSome result (λ piece. TakesFrom left.old piece left.new) }
     {
         if left.finished {
@@ -86,11 +85,11 @@ pub trait EditSplits<T>: EditParts {
         P: FnMut(usize, &bool) -> bool,
         F: FnMut(usize, &mut Self),
     >(&mut self, mut pred: P, mut edit: F)
-        requires callable { MayGoOnIn P.FnMut (unsplit_in W.INCLUSIVE (seen self.old) pred) }
-        requires edit { MayEditGiven Self.shows F.pre F.step (Self.shows self.old) }
-        ensures { EditsGiven Self.shows Self.writes F.step (SplitNextIn P.FnMut W.INCLUSIVE W.REVERSED) (unsplit_in W.INCLUSIVE (seen self.old) pred) self.old edit self.new }
+        requires callable { MayGoOnIn P.FnMut (unsplit_in W.INCLUSIVE (Self.shows self.old) pred) }
+        requires edit { MayEditGiven Self.shows Self.named F.pre F.step (Self.shows self.old) }
+        ensures { EditsGiven Self.shows Self.named Self.writes F.step (SplitNextIn P.FnMut W.INCLUSIVE W.REVERSED) (unsplit_in W.INCLUSIVE (Self.shows self.old) pred) self.old edit self.new }
     {
-        let len = self.place().len;
+        let len = self.window().len;
         let mut left = ToSplit::all::<W>(len);
         let mut number = 0;
         while let Some(range) = self.step::<W, P>(&mut left, &mut pred) {
@@ -111,9 +110,9 @@ pub trait EditSplits<T>: EditParts {
         pred: &mut P,
     ) -> Option<Range<usize>>
         requires inside { IsLeftOf (Self.shows self.now) left.old }
-        requires callable { MayGoOnIn P.FnMut (left_at (seen self.now) left.old pred.old) }
-        ensures piece { LimitedNextIn P.FnMut W.INCLUSIVE W.REVERSED (limited_at (seen self.now) left.old count.old pred.old) result (limited_at (seen self.now) left.new count.new pred.new) }
-        ensures callable { IfSome result (λ _. MayGoOnIn P.FnMut (left_at (seen self.now) left.new pred.new)) }
+        requires callable { MayGoOnIn P.FnMut (left_at (Self.shows self.now) left.old pred.old) }
+        ensures piece { LimitedNextIn P.FnMut W.INCLUSIVE W.REVERSED (limited_at (Self.shows self.now) left.old count.old pred.old) result (limited_at (Self.shows self.now) left.new count.new pred.new) }
+        ensures callable { IfSome result (λ _. MayGoOnIn P.FnMut (left_at (Self.shows self.now) left.new pred.new)) }
         ensures takes { IfSome result (λ piece. TakesFrom left.old piece left.new) }
     {
         let range = match *count {
@@ -133,12 +132,12 @@ pub trait EditSplits<T>: EditParts {
         P: FnMut(usize, &bool) -> bool,
         F: FnMut(usize, &mut Self),
     >(&mut self, mut count: usize, mut pred: P, mut edit: F)
-        requires callable { MayGoOnIn P.FnMut (unsplit_in W.INCLUSIVE (seen self.old) pred) }
-        requires edit { MayEditGiven Self.shows F.pre F.step (Self.shows self.old) }
-        ensures { EditsGiven Self.shows Self.writes F.step (LimitedNextIn P.FnMut W.INCLUSIVE W.REVERSED)
-            (record { left = unsplit_in W.INCLUSIVE (seen self.old) pred; count = count }) self.old edit self.new }
+        requires callable { MayGoOnIn P.FnMut (unsplit_in W.INCLUSIVE (Self.shows self.old) pred) }
+        requires edit { MayEditGiven Self.shows Self.named F.pre F.step (Self.shows self.old) }
+        ensures { EditsGiven Self.shows Self.named Self.writes F.step (LimitedNextIn P.FnMut W.INCLUSIVE W.REVERSED)
+            (record { left = unsplit_in W.INCLUSIVE (Self.shows self.old) pred; count = count }) self.old edit self.new }
     {
-        let len = self.place().len;
+        let len = self.window().len;
         let mut left = ToSplit::all::<W>(len);
         let mut number = 0;
         while let Some(range) = self.limited_step::<W, P>(&mut left, &mut count, &mut pred) {
@@ -161,9 +160,9 @@ pub trait EditSplits<T>: EditParts {
         pred: P,
         edit: F,
     )
-        requires callable { MayGoOnIn P.FnMut (unsplit_in false (seen self.old) pred) }
-        requires edit { MayEditGiven Self.shows F.pre F.step (Self.shows self.old) }
-        ensures { EditsGiven Self.shows Self.writes F.step (SplitNextIn P.FnMut false false) (unsplit_in false (seen self.old) pred) self.old edit self.new }
+        requires callable { MayGoOnIn P.FnMut (unsplit_in false (Self.shows self.old) pred) }
+        requires edit { MayEditGiven Self.shows Self.named F.pre F.step (Self.shows self.old) }
+        ensures { EditsGiven Self.shows Self.named Self.writes F.step (SplitNextIn P.FnMut false false) (unsplit_in false (Self.shows self.old) pred) self.old edit self.new }
     {
         self.for_each_piece_between::<Forward, P, F>(pred, edit)
     }
@@ -178,9 +177,9 @@ pub trait EditSplits<T>: EditParts {
         P: FnMut(usize, &bool) -> bool,
         F: FnMut(usize, &mut Self),
     >(&mut self, pred: P, edit: F)
-        requires callable { MayGoOnIn P.FnMut (unsplit_in true (seen self.old) pred) }
-        requires edit { MayEditGiven Self.shows F.pre F.step (Self.shows self.old) }
-        ensures { EditsGiven Self.shows Self.writes F.step (SplitNextIn P.FnMut true false) (unsplit_in true (seen self.old) pred) self.old edit self.new }
+        requires callable { MayGoOnIn P.FnMut (unsplit_in true (Self.shows self.old) pred) }
+        requires edit { MayEditGiven Self.shows Self.named F.pre F.step (Self.shows self.old) }
+        ensures { EditsGiven Self.shows Self.named Self.writes F.step (SplitNextIn P.FnMut true false) (unsplit_in true (Self.shows self.old) pred) self.old edit self.new }
     {
         self.for_each_piece_between::<Inclusive, P, F>(pred, edit)
     }
@@ -196,9 +195,9 @@ pub trait EditSplits<T>: EditParts {
         pred: P,
         edit: F,
     )
-        requires callable { MayGoOnIn P.FnMut (unsplit_in false (seen self.old) pred) }
-        requires edit { MayEditGiven Self.shows F.pre F.step (Self.shows self.old) }
-        ensures { EditsGiven Self.shows Self.writes F.step (SplitNextIn P.FnMut false true) (unsplit_in false (seen self.old) pred) self.old edit self.new }
+        requires callable { MayGoOnIn P.FnMut (unsplit_in false (Self.shows self.old) pred) }
+        requires edit { MayEditGiven Self.shows Self.named F.pre F.step (Self.shows self.old) }
+        ensures { EditsGiven Self.shows Self.named Self.writes F.step (SplitNextIn P.FnMut false true) (unsplit_in false (Self.shows self.old) pred) self.old edit self.new }
     {
         self.for_each_piece_between::<Reversed, P, F>(pred, edit)
     }
@@ -215,10 +214,10 @@ pub trait EditSplits<T>: EditParts {
         pred: P,
         edit: F,
     )
-        requires callable { MayGoOnIn P.FnMut (unsplit_in false (seen self.old) pred) }
-        requires edit { MayEditGiven Self.shows F.pre F.step (Self.shows self.old) }
-        ensures { EditsGiven Self.shows Self.writes F.step (LimitedNextIn P.FnMut false false)
-            (record { left = unsplit_in false (seen self.old) pred; count = count }) self.old edit self.new }
+        requires callable { MayGoOnIn P.FnMut (unsplit_in false (Self.shows self.old) pred) }
+        requires edit { MayEditGiven Self.shows Self.named F.pre F.step (Self.shows self.old) }
+        ensures { EditsGiven Self.shows Self.named Self.writes F.step (LimitedNextIn P.FnMut false false)
+            (record { left = unsplit_in false (Self.shows self.old) pred; count = count }) self.old edit self.new }
     {
         self.for_each_limited_piece::<Forward, P, F>(count, pred, edit)
     }
@@ -234,10 +233,10 @@ pub trait EditSplits<T>: EditParts {
         pred: P,
         edit: F,
     )
-        requires callable { MayGoOnIn P.FnMut (unsplit_in false (seen self.old) pred) }
-        requires edit { MayEditGiven Self.shows F.pre F.step (Self.shows self.old) }
-        ensures { EditsGiven Self.shows Self.writes F.step (LimitedNextIn P.FnMut false true)
-            (record { left = unsplit_in false (seen self.old) pred; count = count }) self.old edit self.new }
+        requires callable { MayGoOnIn P.FnMut (unsplit_in false (Self.shows self.old) pred) }
+        requires edit { MayEditGiven Self.shows Self.named F.pre F.step (Self.shows self.old) }
+        ensures { EditsGiven Self.shows Self.named Self.writes F.step (LimitedNextIn P.FnMut false true)
+            (record { left = unsplit_in false (Self.shows self.old) pred; count = count }) self.old edit self.new }
     {
         self.for_each_limited_piece::<Reversed, P, F>(count, pred, edit)
     }

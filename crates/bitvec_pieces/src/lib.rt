@@ -4,7 +4,6 @@
 
 mod edit_parts;
 mod edit_splits;
-mod inside;
 mod left;
 mod views;
 
@@ -19,7 +18,5 @@ pub mod split {
 
 pub use edit_parts::EditParts;
 pub use edit_splits::EditSplits;
-#[doc(hidden)]
-pub use inside::Inside;
 #[doc(hidden)]
 pub use left::ToSplit;

@@ -24,7 +24,7 @@ pub mod engine {
 pub mod slice {
     pub use bitvec_slice::{
         BitDomain, BitDomainParts, BitRef, BitSlice, BitSliceIndex, BitSliceMut, Domain, DomainMut,
-        Viewed, ViewedMut, from_mut, from_ref,
+        Shows, View, Viewed, ViewedMut, from_mut, from_ref,
     };
 }
 

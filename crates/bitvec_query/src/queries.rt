@@ -7,7 +7,6 @@ ghost use Rattle.bitvec_slice.specs.base.Lists.{first_place, is_prefix, is_suffi
 ghost use Rattle.bitvec_slice.specs.Views.{seen};
 
 use crate::runs::{before_first, behind_last};
-use bitvec_slice::BitSlice;
 use bitvec_slice::base::BitOrder;
 use bitvec_slice::elements::{
     all_in, any_in, compare_in, contains_in, count_in, ends_with_in, eq_in, first_in, last_in,
@@ -15,22 +14,13 @@ use bitvec_slice::elements::{
 };
 use bitvec_slice::engine::SliceOrder;
 use bitvec_slice::store::BitStore;
+use bitvec_slice::{BitSlice, View};
 use std::cmp::Ordering;
 
 /// The questions that `bitvec`'s `BitSlice` answers about its bits, for both view types. A needle,
 /// or what a view is compared with, may have any element type and order. Indices and counts are in
 /// bits.
-pub trait BitQueries<T: BitStore, O: SliceOrder> {
-    ghost use Rattle.bitvec_slice.specs.Seen.{Seen};
-
-    // What contracts see of the view.
-    ghost shows: { Self → Seen T };
-
-    /// A shared view of the same bits.
-    fn as_bitslice(&self) -> BitSlice<'_, T, O>
-        ensures view { seen result ≡ shows self.now }
-        ensures bits { (seen result).bits ≡ (shows self.now).bits };
-
+pub trait BitQueries<T: BitStore, O: SliceOrder>: View<T, O> {
     /// How many bits are 1.
     ///
     /// ```
@@ -38,8 +28,8 @@ pub trait BitQueries<T: BitStore, O: SliceOrder> {
     /// let view = BitSlice::<u32, Lsb0>::from_slice(&cells);
     /// assert!(rt; (view.count_ones(), view.count_zeros()) == (48, 48));
     /// ```
-    fn count_ones(&self) -> usize
-        ensures { result ≡ count_by (λ bit. bit) (shows self.now).bits }
+    final fn count_ones(&self) -> usize
+        ensures { result ≡ count_by (λ bit. bit) (Self.shows self.now).bits }
     {
         let view = self.as_bitslice();
         count_in::<T, O>(view.elements(), view.window())
@@ -52,8 +42,8 @@ pub trait BitQueries<T: BitStore, O: SliceOrder> {
     /// assert!(rt; (view.count_ones(), view.count_zeros()) == (48, 48));
     /// ```
     #[tactic(auto, using(bitvec_slice::specs::Cited::ones_and_zeros))]
-    fn count_zeros(&self) -> usize
-        ensures { result ≡ count_by not (shows self.now).bits }
+    final fn count_zeros(&self) -> usize
+        ensures { result ≡ count_by not (Self.shows self.now).bits }
     {
         self.as_bitslice().len() - self.count_ones()
     }
@@ -64,8 +54,8 @@ pub trait BitQueries<T: BitStore, O: SliceOrder> {
     /// let view = from_ref::<u32, Lsb0>(&0x8000_0000);
     /// assert!(rt; (view.len(), view.first_one()) == (32, Some(31)));
     /// ```
-    fn first_one(&self) -> Option<usize>
-        ensures { result ≡ first_place true (shows self.now).bits }
+    final fn first_one(&self) -> Option<usize>
+        ensures { result ≡ first_place true (Self.shows self.now).bits }
     {
         let view = self.as_bitslice();
         first_in::<T, O>(view.elements(), view.window(), true)
@@ -78,8 +68,8 @@ pub trait BitQueries<T: BitStore, O: SliceOrder> {
     /// seats.set(seat, true);
     /// Some(seat)
     /// ```
-    fn first_zero(&self) -> Option<usize>
-        ensures { result ≡ first_place false (shows self.now).bits }
+    final fn first_zero(&self) -> Option<usize>
+        ensures { result ≡ first_place false (Self.shows self.now).bits }
     {
         let view = self.as_bitslice();
         first_in::<T, O>(view.elements(), view.window(), false)
@@ -91,52 +81,52 @@ pub trait BitQueries<T: BitStore, O: SliceOrder> {
     /// let index = view.last_one()?;
     /// view.set(index, false);
     /// ```
-    fn last_one(&self) -> Option<usize>
-        ensures { result ≡ last_place true (shows self.now).bits }
+    final fn last_one(&self) -> Option<usize>
+        ensures { result ≡ last_place true (Self.shows self.now).bits }
     {
         let view = self.as_bitslice();
         last_in::<T, O>(view.elements(), view.window(), true)
     }
 
     /// The index of the last bit that is 0, if there is one.
-    fn last_zero(&self) -> Option<usize>
-        ensures { result ≡ last_place false (shows self.now).bits }
+    final fn last_zero(&self) -> Option<usize>
+        ensures { result ≡ last_place false (Self.shows self.now).bits }
     {
         let view = self.as_bitslice();
         last_in::<T, O>(view.elements(), view.window(), false)
     }
 
     /// How many bits at the start are 1.
-    fn leading_ones(&self) -> usize
-        ensures { result ≡ prefix_len (λ bit. bit) (shows self.now).bits }
+    final fn leading_ones(&self) -> usize
+        ensures { result ≡ prefix_len (λ bit. bit) (Self.shows self.now).bits }
     {
         before_first(self.as_bitslice(), false)
     }
 
     /// How many bits at the start are 0.
-    fn leading_zeros(&self) -> usize
-        ensures { result ≡ prefix_len not (shows self.now).bits }
+    final fn leading_zeros(&self) -> usize
+        ensures { result ≡ prefix_len not (Self.shows self.now).bits }
     {
         before_first(self.as_bitslice(), true)
     }
 
     /// How many bits at the end are 1.
-    fn trailing_ones(&self) -> usize
-        ensures { result ≡ suffix_len (λ bit. bit) (shows self.now).bits }
+    final fn trailing_ones(&self) -> usize
+        ensures { result ≡ suffix_len (λ bit. bit) (Self.shows self.now).bits }
     {
         behind_last(self.as_bitslice(), false)
     }
 
     /// How many bits at the end are 0.
-    fn trailing_zeros(&self) -> usize
-        ensures { result ≡ suffix_len not (shows self.now).bits }
+    final fn trailing_zeros(&self) -> usize
+        ensures { result ≡ suffix_len not (Self.shows self.now).bits }
     {
         behind_last(self.as_bitslice(), true)
     }
 
     /// Whether a bit is 1; none of an empty view's is.
-    fn any(&self) -> bool
-        ensures { result ≡ list_any (λ bit. bit) (shows self.now).bits }
+    final fn any(&self) -> bool
+        ensures { result ≡ list_any (λ bit. bit) (Self.shows self.now).bits }
     {
         let view = self.as_bitslice();
         any_in::<T, O>(view.elements(), view.window())
@@ -149,8 +139,8 @@ pub trait BitQueries<T: BitStore, O: SliceOrder> {
     /// let (left, right) = view.split_at(4);
     /// assert!(rt; left.not_any() && right.all());
     /// ```
-    fn all(&self) -> bool
-        ensures { result ≡ list_all (λ bit. bit) (shows self.now).bits }
+    final fn all(&self) -> bool
+        ensures { result ≡ list_all (λ bit. bit) (Self.shows self.now).bits }
     {
         let view = self.as_bitslice();
         all_in::<T, O>(view.elements(), view.window())
@@ -163,15 +153,15 @@ pub trait BitQueries<T: BitStore, O: SliceOrder> {
     /// let (left, right) = view.split_at(4);
     /// assert!(rt; left.not_any() && right.all());
     /// ```
-    fn not_any(&self) -> bool
-        ensures { result ≡ not (list_any (λ bit. bit) (shows self.now).bits) }
+    final fn not_any(&self) -> bool
+        ensures { result ≡ not (list_any (λ bit. bit) (Self.shows self.now).bits) }
     {
         !self.any()
     }
 
     /// Whether a bit is 0; none of an empty view's is.
-    fn not_all(&self) -> bool
-        ensures { result ≡ not (list_all (λ bit. bit) (shows self.now).bits) }
+    final fn not_all(&self) -> bool
+        ensures { result ≡ not (list_all (λ bit. bit) (Self.shows self.now).bits) }
     {
         !self.all()
     }
@@ -181,8 +171,8 @@ pub trait BitQueries<T: BitStore, O: SliceOrder> {
     /// ```
     /// bits.windows(2).filter(|pair| pair.some()).count()
     /// ```
-    fn some(&self) -> bool
-        ensures { result ≡ (list_any (λ bit. bit) (shows self.now).bits && not (list_all (λ bit. bit) (shows self.now).bits)) }
+    final fn some(&self) -> bool
+        ensures { result ≡ (list_any (λ bit. bit) (Self.shows self.now).bits && not (list_all (λ bit. bit) (Self.shows self.now).bits)) }
     {
         self.any() && self.not_all()
     }
@@ -193,8 +183,8 @@ pub trait BitQueries<T: BitStore, O: SliceOrder> {
     /// let view = BitSlice::<u8, Lsb0>::from_slice(&[0x21]);
     /// assert!(rt; view.eq_bits(BitSlice::<u8, Msb0>::from_slice(&[0x84])));
     /// ```
-    fn eq_bits<'b, U: BitStore, P: BitOrder>(&self, other: BitSlice<'b, U, P>) -> bool
-        ensures { result ≡ same_bits (shows self.now).bits (seen other.entry).bits }
+    final fn eq_bits<'b, U: BitStore, P: BitOrder>(&self, other: BitSlice<'b, U, P>) -> bool
+        ensures { result ≡ same_bits (Self.shows self.now).bits (seen other.entry).bits }
     {
         let view = self.as_bitslice();
         eq_in::<T, O, U, P>(
@@ -207,8 +197,8 @@ pub trait BitQueries<T: BitStore, O: SliceOrder> {
 
     /// How the bits compare with the other view's, as lists of truth values do: `partial_cmp` of
     /// `bitvec`, which always has an answer.
-    fn cmp_bits<'b, U: BitStore, P: BitOrder>(&self, other: BitSlice<'b, U, P>) -> Ordering
-        ensures { result ≡ slice_cmp bool_cmp (shows self.now).bits (seen other.entry).bits }
+    final fn cmp_bits<'b, U: BitStore, P: BitOrder>(&self, other: BitSlice<'b, U, P>) -> Ordering
+        ensures { result ≡ slice_cmp bool_cmp (Self.shows self.now).bits (seen other.entry).bits }
     {
         let view = self.as_bitslice();
         compare_in::<T, O, U, P>(
@@ -220,8 +210,8 @@ pub trait BitQueries<T: BitStore, O: SliceOrder> {
     }
 
     /// Whether the needle's bits begin these; those of an empty needle always do.
-    fn starts_with<'b, U: BitStore, P: BitOrder>(&self, needle: BitSlice<'b, U, P>) -> bool
-        ensures { result ≡ is_prefix (seen needle.entry).bits (shows self.now).bits }
+    final fn starts_with<'b, U: BitStore, P: BitOrder>(&self, needle: BitSlice<'b, U, P>) -> bool
+        ensures { result ≡ is_prefix (seen needle.entry).bits (Self.shows self.now).bits }
     {
         let view = self.as_bitslice();
         starts_with_in::<T, O, U, P>(
@@ -233,8 +223,8 @@ pub trait BitQueries<T: BitStore, O: SliceOrder> {
     }
 
     /// Whether the needle's bits end these; those of an empty needle always do.
-    fn ends_with<'b, U: BitStore, P: BitOrder>(&self, needle: BitSlice<'b, U, P>) -> bool
-        ensures { result ≡ is_suffix (seen needle.entry).bits (shows self.now).bits }
+    final fn ends_with<'b, U: BitStore, P: BitOrder>(&self, needle: BitSlice<'b, U, P>) -> bool
+        ensures { result ≡ is_suffix (seen needle.entry).bits (Self.shows self.now).bits }
     {
         let view = self.as_bitslice();
         ends_with_in::<T, O, U, P>(
@@ -247,8 +237,8 @@ pub trait BitQueries<T: BitStore, O: SliceOrder> {
 
     /// Whether the needle's bits stand in these, from some index on; those of an empty needle
     /// always do.
-    fn contains<'b, U: BitStore, P: BitOrder>(&self, needle: BitSlice<'b, U, P>) -> bool
-        ensures { result ≡ stands_in (seen needle.entry).bits (shows self.now).bits }
+    final fn contains<'b, U: BitStore, P: BitOrder>(&self, needle: BitSlice<'b, U, P>) -> bool
+        ensures { result ≡ stands_in (seen needle.entry).bits (Self.shows self.now).bits }
     {
         let view = self.as_bitslice();
         contains_in::<T, O, U, P>(

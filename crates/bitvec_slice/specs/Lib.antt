@@ -22,6 +22,7 @@ pub mod Lending
 pub mod ListingLaws
 pub mod Seen
 pub mod SeenLaws
+pub mod Showing
 pub mod Touched
 pub mod TouchedLaws
 pub mod Views

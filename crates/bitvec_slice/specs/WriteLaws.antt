@@ -48,6 +48,9 @@ module _ {T O : Type 0} {t : Store T} {o : Order O} where
       → cells ≡ (seen_mut v).elements → window ≡ (seen_mut v).window → made ≡ new → WritesBits v (with_elements v xs) new
   written v xs cells window made new writes same place is = writes_bits v xs new (rw (same, place, is) at writes)
 
+  pub has_written : (before after : BitSliceMut T O t o) (new : List Bool) → WritesBits before after new → (seen_mut after).bits ≡ new
+  has_written before after new wrote = wrote.bits
+
   -- a view of all bits of some elements, after they were written: its memory has the written bits, and no others
   pub whole-written : (first last : BitSliceMut T O t o) (cells : List T) (new : List Bool) → WritesBits first last new → IsWhole t.BITS o.at t.value cells (seen_mut first) → length new ≡ t.BITS * length cells → (seen_mut last).memory ≡ new
   whole-written first last cells new wrote whole long =

@@ -13,10 +13,11 @@ mod hashing;
 mod index;
 mod index_ranges;
 mod indices;
+mod inside;
 mod iter;
 mod iterating;
 mod operators;
-mod raw_elements;
+mod showing;
 mod split_apart;
 mod splits;
 mod strips;
@@ -26,6 +27,7 @@ mod transfers;
 mod view;
 mod view_mut;
 mod walk_texts;
+mod writing;
 
 /// What crates above name of `bitvec_base`.
 pub mod base {
@@ -130,12 +132,14 @@ pub use bitvec_elements::base::{BitSpanError, Window};
 pub use bitvec_elements::{BitRef, BitRefMut};
 pub use conversions::{from_mut, from_ref};
 pub use index::{BitSliceIndex, Viewed, ViewedMut};
-pub use iter::Iter;
 #[doc(hidden)]
-pub use raw_elements::RawElements;
+pub use inside::Inside;
+pub use iter::Iter;
+pub use showing::{Shows, View};
 #[doc(hidden)]
 pub use touching::touched_range;
 pub use view::BitSlice;
 pub use view_mut::BitSliceMut;
 #[doc(hidden)]
 pub use walk_texts::write_named;
+pub use writing::ViewMut;

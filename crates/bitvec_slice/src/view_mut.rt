@@ -4,7 +4,7 @@ ghost use Rattle.bitvec_elements.specs.base.Window.{max_bits};
 
 use crate::bit_domain::bit_domain_mut_of;
 use crate::touching::touched_range;
-use crate::{BitDomain, BitSlice, Domain, DomainMut};
+use crate::{BitDomain, BitSlice, Domain, DomainMut, Inside};
 use bitvec_domain::domain_mut_of;
 use bitvec_elements::base::{BitOrder, Window};
 use bitvec_elements::store::BitStore;
@@ -31,8 +31,8 @@ use std::ops::Range;
 /// outside the part: what an edit leaves says `WritesBits` of a view, `WritesBit` of a reference,
 /// `WritesPart` of a part of an element. Whole elements are given out by `domain_mut`, which covers
 /// them, and by `into_slice`, which asks for a view of all their bits. The other bits of the elements
-/// are reached by `RawElements` alone, a trait for the crates that the library is made of, which
-/// `bitvec` does not pass on.
+/// are reached by calls that ask for an `Inside` alone, which only the crates that the library is made of
+/// can make.
 #[derive(Drop)]
 pub struct BitSliceMut<'a, T: BitStore, O: BitOrder> {
     elements: &'a mut [T],
@@ -233,7 +233,7 @@ impl<'a, T: BitStore, O: BitOrder> BitSliceMut<'a, T, O> {
         }
     }
 
-    /// The elements, lent as `RawElements` lends them to crates above.
+    /// The elements, lent as [`crate::ViewMut`] lends them to crates above.
     pub(crate) fn elements_mut(&mut self) -> &mut [T]
         ensures* writes_back { sem 𝓛 (lends T.row O.row self.entry result.ghost_name) }
         ensures elements { result.now ≡ (seen_mut self.old).elements }
@@ -252,8 +252,10 @@ impl<'a, T: BitStore, O: BitOrder> BitSliceMut<'a, T, O> {
         &mut self.elements[start..end]
     }
 
-    /// Moves the view to a window of the elements that it keeps. Condition: the elements have the window.
-    pub(crate) fn stand_at(&mut self, window: Window)
+    /// Moves the view to a window of the elements that it keeps, for an edit of a part of it, which owes
+    /// that the view comes back. Condition: the elements have the window.
+    #[doc(hidden)]
+    pub fn stand_at(&mut self, window: Window, _by: Inside)
         requires { IsWithin window (T.BITS * length (seen_mut self.old).elements) }
         ensures window { (seen_mut self.new).window ≡ window }
         ensures elements { (seen_mut self.new).elements ≡ (seen_mut self.old).elements }

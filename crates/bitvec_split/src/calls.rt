@@ -5,7 +5,7 @@ ghost use Rattle.bitvec_split.specs.Splits.{unsplit};
 use crate::{LimitedSplitWalk, RSplit, RSplitN, Split, SplitInclusive, SplitN, SplitWalk};
 use bitvec_slice::base::BitOrder;
 use bitvec_slice::store::BitStore;
-use bitvec_slice::{BitSlice, BitSliceMut};
+use bitvec_slice::{BitSlice, BitSliceMut, Shows};
 
 /// Splits of a view by a predicate, for both view types: of a `BitSlice` they live as long as its
 /// elements, of a `&BitSliceMut` as long as that borrow. A predicate is asked with the index of a bit
@@ -14,9 +14,7 @@ use bitvec_slice::{BitSlice, BitSliceMut};
 /// What a predicate keeps goes from each asking to the next. The condition of each call of an iterator is
 /// that its predicate may be asked about the bits that are left, in any order and however often; one that
 /// may always be called may be asked.
-pub trait SplitCalls<T, P> {
-    ghost use Rattle.bitvec_slice.specs.Seen.{Seen};
-
+pub trait SplitCalls<T, P>: Shows<T> {
     /// What `split` makes.
     type Split: SplitWalk<T, P>;
 
@@ -32,9 +30,6 @@ pub trait SplitCalls<T, P> {
     /// What `rsplitn` makes.
     type RSplitN: LimitedSplitWalk<T, P>;
 
-    // What contracts see of the view.
-    ghost shows: { Self → Seen T };
-
     /// The pieces between the bits at which `pred` says yes, from both ends; no piece has such a bit.
     /// With no yes all that is left is the last piece, also an empty one.
     ///
@@ -44,7 +39,7 @@ pub trait SplitCalls<T, P> {
     /// assert!(rt; numbers(view.split(|_, bit| *bit)) == [0b1_0, 0b1_00, 0b1, 0]);
     /// ```
     fn split(self, pred: P) -> Self::Split
-        ensures { Self.Split.left result ≡ unsplit false (shows self) pred };
+        ensures { Self.Split.left result ≡ unsplit false (Self.shows self) pred };
 
     /// The same pieces, each with the bit behind it. No empty piece follows a yes at the last bit, and a
     /// call from the back doesn't ask about the last bit. An empty view has no piece, as std's slices have none,
@@ -55,11 +50,11 @@ pub trait SplitCalls<T, P> {
     /// assert!(rt; numbers(pieces) == [0b1_01, 0b1_001, 0, 0]);
     /// ```
     fn split_inclusive(self, pred: P) -> Self::SplitInclusive
-        ensures { Self.SplitInclusive.left result ≡ unsplit true (shows self) pred };
+        ensures { Self.SplitInclusive.left result ≡ unsplit true (Self.shows self) pred };
 
     /// The pieces of `split` from the last to the first: `split` with its ends exchanged.
     fn rsplit(self, pred: P) -> Self::RSplit
-        ensures { Self.RSplit.left result ≡ unsplit false (shows self) pred };
+        ensures { Self.RSplit.left result ≡ unsplit false (Self.shows self) pred };
 
     /// The first pieces of `split`, `count` at most. The last of so many is all that is left, without
     /// asking; with `count` 0 there is none.
@@ -69,17 +64,15 @@ pub trait SplitCalls<T, P> {
     /// assert!(rt; view.splitn(0, |_, bit| *bit).size_hint() == (0, Some(0)));
     /// ```
     fn splitn(self, count: usize, pred: P) -> Self::SplitN
-        ensures { Self.SplitN.limited result ≡ record { left = unsplit false (shows self) pred; count = count } };
+        ensures { Self.SplitN.limited result ≡ record { left = unsplit false (Self.shows self) pred; count = count } };
 
     /// The first pieces of `rsplit`, `count` at most, as for `splitn`.
     fn rsplitn(self, count: usize, pred: P) -> Self::RSplitN
-        ensures { Self.RSplitN.limited result ≡ record { left = unsplit false (shows self) pred; count = count } };
+        ensures { Self.RSplitN.limited result ≡ record { left = unsplit false (Self.shows self) pred; count = count } };
 }
 
 impl<'a, T: BitStore, O: BitOrder, P: FnMut(usize, &bool) -> bool> SplitCalls<T, P>
     for BitSlice<'a, T, O> {
-    ghost use Rattle.bitvec_slice.specs.Views.{seen};
-
     type Split = Split<'a, T, O, P>;
 
     type SplitInclusive = SplitInclusive<'a, T, O, P>;
@@ -89,8 +82,6 @@ impl<'a, T: BitStore, O: BitOrder, P: FnMut(usize, &bool) -> bool> SplitCalls<T,
     type SplitN = SplitN<'a, T, O, P>;
 
     type RSplitN = RSplitN<'a, T, O, P>;
-
-    ghost shows = { seen };
 
     fn split(self, pred: P) -> Split<'a, T, O, P> {
         Split::new(self, pred)
@@ -115,8 +106,6 @@ impl<'a, T: BitStore, O: BitOrder, P: FnMut(usize, &bool) -> bool> SplitCalls<T,
 
 impl<'a, 'v, T: BitStore, O: BitOrder, P: FnMut(usize, &bool) -> bool> SplitCalls<T, P>
     for &'v BitSliceMut<'a, T, O> {
-    ghost use Rattle.bitvec_slice.specs.Views.{seen_mut};
-
     type Split = Split<'v, T, O, P>;
 
     type SplitInclusive = SplitInclusive<'v, T, O, P>;
@@ -126,8 +115,6 @@ impl<'a, 'v, T: BitStore, O: BitOrder, P: FnMut(usize, &bool) -> bool> SplitCall
     type SplitN = SplitN<'v, T, O, P>;
 
     type RSplitN = RSplitN<'v, T, O, P>;
-
-    ghost shows = { λ view. seen_mut view.now };
 
     fn split(self, pred: P) -> Split<'v, T, O, P> {
         self.as_ref().split(pred)

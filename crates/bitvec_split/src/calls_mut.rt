@@ -1,24 +1,17 @@
 //! Writable views are split, and lent.
-ghost use Rattle.std.specs.Prelude.{◌≡◌, List, false, true};
+ghost use Rattle.std.specs.Prelude.{◌≡◌, false, true};
 ghost use Rattle.std.specs.Borrow.{Array, follows, sem};
 ghost use Rattle.bitvec_split.specs.Lent.{unsplit_in};
 
 use crate::{RSplitMut, RSplitNMut, SplitInclusiveMut, SplitMut, SplitNMut, SplitsMut, SplitsNMut};
-use bitvec_slice::BitSliceMut;
 use bitvec_slice::base::BitOrder;
 use bitvec_slice::store::BitStore;
+use bitvec_slice::{BitSliceMut, ViewMut};
 
 /// Splits of a writable view by a predicate, whose pieces are lent one at a time. The view is lent for as
 /// long as the split is; afterwards a caller knows its window and its number of elements.
-pub trait SplitCallsMut<T: BitStore, O: BitOrder> {
-    ghost use Rattle.bitvec_slice.specs.Seen.{Seen};
+pub trait SplitCallsMut<T: BitStore, O: BitOrder>: ViewMut<T, O> {
     ghost use Rattle.bitvec_split.specs.LentViews.{left_in, limited_in, name_of_limited, name_of_splits};
-
-    // What contracts see of the view.
-    ghost shows: { Self → Seen T };
-
-    // The view as before, but for its elements, which are these, cut or filled up to as many.
-    ghost with_elements: { Self → List T → Self };
 
     /// The pieces between the bits at which `pred` says yes, from both ends; no piece has such a bit.
     ///
@@ -27,8 +20,8 @@ pub trait SplitCallsMut<T: BitStore, O: BitOrder> {
     /// let mut pieces = view.split_mut(|_, bit| *bit);
     /// ```
     fn split_mut<P: FnMut(usize, &bool) -> bool>(&mut self, pred: P) -> SplitMut<'_, T, O, P>
-        ensures* writes_back { sem 𝓛 (follows Self.row (Array T.row 0) self.entry.ghost_name (name_of_splits result) (with_elements self.old)) }
-        ensures left { left_in result ≡ unsplit_in false (shows self.old) pred };
+        ensures* writes_back { sem 𝓛 (follows Self.row (Array T.row 0) self.entry.ghost_name (name_of_splits result) (Self.with_elements self.old)) }
+        ensures left { left_in result ≡ unsplit_in false (Self.shows self.old) pred };
 
     /// The same pieces, each with the bit behind it. An empty view has none, as std's slices have, where the
     /// crate gives one.
@@ -40,8 +33,8 @@ pub trait SplitCallsMut<T: BitStore, O: BitOrder> {
         &mut self,
         pred: P,
     ) -> SplitInclusiveMut<'_, T, O, P>
-        ensures* writes_back { sem 𝓛 (follows Self.row (Array T.row 0) self.entry.ghost_name (name_of_splits result) (with_elements self.old)) }
-        ensures left { left_in result ≡ unsplit_in true (shows self.old) pred };
+        ensures* writes_back { sem 𝓛 (follows Self.row (Array T.row 0) self.entry.ghost_name (name_of_splits result) (Self.with_elements self.old)) }
+        ensures left { left_in result ≡ unsplit_in true (Self.shows self.old) pred };
 
     /// The pieces of `split_mut` from the last to the first.
     ///
@@ -49,8 +42,8 @@ pub trait SplitCallsMut<T: BitStore, O: BitOrder> {
     /// let mut pieces = view.rsplit_mut(|_, bit| *bit);
     /// ```
     fn rsplit_mut<P: FnMut(usize, &bool) -> bool>(&mut self, pred: P) -> RSplitMut<'_, T, O, P>
-        ensures* writes_back { sem 𝓛 (follows Self.row (Array T.row 0) self.entry.ghost_name (name_of_splits result) (with_elements self.old)) }
-        ensures left { left_in result ≡ unsplit_in false (shows self.old) pred };
+        ensures* writes_back { sem 𝓛 (follows Self.row (Array T.row 0) self.entry.ghost_name (name_of_splits result) (Self.with_elements self.old)) }
+        ensures left { left_in result ≡ unsplit_in false (Self.shows self.old) pred };
 
     /// The first pieces of `split_mut`, `count` at most: the last of so many is all that is left, without
     /// asking.
@@ -63,8 +56,8 @@ pub trait SplitCallsMut<T: BitStore, O: BitOrder> {
         count: usize,
         pred: P,
     ) -> SplitNMut<'_, T, O, P>
-        ensures* writes_back { sem 𝓛 (follows Self.row (Array T.row 0) self.entry.ghost_name (name_of_limited result) (with_elements self.old)) }
-        ensures left { limited_in result ≡ record { left = unsplit_in false (shows self.old) pred; count = count } };
+        ensures* writes_back { sem 𝓛 (follows Self.row (Array T.row 0) self.entry.ghost_name (name_of_limited result) (Self.with_elements self.old)) }
+        ensures left { limited_in result ≡ record { left = unsplit_in false (Self.shows self.old) pred; count = count } };
 
     /// The first pieces of `rsplit_mut`, `count` at most, as for `splitn_mut`.
     ///
@@ -77,18 +70,11 @@ pub trait SplitCallsMut<T: BitStore, O: BitOrder> {
         count: usize,
         pred: P,
     ) -> RSplitNMut<'_, T, O, P>
-        ensures* writes_back { sem 𝓛 (follows Self.row (Array T.row 0) self.entry.ghost_name (name_of_limited result) (with_elements self.old)) }
-        ensures left { limited_in result ≡ record { left = unsplit_in false (shows self.old) pred; count = count } };
+        ensures* writes_back { sem 𝓛 (follows Self.row (Array T.row 0) self.entry.ghost_name (name_of_limited result) (Self.with_elements self.old)) }
+        ensures left { limited_in result ≡ record { left = unsplit_in false (Self.shows self.old) pred; count = count } };
 }
 
 impl<'a, T: BitStore, O: BitOrder> SplitCallsMut<T, O> for BitSliceMut<'a, T, O> {
-    ghost use Rattle.bitvec_slice.specs.Lending.{with_elements};
-    ghost use Rattle.bitvec_slice.specs.Views.{seen_mut};
-
-    ghost shows = { seen_mut };
-
-    ghost with_elements = { with_elements };
-
     fn split_mut<P: FnMut(usize, &bool) -> bool>(&mut self, pred: P) -> SplitMut<'_, T, O, P> {
         SplitsMut::new(self, pred)
     }

@@ -6,7 +6,7 @@ use crate::course::{Course, look};
 use crate::{Forward, Inclusive, Reversed, Way};
 use bitvec_slice::base::{BitOrder, Window};
 use bitvec_slice::store::BitStore;
-use bitvec_slice::{BitSlice, BitSliceMut, RawElements, touched_range};
+use bitvec_slice::{BitSlice, BitSliceMut, Inside, ViewMut, touched_range};
 use std::marker::PhantomData;
 use std::ops::Range;
 
@@ -62,7 +62,7 @@ impl<'a, T: BitStore, O: BitOrder, P: FnMut(usize, &bool) -> bool, W: Way> Split
         ensures left { left_in result ≡ unsplit_in W.INCLUSIVE (seen_mut bits.old) pred }
     {
         let window = bits.window();
-        SplitsMut::from_parts(bits.elements_mut(), window, pred)
+        SplitsMut::from_parts(bits.elements_mut(Inside), window, pred)
     }
 
     fn from_parts(elements: &'a mut [T], window: Window, pred: P) -> Self

@@ -6,7 +6,7 @@ use crate::course::{Course, look};
 use crate::{Forward, Reversed, Way};
 use bitvec_slice::base::{BitOrder, Window};
 use bitvec_slice::store::BitStore;
-use bitvec_slice::{BitSlice, BitSliceMut, RawElements, touched_range};
+use bitvec_slice::{BitSlice, BitSliceMut, Inside, ViewMut, touched_range};
 use std::marker::PhantomData;
 use std::ops::Range;
 
@@ -59,7 +59,7 @@ impl<'a, T: BitStore, O: BitOrder, P: FnMut(usize, &bool) -> bool, W: Way> Split
         ensures left { limited_in result ≡ record { left = unsplit_in W.INCLUSIVE (seen_mut bits.old) pred; count = count } }
     {
         let window = bits.window();
-        SplitsNMut::from_parts(bits.elements_mut(), window, count, pred)
+        SplitsNMut::from_parts(bits.elements_mut(Inside), window, count, pred)
     }
 
     fn from_parts(elements: &'a mut [T], window: Window, count: usize, pred: P) -> Self

@@ -2,7 +2,8 @@ use Rattle.std.proofs.Common.{◌≡◌, ◌∙◌, length, sym}
 use Rattle.bitvec_edit.specs.store.WidthLaws.{width_some}
 use Rattle.bitvec_edit.specs.slice.SeenLaws.{length_bits}
 use Rattle.bitvec_edit.specs.slice.Views.{seen}
-use Rattle.bitvec_owned.proofs.Held.{held, refilled, same_length}
+use Rattle.bitvec_owned.proofs.Held.{held}
+use Rattle.bitvec_owned.specs.WritesLaws.{refilled, same_length}
 use Rattle.bitvec_owned.proofs.copying.copy_of.Goals as goal
 
 pub returns-clause-copy : goal.returns-clause-copy

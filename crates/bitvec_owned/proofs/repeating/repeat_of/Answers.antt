@@ -7,7 +7,8 @@ use Rattle.bitvec_edit.specs.base.Window.{max_bits}
 use Rattle.bitvec_edit.specs.base.WriteLaws.{write_at-nil}
 use Rattle.bitvec_edit.specs.store.WidthLaws.{width_some}
 use Rattle.bitvec_edit.specs.slice.Views.{seen}
-use Rattle.bitvec_owned.proofs.Held.{held, refilled}
+use Rattle.bitvec_owned.proofs.Held.{held}
+use Rattle.bitvec_owned.specs.WritesLaws.{refilled}
 use Rattle.bitvec_owned.proofs.Repeats.{length-repeated, repeat-none}
 use Rattle.bitvec_owned.proofs.repeating.repeat_of.Goals as goal
 

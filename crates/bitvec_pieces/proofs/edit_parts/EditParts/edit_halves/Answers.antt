@@ -1,21 +1,23 @@
-use Rattle.bitvec_pieces.specs.ShownLaws.{behind-is, halves-written}
+use Rattle.bitvec_pieces.specs.InPlaceLaws.{behind-is, halves-written}
 use Rattle.bitvec_pieces.proofs.edit_parts.EditParts.edit_halves.Goals as goal
 
 pub edit_shown-behind-requires-clause-edit : goal.edit_shown-behind-requires-clause-edit
 edit_shown-behind-requires-clause-edit g c =
+    let sound = g.met.Self.View.shows_elements in
     let first = c.edit_shown-before.ensures in
     let stays = c.requires.left.in_place _ _ _ first.is first.edited in
-    rw c.place-len.ensures (record {
-      accepts = λ p is. c.requires.right.accepts p (behind-is c.requires.bound first.is stays first.written is);
-      in_place = λ p q r is. c.requires.right.in_place p q r (behind-is c.requires.bound first.is stays first.written is);
+    rw c.window-len.ensures.value (record {
+      accepts = λ p is. c.requires.right.accepts p (behind-is sound c.requires.bound first.is stays first.written is);
+      in_place = λ p q r is. c.requires.right.in_place p q r (behind-is sound c.requires.bound first.is stays first.written is);
     })
 
 pub returns : goal.returns
 returns g c =
+    let sound = g.met.Self.View.shows_elements in
     let first = c.edit_shown-before.ensures in
-    let second = rw c.place-len.ensures at c.edit_shown-behind.ensures in
+    let second = rw c.window-len.ensures.value at c.edit_shown-behind.ensures in
     let stays = c.requires.left.in_place _ _ _ first.is first.edited in
-    let behind = behind-is c.requires.bound first.is stays first.written second.is in
+    let behind = behind-is sound c.requires.bound first.is stays first.written second.is in
     record {
       first = first.piece;
       first_left = first.left;
@@ -25,5 +27,5 @@ returns g c =
       first_edited = first.edited;
       second_is = behind;
       second_edited = second.edited;
-      written = g.met.Self.EditParts.written _ _ _ (halves-written c.requires.bound first.is stays first.written behind (c.requires.right.in_place _ _ _ behind second.edited) second.written);
+      written = g.met.Self.EditParts.written_so _ _ _ (halves-written sound c.requires.bound first.is stays first.written behind (c.requires.right.in_place _ _ _ behind second.edited) second.written);
     }

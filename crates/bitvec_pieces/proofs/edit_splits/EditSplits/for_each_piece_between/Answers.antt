@@ -1,33 +1,33 @@
 use Rattle.std.proofs.Common.{Some, [], refl}
-use Rattle.bitvec_pieces.specs.ShownLaws.{may-return, returned}
+use Rattle.bitvec_pieces.specs.InPlaceLaws.{may-return, returned}
 use Rattle.bitvec_pieces.specs.ToSplit.{left_at}
 use Rattle.bitvec_pieces.specs.SplitEdits.{Editing}
-use Rattle.bitvec_pieces.specs.TurnsLaws.{given-piece, piece-given, piece-lies, seen-same, step-on, turns-next}
+use Rattle.bitvec_pieces.specs.TurnsLaws.{given-piece, piece-given, piece-lies, step-on, turns-next}
 use Rattle.bitvec_pieces.proofs.edit_splits.EditSplits.for_each_piece_between.Goals as goal
 
 pub edit-requires : goal.edit-requires
-edit-requires g c = (c.requires.edit _ _).accepts _ (given-piece c.loop-range.invariant.turns c.in-Some.ensures.takes c.narrow-window.ensures)
+edit-requires g c = (c.requires.edit _ _).accepts _ (given-piece g.met.Self.View.shows_elements c.loop-range.invariant.turns c.in-Some.ensures.takes c.narrow-window.ensures)
 
 pub stand_at-requires : goal.stand_at-requires
 stand_at-requires g c =
+    let sound = g.met.Self.View.shows_elements in
     let far = c.loop-range.invariant.turns in
     let takes = c.in-Some.ensures.takes in
     let narrowed = c.narrow-window.ensures in
-    may-return (piece-lies far takes) narrowed ((c.requires.edit _ _).in_place _ _ _ (given-piece far takes narrowed) (_, c.edit.ensures))
+    may-return sound (piece-lies sound far takes) narrowed ((c.requires.edit _ _).in_place _ _ _ (given-piece sound far takes narrowed) (_, c.edit.ensures))
 
 pub loop-range-preserved : goal.loop-range-preserved
 loop-range-preserved g c =
+    let sound = g.met.Self.View.shows_elements in
     let far = c.loop-range.invariant.turns in
     let takes = c.in-Some.ensures.takes in
     let narrowed = c.narrow-window.ensures in
-    let is = given-piece far takes narrowed in
+    let is = given-piece sound far takes narrowed in
     let kept = (c.requires.edit _ _).in_place _ _ _ is (_, c.edit.ensures) in
     let left = c.loop-range.left in
-    let shown = g.met.Self.EditSplits.shown in
-    let same = seen-same left.from left.to (shown c.loop-range.self) (shown c.args.self.now) far.rest in
-    let gave = step-on g.P.FnMut g.W.Way.INCLUSIVE g.W.Way.REVERSED _ (g.Self.EditSplits.seen c.args.self.now) left c.step.new.left c.loop-range.pred c.step.new.pred (Some c.in-Some.range) same c.in-Some.ensures.piece in
+    let gave = step-on g.P.FnMut g.W.Way.INCLUSIVE g.W.Way.REVERSED _ (g.Self.Shows.shows c.args.self.now) left c.step.new.left c.loop-range.pred c.step.new.pred (Some c.in-Some.range) far.rest c.in-Some.ensures.piece in
     record {
-      turns = turns-next far takes gave (piece-given far takes narrowed) c.edit.ensures kept (returned (piece-lies far takes) narrowed kept c.stand_at.ensures);
+      turns = turns-next sound far takes gave (piece-given sound far takes narrowed) c.edit.ensures kept (returned sound (piece-lies sound far takes) narrowed kept c.stand_at.ensures);
       callable = c.in-Some.ensures.callable;
     }
 
@@ -35,17 +35,15 @@ pub returns : goal.returns
 returns g c =
     let far = c.loop-range.invariant.turns in
     let left = c.loop-range.left in
-    let view = g.Self.EditSplits.seen c.args.self.now in
-    let shown = g.met.Self.EditSplits.shown in
-    let same = seen-same left.from left.to (shown c.loop-range.self) (shown c.args.self.now) far.rest in
+    let view = g.Self.Shows.shows c.args.self.now in
     let none = rw c.in_default.is at c.step.ensures.piece in
     let last = left_at view left c.loop-range.pred in
-    let ended : Editing _ = record { bits = (g.Self.EditParts.shows c.loop-range.self).bits; edit = c.loop-range.edit; number = c.loop-range.number } in
+    let ended : Editing _ = record { bits = (g.Self.Shows.shows c.loop-range.self).bits; edit = c.loop-range.edit; number = c.loop-range.number } in
     let (all, gives, edits) = far.ends [] last ended refl refl in
     record {
       pieces = all;
       gives = record { last = last; gives = gives; ends = (none.0, refl) };
       edits = record { last = ended; edits = edits; bits = refl };
       stays = far.stays;
-      written = g.met.Self.EditParts.written _ _ _ (record { bits = refl; stays = far.stays });
+      written = g.met.Self.EditParts.written_so _ _ _ (record { bits = refl; stays = far.stays });
     }

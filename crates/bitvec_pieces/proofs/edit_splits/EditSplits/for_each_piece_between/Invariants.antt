@@ -5,11 +5,11 @@ use Rattle.bitvec_pieces.proofs.edit_splits.EditSplits.for_each_piece_between.Gi
 
 abbrev pub invariant-loop-range : goal.invariant-loop-range
 invariant-loop-range g l =
-    let shows = g.Self.EditParts.shows in
-    let view = g.Self.EditSplits.seen l.fn.self in
+    let shows = g.Self.Shows.shows in
+    let view = shows l.fn.self in
     record {
-      turns : TurnsSoFar shows (goal.F-step g) (shows l.fn.self) (SplitNextIn g.P.FnMut g.W.Way.INCLUSIVE g.W.Way.REVERSED) (unsplit_in g.W.Way.INCLUSIVE view l.fn.pred) l.fn.edit
-          (left_at view l.left l.pred) l.left (shows l.self) l.edit l.number;
+      turns : TurnsSoFar shows g.Self.EditParts.named (goal.F-step g) l.fn.self (SplitNextIn g.P.FnMut g.W.Way.INCLUSIVE g.W.Way.REVERSED) (unsplit_in g.W.Way.INCLUSIVE view l.fn.pred) l.fn.edit
+          (left_at view l.left l.pred) l.left l.self l.edit l.number;
       callable : MayGoOnIn g.P.FnMut (left_at view l.left l.pred);
     }
 

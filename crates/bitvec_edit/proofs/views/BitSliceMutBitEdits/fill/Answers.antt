@@ -1,6 +1,0 @@
-use Rattle.std.proofs.Common.{rules}
-use Rattle.bitvec_slice.specs.WriteLaws.{written}
-use Rattle.bitvec_edit.proofs.views.BitSliceMutBitEdits.fill.Goals as goal
-
-pub returns : goal.returns
-returns g c = written _ _ _ _ _ _ c.fill_in.ensures.writes c.elements_mut.ensures.elements c.window-window.ensures.value (search rules)

@@ -1,0 +1,100 @@
+-- What an owned sequence shows, and what it is after its elements were written in its window.
+use Rattle.std.specs.Prelude.{◌≡◌, ℕ, ◌+◌, ◌*◌, ◌<◌, ◌≤◌, Bool, false, List, ◌++◌, drop, length, map, replicate, take, refl}
+use Rattle.std.specs.Int.{div_ceil}
+use Rattle.std.proofs.Common.{arith, sym, subst, ◌∙◌, ap}
+use Rattle.std.proofs.lemmas.Grind.{div_ceil_times}
+use Rattle.std.proofs.lemmas.List.{length-map, length-replicate, take_at}
+use Rattle.bitvec_edit.specs.base.Memory.{Writes, memory_bits}
+use Rattle.bitvec_edit.specs.base.Window.{max_bits, window_of, write_at}
+use Rattle.bitvec_edit.specs.base.WindowLaws.{window-written}
+use Rattle.bitvec_edit.specs.base.WriteLaws.{drop-write_at, take-write_at, write_at-over}
+use Rattle.bitvec_edit.specs.base.declared.order.BitOrder.{Ghosts as Order}
+use Rattle.bitvec_edit.specs.base.declared.window.Window.{Window}
+use Rattle.bitvec_edit.specs.slice.Seen.{Seen, outside_of, shown}
+use Rattle.bitvec_edit.specs.slice.SeenLaws.{within_memory}
+use Rattle.bitvec_edit.specs.slice.Showing.{ShowsElements, shows_elements}
+use Rattle.bitvec_edit.specs.store.declared.store.BitStore.{Ghosts as Store}
+use Rattle.bitvec_owned.specs.Copies.{Holds}
+use Rattle.bitvec_owned.specs.Lending.{with_elements}
+use Rattle.bitvec_owned.specs.Owned.{owned}
+use Rattle.bitvec_owned.specs.Writes.{WritesOwned}
+use Rattle.bitvec_owned.specs.declared.bit_vec.BitVec.{BitVec}
+
+-- lists as long as each other, seen through their numbers; and a list put in the place of one as long
+pub same_length : {X Y : Type 0} (f : X → Y) (xs ys : List X) → length (map f xs) ≡ length (map f ys) → length xs ≡ length ys
+same_length f xs ys same = let first = length-map xs f in let second = length-map ys f in omega arith
+
+pub refilled : {X : Type 0} (xs old : List X) (n : ℕ) → length xs ≡ n → take n (xs ++ drop (length xs) old) ≡ xs
+refilled xs old n long = take_at xs (drop (length xs) old) n long
+
+module _ {T : Type 0} (b : ℕ) (at : ℕ → ℕ → ℕ) (value : T → ℕ) (old new : List T) (start len : ℕ) (list : List Bool) (inside : start + len ≤ b * length old)
+    (wrote : Writes b at (map value old) (map value new) (shown b at value old start len).window list) where
+  many : length new ≡ length old
+  many = same_length value new old wrote.elements
+
+  bits-written : (shown b at value new start len).bits ≡ list
+  bits-written =
+      let within = within_memory b at value old start len inside in
+      ap (λ (m : List Bool). window_of m (shown b at value old start len).window) wrote.bits
+      ∙ window-written (memory_bits b at (map value old)) (shown b at value old start len).window list within wrote.long
+
+  outside-kept : outside_of (shown b at value new start len) ≡ outside_of (shown b at value old start len)
+  unfolding outside_of
+  outside-kept =
+      let within = within_memory b at value old start len inside in
+      let first = within.start in
+      let m = memory_bits b at (map value old) in
+      let after = memory_bits b at (map value new) in
+      let front : take start after ≡ take start m = ap (λ (l : List Bool). take start l) wrote.bits ∙ take-write_at m start list first in
+      let behind : drop (start + len) after ≡ drop (start + len) m =
+      ap (λ (l : List Bool). drop (start + len) l) wrote.bits ∙ ap (λ (n : ℕ). drop (start + n) (write_at m start list)) (sym wrote.long) ∙ drop-write_at m start list first
+      ∙ ap (λ (n : ℕ). drop (start + n) m) wrote.long in
+      ap (λ (l : List Bool). (l, drop (start + len) after)) front ∙ ap (λ (l : List Bool). (take start m, l)) behind
+
+  -- a list was there with zeros around it: so it is of what was written
+  holds-then : (held : List Bool) (from : ℕ) → Holds b held from (shown b at value old start len) → Holds b list from (shown b at value new start len)
+  holds-then held from holds =
+      let zeros = replicate (b * length old) false in
+      let places = length-replicate {A = Bool} (b * length old) false in
+      let long : length held ≡ length list = sym holds.len ∙ sym wrote.long in
+      record {
+        bits = bits-written;
+        start = holds.start;
+        len = sym wrote.long;
+        count = many ∙ holds.count ∙ ap (λ (n : ℕ). div_ceil (from + n) b) long;
+        memory = wrote.bits ∙ ap (λ (l : List Bool). write_at l start list) holds.memory ∙ ap (λ (s : ℕ). write_at (write_at zeros from held) s list) holds.start
+            ∙ write_at-over zeros from held list long (rw (sym holds.start, wrote.long, places) inside)
+            ∙ ap (λ (n : ℕ). write_at (replicate (b * n) false) from list) (sym many);
+      }
+
+module _ {T O A : Type 0} {t : Store T} {o : Order O} (some : 0 < t.BITS) (v : BitVec T O A t o) where
+  inside : v.head + v.len ≤ t.BITS * length v.elements.items
+  inside =
+      let rounded = div_ceil_times (v.head + v.len) t.BITS some in
+      let touched = v.touched in
+      rw (sym v.elements.ok.0, touched) (omega arith)
+
+  pub sequence_elements : ShowsElements t.BITS o.at t.value (owned v)
+  sequence_elements =
+      shows_elements t.BITS o.at t.value v.elements.items v.head v.len inside (subst (λ (n : ℕ). t.BITS * n ≤ max_bits) v.elements.ok.0 v.bounded)
+
+  -- what was written is told by a slice and a window that are the sequence's
+  pub sequence_written : (now cells : List T) (window : Window) (made new : List Bool) → Writes t.BITS o.at (map t.value cells) (map t.value now) window made
+      → cells ≡ (owned v).elements → window ≡ (owned v).window → made ≡ new → WritesOwned v (with_elements v now) new
+  sequence_written now cells window made new writes same place is =
+      let old = v.elements.items in
+      let wrote : Writes t.BITS o.at (map t.value old) (map t.value now) (owned v).window new = rw (same, place, is) at writes in
+      let count = many t.BITS o.at t.value old now v.head v.len new inside wrote in
+      let left : owned (with_elements v now) ≡ shown t.BITS o.at t.value now v.head v.len =
+      ap (λ (xs : List T). shown t.BITS o.at t.value xs v.head v.len) (refilled now old v.elements.len (count ∙ sym v.elements.ok.0)) in
+      record {
+        bits = ap (λ (s : Seen T). s.bits) left ∙ bits-written t.BITS o.at t.value old now v.head v.len new inside wrote;
+        outside = ap (λ (s : Seen T). outside_of s) left ∙ outside-kept t.BITS o.at t.value old now v.head v.len new inside wrote;
+        memory = ap (λ (s : Seen T). s.memory) left ∙ wrote.bits;
+        window = refl;
+        length = ap (λ (s : Seen T). length s.elements) left ∙ count;
+        holds = λ list from held. subst (Holds t.BITS new from) (sym left) (holds-then t.BITS o.at t.value old now v.head v.len new inside wrote list from held);
+      }
+
+pub has_written : {T O A : Type 0} {t : Store T} {o : Order O} (before after : BitVec T O A t o) (new : List Bool) → WritesOwned before after new → (owned after).bits ≡ new
+has_written before after new wrote = wrote.bits

@@ -1,0 +1,26 @@
+-- A writable view that stays in its place, or is moved to another.
+use Rattle.std.specs.Prelude.{◌≡◌, Bool, List, length}
+use Rattle.std.specs.Borrow.{GName}
+use Rattle.bitvec_split.specs.base.declared.window.Window.{Window}
+use Rattle.bitvec_split.specs.slice.Seen.{Seen, outside_of}
+
+-- what a view shows, and which memory it borrows
+module _ {V T : Type 0} (shows : V → Seen T) (named : V → GName) where
+  -- the view stands at another window of the same elements
+  pub record StandsAt (before : V) (place : Window) (after : V) : Type 0 where
+    pub window : (shows after).window ≡ place
+    pub memory : (shows after).memory ≡ (shows before).memory
+    pub elements : length (shows after).elements ≡ length (shows before).elements
+    pub name : named after ≡ named before
+
+  -- the bits outside, the window and the memory that is borrowed are as before
+  pub record StaysInPlace (before after : V) : Type 0 where
+    pub outside : outside_of (shows after) ≡ outside_of (shows before)
+    pub window : (shows after).window ≡ (shows before).window
+    pub elements : length (shows after).elements ≡ length (shows before).elements
+    pub name : named after ≡ named before
+
+  -- so they are, and the view's bits are `new`
+  pub record WritesInPlace (before after : V) (new : List Bool) : Type 0 where
+    pub bits : (shows after).bits ≡ new
+    pub stays : StaysInPlace before after

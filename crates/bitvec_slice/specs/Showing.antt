@@ -1,0 +1,16 @@
+-- What whatever shows bits shows.
+use Rattle.std.specs.Prelude.{◌≡◌, ℕ, ◌+◌, ◌*◌, ◌≤◌, List, length, map, refl}
+use Rattle.bitvec_elements.specs.base.Memory.{HasWindow, list_in, memory_bits}
+use Rattle.bitvec_elements.specs.base.Window.{max_bits}
+use Rattle.bitvec_slice.specs.Seen.{Seen, shown}
+use Rattle.bitvec_slice.specs.SeenLaws.{has_window}
+
+module _ {T : Type 0} (b : ℕ) (at : ℕ → ℕ → ℕ) (value : T → ℕ) where
+  -- its memory is that of its elements, which has its window, and its bits are those there
+  pub record ShowsElements (view : Seen T) : Type 0 where
+    pub bits : view.bits ≡ list_in b at (map value view.elements) view.window
+    pub memory : view.memory ≡ memory_bits b at (map value view.elements)
+    pub has : HasWindow b (map value view.elements) view.window
+
+  pub shows_elements : (cells : List T) (start len : ℕ) → start + len ≤ b * length cells → b * length cells ≤ max_bits → ShowsElements (shown b at value cells start len)
+  shows_elements cells start len inside bounded = record { bits = refl; memory = refl; has = has_window b at value cells start len inside bounded }

@@ -1,0 +1,50 @@
+//! What writes bits.
+ghost use Rattle.std.specs.Prelude.{◌≡◌, Bool, List, map};
+ghost use Rattle.std.specs.Borrow.{Array, follows, sem};
+ghost use Rattle.bitvec_elements.specs.base.Memory.{Writes};
+ghost use Rattle.bitvec_elements.specs.base.declared.window.Window.{Window};
+ghost use Rattle.bitvec_slice.specs.Lending.{with_elements};
+ghost use Rattle.bitvec_slice.specs.WriteLaws.{has_written, written};
+ghost use Rattle.bitvec_slice.specs.Writes.{WritesBits};
+
+use crate::{BitSliceMut, Inside, View};
+use bitvec_elements::base::BitOrder;
+use bitvec_elements::store::BitStore;
+
+/// What writes bits: writable views, and owned sequences.
+pub trait ViewMut<T: BitStore, O: BitOrder>: View<T, O> {
+    // Holds of it before and after a call that gave it these bits and left all others.
+    ghost writes: { Self → Self → List Bool → Type 0 };
+
+    // The same as before, but for its elements, which are these, cut or filled up to as many.
+    ghost with_elements: { Self → List T → Self };
+
+    /// The elements, also their bits outside these, for the crates that the library is made of, which alone
+    /// have an `Inside` to call it with: whoever calls it owes that those bits stay, which `writes` says of
+    /// an edit. Once the slice has ended, the elements are what was left in it.
+    #[doc(hidden)]
+    fn elements_mut(&mut self, by: Inside) -> &mut [T]
+        ensures* writes_back { sem 𝓛 (follows Self.row (Array T.row 0) self.entry.ghost_name result.ghost_name (with_elements self.old)) }
+        ensures elements { result.now ≡ (Self.shows self.old).elements };
+
+    // Where its elements were written in its window, its bits were. What was written is told by a slice and a window that are its own.
+    ghost written: { (before : Self) (now cells : List T) (window : Window) (made new : List Bool) → Writes T.BITS O.at (map T.value cells) (map T.value now) window made
+        → cells ≡ (Self.shows before).elements → window ≡ (Self.shows before).window → made ≡ new → writes before (with_elements before now) new };
+
+    // The bits that were written are there.
+    ghost has_written: { (before after : Self) (new : List Bool) → writes before after new → (Self.shows after).bits ≡ new };
+}
+
+impl<'a, T: BitStore, O: BitOrder> ViewMut<T, O> for BitSliceMut<'a, T, O> {
+    ghost writes = { WritesBits };
+
+    ghost with_elements = { with_elements };
+
+    ghost written = { written };
+
+    ghost has_written = { has_written };
+
+    fn elements_mut(&mut self, _by: Inside) -> &mut [T] {
+        BitSliceMut::elements_mut(self)
+    }
+}
