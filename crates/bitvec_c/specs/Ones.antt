@@ -1,5 +1,5 @@
 -- The indices of the ones of a window, in turn.
-use Rattle.std.specs.Prelude.{◌≡◌, ◌≢◌, ℕ, ◌+◌, Bool, true, List, ◌++◌, drop, length, map, min, nat_le, take}
+use Rattle.std.specs.Prelude.{◌≡◌, ◌≢◌, ℕ, ◌+◌, Bool, true, List, ◌++◌, drop, length, map, min, take}
 use Rattle.bitvec_checked.specs.Calls.{Under}
 use Rattle.bitvec_checked.specs.Statuses.{end_status, or_next, window_status}
 use Rattle.bitvec_checked.specs.commands.base.declared.window.Window.{Window}

@@ -6,10 +6,9 @@ ghost use Rattle.bitvec_c.specs.Ones.{Lists, ones_from};
 
 use bitvec_checked::store::BitStore;
 use bitvec_checked::{DONE, LSB0, end_status, or_next, window_status};
-use bitvec_ones::OnesCalls;
 use bitvec_ones::base::{Lsb0, Msb0, Window};
 use bitvec_ones::engine::SliceOrder;
-use bitvec_ones::slice::BitSlice;
+use bitvec_ones::write_places;
 
 /// The indices, from `from` on, of the bits of a window that are 1, ascending, as many as there are
 /// places for, and how many these are.
@@ -51,17 +50,5 @@ fn ones_in<T: BitStore, O: SliceOrder>(
     ensures found { result ≡ min (length (ones_from from (list_in T.BITS O.at (map T.value elements.now) window))) (length indices.old) }
     ensures indices { indices.new ≡ take result (ones_from from (list_in T.BITS O.at (map T.value elements.now) window)) ++ drop result indices.old }
 {
-    let first = window.start + from;
-    let end = window.start + window.len;
-    let view = BitSlice::<T, O>::from_slice(elements).into_part(first..end);
-    let mut walk = view.iter_ones();
-    let mut count = 0;
-    while count < indices.len() {
-        let Some(index) = walk.next() else {
-            return count;
-        };
-        indices[count] = from + index;
-        count += 1;
-    }
-    count
+    write_places::<T, O>(elements, window, true, from, indices)
 }

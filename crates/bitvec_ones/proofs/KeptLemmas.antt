@@ -1,9 +1,11 @@
 -- What is kept: what is loaded, and after each turn what it leaves.
-use Rattle.std.specs.Prelude.{◌≡◌, ◌≢◌, ℕ, ◌+◌, ◌-◌, ◌^◌, ◌<◌, ◌≤◌, min, Bool, true, false, List, [], ◌∷◌, slice_index_or, bit_and}
+use Rattle.std.specs.Prelude.{◌≡◌, ◌≢◌, ℕ, ◌+◌, ◌-◌, ◌^◌, ◌<◌, ◌≤◌, zero, suc, min, Bool, true, false, List, [], ◌∷◌, ◌++◌, length, map, slice_index_or, bit_and}
+use mathlib.Core.List.{append-nil}
 use Rattle.std.specs.Int.{bit_at, trailing_zeros, w64}
 use Rattle.std.proofs.Common.{arith, sym, ◌∙◌, ap, ⊎_elim}
-use Rattle.std.proofs.lemmas.Bool.{cases_lt}
+use Rattle.std.proofs.lemmas.Bool.{cases_eq, cases_lt}
 use Rattle.std.proofs.lemmas.List.{places}
+use Rattle.std.proofs.lemmas.Nat.{and_le_l}
 use Rattle.std.proofs.lemmas.Nat.Bits.{bit_at-trailing_zeros, bit_at-zero}
 use Rattle.bitvec_query.specs.base.declared.window.Window.{Window}
 use Rattle.bitvec_query.specs.base.FoundLaws.{bit-set, set-bit}
@@ -14,12 +16,14 @@ use Rattle.bitvec_query.specs.base.WritesLaws.{HasWindow-range, within-list}
 use Rattle.bitvec_query.specs.engine.Front.{IsFront}
 use Rattle.bitvec_ones.specs.declared.rest.Rest.{Rest}
 use Rattle.bitvec_ones.specs.Places.{places_in}
-use Rattle.bitvec_ones.specs.PlacesLaws.{places-next, places-none}
+use Rattle.bitvec_ones.specs.PlacesLaws.{places-join, places-next, places-none}
 use Rattle.bitvec_query.specs.walk.Sought.{Shows}
 use Rattle.bitvec_query.specs.words.Field.{padded}
 use Rattle.bitvec_ones.specs.Kept.{Keeps}
 use Rattle.bitvec_ones.specs.declared.kept.Kept.{Kept}
+use Rattle.bitvec_ones.specs.WordOnes.{word_ones}
 use Rattle.bitvec_ones.proofs.LowestLemmas.{lowest-cleared, lowest-others}
+use Rattle.bitvec_ones.proofs.OnesLemmas.{ones-lowest, ones-none}
 
 -- ---- a loaded word
 
@@ -159,3 +163,56 @@ module _ (want : Bool) (list : List Bool) (rest : Rest) (kept : Kept) (keeps : K
       let from = keeps.inside i below was in
       (was, omega arith, omega arith))
       (λ i below set low high. set-bit 64 (λ b i. i) m i below (shows.has i (omega arith) (omega arith) (bit-set 64 (λ b i. i) kept.ones i below set)))
+
+-- ---- a whole word
+
+ended_word : (want : Bool) (list : List Bool) (rest : Rest) (kept : Kept) → Keeps want list rest kept → rest.back ≤ kept.edge → kept.ones ≡ 0 → places_in want list rest.front rest.back ≡ map (λ place. kept.base + place) (word_ones kept.ones)
+ended_word want list rest kept keeps past none =
+    none-left want list rest kept keeps none past ∙ ap (map (λ place. kept.base + place)) (sym (ones-none kept.ones none))
+
+-- one that has the rest up to its end has all of its places, of which there are at most n
+word_places : (n : ℕ) (want : Bool) (list : List Bool) (rest : Rest) (kept : Kept) → Keeps want list rest kept → rest.back ≤ kept.edge → kept.ones < 2 ^ 64 → length (word_ones kept.ones) ≤ n → places_in want list rest.front rest.back ≡ map (λ place. kept.base + place) (word_ones kept.ones)
+word_places zero want list rest kept keeps past fits few =
+    ⊎_elim (λ (none : kept.ones ≡ 0). ended_word want list rest kept keeps past none)
+    (λ (some : kept.ones ≢ 0). let long = ap length (ones-lowest kept.ones some fits) in absurd (omega arith)) (cases_eq kept.ones 0)
+word_places (suc n) want list rest kept keeps past fits few =
+    ⊎_elim (λ (none : kept.ones ≡ 0). ended_word want list rest kept keeps past none)
+    (λ (some : kept.ones ≢ 0).
+    let lowest = ones-lowest kept.ones some fits in
+    let long = ap length lowest in
+    let less = and_le_l kept.ones (kept.ones - 1) in
+    found-taken want list rest kept keeps some fits
+    ∙ ap (λ (l : List ℕ). (kept.base + trailing_zeros w64 kept.ones) ∷ l)
+    (word_places n want list (record { front = kept.base + trailing_zeros w64 kept.ones + 1; back = rest.back }) (record kept { ones = bit_and kept.ones (kept.ones - 1) }) (kept-taken want list rest kept keeps some fits) past (omega arith) (omega arith))
+    ∙ ap (map (λ place. kept.base + place)) (sym lowest))
+    (cases_eq kept.ones 0)
+
+module _ (want : Bool) (list : List Bool) (rest : Rest) (kept : Kept) (keeps : Keeps want list rest kept) where
+  -- the places of the rest up to the word's end
+  pub kept-places : kept.ones < 2 ^ 64 → kept.edge ≤ rest.back → places_in want list rest.front kept.edge ≡ map (λ place. kept.base + place) (word_ones kept.ones)
+  kept-places fits within =
+      let order = keeps.order in
+      let cut = kept-part want list rest kept keeps (record { front = rest.front; back = kept.edge }) kept.ones (omega arith) order within
+      (λ i below set. let at = keeps.inside i below set in (set, at.0, at.2)) (λ i below set low high. set) in
+      word_places (length (word_ones kept.ones)) want list (record { front = rest.front; back = kept.edge }) kept cut (omega arith) fits (omega arith)
+
+  -- and of a word of ones the first stands in the rest
+  pub base-below : kept.ones ≢ 0 → kept.ones < 2 ^ 64 → kept.base < rest.back
+  base-below some fits = let at = found-inside want list rest kept keeps some fits in let below = at.1 in omega arith
+
+  module _ (fits : kept.ones < 2 ^ 64) (within : kept.edge ≤ rest.back) (from : ℕ) (low : from ≤ rest.front) where
+    -- the places from one before the rest on
+    pub kept-joined : places_in want list from kept.edge ≡ places_in want list from rest.front ++ map (λ place. kept.base + place) (word_ones kept.ones)
+    kept-joined = places-join want list from rest.front kept.edge low keeps.order ∙ ap (λ (l : List ℕ). places_in want list from rest.front ++ l) (kept-places fits within)
+
+    pub kept-none : kept.ones ≡ 0 → places_in want list from kept.edge ≡ places_in want list from rest.front
+    kept-none none =
+        kept-joined ∙ ap (λ (l : List ℕ). places_in want list from rest.front ++ map (λ place. kept.base + place) l) (ones-none kept.ones none) ∙ append-nil (places_in want list from rest.front)
+
+    -- and all of them
+    pub kept-rest : places_in want list from rest.back ≡ places_in want list from rest.front ++ (map (λ place. kept.base + place) (word_ones kept.ones) ++ places_in want list kept.edge rest.back)
+    kept-rest =
+        let order = keeps.order in
+        places-join want list from rest.front rest.back low (omega arith)
+        ∙ ap (λ (l : List ℕ). places_in want list from rest.front ++ l)
+        (places-join want list rest.front kept.edge rest.back order within ∙ ap (λ (l : List ℕ). l ++ places_in want list kept.edge rest.back) (kept-places fits within))

@@ -1,4 +1,6 @@
 mod KeptLemmas
 mod LowestLemmas
+mod OnesLemmas
 mod PushedLemmas
 mod TakingLemmas
+mod WrittenLemmas

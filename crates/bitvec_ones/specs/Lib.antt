@@ -10,3 +10,4 @@ pub mod Places
 pub mod PlacesLaws
 pub mod Turns
 pub mod TurnsLaws
+pub mod WordOnes

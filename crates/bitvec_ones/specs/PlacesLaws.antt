@@ -28,7 +28,7 @@ places-join wanted list a m e low high =
     let start : a + (m - a) ≡ m = omega arith in
     rw (sum, range_with_len-add a (m - a) (e - m), start) (filter-append (λ (i : ℕ). beq (slice_index_or list i false) wanted) (range_with_len a (m - a)) (range_with_len m (e - m)))
 
-filter-none : (p : ℕ → Bool) (a n : ℕ) → ((k : ℕ) → k < n → p (a + k) ≡ false) → filter p (range_with_len a n) ≡ []
+pub filter-none : (p : ℕ → Bool) (a n : ℕ) → ((k : ℕ) → k < n → p (a + k) ≡ false) → filter p (range_with_len a n) ≡ []
 filter-none p a zero lacks = refl
 filter-none p a (suc n) lacks =
     let here : p a ≡ false = let same : a + 0 ≡ a = omega arith in ap p (sym same) ∙ lacks 0 (omega arith) in

@@ -12,6 +12,7 @@ mod texts;
 mod turns;
 mod views;
 mod wanted;
+mod writing;
 
 /// What crates above name of `bitvec_base`.
 pub mod base {
@@ -50,3 +51,4 @@ pub use rest::Rest;
 pub use taking::{count_left, take_first, take_last};
 pub use turns::{End, scan_turns};
 pub use wanted::{Ones, Wanted, Zeros};
+pub use writing::write_places;
