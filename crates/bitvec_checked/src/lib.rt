@@ -21,8 +21,6 @@ mod needles;
 mod numbers;
 mod scanning;
 mod status;
-#[cfg(test)]
-mod tests;
 mod transfers;
 
 /// What crates above name of `bitvec_base`.

@@ -1,0 +1,50 @@
+//! A run: what each step replies, and what its window holds afterwards.
+use bitvec_checked_run::checked::{DONE, MSB0};
+use bitvec_checked_run::{OP, ROOM, RawReply, RawStep, run};
+
+fn step(op: u32, to: usize, first: usize, second: usize) -> RawStep {
+    RawStep {
+        from: 0,
+        to,
+        first,
+        second,
+        third: 0,
+        op,
+        bit: 1,
+    }
+}
+
+/// A reply that no step gives.
+const NOTHING: RawReply = RawReply {
+    low: 7,
+    high: 7,
+    kind: 7,
+    status: 7,
+};
+
+/// Whether a reply has this kind, these low bits and this status.
+fn says(reply: RawReply, kind: u32, low: u64, status: u32) -> bool {
+    reply.kind == kind && reply.low == low && reply.status == status
+}
+
+#[test]
+fn a_run_replies_to_each_step(rt: HostRuntime) {
+    let mut bytes = [0x12u8, 0x34, 0x56];
+    let mut replies = [NOTHING; 3];
+    // the bit 0, bits past the window, the right bits 0 to 17 copied there
+    let steps = [step(0, 18, 0, 0), step(5, 19, 0, 0), step(12, 18, 0, 18)];
+    let right = [0xF8, 0x00, 0x0A];
+    assert!(rt; run(MSB0, &mut bytes, 3, 18, &right, &steps, &mut replies) == DONE);
+    assert!(rt; bytes == [0x1F, 0x00, 0x06]);
+    let [first, second, third] = replies;
+    assert!(rt; says(first, 1, 1, DONE) && says(second, 6, 0, 1) && says(third, 0, 0, DONE));
+}
+
+#[test]
+fn steps_without_operation_or_room_are_refused(rt: HostRuntime) {
+    let mut bytes = [0x12u8, 0x34, 0x56];
+    let steps = [step(33, 0, 0, 0)];
+    assert!(rt; run(MSB0, &mut bytes, 3, 18, &[], &steps, &mut [NOTHING]) == OP);
+    let steps = [step(0, 18, 0, 0)];
+    assert!(rt; run(MSB0, &mut bytes, 3, 18, &[], &steps, &mut []) == ROOM);
+}
