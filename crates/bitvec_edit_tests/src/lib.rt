@@ -38,3 +38,5 @@ mod turns;
 mod walked;
 #[cfg(test)]
 mod walks;
+#[cfg(test)]
+mod written;
