@@ -1,16 +1,32 @@
 //! What the program prints, and the status that it ends with.
 use crate::work::work;
-use std::alloc::{AllocError, Global};
+use std::alloc::Global;
 use std::io::{self, ErrorKind, Write};
-use std::test::Fail;
 
-/// The words of a text, cut at each space.
-fn words(alloc: Global, text: &str) -> Result<Vec<String>, AllocError> {
+/// Adds a word to a list. The answer is whether there was memory.
+fn add_word(alloc: Global, words: &mut Vec<String>, word: &str) -> bool {
+    match String::from_str(alloc, word) {
+        Ok(word) => words.push(word).is_ok(),
+        Err(_) => false,
+    }
+}
+
+/// The words of a text, cut at each space, as far as there is memory.
+fn words(alloc: Global, text: &str) -> Vec<String> {
     let mut words = Vec::new(alloc);
     for word in text.split(' ') {
-        words.push(String::from_str(alloc, word)?)?;
+        if !add_word(alloc, &mut words, word) {
+            return words;
+        }
     }
-    Ok(words)
+    words
+}
+
+/// Whether this is printed on a request, with that status.
+fn answers(alloc: Global, request: &str, status: u8, printed: &str) -> bool {
+    let args = words(alloc, request);
+    let mut output = Vec::new(alloc);
+    work(alloc, args.as_slice(), &mut output) == status && output.as_slice() == printed.as_bytes()
 }
 
 /// A writer that has room for so many bytes, and fails once it is full.
@@ -34,7 +50,7 @@ impl Write for Room {
 
 // 4, 25, 168 and 1229 primes are below 10, 100, 1000 and 10000.
 #[test]
-fn each_request_is_answered(rt: HostRuntime) -> Result<(), Fail> {
+fn each_request_is_answered(rt: HostRuntime) {
     for (request, status, printed) in [
         ("count 0", 0, "0\n"),
         ("count 1", 0, "0\n"),
@@ -61,17 +77,21 @@ fn each_request_is_answered(rt: HostRuntime) -> Result<(), Fail> {
         ("picture 20 6 6", 2, "bad arguments\n"),
         ("primes 20", 2, "bad arguments\n"),
     ] {
-        let args = words(rt.alloc(), request)?;
-        let mut output = Vec::new(rt.alloc());
-        let got = work(rt.alloc(), args.as_slice(), &mut output);
-        assert!(rt; output.as_slice() == printed.as_bytes(), "of {request:?}");
-        assert!(rt; got == status, "of {request:?}");
+        assert!(rt;
+            answers(rt.alloc(), request, status, printed),
+            "of {request:?}"
+        );
     }
-    Ok(())
+}
+
+/// The status of a request whose output has room for so many bytes.
+fn status_of(alloc: Global, request: &str, room: usize) -> u8 {
+    let args = words(alloc, request);
+    work(alloc, args.as_slice(), &mut Room(room))
 }
 
 #[test]
-fn an_output_that_is_full_is_told_by_the_status(rt: HostRuntime) -> Result<(), Fail> {
+fn an_output_that_is_full_is_told_by_the_status(rt: HostRuntime) {
     for (request, length, status) in [
         ("count 100", 3, 0),
         ("list 10", 8, 0),
@@ -79,13 +99,15 @@ fn an_output_that_is_full_is_told_by_the_status(rt: HostRuntime) -> Result<(), F
         ("count", 14, 2),
         ("count 18446744073709551615", 14, 3),
     ] {
-        let args = words(rt.alloc(), request)?;
         for room in 0..length {
-            let got = work(rt.alloc(), args.as_slice(), &mut Room(room));
-            assert!(rt; got == 1, "of {request:?} with room for {room}");
+            assert!(rt;
+                status_of(rt.alloc(), request, room) == 1,
+                "of {request:?} with room for {room}"
+            );
         }
-        let got = work(rt.alloc(), args.as_slice(), &mut Room(length));
-        assert!(rt; got == status, "of {request:?}");
+        assert!(rt;
+            status_of(rt.alloc(), request, length) == status,
+            "of {request:?}"
+        );
     }
-    Ok(())
 }
