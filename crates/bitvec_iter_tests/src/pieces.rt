@@ -17,25 +17,37 @@ enum Call {
 /// How many bits a piece has, and the number that they write.
 type Read = Option<(usize, u32)>;
 
-/// What four calls give; none if anything comes at ten more calls from either end, or is left.
-fn take_four<C: Cutting>(
-    mut pieces: Pieces<'_, u8, Msb0, C>,
-    calls: [Call; 4],
-) -> Option<[Read; 4]> {
-    let mut given = [None; 4];
-    for (piece, call) in given.iter_mut().zip(calls) {
-        *piece = read(match call {
-            Call::Next => pieces.next(),
-            Call::Back => pieces.next_back(),
-            Call::Nth(skipped) => pieces.nth(skipped),
-            Call::NthBack(skipped) => pieces.nth_back(skipped),
-        });
+/// What a call gives.
+fn read_next<C: Cutting>(pieces: &mut Pieces<'_, u8, Msb0, C>, call: Call) -> Read {
+    match call {
+        Call::Next => read(pieces.next()),
+        Call::Back => read(pieces.next_back()),
+        Call::Nth(skipped) => read(pieces.nth(skipped)),
+        Call::NthBack(skipped) => read(pieces.nth_back(skipped)),
     }
+}
+
+/// Whether nothing is left, and nothing comes at ten more calls from either end.
+fn has_ended<C: Cutting>(pieces: &mut Pieces<'_, u8, Msb0, C>) -> bool {
     let mut ended = pieces.len() == 0;
     for _ in 0..10 {
         ended &= pieces.next().is_none() && pieces.next_back().is_none();
     }
-    if ended { Some(given) } else { None }
+    ended
+}
+
+/// Whether four calls give these, and then the walk has ended.
+fn gives_four<C: Cutting>(
+    mut pieces: Pieces<'_, u8, Msb0, C>,
+    calls: [Call; 4],
+    wanted: [Read; 4],
+) -> bool {
+    for (call, piece) in calls.into_iter().zip(wanted) {
+        if read_next(&mut pieces, call) != piece {
+            return false;
+        }
+    }
+    has_ended(&mut pieces)
 }
 
 /// How the bits are cut: the windows are of the first five.
@@ -48,15 +60,15 @@ enum Kind {
     Windows,
 }
 
-/// What four calls give of the pieces of three bits.
-fn given(kind: Kind, calls: [Call; 4]) -> Option<[Read; 4]> {
+/// Whether four calls give these of the pieces of three bits, which then end.
+fn gives(kind: Kind, calls: [Call; 4], wanted: [Read; 4]) -> bool {
     let view = BitSlice::<u8, Msb0>::from_slice(&[0x17]);
     match kind {
-        Kind::Chunks => take_four(view.chunks(3), calls),
-        Kind::ExactChunks => take_four(view.chunks_exact(3), calls),
-        Kind::BackChunks => take_four(view.rchunks(3), calls),
-        Kind::ExactBackChunks => take_four(view.rchunks_exact(3), calls),
-        Kind::Windows => take_four(view.into_part(0..5).windows(3), calls),
+        Kind::Chunks => gives_four(view.chunks(3), calls, wanted),
+        Kind::ExactChunks => gives_four(view.chunks_exact(3), calls, wanted),
+        Kind::BackChunks => gives_four(view.rchunks(3), calls, wanted),
+        Kind::ExactBackChunks => gives_four(view.rchunks_exact(3), calls, wanted),
+        Kind::Windows => gives_four(view.into_part(0..5).windows(3), calls, wanted),
     }
 }
 
@@ -117,7 +129,7 @@ fn pieces_from_both_ends(rt: HostRuntime) {
         (Kind::ExactBackChunks, FAR, [None; 4]),
         (Kind::Windows, FAR, [None; 4]),
     ] {
-        assert!(rt; given(kind, calls) == Some(wanted), "{kind:?}");
+        assert!(rt; gives(kind, calls, wanted), "{kind:?}");
     }
 }
 
@@ -131,7 +143,7 @@ fn a_clone_walks_alone(rt: HostRuntime) {
     match chunks.clone() {
         Ok(copy) => {
             let wanted = [Some((3, 5)), Some((2, 3)), None, None];
-            assert!(rt; take_four(copy, FORWARD) == Some(wanted));
+            assert!(rt; gives_four(copy, FORWARD, wanted));
         }
         Err(_) => assert!(rt; false),
     }

@@ -3,25 +3,42 @@ use crate::arguments::{Arguments, Request};
 use crate::fault::Fault;
 use crate::places::Change;
 use crate::work::{change_map, show_map};
-use std::alloc::{AllocError, Global};
+use std::alloc::Global;
 use std::io::{self, ErrorKind, Read, Write};
-use std::process::Abort;
-use std::test::Fail;
 
 /// A map of 24 places, of which 0, 1, 3 to 6 and 15 to 19 are taken.
 const MAP: [u8; 3] = [0b0111_1011, 0b1000_0000, 0b0000_1111];
 
-/// The words of a text, cut at each space.
-fn words(alloc: Global, text: &str) -> Result<Vec<String>, AllocError> {
+/// Adds a word to a list. The answer is whether there was memory.
+fn add_word(alloc: Global, words: &mut Vec<String>, word: &str) -> bool {
+    match String::from_str(alloc, word) {
+        Ok(word) => words.push(word).is_ok(),
+        Err(_) => false,
+    }
+}
+
+/// The words of a text, cut at each space, as far as there is memory.
+fn words(alloc: Global, text: &str) -> Vec<String> {
     let mut words = Vec::new(alloc);
     for word in text.split(' ') {
-        words.push(String::from_str(alloc, word)?)?;
+        if !add_word(alloc, &mut words, word) {
+            return words;
+        }
     }
-    Ok(words)
+    words
+}
+
+/// What a text asks for, if it is a request.
+fn request_of(alloc: Global, text: &str) -> Option<Request> {
+    let words = words(alloc, text);
+    match Arguments::parse(words.as_slice()) {
+        Some(arguments) => Some(arguments.request),
+        None => None,
+    }
 }
 
 #[test]
-fn words_are_a_request_or_none(rt: HostRuntime) -> Result<(), Fail> {
+fn words_are_a_request_or_none(rt: HostRuntime) {
     for (text, request) in [
         ("map show", Some(Request::Show)),
         ("map take 3", Some(Request::Change(Change::Take(3)))),
@@ -42,30 +59,25 @@ fn words_are_a_request_or_none(rt: HostRuntime) -> Result<(), Fail> {
         ("map Show", None),
         ("map", None),
     ] {
-        let words = words(rt.alloc(), text)?;
-        let arguments = Arguments::parse(words.as_slice());
-        assert!(rt;
-            arguments.map(|arguments| arguments.request) == request,
-            "{text}"
-        );
+        assert!(rt; request_of(rt.alloc(), text) == request, "{text}");
     }
-    Ok(())
 }
 
-/// Asserts what a change of a map answers, and which map it writes; none, where it is refused.
-fn expect<R: Abort + AllocGlobal>(
-    rt: &R,
+/// Whether a change of a map answers that range or that fault, and writes that map; none, where it is refused.
+fn changes(
+    alloc: Global,
     map: &[u8],
     change: &Change,
     outcome: Result<(usize, usize), Fault>,
     written: &[u8],
-) {
+) -> bool {
     let mut old = map;
-    let mut new = Vec::new(rt.alloc());
-    let changed = change_map(rt.alloc(), change, &mut old, &mut new);
-    let changed = changed.map(|range| (range.start, range.end));
-    assert!(rt; changed == outcome, "{change:?} of {map:?}");
-    assert!(rt; new.as_slice() == written, "{change:?} of {map:?}");
+    let mut new = Vec::new(alloc);
+    let changed = match change_map(alloc, change, &mut old, &mut new) {
+        Ok(range) => Ok((range.start, range.end)),
+        Err(fault) => Err(fault),
+    };
+    changed == outcome && new.as_slice() == written
 }
 
 #[test]
@@ -101,7 +113,11 @@ fn the_first_free_places_are_taken(rt: HostRuntime) {
         (&[0xFF, 0b0000_1111], 4, Ok((12, 16)), &[0xFF, 0xFF]),
         (&[0xFF, 0b0000_1111], 5, Err(Fault::Full), &[]),
     ] {
-        expect(&rt, map, &Change::Take(count), outcome, written);
+        let change = Change::Take(count);
+        assert!(rt;
+            changes(rt.alloc(), map, &change, outcome, written),
+            "{count} of {map:?}"
+        );
     }
 }
 
@@ -114,17 +130,16 @@ fn taken_places_are_given_back(rt: HostRuntime) {
         (2, 2, &MAP),
         (24, 24, &MAP),
     ] {
-        expect(
-            &rt,
-            &MAP,
-            &Change::Give(start..end),
-            Ok((start, end)),
-            written,
+        let change = Change::Give(start..end);
+        assert!(rt;
+            changes(rt.alloc(), &MAP, &change, Ok((start, end)), written),
+            "{start} {end}"
         );
-        let again = Change::Give(start..end);
-        if start < end {
-            expect(&rt, written, &again, Err(Fault::NotTaken), &[]);
-        }
+        let refused = Err(Fault::NotTaken);
+        assert!(rt;
+            start == end || changes(rt.alloc(), written, &change, refused, &[]),
+            "{start} {end}, again"
+        );
     }
     for (start, end) in [
         (2, 3),
@@ -136,12 +151,11 @@ fn taken_places_are_given_back(rt: HostRuntime) {
         (25, 25),
         (5, 3),
     ] {
-        expect(
-            &rt,
-            &MAP,
-            &Change::Give(start..end),
-            Err(Fault::NotTaken),
-            &[],
+        let change = Change::Give(start..end);
+        let refused = Err(Fault::NotTaken);
+        assert!(rt;
+            changes(rt.alloc(), &MAP, &change, refused, &[]),
+            "{start} {end}"
         );
     }
 }
