@@ -181,7 +181,7 @@ pub trait BitEdits<T: BitStore, O: SliceOrder>: ViewMut<T, O> {
     }
 
     /// Exchanges the bits of a range with as many from `dest` on. Condition: `start <= end <= len`,
-    /// `dest + (end - start) <= len`, and the two ranges lie apart. The crate has no such call: there it
+    /// `dest + (end - start) <= len`, and the two ranges lie apart. `bitvec` has no such call: there it
     /// is `swap_with_bitslice` of two parts that `split_at_mut` gives.
     ///
     /// ```

@@ -28,7 +28,7 @@ impl<'a, T: BitStore, O: BitOrder> Clone for BitRef<'a, T, O> {
 impl<'a, T: BitStore, O: BitOrder> BitRef<'a, T, O> {
     ghost use Rattle.bitvec_elements.specs.References.{bit_of_ref};
 
-    /// A reference to a bit that is this. The crate has no such call: views make their references by
+    /// A reference to a bit that is this. `bitvec` has no such call: views make their references by
     /// it.
     #[doc(hidden)]
     pub fn new(bit: bool) -> Self

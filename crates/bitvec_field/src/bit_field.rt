@@ -40,7 +40,7 @@ pub trait BitField {
         requires bound { len self.now ≤ I.BITS }
         ensures { I.value result ≡ integer_of I.SIGNED (len self.now) (be self.now) };
 
-    /// The same as [`BitField::load_le`]. The crate takes the target's byte order.
+    /// The same as [`BitField::load_le`]. `bitvec` takes the target's byte order.
     ///
     /// ```
     /// let mut view = BitSliceMut::<u16, Lsb0>::from_slice_mut(&mut cells);
@@ -83,7 +83,7 @@ pub trait BitFieldMut: BitField {
         requires bound { Self.len self.old ≤ I.BITS }
         ensures { writes_be self.old self.new (remainder_of I.BITS (I.value value)) };
 
-    /// The same as [`BitFieldMut::store_le`]. The crate takes the target's byte order.
+    /// The same as [`BitFieldMut::store_le`]. `bitvec` takes the target's byte order.
     ///
     /// ```
     /// let mut view = BitSliceMut::<u16, Lsb0>::from_slice_mut(&mut cells);

@@ -37,7 +37,7 @@ impl<'a, T: BitStore, O: BitOrder> IterMut<'a, T, O> {
     ghost use Rattle.bitvec_iter.specs.LentBits.{IsAllOf, WritesLeft, bit_walk_of, bits_in_place, bits_to_come, name_of_bits, past_back_bits, past_bits, start_of};
     ghost use Rattle.bitvec_slice.specs.elements.Asked.{CallableOnBits, RefillsWith};
 
-    /// The bits of a view. The crate has no such call: `iter_mut` is made of it.
+    /// The bits of a view. `bitvec` has no such call: `iter_mut` is made of it.
     #[doc(hidden)]
     pub fn new<'s>(bits: &'s mut BitSliceMut<'a, T, O>) -> IterMut<'s, T, O>
         ensures* writes_back { sem 𝓛 (lends T.row O.row bits.entry (name_of_bits result)) }
@@ -123,7 +123,7 @@ impl<'a, T: BitStore, O: BitOrder> IterMut<'a, T, O> {
         self.into_bitslice()
     }
 
-    /// The first bit that is left, which is then left no more. Condition: one is left. The crate has no
+    /// The first bit that is left, which is then left no more. Condition: one is left. `bitvec` has no
     /// such call: with it a caller knows what is left of the walk, and each element but the bit's.
     pub fn take_mut(&mut self) -> BitRefMut<'_, T, O>
         requires { (bit_walk_of self.old).front < (bit_walk_of self.old).back }
@@ -171,7 +171,7 @@ impl<'a, T: BitStore, O: BitOrder> IterMut<'a, T, O> {
         self.front = self.back;
     }
 
-    /// Passes the first `count` bits that are left, or all. The crate has no such call.
+    /// Passes the first `count` bits that are left, or all. `bitvec` has no such call.
     pub fn pass(&mut self, count: usize)
         ensures walk { bit_walk_of self.new ≡ past_bits (bit_walk_of self.old) count }
         ensures name { name_of_bits self.new ≡ name_of_bits self.old }
@@ -179,7 +179,7 @@ impl<'a, T: BitStore, O: BitOrder> IterMut<'a, T, O> {
         self.front += count.min(self.len());
     }
 
-    /// Passes the last `count` bits that are left, or all. The crate has no such call.
+    /// Passes the last `count` bits that are left, or all. `bitvec` has no such call.
     pub fn pass_back(&mut self, count: usize)
         ensures walk { bit_walk_of self.new ≡ past_back_bits (bit_walk_of self.old) count }
         ensures name { name_of_bits self.new ≡ name_of_bits self.old }

@@ -34,7 +34,7 @@ impl<'a, T: BitStore, O: BitOrder> HalvesMut<'a, T, O> {
     ghost use Rattle.bitvec_iter.specs.HalvesLending.{lends_bits, lends_part};
     ghost use Rattle.bitvec_iter.specs.Halves.{IsCutOf, mid_of, name_of_halves, seen_halves};
 
-    /// The halves of a view, which meet at the index `mid`. Condition: `mid` is at most `len`. The crate
+    /// The halves of a view, which meet at the index `mid`. Condition: `mid` is at most `len`. `bitvec`
     /// has no such call: `split_at_mut` is made of it.
     #[doc(hidden)]
     pub fn new<'s>(bits: &'s mut BitSliceMut<'a, T, O>, mid: usize) -> HalvesMut<'s, T, O>

@@ -54,7 +54,7 @@ impl<'a, T: BitStore, O: BitOrder, C: Cutting> PiecesMut<'a, T, O, C> {
     ghost use Rattle.bitvec_iter.specs.PiecesLending.{lends_bits, lends_first, lends_last, lends_part};
     ghost use Rattle.bitvec_iter.specs.LentPieces.{name_of_pieces, walk_of};
 
-    /// The pieces of a view. The crate has no such call: `chunks_mut` and its kin are made of it.
+    /// The pieces of a view. `bitvec` has no such call: `chunks_mut` and its kin are made of it.
     #[doc(hidden)]
     pub fn new<'s>(bits: &'s mut BitSliceMut<'a, T, O>, cutting: C) -> PiecesMut<'s, T, O, C>
         ensures* writes_back { sem 𝓛 (lends T.row O.row bits.entry (name_of_pieces result)) }
@@ -98,7 +98,7 @@ impl<'a, T: BitStore, O: BitOrder, C: Cutting> PiecesMut<'a, T, O, C> {
         self.back <= self.front
     }
 
-    /// The first piece that is left, which is then left no more. Condition: one is left. The crate has
+    /// The first piece that is left, which is then left no more. Condition: one is left. `bitvec` has
     /// no such call: with it a caller knows what is left of the walk, and each element but the piece's.
     pub fn take_mut(&mut self) -> BitSliceMut<'_, T, O>
         requires { (walk_of self.old).front < (walk_of self.old).back }
@@ -121,7 +121,7 @@ impl<'a, T: BitStore, O: BitOrder, C: Cutting> PiecesMut<'a, T, O, C> {
         self.part_mut(range.start, range.end)
     }
 
-    /// Passes the first `count` pieces that are left, or all. The crate has no such call.
+    /// Passes the first `count` pieces that are left, or all. `bitvec` has no such call.
     pub fn pass(&mut self, count: usize)
         ensures walk { walk_of self.new ≡ past (walk_of self.old) count }
         ensures name { name_of_pieces self.new ≡ name_of_pieces self.old }
@@ -129,7 +129,7 @@ impl<'a, T: BitStore, O: BitOrder, C: Cutting> PiecesMut<'a, T, O, C> {
         self.front += count.min(self.len());
     }
 
-    /// Passes the last `count` pieces that are left, or all. The crate has no such call.
+    /// Passes the last `count` pieces that are left, or all. `bitvec` has no such call.
     pub fn pass_back(&mut self, count: usize)
         ensures walk { walk_of self.new ≡ past_back (walk_of self.old) count }
         ensures name { name_of_pieces self.new ≡ name_of_pieces self.old }

@@ -50,7 +50,7 @@ impl<'a, T: BitStore, O: BitOrder, C: Cutting> Pieces<'a, T, O, C> {
     ghost use Rattle.bitvec_iter.specs.Left.{YieldsPieces, cut_by, piece_at, pieces_left, walked};
     ghost use Rattle.bitvec_iter.specs.Parts.{parts_of};
 
-    /// All pieces of a view. The crate has no such call: it has one for each way to cut.
+    /// All pieces of a view. `bitvec` has no such call: it has one for each way to cut.
     #[tactic(auto, using(crate::specs::LeftLaws::stepping))]
     pub fn new(view: BitSlice<'a, T, O>, cutting: C) -> Self
         ensures pieces { pieces_left result ≡ parts_of T.BITS (seen view.entry) (C.pieces cutting) (C.place cutting) }

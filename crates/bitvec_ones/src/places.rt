@@ -65,7 +65,7 @@ impl<'a, T: BitStore, O: BitOrder, W: Wanted> Places<'a, T, O, W> {
     ghost use Rattle.bitvec_query.specs.base.Window.{max_bits};
     ghost use Rattle.bitvec_ones.specs.Indices.{RunsInOrder, RunsInReverse, remaining_indices};
 
-    /// The indices of all bits of the view that `W` names. The crate has no such call.
+    /// The indices of all bits of the view that `W` names. `bitvec` has no such call.
     #[tactic(auto, using(crate::specs::PlacesLaws::all_places, crate::specs::PlacesLaws::few_places), unfolding(crate::specs::Indices::remaining_indices))]
     pub fn new(view: BitSlice<'a, T, O>) -> Self
         ensures indices { remaining_indices result ≡ places_of W.BIT (seen view.entry).bits }

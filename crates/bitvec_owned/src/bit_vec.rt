@@ -111,7 +111,7 @@ impl<T: BitStore, O: BitOrder, A: Allocator> BitVec<T, O, A> {
         elements
     }
 
-    /// Where the bits stand among the elements. The crate has no such call.
+    /// Where the bits stand among the elements. `bitvec` has no such call.
     pub fn window(&self) -> Window
         ensures value { result ≡ (owned self.now).window }
         ensures inside { HasWindow T.BITS (map T.value (owned self.now).elements) result }

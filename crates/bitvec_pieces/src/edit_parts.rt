@@ -19,7 +19,7 @@ use std::ops::Range;
 /// The narrowed view stands among all elements of the whole one, and a closure has it as a `&mut`,
 /// so that it can't take the elements. A closure owes that the piece stays where it stands, which
 /// each edit of a view ensures; what it keeps in a captured `&mut` is not known afterwards, so a
-/// closure of `edit_with` gives back as its result what the caller is to know. The crate has no such
+/// closure of `edit_with` gives back as its result what the caller is to know. `bitvec` has no such
 /// calls: its parts are views of their own.
 pub trait EditParts<T: BitStore, O: BitOrder>: ViewMut<T, O> + Sized {
     // Which memory the view borrows, by its name among borrows.

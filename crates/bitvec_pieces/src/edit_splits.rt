@@ -25,7 +25,7 @@ use std::ops::Range;
 /// of a piece, from 0 on, and the piece, which may be empty. What the two keep goes from each call to the
 /// next. Conditions of all calls: the predicate may always be called, or at least asked about all bits of
 /// the view; the closure may be called on each range of the view, with a number not beyond its length,
-/// whatever it keeps from the calls before, and leaves it in its place. The crate has no such calls: its
+/// whatever it keeps from the calls before, and leaves it in its place. `bitvec` has no such calls: its
 /// `split_mut` and kin give views of their own.
 pub trait EditSplits<T: BitStore, O: BitOrder>: EditParts<T, O> {
     /// The index among the bits of a range about which `pred` says yes first, asked as a call of a split

@@ -62,7 +62,7 @@ pub trait BitSliceIndex<V: Viewed>: Sized + Drop {
     // The same for writing.
     ghost gives_mut: { Self → Seen V.Writable.Element → Self.Mut → Type 0 };
 
-    /// Whether a view of so many bits has the index. The crate has no such call.
+    /// Whether a view of so many bits has the index. `bitvec` has no such call.
     fn fits(&self, len: usize) -> bool
         ensures { IsTrue result ↔ fits self.now len };
 

@@ -34,7 +34,7 @@ impl<'a, T: BitStore, O: BitOrder> BitSlice<'a, T, O> {
         index.get_unchecked(self)
     }
 
-    /// The bit at an index, as `get(index)` gives it. Condition: the index is below `len`. The crate has
+    /// The bit at an index, as `get(index)` gives it. Condition: the index is below `len`. `bitvec` has
     /// no such call.
     pub fn into_bit(self, index: usize) -> BitRef<'a, T, O>
         requires { index < (seen self).window.len }
@@ -96,7 +96,7 @@ impl<'a, T: BitStore, O: BitOrder> BitSliceMut<'a, T, O> {
     }
 
     /// The bits of a range for writing, as `get_mut(range)` gives them. Condition:
-    /// `start <= end <= len`. The crate has no such call: with it a caller knows that the view's window
+    /// `start <= end <= len`. `bitvec` has no such call: with it a caller knows that the view's window
     /// stays, and its elements that the range doesn't touch.
     ///
     /// ```
@@ -119,7 +119,7 @@ impl<'a, T: BitStore, O: BitOrder> BitSliceMut<'a, T, O> {
     }
 
     /// The bit at an index for writing, as `get_mut(index)` gives it. Condition: the index is below
-    /// `len`. The crate has no such call: with it a caller knows that the view's window stays, and each
+    /// `len`. `bitvec` has no such call: with it a caller knows that the view's window stays, and each
     /// element but the bit's.
     ///
     /// ```
@@ -135,7 +135,7 @@ impl<'a, T: BitStore, O: BitOrder> BitSliceMut<'a, T, O> {
     }
 
     /// The bit at an index for writing, as `get_mut(index)` gives it, for as long as the view was
-    /// borrowed. Condition: the index is below `len`. The crate has no such call.
+    /// borrowed. Condition: the index is below `len`. `bitvec` has no such call.
     #[tactic(auto, using(bitvec_elements::specs::Cited::reading))]
     pub fn into_bit(self, index: usize) -> BitRefMut<'a, T, O>
         requires { index < (seen_mut self).window.len }
@@ -144,7 +144,7 @@ impl<'a, T: BitStore, O: BitOrder> BitSliceMut<'a, T, O> {
         self.into_part(index..index + 1).into_reference()
     }
 
-    /// The bit of a view that has just one, for a call of a crate above. Condition: it has one. The crate
+    /// The bit of a view that has just one, for a call of a crate above. Condition: it has one. `bitvec`
     /// has no such call.
     #[doc(hidden)]
     #[tactic(auto, using(bitvec_elements::specs::Cited::reading))]

@@ -27,7 +27,7 @@ pub trait View<T: BitStore, O: BitOrder>: Shows<T> {
     // It shows what its elements hold.
     ghost shows_elements: { (view : Self) → ShowsElements T.BITS O.at T.value (Self.shows view) };
 
-    /// Where the bits stand among their elements. The crate has no such call.
+    /// Where the bits stand among their elements. `bitvec` has no such call.
     final fn window(&self) -> Window
         ensures value { result ≡ (Self.shows self.now).window }
         ensures inside { HasWindow T.BITS (map T.value (Self.shows self.now).elements) result }

@@ -6,7 +6,7 @@ use bitvec_elements::store::BitStore;
 use std::ops::Range;
 
 /// The elements that the places from `start` up to `end` touch, for crates above. Condition:
-/// `start <= end`. The crate has no such call.
+/// `start <= end`. `bitvec` has no such call.
 pub fn touched_range<T: BitStore>(start: usize, end: usize) -> Range<usize>
     requires { start ≤ end }
     ensures first { result.start ≡ first_touched T.BITS start }

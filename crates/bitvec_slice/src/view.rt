@@ -71,7 +71,7 @@ impl<'a, T: BitStore, O: BitOrder> BitSlice<'a, T, O> {
     }
 
     /// A view of some of the elements' bits, for a call of a crate above. Conditions: they have them, and
-    /// are at most `MAX_BITS` bits. The crate has no such call.
+    /// are at most `MAX_BITS` bits. `bitvec` has no such call.
     #[doc(hidden)]
     pub fn from_parts(elements: &'a [T], head: usize, len: usize) -> Self
         requires inside { head + len ≤ T.BITS * length elements.now }
@@ -87,7 +87,7 @@ impl<'a, T: BitStore, O: BitOrder> BitSlice<'a, T, O> {
     }
 
     /// The elements of a view of all their bits. Condition: it has all bits of its elements, as
-    /// those that are made of a slice have. The crate has no such call.
+    /// those that are made of a slice have. `bitvec` has no such call.
     pub fn into_slice(self) -> &'a [T]
         requires { CoversElements T.BITS (seen self) }
         ensures { result.now ≡ (seen self.entry).elements }
@@ -157,7 +157,7 @@ impl<'a, T: BitStore, O: BitOrder> BitSlice<'a, T, O> {
         bit_domain_of(self.elements, self.window())
     }
 
-    /// The bits of a range, as `get(range)` gives them. Condition: `start <= end <= len`. The crate has
+    /// The bits of a range, as `get(range)` gives them. Condition: `start <= end <= len`. `bitvec` has
     /// no such call.
     ///
     /// ```
@@ -179,7 +179,7 @@ impl<'a, T: BitStore, O: BitOrder> BitSlice<'a, T, O> {
         )
     }
 
-    /// Where the view stands among the elements that it touches. The crate has no such call.
+    /// Where the view stands among the elements that it touches. `bitvec` has no such call.
     #[tactic(auto, using(crate::specs::SeenLaws::has_window))]
     pub fn window(&self) -> Window
         ensures value { result ≡ (seen self.now).window }

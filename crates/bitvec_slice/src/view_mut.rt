@@ -71,7 +71,7 @@ impl<'a, T: BitStore, O: BitOrder> BitSliceMut<'a, T, O> {
     }
 
     /// A view of some of the elements' bits, for a call of a crate above. Conditions: they have them, and
-    /// are at most `MAX_BITS` bits. The crate has no such call.
+    /// are at most `MAX_BITS` bits. `bitvec` has no such call.
     #[doc(hidden)]
     pub fn from_parts(elements: &'a mut [T], head: usize, len: usize) -> Self
         requires inside { head + len ≤ T.BITS * length elements.old }
@@ -88,7 +88,7 @@ impl<'a, T: BitStore, O: BitOrder> BitSliceMut<'a, T, O> {
     }
 
     /// Ends a view of all bits of its elements, and gives these back. Condition: it has all of them,
-    /// as a view that was made of a slice has, also after edits. The crate has no such call.
+    /// as a view that was made of a slice has, also after edits. `bitvec` has no such call.
     ///
     /// ```
     /// let mut view = BitSliceMut::<u16, Lsb0>::from_slice_unchecked_mut(&mut cells);
@@ -194,7 +194,7 @@ impl<'a, T: BitStore, O: BitOrder> BitSliceMut<'a, T, O> {
     }
 
     /// The bits of a range for writing, as `get_mut(range)` gives them, for as long as the view was
-    /// borrowed. Condition: `start <= end <= len`. The crate has no such call.
+    /// borrowed. Condition: `start <= end <= len`. `bitvec` has no such call.
     pub fn into_part(self, range: Range<usize>) -> Self
         requires { HasRange range (seen_mut self).window.len }
         ensures { IsRangeOf T.BITS (seen_mut self.entry) range.start range.end (seen_mut result) }
@@ -215,7 +215,7 @@ impl<'a, T: BitStore, O: BitOrder> BitSliceMut<'a, T, O> {
         )
     }
 
-    /// Where the view stands among the elements that it touches. The crate has no such call.
+    /// Where the view stands among the elements that it touches. `bitvec` has no such call.
     ///
     /// ```
     /// let mut cells = [0u8; 3];

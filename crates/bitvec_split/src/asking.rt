@@ -8,7 +8,7 @@ use bitvec_slice::base::BitOrder;
 use bitvec_slice::store::BitStore;
 
 /// The first index about which `pred` says yes. It is asked about the indices in ascending order, and
-/// about none behind that. The crate has no such call.
+/// about none behind that. `bitvec` has no such call.
 #[doc(hidden)]
 pub fn ask_up<T: BitStore, O: BitOrder, P: FnMut(usize, &bool) -> bool>(
     bits: BitSlice<'_, T, O>,
@@ -28,7 +28,7 @@ pub fn ask_up<T: BitStore, O: BitOrder, P: FnMut(usize, &bool) -> bool>(
 }
 
 /// The last index below `end` about which `pred` says yes. It is asked about the indices in
-/// descending order, and about none before that. Condition: the view has `end` bits. The crate has no
+/// descending order, and about none before that. Condition: the view has `end` bits. `bitvec` has no
 /// such call.
 #[doc(hidden)]
 pub fn ask_down<T: BitStore, O: BitOrder, P: FnMut(usize, &bool) -> bool>(

@@ -54,7 +54,7 @@ impl<'a, T: BitStore, O: BitOrder, P: FnMut(usize, &bool) -> bool, W: Way> Split
     ghost use Rattle.bitvec_split.specs.LentViews.{found_in, left_in, name_of_splits};
     ghost use Rattle.bitvec_split.specs.SplitsLending.{lends_found};
 
-    /// The pieces of a view, which is lent for as long as they are. The crate has no such call:
+    /// The pieces of a view, which is lent for as long as they are. `bitvec` has no such call:
     /// `split_mut` and its kin are made of it.
     #[doc(hidden)]
     pub fn new<'s>(bits: &'s mut BitSliceMut<'a, T, O>, pred: P) -> SplitsMut<'s, T, O, P, W>
@@ -91,7 +91,7 @@ impl<'a, T: BitStore, O: BitOrder, P: FnMut(usize, &bool) -> bool, W: Way> Split
     }
 
     /// Finds the next piece, and says whether there is one. Condition: the predicate may always be
-    /// called, or at least asked about all that is left. The crate has no such call: with it, and with
+    /// called, or at least asked about all that is left. `bitvec` has no such call: with it, and with
     /// `piece_mut` behind it, a caller knows what was asked and what is left.
     pub fn advance(&mut self) -> bool
         requires { MayGoOnIn P.FnMut (left_in self.old) }
@@ -122,7 +122,7 @@ impl<'a, T: BitStore, O: BitOrder, P: FnMut(usize, &bool) -> bool, W: Way> Split
         true
     }
 
-    /// The piece that was found last, as often as it is asked for: no bits before the first. The crate
+    /// The piece that was found last, as often as it is asked for: no bits before the first. `bitvec`
     /// has no such call: with it a caller knows that nothing but the elements of the piece is changed.
     pub fn piece_mut(&mut self) -> BitSliceMut<'_, T, O>
         ensures* writes_back { sem 𝓛 (lends_found T.row O.row P.row W.row self.entry (name_of result)) }

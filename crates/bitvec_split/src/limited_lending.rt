@@ -47,7 +47,7 @@ impl<'a, T: BitStore, O: BitOrder, P: FnMut(usize, &bool) -> bool, W: Way> Split
     ghost use Rattle.bitvec_split.specs.LentViews.{limited_found_in, limited_in, name_of_limited};
     ghost use Rattle.bitvec_split.specs.LimitedLending.{lends_found};
 
-    /// The pieces of a view, which is lent for as long as they are. The crate has no such call:
+    /// The pieces of a view, which is lent for as long as they are. `bitvec` has no such call:
     /// `splitn_mut` and `rsplitn_mut` are made of it.
     #[doc(hidden)]
     pub fn new<'s>(

@@ -27,7 +27,7 @@ impl<'a, T: BitStore, O: BitOrder, P: FnMut(usize, &bool) -> bool, W: Way> Split
     ghost use Rattle.bitvec_split.specs.Splits.{MayGoOn, unsplit};
     ghost use Rattle.bitvec_split.specs.Views.{limited_of};
 
-    /// The pieces of a view, which last as long as what it borrows. The crate has no such call.
+    /// The pieces of a view, which last as long as what it borrows. `bitvec` has no such call.
     pub fn new(bits: BitSlice<'a, T, O>, count: usize, pred: P) -> Self
         ensures { limited_of result ≡ record { left = unsplit W.INCLUSIVE (seen bits.entry) pred; count = count } }
     {

@@ -13,7 +13,7 @@ use bitvec_slice::store::BitStore;
 use std::ops::Range;
 
 /// The index at which `pred` says yes first, asked as a call from the front of these bits asks, or as one
-/// from the `back`. The crate has no such call.
+/// from the `back`. `bitvec` has no such call.
 #[doc(hidden)]
 pub fn ask_row<W: Way, T: BitStore, O: BitOrder, P: FnMut(usize, &bool) -> bool>(
     bits: BitSlice<'_, T, O>,
@@ -33,7 +33,7 @@ pub fn ask_row<W: Way, T: BitStore, O: BitOrder, P: FnMut(usize, &bool) -> bool>
 }
 
 /// The piece that such a call gives of `len` bits, where the yes was at `index`, and what is left. Condition:
-/// the call may ask about that index. The crate has no such call.
+/// the call may ask about that index. `bitvec` has no such call.
 #[doc(hidden)]
 pub fn cut_row<W: Way>(len: usize, back: bool, index: usize) -> (Range<usize>, Range<usize>)
     requires { index < asked_of W.INCLUSIVE back len }

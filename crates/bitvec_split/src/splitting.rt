@@ -38,7 +38,7 @@ impl<'a, T: BitStore, O: BitOrder, P: FnMut(usize, &bool) -> bool, W: Way> Split
     ghost use Rattle.bitvec_split.specs.Splits.{MayGoOn, SplitRest, SplitStep, least, most, row_of, unsplit};
     ghost use Rattle.bitvec_split.specs.Views.{left_of};
 
-    /// The pieces of a view, which last as long as what it borrows. The crate has no such call.
+    /// The pieces of a view, which last as long as what it borrows. `bitvec` has no such call.
     pub fn new(bits: BitSlice<'a, T, O>, pred: P) -> Self
         ensures { left_of result ≡ unsplit W.INCLUSIVE (seen bits.entry) pred }
     {

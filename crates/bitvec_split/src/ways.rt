@@ -2,7 +2,7 @@
 ghost use Rattle.std.specs.Prelude.{◌≡◌, ◌+◌, ◌<◌, ◌^◌, Bool, false, true};
 ghost use Rattle.bitvec_split.specs.Splits.{asked_behind, end_of};
 
-/// How a split goes. The crate has a type for each way.
+/// How a split goes. `bitvec` has a type for each way.
 pub trait Way {
     /// Whether a piece keeps the bit at which the predicate said yes.
     const INCLUSIVE: bool;
@@ -54,7 +54,7 @@ impl Way for Reversed {
     ghost REVERSED = { true };
 }
 
-/// The index behind a piece that the yes at an index ends. The crate has no such call.
+/// The index behind a piece that the yes at an index ends. `bitvec` has no such call.
 #[doc(hidden)]
 pub fn end_of<W: Way>(index: usize) -> usize
     requires { index + 1 < 2 ^ 64 }
@@ -63,7 +63,7 @@ pub fn end_of<W: Way>(index: usize) -> usize
     if W::INCLUSIVE { index + 1 } else { index }
 }
 
-/// How many of the last bits a call from the back of so many asks about. The crate has no such call.
+/// How many of the last bits a call from the back of so many asks about. `bitvec` has no such call.
 #[doc(hidden)]
 pub fn asked_behind<W: Way>(len: usize) -> usize
     ensures { result ≡ asked_behind W.INCLUSIVE len }
