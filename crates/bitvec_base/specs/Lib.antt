@@ -26,6 +26,7 @@ pub mod RotationLaws
 pub mod ScanLaws
 pub mod ShiftLaws
 pub mod SliceLaws
+pub mod Spans
 pub mod TransferLaws
 pub mod Window
 pub mod WindowLaws

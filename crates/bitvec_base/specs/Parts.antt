@@ -21,3 +21,7 @@ abbrev pub last_part_of : ℕ → Window → Part
 last_part_of b window =
     let last = window.start + (window.len - 1) in
     record { element = last / b; from = last % b + 1 - min window.len (last % b + 1); to = last % b + 1 }
+
+-- the bits of a window that begins where an element does which lie behind its whole elements
+abbrev pub tail_part_of : ℕ → Window → Part
+tail_part_of b window = record { element = window.start / b + window.len / b; from = 0; to = window.len % b }

@@ -1,6 +1,6 @@
 //! Where a window is cut at the edges of elements: the one place that decides it.
-ghost use Rattle.std.specs.Prelude.{◌≡◌, ℕ, ◌+◌, ◌-◌, ◌^◌, ◌<◌, ◌≤◌};
-ghost use Rattle.bitvec_base.specs.Parts.{first_part_of, last_part_of};
+ghost use Rattle.std.specs.Prelude.{◌≡◌, ℕ, ◌+◌, ◌-◌, ◌/◌, ◌^◌, ◌<◌, ◌≤◌};
+ghost use Rattle.bitvec_base.specs.Parts.{first_part_of, last_part_of, tail_part_of};
 
 use crate::Window;
 
@@ -55,5 +55,30 @@ pub fn last_part(bits: usize, window: Window) -> Part
         element: last / bits,
         from: to - window.len.min(to),
         to,
+    }
+}
+
+/// The whole elements of a window that begins where one does, where elements have `bits` bits: the
+/// first of them, and how many they are.
+#[inline(always)]
+pub fn whole_elements(bits: usize, window: Window) -> (usize, usize)
+    requires { 0 < bits }
+    ensures { result ≡ (window.start / bits, window.len / bits) }
+{
+    (window.start / bits, window.len / bits)
+}
+
+/// The part of such a window behind its whole elements, which is empty where the window ends with
+/// one. Condition: the window's end is a `usize`.
+#[inline(always)]
+pub fn tail_part(bits: usize, window: Window) -> Part
+    requires bits { 0 < bits }
+    requires end { window.start + window.len < 2 ^ 64 }
+    ensures { result ≡ tail_part_of bits window }
+{
+    Part {
+        element: window.start / bits + window.len / bits,
+        from: 0,
+        to: window.len % bits,
     }
 }

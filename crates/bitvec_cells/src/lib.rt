@@ -14,6 +14,7 @@ mod swap;
 pub mod base {
     pub use bitvec_base::{
         BitOrder, BitSpanError, HiLo, Lsb0, MAX_BITS, Msb0, Part, Window, first_part, last_part,
+        tail_part, whole_elements,
     };
 }
 

@@ -12,6 +12,7 @@ mod comparing_shifted;
 pub mod base {
     pub use bitvec_move::base::{
         BitOrder, BitSpanError, HiLo, Lsb0, MAX_BITS, Msb0, Part, Window, first_part, last_part,
+        tail_part, whole_elements,
     };
 }
 

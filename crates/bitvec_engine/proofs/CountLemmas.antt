@@ -12,13 +12,13 @@ use Rattle.bitvec_combine.specs.base.declared.window.Window.{Window}
 use Rattle.bitvec_combine.specs.base.Memory.{HasWindow, element_bits, list_in}
 use Rattle.bitvec_combine.specs.base.MemoryLaws.{get-element_bits, length-element_bits}
 use Rattle.bitvec_combine.specs.base.Order.{Permutes}
-use Rattle.bitvec_combine.specs.base.Parts.{first_part_of, part_window}
+use Rattle.bitvec_combine.specs.base.Parts.{first_part_of, part_window, tail_part_of}
 use Rattle.bitvec_combine.specs.base.Window.{window_after}
 use Rattle.bitvec_combine.specs.base.WritesLaws.{length-list}
 use Rattle.bitvec_combine.specs.store.Width.{IsWidth}
 use Rattle.bitvec_combine.specs.store.WidthLaws.{at_each_width}
 use Rattle.bitvec_combine.specs.walk.ElementLaws.{element-count}
-use Rattle.bitvec_combine.specs.words.Elements.{elements_window, tail_of, whole_of}
+use Rattle.bitvec_combine.specs.words.Elements.{elements_window, whole_of}
 use Rattle.bitvec_combine.specs.words.FieldLaws.{list-element, list-head, list-tail}
 use Rattle.bitvec_combine.specs.words.WholeLaws.{list-empty}
 use Rattle.bitvec_engine.proofs.WordScanLemmas.{HasWindow-elements, list-elements_join}
@@ -48,9 +48,9 @@ count-head b at xs window t m n some more part has first rest =
 
 -- by its whole elements, and what is left
 pub count-tail : (b : ℕ) (at : ℕ → ℕ → ℕ) (xs : List ℕ) (window : Window) (m n : ℕ) → HasWindow b xs window → window.start % b ≡ 0
-    → m ≡ count_by (λ (bit : Bool). bit) (list_in b at xs (whole_of b window)) → n ≡ count_by (λ (bit : Bool). bit) (list_in b at xs (part_window b (tail_of b window))) → m + n ≡ count_by (λ (bit : Bool). bit) (list_in b at xs window)
+    → m ≡ count_by (λ (bit : Bool). bit) (list_in b at xs (whole_of b window)) → n ≡ count_by (λ (bit : Bool). bit) (list_in b at xs (part_window b (tail_part_of b window))) → m + n ≡ count_by (λ (bit : Bool). bit) (list_in b at xs window)
 count-tail b at xs window m n has edge first rest =
-    count-parts (list_in b at xs (whole_of b window)) (list_in b at xs (part_window b (tail_of b window))) (list_in b at xs window) m n
+    count-parts (list_in b at xs (whole_of b window)) (list_in b at xs (part_window b (tail_part_of b window))) (list_in b at xs window) m n
     (list-tail b at xs window window.len has edge refl) first rest
 
 -- ---- whole elements in any order

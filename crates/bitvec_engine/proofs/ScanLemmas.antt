@@ -11,7 +11,7 @@ use Rattle.bitvec_combine.specs.base.Lists.{first_place, last_place}
 use Rattle.bitvec_combine.specs.base.Memory.{HasWindow, element_bits, list_in}
 use Rattle.bitvec_combine.specs.base.MemoryLaws.{length-element_bits}
 use Rattle.bitvec_combine.specs.base.Order.{Permutes}
-use Rattle.bitvec_combine.specs.base.Parts.{first_part_of, part_window}
+use Rattle.bitvec_combine.specs.base.Parts.{first_part_of, part_window, tail_part_of}
 use Rattle.bitvec_combine.specs.base.PlacesLaws.{first_place-absent, first_place-append, first_place-below, first_place-other, last_place-absent, last_place-append, last_place-below, last_place-other}
 use Rattle.bitvec_combine.specs.base.SliceLaws.{range-all}
 use Rattle.bitvec_combine.specs.base.Window.{window_after}
@@ -19,7 +19,7 @@ use Rattle.bitvec_combine.specs.base.WritesLaws.{length-list, list-join}
 use Rattle.bitvec_combine.specs.walk.Cost.{last_loads, touched_count}
 use Rattle.bitvec_combine.specs.walk.ElementLaws.{element-filled}
 use Rattle.bitvec_combine.specs.walk.WalkLaws.{first-len, first-place}
-use Rattle.bitvec_combine.specs.words.Elements.{elements_window, tail_of, whole_of}
+use Rattle.bitvec_combine.specs.words.Elements.{elements_window, whole_of}
 use Rattle.bitvec_combine.specs.words.FieldLaws.{element_of, list-element, list-whole}
 use Rattle.bitvec_combine.specs.words.SameLaws.{xor_none}
 use Rattle.bitvec_combine.specs.words.TouchedLaws.{head_edge, touched-after, touched-edge, touched-first, touched-head, touched-more, touched-rest, touched-whole}
@@ -200,11 +200,11 @@ HasWindow-whole b xs window has edge =
     let all = div-add-mod' window.len b in
     HasWindow-part b xs window (whole_of b window) has (omega arith) (omega arith)
 
-pub HasWindow-tail : (b : ℕ) (xs : List ℕ) (window : Window) → HasWindow b xs window → window.start % b ≡ 0 → HasWindow b xs (part_window b (tail_of b window))
+pub HasWindow-tail : (b : ℕ) (xs : List ℕ) (window : Window) → HasWindow b xs window → window.start % b ≡ 0 → HasWindow b xs (part_window b (tail_part_of b window))
 HasWindow-tail b xs window has edge =
     let place = div-add-mod' window.start b in
     let all = div-add-mod' window.len b in
-    HasWindow-part b xs window (part_window b (tail_of b window)) has (omega arith) (omega arith)
+    HasWindow-part b xs window (part_window b (tail_part_of b window)) has (omega arith) (omega arith)
 
 pub HasWindow-after : (b : ℕ) (xs : List ℕ) (window : Window) (t : ℕ) → HasWindow b xs window → t ≤ window.len → HasWindow b xs (window_after t window)
 HasWindow-after b xs window t has within = HasWindow-part b xs window (window_after t window) has (omega arith) (omega arith)

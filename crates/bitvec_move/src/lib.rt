@@ -48,6 +48,7 @@ mod word_elements;
 pub mod base {
     pub use bitvec_words::base::{
         BitOrder, BitSpanError, HiLo, Lsb0, MAX_BITS, Msb0, Part, Window, first_part, last_part,
+        tail_part, whole_elements,
     };
 }
 

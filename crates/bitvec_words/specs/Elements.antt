@@ -1,6 +1,5 @@
 -- Windows of whole elements of b bits.
-use Rattle.std.specs.Prelude.{ℕ, ◌+◌, ◌*◌, ◌/◌, ◌%◌}
-use Rattle.bitvec_cells.specs.base.declared.part.Part.{Part}
+use Rattle.std.specs.Prelude.{ℕ, ◌+◌, ◌*◌, ◌/◌}
 use Rattle.bitvec_cells.specs.base.declared.window.Window.{Window}
 
 -- `count` elements from the element `first` on
@@ -11,9 +10,6 @@ elements_window b first count = record { start = first * b; len = count * b }
 abbrev pub elements_window_from : ℕ → ℕ → ℕ → ℕ → Window
 elements_window_from b first skip count = record { start = first * b + skip; len = count * b }
 
--- the whole elements from a window's first bit on, and the element behind them, of which the window has a part
+-- the whole elements from a window's first bit on
 abbrev pub whole_of : ℕ → Window → Window
 whole_of b window = elements_window b (window.start / b) (window.len / b)
-
-abbrev pub tail_of : ℕ → Window → Part
-tail_of b window = record { element = window.start / b + window.len / b; from = 0; to = window.len % b }

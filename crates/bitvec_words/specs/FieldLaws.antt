@@ -11,13 +11,13 @@ use Rattle.bitvec_cells.specs.base.Lists.{shifted_end, shifted_start}
 use Rattle.bitvec_cells.specs.base.Memory.{HasWindow, Writes, element_bits, list_in, memory_bits}
 use Rattle.bitvec_cells.specs.base.MemoryLaws.{element-range, element_fits, length-element_bits, length-memory_bits, set-element}
 use Rattle.bitvec_cells.specs.base.PartLaws.{part-range, part-write}
-use Rattle.bitvec_cells.specs.base.Parts.{HasPart, first_part_of, part_window}
+use Rattle.bitvec_cells.specs.base.Parts.{HasPart, first_part_of, part_window, tail_part_of}
 use Rattle.bitvec_cells.specs.base.SliceLaws.{range-all, range-none}
 use Rattle.bitvec_cells.specs.base.Window.{window_after, window_of, window_until, write_at}
 use Rattle.bitvec_cells.specs.base.WriteLaws.{length-slice_range, write_at-all}
 use Rattle.bitvec_cells.specs.base.WritesLaws.{Writes-empty, Writes-is, Writes-join, list-join}
 use Rattle.bitvec_cells.specs.WalkLaws.{first-len, first-place}
-use Rattle.bitvec_words.specs.Elements.{elements_window, elements_window_from, tail_of, whole_of}
+use Rattle.bitvec_words.specs.Elements.{elements_window, elements_window_from, whole_of}
 
 -- ---- lists
 
@@ -203,11 +203,11 @@ list-joined b at xs first skip count step some below has more =
 -- ---- a window that begins where an element does: its whole elements, and what is left
 
 pub Writes-tail : (b : ℕ) (at : ℕ → ℕ → ℕ) (old mid new : List ℕ) (window : Window) (list other : List Bool) → HasWindow b old window → window.start % b ≡ 0
-    → Writes b at old mid (whole_of b window) list → Writes b at mid new (part_window b (tail_of b window)) other → Writes b at old new window (list ++ other)
+    → Writes b at old mid (whole_of b window) list → Writes b at mid new (part_window b (tail_part_of b window)) other → Writes b at old new window (list ++ other)
 Writes-tail b at old mid new window list other has edge before after =
     let place = div-add-mod' window.start b in
     let all = div-add-mod' window.len b in
-    Writes-join b at old mid new (whole_of b window) (part_window b (tail_of b window)) window list other has (omega arith) (omega arith) (omega arith) before after
+    Writes-join b at old mid new (whole_of b window) (part_window b (tail_part_of b window)) window list other has (omega arith) (omega arith) (omega arith) before after
 
 pub list-tail : (b : ℕ) (at : ℕ → ℕ → ℕ) (xs : List ℕ) (window : Window) (n : ℕ) → HasWindow b xs window → window.start % b ≡ 0 → n ≡ window.len
     → list_in b at xs (elements_window b (window.start / b) (n / b)) ++ list_in b at xs (part_window b (record { element = window.start / b + n / b; from = 0; to = n % b })) ≡ list_in b at xs window

@@ -7,14 +7,14 @@ use Rattle.std.proofs.lemmas.Nat.{div-add-mod'}
 use Rattle.bitvec_cells.specs.base.declared.window.Window.{Window}
 use Rattle.bitvec_cells.specs.base.Memory.{HasWindow, Writes, element_bits, list_in}
 use Rattle.bitvec_cells.specs.base.Order.{Permutes}
-use Rattle.bitvec_cells.specs.base.Parts.{first_part_of, part_window}
+use Rattle.bitvec_cells.specs.base.Parts.{first_part_of, part_window, tail_part_of}
 use Rattle.bitvec_cells.specs.base.Window.{window_after}
 use Rattle.bitvec_cells.specs.base.WritesLaws.{Writes-empty, Writes-is, list-behind}
 use Rattle.bitvec_cells.specs.Cost.{fill_loads}
 use Rattle.bitvec_cells.specs.ElementLaws.{element-filled, element-flipped}
 use Rattle.bitvec_cells.specs.WalkLaws.{first-len, first-place}
 use Rattle.bitvec_words.specs.CombinedLaws.{element-kept}
-use Rattle.bitvec_words.specs.Elements.{elements_window, tail_of, whole_of}
+use Rattle.bitvec_words.specs.Elements.{elements_window, whole_of}
 use Rattle.bitvec_words.specs.FieldLaws.{Writes-element, Writes-head, Writes-tail, list-element, list-head, list-tail}
 use Rattle.bitvec_words.specs.WholeLaws.{HasWindow-part, list-empty}
 
@@ -78,13 +78,13 @@ flip-parts before part kept whole same next = ap (λ (l : List Bool). map not be
 -- its whole elements, and what is left
 pub Writes-flipped_tail : (b : ℕ) (at : ℕ → ℕ → ℕ) (old mid new : List ℕ) (window : Window) → HasWindow b old window → window.start % b ≡ 0
     → Writes b at old mid (whole_of b window) (map not (list_in b at old (whole_of b window)))
-    → Writes b at mid new (part_window b (tail_of b window)) (map not (list_in b at mid (part_window b (tail_of b window))))
+    → Writes b at mid new (part_window b (tail_part_of b window)) (map not (list_in b at mid (part_window b (tail_part_of b window))))
     → Writes b at old new window (map not (list_in b at old window))
 Writes-flipped_tail b at old mid new window has edge before after =
     let place = div-add-mod' window.start b in
     let all = div-add-mod' window.len b in
     let whole = whole_of b window in
-    let tail = part_window b (tail_of b window) in
+    let tail = part_window b (tail_part_of b window) in
     let kept = list-behind b at old mid whole tail _
     (HasWindow-part b old window whole has (omega arith) (omega arith))
     (HasWindow-part b old window tail has (omega arith) (omega arith))

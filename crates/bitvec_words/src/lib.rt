@@ -15,6 +15,7 @@ mod word_order;
 pub mod base {
     pub use bitvec_cells::base::{
         BitOrder, BitSpanError, HiLo, Lsb0, MAX_BITS, Msb0, Part, Window, first_part, last_part,
+        tail_part, whole_elements,
     };
 }
 
