@@ -13,6 +13,7 @@ pub mod OrderEnd
 pub mod OrderEndLaws
 pub mod SameLaws
 pub mod ShiftedLaws
+pub mod Spans
 pub mod TouchedLaws
 pub mod Turn
 pub mod WholeLaws
