@@ -27,10 +27,6 @@ module _ (all : List ℕ) (n word : ℕ) (left : drop n all ≡ word_ones word) 
     next-more : n < length all
     next-more = let long = ap length next in omega (arith, length-drop n all)
 
-    -- there is a place for it where there is one for each
-    pub next-below : (now : List ℕ) → length now ≡ length all → n < length now
-    next-below now room = let more = next-more in omega arith
-
     pub next-left : drop (n + 1) all ≡ word_ones (bit_and word (word - 1))
     next-left = sym (drop-drop 1 n all) ∙ ap (drop 1) next
 
@@ -48,9 +44,6 @@ module _ (all : List ℕ) (n word : ℕ) (left : drop n all ≡ word_ones word) 
 -- what stands there in the end
 pub written : (f : ℕ → ℕ) (all now : List ℕ) (n room : ℕ) → n ≡ room → length now ≤ n → take n now ≡ map f (take n all) → now ≡ take room (map f all)
 written f all now n room same whole front = sym (take_all n now whole) ∙ front ∙ sym (take-map f n all) ∙ ap (λ (k : ℕ). take k (map f all)) same
-
-pub all-written : (f : ℕ → ℕ) (all now : List ℕ) (n : ℕ) → length now ≤ n → length all ≤ n → take n now ≡ map f (take n all) → now ≡ map f all
-all-written f all now n whole few front = sym (take_all n now whole) ∙ front ∙ ap (map f) (take_all n all few)
 
 -- ---- a part of a list that was written whole
 

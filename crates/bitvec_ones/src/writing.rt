@@ -42,7 +42,7 @@ pub fn write_places<T: BitStore, O: SliceOrder>(
                 write_first(kept.ones, kept.base, &mut indices[count..]);
                 return indices.len();
             }
-            write_all(kept.ones, kept.base, &mut indices[count..count + some]);
+            write_first(kept.ones, kept.base, &mut indices[count..count + some]);
             count += some;
         }
         edge = kept.edge;
@@ -50,23 +50,9 @@ pub fn write_places<T: BitStore, O: SliceOrder>(
     count
 }
 
-/// Writes where each 1 of a word stands, counted from `base`. Condition: there is room for just as many.
-#[inline(always)]
-fn write_all(mut ones: u64, base: usize, indices: &mut [usize])
-    requires bound { base + 64 < 2 ^ 64 }
-    requires room { length indices.old ≡ count_ones ones }
-    ensures { indices.new ≡ map (λ place. base + place) (word_ones ones) }
-{
-    let mut count = 0;
-    while ones != 0 {
-        indices[count] = base + ones.trailing_zeros() as usize;
-        ones &= ones - 1;
-        count += 1;
-    }
-}
-
 /// Writes where the first ones of a word stand, counted from `base`, as many as there is room for.
 /// Condition: the word has so many.
+#[inline(always)]
 fn write_first(mut ones: u64, base: usize, indices: &mut [usize])
     requires bound { base + 64 < 2 ^ 64 }
     requires some { length indices.old ≤ count_ones ones }

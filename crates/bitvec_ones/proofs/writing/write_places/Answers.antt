@@ -1,5 +1,5 @@
 use Rattle.std.proofs.Common.{arith, refl, rules, sym, ◌∙◌, ap, ◌+◌, ◌-◌, ◌^◌, ◌<◌, length, count_ones, drop, map, take, ℕ}
-use Rattle.std.proofs.lemmas.List.{length-drop, length-map, length-take-le}
+use Rattle.std.proofs.lemmas.List.{length-drop, length-map, length-take-le, take_all}
 use Rattle.bitvec_ones.specs.WordOnes.{word_ones}
 use Rattle.bitvec_ones.specs.PlacesLaws.{places-empty}
 use Rattle.bitvec_ones.proofs.KeptLemmas.{base-below, kept-joined, kept-none, kept-rest}
@@ -18,8 +18,8 @@ write_first-requires-clause-bound g c =
     let fits = c.requires.window.fits in
     omega arith
 
-pub write_all-requires-clause-bound : goal.write_all-requires-clause-bound
-write_all-requires-clause-bound g c =
+pub write_first-requires-then-kept-ne0-clause-bound : goal.write_first-requires-then-kept-ne0-clause-bound
+write_first-requires-then-kept-ne0-clause-bound g c =
     let below = base-below c.args.want _ _ _ c.load-kept.ensures.keeps c.if-kept-ne0.true (omega arith) in
     let room = c.requires.window.within.len in
     let fits = c.requires.window.fits in
@@ -30,20 +30,23 @@ loop-edge-preserved-else-indices-count g c =
     let inv = c.loop-edge.invariant in
     let low = inv.low in
     let within = inv.within in
-    let room = c.if-indices-count.false in
+    let spare = c.if-indices-count.false in
     let further = c.load-kept.ensures.further in
     let count = c.loop-edge.count in
     let kept = c.load-kept.result in
-    let part = c.write_all.new.indices in
+    let part = c.write_first-then-kept-ne0.new.indices in
     let fits : kept.ones < 2 ^ 64 = omega arith in
     let more = map (λ place. kept.base + place) (word_ones kept.ones) in
     let some = length-map (word_ones kept.ones) (λ place. kept.base + place) ∙ ones-count kept.ones fits in
-    let long = ap length c.write_all.ensures ∙ some in
+    let left = length-drop count c.loop-edge.indices in
+    let room = length-take-le (count + count_ones kept.ones - count) (drop count c.loop-edge.indices) (omega arith) in
+    let is = c.write_first-then-kept-ne0.ensures ∙ take_all _ more (omega arith) in
+    let long = ap length is ∙ some in
     let same = part-long c.loop-edge.indices part count (count + count_ones kept.ones - count) (omega arith) (omega arith) in
     record {
       low = omega arith;
       high = c.load-kept.ensures.within;
-      front = part-written c.loop-edge.indices part _ more count (count_ones kept.ones) within inv.front c.write_all.ensures some
+      front = part-written c.loop-edge.indices part _ more count (count_ones kept.ones) within inv.front is some
           ∙ sym (kept-joined c.args.want _ _ kept c.load-kept.ensures.keeps fits c.load-kept.ensures.within c.args.from low);
       behind = behind-part c.loop-edge.indices part _ more count (count_ones kept.ones) within inv.front c.args.indices.now inv.behind long;
       within = omega arith;
