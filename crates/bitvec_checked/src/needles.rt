@@ -137,7 +137,5 @@ fn contains_in<T: BitStore, O: SliceOrder>(
     requires right_window { HasWindow T.BITS (map T.value right.now) right_window }
     ensures { result ≡ stands_in (list_in T.BITS O.at (map T.value right.now) right_window) (list_in T.BITS O.at (map T.value elements.now) window) }
 {
-    let mut cells = Shared::new(elements);
-    let mut beside = Shared::new(right);
-    engine::contains::<O, Shared<T>, Shared<T>>(&mut cells, window, &mut beside, right_window)
+    bitvec_elements::contains_in::<T, O, T, O>(elements, window, right, right_window)
 }

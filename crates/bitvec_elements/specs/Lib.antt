@@ -1,5 +1,6 @@
 pub mod Asked
 pub mod AskedLaws
+pub mod Candidates
 pub mod Cited
 pub mod Difference
 pub mod Direction

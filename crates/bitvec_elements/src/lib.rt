@@ -4,6 +4,7 @@
 
 mod answering;
 mod bits;
+mod candidates;
 mod combining;
 mod comparing;
 mod copying;

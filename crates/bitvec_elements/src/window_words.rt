@@ -4,6 +4,7 @@ ghost use Rattle.std.specs.Prelude.{◌≡◌, ◌+◌, ◌<◌, ◌≤◌, map,
 ghost use Rattle.bitvec_engine.specs.base.Memory.{HasWindow, element_bits, list_in};
 ghost use Rattle.bitvec_engine.specs.base.Window.{max_bits};
 ghost use Rattle.bitvec_engine.specs.words.Field.{padded};
+ghost use Rattle.bitvec_elements.specs.Candidates.{HasBitsFrom};
 ghost use Rattle.bitvec_elements.specs.Direction.{Runs};
 
 use crate::direction::Direction;
@@ -27,6 +28,26 @@ pub(crate) fn word_end(window: Window, from: usize) -> usize
 {
     let edge = from + WORD_BITS - (window.start + from) % WORD_BITS;
     edge.min(window.len)
+}
+
+/// The 64 bits of a window from an index on as those of a word, with zeros behind the window's end.
+/// Conditions: the window lies in a memory of at most `MAX_BITS` bits, the index is at most 64 behind
+/// its end, and the order runs as said.
+#[inline(always)]
+pub(crate) fn word_from<W: WordOrder, O: BitOrder, T: BitStore>(
+    elements: &[T],
+    window: Window,
+    from: usize,
+    direction: Direction,
+) -> u64
+    requires window { HasWindow T.BITS (map T.value elements.now) window }
+    requires bound { from ≤ window.len + 64 }
+    requires runs { Runs direction T.BITS O.at }
+    ensures { HasBitsFrom W.at result (list_in T.BITS O.at (map T.value elements.now) window) from }
+{
+    let start = from.min(window.len);
+    let end = (from + WORD_BITS).min(window.len);
+    window_word::<W, O, T>(elements, window.range(start, end), direction)
 }
 
 /// The bits of a window as the first bits of a word; the others are 0. Conditions: the window has at
