@@ -1,10 +1,9 @@
 //! Bits copied from one window to another.
-ghost use Rattle.std.specs.Prelude.{◌≡◌, true};
-ghost use Rattle.bitvec_words.specs.base.Memory.{HasWindow, Writes, list_in};
+ghost use Rattle.std.specs.Prelude.{true};
 ghost use Rattle.bitvec_words.specs.base.Spans.{HasSpan};
-ghost use Rattle.bitvec_move.specs.Moves.{Copies};
 ghost use Rattle.bitvec_words.specs.cells.Access.{CostsAtMost, OnlyReadsAtMost};
 ghost use Rattle.bitvec_words.specs.walk.Cost.{read_loads, write_loads, write_stores};
+ghost use Rattle.bitvec_move.specs.Moves.{Copies};
 
 use crate::copying_equal::copy_equal;
 use crate::copying_shifted::copy_shifted;

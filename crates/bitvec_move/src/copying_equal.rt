@@ -1,12 +1,11 @@
 //! Bits copied between windows that begin at the same index of an element: elements as they are.
-ghost use Rattle.std.specs.Prelude.{◌≡◌, ℕ, ◌*◌, ◌/◌, ◌%◌, ◌<◌, length};
-ghost use Rattle.bitvec_words.specs.base.Memory.{HasWindow, Writes, list_in};
-ghost use Rattle.bitvec_words.specs.base.Spans.{HasSpan};
-ghost use Rattle.bitvec_move.specs.Moves.{Copies};
+ghost use Rattle.std.specs.Prelude.{◌≡◌, ◌%◌, ◌<◌, length};
 ghost use Rattle.bitvec_words.specs.base.Parts.{HasPart, part_window};
+ghost use Rattle.bitvec_words.specs.base.Spans.{HasSpan};
 ghost use Rattle.bitvec_words.specs.cells.Access.{Costs, CostsAtMost, OnlyReads};
 ghost use Rattle.bitvec_words.specs.walk.Cost.{part_loads, touched_count};
 ghost use Rattle.bitvec_words.specs.Elements.{elements_window};
+ghost use Rattle.bitvec_move.specs.Moves.{Copies};
 
 use bitvec_words::base::{BitOrder, Part, Window, first_part, tail_part, whole_elements};
 use bitvec_words::cells::{Cells, CellsRead};

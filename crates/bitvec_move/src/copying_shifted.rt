@@ -1,12 +1,10 @@
 //! Bits copied between windows that begin at different indices of an element: each stored element
 //! is joined of two that were loaded.
-ghost use Rattle.std.specs.Prelude.{◌≡◌, ◌≢◌, ℕ, ◌+◌, ◌-◌, ◌*◌, ◌/◌, ◌%◌, ◌<◌, ◌≤◌, length, slice_index};
-ghost use Rattle.bitvec_words.specs.base.Memory.{HasWindow, Writes, list_in};
+ghost use Rattle.std.specs.Prelude.{◌≡◌, ◌≢◌, ◌+◌, ◌-◌, ◌/◌, ◌%◌, ◌<◌, slice_index};
 ghost use Rattle.bitvec_words.specs.base.Parts.{part_window};
 ghost use Rattle.bitvec_words.specs.base.Spans.{HasSpan};
 ghost use Rattle.bitvec_words.specs.cells.Access.{Costs, CostsAtMost, OnlyReads};
 ghost use Rattle.bitvec_words.specs.walk.Cost.{part_loads, touched_count};
-ghost use Rattle.bitvec_words.specs.Elements.{elements_window, elements_window_from};
 ghost use Rattle.bitvec_words.specs.Spans.{HasShiftedElements, HasShiftedSpan};
 ghost use Rattle.bitvec_move.specs.Moves.{Copies, CopiesElements, HasPartSpan};
 

@@ -2,13 +2,13 @@
 //! is written over before it is read. All down to the loops is inlined into the function that makes
 //! the accessor, since a loop that has only a reference to it reads the slice's address again after
 //! each store.
-ghost use Rattle.std.specs.Prelude.{◌≡◌, ◌-◌, true};
+ghost use Rattle.std.specs.Prelude.{◌-◌, true};
 ghost use Rattle.bitvec_words.specs.base.Lists.{FitsWithin, copied_within};
-ghost use Rattle.bitvec_words.specs.base.Memory.{Edits, HasWindow, Writes, list_in};
+ghost use Rattle.bitvec_words.specs.base.Memory.{Edits, HasWindow};
 ghost use Rattle.bitvec_words.specs.base.Spans.{HasSpan};
-ghost use Rattle.bitvec_move.specs.Moves.{Copies};
 ghost use Rattle.bitvec_words.specs.cells.Access.{CostsAtMost};
 ghost use Rattle.bitvec_words.specs.walk.Cost.{edit_loads, write_stores};
+ghost use Rattle.bitvec_move.specs.Moves.{Copies};
 
 use crate::moving_to_end::move_to_end;
 use crate::moving_to_start::move_to_start;

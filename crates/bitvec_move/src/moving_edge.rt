@@ -1,11 +1,10 @@
 //! Bits moved within one memory to places of one element: the edges of a window that is moved by
 //! whole elements.
-ghost use Rattle.std.specs.Prelude.{◌≡◌, ℕ, ◌+◌, ◌%◌, ◌≤◌};
-ghost use Rattle.bitvec_words.specs.base.Memory.{HasWindow, Writes, list_in};
+ghost use Rattle.std.specs.Prelude.{◌+◌, ◌%◌, ◌≤◌};
 ghost use Rattle.bitvec_words.specs.base.Spans.{HasSpan};
-ghost use Rattle.bitvec_move.specs.Moves.{Copies};
 ghost use Rattle.bitvec_words.specs.cells.Access.{CostsAtMost};
 ghost use Rattle.bitvec_words.specs.walk.Cost.{touched_count};
+ghost use Rattle.bitvec_move.specs.Moves.{Copies};
 
 use bitvec_words::base::{Window, first_part};
 use bitvec_words::cells::Cells;

@@ -1,12 +1,11 @@
 //! Bits moved to a place of the same memory that is no later: the first elements first, so that none
 //! is written over before it is read.
-ghost use Rattle.std.specs.Prelude.{◌≡◌, ℕ, ◌+◌, ◌*◌, ◌/◌, ◌%◌, ◌<◌, ◌≤◌};
-ghost use Rattle.bitvec_words.specs.base.Memory.{HasWindow, Writes, list_in};
+ghost use Rattle.std.specs.Prelude.{◌≡◌, ◌+◌, ◌%◌, ◌<◌, ◌≤◌};
 ghost use Rattle.bitvec_words.specs.base.Spans.{HasSpan};
-ghost use Rattle.bitvec_move.specs.Moves.{Copies, CopiesElements, HasSkippedElements};
 ghost use Rattle.bitvec_words.specs.cells.Access.{Costs, CostsAtMost};
 ghost use Rattle.bitvec_words.specs.walk.Cost.{touched_count};
 ghost use Rattle.bitvec_words.specs.Elements.{elements_window, elements_window_from};
+ghost use Rattle.bitvec_move.specs.Moves.{Copies, CopiesElements, HasSkippedElements};
 
 use crate::moving_edge::move_edge;
 use crate::{MANY_BYTES, at_known_skip};

@@ -1,5 +1,5 @@
 //! The bits of a window in the opposite order, by whole elements from both ends.
-ghost use Rattle.std.specs.Prelude.{◌≡◌, ℕ, ◌+◌, ◌*◌, ◌%◌, ◌<◌, ◌≤◌, reverse as reversal, take, true};
+ghost use Rattle.std.specs.Prelude.{◌+◌, ◌%◌, ◌<◌, ◌≤◌, reverse as reversal, take, true};
 ghost use Rattle.bitvec_words.specs.base.Memory.{Edits, HasWindow, Writes, element_bits};
 ghost use Rattle.bitvec_words.specs.cells.Access.{CostsAtMost};
 ghost use Rattle.bitvec_words.specs.walk.Cost.{reverse_loads, reverse_stores};

@@ -1,6 +1,6 @@
 //! The elements of a window that begins where an element does, reversed from both ends: each is
 //! loaded once and stored once.
-ghost use Rattle.std.specs.Prelude.{◌≡◌, ℕ, ◌+◌, ◌-◌, ◌*◌, ◌/◌, ◌%◌, ◌<◌, ◌≤◌, reverse};
+ghost use Rattle.std.specs.Prelude.{◌≡◌, ◌+◌, ◌-◌, ◌*◌, ◌%◌, ◌<◌, reverse};
 ghost use Rattle.bitvec_words.specs.base.Memory.{Edits, HasWindow};
 ghost use Rattle.bitvec_words.specs.cells.Access.{Costs, CostsAtMost};
 ghost use Rattle.bitvec_words.specs.walk.Cost.{touched_count};

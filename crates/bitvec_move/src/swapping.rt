@@ -1,10 +1,9 @@
 //! The bits of two windows of one element width and order, exchanged.
-ghost use Rattle.std.specs.Prelude.{◌≡◌, true};
-ghost use Rattle.bitvec_words.specs.base.Memory.{HasWindow, Writes, list_in};
+ghost use Rattle.std.specs.Prelude.{true};
 ghost use Rattle.bitvec_words.specs.base.Spans.{HasSpan};
-ghost use Rattle.bitvec_move.specs.Moves.{Swaps};
 ghost use Rattle.bitvec_words.specs.cells.Access.{CostsAtMost};
 ghost use Rattle.bitvec_words.specs.walk.Cost.{edit_loads, write_stores};
+ghost use Rattle.bitvec_move.specs.Moves.{Swaps};
 
 use crate::swapping_equal::swap_equal;
 use crate::swapping_shifted::swap_shifted;

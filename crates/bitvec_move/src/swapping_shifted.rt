@@ -1,13 +1,11 @@
 //! Bits exchanged between windows that begin at different indices of an element. The last element
 //! that was loaded on the right waits until the rest of its bits are known, and is stored then.
-ghost use Rattle.std.specs.Prelude.{◌≡◌, ◌≢◌, ℕ, ◌+◌, ◌-◌, ◌*◌, ◌/◌, ◌%◌, ◌<◌, ◌≤◌, slice_set};
-ghost use Rattle.bitvec_words.specs.base.Memory.{HasWindow, Writes, list_in};
+ghost use Rattle.std.specs.Prelude.{◌≢◌, ◌+◌, ◌-◌, ◌/◌, ◌%◌, ◌<◌, slice_set};
+ghost use Rattle.bitvec_words.specs.base.Parts.{part_window};
 ghost use Rattle.bitvec_words.specs.base.Spans.{HasSpan};
-ghost use Rattle.bitvec_move.specs.Moves.{HasPartSpan, HasSkippedElements, HasSkippedSpan, Swaps, SwapsElements};
-ghost use Rattle.bitvec_words.specs.base.Parts.{HasPart, part_window};
 ghost use Rattle.bitvec_words.specs.cells.Access.{Costs};
 ghost use Rattle.bitvec_words.specs.walk.Cost.{touched_count};
-ghost use Rattle.bitvec_words.specs.Elements.{elements_window, elements_window_from};
+ghost use Rattle.bitvec_move.specs.Moves.{HasPartSpan, HasSkippedElements, HasSkippedSpan, Swaps, SwapsElements};
 
 use crate::{MANY_BYTES, at_known_skip};
 use bitvec_words::base::{BitOrder, Part, Window, first_part, tail_part, whole_elements};
