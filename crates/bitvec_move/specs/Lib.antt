@@ -1,6 +1,7 @@
 pub mod Cited
 pub mod Ends
 pub mod MirrorLaws
+pub mod Moves
 pub mod PlaceLaws
 pub mod ReversalLaws
 pub mod Settled

@@ -5,7 +5,8 @@ use Rattle.std.proofs.lemmas.Nat.{div-add-mod', mod_below}
 use Rattle.bitvec_words.specs.base.declared.part.Part.{Part}
 use Rattle.bitvec_words.specs.base.declared.window.Window.{Window}
 use Rattle.bitvec_words.specs.base.Memory.{HasWindow}
-use Rattle.bitvec_words.specs.base.Parts.{HasPart, first_part_of}
+use Rattle.bitvec_words.specs.base.Parts.{HasPart, first_part_of, tail_part_of}
+use Rattle.bitvec_words.specs.base.Spans.{HasSpan}
 use Rattle.bitvec_words.specs.base.Window.{window_after}
 use Rattle.bitvec_words.specs.store.Width.{IsWidth}
 use Rattle.bitvec_words.specs.store.WidthLaws.{width_some}
@@ -14,6 +15,7 @@ use Rattle.bitvec_words.specs.Elements.{elements_window, elements_window_from}
 use Rattle.bitvec_words.specs.FieldLaws.{element_of}
 use Rattle.bitvec_words.specs.FieldWalkLaws.{HasPart-first}
 use Rattle.bitvec_words.specs.TouchedLaws.{head_edge}
+use Rattle.bitvec_move.specs.Moves.{HasPartSpan}
 use Rattle.bitvec_move.specs.WordLaws.{word_whole}
 
 pub width-some : (b w : ℕ) → IsWidth b → w ≡ b → 0 < w
@@ -55,6 +57,26 @@ whole-window_from b w xs window n width is has short =
     let len = has.within.len in
     rw is (record { fits = has.fits; within = record { start = omega arith; len = omega arith } })
 
+pub whole-span : (b w : ℕ) (xs ys : List ℕ) (left right : Window) → IsWidth b → w ≡ b → HasSpan b xs ys left right → left.start % b ≡ 0 → right.start % b ≡ 0
+    → HasSpan b xs ys (elements_window b (left.start / w) (left.len / w)) (elements_window b (right.start / w) (left.len / w))
+whole-span b w xs ys left right width is span edge right_edge =
+    let lengths = span.lengths in
+    record {
+      window = whole-window b w xs left left.len width is span.window edge (omega arith);
+      beside = whole-window b w ys right left.len width is span.beside right_edge (omega arith);
+      lengths = refl;
+    }
+
+pub whole-span_from : (b w : ℕ) (xs ys : List ℕ) (left right : Window) → IsWidth b → w ≡ b → HasSpan b xs ys left right → left.start % b ≡ 0
+    → HasSpan b xs ys (elements_window b (left.start / w) (left.len / w)) (elements_window_from b (right.start / w) (right.start % w) (left.len / w))
+whole-span_from b w xs ys left right width is span edge =
+    let lengths = span.lengths in
+    record {
+      window = whole-window b w xs left left.len width is span.window edge (omega arith);
+      beside = whole-window_from b w ys right left.len width is span.beside (omega arith);
+      lengths = refl;
+    }
+
 pub tail-inside : (b w : ℕ) (xs : List ℕ) (window : Window) (n : ℕ) → IsWidth b → w ≡ b → HasWindow b xs window → n ≤ window.len → 0 < n % w
     → window.start / w + n / w < length xs
 tail-inside b w xs window n width is has short left =
@@ -73,6 +95,20 @@ tail-part b w xs ys window n width is has short left same =
     let below = mod_below n b (width_some b width) in
     let bound : n % w ≤ b = rw is (omega arith) in
     record { element = omega arith; order = omega arith; bound = bound }
+
+pub tail-span : (b w : ℕ) (xs mid ys : List ℕ) (left right : Window) → IsWidth b → w ≡ b → HasSpan b xs ys left right → 0 < left.len % w → length mid ≡ length xs
+    → HasPartSpan b mid ys (tail_part_of w left) (window_after (left.len / w * w) right)
+tail-span b w xs mid ys left right width is span more same =
+    let lengths = span.lengths in
+    let parts = div-add-mod' left.len w in
+    let start = span.beside.within.start in
+    let len = span.beside.within.len in
+    record {
+      element = tail-part b w xs mid left left.len width is span.window (omega arith) more same;
+      beside = record { fits = span.beside.fits; within = record { start = omega arith; len = omega arith } };
+      lengths = omega arith;
+      some = omega arith;
+    }
 
 pub tail-word : (b w : ℕ) (xs : List ℕ) (window : Window) (n : ℕ) → IsWidth b → w ≡ b → HasWindow b xs window → n ≤ window.len → 0 < n % w
     → window.start / w + n / w < 2 ^ 64

@@ -1,8 +1,9 @@
 //! Bits copied from one window to another.
-ghost use Rattle.std.specs.Prelude.{◌≡◌, true};
-ghost use Rattle.bitvec_words.specs.base.Memory.{HasWindow, Writes, list_in};
+ghost use Rattle.std.specs.Prelude.{true};
+ghost use Rattle.bitvec_words.specs.base.Spans.{HasSpan};
 ghost use Rattle.bitvec_words.specs.cells.Access.{CostsAtMost, OnlyReadsAtMost};
 ghost use Rattle.bitvec_words.specs.walk.Cost.{read_loads, write_loads, write_stores};
+ghost use Rattle.bitvec_move.specs.Moves.{Copies};
 
 use crate::copying_equal::copy_equal;
 use crate::copying_shifted::copy_shifted;
@@ -23,11 +24,8 @@ pub fn copy<O: WordOrder, C: Cells, D: CellsRead<Elem = C::Elem>>(
     right: &mut D,
     from: Window,
 )
-    requires window { HasWindow C.Elem.BITS (C.numbers left.old) to }
-    requires right_window { HasWindow C.Elem.BITS (D.numbers right.old) from }
-    requires lengths { to.len ≡ from.len }
-    ensures writes { Writes C.Elem.BITS O.at (C.numbers left.old) (C.numbers left.new) to
-        (list_in C.Elem.BITS O.at (D.numbers right.old) from) }
+    requires { HasSpan C.Elem.BITS (C.numbers left.old) (D.numbers right.old) to from }
+    ensures writes { Copies C.Elem.BITS O.at (C.numbers left.old) (C.numbers left.new) to (D.numbers right.old) from }
     ensures cost { CostsAtMost C.CellsRead left.old left.new (write_loads C.Elem.BITS true to.len) (write_stores C.Elem.BITS true to.len) }
     ensures right { OnlyReadsAtMost D.CellsRead right.old right.new (read_loads C.Elem.BITS true to.len) }
 {

@@ -1,12 +1,13 @@
 //! Bits copied between windows that begin at the same index of an element: elements as they are.
-ghost use Rattle.std.specs.Prelude.{◌≡◌, ℕ, ◌*◌, ◌/◌, ◌%◌, ◌<◌, length};
-ghost use Rattle.bitvec_words.specs.base.Memory.{HasWindow, Writes, list_in};
+ghost use Rattle.std.specs.Prelude.{◌≡◌, ◌%◌, ◌<◌, length};
 ghost use Rattle.bitvec_words.specs.base.Parts.{HasPart, part_window};
+ghost use Rattle.bitvec_words.specs.base.Spans.{HasSpan};
 ghost use Rattle.bitvec_words.specs.cells.Access.{Costs, CostsAtMost, OnlyReads};
 ghost use Rattle.bitvec_words.specs.walk.Cost.{part_loads, touched_count};
 ghost use Rattle.bitvec_words.specs.Elements.{elements_window};
+ghost use Rattle.bitvec_move.specs.Moves.{Copies};
 
-use bitvec_words::base::{BitOrder, Part, Window, first_part};
+use bitvec_words::base::{BitOrder, Part, Window, first_part, tail_part, whole_elements};
 use bitvec_words::cells::{Cells, CellsRead};
 use bitvec_words::store::BitStore;
 use bitvec_words::store_part;
@@ -21,13 +22,10 @@ pub fn copy_equal<O: BitOrder, C: Cells, D: CellsRead<Elem = C::Elem>>(
     right: &mut D,
     from: Window,
 )
-    requires window { HasWindow C.Elem.BITS (C.numbers left.old) to }
-    requires right_window { HasWindow C.Elem.BITS (D.numbers right.old) from }
-    requires lengths { to.len ≡ from.len }
+    requires span { HasSpan C.Elem.BITS (C.numbers left.old) (D.numbers right.old) to from }
     requires some { 0 < to.len }
     requires phases { to.start % C.Elem.BITS ≡ from.start % C.Elem.BITS }
-    ensures writes { Writes C.Elem.BITS O.at (C.numbers left.old) (C.numbers left.new) to
-        (list_in C.Elem.BITS O.at (D.numbers right.old) from) }
+    ensures writes { Copies C.Elem.BITS O.at (C.numbers left.old) (C.numbers left.new) to (D.numbers right.old) from }
     ensures cost { CostsAtMost C.CellsRead left.old left.new 2 (touched_count C.Elem.BITS to.start to.len) }
     ensures right { OnlyReads D.CellsRead right.old right.new (touched_count C.Elem.BITS from.start from.len) }
 {
@@ -48,29 +46,21 @@ fn copy_aligned<O: BitOrder, C: Cells, D: CellsRead<Elem = C::Elem>>(
     right: &mut D,
     from: Window,
 )
-    requires window { HasWindow C.Elem.BITS (C.numbers left.old) to }
-    requires right_window { HasWindow C.Elem.BITS (D.numbers right.old) from }
-    requires lengths { to.len ≡ from.len }
+    requires span { HasSpan C.Elem.BITS (C.numbers left.old) (D.numbers right.old) to from }
     requires edge { to.start % C.Elem.BITS ≡ 0 }
     requires right_edge { from.start % C.Elem.BITS ≡ 0 }
-    ensures writes { Writes C.Elem.BITS O.at (C.numbers left.old) (C.numbers left.new) to
-        (list_in C.Elem.BITS O.at (D.numbers right.old) from) }
+    ensures writes { Copies C.Elem.BITS O.at (C.numbers left.old) (C.numbers left.new) to (D.numbers right.old) from }
     ensures cost { CostsAtMost C.CellsRead left.old left.new 1 (touched_count C.Elem.BITS to.start to.len) }
     ensures right { OnlyReads D.CellsRead right.old right.new (touched_count C.Elem.BITS from.start from.len) }
 {
     let bits = C::Elem::BITS as usize;
-    let count = to.len / bits;
-    let (first, source) = (to.start / bits, from.start / bits);
+    let (first, count) = whole_elements(bits, to);
+    let source = from.start / bits;
     copy_whole::<O, C, D>(left, first, right, source, count);
-    let rest = to.len % bits;
-    if rest == 0 {
+    let tail = tail_part(bits, to);
+    if tail.to == 0 {
         return;
     }
-    let tail = Part {
-        element: first + count,
-        from: 0,
-        to: rest,
-    };
     copy_part::<O, C, D>(left, tail, right, source + count);
 }
 
@@ -82,10 +72,9 @@ fn copy_whole<O: BitOrder, C: Cells, D: CellsRead<Elem = C::Elem>>(
     source: usize,
     count: usize,
 )
-    requires window { HasWindow C.Elem.BITS (C.numbers left.old) (elements_window C.Elem.BITS first count) }
-    requires right_window { HasWindow C.Elem.BITS (D.numbers right.old) (elements_window C.Elem.BITS source count) }
-    ensures writes { Writes C.Elem.BITS O.at (C.numbers left.old) (C.numbers left.new) (elements_window C.Elem.BITS first count)
-        (list_in C.Elem.BITS O.at (D.numbers right.old) (elements_window C.Elem.BITS source count)) }
+    requires { HasSpan C.Elem.BITS (C.numbers left.old) (D.numbers right.old) (elements_window C.Elem.BITS first count) (elements_window C.Elem.BITS source count) }
+    ensures writes { Copies C.Elem.BITS O.at (C.numbers left.old) (C.numbers left.new) (elements_window C.Elem.BITS first count)
+        (D.numbers right.old) (elements_window C.Elem.BITS source count) }
     ensures cost { Costs C.CellsRead left.old left.new 0 count }
     ensures right { OnlyReads D.CellsRead right.old right.new count }
 {
@@ -104,8 +93,8 @@ fn copy_part<O: BitOrder, C: Cells, D: CellsRead<Elem = C::Elem>>(
 )
     requires part { HasPart C.Elem.BITS (C.numbers left.old) part }
     requires source { source < length (D.numbers right.old) }
-    ensures writes { Writes C.Elem.BITS O.at (C.numbers left.old) (C.numbers left.new) (part_window C.Elem.BITS part)
-        (list_in C.Elem.BITS O.at (D.numbers right.old) (part_window C.Elem.BITS (record part { element = source }))) }
+    ensures writes { Copies C.Elem.BITS O.at (C.numbers left.old) (C.numbers left.new) (part_window C.Elem.BITS part)
+        (D.numbers right.old) (part_window C.Elem.BITS (record part { element = source })) }
     ensures cost { Costs C.CellsRead left.old left.new (part_loads C.Elem.BITS part) 1 }
     ensures right { OnlyReads D.CellsRead right.old right.new 1 }
 {

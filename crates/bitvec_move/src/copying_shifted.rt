@@ -1,14 +1,15 @@
 //! Bits copied between windows that begin at different indices of an element: each stored element
 //! is joined of two that were loaded.
-ghost use Rattle.std.specs.Prelude.{◌≡◌, ◌≢◌, ℕ, ◌+◌, ◌-◌, ◌*◌, ◌/◌, ◌%◌, ◌<◌, ◌≤◌, length, slice_index};
-ghost use Rattle.bitvec_words.specs.base.Memory.{HasWindow, Writes, list_in};
-ghost use Rattle.bitvec_words.specs.base.Parts.{HasPart, part_window};
+ghost use Rattle.std.specs.Prelude.{◌≡◌, ◌≢◌, ◌+◌, ◌-◌, ◌/◌, ◌%◌, ◌<◌, slice_index};
+ghost use Rattle.bitvec_words.specs.base.Parts.{part_window};
+ghost use Rattle.bitvec_words.specs.base.Spans.{HasSpan};
 ghost use Rattle.bitvec_words.specs.cells.Access.{Costs, CostsAtMost, OnlyReads};
 ghost use Rattle.bitvec_words.specs.walk.Cost.{part_loads, touched_count};
-ghost use Rattle.bitvec_words.specs.Elements.{elements_window, elements_window_from};
+ghost use Rattle.bitvec_words.specs.Spans.{HasShiftedElements, HasShiftedSpan};
+ghost use Rattle.bitvec_move.specs.Moves.{Copies, CopiesElements, HasPartSpan};
 
 use crate::{MANY_BYTES, at_known_skip};
-use bitvec_words::base::{BitOrder, Part, Window, first_part};
+use bitvec_words::base::{BitOrder, Part, Window, first_part, tail_part, whole_elements};
 use bitvec_words::cells::{Cells, CellsRead};
 use bitvec_words::store::BitStore;
 use bitvec_words::{Carried, Lanes, Whole, WordOrder, field, field_after, store_part, toward_end};
@@ -22,13 +23,10 @@ pub(crate) fn copy_shifted<O: WordOrder, C: Cells, D: CellsRead<Elem = C::Elem>>
     right: &mut D,
     from: Window,
 )
-    requires window { HasWindow C.Elem.BITS (C.numbers left.old) to }
-    requires right_window { HasWindow C.Elem.BITS (D.numbers right.old) from }
-    requires lengths { to.len ≡ from.len }
+    requires span { HasSpan C.Elem.BITS (C.numbers left.old) (D.numbers right.old) to from }
     requires some { 0 < to.len }
     requires phases { to.start % C.Elem.BITS ≢ from.start % C.Elem.BITS }
-    ensures writes { Writes C.Elem.BITS O.at (C.numbers left.old) (C.numbers left.new) to
-        (list_in C.Elem.BITS O.at (D.numbers right.old) from) }
+    ensures writes { Copies C.Elem.BITS O.at (C.numbers left.old) (C.numbers left.new) to (D.numbers right.old) from }
     ensures cost { CostsAtMost C.CellsRead left.old left.new 2 (touched_count C.Elem.BITS to.start to.len) }
     ensures right { OnlyReads D.CellsRead right.old right.new (touched_count C.Elem.BITS from.start from.len) }
 {
@@ -54,12 +52,8 @@ fn shift_head<O: WordOrder, C: Cells, D: CellsRead<Elem = C::Elem>>(
     right: &mut D,
     from: Window,
 ) -> C::Elem
-    requires part { HasPart C.Elem.BITS (C.numbers left.old) part }
-    requires right_window { HasWindow C.Elem.BITS (D.numbers right.old) from }
-    requires lengths { part.to ≡ part.from + from.len }
-    requires some { 0 < from.len }
-    ensures writes { Writes C.Elem.BITS O.at (C.numbers left.old) (C.numbers left.new) (part_window C.Elem.BITS part)
-        (list_in C.Elem.BITS O.at (D.numbers right.old) from) }
+    requires { HasPartSpan C.Elem.BITS (C.numbers left.old) (D.numbers right.old) part from }
+    ensures writes { Copies C.Elem.BITS O.at (C.numbers left.old) (C.numbers left.new) (part_window C.Elem.BITS part) (D.numbers right.old) from }
     ensures last { C.Elem.value result ≡ slice_index (D.numbers right.old) ((from.start + from.len - 1) / C.Elem.BITS) }
     ensures cost { Costs C.CellsRead left.old left.new (part_loads C.Elem.BITS part) 1 }
     ensures right { OnlyReads D.CellsRead right.old right.new (touched_count C.Elem.BITS from.start from.len) }
@@ -79,53 +73,40 @@ fn copy_rest<O: WordOrder, C: Cells, D: CellsRead<Elem = C::Elem>>(
     from: Window,
     carry: C::Elem,
 )
-    requires window { HasWindow C.Elem.BITS (C.numbers left.old) to }
-    requires right_window { HasWindow C.Elem.BITS (D.numbers right.old) from }
-    requires lengths { to.len ≡ from.len }
+    requires shifted { HasShiftedSpan C.Elem.BITS (C.numbers left.old) (D.numbers right.old) to from (C.Elem.value carry) }
     requires some { 0 < to.len }
-    requires edge { to.start % C.Elem.BITS ≡ 0 }
-    requires phase { 0 < from.start % C.Elem.BITS }
-    requires carry { C.Elem.value carry ≡ slice_index (D.numbers right.old) (from.start / C.Elem.BITS) }
-    ensures writes { Writes C.Elem.BITS O.at (C.numbers left.old) (C.numbers left.new) to
-        (list_in C.Elem.BITS O.at (D.numbers right.old) from) }
+    ensures writes { Copies C.Elem.BITS O.at (C.numbers left.old) (C.numbers left.new) to (D.numbers right.old) from }
     ensures cost { CostsAtMost C.CellsRead left.old left.new 1 (touched_count C.Elem.BITS to.start to.len) }
     ensures right { OnlyReads D.CellsRead right.old right.new (touched_count C.Elem.BITS from.start from.len - 1) }
 {
     let bits = C::Elem::BITS as usize;
-    let count = to.len / bits;
-    let (first, source, skip) = (to.start / bits, from.start / bits, from.start % bits);
+    let (first, count) = whole_elements(bits, to);
+    let (source, skip) = (from.start / bits, from.start % bits);
     let last = shift_whole::<O, C, D>(left, first, right, source, carry, skip, count);
-    if to.len % bits == 0 {
+    let tail = tail_part(bits, to);
+    if tail.to == 0 {
         return;
     }
-    shift_tail::<O, C, D>(left, first + count, right, from.after(count * bits), last);
+    shift_tail::<O, C, D>(left, tail, right, from.after(count * bits), last);
 }
 
-/// Copies the bits of a window to the beginning of an element, where the first element that the
-/// window touches was loaded before.
+/// Copies the bits of a window to a part at the beginning of an element, where the first element that
+/// the window touches was loaded before.
 fn shift_tail<O: WordOrder, C: Cells, D: CellsRead<Elem = C::Elem>>(
     left: &mut C,
-    element: usize,
+    part: Part,
     right: &mut D,
     from: Window,
     carry: C::Elem,
 )
-    requires element { element < length (C.numbers left.old) }
-    requires right_window { HasWindow C.Elem.BITS (D.numbers right.old) from }
-    requires some { 0 < from.len }
-    requires bound { from.len ≤ C.Elem.BITS }
+    requires span { HasPartSpan C.Elem.BITS (C.numbers left.old) (D.numbers right.old) part from }
+    requires edge { part.from ≡ 0 }
     requires carry { C.Elem.value carry ≡ slice_index (D.numbers right.old) (from.start / C.Elem.BITS) }
-    ensures writes { Writes C.Elem.BITS O.at (C.numbers left.old) (C.numbers left.new)
-        (part_window C.Elem.BITS (record { element = element; from = 0; to = from.len })) (list_in C.Elem.BITS O.at (D.numbers right.old) from) }
+    ensures writes { Copies C.Elem.BITS O.at (C.numbers left.old) (C.numbers left.new) (part_window C.Elem.BITS part) (D.numbers right.old) from }
     ensures cost { CostsAtMost C.CellsRead left.old left.new 1 1 }
     ensures right { OnlyReads D.CellsRead right.old right.new (touched_count C.Elem.BITS from.start from.len - 1) }
 {
     let (front, _) = field_after::<O, D>(right, from, carry);
-    let part = Part {
-        element,
-        from: 0,
-        to: from.len,
-    };
     store_part::<O, C>(left, part, front);
 }
 
@@ -141,13 +122,8 @@ fn shift_whole<O: WordOrder, C: Cells, D: CellsRead<Elem = C::Elem>>(
     skip: usize,
     count: usize,
 ) -> C::Elem
-    requires window { HasWindow C.Elem.BITS (C.numbers left.old) (elements_window C.Elem.BITS first count) }
-    requires right_window { HasWindow C.Elem.BITS (D.numbers right.old) (elements_window_from C.Elem.BITS source skip count) }
-    requires some { 0 < skip }
-    requires bound { skip < C.Elem.BITS }
-    requires carry { C.Elem.value carry ≡ slice_index (D.numbers right.old) source }
-    ensures writes { Writes C.Elem.BITS O.at (C.numbers left.old) (C.numbers left.new) (elements_window C.Elem.BITS first count)
-        (list_in C.Elem.BITS O.at (D.numbers right.old) (elements_window_from C.Elem.BITS source skip count)) }
+    requires { HasShiftedElements C.Elem.BITS (C.numbers left.old) (D.numbers right.old) first source skip count (C.Elem.value carry) }
+    ensures writes { CopiesElements C.Elem.BITS O.at (C.numbers left.old) (C.numbers left.new) (D.numbers right.old) first source skip count }
     ensures carried { C.Elem.value result ≡ slice_index (D.numbers right.old) (source + count) }
     ensures cost { Costs C.CellsRead left.old left.new 0 count }
     ensures right { OnlyReads D.CellsRead right.old right.new count }
@@ -176,13 +152,8 @@ fn shift_carried<O: WordOrder, C: Cells, D: CellsRead<Elem = C::Elem>, K: Carrie
     count: usize,
 ) -> C::Elem
     requires form { K.fits C.Elem.BITS }
-    requires window { HasWindow C.Elem.BITS (C.numbers left.old) (elements_window C.Elem.BITS first count) }
-    requires right_window { HasWindow C.Elem.BITS (D.numbers right.old) (elements_window_from C.Elem.BITS source skip count) }
-    requires some { 0 < skip }
-    requires bound { skip < C.Elem.BITS }
-    requires carry { C.Elem.value carry ≡ slice_index (D.numbers right.old) source }
-    ensures writes { Writes C.Elem.BITS O.at (C.numbers left.old) (C.numbers left.new) (elements_window C.Elem.BITS first count)
-        (list_in C.Elem.BITS O.at (D.numbers right.old) (elements_window_from C.Elem.BITS source skip count)) }
+    requires shifted { HasShiftedElements C.Elem.BITS (C.numbers left.old) (D.numbers right.old) first source skip count (C.Elem.value carry) }
+    ensures writes { CopiesElements C.Elem.BITS O.at (C.numbers left.old) (C.numbers left.new) (D.numbers right.old) first source skip count }
     ensures carried { C.Elem.value result ≡ slice_index (D.numbers right.old) (source + count) }
     ensures cost { Costs C.CellsRead left.old left.new 0 count }
     ensures right { OnlyReads D.CellsRead right.old right.new count }

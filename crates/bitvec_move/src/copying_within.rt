@@ -2,11 +2,13 @@
 //! is written over before it is read. All down to the loops is inlined into the function that makes
 //! the accessor, since a loop that has only a reference to it reads the slice's address again after
 //! each store.
-ghost use Rattle.std.specs.Prelude.{◌≡◌, ◌-◌, true};
+ghost use Rattle.std.specs.Prelude.{◌-◌, true};
 ghost use Rattle.bitvec_words.specs.base.Lists.{FitsWithin, copied_within};
-ghost use Rattle.bitvec_words.specs.base.Memory.{Edits, HasWindow, Writes, list_in};
+ghost use Rattle.bitvec_words.specs.base.Memory.{Edits, HasWindow};
+ghost use Rattle.bitvec_words.specs.base.Spans.{HasSpan};
 ghost use Rattle.bitvec_words.specs.cells.Access.{CostsAtMost};
 ghost use Rattle.bitvec_words.specs.walk.Cost.{edit_loads, write_stores};
+ghost use Rattle.bitvec_move.specs.Moves.{Copies};
 
 use crate::moving_to_end::move_to_end;
 use crate::moving_to_start::move_to_start;
@@ -42,11 +44,8 @@ pub fn copy_within<O: WordOrder, C: Cells>(
 #[tactic(auto, using(bitvec_words::specs::Cited::in_steps, crate::specs::WithinLaws::edges_enough, bitvec_words::specs::Cited::width_some))]
 #[inline(always)]
 fn move_window<O: WordOrder, C: Cells>(cells: &mut C, to: Window, from: Window)
-    requires window { HasWindow C.Elem.BITS (C.numbers cells.old) to }
-    requires source { HasWindow C.Elem.BITS (C.numbers cells.old) from }
-    requires lengths { to.len ≡ from.len }
-    ensures writes { Writes C.Elem.BITS O.at (C.numbers cells.old) (C.numbers cells.new) to
-        (list_in C.Elem.BITS O.at (C.numbers cells.old) from) }
+    requires { HasSpan C.Elem.BITS (C.numbers cells.old) (C.numbers cells.old) to from }
+    ensures writes { Copies C.Elem.BITS O.at (C.numbers cells.old) (C.numbers cells.new) to (C.numbers cells.old) from }
     ensures cost { CostsAtMost C.CellsRead cells.old cells.new (edit_loads C.Elem.BITS true to.len) (write_stores C.Elem.BITS true to.len) }
 {
     if to.len <= WORD_BITS {

@@ -1,14 +1,15 @@
 //! Bits moved to a place of the same memory that is no later: the first elements first, so that none
 //! is written over before it is read.
-ghost use Rattle.std.specs.Prelude.{◌≡◌, ℕ, ◌+◌, ◌*◌, ◌/◌, ◌%◌, ◌<◌, ◌≤◌};
-ghost use Rattle.bitvec_words.specs.base.Memory.{HasWindow, Writes, list_in};
+ghost use Rattle.std.specs.Prelude.{◌≡◌, ◌+◌, ◌%◌, ◌<◌, ◌≤◌};
+ghost use Rattle.bitvec_words.specs.base.Spans.{HasSpan};
 ghost use Rattle.bitvec_words.specs.cells.Access.{Costs, CostsAtMost};
 ghost use Rattle.bitvec_words.specs.walk.Cost.{touched_count};
 ghost use Rattle.bitvec_words.specs.Elements.{elements_window, elements_window_from};
+ghost use Rattle.bitvec_move.specs.Moves.{Copies, CopiesElements, HasSkippedElements};
 
 use crate::moving_edge::move_edge;
 use crate::{MANY_BYTES, at_known_skip};
-use bitvec_words::base::{BitOrder, Window, first_part};
+use bitvec_words::base::{BitOrder, Window, first_part, whole_elements};
 use bitvec_words::cells::Cells;
 use bitvec_words::store::BitStore;
 use bitvec_words::{Carried, Lanes, Whole, WordOrder};
@@ -17,13 +18,10 @@ use bitvec_words::{Carried, Lanes, Whole, WordOrder};
 /// lie in the memory, and aren't empty.
 #[inline(always)]
 pub(crate) fn move_to_start<O: WordOrder, C: Cells>(cells: &mut C, to: Window, from: Window)
-    requires window { HasWindow C.Elem.BITS (C.numbers cells.old) to }
-    requires source { HasWindow C.Elem.BITS (C.numbers cells.old) from }
-    requires lengths { to.len ≡ from.len }
+    requires span { HasSpan C.Elem.BITS (C.numbers cells.old) (C.numbers cells.old) to from }
     requires some { 0 < to.len }
     requires towards_start { to.start ≤ from.start }
-    ensures writes { Writes C.Elem.BITS O.at (C.numbers cells.old) (C.numbers cells.new) to
-        (list_in C.Elem.BITS O.at (C.numbers cells.old) from) }
+    ensures writes { Copies C.Elem.BITS O.at (C.numbers cells.old) (C.numbers cells.new) to (C.numbers cells.old) from }
     ensures cost { CostsAtMost C.CellsRead cells.old cells.new (touched_count C.Elem.BITS from.start from.len + 4) (touched_count C.Elem.BITS to.start to.len) }
 {
     let passed = first_part(C::Elem::BITS as usize, to).len();
@@ -38,18 +36,15 @@ pub(crate) fn move_to_start<O: WordOrder, C: Cells>(cells: &mut C, to: Window, f
 /// then the part of the last one.
 #[inline(always)]
 fn move_aligned_to_start<O: WordOrder, C: Cells>(cells: &mut C, to: Window, from: Window)
-    requires window { HasWindow C.Elem.BITS (C.numbers cells.old) to }
-    requires source { HasWindow C.Elem.BITS (C.numbers cells.old) from }
-    requires lengths { to.len ≡ from.len }
+    requires span { HasSpan C.Elem.BITS (C.numbers cells.old) (C.numbers cells.old) to from }
     requires edge { to.start % C.Elem.BITS ≡ 0 }
     requires towards_start { to.start ≤ from.start }
-    ensures writes { Writes C.Elem.BITS O.at (C.numbers cells.old) (C.numbers cells.new) to
-        (list_in C.Elem.BITS O.at (C.numbers cells.old) from) }
+    ensures writes { Copies C.Elem.BITS O.at (C.numbers cells.old) (C.numbers cells.new) to (C.numbers cells.old) from }
     ensures cost { CostsAtMost C.CellsRead cells.old cells.new (touched_count C.Elem.BITS from.start from.len + 2) (touched_count C.Elem.BITS to.start to.len) }
 {
     let bits = C::Elem::BITS as usize;
-    let count = to.len / bits;
-    let (first, source, skip) = (to.start / bits, from.start / bits, from.start % bits);
+    let (first, count) = whole_elements(bits, to);
+    let (source, skip) = (from.start / bits, from.start % bits);
     move_elements_to_start::<O, C>(cells, first, source, skip, count);
     let passed = count * bits;
     move_edge::<O, C>(cells, to.after(passed), from.after(passed));
@@ -65,12 +60,10 @@ fn move_elements_to_start<O: WordOrder, C: Cells>(
     skip: usize,
     count: usize,
 )
-    requires window { HasWindow C.Elem.BITS (C.numbers cells.old) (elements_window C.Elem.BITS first count) }
-    requires source { HasWindow C.Elem.BITS (C.numbers cells.old) (elements_window_from C.Elem.BITS source skip count) }
+    requires span { HasSpan C.Elem.BITS (C.numbers cells.old) (C.numbers cells.old) (elements_window C.Elem.BITS first count) (elements_window_from C.Elem.BITS source skip count) }
     requires bound { skip < C.Elem.BITS }
     requires towards_start { first ≤ source }
-    ensures writes { Writes C.Elem.BITS O.at (C.numbers cells.old) (C.numbers cells.new) (elements_window C.Elem.BITS first count)
-        (list_in C.Elem.BITS O.at (C.numbers cells.old) (elements_window_from C.Elem.BITS source skip count)) }
+    ensures writes { CopiesElements C.Elem.BITS O.at (C.numbers cells.old) (C.numbers cells.new) (C.numbers cells.old) first source skip count }
     ensures cost { CostsAtMost C.CellsRead cells.old cells.new (count + 1) count }
 {
     if skip == 0 {
@@ -88,11 +81,9 @@ fn move_whole_to_start<O: BitOrder, C: Cells>(
     source: usize,
     count: usize,
 )
-    requires window { HasWindow C.Elem.BITS (C.numbers cells.old) (elements_window C.Elem.BITS first count) }
-    requires source { HasWindow C.Elem.BITS (C.numbers cells.old) (elements_window C.Elem.BITS source count) }
+    requires span { HasSpan C.Elem.BITS (C.numbers cells.old) (C.numbers cells.old) (elements_window C.Elem.BITS first count) (elements_window C.Elem.BITS source count) }
     requires towards_start { first ≤ source }
-    ensures writes { Writes C.Elem.BITS O.at (C.numbers cells.old) (C.numbers cells.new) (elements_window C.Elem.BITS first count)
-        (list_in C.Elem.BITS O.at (C.numbers cells.old) (elements_window C.Elem.BITS source count)) }
+    ensures writes { Copies C.Elem.BITS O.at (C.numbers cells.old) (C.numbers cells.new) (elements_window C.Elem.BITS first count) (C.numbers cells.old) (elements_window C.Elem.BITS source count) }
     ensures cost { Costs C.CellsRead cells.old cells.new count count }
 {
     for step in 0..count {
@@ -111,13 +102,9 @@ fn shift_whole_to_start<O: WordOrder, C: Cells>(
     skip: usize,
     count: usize,
 )
-    requires window { HasWindow C.Elem.BITS (C.numbers cells.old) (elements_window C.Elem.BITS first count) }
-    requires source { HasWindow C.Elem.BITS (C.numbers cells.old) (elements_window_from C.Elem.BITS source skip count) }
-    requires some { 0 < skip }
-    requires bound { skip < C.Elem.BITS }
+    requires skipped { HasSkippedElements C.Elem.BITS (C.numbers cells.old) (C.numbers cells.old) first source skip count }
     requires towards_start { first ≤ source }
-    ensures writes { Writes C.Elem.BITS O.at (C.numbers cells.old) (C.numbers cells.new) (elements_window C.Elem.BITS first count)
-        (list_in C.Elem.BITS O.at (C.numbers cells.old) (elements_window_from C.Elem.BITS source skip count)) }
+    ensures writes { CopiesElements C.Elem.BITS O.at (C.numbers cells.old) (C.numbers cells.new) (C.numbers cells.old) first source skip count }
     ensures cost { Costs C.CellsRead cells.old cells.new (count + 1) count }
 {
     if C::Elem::BITS == u128::BITS {
@@ -142,13 +129,9 @@ fn shift_carried_to_start<O: WordOrder, C: Cells, K: Carried<C::Elem>>(
     count: usize,
 )
     requires form { K.fits C.Elem.BITS }
-    requires window { HasWindow C.Elem.BITS (C.numbers cells.old) (elements_window C.Elem.BITS first count) }
-    requires source { HasWindow C.Elem.BITS (C.numbers cells.old) (elements_window_from C.Elem.BITS source skip count) }
-    requires some { 0 < skip }
-    requires bound { skip < C.Elem.BITS }
+    requires skipped { HasSkippedElements C.Elem.BITS (C.numbers cells.old) (C.numbers cells.old) first source skip count }
     requires towards_start { first ≤ source }
-    ensures writes { Writes C.Elem.BITS O.at (C.numbers cells.old) (C.numbers cells.new) (elements_window C.Elem.BITS first count)
-        (list_in C.Elem.BITS O.at (C.numbers cells.old) (elements_window_from C.Elem.BITS source skip count)) }
+    ensures writes { CopiesElements C.Elem.BITS O.at (C.numbers cells.old) (C.numbers cells.new) (C.numbers cells.old) first source skip count }
     ensures cost { Costs C.CellsRead cells.old cells.new (count + 1) count }
 {
     let mut last = K::of(cells.load(source));

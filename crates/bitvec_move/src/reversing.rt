@@ -1,8 +1,9 @@
 //! The bits of a window in the opposite order, by whole elements from both ends.
-ghost use Rattle.std.specs.Prelude.{◌≡◌, ℕ, ◌+◌, ◌*◌, ◌%◌, ◌<◌, ◌≤◌, reverse as reversal, take, true};
+ghost use Rattle.std.specs.Prelude.{◌+◌, ◌%◌, ◌<◌, ◌≤◌, reverse as reversal, take, true};
 ghost use Rattle.bitvec_words.specs.base.Memory.{Edits, HasWindow, Writes, element_bits};
 ghost use Rattle.bitvec_words.specs.cells.Access.{CostsAtMost};
 ghost use Rattle.bitvec_words.specs.walk.Cost.{reverse_loads, reverse_stores};
+ghost use Rattle.bitvec_words.specs.Field.{HasField};
 ghost use Rattle.bitvec_move.specs.Ends.{ends_exchanged};
 
 use crate::reversing_elements::reverse_elements;
@@ -70,9 +71,7 @@ fn exchange_edges<O: WordOrder, C: Cells>(cells: &mut C, window: Window, count: 
 /// A window of at most an element's width gets the first bits of an element, as many as it has. It
 /// stores each element that the window touches once.
 fn store_front<O: WordOrder, C: Cells>(cells: &mut C, window: Window, element: C::Elem)
-    requires window { HasWindow C.Elem.BITS (C.numbers cells.old) window }
-    requires some { 0 < window.len }
-    requires bound { window.len ≤ C.Elem.BITS }
+    requires { HasField C.Elem.BITS (C.numbers cells.old) window }
     ensures writes { Writes C.Elem.BITS O.at (C.numbers cells.old) (C.numbers cells.new) window
         (take window.len (element_bits C.Elem.BITS O.at (C.Elem.value element))) }
     ensures cost { CostsAtMost C.CellsRead cells.old cells.new 2 2 }

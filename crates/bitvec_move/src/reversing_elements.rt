@@ -1,13 +1,13 @@
 //! The elements of a window that begins where an element does, reversed from both ends: each is
 //! loaded once and stored once.
-ghost use Rattle.std.specs.Prelude.{◌≡◌, ℕ, ◌+◌, ◌-◌, ◌*◌, ◌/◌, ◌%◌, ◌<◌, ◌≤◌, reverse};
+ghost use Rattle.std.specs.Prelude.{◌≡◌, ◌+◌, ◌-◌, ◌*◌, ◌%◌, ◌<◌, reverse};
 ghost use Rattle.bitvec_words.specs.base.Memory.{Edits, HasWindow};
 ghost use Rattle.bitvec_words.specs.cells.Access.{Costs, CostsAtMost};
 ghost use Rattle.bitvec_words.specs.walk.Cost.{touched_count};
 ghost use Rattle.bitvec_words.specs.Elements.{elements_window};
 ghost use Rattle.bitvec_move.specs.Settled.{front_reversed};
 
-use bitvec_words::base::Window;
+use bitvec_words::base::{Window, tail_part, whole_elements};
 use bitvec_words::cells::{Cells, CellsRead};
 use bitvec_words::store::BitStore;
 use bitvec_words::{WordOrder, joined, reversed, toward_start};
@@ -23,12 +23,13 @@ pub(crate) fn reverse_elements<O: WordOrder, C: Cells>(cells: &mut C, window: Wi
     ensures cost { let each = touched_count C.Elem.BITS window.start window.len in CostsAtMost C.CellsRead cells.old cells.new (each + 1) each }
 {
     let bits = C::Elem::BITS as usize;
-    let (first, whole, part) = (window.start / bits, window.len / bits, window.len % bits);
-    if part == 0 {
+    let (first, whole) = whole_elements(bits, window);
+    let tail = tail_part(bits, window);
+    if tail.to == 0 {
         reverse_whole::<O, C>(cells, first, whole);
         return;
     }
-    reverse_shifted::<O, C>(cells, first, whole + 1, part);
+    reverse_shifted::<O, C>(cells, first, whole + 1, tail.to);
 }
 
 /// Reverses the bits of `count` whole elements, each with one load and one store.

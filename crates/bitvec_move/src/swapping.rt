@@ -1,8 +1,9 @@
 //! The bits of two windows of one element width and order, exchanged.
-ghost use Rattle.std.specs.Prelude.{◌≡◌, true};
-ghost use Rattle.bitvec_words.specs.base.Memory.{HasWindow, Writes, list_in};
+ghost use Rattle.std.specs.Prelude.{true};
+ghost use Rattle.bitvec_words.specs.base.Spans.{HasSpan};
 ghost use Rattle.bitvec_words.specs.cells.Access.{CostsAtMost};
 ghost use Rattle.bitvec_words.specs.walk.Cost.{edit_loads, write_stores};
+ghost use Rattle.bitvec_move.specs.Moves.{Swaps};
 
 use crate::swapping_equal::swap_equal;
 use crate::swapping_shifted::swap_shifted;
@@ -22,14 +23,9 @@ pub fn swap<O: WordOrder, C: Cells, D: Cells + CellsRead<Elem = C::Elem>>(
     right: &mut D,
     right_window: Window,
 )
-    requires window { HasWindow C.Elem.BITS (C.numbers left.old) left_window }
-    requires right_window { HasWindow C.Elem.BITS (D.numbers right.old) right_window }
-    requires lengths { left_window.len ≡ right_window.len }
-    ensures writes { Writes C.Elem.BITS O.at (C.numbers left.old) (C.numbers left.new) left_window
-        (list_in C.Elem.BITS O.at (D.numbers right.old) right_window) }
+    requires { HasSpan C.Elem.BITS (C.numbers left.old) (D.numbers right.old) left_window right_window }
+    ensures swaps { Swaps C.Elem.BITS O.at (C.numbers left.old) (C.numbers left.new) (D.numbers right.old) (D.numbers right.new) left_window right_window }
     ensures cost { CostsAtMost C.CellsRead left.old left.new (edit_loads C.Elem.BITS true left_window.len) (write_stores C.Elem.BITS true left_window.len) }
-    ensures right_writes { Writes C.Elem.BITS O.at (D.numbers right.old) (D.numbers right.new) right_window
-        (list_in C.Elem.BITS O.at (C.numbers left.old) left_window) }
     ensures right_cost { CostsAtMost D.CellsRead right.old right.new (edit_loads C.Elem.BITS true left_window.len) (write_stores C.Elem.BITS true left_window.len) }
 {
     if left_window.len == 0 {

@@ -1,12 +1,13 @@
 //! Bits exchanged between windows that begin at the same index of an element: elements as they are.
-ghost use Rattle.std.specs.Prelude.{◌≡◌, ℕ, ◌*◌, ◌/◌, ◌%◌, ◌<◌, length};
-ghost use Rattle.bitvec_words.specs.base.Memory.{HasWindow, Writes, list_in};
+ghost use Rattle.std.specs.Prelude.{◌≡◌, ◌%◌, ◌<◌, length};
 ghost use Rattle.bitvec_words.specs.base.Parts.{HasPart, part_window};
+ghost use Rattle.bitvec_words.specs.base.Spans.{HasSpan};
 ghost use Rattle.bitvec_words.specs.cells.Access.{Costs};
 ghost use Rattle.bitvec_words.specs.walk.Cost.{touched_count};
 ghost use Rattle.bitvec_words.specs.Elements.{elements_window};
+ghost use Rattle.bitvec_move.specs.Moves.{Swaps};
 
-use bitvec_words::base::{BitOrder, Part, Window, first_part};
+use bitvec_words::base::{BitOrder, Part, Window, first_part, tail_part, whole_elements};
 use bitvec_words::cells::{Cells, CellsRead};
 use bitvec_words::merged;
 use bitvec_words::store::BitStore;
@@ -20,16 +21,11 @@ pub fn swap_equal<O: BitOrder, C: Cells, D: Cells + CellsRead<Elem = C::Elem>>(
     right: &mut D,
     right_window: Window,
 )
-    requires window { HasWindow C.Elem.BITS (C.numbers left.old) left_window }
-    requires right_window { HasWindow C.Elem.BITS (D.numbers right.old) right_window }
-    requires lengths { left_window.len ≡ right_window.len }
+    requires span { HasSpan C.Elem.BITS (C.numbers left.old) (D.numbers right.old) left_window right_window }
     requires some { 0 < left_window.len }
     requires phases { left_window.start % C.Elem.BITS ≡ right_window.start % C.Elem.BITS }
-    ensures writes { Writes C.Elem.BITS O.at (C.numbers left.old) (C.numbers left.new) left_window
-        (list_in C.Elem.BITS O.at (D.numbers right.old) right_window) }
+    ensures swaps { Swaps C.Elem.BITS O.at (C.numbers left.old) (C.numbers left.new) (D.numbers right.old) (D.numbers right.new) left_window right_window }
     ensures cost { let each = touched_count C.Elem.BITS left_window.start left_window.len in Costs C.CellsRead left.old left.new each each }
-    ensures right_writes { Writes C.Elem.BITS O.at (D.numbers right.old) (D.numbers right.new) right_window
-        (list_in C.Elem.BITS O.at (C.numbers left.old) left_window) }
     ensures right_cost { let each = touched_count C.Elem.BITS right_window.start right_window.len in Costs D.CellsRead right.old right.new each each }
 {
     let bits = C::Elem::BITS as usize;
@@ -51,31 +47,21 @@ fn swap_aligned<O: BitOrder, C: Cells, D: Cells + CellsRead<Elem = C::Elem>>(
     right: &mut D,
     right_window: Window,
 )
-    requires window { HasWindow C.Elem.BITS (C.numbers left.old) left_window }
-    requires right_window { HasWindow C.Elem.BITS (D.numbers right.old) right_window }
-    requires lengths { left_window.len ≡ right_window.len }
+    requires span { HasSpan C.Elem.BITS (C.numbers left.old) (D.numbers right.old) left_window right_window }
     requires edge { left_window.start % C.Elem.BITS ≡ 0 }
     requires right_edge { right_window.start % C.Elem.BITS ≡ 0 }
-    ensures writes { Writes C.Elem.BITS O.at (C.numbers left.old) (C.numbers left.new) left_window
-        (list_in C.Elem.BITS O.at (D.numbers right.old) right_window) }
+    ensures swaps { Swaps C.Elem.BITS O.at (C.numbers left.old) (C.numbers left.new) (D.numbers right.old) (D.numbers right.new) left_window right_window }
     ensures cost { let each = touched_count C.Elem.BITS left_window.start left_window.len in Costs C.CellsRead left.old left.new each each }
-    ensures right_writes { Writes C.Elem.BITS O.at (D.numbers right.old) (D.numbers right.new) right_window
-        (list_in C.Elem.BITS O.at (C.numbers left.old) left_window) }
     ensures right_cost { let each = touched_count C.Elem.BITS right_window.start right_window.len in Costs D.CellsRead right.old right.new each each }
 {
     let bits = C::Elem::BITS as usize;
-    let count = left_window.len / bits;
-    let (first, source) = (left_window.start / bits, right_window.start / bits);
+    let (first, count) = whole_elements(bits, left_window);
+    let source = right_window.start / bits;
     swap_whole::<O, C, D>(left, first, right, source, count);
-    let rest = left_window.len % bits;
-    if rest == 0 {
+    let tail = tail_part(bits, left_window);
+    if tail.to == 0 {
         return;
     }
-    let tail = Part {
-        element: first + count,
-        from: 0,
-        to: rest,
-    };
     swap_part::<O, C, D>(left, tail, right, source + count);
 }
 
@@ -87,13 +73,10 @@ fn swap_whole<O: BitOrder, C: Cells, D: Cells + CellsRead<Elem = C::Elem>>(
     source: usize,
     count: usize,
 )
-    requires window { HasWindow C.Elem.BITS (C.numbers left.old) (elements_window C.Elem.BITS first count) }
-    requires right_window { HasWindow C.Elem.BITS (D.numbers right.old) (elements_window C.Elem.BITS source count) }
-    ensures writes { Writes C.Elem.BITS O.at (C.numbers left.old) (C.numbers left.new) (elements_window C.Elem.BITS first count)
-        (list_in C.Elem.BITS O.at (D.numbers right.old) (elements_window C.Elem.BITS source count)) }
+    requires { HasSpan C.Elem.BITS (C.numbers left.old) (D.numbers right.old) (elements_window C.Elem.BITS first count) (elements_window C.Elem.BITS source count) }
+    ensures swaps { Swaps C.Elem.BITS O.at (C.numbers left.old) (C.numbers left.new) (D.numbers right.old) (D.numbers right.new)
+        (elements_window C.Elem.BITS first count) (elements_window C.Elem.BITS source count) }
     ensures cost { Costs C.CellsRead left.old left.new count count }
-    ensures right_writes { Writes C.Elem.BITS O.at (D.numbers right.old) (D.numbers right.new) (elements_window C.Elem.BITS source count)
-        (list_in C.Elem.BITS O.at (C.numbers left.old) (elements_window C.Elem.BITS first count)) }
     ensures right_cost { Costs D.CellsRead right.old right.new count count }
 {
     for step in 0..count {
@@ -114,11 +97,9 @@ fn swap_part<O: BitOrder, C: Cells, D: Cells + CellsRead<Elem = C::Elem>>(
 )
     requires part { HasPart C.Elem.BITS (C.numbers left.old) part }
     requires source { source < length (D.numbers right.old) }
-    ensures writes { Writes C.Elem.BITS O.at (C.numbers left.old) (C.numbers left.new) (part_window C.Elem.BITS part)
-        (list_in C.Elem.BITS O.at (D.numbers right.old) (part_window C.Elem.BITS (record part { element = source }))) }
+    ensures swaps { Swaps C.Elem.BITS O.at (C.numbers left.old) (C.numbers left.new) (D.numbers right.old) (D.numbers right.new)
+        (part_window C.Elem.BITS part) (part_window C.Elem.BITS (record part { element = source })) }
     ensures cost { Costs C.CellsRead left.old left.new 1 1 }
-    ensures right_writes { Writes C.Elem.BITS O.at (D.numbers right.old) (D.numbers right.new) (part_window C.Elem.BITS (record part { element = source }))
-        (list_in C.Elem.BITS O.at (C.numbers left.old) (part_window C.Elem.BITS part)) }
     ensures right_cost { Costs D.CellsRead right.old right.new 1 1 }
 {
     let element = left.load(part.element);

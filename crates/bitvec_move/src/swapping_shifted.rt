@@ -1,14 +1,14 @@
 //! Bits exchanged between windows that begin at different indices of an element. The last element
 //! that was loaded on the right waits until the rest of its bits are known, and is stored then.
-ghost use Rattle.std.specs.Prelude.{◌≡◌, ◌≢◌, ℕ, ◌+◌, ◌-◌, ◌*◌, ◌/◌, ◌%◌, ◌<◌, ◌≤◌, slice_set};
-ghost use Rattle.bitvec_words.specs.base.Memory.{HasWindow, Writes, list_in};
-ghost use Rattle.bitvec_words.specs.base.Parts.{HasPart, part_window};
+ghost use Rattle.std.specs.Prelude.{◌≢◌, ◌+◌, ◌-◌, ◌/◌, ◌%◌, ◌<◌, slice_set};
+ghost use Rattle.bitvec_words.specs.base.Parts.{part_window};
+ghost use Rattle.bitvec_words.specs.base.Spans.{HasSpan};
 ghost use Rattle.bitvec_words.specs.cells.Access.{Costs};
 ghost use Rattle.bitvec_words.specs.walk.Cost.{touched_count};
-ghost use Rattle.bitvec_words.specs.Elements.{elements_window, elements_window_from};
+ghost use Rattle.bitvec_move.specs.Moves.{HasPartSpan, HasSkippedElements, HasSkippedSpan, Swaps, SwapsElements};
 
 use crate::{MANY_BYTES, at_known_skip};
-use bitvec_words::base::{BitOrder, Part, Window, first_part};
+use bitvec_words::base::{BitOrder, Part, Window, first_part, tail_part, whole_elements};
 use bitvec_words::cells::{Cells, CellsRead};
 use bitvec_words::store::BitStore;
 use bitvec_words::{WordOrder, joined, merged, toward_end, toward_start};
@@ -22,16 +22,11 @@ pub(crate) fn swap_shifted<O: WordOrder, C: Cells, D: Cells + CellsRead<Elem = C
     right: &mut D,
     right_window: Window,
 )
-    requires window { HasWindow C.Elem.BITS (C.numbers left.old) left_window }
-    requires right_window { HasWindow C.Elem.BITS (D.numbers right.old) right_window }
-    requires lengths { left_window.len ≡ right_window.len }
+    requires span { HasSpan C.Elem.BITS (C.numbers left.old) (D.numbers right.old) left_window right_window }
     requires some { 0 < left_window.len }
     requires phases { left_window.start % C.Elem.BITS ≢ right_window.start % C.Elem.BITS }
-    ensures writes { Writes C.Elem.BITS O.at (C.numbers left.old) (C.numbers left.new) left_window
-        (list_in C.Elem.BITS O.at (D.numbers right.old) right_window) }
+    ensures swaps { Swaps C.Elem.BITS O.at (C.numbers left.old) (C.numbers left.new) (D.numbers right.old) (D.numbers right.new) left_window right_window }
     ensures cost { let each = touched_count C.Elem.BITS left_window.start left_window.len in Costs C.CellsRead left.old left.new each each }
-    ensures right_writes { Writes C.Elem.BITS O.at (D.numbers right.old) (D.numbers right.new) right_window
-        (list_in C.Elem.BITS O.at (C.numbers left.old) left_window) }
     ensures right_cost { let each = touched_count C.Elem.BITS right_window.start right_window.len in Costs D.CellsRead right.old right.new each each }
 {
     let bits = C::Elem::BITS as usize;
@@ -59,35 +54,22 @@ fn swap_rest<O: WordOrder, C: Cells, D: Cells + CellsRead<Elem = C::Elem>>(
     right_window: Window,
     waiting: C::Elem,
 )
-    requires window { HasWindow C.Elem.BITS (C.numbers left.old) left_window }
-    requires right_window { HasWindow C.Elem.BITS (D.numbers right.old) right_window }
-    requires lengths { left_window.len ≡ right_window.len }
+    requires skipped { HasSkippedSpan C.Elem.BITS (C.numbers left.old) (D.numbers right.old) left_window right_window }
     requires some { 0 < left_window.len }
-    requires edge { left_window.start % C.Elem.BITS ≡ 0 }
-    requires phase { 0 < right_window.start % C.Elem.BITS }
-    ensures writes { Writes C.Elem.BITS O.at (C.numbers left.old) (C.numbers left.new) left_window
-        (list_in C.Elem.BITS O.at (slice_set (D.numbers right.old) (right_window.start / C.Elem.BITS) (C.Elem.value waiting)) right_window) }
+    ensures swaps { Swaps C.Elem.BITS O.at (C.numbers left.old) (C.numbers left.new)
+        (slice_set (D.numbers right.old) (right_window.start / C.Elem.BITS) (C.Elem.value waiting)) (D.numbers right.new) left_window right_window }
     ensures cost { let each = touched_count C.Elem.BITS left_window.start left_window.len in Costs C.CellsRead left.old left.new each each }
-    ensures right_writes { Writes C.Elem.BITS O.at
-        (slice_set (D.numbers right.old) (right_window.start / C.Elem.BITS) (C.Elem.value waiting)) (D.numbers right.new) right_window
-        (list_in C.Elem.BITS O.at (C.numbers left.old) left_window) }
     ensures right_cost { let each = touched_count C.Elem.BITS right_window.start right_window.len in Costs D.CellsRead right.old right.new (each - 1) each }
 {
     let bits = C::Elem::BITS as usize;
-    let count = left_window.len / bits;
-    let (first, source) = (left_window.start / bits, right_window.start / bits);
-    let skip = right_window.start % bits;
+    let (first, count) = whole_elements(bits, left_window);
+    let (source, skip) = (right_window.start / bits, right_window.start % bits);
     let last = swap_across::<O, C, D>(left, first, right, source, waiting, skip, count);
-    let rest = left_window.len % bits;
-    if rest == 0 {
+    let tail = tail_part(bits, left_window);
+    if tail.to == 0 {
         right.store(source + count, last);
         return;
     }
-    let tail = Part {
-        element: first + count,
-        from: 0,
-        to: rest,
-    };
     let behind = right_window.after(count * bits);
     let end = swap_waiting::<O, C, D>(left, tail, right, behind, last);
     right.store((behind.start + behind.len - 1) / bits, end);
@@ -106,16 +88,10 @@ fn swap_across<O: WordOrder, C: Cells, D: Cells + CellsRead<Elem = C::Elem>>(
     skip: usize,
     count: usize,
 ) -> C::Elem
-    requires window { HasWindow C.Elem.BITS (C.numbers left.old) (elements_window C.Elem.BITS first count) }
-    requires right_window { HasWindow C.Elem.BITS (D.numbers right.old) (elements_window_from C.Elem.BITS source skip count) }
-    requires some { 0 < skip }
-    requires bound { skip < C.Elem.BITS }
-    ensures writes { Writes C.Elem.BITS O.at (C.numbers left.old) (C.numbers left.new) (elements_window C.Elem.BITS first count)
-        (list_in C.Elem.BITS O.at (slice_set (D.numbers right.old) source (C.Elem.value waiting)) (elements_window_from C.Elem.BITS source skip count)) }
+    requires { HasSkippedElements C.Elem.BITS (C.numbers left.old) (D.numbers right.old) first source skip count }
+    ensures swaps { SwapsElements C.Elem.BITS O.at (C.numbers left.old) (C.numbers left.new) (D.numbers right.old) (D.numbers right.new)
+        first source skip count (C.Elem.value waiting) (C.Elem.value result) }
     ensures cost { Costs C.CellsRead left.old left.new count count }
-    ensures right_writes { Writes C.Elem.BITS O.at (slice_set (D.numbers right.old) source (C.Elem.value waiting))
-        (slice_set (D.numbers right.new) (source + count) (C.Elem.value result)) (elements_window_from C.Elem.BITS source skip count)
-        (list_in C.Elem.BITS O.at (C.numbers left.old) (elements_window C.Elem.BITS first count)) }
     ensures right_cost { Costs D.CellsRead right.old right.new count count }
 {
     if C::Elem::BITS == u8::BITS && count >= MANY_BYTES {
@@ -138,16 +114,10 @@ fn swap_each<O: WordOrder, C: Cells, D: Cells + CellsRead<Elem = C::Elem>>(
     skip: usize,
     count: usize,
 ) -> C::Elem
-    requires window { HasWindow C.Elem.BITS (C.numbers left.old) (elements_window C.Elem.BITS first count) }
-    requires right_window { HasWindow C.Elem.BITS (D.numbers right.old) (elements_window_from C.Elem.BITS source skip count) }
-    requires some { 0 < skip }
-    requires bound { skip < C.Elem.BITS }
-    ensures writes { Writes C.Elem.BITS O.at (C.numbers left.old) (C.numbers left.new) (elements_window C.Elem.BITS first count)
-        (list_in C.Elem.BITS O.at (slice_set (D.numbers right.old) source (C.Elem.value waiting)) (elements_window_from C.Elem.BITS source skip count)) }
+    requires { HasSkippedElements C.Elem.BITS (C.numbers left.old) (D.numbers right.old) first source skip count }
+    ensures swaps { SwapsElements C.Elem.BITS O.at (C.numbers left.old) (C.numbers left.new) (D.numbers right.old) (D.numbers right.new)
+        first source skip count (C.Elem.value waiting) (C.Elem.value result) }
     ensures cost { Costs C.CellsRead left.old left.new count count }
-    ensures right_writes { Writes C.Elem.BITS O.at (slice_set (D.numbers right.old) source (C.Elem.value waiting))
-        (slice_set (D.numbers right.new) (source + count) (C.Elem.value result)) (elements_window_from C.Elem.BITS source skip count)
-        (list_in C.Elem.BITS O.at (C.numbers left.old) (elements_window C.Elem.BITS first count)) }
     ensures right_cost { Costs D.CellsRead right.old right.new count count }
 {
     let rest = C::Elem::BITS as usize - skip;
@@ -178,16 +148,11 @@ fn swap_waiting<O: WordOrder, C: Cells, D: Cells + CellsRead<Elem = C::Elem>>(
     from: Window,
     waiting: C::Elem,
 ) -> C::Elem
-    requires part { HasPart C.Elem.BITS (C.numbers left.old) part }
-    requires right_window { HasWindow C.Elem.BITS (D.numbers right.old) from }
-    requires lengths { part.to ≡ part.from + from.len }
-    requires some { 0 < from.len }
-    ensures writes { Writes C.Elem.BITS O.at (C.numbers left.old) (C.numbers left.new) (part_window C.Elem.BITS part)
-        (list_in C.Elem.BITS O.at (slice_set (D.numbers right.old) (from.start / C.Elem.BITS) (C.Elem.value waiting)) from) }
+    requires { HasPartSpan C.Elem.BITS (C.numbers left.old) (D.numbers right.old) part from }
+    ensures swaps { Swaps C.Elem.BITS O.at (C.numbers left.old) (C.numbers left.new)
+        (slice_set (D.numbers right.old) (from.start / C.Elem.BITS) (C.Elem.value waiting))
+        (slice_set (D.numbers right.new) ((from.start + from.len - 1) / C.Elem.BITS) (C.Elem.value result)) (part_window C.Elem.BITS part) from }
     ensures cost { Costs C.CellsRead left.old left.new 1 1 }
-    ensures right_writes { Writes C.Elem.BITS O.at (slice_set (D.numbers right.old) (from.start / C.Elem.BITS) (C.Elem.value waiting))
-        (slice_set (D.numbers right.new) ((from.start + from.len - 1) / C.Elem.BITS) (C.Elem.value result)) from
-        (list_in C.Elem.BITS O.at (C.numbers left.old) (part_window C.Elem.BITS part)) }
     ensures right_cost { let more = touched_count C.Elem.BITS from.start from.len - 1 in Costs D.CellsRead right.old right.new more more }
 {
     let bits = C::Elem::BITS as usize;

@@ -1,11 +1,11 @@
 //! Each bit of a window set, cleared or flipped: the edges behind masks, whole elements as they are.
-ghost use Rattle.std.specs.Prelude.{◌≡◌, ℕ, ◌+◌, ◌-◌, ◌*◌, ◌/◌, ◌%◌, ◌^◌, ◌<◌, ◌≤◌, if◌then◌else◌, Bool, not, map, replicate};
+ghost use Rattle.std.specs.Prelude.{◌≡◌, ◌+◌, ◌-◌, ◌*◌, ◌%◌, ◌^◌, ◌≤◌, if◌then◌else◌, Bool, not, map, replicate};
 ghost use Rattle.bitvec_cells.specs.base.Memory.{Edits, HasWindow, Writes};
 ghost use Rattle.bitvec_cells.specs.Access.{Costs, CostsAtMost};
 ghost use Rattle.bitvec_cells.specs.Cost.{fill_loads, touched_count};
 ghost use Rattle.bitvec_words.specs.Elements.{elements_window};
 
-use bitvec_cells::base::{BitOrder, Part, Window, first_part};
+use bitvec_cells::base::{BitOrder, Window, first_part, tail_part, whole_elements};
 use bitvec_cells::store::BitStore;
 use bitvec_cells::{Cells, CellsRead, fill_part, invert_part};
 
@@ -44,18 +44,12 @@ fn fill_aligned<O: BitOrder, C: Cells>(cells: &mut C, window: Window, bit: bool)
     ensures loads { C.loads cells.new ≤ C.loads cells.old + touched_count C.Elem.BITS window.start window.len }
 {
     let bits = C::Elem::BITS as usize;
-    let count = window.len / bits;
-    let first = window.start / bits;
+    let (first, count) = whole_elements(bits, window);
     fill_whole::<O, C>(cells, first, count, bit);
-    let rest = window.len % bits;
-    if rest == 0 {
+    let tail = tail_part(bits, window);
+    if tail.to == 0 {
         return;
     }
-    let tail = Part {
-        element: first + count,
-        from: 0,
-        to: rest,
-    };
     fill_part::<O, C>(cells, tail, bit);
 }
 
@@ -118,18 +112,12 @@ fn invert_aligned<O: BitOrder, C: Cells>(cells: &mut C, window: Window)
         Costs C.CellsRead cells.old cells.new each each }
 {
     let bits = C::Elem::BITS as usize;
-    let count = window.len / bits;
-    let first = window.start / bits;
+    let (first, count) = whole_elements(bits, window);
     invert_whole::<O, C>(cells, first, count);
-    let rest = window.len % bits;
-    if rest == 0 {
+    let tail = tail_part(bits, window);
+    if tail.to == 0 {
         return;
     }
-    let tail = Part {
-        element: first + count,
-        from: 0,
-        to: rest,
-    };
     invert_part::<O, C>(cells, tail);
 }
 

@@ -1,9 +1,10 @@
 //! Bits of one element or two, loaded to the front of an element or stored behind a mask.
-ghost use Rattle.std.specs.Prelude.{◌≡◌, ℕ, ◌+◌, ◌-◌, ◌*◌, ◌/◌, ◌^◌, ◌<◌, ◌≤◌, length, slice_index, slice_range, take};
-ghost use Rattle.bitvec_cells.specs.base.Memory.{HasWindow, Writes, element_bits, list_in};
+ghost use Rattle.std.specs.Prelude.{◌≡◌, ◌+◌, ◌-◌, ◌/◌, slice_index, slice_range, take};
+ghost use Rattle.bitvec_cells.specs.base.Memory.{Writes, element_bits, list_in};
 ghost use Rattle.bitvec_cells.specs.base.Parts.{HasPart, part_window};
 ghost use Rattle.bitvec_cells.specs.Access.{Costs, OnlyReads};
 ghost use Rattle.bitvec_cells.specs.Cost.{part_loads, touched_count};
+ghost use Rattle.bitvec_words.specs.Field.{HasField};
 
 use crate::WordOrder;
 use crate::element::{joined, merged, toward_start};
@@ -34,9 +35,7 @@ pub fn store_part<O: BitOrder, C: Cells>(cells: &mut C, part: Part, element: C::
 /// element that the window touches. Condition: the memory has at most `MAX_BITS` bits, the window
 /// lies in it and isn't empty. It loads each element that the window touches once.
 pub fn field<O: WordOrder, C: CellsRead>(cells: &mut C, window: Window) -> (C::Elem, C::Elem)
-    requires window { HasWindow C.Elem.BITS (C.numbers cells.old) window }
-    requires some { 0 < window.len }
-    requires bound { window.len ≤ C.Elem.BITS }
+    requires { HasField C.Elem.BITS (C.numbers cells.old) window }
     ensures value { take window.len (element_bits C.Elem.BITS O.at (C.Elem.value result.0))
         ≡ list_in C.Elem.BITS O.at (C.numbers cells.old) window }
     ensures last { C.Elem.value result.1
@@ -54,9 +53,7 @@ pub fn field_after<O: WordOrder, C: CellsRead>(
     window: Window,
     first: C::Elem,
 ) -> (C::Elem, C::Elem)
-    requires window { HasWindow C.Elem.BITS (C.numbers cells.old) window }
-    requires some { 0 < window.len }
-    requires bound { window.len ≤ C.Elem.BITS }
+    requires field { HasField C.Elem.BITS (C.numbers cells.old) window }
     requires first { C.Elem.value first ≡ slice_index (C.numbers cells.old) (window.start / C.Elem.BITS) }
     ensures value { take window.len (element_bits C.Elem.BITS O.at (C.Elem.value result.0))
         ≡ list_in C.Elem.BITS O.at (C.numbers cells.old) window }

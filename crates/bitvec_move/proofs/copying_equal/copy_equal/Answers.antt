@@ -16,13 +16,13 @@ pub nonzero_div-from : goal.nonzero_div-from
 nonzero_div-from g c = let some = width-some _ _ g.met.C.Elem.BitStore.width_law c.BITS-bits.ensures in omega arith
 
 pub copy_part-requires-clause-part : goal.copy_part-requires-clause-part
-copy_part-requires-clause-part g c = head-part _ _ _ c.args.to _ g.met.C.Elem.BitStore.width_law c.BITS-bits.ensures c.first_part-head.ensures c.requires.some c.requires.window
+copy_part-requires-clause-part g c = head-part _ _ _ c.args.to _ g.met.C.Elem.BitStore.width_law c.BITS-bits.ensures c.first_part-head.ensures c.requires.some c.requires.span.window
 
 pub copy_part-requires-clause-source : goal.copy_part-requires-clause-source
 copy_part-requires-clause-source g c =
-    let lengths = c.requires.lengths in
+    let lengths = c.requires.span.lengths in
     let some = c.requires.some in
-    head-element _ _ _ c.args.from g.met.C.Elem.BitStore.width_law c.BITS-bits.ensures (omega arith) c.requires.right_window
+    head-element _ _ _ c.args.from g.met.C.Elem.BitStore.width_law c.BITS-bits.ensures (omega arith) c.requires.span.beside
 
 pub copy_aligned-requires-clause-edge : goal.copy_aligned-requires-clause-edge
 copy_aligned-requires-clause-edge g c =
@@ -33,7 +33,7 @@ pub copy_aligned-requires-clause-right_edge : goal.copy_aligned-requires-clause-
 copy_aligned-requires-clause-right_edge g c =
     let b = g.C.Elem.BitStore.BITS in
     let step = first_part-long c.len-passed.result b c.BITS-bits.result c.args.to c.first_part-head.result c.len-passed.ensures c.first_part-head.ensures c.BITS-bits.ensures in
-    let same : c.len-passed.result ≡ min c.args.from.len (b - c.args.from.start % b) = rw (c.requires.lengths, c.requires.phases) at step in
+    let same : c.len-passed.result ≡ min c.args.from.len (b - c.args.from.start % b) = rw (c.requires.span.lengths, c.requires.phases) at step in
     let left : c.len-passed.result ≢ c.args.from.len = λ e. c.if-passed-to.false (omega arith) in
     behind-edge b _ c.args.from _ g.met.C.Elem.BitStore.width_law c.after-2.ensures same left
 
@@ -52,9 +52,9 @@ returns-then-passed-to-clause-right g c =
     let b = g.C.Elem.BitStore.BITS in
     let some = width_some _ g.met.C.Elem.BitStore.width_law in
     let step = first_part-long c.len-passed.result b c.BITS-bits.result c.args.to c.first_part-head.result c.len-passed.ensures c.first_part-head.ensures c.BITS-bits.ensures in
-    let same : c.len-passed.result ≡ min c.args.from.len (b - c.args.from.start % b) = rw (c.requires.lengths, c.requires.phases) at step in
+    let same : c.len-passed.result ≡ min c.args.from.len (b - c.args.from.start % b) = rw (c.requires.span.lengths, c.requires.phases) at step in
     let one = touched-head b c.args.from.start c.len-passed.result c.args.from.len some (omega arith) same in
-    let all = ap (touched_count b c.args.from.start) (c.if-passed-to.true ∙ c.requires.lengths) in
+    let all = ap (touched_count b c.args.from.start) (c.if-passed-to.true ∙ c.requires.span.lengths) in
     record { numbers = search rules; borrow = search rules; loads = omega arith; stores = search rules }
 
 pub returns-clause-writes : goal.returns-clause-writes
@@ -66,8 +66,8 @@ returns-clause-writes g c =
     let first = rw (head, c.BITS-bits.ensures) at c.copy_part.ensures.writes in
     let rest = rw (c.after.ensures, c.after-2.ensures, c.copy_part.ensures.right.numbers) at c.copy_aligned.ensures.writes in
     Writes-is _ _ _ _ _ _ _
-    (Writes-head _ _ _ _ _ _ _ _ _ some c.requires.some step c.requires.window first rest)
-    (list-head _ _ _ _ _ _ some c.requires.some step c.requires.lengths c.requires.phases c.requires.right_window)
+    (Writes-head _ _ _ _ _ _ _ _ _ some c.requires.some step c.requires.span.window first rest)
+    (list-head _ _ _ _ _ _ some c.requires.some step c.requires.span.lengths c.requires.phases c.requires.span.beside)
 
 pub returns-clause-cost : goal.returns-clause-cost
 returns-clause-cost g c =
@@ -84,7 +84,7 @@ returns-clause-right g c =
     let b = g.C.Elem.BitStore.BITS in
     let some = width_some _ g.met.C.Elem.BitStore.width_law in
     let step = first_part-long c.len-passed.result b c.BITS-bits.result c.args.to c.first_part-head.result c.len-passed.ensures c.first_part-head.ensures c.BITS-bits.ensures in
-    let same : c.len-passed.result ≡ min c.args.from.len (b - c.args.from.start % b) = rw (c.requires.lengths, c.requires.phases) at step in
+    let same : c.len-passed.result ≡ min c.args.from.len (b - c.args.from.start % b) = rw (c.requires.span.lengths, c.requires.phases) at step in
     let left : c.len-passed.result ≢ c.args.from.len = λ e. c.if-passed-to.false (omega arith) in
     let all = touched-rest b c.args.from.start c.len-passed.result c.args.from.len some (omega arith) same left in
     let rest = rw c.after-2.ensures at c.copy_aligned.ensures.right in

@@ -21,7 +21,7 @@ loop-step-preserved g c =
       writes = rw (c.store.ensures.numbers, value)
           (Writes-is _ _ _ _ _ _ _
           (Writes-element _ _ _ _ _ _ _ _ _ some c.requires.window more inv.writes)
-          (list-element _ _ _ _ _ _ some c.requires.right_window more));
+          (list-element _ _ _ _ _ _ some c.requires.beside more));
       cost = search rules;
       right = search rules;
     }

@@ -21,31 +21,48 @@ first_part-head-requires-clause-bits g c = width-some _ _ g.met.C.Elem.BitStore.
 
 pub load-carry-requires : goal.load-carry-requires
 load-carry-requires g c =
-    let lengths = c.requires.lengths in
+    let lengths = c.requires.span.lengths in
     let some = c.requires.some in
-    head-element _ _ _ c.args.from g.met.C.Elem.BitStore.width_law c.BITS-bits.ensures (omega arith) c.requires.right_window
+    head-element _ _ _ c.args.from g.met.C.Elem.BitStore.width_law c.BITS-bits.ensures (omega arith) c.requires.span.beside
 
-pub copy_rest-requires-clause-edge : goal.copy_rest-requires-clause-edge
-copy_rest-requires-clause-edge g c = rw c.BITS-bits.ensures at c.if-to-bits-eq0.true
+pub copy_rest-requires-clause-shifted : goal.copy_rest-requires-clause-shifted
+copy_rest-requires-clause-shifted g c =
+    let edge = rw c.BITS-bits.ensures at c.if-to-bits-eq0.true in
+    let apart = c.requires.phases in
+    rw c.load-carry.ensures.numbers (record {
+      span = c.requires.span;
+      edge = edge;
+      inside = omega arith;
+      carried = rw (← c.BITS-bits.ensures) c.load-carry.ensures.value;
+    })
 
-pub copy_rest-requires-clause-carry : goal.copy_rest-requires-clause-carry
-copy_rest-requires-clause-carry g c = rw (c.load-carry.ensures.numbers, ← c.BITS-bits.ensures) c.load-carry.ensures.value
+pub shift_head-carry-requires : goal.shift_head-carry-requires
+shift_head-carry-requires g c =
+    let lengths = c.requires.span.lengths in
+    record {
+      element = head-part _ _ _ c.args.to _ g.met.C.Elem.BitStore.width_law c.BITS-bits.ensures c.first_part-head.ensures c.requires.some c.requires.span.window;
+      beside = search rules;
+      lengths = search rules;
+      some = search rules;
+    }
 
-pub shift_head-carry-requires-clause-part : goal.shift_head-carry-requires-clause-part
-shift_head-carry-requires-clause-part g c = head-part _ _ _ c.args.to _ g.met.C.Elem.BitStore.width_law c.BITS-bits.ensures c.first_part-head.ensures c.requires.some c.requires.window
-
-pub copy_rest-requires-2-clause-edge : goal.copy_rest-requires-2-clause-edge
-copy_rest-requires-2-clause-edge g c =
-    let b = g.C.Elem.BitStore.BITS in
-    let step = first_part-long c.len-passed.result b c.BITS-bits.result c.args.to c.first_part-head.result c.len-passed.ensures c.first_part-head.ensures c.BITS-bits.ensures in
-    behind-edge _ _ c.args.to _ g.met.C.Elem.BitStore.width_law c.after.ensures step c.if-passed-to.false
-
-pub copy_rest-requires-2-clause-phase : goal.copy_rest-requires-2-clause-phase
-copy_rest-requires-2-clause-phase g c =
+pub copy_rest-requires-2-clause-shifted : goal.copy_rest-requires-2-clause-shifted
+copy_rest-requires-2-clause-shifted g c =
     let b = g.C.Elem.BitStore.BITS in
     let some = width_some _ g.met.C.Elem.BitStore.width_law in
     let step = first_part-long c.len-passed.result b c.BITS-bits.result c.args.to c.first_part-head.result c.len-passed.ensures c.first_part-head.ensures c.BITS-bits.ensures in
-    rw c.after-2.ensures (apart_edge b c.args.to.start c.args.from.start c.len-passed.result c.args.to.len some step c.if-passed-to.false c.requires.phases)
+    let inside = apart_edge b c.args.to.start c.args.from.start c.len-passed.result c.args.to.len some step c.if-passed-to.false c.requires.phases in
+    let same = inside_element b c.args.from.start c.len-passed.result some inside in
+    let lengths = c.requires.span.lengths in
+    let end : c.args.from.start + (c.args.from.len - (c.args.from.len - c.len-passed.result)) - 1 ≡ c.args.from.start + c.len-passed.result - 1 = omega arith in
+    let last = rw c.until.ensures at c.shift_head-carry.ensures.last in
+    record {
+      span = search rules;
+      edge = behind-edge _ _ c.args.to _ g.met.C.Elem.BitStore.width_law c.after.ensures step c.if-passed-to.false;
+      inside = rw c.after-2.ensures inside;
+      carried = rw (c.after-2.ensures, c.shift_head-carry.ensures.right.numbers)
+          (last ∙ ap (λ (m : ℕ). slice_index (g.D.CellsRead.numbers c.args.right.now) (m / b)) end ∙ ap (slice_index (g.D.CellsRead.numbers c.args.right.now)) same);
+    }
 
 pub returns-then-to-bits-eq0-clause-right : goal.returns-then-to-bits-eq0-clause-right
 returns-then-to-bits-eq0-clause-right g c =
@@ -62,19 +79,6 @@ returns-then-passed-to-clause-cost g c =
     let most = part_loads-most b c.first_part-head.result in
     record { borrow = search rules; loads = omega arith; stores = omega arith }
 
-pub copy_rest-requires-2-clause-carry : goal.copy_rest-requires-2-clause-carry
-copy_rest-requires-2-clause-carry g c =
-    let b = g.C.Elem.BitStore.BITS in
-    let some = width_some _ g.met.C.Elem.BitStore.width_law in
-    let step = first_part-long c.len-passed.result b c.BITS-bits.result c.args.to c.first_part-head.result c.len-passed.ensures c.first_part-head.ensures c.BITS-bits.ensures in
-    let inside = apart_edge b c.args.to.start c.args.from.start c.len-passed.result c.args.to.len some step c.if-passed-to.false c.requires.phases in
-    let same = inside_element b c.args.from.start c.len-passed.result some inside in
-    let lengths = c.requires.lengths in
-    let end : c.args.from.start + (c.args.from.len - (c.args.from.len - c.len-passed.result)) - 1 ≡ c.args.from.start + c.len-passed.result - 1 = omega arith in
-    let last = rw c.until.ensures at c.shift_head-carry.ensures.last in
-    rw (c.after-2.ensures, c.shift_head-carry.ensures.right.numbers)
-    (last ∙ ap (λ (m : ℕ). slice_index (g.D.CellsRead.numbers c.args.right.now) (m / b)) end ∙ ap (slice_index (g.D.CellsRead.numbers c.args.right.now)) same)
-
 pub returns-clause-writes : goal.returns-clause-writes
 returns-clause-writes g c =
     let b = g.C.Elem.BitStore.BITS in
@@ -82,13 +86,13 @@ returns-clause-writes g c =
     let head : c.first_part-head.result ≡ first_part_of b c.args.to = c.first_part-head.ensures ∙ ap (λ (n : ℕ). first_part_of n c.args.to) c.BITS-bits.ensures in
     let long = c.len-passed.ensures ∙ ap (λ (p : Part). p.to - p.from) head in
     let step = first_part-long c.len-passed.result b c.BITS-bits.result c.args.to c.first_part-head.result c.len-passed.ensures c.first_part-head.ensures c.BITS-bits.ensures in
-    let lengths = c.requires.lengths in
+    let lengths = c.requires.span.lengths in
     let fits : c.len-passed.result ≤ c.args.from.len = omega arith in
     let first = rw (head, c.until.ensures) at c.shift_head-carry.ensures.writes in
     let rest = rw (c.after.ensures, c.after-2.ensures, c.shift_head-carry.ensures.right.numbers) at c.copy_rest-2.ensures.writes in
     Writes-is _ _ _ _ _ _ _
-    (Writes-head _ _ _ _ _ _ _ _ _ some c.requires.some long c.requires.window first rest)
-    (list-parted _ _ _ _ _ c.requires.right_window fits)
+    (Writes-head _ _ _ _ _ _ _ _ _ some c.requires.some long c.requires.span.window first rest)
+    (list-parted _ _ _ _ _ c.requires.span.beside fits)
 
 pub returns-clause-cost : goal.returns-clause-cost
 returns-clause-cost g c =
@@ -107,7 +111,7 @@ returns-clause-right g c =
     let step = first_part-long c.len-passed.result b c.BITS-bits.result c.args.to c.first_part-head.result c.len-passed.ensures c.first_part-head.ensures c.BITS-bits.ensures in
     let inside = apart_edge b c.args.to.start c.args.from.start c.len-passed.result c.args.to.len some step c.if-passed-to.false c.requires.phases in
     let head = mod_below c.args.to.start b some in
-    let lengths = c.requires.lengths in
+    let lengths = c.requires.span.lengths in
     let left = c.if-passed-to.false in
     let whole : c.len-passed.result + (c.args.from.len - c.len-passed.result) ≡ c.args.from.len = omega arith in
     let all = rw whole at (touched-inside b c.args.from.start c.len-passed.result (c.args.from.len - c.len-passed.result) some (omega arith) inside) in

@@ -7,24 +7,24 @@ use Rattle.bitvec_move.proofs.copying_shifted.shift_carried.Goals as goal
 
 pub overflow_add-source : goal.overflow_add-source
 overflow_add-source g c =
-    let below = next-word _ _ _ _ _ _ g.met.C.Elem.BitStore.width_law c.requires.right_window c.requires.some c.loop-step-test.true in
+    let below = next-word _ _ _ _ _ _ g.met.C.Elem.BitStore.width_law c.requires.shifted.span.beside c.requires.shifted.inside c.loop-step-test.true in
     omega arith
 
 pub overflow_add-source-in-loop-step : goal.overflow_add-source-in-loop-step
 overflow_add-source-in-loop-step g c =
-    let below = next-word _ _ _ _ _ _ g.met.C.Elem.BitStore.width_law c.requires.right_window c.requires.some c.loop-step-test.true in
+    let below = next-word _ _ _ _ _ _ g.met.C.Elem.BitStore.width_law c.requires.shifted.span.beside c.requires.shifted.inside c.loop-step-test.true in
     omega arith
 
 pub load-requires : goal.load-requires
-load-requires g c = rw c.loop-step.invariant.right.numbers (next-inside _ _ _ _ _ _ _ c.requires.right_window c.requires.some c.loop-step-test.true refl)
+load-requires g c = rw c.loop-step.invariant.right.numbers (next-inside _ _ _ _ _ _ _ c.requires.shifted.span.beside c.requires.shifted.inside c.loop-step-test.true refl)
 
 pub overflow_add-first : goal.overflow_add-first
 overflow_add-first g c =
-    let below = inside-word _ _ _ _ _ g.met.C.Elem.BitStore.width_law c.requires.window c.loop-step-test.true in
+    let below = inside-word _ _ _ _ _ g.met.C.Elem.BitStore.width_law c.requires.shifted.span.window c.loop-step-test.true in
     omega arith
 
 pub store-requires : goal.store-requires
-store-requires g c = inside _ _ _ _ _ _ g.met.C.Elem.BitStore.width_law c.requires.window c.loop-step-test.true c.loop-step.invariant.writes.elements
+store-requires g c = inside _ _ _ _ _ _ g.met.C.Elem.BitStore.width_law c.requires.shifted.span.window c.loop-step-test.true c.loop-step.invariant.writes.elements
 
 pub returns-clause-writes : goal.returns-clause-writes
 returns-clause-writes g c =
@@ -48,8 +48,8 @@ returns-clause-right g c =
 
 pub loop-step-init : goal.loop-step-init
 loop-step-init g c = record {
-  writes = Writes-no_element _ _ _ _ _ _ _ c.requires.window (omega arith);
-  carried = c.of-last.ensures ∙ c.requires.carry ∙ ap (slice_index (g.D.CellsRead.numbers c.args.right.now)) (omega arith);
+  writes = Writes-no_element _ _ _ _ _ _ _ c.requires.shifted.span.window (omega arith);
+  carried = c.of-last.ensures ∙ c.requires.shifted.carried ∙ ap (slice_index (g.D.CellsRead.numbers c.args.right.now)) (omega arith);
   cost = search rules;
   right = search rules;
 }
@@ -64,8 +64,8 @@ loop-step-preserved g c =
     record {
       writes = rw (c.store.ensures.numbers)
           (Writes-is _ _ _ _ _ _ _
-          (Writes-element _ _ _ _ _ _ _ _ _ some c.requires.window more inv.writes)
-          (rw joined (list-joined _ _ _ _ _ _ _ c.requires.some c.requires.bound c.requires.right_window more)));
+          (Writes-element _ _ _ _ _ _ _ _ _ some c.requires.shifted.span.window more inv.writes)
+          (rw joined (list-joined _ _ _ _ _ _ _ c.requires.shifted.inside c.requires.shifted.bound c.requires.shifted.span.beside more)));
       carried = value ∙ ap (slice_index (g.D.CellsRead.numbers c.args.right.now)) (omega arith);
       cost = search rules;
       right = search rules;

@@ -3,13 +3,15 @@ use Rattle.bitvec_words.specs.base.Lists.{copied_within}
 use Rattle.bitvec_words.specs.base.WritesLaws.{HasWindow-range, Writes-is, Writes-range, list-range}
 use Rattle.bitvec_move.proofs.copying_within.copy_within.Goals as goal
 
-pub move_window-requires-clause-window : goal.move_window-requires-clause-window
-move_window-requires-clause-window g c =
-    rw c.range-target.ensures (HasWindow-range _ _ _ c.args.dest (c.args.dest + (c.args.to - c.args.from)) c.requires.window (omega arith) c.requires.fits.room)
-
-pub move_window-requires-clause-source : goal.move_window-requires-clause-source
-move_window-requires-clause-source g c =
-    rw c.range-source.ensures (HasWindow-range _ _ _ c.args.from c.args.to c.requires.window c.requires.fits.order c.requires.fits.source)
+pub move_window-requires : goal.move_window-requires
+move_window-requires g c =
+    let fits = c.requires.fits in
+    let window = c.requires.window in
+    rw (c.range-target.ensures, c.range-source.ensures) (record {
+      window = HasWindow-range _ _ _ c.args.dest (c.args.dest + (c.args.to - c.args.from)) window (omega arith) fits.room;
+      beside = HasWindow-range _ _ _ c.args.from c.args.to window fits.order fits.source;
+      lengths = omega arith;
+    })
 
 pub returns-clause-writes : goal.returns-clause-writes
 unfolding copied_within

@@ -13,7 +13,7 @@ use Rattle.bitvec_move.proofs.moving_edge.move_edge.Goals as goal
 pub returns-then-to-eq0-clause-writes : goal.returns-then-to-eq0-clause-writes
 returns-then-to-eq0-clause-writes g c =
     let none = c.if-to-eq0.true in
-    Writes-none _ _ _ _ _ _ c.requires.window none (sym c.requires.lengths ∙ none)
+    Writes-none _ _ _ _ _ _ c.requires.span.window none (sym c.requires.span.lengths ∙ none)
 
 pub returns-clause-writes : goal.returns-clause-writes
 returns-clause-writes g c =
@@ -26,7 +26,7 @@ returns-clause-writes g c =
     let first = ap (λ (p : Part). p.from) part in
     let last = ap (λ (p : Part). p.to) part in
     let fits = c.requires.one in
-    let lengths = c.requires.lengths in
+    let lengths = c.requires.span.lengths in
     let end : c.first_part-part.result.to ≡ c.first_part-part.result.from + c.args.from.len = omega arith in
     let inside : c.first_part-part.result.to ≤ length front = omega arith in
     Writes-is _ _ _ _ _ _ _ (rw (c.field-front.ensures.reads.numbers, c.toward_end.ensures, place) at c.store_part.ensures.writes)

@@ -8,7 +8,7 @@ pub loop-step-init : goal.loop-step-init
 loop-step-init g c =
     let none : c.args.count - c.args.count ≡ 0 = omega arith in
     record {
-      writes = Writes-no_element_ahead _ _ _ _ c.args.count _ _ c.requires.window none (rw none (omega arith));
+      writes = Writes-no_element_ahead _ _ _ _ c.args.count _ _ c.requires.span.window none (rw none (omega arith));
       cost = rw none (search rules);
     }
 
@@ -21,11 +21,11 @@ loop-step-preserved g c =
     let towards = c.requires.towards_end in
     let more : 0 < left = omega arith in
     let moved : count - (left - 1) ≡ count - left + 1 = omega arith in
-    let kept = element-left_ahead _ _ _ _ c.args.first count left (count - left) (c.args.source + (left - 1)) _ c.requires.window (omega arith) (omega arith) inv.writes in
+    let kept = element-left_ahead _ _ _ _ c.args.first count left (count - left) (c.args.source + (left - 1)) _ c.requires.span.window (omega arith) (omega arith) inv.writes in
     record {
       writes = rw (c.store.ensures.numbers, c.load-element.ensures.numbers, c.load-element.ensures.value)
           (Writes-is _ _ _ _ _ _ _
-          (Writes-element_ahead _ _ _ _ _ _ _ _ _ some c.requires.window more (omega arith) inv.writes)
-          (rw kept (list-element_ahead _ _ _ _ _ _ some c.requires.source more (omega arith))));
+          (Writes-element_ahead _ _ _ _ _ _ _ _ _ some c.requires.span.window more (omega arith) inv.writes)
+          (rw kept (list-element_ahead _ _ _ _ _ _ some c.requires.span.beside more (omega arith))));
       cost = rw moved (search rules);
     }

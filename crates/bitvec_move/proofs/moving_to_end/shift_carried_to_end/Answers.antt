@@ -7,27 +7,27 @@ use Rattle.bitvec_move.proofs.moving_to_end.shift_carried_to_end.Goals as goal
 
 pub overflow_add-source : goal.overflow_add-source
 overflow_add-source g c =
-    let below = from-word _ _ _ _ _ c.args.count g.met.C.Elem.BitStore.width_law c.requires.source c.requires.some (omega arith) in
+    let below = from-word _ _ _ _ _ c.args.count g.met.C.Elem.BitStore.width_law c.requires.skipped.span.beside c.requires.skipped.inside (omega arith) in
     omega arith
 
 pub load-requires : goal.load-requires
-load-requires g c = from-inside _ _ _ _ _ _ _ c.requires.source c.requires.some (omega arith) refl
+load-requires g c = from-inside _ _ _ _ _ _ _ c.requires.skipped.span.beside c.requires.skipped.inside (omega arith) refl
 
 pub overflow_add-source-in-loop-step : goal.overflow_add-source-in-loop-step
 overflow_add-source-in-loop-step g c =
-    let below = from-word _ _ _ _ _ (c.loop-step.step - 1) g.met.C.Elem.BitStore.width_law c.requires.source c.requires.some (omega arith) in
+    let below = from-word _ _ _ _ _ (c.loop-step.step - 1) g.met.C.Elem.BitStore.width_law c.requires.skipped.span.beside c.requires.skipped.inside (omega arith) in
     omega arith
 
 pub load-requires-in-loop-step : goal.load-requires-in-loop-step
-load-requires-in-loop-step g c = from-inside _ _ _ _ _ _ (c.loop-step.step - 1) c.requires.source c.requires.some (omega arith) c.loop-step.invariant.writes.elements
+load-requires-in-loop-step g c = from-inside _ _ _ _ _ _ (c.loop-step.step - 1) c.requires.skipped.span.beside c.requires.skipped.inside (omega arith) c.loop-step.invariant.writes.elements
 
 pub overflow_add-first : goal.overflow_add-first
 overflow_add-first g c =
-    let below = inside-word _ _ _ _ (c.loop-step.step - 1) g.met.C.Elem.BitStore.width_law c.requires.window (omega arith) in
+    let below = inside-word _ _ _ _ (c.loop-step.step - 1) g.met.C.Elem.BitStore.width_law c.requires.skipped.span.window (omega arith) in
     omega arith
 
 pub store-requires : goal.store-requires
-store-requires g c = rw c.load-in-loop-step.ensures.numbers (inside _ _ _ _ _ (c.loop-step.step - 1) g.met.C.Elem.BitStore.width_law c.requires.window (omega arith) c.loop-step.invariant.writes.elements)
+store-requires g c = rw c.load-in-loop-step.ensures.numbers (inside _ _ _ _ _ (c.loop-step.step - 1) g.met.C.Elem.BitStore.width_law c.requires.skipped.span.window (omega arith) c.loop-step.invariant.writes.elements)
 
 pub returns-clause-writes : goal.returns-clause-writes
 returns-clause-writes g c =
@@ -47,7 +47,7 @@ pub loop-step-init : goal.loop-step-init
 loop-step-init g c =
     let none : c.args.count - c.args.count ≡ 0 = omega arith in
     record {
-      writes = rw c.load.ensures.numbers (Writes-no_element_ahead _ _ _ _ c.args.count _ _ c.requires.window none (rw none (omega arith)));
+      writes = rw c.load.ensures.numbers (Writes-no_element_ahead _ _ _ _ c.args.count _ _ c.requires.skipped.span.window none (rw none (omega arith)));
       carried = rw (c.of-last.ensures, c.load.ensures.value) refl;
       cost = rw none (search rules);
     }
@@ -61,13 +61,13 @@ loop-step-preserved g c =
     let towards = c.requires.towards_end in
     let more : 0 < left = omega arith in
     let moved : count - (left - 1) ≡ count - left + 1 = omega arith in
-    let kept = element-left_ahead _ _ _ _ c.args.first count left (count - left) (c.args.source + (left - 1)) _ c.requires.window (omega arith) (omega arith) inv.writes in
+    let kept = element-left_ahead _ _ _ _ c.args.first count left (count - left) (c.args.source + (left - 1)) _ c.requires.skipped.span.window (omega arith) (omega arith) inv.writes in
     let joined = rw (inv.carried, c.of-next.ensures, c.load-in-loop-step.ensures.value, kept) at c.joined.ensures in
     record {
       writes = rw (c.store.ensures.numbers, c.load-in-loop-step.ensures.numbers)
           (Writes-is _ _ _ _ _ _ _
-          (Writes-element_ahead _ _ _ _ _ _ _ _ _ some c.requires.window more (omega arith) inv.writes)
-          (rw joined (list-joined_ahead _ _ _ _ _ _ _ c.requires.some c.requires.bound c.requires.source more (omega arith))));
+          (Writes-element_ahead _ _ _ _ _ _ _ _ _ some c.requires.skipped.span.window more (omega arith) inv.writes)
+          (rw joined (list-joined_ahead _ _ _ _ _ _ _ c.requires.skipped.inside c.requires.skipped.bound c.requires.skipped.span.beside more (omega arith))));
       carried = rw (c.of-next.ensures, c.load-in-loop-step.ensures.value, kept) refl;
       cost = rw moved (search rules);
     }

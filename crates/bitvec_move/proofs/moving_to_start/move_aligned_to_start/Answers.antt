@@ -5,14 +5,8 @@ use Rattle.std.proofs.lemmas.Nat.{div-add-mod', mod_below}
 use Rattle.bitvec_words.specs.store.WidthLaws.{width_some}
 use Rattle.bitvec_words.specs.TouchedLaws.{touched-after}
 use Rattle.bitvec_move.specs.WithinLaws.{Writes-move_next, touched-split_whole}
-use Rattle.bitvec_move.specs.PlaceLaws.{whole-window, whole-window_from, width-some}
+use Rattle.bitvec_move.specs.PlaceLaws.{whole-span_from, width-some}
 use Rattle.bitvec_move.proofs.moving_to_start.move_aligned_to_start.Goals as goal
-
-pub nonzero_div-count : goal.nonzero_div-count
-nonzero_div-count g c = let some = width-some _ _ g.met.C.Elem.BitStore.width_law c.BITS-bits.ensures in omega arith
-
-pub nonzero_div-first : goal.nonzero_div-first
-nonzero_div-first g c = let some = width-some _ _ g.met.C.Elem.BitStore.width_law c.BITS-bits.ensures in omega arith
 
 pub nonzero_div-source : goal.nonzero_div-source
 nonzero_div-source g c = let some = width-some _ _ g.met.C.Elem.BitStore.width_law c.BITS-bits.ensures in omega arith
@@ -20,11 +14,8 @@ nonzero_div-source g c = let some = width-some _ _ g.met.C.Elem.BitStore.width_l
 pub nonzero_rem-skip : goal.nonzero_rem-skip
 nonzero_rem-skip g c = let some = width-some _ _ g.met.C.Elem.BitStore.width_law c.BITS-bits.ensures in omega arith
 
-pub move_elements_to_start-requires-clause-window : goal.move_elements_to_start-requires-clause-window
-move_elements_to_start-requires-clause-window g c = whole-window _ _ _ c.args.to _ g.met.C.Elem.BitStore.width_law c.BITS-bits.ensures c.requires.window c.requires.edge (omega arith)
-
-pub move_elements_to_start-requires-clause-source : goal.move_elements_to_start-requires-clause-source
-move_elements_to_start-requires-clause-source g c = whole-window_from _ _ _ c.args.from _ g.met.C.Elem.BitStore.width_law c.BITS-bits.ensures c.requires.source (let lengths = c.requires.lengths in omega arith)
+pub move_elements_to_start-requires-clause-span : goal.move_elements_to_start-requires-clause-span
+move_elements_to_start-requires-clause-span g c = rw c.whole_elements-first.ensures (whole-span_from _ _ _ _ c.args.to c.args.from g.met.C.Elem.BitStore.width_law c.BITS-bits.ensures c.requires.span c.requires.edge)
 
 pub move_elements_to_start-requires-clause-bound : goal.move_elements_to_start-requires-clause-bound
 move_elements_to_start-requires-clause-bound g c =
@@ -36,7 +27,7 @@ pub move_elements_to_start-requires-clause-towards_start : goal.move_elements_to
 move_elements_to_start-requires-clause-towards_start g c =
     let b = g.C.Elem.BitStore.BITS in
     let some = width_some _ g.met.C.Elem.BitStore.width_law in
-    rw c.BITS-bits.ensures (div-order b c.args.to.start c.args.from.start some c.requires.towards_start)
+    rw (c.whole_elements-first.ensures, c.BITS-bits.ensures) (div-order b c.args.to.start c.args.from.start some c.requires.towards_start)
 
 pub move_edge-requires-clause-one : goal.move_edge-requires-clause-one
 move_edge-requires-clause-one g c =
@@ -46,7 +37,7 @@ move_edge-requires-clause-one g c =
     let below = mod_below c.args.to.len b some in
     let parts = div-add-mod' c.args.to.len b in
     let edge = c.requires.edge in
-    rw (c.after.ensures, c.BITS-bits.ensures) (omega arith)
+    rw (c.after.ensures, c.whole_elements-first.ensures, c.BITS-bits.ensures) (omega arith)
 
 pub returns-clause-writes : goal.returns-clause-writes
 returns-clause-writes g c =
@@ -55,10 +46,10 @@ returns-clause-writes g c =
     let source = div-add-mod' c.args.from.start b in
     let all = div-add-mod' c.args.to.len b in
     let edge = c.requires.edge in
-    let lengths = c.requires.lengths in
-    let elements = rw c.BITS-bits.ensures at c.move_elements_to_start.ensures.writes in
-    let tail = rw (c.after.ensures, c.after-2.ensures, c.BITS-bits.ensures) at c.move_edge.ensures.writes in
-    Writes-move_next _ _ _ _ _ _ _ _ _ _ _ c.requires.window c.requires.source c.requires.towards_start
+    let lengths = c.requires.span.lengths in
+    let elements = rw (c.whole_elements-first.ensures, c.BITS-bits.ensures) at c.move_elements_to_start.ensures.writes in
+    let tail = rw (c.after.ensures, c.after-2.ensures, c.whole_elements-first.ensures, c.BITS-bits.ensures) at c.move_edge.ensures.writes in
+    Writes-move_next _ _ _ _ _ _ _ _ _ _ _ c.requires.span.window c.requires.span.beside c.requires.towards_start
     (omega arith) (omega arith) (omega arith) source refl refl (omega arith) (omega arith) elements tail
 
 pub returns-clause-cost : goal.returns-clause-cost
@@ -66,10 +57,10 @@ returns-clause-cost g c =
     let b = g.C.Elem.BitStore.BITS in
     let some = width_some _ g.met.C.Elem.BitStore.width_law in
     let all = div-add-mod' c.args.to.len b in
-    let lengths = c.requires.lengths in
+    let lengths = c.requires.span.lengths in
     let fits : c.args.to.len / b * b ≤ c.args.to.len = omega arith in
     let read = touched-split_whole b c.args.from.start c.args.from.len (c.args.to.len / b) some (omega arith) in
     let written = touched-after b c.args.to.start c.args.to.len (c.args.to.len / b) some c.requires.edge fits in
-    let elements = rw c.BITS-bits.ensures at c.move_elements_to_start.ensures.cost in
-    let tail = rw (c.after.ensures, c.after-2.ensures, c.BITS-bits.ensures) at c.move_edge.ensures.cost in
+    let elements = rw (c.whole_elements-first.ensures, c.BITS-bits.ensures) at c.move_elements_to_start.ensures.cost in
+    let tail = rw (c.after.ensures, c.after-2.ensures, c.whole_elements-first.ensures, c.BITS-bits.ensures) at c.move_edge.ensures.cost in
     record { borrow = search rules; loads = omega arith; stores = omega arith }

@@ -7,7 +7,7 @@ use Rattle.bitvec_move.proofs.moving_to_start.move_whole_to_start.Goals as goal
 
 pub loop-step-init : goal.loop-step-init
 loop-step-init g c = record {
-  writes = Writes-no_element _ _ _ _ _ _ _ c.requires.window (omega arith);
+  writes = Writes-no_element _ _ _ _ _ _ _ c.requires.span.window (omega arith);
   cost = search rules;
 }
 
@@ -18,11 +18,11 @@ loop-step-preserved g c =
     let some = width_some _ g.met.C.Elem.BitStore.width_law in
     let more = c.loop-step-test.true in
     let towards = c.requires.towards_start in
-    let kept = element-left _ _ _ _ c.args.first c.args.count step (c.args.source + step) _ c.requires.window (omega arith) (omega arith) inv.writes in
+    let kept = element-left _ _ _ _ c.args.first c.args.count step (c.args.source + step) _ c.requires.span.window (omega arith) (omega arith) inv.writes in
     record {
       writes = rw (c.store.ensures.numbers, c.load-element.ensures.numbers, c.load-element.ensures.value)
           (Writes-is _ _ _ _ _ _ _
-          (Writes-element _ _ _ _ _ _ _ _ _ some c.requires.window more inv.writes)
-          (rw kept (list-element _ _ _ _ _ _ some c.requires.source more)));
+          (Writes-element _ _ _ _ _ _ _ _ _ some c.requires.span.window more inv.writes)
+          (rw kept (list-element _ _ _ _ _ _ some c.requires.span.beside more)));
       cost = search rules;
     }

@@ -9,29 +9,29 @@ use Rattle.bitvec_move.proofs.moving_to_start.shift_carried_to_start.Goals as go
 
 pub load-requires : goal.load-requires
 load-requires g c =
-    let here = from-inside _ _ _ _ _ _ 0 c.requires.source c.requires.some (omega arith) refl in
+    let here = from-inside _ _ _ _ _ _ 0 c.requires.skipped.span.beside c.requires.skipped.inside (omega arith) refl in
     omega arith
 
 pub overflow_add-source : goal.overflow_add-source
 overflow_add-source g c =
-    let below = next-word _ _ _ _ _ _ g.met.C.Elem.BitStore.width_law c.requires.source c.requires.some c.loop-step-test.true in
+    let below = next-word _ _ _ _ _ _ g.met.C.Elem.BitStore.width_law c.requires.skipped.span.beside c.requires.skipped.inside c.loop-step-test.true in
     omega arith
 
 pub overflow_add-source-in-loop-step : goal.overflow_add-source-in-loop-step
 overflow_add-source-in-loop-step g c =
-    let below = next-word _ _ _ _ _ _ g.met.C.Elem.BitStore.width_law c.requires.source c.requires.some c.loop-step-test.true in
+    let below = next-word _ _ _ _ _ _ g.met.C.Elem.BitStore.width_law c.requires.skipped.span.beside c.requires.skipped.inside c.loop-step-test.true in
     omega arith
 
 pub load-requires-in-loop-step : goal.load-requires-in-loop-step
-load-requires-in-loop-step g c = next-inside _ _ _ _ _ _ _ c.requires.source c.requires.some c.loop-step-test.true c.loop-step.invariant.writes.elements
+load-requires-in-loop-step g c = next-inside _ _ _ _ _ _ _ c.requires.skipped.span.beside c.requires.skipped.inside c.loop-step-test.true c.loop-step.invariant.writes.elements
 
 pub overflow_add-first : goal.overflow_add-first
 overflow_add-first g c =
-    let below = inside-word _ _ _ _ _ g.met.C.Elem.BitStore.width_law c.requires.window c.loop-step-test.true in
+    let below = inside-word _ _ _ _ _ g.met.C.Elem.BitStore.width_law c.requires.skipped.span.window c.loop-step-test.true in
     omega arith
 
 pub store-requires : goal.store-requires
-store-requires g c = rw c.load-in-loop-step.ensures.numbers (inside _ _ _ _ _ _ g.met.C.Elem.BitStore.width_law c.requires.window c.loop-step-test.true c.loop-step.invariant.writes.elements)
+store-requires g c = rw c.load-in-loop-step.ensures.numbers (inside _ _ _ _ _ _ g.met.C.Elem.BitStore.width_law c.requires.skipped.span.window c.loop-step-test.true c.loop-step.invariant.writes.elements)
 
 pub returns-clause-writes : goal.returns-clause-writes
 returns-clause-writes g c =
@@ -49,7 +49,7 @@ loop-step-init g c =
     let at = g.O.BitOrder.at in
     let old = g.C.CellsRead.numbers c.args.cells.now in
     record {
-      writes = rw c.load.ensures.numbers (Writes-no_element _ _ _ _ _ _ _ c.requires.window (omega arith));
+      writes = rw c.load.ensures.numbers (Writes-no_element _ _ _ _ _ _ _ c.requires.skipped.span.window (omega arith));
       carried = rw (c.of-last.ensures, c.load.ensures.value) (ap (λ (e : ℕ). element_bits b at (slice_index old e)) (omega arith));
       cost = search rules;
     }
@@ -64,13 +64,13 @@ loop-step-preserved g c =
     let some = width_some _ g.met.C.Elem.BitStore.width_law in
     let more = c.loop-step-test.true in
     let towards = c.requires.towards_start in
-    let kept = element-left b at _ _ c.args.first c.args.count step (c.args.source + step + 1) _ c.requires.window (omega arith) (omega arith) inv.writes in
+    let kept = element-left b at _ _ c.args.first c.args.count step (c.args.source + step + 1) _ c.requires.skipped.span.window (omega arith) (omega arith) inv.writes in
     let joined = rw (inv.carried, c.of-next.ensures, c.load-in-loop-step.ensures.value, kept) at c.joined.ensures in
     record {
       writes = rw (c.store.ensures.numbers, c.load-in-loop-step.ensures.numbers)
           (Writes-is _ _ _ _ _ _ _
-          (Writes-element _ _ _ _ _ _ _ _ _ some c.requires.window more inv.writes)
-          (rw joined (list-joined _ _ _ _ _ _ _ c.requires.some c.requires.bound c.requires.source more)));
+          (Writes-element _ _ _ _ _ _ _ _ _ some c.requires.skipped.span.window more inv.writes)
+          (rw joined (list-joined _ _ _ _ _ _ _ c.requires.skipped.inside c.requires.skipped.bound c.requires.skipped.span.beside more)));
       carried = rw (c.of-next.ensures, c.load-in-loop-step.ensures.value, kept) (ap (λ (e : ℕ). element_bits b at (slice_index old e)) (omega arith));
       cost = search rules;
     }

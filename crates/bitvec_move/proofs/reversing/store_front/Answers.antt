@@ -49,7 +49,7 @@ returns-clause-writes g c =
     let second = rw (c.toward_start.ensures, head) at c.store_part-2.ensures.writes in
     let tail : Part = record { element = window.start / b + 1; from = 0; to = window.len - passed } in
     Writes-is _ _ _ _ _ _ _
-    (Writes-head b at _ _ _ window passed _ _ some c.requires.some long c.requires.window
+    (Writes-head b at _ _ _ window passed _ _ some c.requires.some long c.requires.inside
     (Writes-is _ _ _ _ _ _ _ first (range-shifted _ (window.start % b) passed (window.start % b + min window.len (b - window.start % b)) (omega arith) (omega arith)))
     (Writes-same (part_window b tail) (window_after passed window) (omega arith) (omega arith) second))
     (take-parted _ passed window.len (omega arith) (omega arith))

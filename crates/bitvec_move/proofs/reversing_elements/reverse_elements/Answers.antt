@@ -9,11 +9,11 @@ use Rattle.bitvec_move.specs.SettledLaws.{Writes-front_reversed}
 use Rattle.bitvec_words.specs.TouchedLaws.{touched-full, touched-more}
 use Rattle.bitvec_move.proofs.reversing_elements.reverse_elements.Goals as goal
 
-pub returns-then-part-eq0-clause-cost : goal.returns-then-part-eq0-clause-cost
-returns-then-part-eq0-clause-cost g c =
-    let full = rw c.BITS-bits.ensures at c.if-part-eq0.true in
+pub returns-then-tail-eq0-clause-cost : goal.returns-then-tail-eq0-clause-cost
+returns-then-tail-eq0-clause-cost g c =
+    let full = rw (c.tail_part-tail.ensures, c.BITS-bits.ensures) at c.if-tail-eq0.true in
     let all = touched-full g.C.Elem.BitStore.BITS c.args.window.start c.args.window.len (width_some _ g.met.C.Elem.BitStore.width_law) c.requires.edge full in
-    let cost = rw c.BITS-bits.ensures at c.reverse_whole.ensures.cost in
+    let cost = rw (c.whole_elements-first.ensures, c.BITS-bits.ensures) at c.reverse_whole.ensures.cost in
     record { borrow = search rules; loads = omega arith; stores = omega arith }
 
 pub returns-clause-writes : goal.returns-clause-writes
@@ -26,7 +26,7 @@ returns-clause-writes g c =
     let low = has.within.start in
     let high = has.within.len in
     let edge = c.requires.edge in
-    let left = rw c.BITS-bits.ensures at c.if-part-eq0.false in
+    let left = rw (c.tail_part-tail.ensures, c.BITS-bits.ensures) at c.if-tail-eq0.false in
     let place = div-add-mod' window.start b in
     let all = div-add-mod' window.len b in
     let below = mod_below window.len b (width_some _ g.met.C.Elem.BitStore.width_law) in
@@ -36,12 +36,12 @@ returns-clause-writes g c =
     let same : count - 1 ≡ window.len / b = omega arith in
     let len : (count - 1) * b + window.len % b ≡ window.len = ap (λ (n : ℕ). n * b + window.len % b) same ∙ all in
     let whole : HasWindow b old (elements_window b (window.start / b) count) = record { fits = has.fits; within = record { start = omega arith; len = omega arith } } in
-    let writes = rw (c.BITS-bits.ensures, len) at c.reverse_shifted.ensures.writes in
+    let writes = rw (c.whole_elements-first.ensures, c.tail_part-tail.ensures, c.BITS-bits.ensures, len) at c.reverse_shifted.ensures.writes in
     Writes-front_reversed b at old _ (elements_window b (window.start / b) count) window whole (omega arith) (omega arith) writes
 
 pub returns-clause-cost : goal.returns-clause-cost
 returns-clause-cost g c =
-    let left = rw c.BITS-bits.ensures at c.if-part-eq0.false in
+    let left = rw (c.tail_part-tail.ensures, c.BITS-bits.ensures) at c.if-tail-eq0.false in
     let all = touched-more g.C.Elem.BitStore.BITS c.args.window.start c.args.window.len (width_some _ g.met.C.Elem.BitStore.width_law) c.requires.edge (omega arith) in
-    let cost = rw c.BITS-bits.ensures at c.reverse_shifted.ensures.cost in
+    let cost = rw (c.whole_elements-first.ensures, c.BITS-bits.ensures) at c.reverse_shifted.ensures.cost in
     record { borrow = search rules; loads = omega arith; stores = omega arith }

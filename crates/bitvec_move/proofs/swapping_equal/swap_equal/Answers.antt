@@ -4,7 +4,7 @@ use Rattle.bitvec_words.specs.base.Parts.{first_part_of}
 use Rattle.bitvec_words.specs.store.WidthLaws.{width_some}
 use Rattle.bitvec_words.specs.walk.Cost.{touched_count}
 use Rattle.bitvec_words.specs.FieldLaws.{first_part-long}
-use Rattle.bitvec_move.specs.SwapLaws.{Writes-exchanged, beside-head}
+use Rattle.bitvec_move.specs.SwapLaws.{Swaps-joined, beside-head}
 use Rattle.bitvec_words.specs.TouchedLaws.{touched-head, touched-rest}
 use Rattle.bitvec_move.specs.PlaceLaws.{behind-edge, head-element, head-part, width-some}
 use Rattle.bitvec_move.proofs.swapping_equal.swap_equal.Goals as goal
@@ -16,13 +16,13 @@ pub first_part-head-requires-clause-bits : goal.first_part-head-requires-clause-
 first_part-head-requires-clause-bits g c = width-some _ _ g.met.C.Elem.BitStore.width_law c.BITS-bits.ensures
 
 pub swap_part-requires-clause-part : goal.swap_part-requires-clause-part
-swap_part-requires-clause-part g c = head-part _ _ _ c.args.left_window _ g.met.C.Elem.BitStore.width_law c.BITS-bits.ensures c.first_part-head.ensures c.requires.some c.requires.window
+swap_part-requires-clause-part g c = head-part _ _ _ c.args.left_window _ g.met.C.Elem.BitStore.width_law c.BITS-bits.ensures c.first_part-head.ensures c.requires.some c.requires.span.window
 
 pub swap_part-requires-clause-source : goal.swap_part-requires-clause-source
 swap_part-requires-clause-source g c =
-    let lengths = c.requires.lengths in
+    let lengths = c.requires.span.lengths in
     let some = c.requires.some in
-    head-element _ _ _ c.args.right_window g.met.C.Elem.BitStore.width_law c.BITS-bits.ensures (omega arith) c.requires.right_window
+    head-element _ _ _ c.args.right_window g.met.C.Elem.BitStore.width_law c.BITS-bits.ensures (omega arith) c.requires.span.beside
 
 pub swap_aligned-requires-clause-edge : goal.swap_aligned-requires-clause-edge
 swap_aligned-requires-clause-edge g c =
@@ -34,7 +34,7 @@ pub swap_aligned-requires-clause-right_edge : goal.swap_aligned-requires-clause-
 swap_aligned-requires-clause-right_edge g c =
     let b = g.C.Elem.BitStore.BITS in
     let step = first_part-long c.len-passed.result b c.BITS-bits.result c.args.left_window c.first_part-head.result c.len-passed.ensures c.first_part-head.ensures c.BITS-bits.ensures in
-    let same : c.len-passed.result ≡ min c.args.right_window.len (b - c.args.right_window.start % b) = rw (c.requires.lengths, c.requires.phases) at step in
+    let same : c.len-passed.result ≡ min c.args.right_window.len (b - c.args.right_window.start % b) = rw (c.requires.span.lengths, c.requires.phases) at step in
     let left : c.len-passed.result ≢ c.args.right_window.len = λ e. c.if-passed-left_window.false (omega arith) in
     behind-edge b _ c.args.right_window _ g.met.C.Elem.BitStore.width_law c.after-behind.ensures same left
 
@@ -52,23 +52,23 @@ returns-then-passed-left_window-clause-right_cost g c =
     let b = g.C.Elem.BitStore.BITS in
     let some = width_some _ g.met.C.Elem.BitStore.width_law in
     let step = first_part-long c.len-passed.result b c.BITS-bits.result c.args.left_window c.first_part-head.result c.len-passed.ensures c.first_part-head.ensures c.BITS-bits.ensures in
-    let same : c.len-passed.result ≡ min c.args.right_window.len (b - c.args.right_window.start % b) = rw (c.requires.lengths, c.requires.phases) at step in
+    let same : c.len-passed.result ≡ min c.args.right_window.len (b - c.args.right_window.start % b) = rw (c.requires.span.lengths, c.requires.phases) at step in
     let one = touched-head b c.args.right_window.start c.len-passed.result c.args.right_window.len some (omega arith) same in
-    let all = ap (touched_count b c.args.right_window.start) (c.if-passed-left_window.true ∙ c.requires.lengths) in
+    let all = ap (touched_count b c.args.right_window.start) (c.if-passed-left_window.true ∙ c.requires.span.lengths) in
     record { borrow = search rules; loads = omega arith; stores = omega arith }
 
-pub returns-clause-writes : goal.returns-clause-writes
-returns-clause-writes g c =
+pub returns-clause-swaps : goal.returns-clause-swaps
+returns-clause-swaps g c =
     let b = g.C.Elem.BitStore.BITS in
     let some = width_some _ g.met.C.Elem.BitStore.width_law in
     let head : c.first_part-head.result ≡ first_part_of b c.args.left_window = c.first_part-head.ensures ∙ ap (λ (n : ℕ). first_part_of n c.args.left_window) c.BITS-bits.ensures in
     let step = c.len-passed.ensures ∙ ap (λ (p : Part). p.to - p.from) head in
-    let first = rw (head, c.BITS-bits.ensures) at c.swap_part.ensures in
-    let rest = rw (c.after-rest.ensures, c.after-behind.ensures) at c.swap_aligned.ensures in
-    Writes-exchanged _ _ _ _ _ _ _ _ _ _ _ _ _ _ c.requires.window c.requires.right_window
+    let first = rw (head, c.BITS-bits.ensures) at c.swap_part.ensures.swaps in
+    let rest = rw (c.after-rest.ensures, c.after-behind.ensures) at c.swap_aligned.ensures.swaps in
+    Swaps-joined _ _ _ _ _ _ _ _ _ _ _ _ _ _ c.requires.span.window c.requires.span.beside
     (beside-head b c.args.left_window c.args.left_window c.len-passed.result some c.requires.some step refl refl)
-    (beside-head b c.args.left_window c.args.right_window c.len-passed.result some c.requires.some step c.requires.lengths c.requires.phases)
-    first.writes rest.writes first.right_writes
+    (beside-head b c.args.left_window c.args.right_window c.len-passed.result some c.requires.some step c.requires.span.lengths c.requires.phases)
+    first rest
 
 pub returns-clause-cost : goal.returns-clause-cost
 returns-clause-cost g c =
@@ -79,25 +79,12 @@ returns-clause-cost g c =
     let rest = rw c.after-rest.ensures at c.swap_aligned.ensures.cost in
     record { borrow = search rules; loads = omega arith; stores = omega arith }
 
-pub returns-clause-right_writes : goal.returns-clause-right_writes
-returns-clause-right_writes g c =
-    let b = g.C.Elem.BitStore.BITS in
-    let some = width_some _ g.met.C.Elem.BitStore.width_law in
-    let head : c.first_part-head.result ≡ first_part_of b c.args.left_window = c.first_part-head.ensures ∙ ap (λ (n : ℕ). first_part_of n c.args.left_window) c.BITS-bits.ensures in
-    let step = c.len-passed.ensures ∙ ap (λ (p : Part). p.to - p.from) head in
-    let first = rw (head, c.BITS-bits.ensures) at c.swap_part.ensures in
-    let rest = rw (c.after-rest.ensures, c.after-behind.ensures) at c.swap_aligned.ensures in
-    Writes-exchanged _ _ _ _ _ _ _ _ _ _ _ _ _ _ c.requires.right_window c.requires.window
-    (beside-head b c.args.left_window c.args.right_window c.len-passed.result some c.requires.some step c.requires.lengths c.requires.phases)
-    (beside-head b c.args.left_window c.args.left_window c.len-passed.result some c.requires.some step refl refl)
-    first.right_writes rest.right_writes first.writes
-
 pub returns-clause-right_cost : goal.returns-clause-right_cost
 returns-clause-right_cost g c =
     let b = g.C.Elem.BitStore.BITS in
     let some = width_some _ g.met.C.Elem.BitStore.width_law in
     let step = first_part-long c.len-passed.result b c.BITS-bits.result c.args.left_window c.first_part-head.result c.len-passed.ensures c.first_part-head.ensures c.BITS-bits.ensures in
-    let same : c.len-passed.result ≡ min c.args.right_window.len (b - c.args.right_window.start % b) = rw (c.requires.lengths, c.requires.phases) at step in
+    let same : c.len-passed.result ≡ min c.args.right_window.len (b - c.args.right_window.start % b) = rw (c.requires.span.lengths, c.requires.phases) at step in
     let left : c.len-passed.result ≢ c.args.right_window.len = λ e. c.if-passed-left_window.false (omega arith) in
     let all = touched-rest b c.args.right_window.start c.len-passed.result c.args.right_window.len some (omega arith) same left in
     let rest = rw c.after-behind.ensures at c.swap_aligned.ensures.right_cost in

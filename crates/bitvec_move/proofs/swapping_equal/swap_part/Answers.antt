@@ -1,18 +1,20 @@
 use Rattle.std.proofs.Common.{refl}
+use Rattle.bitvec_words.specs.base.declared.part.Part.{Part}
+use Rattle.bitvec_words.specs.base.Parts.{HasPart}
 use Rattle.bitvec_words.specs.store.WidthLaws.{width_some}
 use Rattle.bitvec_move.specs.SwapLaws.{Writes-exchanged_part}
 use Rattle.bitvec_move.proofs.swapping_equal.swap_part.Goals as goal
 
-pub returns-clause-writes : goal.returns-clause-writes
-returns-clause-writes g c =
+pub returns-clause-swaps : goal.returns-clause-swaps
+returns-clause-swaps g c =
+    let some = width_some _ g.met.C.Elem.BitStore.width_law in
+    let part = c.args.part in
+    let its : Part = record part { element = c.args.source } in
+    let has = c.requires.part in
+    let its_has : HasPart g.C.Elem.BitStore.BITS (g.D.CellsRead.numbers c.args.right.now) its = record { element = c.requires.source; order = has.order; bound = has.bound } in
     let merged = rw c.load-element.ensures.value at c.merged-new.ensures in
-    rw (c.store.ensures.numbers, c.load-element.ensures.numbers)
-    (Writes-exchanged_part _ _ _ _ c.args.part (record c.args.part { element = c.args.source }) _ _ (width_some _ g.met.C.Elem.BitStore.width_law) c.requires.part
-    (record { element = c.requires.source; order = c.requires.part.order; bound = c.requires.part.bound }) refl refl c.load-other.ensures.value merged)
-
-pub returns-clause-right_writes : goal.returns-clause-right_writes
-returns-clause-right_writes g c =
-    let merged = rw c.load-other.ensures.value at c.merged-right_new.ensures in
-    rw (c.store-2.ensures.numbers, c.load-other.ensures.numbers)
-    (Writes-exchanged_part _ _ _ _ (record c.args.part { element = c.args.source }) c.args.part _ _ (width_some _ g.met.C.Elem.BitStore.width_law)
-    (record { element = c.requires.source; order = c.requires.part.order; bound = c.requires.part.bound }) c.requires.part refl refl c.load-element.ensures.value merged)
+    let its_merged = rw c.load-other.ensures.value at c.merged-right_new.ensures in
+    record {
+      writes = rw (c.store.ensures.numbers, c.load-element.ensures.numbers) (Writes-exchanged_part _ _ _ _ part its _ _ some has its_has refl refl c.load-other.ensures.value merged);
+      right_writes = rw (c.store-2.ensures.numbers, c.load-other.ensures.numbers) (Writes-exchanged_part _ _ _ _ its part _ _ some its_has has refl refl c.load-element.ensures.value its_merged);
+    }

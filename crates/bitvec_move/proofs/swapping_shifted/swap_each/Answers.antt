@@ -11,51 +11,46 @@ use Rattle.bitvec_move.proofs.swapping_shifted.swap_each.Goals as goal
 
 pub overflow_add-first : goal.overflow_add-first
 overflow_add-first g c =
-    let below = inside-word _ _ _ _ _ g.met.C.Elem.BitStore.width_law c.requires.window c.loop-step-test.true in
+    let below = inside-word _ _ _ _ _ g.met.C.Elem.BitStore.width_law c.requires.span.window c.loop-step-test.true in
     omega arith
 
 pub overflow_add-first-in-loop-step : goal.overflow_add-first-in-loop-step
 overflow_add-first-in-loop-step g c =
-    let below = inside-word _ _ _ _ _ g.met.C.Elem.BitStore.width_law c.requires.window c.loop-step-test.true in
+    let below = inside-word _ _ _ _ _ g.met.C.Elem.BitStore.width_law c.requires.span.window c.loop-step-test.true in
     omega arith
 
 pub overflow_add-source : goal.overflow_add-source
 overflow_add-source g c =
-    let below = next-word _ _ _ _ _ _ g.met.C.Elem.BitStore.width_law c.requires.right_window c.requires.some c.loop-step-test.true in
+    let below = next-word _ _ _ _ _ _ g.met.C.Elem.BitStore.width_law c.requires.span.beside c.requires.inside c.loop-step-test.true in
     omega arith
 
 pub overflow_add-source-in-loop-step : goal.overflow_add-source-in-loop-step
 overflow_add-source-in-loop-step g c =
-    let below = next-word _ _ _ _ _ _ g.met.C.Elem.BitStore.width_law c.requires.right_window c.requires.some c.loop-step-test.true in
+    let below = next-word _ _ _ _ _ _ g.met.C.Elem.BitStore.width_law c.requires.span.beside c.requires.inside c.loop-step-test.true in
     omega arith
 
 pub overflow_add-source-in-loop-step-2 : goal.overflow_add-source-in-loop-step-2
 overflow_add-source-in-loop-step-2 g c =
-    let below = next-word _ _ _ _ _ _ g.met.C.Elem.BitStore.width_law c.requires.right_window c.requires.some c.loop-step-test.true in
+    let below = next-word _ _ _ _ _ _ g.met.C.Elem.BitStore.width_law c.requires.span.beside c.requires.inside c.loop-step-test.true in
     omega arith
 
 pub store-requires : goal.store-requires
-store-requires g c = rw c.load-element.ensures.numbers (inside _ _ _ _ _ _ g.met.C.Elem.BitStore.width_law c.requires.window c.loop-step-test.true c.loop-step.invariant.writes.elements)
+store-requires g c = rw c.load-element.ensures.numbers (inside _ _ _ _ _ _ g.met.C.Elem.BitStore.width_law c.requires.span.window c.loop-step-test.true c.loop-step.invariant.swaps.writes.elements)
 
 pub store-requires-in-loop-step : goal.store-requires-in-loop-step
 store-requires-in-loop-step g c =
-    let next = across-next _ _ _ _ _ _ _ _ _ _ _ c.requires.some c.requires.right_window c.loop-step-test.true c.loop-step.invariant.right_writes in
+    let next = across-next _ _ _ _ _ _ _ _ _ _ _ c.requires.inside c.requires.span.beside c.loop-step-test.true c.loop-step.invariant.swaps.right_writes in
     rw c.load-next.ensures.numbers (omega arith)
 
-pub returns-clause-writes : goal.returns-clause-writes
-returns-clause-writes g c =
+pub returns-clause-swaps : goal.returns-clause-swaps
+returns-clause-swaps g c =
     let all : c.loop-step.step ≡ c.args.count = omega arith in
-    rw (← all) c.loop-step.invariant.writes
+    rw (← all) c.loop-step.invariant.swaps
 
 pub returns-clause-cost : goal.returns-clause-cost
 returns-clause-cost g c =
     let all : c.loop-step.step ≡ c.args.count = omega arith in
     rw (← all) c.loop-step.invariant.cost
-
-pub returns-clause-right_writes : goal.returns-clause-right_writes
-returns-clause-right_writes g c =
-    let all : c.loop-step.step ≡ c.args.count = omega arith in
-    rw (← all) c.loop-step.invariant.right_writes
 
 pub returns-clause-right_cost : goal.returns-clause-right_cost
 returns-clause-right_cost g c =
@@ -64,20 +59,22 @@ returns-clause-right_cost g c =
 
 pub loop-step-init : goal.loop-step-init
 loop-step-init g c = record {
-  writes = Writes-no_element _ _ _ _ _ _ _ c.requires.window (omega arith);
+  swaps = record {
+    writes = Writes-no_element _ _ _ _ _ _ _ c.requires.span.window (omega arith);
+    right_writes = across-none _ _ _ _ _ _ _ _ _ c.requires.span.beside;
+  };
   cost = search rules;
-  right_writes = across-none _ _ _ _ _ _ _ _ _ c.requires.right_window;
   right_cost = search rules;
   ends = ends-start _ _ _ _ (length-element_bits _ _ _) c.requires.bound (rw c.BITS.ensures at c.toward_end-before.ensures);
 }
 
 pub load-element-requires : goal.load-element-requires
 load-element-requires g c =
-    next_element _ _ _ _ _ _ (width_some _ g.met.C.Elem.BitStore.width_law) c.requires.window c.loop-step-test.true c.loop-step.invariant.writes.elements
+    next_element _ _ _ _ _ _ (width_some _ g.met.C.Elem.BitStore.width_law) c.requires.span.window c.loop-step-test.true c.loop-step.invariant.swaps.writes.elements
 
 pub load-next-requires : goal.load-next-requires
 load-next-requires g c =
-    across-next _ _ _ _ _ _ _ _ _ _ _ c.requires.some c.requires.right_window c.loop-step-test.true c.loop-step.invariant.right_writes
+    across-next _ _ _ _ _ _ _ _ _ _ _ c.requires.inside c.requires.span.beside c.loop-step-test.true c.loop-step.invariant.swaps.right_writes
 
 pub loop-step-preserved : goal.loop-step-preserved
 loop-step-preserved g c =
@@ -97,12 +94,14 @@ loop-step-preserved g c =
     let merged = rw (c.load-next.ensures.value, carried) at c.merged-last.ensures in
     let waits = merged ∙ ap (write_at next 0) (range-carried element b c.args.skip long below) in
     record {
-      writes = rw (c.store.ensures.numbers, c.load-element.ensures.numbers)
-          (across-element _ _ _ _ _ _ _ _ _ _ _ _ _ _ _ some c.requires.some below c.requires.window c.requires.right_window more joined inv.writes inv.right_writes);
+      swaps = record {
+        writes = rw (c.store.ensures.numbers, c.load-element.ensures.numbers)
+            (across-element _ _ _ _ _ _ _ _ _ _ _ _ _ _ _ some c.requires.inside below c.requires.span.window c.requires.span.beside more joined inv.swaps.writes inv.swaps.right_writes);
+        right_writes = rw (c.store-in-loop-step.ensures.numbers, c.load-next.ensures.numbers)
+            (across-bits _ _ _ _ _ _ _ _ _ _ _ _ _ _ _ some c.requires.inside below c.requires.span.window c.requires.span.beside more
+            (met ∙ ends-joined b c.args.skip _ _ _ element (length-element_bits _ _ _) long below inv.ends) waits inv.swaps.writes inv.swaps.right_writes);
+      };
       cost = search rules;
-      right_writes = rw (c.store-in-loop-step.ensures.numbers, c.load-next.ensures.numbers)
-          (across-bits _ _ _ _ _ _ _ _ _ _ _ _ _ _ _ some c.requires.some below c.requires.window c.requires.right_window more
-          (met ∙ ends-joined b c.args.skip _ _ _ element (length-element_bits _ _ _) long below inv.ends) waits inv.writes inv.right_writes);
       right_cost = search rules;
       ends = rw (c.load-element.ensures.value, c.load-next.ensures.value) (ends-next b c.args.skip _ element next long next_long below waits);
     }

@@ -6,8 +6,9 @@ use Rattle.bitvec_words.specs.base.Parts.{first_part_of}
 use Rattle.bitvec_words.specs.store.WidthLaws.{width_some}
 use Rattle.bitvec_words.specs.walk.Cost.{touched_count}
 use Rattle.bitvec_words.specs.FieldLaws.{first_part-long}
-use Rattle.bitvec_move.specs.SwapLaws.{Writes-exchanged, beside-head, beside-parted}
+use Rattle.bitvec_move.specs.SwapLaws.{Swaps-joined, beside-head, beside-parted}
 use Rattle.bitvec_words.specs.TouchedLaws.{apart_edge, inside_element, touched-first, touched-head, touched-inside, touched-rest}
+use Rattle.bitvec_move.specs.WithinLaws.{part-first}
 use Rattle.bitvec_move.specs.PlaceLaws.{behind-edge, head-element, head-part, width-some}
 use Rattle.bitvec_move.proofs.swapping_shifted.swap_shifted.Goals as goal
 
@@ -22,25 +23,30 @@ first_part-head-requires-clause-bits g c = width-some _ _ g.met.C.Elem.BitStore.
 
 pub load-waiting-requires : goal.load-waiting-requires
 load-waiting-requires g c =
-    let lengths = c.requires.lengths in
+    let lengths = c.requires.span.lengths in
     let some = c.requires.some in
-    head-element _ _ _ c.args.right_window g.met.C.Elem.BitStore.width_law c.BITS-bits.ensures (omega arith) c.requires.right_window
+    head-element _ _ _ c.args.right_window g.met.C.Elem.BitStore.width_law c.BITS-bits.ensures (omega arith) c.requires.span.beside
 
-pub swap_waiting-last-requires-clause-part : goal.swap_waiting-last-requires-clause-part
-swap_waiting-last-requires-clause-part g c = head-part _ _ _ c.args.left_window _ g.met.C.Elem.BitStore.width_law c.BITS-bits.ensures c.first_part-head.ensures c.requires.some c.requires.window
+pub swap_waiting-last-requires : goal.swap_waiting-last-requires
+swap_waiting-last-requires g c =
+    let lengths = c.requires.span.lengths in
+    record {
+      element = head-part _ _ _ c.args.left_window _ g.met.C.Elem.BitStore.width_law c.BITS-bits.ensures c.first_part-head.ensures c.requires.some c.requires.span.window;
+      beside = search rules;
+      lengths = search rules;
+      some = search rules;
+    }
 
-pub swap_rest-requires-clause-edge : goal.swap_rest-requires-clause-edge
-swap_rest-requires-clause-edge g c =
-    let b = g.C.Elem.BitStore.BITS in
-    let step = first_part-long c.len-passed.result b c.BITS-bits.result c.args.left_window c.first_part-head.result c.len-passed.ensures c.first_part-head.ensures c.BITS-bits.ensures in
-    behind-edge _ _ c.args.left_window _ g.met.C.Elem.BitStore.width_law c.after-rest.ensures step c.if-passed-left_window.false
-
-pub swap_rest-requires-clause-phase : goal.swap_rest-requires-clause-phase
-swap_rest-requires-clause-phase g c =
+pub swap_rest-requires-clause-skipped : goal.swap_rest-requires-clause-skipped
+swap_rest-requires-clause-skipped g c =
     let b = g.C.Elem.BitStore.BITS in
     let some = width_some _ g.met.C.Elem.BitStore.width_law in
     let step = first_part-long c.len-passed.result b c.BITS-bits.result c.args.left_window c.first_part-head.result c.len-passed.ensures c.first_part-head.ensures c.BITS-bits.ensures in
-    rw c.after-behind.ensures (apart_edge b c.args.left_window.start c.args.right_window.start c.len-passed.result c.args.left_window.len some step c.if-passed-left_window.false c.requires.phases)
+    record {
+      span = search rules;
+      edge = behind-edge _ _ c.args.left_window _ g.met.C.Elem.BitStore.width_law c.after-rest.ensures step c.if-passed-left_window.false;
+      inside = rw c.after-behind.ensures (apart_edge b c.args.left_window.start c.args.right_window.start c.len-passed.result c.args.left_window.len some step c.if-passed-left_window.false c.requires.phases);
+    }
 
 pub returns-then-passed-left_window-clause-cost : goal.returns-then-passed-left_window-clause-cost
 returns-then-passed-left_window-clause-cost g c =
@@ -54,18 +60,18 @@ returns-then-passed-left_window-clause-cost g c =
 pub returns-then-passed-left_window-clause-right_cost : goal.returns-then-passed-left_window-clause-right_cost
 returns-then-passed-left_window-clause-right_cost g c =
     let b = g.C.Elem.BitStore.BITS in
-    let lengths = c.requires.lengths in
+    let lengths = c.requires.span.lengths in
     let long : c.args.right_window.len - (c.args.right_window.len - c.len-passed.result) ≡ c.args.right_window.len = let all = c.if-passed-left_window.true in omega arith in
     let some = c.requires.some in
     let more = touched-first b c.args.right_window.start c.args.right_window.len (omega arith) in
     let head = rw (c.until-met.ensures, long) at c.swap_waiting-last.ensures.right_cost in
     record { borrow = search rules; loads = omega arith; stores = omega arith }
 
-pub returns-clause-writes : goal.returns-clause-writes
-returns-clause-writes g c =
+pub returns-clause-swaps : goal.returns-clause-swaps
+returns-clause-swaps g c =
     let b = g.C.Elem.BitStore.BITS in
     let some = width_some _ g.met.C.Elem.BitStore.width_law in
-    let lengths = c.requires.lengths in
+    let lengths = c.requires.span.lengths in
     let start : c.first_part-head.result ≡ first_part_of b c.args.left_window = c.first_part-head.ensures ∙ ap (λ (n : ℕ). first_part_of n c.args.left_window) c.BITS-bits.ensures in
     let long = c.len-passed.ensures ∙ ap (λ (p : Part). p.to - p.from) start in
     let step = first_part-long c.len-passed.result b c.BITS-bits.result c.args.left_window c.first_part-head.result c.len-passed.ensures c.first_part-head.ensures c.BITS-bits.ensures in
@@ -73,12 +79,12 @@ returns-clause-writes g c =
     let inside = apart_edge b c.args.left_window.start c.args.right_window.start c.len-passed.result c.args.left_window.len some step c.if-passed-left_window.false c.requires.phases in
     let same = inside_element b c.args.right_window.start c.len-passed.result some inside in
     let met : c.args.right_window.len - (c.args.right_window.len - c.len-passed.result) ≡ c.len-passed.result = omega arith in
-    let first = rw (start, c.until-met.ensures, c.load-waiting.ensures.numbers, c.load-waiting.ensures.value, c.BITS-bits.ensures, set-get_or, met, same) at c.swap_waiting-last.ensures in
-    let rest = rw (c.after-rest.ensures, c.after-behind.ensures) at c.swap_rest.ensures in
-    Writes-exchanged _ _ _ _ _ _ _ _ _ _ _ _ _ _ c.requires.window c.requires.right_window
+    let first = rw (start, c.until-met.ensures, c.load-waiting.ensures.numbers, c.load-waiting.ensures.value, c.BITS-bits.ensures, set-get_or, met, same) at c.swap_waiting-last.ensures.swaps in
+    let rest = rw (c.after-rest.ensures, c.after-behind.ensures) at c.swap_rest.ensures.swaps in
+    Swaps-joined _ _ _ _ _ _ _ _ _ _ _ _ _ _ c.requires.span.window c.requires.span.beside
     (beside-head b c.args.left_window c.args.left_window c.len-passed.result some c.requires.some long refl refl)
     (rw met at (beside-parted c.args.right_window c.len-passed.result fits))
-    first.writes rest.writes first.right_writes
+    first rest
 
 pub returns-clause-cost : goal.returns-clause-cost
 returns-clause-cost g c =
@@ -89,25 +95,6 @@ returns-clause-cost g c =
     let rest = rw c.after-rest.ensures at c.swap_rest.ensures.cost in
     record { borrow = search rules; loads = omega arith; stores = omega arith }
 
-pub returns-clause-right_writes : goal.returns-clause-right_writes
-returns-clause-right_writes g c =
-    let b = g.C.Elem.BitStore.BITS in
-    let some = width_some _ g.met.C.Elem.BitStore.width_law in
-    let lengths = c.requires.lengths in
-    let start : c.first_part-head.result ≡ first_part_of b c.args.left_window = c.first_part-head.ensures ∙ ap (λ (n : ℕ). first_part_of n c.args.left_window) c.BITS-bits.ensures in
-    let long = c.len-passed.ensures ∙ ap (λ (p : Part). p.to - p.from) start in
-    let step = first_part-long c.len-passed.result b c.BITS-bits.result c.args.left_window c.first_part-head.result c.len-passed.ensures c.first_part-head.ensures c.BITS-bits.ensures in
-    let fits : c.len-passed.result ≤ c.args.right_window.len = omega arith in
-    let inside = apart_edge b c.args.left_window.start c.args.right_window.start c.len-passed.result c.args.left_window.len some step c.if-passed-left_window.false c.requires.phases in
-    let same = inside_element b c.args.right_window.start c.len-passed.result some inside in
-    let met : c.args.right_window.len - (c.args.right_window.len - c.len-passed.result) ≡ c.len-passed.result = omega arith in
-    let first = rw (start, c.until-met.ensures, c.load-waiting.ensures.numbers, c.load-waiting.ensures.value, c.BITS-bits.ensures, set-get_or, met, same) at c.swap_waiting-last.ensures in
-    let rest = rw (c.after-rest.ensures, c.after-behind.ensures) at c.swap_rest.ensures in
-    Writes-exchanged _ _ _ _ _ _ _ _ _ _ _ _ _ _ c.requires.right_window c.requires.window
-    (rw met at (beside-parted c.args.right_window c.len-passed.result fits))
-    (beside-head b c.args.left_window c.args.left_window c.len-passed.result some c.requires.some long refl refl)
-    first.right_writes rest.right_writes first.writes
-
 pub returns-clause-right_cost : goal.returns-clause-right_cost
 returns-clause-right_cost g c =
     let b = g.C.Elem.BitStore.BITS in
@@ -115,7 +102,7 @@ returns-clause-right_cost g c =
     let step = first_part-long c.len-passed.result b c.BITS-bits.result c.args.left_window c.first_part-head.result c.len-passed.ensures c.first_part-head.ensures c.BITS-bits.ensures in
     let inside = apart_edge b c.args.left_window.start c.args.right_window.start c.len-passed.result c.args.left_window.len some step c.if-passed-left_window.false c.requires.phases in
     let head = mod_below c.args.left_window.start b some in
-    let lengths = c.requires.lengths in
+    let lengths = c.requires.span.lengths in
     let left = c.if-passed-left_window.false in
     let more = c.requires.some in
     let whole : c.len-passed.result + (c.args.right_window.len - c.len-passed.result) ≡ c.args.right_window.len = omega arith in
@@ -126,3 +113,17 @@ returns-clause-right_cost g c =
     let first = rw (c.until-met.ensures, met) at c.swap_waiting-last.ensures.right_cost in
     let rest = rw c.after-behind.ensures at c.swap_rest.ensures.right_cost in
     record { borrow = search rules; loads = omega arith; stores = omega arith }
+
+pub returns-then-passed-left_window-clause-swaps : goal.returns-then-passed-left_window-clause-swaps
+returns-then-passed-left_window-clause-swaps g c =
+    let b = g.C.Elem.BitStore.BITS in
+    let some = width_some _ g.met.C.Elem.BitStore.width_law in
+    let lengths = c.requires.span.lengths in
+    let all = c.if-passed-left_window.true in
+    let below = mod_below c.args.left_window.start b some in
+    let start : c.first_part-head.result ≡ first_part_of b c.args.left_window = c.first_part-head.ensures ∙ ap (λ (n : ℕ). first_part_of n c.args.left_window) c.BITS-bits.ensures in
+    let step = first_part-long c.len-passed.result b c.BITS-bits.result c.args.left_window c.first_part-head.result c.len-passed.ensures c.first_part-head.ensures c.BITS-bits.ensures in
+    let place = part-first b c.args.left_window (omega arith) in
+    let long : c.args.right_window.len - (c.args.right_window.len - c.len-passed.result) ≡ c.args.right_window.len = omega arith in
+    let first = rw (start, place, c.until-met.ensures, c.load-waiting.ensures.numbers, c.load-waiting.ensures.value, c.BITS-bits.ensures, set-get_or, long) at c.swap_waiting-last.ensures.swaps in
+    rw (c.store.ensures.numbers, c.until-met.ensures, c.BITS-bits.ensures, long) first

@@ -9,43 +9,39 @@ use Rattle.bitvec_words.specs.TouchedLaws.{touched-one, touched-two}
 use Rattle.bitvec_move.specs.WaitingLaws.{range-moved, range-moved_across, waiting-across, waiting-beyond, waiting-front, waiting-inside}
 use Rattle.bitvec_move.proofs.swapping_shifted.swap_waiting.Goals as goal
 
-pub returns-then-end-bits-clause-writes : goal.returns-then-end-bits-clause-writes
-returns-then-end-bits-clause-writes g c =
+pub returns-then-end-bits-clause-swaps : goal.returns-then-end-bits-clause-swaps
+returns-then-end-bits-clause-swaps g c =
     let b = g.C.Elem.BitStore.BITS in
     let at = g.O.BitOrder.at in
     let some = width_some _ g.met.C.Elem.BitStore.width_law in
     let fits = rw c.BITS-bits.ensures at c.if-end-bits.true in
-    let merged = rw c.load-element.ensures.value at c.merged.ensures in
+    let left_merged = rw c.load-element.ensures.value at c.merged.ensures in
     let front = element_bits b at (g.C.Elem.BitStore.value c.toward_start-front.result) in
-    let long = length-element_bits b at (g.C.Elem.BitStore.value c.toward_start-front.result) in
-    let bound = c.requires.part.bound in
+    let wide = length-element_bits b at (g.C.Elem.BitStore.value c.toward_start-front.result) in
+    let bound = c.requires.element.bound in
     let inside : c.args.part.to ≤ length front = omega arith in
-    let moved = rw c.BITS-bits.ensures at c.toward_start-front.ensures in
-    rw (c.store.ensures.numbers, c.load-element.ensures.numbers)
-    (Writes-is _ _ _ _ _ _ _
-    (part-stored _ _ _ _ _ _ some c.requires.part merged)
-    (ap (λ (l : List Bool). slice_range l c.args.part.from c.args.part.to) c.toward_end-new.ensures
-    ∙ range-shifted front c.args.part.from c.args.from.len c.args.part.to c.requires.lengths inside
-    ∙ ap (take c.args.from.len) moved
-    ∙ waiting-front _ _ _ _ _ some c.requires.right_window c.requires.some fits))
-
-pub returns-then-end-bits-clause-right_writes : goal.returns-then-end-bits-clause-right_writes
-returns-then-end-bits-clause-right_writes g c =
-    let b = g.C.Elem.BitStore.BITS in
-    let at = g.O.BitOrder.at in
-    let some = width_some _ g.met.C.Elem.BitStore.width_law in
-    let fits = rw c.BITS-bits.ensures at c.if-end-bits.true in
+    let front_is = rw c.BITS-bits.ensures at c.toward_start-front.ensures in
     let merged = rw c.BITS-bits.ensures at c.merged-then-end-bits.ensures in
     let old = element_bits b at (slice_index (g.C.CellsRead.numbers c.args.left.now) c.args.part.element) in
     let long = length-element_bits b at (slice_index (g.C.CellsRead.numbers c.args.left.now) c.args.part.element) in
-    let bound = c.requires.part.bound in
     let moved = rw c.load-element.ensures.value at c.toward_start-moved.ensures in
     let back = rw (c.BITS-bits.ensures, moved) at c.toward_end-back.ensures in
-    Writes-is _ _ _ _ _ _ _
-    (waiting-inside _ _ _ _ _ _ _ _ some c.requires.right_window c.requires.some refl fits merged)
-    (ap (λ (l : List Bool). slice_range l (c.args.from.start % b) (c.args.from.start % b + c.args.from.len)) back
-    ∙ range-moved old c.args.part.from (c.args.from.start % b) c.args.from.len (c.args.from.start % b + c.args.from.len) c.args.part.to refl c.requires.lengths (omega arith) (omega arith)
-    ∙ sym (list-part _ _ _ _ c.requires.part))
+    record {
+      writes =
+          rw (c.store.ensures.numbers, c.load-element.ensures.numbers)
+          (Writes-is _ _ _ _ _ _ _
+          (part-stored _ _ _ _ _ _ some c.requires.element left_merged)
+          (ap (λ (l : List Bool). slice_range l c.args.part.from c.args.part.to) c.toward_end-new.ensures
+          ∙ range-shifted front c.args.part.from c.args.from.len c.args.part.to c.requires.lengths inside
+          ∙ ap (take c.args.from.len) front_is
+          ∙ waiting-front _ _ _ _ _ some c.requires.beside c.requires.some fits));
+      right_writes =
+          Writes-is _ _ _ _ _ _ _
+          (waiting-inside _ _ _ _ _ _ _ _ some c.requires.beside c.requires.some refl fits merged)
+          (ap (λ (l : List Bool). slice_range l (c.args.from.start % b) (c.args.from.start % b + c.args.from.len)) back
+          ∙ range-moved old c.args.part.from (c.args.from.start % b) c.args.from.len (c.args.from.start % b + c.args.from.len) c.args.part.to refl c.requires.lengths (omega arith) (omega arith)
+          ∙ sym (list-part _ _ _ _ c.requires.element));
+    }
 
 pub returns-then-end-bits-clause-right_cost : goal.returns-then-end-bits-clause-right_cost
 returns-then-end-bits-clause-right_cost g c =
@@ -53,36 +49,20 @@ returns-then-end-bits-clause-right_cost g c =
     let one = touched-one g.C.Elem.BitStore.BITS c.args.from.start c.args.from.len (width_some _ g.met.C.Elem.BitStore.width_law) c.requires.some fits in
     record { borrow = refl; loads = omega arith; stores = omega arith }
 
-pub returns-clause-writes : goal.returns-clause-writes
-returns-clause-writes g c =
+pub returns-clause-swaps : goal.returns-clause-swaps
+returns-clause-swaps g c =
     let b = g.C.Elem.BitStore.BITS in
     let at = g.O.BitOrder.at in
     let some = width_some _ g.met.C.Elem.BitStore.width_law in
     let over = rw c.BITS-bits.ensures at c.if-end-bits.false in
     let merged = rw c.load-element.ensures.value at c.merged-2.ensures in
     let front = element_bits b at (g.C.Elem.BitStore.value c.joined-front.result) in
-    let long = length-element_bits b at (g.C.Elem.BitStore.value c.joined-front.result) in
-    let bound = c.requires.part.bound in
+    let wide = length-element_bits b at (g.C.Elem.BitStore.value c.joined-front.result) in
+    let bound = c.requires.element.bound in
     let lengths = c.requires.lengths in
     let inside : c.args.part.to ≤ length front = omega arith in
     let joined = rw (c.load-next.ensures.value, c.BITS-bits.ensures) at c.joined-front.ensures in
-    rw (c.store-2.ensures.numbers, c.load-element.ensures.numbers)
-    (Writes-is _ _ _ _ _ _ _
-    (part-stored _ _ _ _ _ _ some c.requires.part merged)
-    (ap (λ (l : List Bool). slice_range l c.args.part.from c.args.part.to) c.toward_end-new-2.ensures
-    ∙ range-shifted front c.args.part.from c.args.from.len c.args.part.to c.requires.lengths inside
-    ∙ ap (take c.args.from.len) joined
-    ∙ waiting-across _ _ _ _ _ some c.requires.right_window c.requires.some (omega arith) over))
-
-pub returns-clause-right_writes : goal.returns-clause-right_writes
-returns-clause-right_writes g c =
-    let b = g.C.Elem.BitStore.BITS in
-    let at = g.O.BitOrder.at in
-    let some = width_some _ g.met.C.Elem.BitStore.width_law in
-    let over = rw c.BITS-bits.ensures at c.if-end-bits.false in
     let head = mod_below c.args.from.start b some in
-    let bound = c.requires.part.bound in
-    let lengths = c.requires.lengths in
     let old = element_bits b at (slice_index (g.C.CellsRead.numbers c.args.left.now) c.args.part.element) in
     let long = length-element_bits b at (slice_index (g.C.CellsRead.numbers c.args.left.now) c.args.part.element) in
     let moved = rw c.load-element.ensures.value at c.toward_start-moved.ensures in
@@ -90,17 +70,28 @@ returns-clause-right_writes g c =
     let carried = rw (c.BITS-bits.ensures, moved) at c.toward_start-carried.ensures in
     let stored = rw c.BITS-bits.ensures at c.merged-3.ensures in
     let waits = rw (c.load-next.ensures.value, c.BITS-bits.ensures) at c.merged-4.ensures in
-    rw (c.store-3.ensures.numbers, c.load-next.ensures.numbers, c.BITS-bits.ensures)
-    (Writes-is _ _ _ _ _ _ _
-    (waiting-beyond _ _ _ _ _ _ _ _ _ _ some c.requires.right_window refl (omega arith) over stored waits)
-    (rw (back, carried)
-    (range-moved_across old b c.args.part.from (c.args.from.start % b) c.args.from.len (c.args.from.start % b + c.args.from.len - b) c.args.part.to long head (omega arith) lengths bound
-    ∙ sym (list-part _ _ _ _ c.requires.part))))
+    record {
+      writes =
+          rw (c.store-2.ensures.numbers, c.load-element.ensures.numbers)
+          (Writes-is _ _ _ _ _ _ _
+          (part-stored _ _ _ _ _ _ some c.requires.element merged)
+          (ap (λ (l : List Bool). slice_range l c.args.part.from c.args.part.to) c.toward_end-new-2.ensures
+          ∙ range-shifted front c.args.part.from c.args.from.len c.args.part.to c.requires.lengths inside
+          ∙ ap (take c.args.from.len) joined
+          ∙ waiting-across _ _ _ _ _ some c.requires.beside c.requires.some (omega arith) over));
+      right_writes =
+          rw (c.store-3.ensures.numbers, c.load-next.ensures.numbers, c.BITS-bits.ensures)
+          (Writes-is _ _ _ _ _ _ _
+          (waiting-beyond _ _ _ _ _ _ _ _ _ _ some c.requires.beside refl (omega arith) over stored waits)
+          (rw (back, carried)
+          (range-moved_across old b c.args.part.from (c.args.from.start % b) c.args.from.len (c.args.from.start % b + c.args.from.len - b) c.args.part.to long head (omega arith) lengths bound
+          ∙ sym (list-part _ _ _ _ c.requires.element))));
+    }
 
 pub returns-clause-right_cost : goal.returns-clause-right_cost
 returns-clause-right_cost g c =
     let over = rw c.BITS-bits.ensures at c.if-end-bits.false in
-    let bound = c.requires.part.bound in
+    let bound = c.requires.element.bound in
     let lengths = c.requires.lengths in
     let two = touched-two g.C.Elem.BitStore.BITS c.args.from.start c.args.from.len (width_some _ g.met.C.Elem.BitStore.width_law) (omega arith) over in
     record { borrow = search rules; loads = omega arith; stores = omega arith }

@@ -7,27 +7,27 @@ use Rattle.bitvec_words.specs.FillingLaws.{replicate-parts}
 use Rattle.bitvec_words.specs.TouchedLaws.{part_loads-most, touched-full, touched-more}
 use Rattle.bitvec_words.proofs.filling.fill_aligned.Goals as goal
 
-pub returns-then-rest-eq0-clause-cost : goal.returns-then-rest-eq0-clause-cost
-returns-then-rest-eq0-clause-cost g c =
-    let full = rw c.BITS-bits.ensures at c.if-rest-eq0.true in
+pub returns-then-tail-eq0-clause-cost : goal.returns-then-tail-eq0-clause-cost
+returns-then-tail-eq0-clause-cost g c =
+    let full = rw (c.tail_part-tail.ensures, c.BITS-bits.ensures) at c.if-tail-eq0.true in
     let all = touched-full g.C.Elem.BitStore.BITS c.args.window.start c.args.window.len (width_some _ g.met.C.Elem.BitStore.width_law) c.requires.edge full in
-    let cost = rw c.BITS-bits.ensures at c.fill_whole.ensures.cost in
+    let cost = rw (c.whole_elements-first.ensures, c.BITS-bits.ensures) at c.fill_whole.ensures.cost in
     record { borrow = search rules; loads = omega arith; stores = omega arith }
 
-pub returns-then-rest-eq0-clause-stores : goal.returns-then-rest-eq0-clause-stores
-returns-then-rest-eq0-clause-stores g c =
-    let full = rw c.BITS-bits.ensures at c.if-rest-eq0.true in
+pub returns-then-tail-eq0-clause-stores : goal.returns-then-tail-eq0-clause-stores
+returns-then-tail-eq0-clause-stores g c =
+    let full = rw (c.tail_part-tail.ensures, c.BITS-bits.ensures) at c.if-tail-eq0.true in
     let all = touched-full g.C.Elem.BitStore.BITS c.args.window.start c.args.window.len (width_some _ g.met.C.Elem.BitStore.width_law) c.requires.edge full in
-    let cost = rw c.BITS-bits.ensures at c.fill_whole.ensures.cost in
+    let cost = rw (c.whole_elements-first.ensures, c.BITS-bits.ensures) at c.fill_whole.ensures.cost in
     omega arith
 
 pub returns : goal.returns
 returns g c =
     let b = g.C.Elem.BitStore.BITS in
     let len : ℕ = c.args.window.len in
-    let first = rw c.BITS-bits.ensures at c.fill_whole.ensures in
-    let second = rw c.BITS-bits.ensures at c.fill_part.ensures in
-    let left = rw c.BITS-bits.ensures at c.if-rest-eq0.false in
+    let first = rw (c.whole_elements-first.ensures, c.BITS-bits.ensures) at c.fill_whole.ensures in
+    let second = rw (c.tail_part-tail.ensures, c.BITS-bits.ensures) at c.fill_part.ensures in
+    let left = rw (c.tail_part-tail.ensures, c.BITS-bits.ensures) at c.if-tail-eq0.false in
     let parts = div-add-mod' len b in
     let all = touched-more b c.args.window.start len (width_some _ g.met.C.Elem.BitStore.width_law) c.requires.edge (omega arith) in
     let most = part_loads-most b (record { element = c.args.window.start / b + len / b; from = 0; to = len % b }) in

@@ -1,0 +1,47 @@
+-- What copies and exchanges need of their windows, and what they leave.
+use Rattle.std.specs.Prelude.{◌≡◌, ℕ, ◌+◌, ◌<◌, ◌%◌, List, slice_set}
+use Rattle.bitvec_words.specs.base.declared.part.Part.{Part}
+use Rattle.bitvec_words.specs.base.declared.window.Window.{Window}
+use Rattle.bitvec_words.specs.base.Memory.{HasWindow, Writes, list_in}
+use Rattle.bitvec_words.specs.base.Parts.{HasPart}
+use Rattle.bitvec_words.specs.base.Spans.{HasSpan}
+use Rattle.bitvec_words.specs.Elements.{elements_window, elements_window_from}
+
+-- a part of one element, and a window of the other memory with as many bits, but not none
+pub record HasPartSpan (b : ℕ) (xs ys : List ℕ) (part : Part) (window : Window) : Type 0 where
+  pub element : HasPart b xs part
+  pub beside : HasWindow b ys window
+  pub lengths : part.to ≡ part.from + window.len
+  pub some : 0 < window.len
+
+-- a window that begins where an element does, and one of the other memory, as long, that begins inside an element
+pub record HasSkippedSpan (b : ℕ) (xs ys : List ℕ) (left right : Window) : Type 0 where
+  pub span : HasSpan b xs ys left right
+  pub edge : left.start % b ≡ 0
+  pub inside : 0 < right.start % b
+
+-- whole elements from `first` on, and as many bits from the index `skip` of the element `source` on, not its first bit
+pub record HasSkippedElements (b : ℕ) (xs ys : List ℕ) (first source skip count : ℕ) : Type 0 where
+  pub span : HasSpan b xs ys (elements_window b first count) (elements_window_from b source skip count)
+  pub inside : 0 < skip
+  pub bound : skip < b
+
+-- ---- what is left
+
+-- the window holds the bits of a window of the other memory, and every bit outside it is as before
+abbrev pub Copies : ℕ → (ℕ → ℕ → ℕ) → List ℕ → List ℕ → Window → List ℕ → Window → Type 0
+Copies b at old new window other from = Writes b at old new window (list_in b at other from)
+
+-- whole elements hold the bits from the index `skip` of the other memory's element `source` on
+abbrev pub CopiesElements : ℕ → (ℕ → ℕ → ℕ) → List ℕ → List ℕ → List ℕ → ℕ → ℕ → ℕ → ℕ → Type 0
+CopiesElements b at old new other first source skip count = Copies b at old new (elements_window b first count) other (elements_window_from b source skip count)
+
+-- each of two windows holds the bits that the other one held, and every bit outside them is as before
+pub record Swaps (b : ℕ) (at : ℕ → ℕ → ℕ) (xs new_xs ys new_ys : List ℕ) (left right : Window) : Type 0 where
+  pub writes : Copies b at xs new_xs left ys right
+  pub right_writes : Copies b at ys new_ys right xs left
+
+-- the same of whole elements and the bits from the index `skip` of the element `source` on, where `waiting` is to be that element, and `last` the last one
+abbrev pub SwapsElements : ℕ → (ℕ → ℕ → ℕ) → List ℕ → List ℕ → List ℕ → List ℕ → ℕ → ℕ → ℕ → ℕ → ℕ → ℕ → Type 0
+SwapsElements b at xs new_xs ys new_ys first source skip count waiting last =
+    Swaps b at xs new_xs (slice_set ys source waiting) (slice_set new_ys (source + count) last) (elements_window b first count) (elements_window_from b source skip count)
