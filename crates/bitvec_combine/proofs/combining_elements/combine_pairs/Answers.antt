@@ -1,4 +1,4 @@
-use Rattle.std.proofs.Common.{◌+◌, ◌*◌, ◌-◌, ◌%◌, ◌≡◌, ◌∙◌, ap, arith, rules, sym}
+use Rattle.std.proofs.Common.{◌+◌, ◌*◌, ◌-◌, ◌%◌, ◌≡◌, arith, rules, sym}
 use Rattle.bitvec_move.specs.words.CombinedLaws.{combined-none}
 use Rattle.bitvec_move.specs.words.Operator.{operator}
 use Rattle.bitvec_combine.proofs.GroupLemmas.{Writes-group}

@@ -1,0 +1,125 @@
+-- Two windows, the first of which begins where an element does: whole elements of them, and what is behind these.
+use Rattle.std.proofs.Common.{◌≡◌, ℕ, ◌+◌, ◌-◌, ◌*◌, ◌/◌, ◌%◌, ◌<◌, ◌≤◌, List, length, slice_index, refl, ap, sym, ◌∙◌, arith}
+use Rattle.std.proofs.lemmas.Nat.{div-add-mod', mod_below}
+use Rattle.bitvec_move.specs.base.declared.window.Window.{Window}
+use Rattle.bitvec_move.specs.base.Spans.{HasSpan}
+use Rattle.bitvec_move.specs.base.Window.{window_after}
+use Rattle.bitvec_move.specs.store.Width.{IsWidth}
+use Rattle.bitvec_move.specs.store.WidthLaws.{width_some}
+use Rattle.bitvec_move.specs.words.Elements.{elements_window, elements_window_from}
+use Rattle.bitvec_move.specs.words.FieldLaws.{element_of}
+use Rattle.bitvec_move.specs.words.Spans.{HasShiftedElements, HasShiftedSpan}
+use Rattle.bitvec_move.specs.words.WholeLaws.{HasWindow-part, behind-mod}
+use Rattle.bitvec_move.specs.WaitingLaws.{behind-element}
+use Rattle.bitvec_combine.specs.Spans.{HasPartBeside}
+
+-- what is behind t bits
+pub after-span : (b : ℕ) (xs ys : List ℕ) (left right : Window) (t : ℕ) → HasSpan b xs ys left right → t ≤ left.len → HasSpan b xs ys (window_after t left) (window_after t right)
+after-span b xs ys left right t has fits =
+    let lengths = has.lengths in
+    record {
+      window = HasWindow-part b xs left (window_after t left) has.window (omega arith) (omega arith);
+      beside = HasWindow-part b ys right (window_after t right) has.beside (omega arith) (omega arith);
+      lengths = omega arith;
+    }
+
+-- ---- the second begins where an element does, too
+
+-- all whole elements
+pub whole-span : (b : ℕ) (xs ys : List ℕ) (left right : Window) → HasSpan b xs ys left right → left.start % b ≡ 0 → right.start % b ≡ 0
+    → HasSpan b xs ys (elements_window b (left.start / b) (left.len / b)) (elements_window b (right.start / b) (left.len / b))
+whole-span b xs ys left right has edge other_edge =
+    let place = div-add-mod' left.start b in
+    let other_place = div-add-mod' right.start b in
+    let parts = div-add-mod' left.len b in
+    let lengths = has.lengths in
+    record {
+      window = HasWindow-part b xs left (elements_window b (left.start / b) (left.len / b)) has.window (omega arith) (omega arith);
+      beside = HasWindow-part b ys right (elements_window b (right.start / b) (left.len / b)) has.beside (omega arith) (omega arith);
+      lengths = refl;
+    }
+
+-- k of them behind m others
+pub some-span : (b : ℕ) (xs ys : List ℕ) (left right : Window) (m k : ℕ) → HasSpan b xs ys left right → left.start % b ≡ 0 → right.start % b ≡ 0 → (m + k) * b ≤ left.len
+    → HasSpan b xs ys (elements_window b (left.start / b + m) k) (elements_window b (right.start / b + m) k)
+some-span b xs ys left right m k has edge other_edge fits =
+    let place = div-add-mod' left.start b in
+    let other_place = div-add-mod' right.start b in
+    let lengths = has.lengths in
+    record {
+      window = HasWindow-part b xs left (elements_window b (left.start / b + m) k) has.window (omega arith) (omega arith);
+      beside = HasWindow-part b ys right (elements_window b (right.start / b + m) k) has.beside (omega arith) (omega arith);
+      lengths = refl;
+    }
+
+-- ---- the second begins inside an element
+
+-- all whole elements
+pub whole-shifted : (b : ℕ) (xs ys : List ℕ) (left right : Window) (carry : ℕ) → IsWidth b → HasShiftedSpan b xs ys left right carry
+    → HasShiftedElements b xs ys (left.start / b) (right.start / b) (right.start % b) (left.len / b) carry
+whole-shifted b xs ys left right carry width has =
+    let place = div-add-mod' left.start b in
+    let other_place = div-add-mod' right.start b in
+    let parts = div-add-mod' left.len b in
+    let edge = has.edge in
+    let lengths = has.span.lengths in
+    record {
+      span = record {
+        window = HasWindow-part b xs left (elements_window b (left.start / b) (left.len / b)) has.span.window (omega arith) (omega arith);
+        beside = HasWindow-part b ys right (elements_window_from b (right.start / b) (right.start % b) (left.len / b)) has.span.beside (omega arith) (omega arith);
+        lengths = refl;
+      };
+      inside = has.inside;
+      bound = mod_below right.start b (width_some b width);
+      carried = has.carried;
+    }
+
+-- k of them behind m others
+pub some-shifted : (b : ℕ) (xs ys : List ℕ) (left right : Window) (first carry m k : ℕ) → IsWidth b → HasShiftedSpan b xs ys left right first → (m + k) * b ≤ left.len
+    → carry ≡ slice_index ys (right.start / b + m)
+    → HasShiftedElements b xs ys (left.start / b + m) (right.start / b + m) (right.start % b) k carry
+some-shifted b xs ys left right first carry m k width has fits carried =
+    let place = div-add-mod' left.start b in
+    let other_place = div-add-mod' right.start b in
+    let edge = has.edge in
+    let lengths = has.span.lengths in
+    record {
+      span = record {
+        window = HasWindow-part b xs left (elements_window b (left.start / b + m) k) has.span.window (omega arith) (omega arith);
+        beside = HasWindow-part b ys right (elements_window_from b (right.start / b + m) (right.start % b) k) has.span.beside (omega arith) (omega arith);
+        lengths = refl;
+      };
+      inside = has.inside;
+      bound = mod_below right.start b (width_some b width);
+      carried = carried;
+    }
+
+-- what is behind m elements
+pub behind-shifted : (b : ℕ) (xs ys : List ℕ) (left right : Window) (first carry m : ℕ) → IsWidth b → HasShiftedSpan b xs ys left right first → m * b ≤ left.len
+    → carry ≡ slice_index ys (right.start / b + m)
+    → HasShiftedSpan b xs ys (window_after (m * b) left) (window_after (m * b) right) carry
+behind-shifted b xs ys left right first carry m width has fits carried =
+    let some = width_some b width in
+    record {
+      span = after-span b xs ys left right (m * b) has.span fits;
+      edge = behind-mod b left.start m some ∙ has.edge;
+      inside = rw (behind-mod b right.start m some) has.inside;
+      carried = carried ∙ ap (slice_index ys) (sym (behind-element b right.start m some));
+    }
+
+-- the bits behind all whole elements
+pub tail-beside : (b : ℕ) (xs ys : List ℕ) (left right : Window) → IsWidth b → HasSpan b xs ys left right → 0 < left.len % b
+    → HasPartBeside b xs ys (record { element = left.start / b + left.len / b; from = 0; to = right.len - left.len / b * b }) (window_after (left.len / b * b) right)
+tail-beside b xs ys left right width has some =
+    let place = div-add-mod' left.start b in
+    let parts = div-add-mod' left.len b in
+    let below = mod_below left.len b (width_some b width) in
+    let lengths = has.lengths in
+    let start = has.window.within.start in
+    let len = has.window.within.len in
+    record {
+      part = record { element = element_of b (left.start / b + left.len / b) 0 (length xs) (omega arith); order = omega arith; bound = omega arith };
+      beside = HasWindow-part b ys right (window_after (left.len / b * b) right) has.beside (omega arith) (omega arith);
+      some = omega arith;
+      bound = omega arith;
+    }
