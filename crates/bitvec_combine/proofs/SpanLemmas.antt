@@ -11,7 +11,7 @@ use Rattle.bitvec_move.specs.words.FieldLaws.{element_of}
 use Rattle.bitvec_move.specs.words.Spans.{HasShiftedElements, HasShiftedSpan}
 use Rattle.bitvec_move.specs.words.WholeLaws.{HasWindow-part, behind-mod}
 use Rattle.bitvec_move.specs.WaitingLaws.{behind-element}
-use Rattle.bitvec_combine.specs.Spans.{HasPartBeside}
+use Rattle.bitvec_combine.specs.Spans.{HasPartBeside, HasShiftedShorter, HasShorter}
 
 -- what is behind t bits
 pub after-span : (b : ℕ) (xs ys : List ℕ) (left right : Window) (t : ℕ) → HasSpan b xs ys left right → t ≤ left.len → HasSpan b xs ys (window_after t left) (window_after t right)
@@ -22,6 +22,20 @@ after-span b xs ys left right t has fits =
       beside = HasWindow-part b ys right (window_after t right) has.beside (omega arith) (omega arith);
       lengths = omega arith;
     }
+
+-- as many bits of the first as the second has
+pub front-span : (b : ℕ) (xs ys : List ℕ) (left right : Window) → HasShorter b xs ys left right → HasSpan b xs ys (record { start = left.start; len = right.len }) right
+front-span b xs ys left right has =
+    let lengths = has.lengths in
+    record {
+      window = HasWindow-part b xs left (record { start = left.start; len = right.len }) has.window (omega arith) (omega arith);
+      beside = has.beside;
+      lengths = refl;
+    }
+
+pub front-shifted : (b : ℕ) (xs ys : List ℕ) (left right : Window) (carry : ℕ) → HasShiftedShorter b xs ys left right carry
+    → HasShiftedSpan b xs ys (record { start = left.start; len = right.len }) right carry
+front-shifted b xs ys left right carry has = record { span = front-span b xs ys left right has.span; edge = has.edge; inside = has.inside; carried = has.carried }
 
 -- ---- the second begins where an element does, too
 

@@ -1,4 +1,4 @@
-use Rattle.std.proofs.Common.{◌≡◌, ℕ, ◌+◌, ◌-◌, min, ◌∙◌, arith, rules, ap, slice_index}
+use Rattle.std.proofs.Common.{◌≡◌, ℕ, ◌+◌, ◌-◌, min, ◌∙◌, arith, rules, ap, refl, slice_index}
 use Rattle.std.proofs.lemmas.Nat.{mod_below}
 use Rattle.bitvec_move.specs.base.declared.part.Part.{Part}
 use Rattle.bitvec_move.specs.base.Parts.{first_part_of}
@@ -7,7 +7,7 @@ use Rattle.bitvec_move.specs.words.CombinedLaws.{Writes-first_met}
 use Rattle.bitvec_move.specs.words.FieldLaws.{first_part-long}
 use Rattle.bitvec_move.specs.words.Operator.{operator}
 use Rattle.bitvec_move.specs.words.TouchedLaws.{inside_element, touched-edge, touched-inside, touched-parts}
-use Rattle.bitvec_move.specs.PlaceLaws.{head-part, width-some}
+use Rattle.bitvec_move.specs.PlaceLaws.{behind-edge, head-part, width-some}
 use Rattle.bitvec_combine.proofs.combining.combine_met.Goals as goal
 
 pub nonzero_rem-behind : goal.nonzero_rem-behind
@@ -16,18 +16,23 @@ nonzero_rem-behind g c = let some = width-some _ _ g.met.C.Elem.BitStore.width_l
 pub first_part-head-requires-clause-bits : goal.first_part-head-requires-clause-bits
 first_part-head-requires-clause-bits g c = width-some _ _ g.met.C.Elem.BitStore.width_law c.BITS-bits.ensures
 
-pub combine_head-carry-requires-clause-part : goal.combine_head-carry-requires-clause-part
-combine_head-carry-requires-clause-part g c =
-    let lengths = c.requires.lengths in
+pub combine_head-carry-requires : goal.combine_head-carry-requires
+combine_head-carry-requires g c =
+    let lengths = c.requires.span.lengths in
     let some = c.requires.some in
-    head-part _ _ _ c.args.to _ g.met.C.Elem.BitStore.width_law c.BITS-bits.ensures c.first_part-head.ensures (omega arith) c.requires.window
+    record {
+      part = head-part _ _ _ c.args.to _ g.met.C.Elem.BitStore.width_law c.BITS-bits.ensures c.first_part-head.ensures (omega arith) c.requires.span.window;
+      beside = search rules;
+      some = search rules;
+      bound = search rules;
+    }
 
 pub returns-then-passed-to-clause-cost : goal.returns-then-passed-to-clause-cost
 returns-then-passed-to-clause-cost g c =
     let b = g.C.Elem.BitStore.BITS in
     let some = width_some _ g.met.C.Elem.BitStore.width_law in
     let step = first_part-long c.len-passed.result b c.BITS-bits.result c.args.to c.first_part-head.result c.len-passed.ensures c.first_part-head.ensures c.BITS-bits.ensures in
-    let lengths = c.requires.lengths in
+    let lengths = c.requires.span.lengths in
     let more = c.requires.some in
     let all = touched-parts b c.args.to.start c.len-passed.result c.args.to.len some (omega arith) step in
     record { borrow = search rules; loads = omega arith; stores = omega arith }
@@ -36,21 +41,21 @@ pub returns-then-behind-bits-eq0-clause-writes : goal.returns-then-behind-bits-e
 returns-then-behind-bits-eq0-clause-writes g c =
     let b = g.C.Elem.BitStore.BITS in
     let some = width_some _ g.met.C.Elem.BitStore.width_law in
-    let lengths = c.requires.lengths in
+    let lengths = c.requires.span.lengths in
     let more = c.requires.some in
     let head : c.first_part-head.result ≡ first_part_of b c.args.to = c.first_part-head.ensures ∙ ap (λ (n : ℕ). first_part_of n c.args.to) c.BITS-bits.ensures in
     let long = c.len-passed.ensures ∙ ap (λ (p : Part). p.to - p.from) head in
     let least : c.min-met.result ≡ min c.len-passed.result c.args.from.len = omega arith in
     let first = rw (head, c.until.ensures) at c.combine_head-carry.ensures.writes in
     let rest = rw (c.after-rest.ensures, c.after-behind.ensures, c.combine_head-carry.ensures.right.numbers) at c.combine_aligned.ensures.writes in
-    Writes-first_met _ _ (operator c.args.op) _ _ _ _ _ _ _ _ some (omega arith) long least c.requires.window c.requires.right_window first rest
+    Writes-first_met _ _ (operator c.args.op) _ _ _ _ _ _ _ _ some (omega arith) long least c.requires.span.window c.requires.span.beside first rest
 
 pub returns-then-behind-bits-eq0-clause-cost : goal.returns-then-behind-bits-eq0-clause-cost
 returns-then-behind-bits-eq0-clause-cost g c =
     let b = g.C.Elem.BitStore.BITS in
     let some = width_some _ g.met.C.Elem.BitStore.width_law in
     let step = first_part-long c.len-passed.result b c.BITS-bits.result c.args.to c.first_part-head.result c.len-passed.ensures c.first_part-head.ensures c.BITS-bits.ensures in
-    let lengths = c.requires.lengths in
+    let lengths = c.requires.span.lengths in
     let more = c.requires.some in
     let all = touched-parts b c.args.to.start c.len-passed.result c.args.to.len some (omega arith) step in
     let rest = rw c.after-rest.ensures at c.combine_aligned.ensures.cost in
@@ -61,7 +66,7 @@ returns-then-behind-bits-eq0-clause-right g c =
     let b = g.C.Elem.BitStore.BITS in
     let some = width_some _ g.met.C.Elem.BitStore.width_law in
     let step = first_part-long c.len-passed.result b c.BITS-bits.result c.args.to c.first_part-head.result c.len-passed.ensures c.first_part-head.ensures c.BITS-bits.ensures in
-    let lengths = c.requires.lengths in
+    let lengths = c.requires.span.lengths in
     let more = c.requires.some in
     let least : c.min-met.result ≡ min c.len-passed.result c.args.from.len = omega arith in
     let head = mod_below c.args.to.start b some in
@@ -73,12 +78,12 @@ returns-then-behind-bits-eq0-clause-right g c =
     let rest = rw c.after-behind.ensures at c.combine_aligned.ensures.right in
     record { numbers = search rules; borrow = search rules; loads = omega arith; stores = search rules }
 
-pub combine_shifted-requires-clause-carry : goal.combine_shifted-requires-clause-carry
-combine_shifted-requires-clause-carry g c =
+pub combine_shifted-requires : goal.combine_shifted-requires
+combine_shifted-requires g c =
     let b = g.C.Elem.BitStore.BITS in
     let some = width_some _ g.met.C.Elem.BitStore.width_law in
     let step = first_part-long c.len-passed.result b c.BITS-bits.result c.args.to c.first_part-head.result c.len-passed.ensures c.first_part-head.ensures c.BITS-bits.ensures in
-    let lengths = c.requires.lengths in
+    let lengths = c.requires.span.lengths in
     let more = c.requires.some in
     let least : c.min-met.result ≡ min c.len-passed.result c.args.from.len = omega arith in
     let head = mod_below c.args.to.start b some in
@@ -86,28 +91,33 @@ combine_shifted-requires-clause-carry g c =
     let index = rw (c.after-behind.ensures, c.BITS-bits.ensures) at c.if-behind-bits-eq0.false in
     let same = inside_element b c.args.from.start c.min-met.result some (omega arith) in
     let last = rw (c.until.ensures, long) at c.combine_head-carry.ensures.last in
-    rw (c.after-behind.ensures, c.combine_head-carry.ensures.right.numbers)
-    (last ∙ ap (slice_index (g.D.CellsRead.numbers c.args.right.now)) same)
+    rw (c.after-rest.ensures, c.after-behind.ensures, c.combine_head-carry.ensures.right.numbers)
+    (record {
+      span = search rules;
+      edge = behind-edge _ _ c.args.to _ g.met.C.Elem.BitStore.width_law refl step c.if-passed-to.false;
+      inside = omega arith;
+      carried = last ∙ ap (slice_index (g.D.CellsRead.numbers c.args.right.now)) same;
+    })
 
 pub returns-clause-writes : goal.returns-clause-writes
 returns-clause-writes g c =
     let b = g.C.Elem.BitStore.BITS in
     let some = width_some _ g.met.C.Elem.BitStore.width_law in
-    let lengths = c.requires.lengths in
+    let lengths = c.requires.span.lengths in
     let more = c.requires.some in
     let head : c.first_part-head.result ≡ first_part_of b c.args.to = c.first_part-head.ensures ∙ ap (λ (n : ℕ). first_part_of n c.args.to) c.BITS-bits.ensures in
     let long = c.len-passed.ensures ∙ ap (λ (p : Part). p.to - p.from) head in
     let least : c.min-met.result ≡ min c.len-passed.result c.args.from.len = omega arith in
     let first = rw (head, c.until.ensures) at c.combine_head-carry.ensures.writes in
     let rest = rw (c.after-rest.ensures, c.after-behind.ensures, c.combine_head-carry.ensures.right.numbers) at c.combine_shifted.ensures.writes in
-    Writes-first_met _ _ (operator c.args.op) _ _ _ _ _ _ _ _ some (omega arith) long least c.requires.window c.requires.right_window first rest
+    Writes-first_met _ _ (operator c.args.op) _ _ _ _ _ _ _ _ some (omega arith) long least c.requires.span.window c.requires.span.beside first rest
 
 pub returns-clause-cost : goal.returns-clause-cost
 returns-clause-cost g c =
     let b = g.C.Elem.BitStore.BITS in
     let some = width_some _ g.met.C.Elem.BitStore.width_law in
     let step = first_part-long c.len-passed.result b c.BITS-bits.result c.args.to c.first_part-head.result c.len-passed.ensures c.first_part-head.ensures c.BITS-bits.ensures in
-    let lengths = c.requires.lengths in
+    let lengths = c.requires.span.lengths in
     let more = c.requires.some in
     let all = touched-parts b c.args.to.start c.len-passed.result c.args.to.len some (omega arith) step in
     let rest = rw c.after-rest.ensures at c.combine_shifted.ensures.cost in
@@ -118,7 +128,7 @@ returns-clause-right g c =
     let b = g.C.Elem.BitStore.BITS in
     let some = width_some _ g.met.C.Elem.BitStore.width_law in
     let step = first_part-long c.len-passed.result b c.BITS-bits.result c.args.to c.first_part-head.result c.len-passed.ensures c.first_part-head.ensures c.BITS-bits.ensures in
-    let lengths = c.requires.lengths in
+    let lengths = c.requires.span.lengths in
     let more = c.requires.some in
     let least : c.min-met.result ≡ min c.len-passed.result c.args.from.len = omega arith in
     let head = mod_below c.args.to.start b some in

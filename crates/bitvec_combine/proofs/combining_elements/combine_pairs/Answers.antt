@@ -6,7 +6,7 @@ use Rattle.bitvec_combine.proofs.combining_elements.combine_pairs.Goals as goal
 
 pub loop-pair-init : goal.loop-pair-init
 loop-pair-init g c = record {
-  writes = combined-none _ _ _ _ _ _ _ c.requires.window;
+  writes = combined-none _ _ _ _ _ _ _ c.requires.shifted.span.window;
   carried = search rules;
   cost = search rules;
   right = search rules;
@@ -19,7 +19,7 @@ loop-pair-preserved g c =
     let next : done + 2 ≡ 2 * (c.loop-pair.pair + 1) = omega arith in
     record {
       writes = rw (sym next)
-          (Writes-group _ _ (operator c.args.op) _ _ _ _ _ _ _ c.args.count done 2 c.requires.window c.requires.right_window (omega arith) inv.writes
+          (Writes-group _ _ (operator c.args.op) _ _ _ _ _ _ _ c.args.count done 2 c.requires.shifted.span.window c.requires.shifted.span.beside (omega arith) inv.writes
           (rw inv.right.numbers at c.combine_carried-last.ensures.writes));
       carried = search rules;
       cost = search rules;
@@ -35,6 +35,6 @@ returns-clause-writes g c =
     let passed : 2 * c.loop-pair.pair ≡ done = omega arith in
     let all : done + c.args.count % 2 ≡ c.args.count = omega arith in
     rw (sym all)
-    (Writes-group _ _ (operator c.args.op) _ _ _ _ _ _ _ c.args.count done (c.args.count % 2) c.requires.window c.requires.right_window (omega arith)
+    (Writes-group _ _ (operator c.args.op) _ _ _ _ _ _ _ c.args.count done (c.args.count % 2) c.requires.shifted.span.window c.requires.shifted.span.beside (omega arith)
     (rw passed at inv.writes)
     (rw inv.right.numbers at c.combine_carried.ensures.writes))

@@ -29,8 +29,8 @@ loop-step-preserved g c =
     record {
       writes = rw (c.store.ensures.numbers, c.load-element.ensures.numbers)
           (Writes-is _ _ _ _ _ _ _
-          (Writes-combined _ _ (operator c.args.op) _ _ _ _ _ _ _ _ some c.requires.window more (length-elements _ _ _ _ _ _ c.requires.right_window more) made inv.writes)
-          (ap (λ (l : List Bool). combined (operator c.args.op) list l) (list-element _ _ _ _ _ _ some c.requires.right_window more)));
+          (Writes-combined _ _ (operator c.args.op) _ _ _ _ _ _ _ _ some c.requires.window more (length-elements _ _ _ _ _ _ c.requires.beside more) made inv.writes)
+          (ap (λ (l : List Bool). combined (operator c.args.op) list l) (list-element _ _ _ _ _ _ some c.requires.beside more)));
       cost = search rules;
       right = search rules;
     }
