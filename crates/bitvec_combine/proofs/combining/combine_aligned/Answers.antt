@@ -1,12 +1,12 @@
-use Rattle.std.proofs.Common.{◌≡◌, ◌≤◌, ◌*◌, ◌/◌, arith, rules, ◌∙◌}
-use Rattle.bitvec_move.specs.words.WholeLaws.{behind-mod}
+use Rattle.std.proofs.Common.{◌≡◌, refl, ◌≤◌, ◌*◌, ◌/◌, arith, rules, ◌∙◌}
+use Rattle.bitvec_move.specs.words.WholeLaws.{behind-mod, whole_fits}
 use Rattle.std.proofs.lemmas.Nat.{div-add-mod'}
 use Rattle.bitvec_move.specs.store.WidthLaws.{width_some}
 use Rattle.bitvec_move.specs.words.CombinedLaws.{Writes-all_met, Writes-some_met}
 use Rattle.bitvec_move.specs.words.Operator.{operator}
 use Rattle.bitvec_move.specs.words.TouchedLaws.{touched-after, touched-full}
 use Rattle.bitvec_move.specs.PlaceLaws.{width-some}
-use Rattle.bitvec_combine.proofs.SpanLemmas.{front-span, whole-span}
+use Rattle.bitvec_combine.proofs.SpanLemmas.{behind-whole, tail-short, front-span, whole-span}
 use Rattle.bitvec_combine.proofs.combining.combine_aligned.Goals as goal
 
 pub whole_elements-source-requires : goal.whole_elements-source-requires
@@ -19,6 +19,45 @@ pub combine_whole-requires : goal.combine_whole-requires
 combine_whole-requires g c =
     rw (c.whole_elements-source.ensures, c.BITS-bits.ensures)
     (whole-span _ _ _ _ _ (front-span _ _ _ _ _ c.requires.span) c.requires.edge c.requires.right_edge)
+
+pub overflow_mul-count : goal.overflow_mul-count
+overflow_mul-count g c =
+    let b = g.C.Elem.BitStore.BITS in
+    let fits = whole_fits b c.args.from.len (c.args.from.len / b) (omega arith) in
+    rw (c.whole_elements-source.ensures, c.BITS-bits.ensures) (omega arith)
+
+pub overflow_mul-count-2 : goal.overflow_mul-count-2
+overflow_mul-count-2 g c =
+    let b = g.C.Elem.BitStore.BITS in
+    let fits = whole_fits b c.args.from.len (c.args.from.len / b) (omega arith) in
+    rw (c.whole_elements-source.ensures, c.BITS-bits.ensures) (omega arith)
+
+pub after-rest-requires-clause-bound : goal.after-rest-requires-clause-bound
+after-rest-requires-clause-bound g c =
+    let b = g.C.Elem.BitStore.BITS in
+    let lengths = c.requires.span.lengths in
+    let fits = whole_fits b c.args.from.len (c.args.from.len / b) (omega arith) in
+    rw (c.whole_elements-source.ensures, c.BITS-bits.ensures) (omega arith)
+
+pub after-tail-requires-clause-bound : goal.after-tail-requires-clause-bound
+after-tail-requires-clause-bound g c =
+    let b = g.C.Elem.BitStore.BITS in
+    rw (c.whole_elements-source.ensures, c.BITS-bits.ensures) (whole_fits b c.args.from.len (c.args.from.len / b) (omega arith))
+
+pub field-front-requires-clause-window : goal.field-front-requires-clause-window
+field-front-requires-clause-window g c = rw (c.after-tail.ensures, c.whole_elements-source.ensures, c.BITS-bits.ensures, c.combine_whole.ensures.right.numbers) ((behind-whole _ _ _ _ _ _ c.requires.span refl).beside)
+
+pub field-front-requires-clause-bound : goal.field-front-requires-clause-bound
+field-front-requires-clause-bound g c = rw (c.after-tail.ensures, c.whole_elements-source.ensures, c.BITS-bits.ensures) (tail-short _ _ (width_some _ g.met.C.Elem.BitStore.width_law))
+
+pub combine_end-requires-clause-window : goal.combine_end-requires-clause-window
+combine_end-requires-clause-window g c = rw (c.after-rest.ensures, c.whole_elements-source.ensures, c.BITS-bits.ensures) ((behind-whole _ _ _ _ _ _ c.requires.span c.combine_whole.ensures.writes.elements).window)
+
+pub combine_end-requires-clause-some : goal.combine_end-requires-clause-some
+combine_end-requires-clause-some g c =
+    let lengths = c.requires.span.lengths in
+    let left = rw c.after-tail.ensures at c.if-tail-eq0.false in
+    rw c.after-rest.ensures (omega arith)
 
 pub combine_end-requires-clause-edge : goal.combine_end-requires-clause-edge
 combine_end-requires-clause-edge g c =

@@ -8,6 +8,7 @@ use Rattle.bitvec_move.specs.words.FieldLaws.{first_part-long}
 use Rattle.bitvec_move.specs.words.Operator.{operator}
 use Rattle.bitvec_move.specs.words.TouchedLaws.{inside_element, touched-edge, touched-inside, touched-parts}
 use Rattle.bitvec_move.specs.PlaceLaws.{behind-edge, head-part, width-some}
+use Rattle.bitvec_combine.proofs.SpanLemmas.{after-shorter}
 use Rattle.bitvec_combine.proofs.combining.combine_met.Goals as goal
 
 pub nonzero_rem-behind : goal.nonzero_rem-behind
@@ -78,6 +79,23 @@ returns-then-behind-bits-eq0-clause-right g c =
     let rest = rw c.after-behind.ensures at c.combine_aligned.ensures.right in
     record { numbers = search rules; borrow = search rules; loads = omega arith; stores = search rules }
 
+pub combine_aligned-requires-clause-span : goal.combine_aligned-requires-clause-span
+combine_aligned-requires-clause-span g c =
+    let b = g.C.Elem.BitStore.BITS in
+    let step = first_part-long c.len-passed.result b c.BITS-bits.result c.args.to c.first_part-head.result c.len-passed.ensures c.first_part-head.ensures c.BITS-bits.ensures in
+    let least : c.min-met.result ≡ min c.len-passed.result c.args.from.len = omega arith in
+    rw (c.after-rest.ensures, c.after-behind.ensures, c.combine_head-carry.ensures.right.numbers)
+    (after-shorter _ _ _ _ _ _ _ _ c.requires.span c.combine_head-carry.ensures.writes.elements (omega arith) least)
+
+pub combine_aligned-requires-clause-edge : goal.combine_aligned-requires-clause-edge
+combine_aligned-requires-clause-edge g c =
+    let b = g.C.Elem.BitStore.BITS in
+    let step = first_part-long c.len-passed.result b c.BITS-bits.result c.args.to c.first_part-head.result c.len-passed.ensures c.first_part-head.ensures c.BITS-bits.ensures in
+    behind-edge _ _ c.args.to _ g.met.C.Elem.BitStore.width_law c.after-rest.ensures step c.if-passed-to.false
+
+pub combine_aligned-requires-clause-right_edge : goal.combine_aligned-requires-clause-right_edge
+combine_aligned-requires-clause-right_edge g c = rw c.BITS-bits.ensures at c.if-behind-bits-eq0.true
+
 pub combine_shifted-requires : goal.combine_shifted-requires
 combine_shifted-requires g c =
     let b = g.C.Elem.BitStore.BITS in
@@ -93,7 +111,7 @@ combine_shifted-requires g c =
     let last = rw (c.until.ensures, long) at c.combine_head-carry.ensures.last in
     rw (c.after-rest.ensures, c.after-behind.ensures, c.combine_head-carry.ensures.right.numbers)
     (record {
-      span = search rules;
+      span = after-shorter _ _ _ _ _ _ _ _ c.requires.span c.combine_head-carry.ensures.writes.elements (omega arith) least;
       edge = behind-edge _ _ c.args.to _ g.met.C.Elem.BitStore.width_law refl step c.if-passed-to.false;
       inside = omega arith;
       carried = last ∙ ap (slice_index (g.D.CellsRead.numbers c.args.right.now)) same;

@@ -2,7 +2,22 @@ use Rattle.std.proofs.Common.{◌+◌, ◌*◌, ◌-◌, ◌%◌, ◌≡◌, ari
 use Rattle.bitvec_move.specs.words.CombinedLaws.{combined-none}
 use Rattle.bitvec_move.specs.words.Operator.{operator}
 use Rattle.bitvec_combine.proofs.GroupLemmas.{Writes-group}
+use Rattle.bitvec_combine.proofs.SpanLemmas.{part-shifted}
 use Rattle.bitvec_combine.proofs.combining_elements.combine_pairs.Goals as goal
+
+pub combine_carried-last-requires-clause-shifted : goal.combine_carried-last-requires-clause-shifted
+combine_carried-last-requires-clause-shifted g c =
+    let inv = c.loop-pair.invariant in
+    rw inv.right.numbers (part-shifted _ _ _ _ _ _ _ _ _ _ (2 * c.loop-pair.pair) 2 c.requires.shifted inv.writes.elements (omega arith) inv.carried)
+
+pub combine_carried-requires-clause-shifted : goal.combine_carried-requires-clause-shifted
+combine_carried-requires-clause-shifted g c =
+    let inv = c.loop-pair.invariant in
+    let end = c.loop-pair-test.false in
+    let most = c.loop-pair.auto.pair-end in
+    let done = c.args.count - c.args.count % 2 in
+    let passed : 2 * c.loop-pair.pair ≡ done = omega arith in
+    rw inv.right.numbers (part-shifted _ _ _ _ _ _ _ _ _ _ done (c.args.count % 2) c.requires.shifted inv.writes.elements (omega arith) (rw passed at inv.carried))
 
 pub loop-pair-init : goal.loop-pair-init
 loop-pair-init g c = record {

@@ -14,6 +14,7 @@ use Rattle.bitvec_move.specs.words.FieldLaws.{first_part-long, list-head}
 use Rattle.bitvec_move.specs.words.Operator.{operator}
 use Rattle.bitvec_move.specs.words.TouchedLaws.{touched-head, touched-rest}
 use Rattle.bitvec_move.specs.PlaceLaws.{behind-edge, head-element, head-part, width-some}
+use Rattle.bitvec_combine.proofs.SpanLemmas.{after-span}
 use Rattle.bitvec_combine.proofs.combining_equal.combine_equal.Goals as goal
 
 pub nonzero_div-from : goal.nonzero_div-from
@@ -30,6 +31,12 @@ combine_element-requires-clause-source g c =
     let lengths = c.requires.span.lengths in
     let some = c.requires.some in
     head-element _ _ _ c.args.from g.met.C.Elem.BitStore.width_law c.BITS-bits.ensures (omega arith) c.requires.span.beside
+
+pub combine_unpadded-requires-clause-span : goal.combine_unpadded-requires-clause-span
+combine_unpadded-requires-clause-span g c =
+    let b = g.C.Elem.BitStore.BITS in
+    let step = first_part-long c.len-passed.result b c.BITS-bits.result c.args.to c.first_part-head.result c.len-passed.ensures c.first_part-head.ensures c.BITS-bits.ensures in
+    rw (c.after.ensures, c.after-2.ensures, c.combine_element.ensures.right.numbers) (after-span _ _ _ _ _ _ _ c.requires.span c.combine_element.ensures.writes.elements (omega arith))
 
 pub combine_unpadded-requires-clause-edge : goal.combine_unpadded-requires-clause-edge
 combine_unpadded-requires-clause-edge g c =

@@ -1,11 +1,11 @@
-use Rattle.std.proofs.Common.{◌≡◌, ◌≤◌, ℕ, ◌+◌, ◌*◌, ◌/◌, arith, rules, sym, ◌∙◌}
+use Rattle.std.proofs.Common.{◌≡◌, refl, ◌≤◌, ℕ, ◌+◌, ◌*◌, ◌/◌, arith, rules, sym, ◌∙◌}
 use Rattle.std.proofs.Math.Nat.{mul-le-mul_left}
 use Rattle.bitvec_move.specs.store.WidthLaws.{width_some}
 use Rattle.bitvec_move.specs.words.SameLaws.{same-apart, same-then}
 use Rattle.bitvec_move.specs.words.TouchedLaws.{touched-after}
-use Rattle.bitvec_move.specs.words.WholeLaws.{list-elements, long-elements, whole_fits, behind-mod}
+use Rattle.bitvec_move.specs.words.WholeLaws.{list-elements, long-elements, behind-mod}
 use Rattle.bitvec_move.specs.PlaceLaws.{width-some}
-use Rattle.bitvec_combine.proofs.SpanLemmas.{some-span}
+use Rattle.bitvec_combine.proofs.SpanLemmas.{few, group-fits, group-word, groups-fit, after-span, some-span}
 use Rattle.bitvec_combine.proofs.comparing_equal.equal_aligned.Goals as goal
 
 pub whole_elements-first-requires : goal.whole_elements-first-requires
@@ -17,16 +17,69 @@ nonzero_div-source g c = let some = width-some _ _ g.met.C.Elem.BitStore.width_l
 pub elements_per_test-span-requires : goal.elements_per_test-span-requires
 elements_per_test-span-requires g c = let some = width-some _ _ g.met.C.Elem.BitStore.width_law c.BITS-bits.ensures in omega arith
 
+pub overflow_mul-passed : goal.overflow_mul-passed
+overflow_mul-passed g c =
+    let b = g.C.Elem.BitStore.BITS in
+    let k = c.elements_per_test-span.result in
+    let more = rw (c.whole_elements-first.ensures, c.BITS-bits.ensures) at c.loop-test-test.true in
+    let fits = group-fits k b c.args.left_window.len c.loop-test.test (omega arith) in
+    let most = few b (c.loop-test.test * k + k) c.args.left_window.len (width_some _ g.met.C.Elem.BitStore.width_law) fits in
+    omega arith
+
+pub overflow_add-first : goal.overflow_add-first
+overflow_add-first g c =
+    let b = g.C.Elem.BitStore.BITS in
+    let k = c.elements_per_test-span.result in
+    let more = rw (c.whole_elements-first.ensures, c.BITS-bits.ensures) at c.loop-test-test.true in
+    let fits = group-fits k b c.args.left_window.len c.loop-test.test (omega arith) in
+    let below = group-word b _ c.args.left_window (c.loop-test.test * k + k) g.met.C.Elem.BitStore.width_law c.requires.span.window fits in
+    rw (c.whole_elements-first.ensures, c.BITS-bits.ensures) (omega arith)
+
+pub overflow_add-source : goal.overflow_add-source
+overflow_add-source g c =
+    let b = g.C.Elem.BitStore.BITS in
+    let k = c.elements_per_test-span.result in
+    let more = rw (c.whole_elements-first.ensures, c.BITS-bits.ensures, c.requires.span.lengths) at c.loop-test-test.true in
+    let fits = group-fits k b c.args.right_window.len c.loop-test.test (omega arith) in
+    let below = group-word b _ c.args.right_window (c.loop-test.test * k + k) g.met.C.Elem.BitStore.width_law c.requires.span.beside fits in
+    rw c.BITS-bits.ensures (omega arith)
+
+pub overflow_mul-passed-2 : goal.overflow_mul-passed-2
+overflow_mul-passed-2 g c =
+    let b = g.C.Elem.BitStore.BITS in
+    let k = c.elements_per_test-span.result in
+    let most = few b (c.args.left_window.len / b / k * k) c.args.left_window.len (width_some _ g.met.C.Elem.BitStore.width_law) (groups-fit k b c.args.left_window.len) in
+    rw (c.whole_elements-first.ensures, c.BITS-bits.ensures) (omega arith)
+
+pub overflow_mul-passed-3 : goal.overflow_mul-passed-3
+overflow_mul-passed-3 g c =
+    let fits = groups-fit c.elements_per_test-span.result g.C.Elem.BitStore.BITS c.args.left_window.len in
+    rw (c.whole_elements-first.ensures, c.BITS-bits.ensures) (omega arith)
+
+pub after-requires-clause-bound : goal.after-requires-clause-bound
+after-requires-clause-bound g c = rw (c.whole_elements-first.ensures, c.BITS-bits.ensures) (groups-fit c.elements_per_test-span.result g.C.Elem.BitStore.BITS c.args.left_window.len)
+
+pub after-requires-2-clause-bound : goal.after-requires-2-clause-bound
+after-requires-2-clause-bound g c =
+    rw (c.whole_elements-first.ensures, c.BITS-bits.ensures, c.requires.span.lengths) (groups-fit c.elements_per_test-span.result g.C.Elem.BitStore.BITS c.args.right_window.len)
+
 pub differences-found-requires : goal.differences-found-requires
 differences-found-requires g c =
     let b = g.C.Elem.BitStore.BITS in
     let inv = c.loop-test.invariant in
     let k = c.elements_per_test-span.result in
     let more = rw (c.whole_elements-first.ensures, c.BITS-bits.ensures) at c.loop-test-test.true in
-    let room = whole_fits k (c.args.left_window.len / b) (c.loop-test.test + 1) (omega arith) in
-    let fits = whole_fits b c.args.left_window.len (c.loop-test.test * k + k) (omega arith) in
+    let fits = group-fits k b c.args.left_window.len c.loop-test.test (omega arith) in
     rw (c.whole_elements-first.ensures, c.BITS-bits.ensures, inv.reads.numbers, inv.right.numbers)
     (some-span _ _ _ _ _ (c.loop-test.test * k) k c.requires.span c.requires.edge c.requires.right_edge fits)
+
+pub equal_aligned_rest-requires-clause-span : goal.equal_aligned_rest-requires-clause-span
+equal_aligned_rest-requires-clause-span g c =
+    let b = g.C.Elem.BitStore.BITS in
+    let inv = c.loop-test.invariant in
+    let k = c.elements_per_test-span.result in
+    let fits = groups-fit k b c.args.left_window.len in
+    rw (c.after.ensures, c.after-2.ensures, c.whole_elements-first.ensures, c.BITS-bits.ensures, inv.reads.numbers, inv.right.numbers) (after-span _ _ _ _ _ _ _ c.requires.span refl fits)
 
 pub equal_aligned_rest-requires-clause-edge : goal.equal_aligned_rest-requires-clause-edge
 equal_aligned_rest-requires-clause-edge g c =
@@ -47,8 +100,7 @@ returns-then-not-is_zero-clause-value g c =
     let k = c.elements_per_test-span.result in
     let passed : ℕ = c.loop-test.test * k in
     let more = rw (c.whole_elements-first.ensures, c.BITS-bits.ensures) at c.loop-test-test.true in
-    let room = whole_fits k (c.args.left_window.len / b) (c.loop-test.test + 1) (omega arith) in
-    let fits = whole_fits b c.args.left_window.len (passed + k) (omega arith) in
+    let fits = group-fits k b c.args.left_window.len c.loop-test.test (omega arith) in
     let lengths = c.requires.span.lengths in
     let other_fits : (passed + k) * b ≤ c.args.right_window.len = omega arith in
     let told = rw (c.whole_elements-first.ensures, c.BITS-bits.ensures, inv.reads.numbers, inv.right.numbers) at c.differences-found.ensures.value in
@@ -65,8 +117,7 @@ returns-then-not-is_zero-clause-reads g c =
     let k = c.elements_per_test-span.result in
     let passed : ℕ = c.loop-test.test * k in
     let more = rw (c.whole_elements-first.ensures, c.BITS-bits.ensures) at c.loop-test-test.true in
-    let room = whole_fits k (c.args.left_window.len / b) (c.loop-test.test + 1) (omega arith) in
-    let fits = whole_fits b c.args.left_window.len (passed + k) (omega arith) in
+    let fits = group-fits k b c.args.left_window.len c.loop-test.test (omega arith) in
     let all = touched-after b c.args.left_window.start c.args.left_window.len (passed + k) (width_some _ g.met.C.Elem.BitStore.width_law) c.requires.edge fits in
     let before = c.loop-test.invariant.reads in
     record { numbers = search rules; borrow = search rules; loads = omega arith; stores = search rules }
@@ -77,8 +128,7 @@ returns-then-not-is_zero-clause-right g c =
     let k = c.elements_per_test-span.result in
     let passed : ℕ = c.loop-test.test * k in
     let more = rw (c.whole_elements-first.ensures, c.BITS-bits.ensures, c.requires.span.lengths) at c.loop-test-test.true in
-    let room = whole_fits k (c.args.right_window.len / b) (c.loop-test.test + 1) (omega arith) in
-    let fits = whole_fits b c.args.right_window.len (passed + k) (omega arith) in
+    let fits = group-fits k b c.args.right_window.len c.loop-test.test (omega arith) in
     let all = touched-after b c.args.right_window.start c.args.right_window.len (passed + k) (width_some _ g.met.C.Elem.BitStore.width_law) c.requires.right_edge fits in
     let before = c.loop-test.invariant.right in
     record { numbers = search rules; borrow = search rules; loads = omega arith; stores = search rules }
@@ -90,8 +140,7 @@ loop-test-preserved g c =
     let k = c.elements_per_test-span.result in
     let passed : ℕ = c.loop-test.test * k in
     let more = rw (c.whole_elements-first.ensures, c.BITS-bits.ensures) at c.loop-test-test.true in
-    let room = whole_fits k (c.args.left_window.len / b) (c.loop-test.test + 1) (omega arith) in
-    let fits = whole_fits b c.args.left_window.len (passed + k) (omega arith) in
+    let fits = group-fits k b c.args.left_window.len c.loop-test.test (omega arith) in
     let lengths = c.requires.span.lengths in
     let other_fits : (passed + k) * b ≤ c.args.right_window.len = omega arith in
     let told = rw (c.whole_elements-first.ensures, c.BITS-bits.ensures, inv.reads.numbers, inv.right.numbers) at c.differences-found.ensures.value in
@@ -113,8 +162,7 @@ returns-clause-reads g c =
     let b = g.C.Elem.BitStore.BITS in
     let k = c.elements_per_test-span.result in
     let passed : ℕ = c.args.left_window.len / b / k * k in
-    let room = whole_fits k (c.args.left_window.len / b) (c.args.left_window.len / b / k) (omega arith) in
-    let fits = whole_fits b c.args.left_window.len passed (omega arith) in
+    let fits = groups-fit k b c.args.left_window.len in
     let all = touched-after b c.args.left_window.start c.args.left_window.len passed (width_some _ g.met.C.Elem.BitStore.width_law) c.requires.edge fits in
     let last = mul-le-mul_left k (rw (c.whole_elements-first.ensures, c.BITS-bits.ensures) at c.loop-test.auto.test-end) in
     let before = c.loop-test.invariant.reads in
@@ -126,8 +174,7 @@ returns-clause-right g c =
     let b = g.C.Elem.BitStore.BITS in
     let k = c.elements_per_test-span.result in
     let passed : ℕ = c.args.right_window.len / b / k * k in
-    let room = whole_fits k (c.args.right_window.len / b) (c.args.right_window.len / b / k) (omega arith) in
-    let fits = whole_fits b c.args.right_window.len passed (omega arith) in
+    let fits = groups-fit k b c.args.right_window.len in
     let all = touched-after b c.args.right_window.start c.args.right_window.len passed (width_some _ g.met.C.Elem.BitStore.width_law) c.requires.right_edge fits in
     let last = mul-le-mul_left k (rw (c.whole_elements-first.ensures, c.BITS-bits.ensures, c.requires.span.lengths) at c.loop-test.auto.test-end) in
     let before = c.loop-test.invariant.right in

@@ -7,6 +7,7 @@ use Rattle.bitvec_move.specs.words.SameLaws.{same-apart, same-then}
 use Rattle.bitvec_move.specs.words.TouchedLaws.{touched-first, touched-rest}
 use Rattle.bitvec_move.specs.words.WholeLaws.{long-head}
 use Rattle.bitvec_move.specs.PlaceLaws.{behind-edge, head-element, head-part, width-some}
+use Rattle.bitvec_combine.proofs.SpanLemmas.{after-span}
 use Rattle.bitvec_combine.proofs.comparing_equal.equal_unshifted.Goals as goal
 
 pub nonzero_div-right_window : goal.nonzero_div-right_window
@@ -23,6 +24,12 @@ equal_part-requires-clause-source g c =
     let lengths = c.requires.span.lengths in
     let some = c.requires.some in
     head-element _ _ _ c.args.right_window g.met.C.Elem.BitStore.width_law c.BITS-bits.ensures (omega arith) c.requires.span.beside
+
+pub equal_aligned-requires-clause-span : goal.equal_aligned-requires-clause-span
+equal_aligned-requires-clause-span g c =
+    let b = g.C.Elem.BitStore.BITS in
+    let step = first_part-long c.len-passed.result b c.BITS-bits.result c.args.left_window c.first_part-head.result c.len-passed.ensures c.first_part-head.ensures c.BITS-bits.ensures in
+    rw (c.after.ensures, c.after-2.ensures, c.equal_part.ensures.reads.numbers, c.equal_part.ensures.right.numbers) (after-span _ _ _ _ _ _ _ c.requires.span refl (omega arith))
 
 pub equal_aligned-requires-clause-edge : goal.equal_aligned-requires-clause-edge
 equal_aligned-requires-clause-edge g c =

@@ -3,9 +3,9 @@ use Rattle.std.proofs.Math.Nat.{mul-le-mul_left}
 use Rattle.bitvec_move.specs.store.WidthLaws.{width_some}
 use Rattle.bitvec_move.specs.words.SameLaws.{same-apart, same-then}
 use Rattle.bitvec_move.specs.words.TouchedLaws.{touched-after}
-use Rattle.bitvec_move.specs.words.WholeLaws.{list-elements, list-elements_from, long-elements_from, touched-behind_from, whole_fits}
+use Rattle.bitvec_move.specs.words.WholeLaws.{list-elements, list-elements_from, long-elements_from, touched-behind_from}
 use Rattle.bitvec_move.specs.PlaceLaws.{width-some}
-use Rattle.bitvec_combine.proofs.SpanLemmas.{behind-shifted, some-shifted}
+use Rattle.bitvec_combine.proofs.SpanLemmas.{few, group-fits, group-word, groups-fit, behind-shifted, some-shifted}
 use Rattle.bitvec_combine.proofs.comparing_shifted.equal_carried.Goals as goal
 
 pub whole_elements-first-requires : goal.whole_elements-first-requires
@@ -20,14 +20,59 @@ nonzero_rem-skip g c = let some = width-some _ _ g.met.C.Elem.BitStore.width_law
 pub elements_per_test-span-requires : goal.elements_per_test-span-requires
 elements_per_test-span-requires g c = let some = width-some _ _ g.met.C.Elem.BitStore.width_law c.BITS-bits.ensures in omega arith
 
+pub overflow_mul-passed : goal.overflow_mul-passed
+overflow_mul-passed g c =
+    let b = g.C.Elem.BitStore.BITS in
+    let k = c.elements_per_test-span.result in
+    let more = rw (c.whole_elements-first.ensures, c.BITS-bits.ensures) at c.loop-test-test.true in
+    let fits = group-fits k b c.args.left_window.len c.loop-test.test (omega arith) in
+    let most = few b (c.loop-test.test * k + k) c.args.left_window.len (width_some _ g.met.C.Elem.BitStore.width_law) fits in
+    omega arith
+
+pub overflow_add-first : goal.overflow_add-first
+overflow_add-first g c =
+    let b = g.C.Elem.BitStore.BITS in
+    let k = c.elements_per_test-span.result in
+    let more = rw (c.whole_elements-first.ensures, c.BITS-bits.ensures) at c.loop-test-test.true in
+    let fits = group-fits k b c.args.left_window.len c.loop-test.test (omega arith) in
+    let below = group-word b _ c.args.left_window (c.loop-test.test * k + k) g.met.C.Elem.BitStore.width_law c.requires.span.window fits in
+    rw (c.whole_elements-first.ensures, c.BITS-bits.ensures) (omega arith)
+
+pub overflow_add-source : goal.overflow_add-source
+overflow_add-source g c =
+    let b = g.C.Elem.BitStore.BITS in
+    let k = c.elements_per_test-span.result in
+    let more = rw (c.whole_elements-first.ensures, c.BITS-bits.ensures, c.requires.span.lengths) at c.loop-test-test.true in
+    let fits = group-fits k b c.args.right_window.len c.loop-test.test (omega arith) in
+    let below = group-word b _ c.args.right_window (c.loop-test.test * k + k) g.met.C.Elem.BitStore.width_law c.requires.span.beside fits in
+    rw c.BITS-bits.ensures (omega arith)
+
+pub overflow_mul-passed-2 : goal.overflow_mul-passed-2
+overflow_mul-passed-2 g c =
+    let b = g.C.Elem.BitStore.BITS in
+    let k = c.elements_per_test-span.result in
+    let most = few b (c.args.left_window.len / b / k * k) c.args.left_window.len (width_some _ g.met.C.Elem.BitStore.width_law) (groups-fit k b c.args.left_window.len) in
+    rw (c.whole_elements-first.ensures, c.BITS-bits.ensures) (omega arith)
+
+pub overflow_mul-passed-3 : goal.overflow_mul-passed-3
+overflow_mul-passed-3 g c =
+    let fits = groups-fit c.elements_per_test-span.result g.C.Elem.BitStore.BITS c.args.left_window.len in
+    rw (c.whole_elements-first.ensures, c.BITS-bits.ensures) (omega arith)
+
+pub after-requires-clause-bound : goal.after-requires-clause-bound
+after-requires-clause-bound g c = rw (c.whole_elements-first.ensures, c.BITS-bits.ensures) (groups-fit c.elements_per_test-span.result g.C.Elem.BitStore.BITS c.args.left_window.len)
+
+pub after-requires-2-clause-bound : goal.after-requires-2-clause-bound
+after-requires-2-clause-bound g c =
+    rw (c.whole_elements-first.ensures, c.BITS-bits.ensures, c.requires.span.lengths) (groups-fit c.elements_per_test-span.result g.C.Elem.BitStore.BITS c.args.right_window.len)
+
 pub tested_differences-found-requires : goal.tested_differences-found-requires
 tested_differences-found-requires g c =
     let b = g.C.Elem.BitStore.BITS in
     let inv = c.loop-test.invariant in
     let k = c.elements_per_test-span.result in
     let more = rw (c.whole_elements-first.ensures, c.BITS-bits.ensures) at c.loop-test-test.true in
-    let room = whole_fits k (c.args.left_window.len / b) (c.loop-test.test + 1) (omega arith) in
-    let fits = whole_fits b c.args.left_window.len (c.loop-test.test * k + k) (omega arith) in
+    let fits = group-fits k b c.args.left_window.len c.loop-test.test (omega arith) in
     rw (c.whole_elements-first.ensures, c.BITS-bits.ensures, inv.reads.numbers, inv.right.numbers)
     (some-shifted _ _ _ _ _ _ _ (c.loop-test.test * k) k g.met.C.Elem.BitStore.width_law c.requires fits (rw c.BITS-bits.ensures at inv.carried))
 
@@ -39,8 +84,7 @@ equal_carried_rest-requires g c =
     let end = rw (c.whole_elements-first.ensures, c.BITS-bits.ensures) at c.loop-test-test.false in
     let most = rw (c.whole_elements-first.ensures, c.BITS-bits.ensures) at c.loop-test.auto.test-end in
     let all : c.loop-test.test ≡ c.args.left_window.len / b / k = omega arith in
-    let room = whole_fits k (c.args.left_window.len / b) (c.args.left_window.len / b / k) (omega arith) in
-    let fits = whole_fits b c.args.left_window.len (c.args.left_window.len / b / k * k) (omega arith) in
+    let fits = groups-fit k b c.args.left_window.len in
     rw (c.after.ensures, c.after-2.ensures, c.whole_elements-first.ensures, c.BITS-bits.ensures, inv.reads.numbers, inv.right.numbers)
     (behind-shifted _ _ _ _ _ _ _ (c.args.left_window.len / b / k * k) g.met.C.Elem.BitStore.width_law c.requires fits (rw (all, c.BITS-bits.ensures) at inv.carried))
 
@@ -51,8 +95,7 @@ returns-then-not-is_zero-clause-value g c =
     let k = c.elements_per_test-span.result in
     let passed : ℕ = c.loop-test.test * k in
     let more = rw (c.whole_elements-first.ensures, c.BITS-bits.ensures) at c.loop-test-test.true in
-    let room = whole_fits k (c.args.left_window.len / b) (c.loop-test.test + 1) (omega arith) in
-    let fits = whole_fits b c.args.left_window.len (passed + k) (omega arith) in
+    let fits = group-fits k b c.args.left_window.len c.loop-test.test (omega arith) in
     let lengths = c.requires.span.lengths in
     let other_fits : (passed + k) * b ≤ c.args.right_window.len = omega arith in
     let told = rw (c.whole_elements-first.ensures, c.BITS-bits.ensures, inv.reads.numbers, inv.right.numbers) at c.tested_differences-found.ensures.value in
@@ -69,8 +112,7 @@ returns-then-not-is_zero-clause-reads g c =
     let k = c.elements_per_test-span.result in
     let passed : ℕ = c.loop-test.test * k in
     let more = rw (c.whole_elements-first.ensures, c.BITS-bits.ensures) at c.loop-test-test.true in
-    let room = whole_fits k (c.args.left_window.len / b) (c.loop-test.test + 1) (omega arith) in
-    let fits = whole_fits b c.args.left_window.len (passed + k) (omega arith) in
+    let fits = group-fits k b c.args.left_window.len c.loop-test.test (omega arith) in
     let all = touched-after b c.args.left_window.start c.args.left_window.len (passed + k) (width_some _ g.met.C.Elem.BitStore.width_law) c.requires.edge fits in
     let before = c.loop-test.invariant.reads in
     record { numbers = search rules; borrow = search rules; loads = omega arith; stores = search rules }
@@ -81,8 +123,7 @@ returns-then-not-is_zero-clause-right g c =
     let k = c.elements_per_test-span.result in
     let passed : ℕ = c.loop-test.test * k in
     let more = rw (c.whole_elements-first.ensures, c.BITS-bits.ensures, c.requires.span.lengths) at c.loop-test-test.true in
-    let room = whole_fits k (c.args.right_window.len / b) (c.loop-test.test + 1) (omega arith) in
-    let fits = whole_fits b c.args.right_window.len (passed + k) (omega arith) in
+    let fits = group-fits k b c.args.right_window.len c.loop-test.test (omega arith) in
     let all = touched-behind_from b c.args.right_window.start c.args.right_window.len (passed + k) (width_some _ g.met.C.Elem.BitStore.width_law) c.requires.inside fits in
     let before = c.loop-test.invariant.right in
     record { numbers = search rules; borrow = search rules; loads = omega arith; stores = search rules }
@@ -94,8 +135,7 @@ loop-test-preserved g c =
     let k = c.elements_per_test-span.result in
     let passed : ℕ = c.loop-test.test * k in
     let more = rw (c.whole_elements-first.ensures, c.BITS-bits.ensures) at c.loop-test-test.true in
-    let room = whole_fits k (c.args.left_window.len / b) (c.loop-test.test + 1) (omega arith) in
-    let fits = whole_fits b c.args.left_window.len (passed + k) (omega arith) in
+    let fits = group-fits k b c.args.left_window.len c.loop-test.test (omega arith) in
     let lengths = c.requires.span.lengths in
     let other_fits : (passed + k) * b ≤ c.args.right_window.len = omega arith in
     let told = rw (c.whole_elements-first.ensures, c.BITS-bits.ensures, inv.reads.numbers, inv.right.numbers) at c.tested_differences-found.ensures.value in
@@ -119,8 +159,7 @@ returns-clause-reads g c =
     let b = g.C.Elem.BitStore.BITS in
     let k = c.elements_per_test-span.result in
     let passed : ℕ = c.args.left_window.len / b / k * k in
-    let room = whole_fits k (c.args.left_window.len / b) (c.args.left_window.len / b / k) (omega arith) in
-    let fits = whole_fits b c.args.left_window.len passed (omega arith) in
+    let fits = groups-fit k b c.args.left_window.len in
     let all = touched-after b c.args.left_window.start c.args.left_window.len passed (width_some _ g.met.C.Elem.BitStore.width_law) c.requires.edge fits in
     let last = mul-le-mul_left k (rw (c.whole_elements-first.ensures, c.BITS-bits.ensures) at c.loop-test.auto.test-end) in
     let before = c.loop-test.invariant.reads in
@@ -132,8 +171,7 @@ returns-clause-right g c =
     let b = g.C.Elem.BitStore.BITS in
     let k = c.elements_per_test-span.result in
     let passed : ℕ = c.args.right_window.len / b / k * k in
-    let room = whole_fits k (c.args.right_window.len / b) (c.args.right_window.len / b / k) (omega arith) in
-    let fits = whole_fits b c.args.right_window.len passed (omega arith) in
+    let fits = groups-fit k b c.args.right_window.len in
     let all = touched-behind_from b c.args.right_window.start c.args.right_window.len passed (width_some _ g.met.C.Elem.BitStore.width_law) c.requires.inside fits in
     let last = mul-le-mul_left k (rw (c.whole_elements-first.ensures, c.BITS-bits.ensures, c.requires.span.lengths) at c.loop-test.auto.test-end) in
     let before = c.loop-test.invariant.right in

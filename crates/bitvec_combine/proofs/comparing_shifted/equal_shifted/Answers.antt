@@ -101,7 +101,7 @@ equal_carried-requires-2 g c =
     let fits : c.len-passed.result ≤ c.args.left_window.len = omega arith in
     rw (c.after.ensures, c.after-2.ensures, c.equal_shifted_head-same.ensures.reads.numbers, c.equal_shifted_head-same.ensures.right.numbers)
     (record {
-      span = after-span _ _ _ _ _ _ c.requires.span fits;
+      span = after-span _ _ _ _ _ _ _ c.requires.span refl fits;
       edge = behind-edge _ _ c.args.left_window _ g.met.C.Elem.BitStore.width_law refl step c.if-passed-left_window.false;
       inside = inside;
       carried = last ∙ ap (λ (m : ℕ). slice_index ys (m / b)) end ∙ ap (slice_index ys) same;
