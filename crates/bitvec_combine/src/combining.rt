@@ -98,8 +98,8 @@ fn combine_aligned<O: WordOrder, C: Cells, D: CellsRead<Elem = C::Elem>>(
     let (source, count) = whole_elements(bits, from);
     let first = to.start / bits;
     combine_whole::<O, C, D>(left, first, right, source, count, op);
-    let rest = to.after(count * bits);
-    let tail = from.after(count * bits);
+    let passed = count * bits;
+    let (rest, tail) = (to.after(passed), from.after(passed));
     if tail.len == 0 {
         combine_zeros::<O, C>(left, rest, op);
         return;
@@ -128,8 +128,8 @@ fn combine_shifted<O: WordOrder, C: Cells, D: CellsRead<Elem = C::Elem>>(
     let count = from.len / bits;
     let (first, source, skip) = (to.start / bits, from.start / bits, from.start % bits);
     let last = combine_joined::<O, C, D>(left, first, right, source, carry, skip, count, op);
-    let rest = to.after(count * bits);
-    let tail = from.after(count * bits);
+    let passed = count * bits;
+    let (rest, tail) = (to.after(passed), from.after(passed));
     if tail.len == 0 {
         combine_zeros::<O, C>(left, rest, op);
         return;

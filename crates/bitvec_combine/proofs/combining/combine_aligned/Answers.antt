@@ -20,14 +20,8 @@ combine_whole-requires g c =
     rw (c.whole_elements-source.ensures, c.BITS-bits.ensures)
     (whole-span _ _ _ _ _ (front-span _ _ _ _ _ c.requires.span) c.requires.edge c.requires.right_edge)
 
-pub overflow_mul-count : goal.overflow_mul-count
-overflow_mul-count g c =
-    let b = g.C.Elem.BitStore.BITS in
-    let fits = whole_fits b c.args.from.len (c.args.from.len / b) (omega arith) in
-    rw (c.whole_elements-source.ensures, c.BITS-bits.ensures) (omega arith)
-
-pub overflow_mul-count-2 : goal.overflow_mul-count-2
-overflow_mul-count-2 g c =
+pub overflow_mul-passed : goal.overflow_mul-passed
+overflow_mul-passed g c =
     let b = g.C.Elem.BitStore.BITS in
     let fits = whole_fits b c.args.from.len (c.args.from.len / b) (omega arith) in
     rw (c.whole_elements-source.ensures, c.BITS-bits.ensures) (omega arith)

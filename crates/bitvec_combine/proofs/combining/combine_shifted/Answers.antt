@@ -25,14 +25,8 @@ nonzero_rem-skip g c = let some = width-some _ _ g.met.C.Elem.BitStore.width_law
 pub combine_joined-last-requires : goal.combine_joined-last-requires
 combine_joined-last-requires g c = rw c.BITS-bits.ensures (whole-shifted _ _ _ _ _ _ g.met.C.Elem.BitStore.width_law (front-shifted _ _ _ _ _ _ c.requires))
 
-pub overflow_mul-count : goal.overflow_mul-count
-overflow_mul-count g c =
-    let b = g.C.Elem.BitStore.BITS in
-    let fits = whole_fits b c.args.from.len (c.args.from.len / b) (omega arith) in
-    rw c.BITS-bits.ensures (omega arith)
-
-pub overflow_mul-count-2 : goal.overflow_mul-count-2
-overflow_mul-count-2 g c =
+pub overflow_mul-passed : goal.overflow_mul-passed
+overflow_mul-passed g c =
     let b = g.C.Elem.BitStore.BITS in
     let fits = whole_fits b c.args.from.len (c.args.from.len / b) (omega arith) in
     rw c.BITS-bits.ensures (omega arith)
