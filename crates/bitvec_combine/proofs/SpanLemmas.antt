@@ -1,4 +1,4 @@
--- Two windows, the first of which begins where an element does: whole elements of them, and what is behind these.
+-- Windows beside one another: what is behind some bits of them, their whole elements, and how many these are.
 use Rattle.std.proofs.Common.{◌≡◌, ℕ, ◌+◌, ◌-◌, ◌*◌, ◌/◌, ◌%◌, ◌^◌, ◌<◌, ◌≤◌, min, List, length, slice_index, refl, ap, sym, ◌∙◌, arith}
 use Rattle.std.proofs.Math.Nat.{mul-le-mul_left}
 use Rattle.std.proofs.lemmas.Nat.{div-add-mod', mod_below}
@@ -47,6 +47,10 @@ group-word b xs window m width has fits =
     omega arith
 
 -- ---- windows
+
+pub window-same : (window other : Window) → window.start ≡ other.start → window.len ≡ other.len → window ≡ other
+window-same window other start len =
+    ap (λ (s : ℕ). (let w : Window = record { start = s; len = window.len } in w)) start ∙ ap (λ (n : ℕ). (let w : Window = record { start = other.start; len = n } in w)) len
 
 -- what is behind t bits, where the first memory may have changed
 pub after-span : (b : ℕ) (xs now ys : List ℕ) (left right : Window) (t : ℕ) → HasSpan b xs ys left right → length now ≡ length xs → t ≤ left.len

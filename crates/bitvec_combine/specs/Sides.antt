@@ -6,7 +6,7 @@ use Rattle.bitvec_move.specs.base.Memory.{Writes, list_in}
 use Rattle.bitvec_move.specs.words.declared.operator.BitOp.{BitOp}
 use Rattle.bitvec_move.specs.words.Operator.{operator}
 
--- each bit of the first window is what the operator makes of it and the one at its index in the second, and every other bit stays
+-- each bit of the first window is what the operator makes of it and the one at its index in the second, a 0 past that one's end; every other bit stays
 abbrev pub Combines : (b : ℕ) (at : ℕ → ℕ → ℕ) → BitOp → (old new ys : List ℕ) (left right : Window) → Type 0
 Combines b at op old new ys left right = Writes b at old new left (combined (operator op) (list_in b at old left) (list_in b at ys right))
 

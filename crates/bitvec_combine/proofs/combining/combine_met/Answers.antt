@@ -1,14 +1,17 @@
-use Rattle.std.proofs.Common.{◌≡◌, ℕ, ◌+◌, ◌-◌, min, ◌∙◌, arith, rules, ap, refl, slice_index}
+use Rattle.std.proofs.Common.{◌≡◌, ℕ, ◌+◌, ◌-◌, min, ◌∙◌, arith, rules, ap, refl, slice_index, subst, sym}
 use Rattle.std.proofs.lemmas.Nat.{mod_below}
 use Rattle.bitvec_move.specs.base.declared.part.Part.{Part}
-use Rattle.bitvec_move.specs.base.Parts.{first_part_of}
+use Rattle.bitvec_move.specs.base.declared.window.Window.{Window}
+use Rattle.bitvec_move.specs.base.Parts.{first_part_of, part_window}
 use Rattle.bitvec_move.specs.store.WidthLaws.{width_some}
+use Rattle.bitvec_move.specs.walk.WalkLaws.{first-place}
 use Rattle.bitvec_move.specs.words.CombinedLaws.{Writes-first_met}
 use Rattle.bitvec_move.specs.words.FieldLaws.{first_part-long}
 use Rattle.bitvec_move.specs.words.Operator.{operator}
 use Rattle.bitvec_move.specs.words.TouchedLaws.{inside_element, touched-edge, touched-inside, touched-parts}
 use Rattle.bitvec_move.specs.PlaceLaws.{behind-edge, head-part, width-some}
-use Rattle.bitvec_combine.proofs.SpanLemmas.{after-shorter}
+use Rattle.bitvec_combine.proofs.SpanLemmas.{after-shorter, window-same}
+use Rattle.bitvec_combine.specs.Sides.{Combines}
 use Rattle.bitvec_combine.proofs.combining.combine_met.Goals as goal
 
 pub nonzero_rem-behind : goal.nonzero_rem-behind
@@ -27,6 +30,29 @@ combine_head-carry-requires g c =
       some = search rules;
       bound = search rules;
     }
+
+pub returns-then-passed-to-clause-writes : goal.returns-then-passed-to-clause-writes
+returns-then-passed-to-clause-writes g c =
+    let b = g.C.Elem.BitStore.BITS in
+    let at = g.O.BitOrder.at in
+    let to = c.args.to in
+    let some = width_some _ g.met.C.Elem.BitStore.width_law in
+    let lengths = c.requires.span.lengths in
+    let more = c.requires.some in
+    let head : c.first_part-head.result ≡ first_part_of b to = c.first_part-head.ensures ∙ ap (λ (n : ℕ). first_part_of n to) c.BITS-bits.ensures in
+    let long = c.len-passed.ensures ∙ ap (λ (p : Part). p.to - p.from) head in
+    let all = c.if-passed-to.true in
+    let met : c.args.from.len - (c.args.from.len - c.min-met.result) ≡ c.args.from.len = omega arith in
+    let part : part_window b (first_part_of b to) ≡ to = window-same _ _ (first-place b to) (sym long ∙ all) in
+    let first = rw (head, c.until.ensures, met) at c.combine_head-carry.ensures.writes in
+    subst (λ (w : Window). Combines b at c.args.op (g.C.CellsRead.numbers c.args.left.now) (g.C.CellsRead.numbers c.combine_head-carry.new.left) (g.D.CellsRead.numbers c.args.right.now) w c.args.from) part first
+
+pub returns-then-passed-to-clause-right : goal.returns-then-passed-to-clause-right
+returns-then-passed-to-clause-right g c =
+    let lengths = c.requires.span.lengths in
+    let all = c.if-passed-to.true in
+    let met : c.args.from.len - (c.args.from.len - c.min-met.result) ≡ c.args.from.len = omega arith in
+    rw (c.until.ensures, met) at c.combine_head-carry.ensures.right
 
 pub returns-then-passed-to-clause-cost : goal.returns-then-passed-to-clause-cost
 returns-then-passed-to-clause-cost g c =
