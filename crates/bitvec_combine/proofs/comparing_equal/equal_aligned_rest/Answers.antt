@@ -1,11 +1,15 @@
-use Rattle.std.proofs.Common.{◌/◌, arith, rules, refl, sym, ◌∙◌}
+use Rattle.std.proofs.Common.{◌≡◌, ◌/◌, ap, arith, rules, refl, sym, ◌∙◌}
 use Rattle.bitvec_move.specs.store.WidthLaws.{width_some}
+use Rattle.std.proofs.lemmas.Nat.{div-add-mod'}
+use Rattle.bitvec_move.specs.base.declared.window.Window.{Window}
+use Rattle.bitvec_move.specs.words.Elements.{elements_window}
 use Rattle.bitvec_move.specs.words.FieldLaws.{list-tail}
 use Rattle.bitvec_move.specs.words.SameLaws.{same-apart, same-then}
 use Rattle.bitvec_move.specs.words.TouchedLaws.{touched-after, touched-more}
 use Rattle.bitvec_move.specs.words.WholeLaws.{long-whole, whole_fits}
 use Rattle.bitvec_move.specs.PlaceLaws.{tail-inside, tail-part, tail-word, width-some}
-use Rattle.bitvec_combine.proofs.SpanLemmas.{whole-span}
+use Rattle.bitvec_combine.proofs.SpanLemmas.{whole-span, window-same}
+use Rattle.bitvec_combine.specs.Sides.{same_sides}
 use Rattle.bitvec_combine.proofs.comparing_equal.equal_aligned_rest.Goals as goal
 
 pub whole_elements-first-requires : goal.whole_elements-first-requires
@@ -62,6 +66,25 @@ returns-then-not-is_zero-clause-right g c =
     let all = touched-after b c.args.right_window.start n (n / b) (width_some _ g.met.C.Elem.BitStore.width_law) c.requires.right_edge (whole_fits b n (n / b) (omega arith)) in
     let reads = rw (c.whole_elements-first.ensures, c.BITS-bits.ensures, c.requires.span.lengths) at c.differences-found.ensures.right in
     record { numbers = search rules; borrow = search rules; loads = omega arith; stores = search rules }
+
+pub returns-then-tail-eq0-clause-value : goal.returns-then-tail-eq0-clause-value
+returns-then-tail-eq0-clause-value g c =
+    let b = g.C.Elem.BitStore.BITS in
+    let xs = g.C.CellsRead.numbers c.args.left.now in
+    let ys = g.D.CellsRead.numbers c.args.right.now in
+    let full = rw (c.tail_part-tail.ensures, c.BITS-bits.ensures) at c.if-tail-eq0.true in
+    let parts = div-add-mod' c.args.left_window.len b in
+    let place = div-add-mod' c.args.left_window.start b in
+    let other_place = div-add-mod' c.args.right_window.start b in
+    let edge = c.requires.edge in
+    let other_edge = c.requires.right_edge in
+    let lengths = c.requires.span.lengths in
+    let left : elements_window b (c.args.left_window.start / b) (c.args.left_window.len / b) ≡ c.args.left_window = window-same _ _ (omega arith) (omega arith) in
+    let right : elements_window b (c.args.right_window.start / b) (c.args.left_window.len / b) ≡ c.args.right_window = window-same _ _ (omega arith) (omega arith) in
+    let told = rw (c.whole_elements-first.ensures, c.BITS-bits.ensures) at c.differences-found.ensures.value in
+    (sym c.if-not-is_zero.false ∙ c.is_zero.ensures ∙ told)
+    ∙ ap (λ (w : Window). same_sides b g.O.BitOrder.at xs ys w (elements_window b (c.args.right_window.start / b) (c.args.left_window.len / b))) left
+    ∙ ap (same_sides b g.O.BitOrder.at xs ys c.args.left_window) right
 
 pub returns-then-tail-eq0-clause-reads : goal.returns-then-tail-eq0-clause-reads
 returns-then-tail-eq0-clause-reads g c =

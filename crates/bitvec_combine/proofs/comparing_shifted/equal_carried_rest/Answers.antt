@@ -1,13 +1,16 @@
-use Rattle.std.proofs.Common.{◌≡◌, ◌+◌, ◌-◌, ◌*◌, ◌/◌, ◌%◌, arith, rules, refl, sym, ◌∙◌}
+use Rattle.std.proofs.Common.{◌≡◌, ◌+◌, ◌-◌, ◌*◌, ◌/◌, ◌%◌, arith, ap, rules, refl, sym, ◌∙◌}
 use Rattle.bitvec_move.specs.WaitingLaws.{behind-element}
 use Rattle.std.proofs.lemmas.Nat.{div-add-mod'}
 use Rattle.bitvec_move.specs.store.WidthLaws.{width_some}
+use Rattle.bitvec_move.specs.base.declared.window.Window.{Window}
+use Rattle.bitvec_move.specs.words.Elements.{elements_window, elements_window_from}
 use Rattle.bitvec_move.specs.words.FieldLaws.{list-rest, list-tail}
 use Rattle.bitvec_move.specs.words.SameLaws.{same-apart, same-then}
 use Rattle.bitvec_move.specs.words.TouchedLaws.{touched-after, touched-from_more, touched-more}
 use Rattle.bitvec_move.specs.words.WholeLaws.{long-whole_from, touched-behind_from, whole_fits}
 use Rattle.bitvec_move.specs.PlaceLaws.{width-some}
-use Rattle.bitvec_combine.proofs.SpanLemmas.{tail-beside, whole-shifted}
+use Rattle.bitvec_combine.proofs.SpanLemmas.{tail-beside, whole-shifted, window-same}
+use Rattle.bitvec_combine.specs.Sides.{same_sides}
 use Rattle.bitvec_combine.proofs.comparing_shifted.equal_carried_rest.Goals as goal
 
 pub whole_elements-first-requires : goal.whole_elements-first-requires
@@ -21,6 +24,19 @@ nonzero_rem-skip g c = let some = width-some _ _ g.met.C.Elem.BitStore.width_law
 
 pub tail_part-tail-requires-clause-bits : goal.tail_part-tail-requires-clause-bits
 tail_part-tail-requires-clause-bits g c = width-some _ _ g.met.C.Elem.BitStore.width_law c.BITS-bits.ensures
+
+pub overflow_mul-count : goal.overflow_mul-count
+overflow_mul-count g c =
+    let b = g.C.Elem.BitStore.BITS in
+    let fits = whole_fits b c.args.left_window.len (c.args.left_window.len / b) (omega arith) in
+    rw (c.whole_elements-first.ensures, c.BITS-bits.ensures) (omega arith)
+
+pub after-requires-clause-bound : goal.after-requires-clause-bound
+after-requires-clause-bound g c =
+    let b = g.C.Elem.BitStore.BITS in
+    let lengths = c.requires.span.lengths in
+    let fits = whole_fits b c.args.left_window.len (c.args.left_window.len / b) (omega arith) in
+    rw (c.whole_elements-first.ensures, c.BITS-bits.ensures) (omega arith)
 
 pub shifted_differences-found-requires : goal.shifted_differences-found-requires
 shifted_differences-found-requires g c = rw (c.whole_elements-first.ensures, c.BITS-bits.ensures) (whole-shifted _ _ _ _ _ _ g.met.C.Elem.BitStore.width_law c.requires)
@@ -66,6 +82,24 @@ returns-then-not-is_zero-clause-right g c =
     let all = touched-behind_from b c.args.right_window.start n (n / b) (width_some _ g.met.C.Elem.BitStore.width_law) c.requires.inside (whole_fits b n (n / b) (omega arith)) in
     let reads = rw (c.whole_elements-first.ensures, c.BITS-bits.ensures, c.requires.span.lengths) at c.shifted_differences-found.ensures.right in
     record { numbers = search rules; borrow = search rules; loads = omega arith; stores = search rules }
+
+pub returns-then-tail-eq0-clause-value : goal.returns-then-tail-eq0-clause-value
+returns-then-tail-eq0-clause-value g c =
+    let b = g.C.Elem.BitStore.BITS in
+    let xs = g.C.CellsRead.numbers c.args.left.now in
+    let ys = g.D.CellsRead.numbers c.args.right.now in
+    let full = rw (c.tail_part-tail.ensures, c.BITS-bits.ensures) at c.if-tail-eq0.true in
+    let parts = div-add-mod' c.args.left_window.len b in
+    let place = div-add-mod' c.args.left_window.start b in
+    let other_place = div-add-mod' c.args.right_window.start b in
+    let edge = c.requires.edge in
+    let lengths = c.requires.span.lengths in
+    let left : elements_window b (c.args.left_window.start / b) (c.args.left_window.len / b) ≡ c.args.left_window = window-same _ _ (omega arith) (omega arith) in
+    let right : elements_window_from b (c.args.right_window.start / b) (c.args.right_window.start % b) (c.args.left_window.len / b) ≡ c.args.right_window = window-same _ _ (omega arith) (omega arith) in
+    let told = rw (c.whole_elements-first.ensures, c.BITS-bits.ensures) at c.shifted_differences-found.ensures.value in
+    (sym c.if-not-is_zero.false ∙ c.is_zero.ensures ∙ told)
+    ∙ ap (λ (w : Window). same_sides b g.O.BitOrder.at xs ys w (elements_window_from b (c.args.right_window.start / b) (c.args.right_window.start % b) (c.args.left_window.len / b))) left
+    ∙ ap (same_sides b g.O.BitOrder.at xs ys c.args.left_window) right
 
 pub returns-then-tail-eq0-clause-reads : goal.returns-then-tail-eq0-clause-reads
 returns-then-tail-eq0-clause-reads g c =
