@@ -1,8 +1,7 @@
 -- Whole elements combined some at a time.
-use Rattle.std.specs.Prelude.{◌≡◌, ℕ, ◌+◌, ◌*◌, ◌≤◌, ◌<◌, Bool, List, ◌++◌, length}
+use Rattle.std.specs.Prelude.{ℕ, ◌+◌, ◌≤◌, Bool, List, ◌++◌}
 use Rattle.std.proofs.Common.{arith, sym, ◌∙◌, ap}
 use Rattle.std.proofs.Math.Nat.{mul-le-mul_left}
-use Rattle.bitvec_move.specs.base.declared.window.Window.{Window}
 use Rattle.bitvec_move.specs.base.Lists.{combined}
 use Rattle.bitvec_move.specs.base.Memory.{HasWindow, Writes, list_in}
 use Rattle.bitvec_move.specs.base.WritesLaws.{length-list, list-join}

@@ -1,1 +1,2 @@
 pub mod GroupLemmas
+pub mod SpanLemmas

@@ -1,4 +1,6 @@
 pub mod Cited
+pub mod Sides
+pub mod Spans
 pub use Rattle.bitvec_move.specs.base as base
 pub use Rattle.bitvec_move.specs.cells as cells
 pub use Rattle.bitvec_move.specs as moves

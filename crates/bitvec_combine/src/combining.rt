@@ -1,16 +1,18 @@
 //! Each bit of a window with the one at its index in another, elements at a time. All down to the loops is
 //! inlined into the function that makes the accessors, so that each operator has loops of its own.
-ghost use Rattle.std.specs.Prelude.{◌≡◌, ℕ, ◌+◌, ◌-◌, ◌*◌, ◌/◌, ◌%◌, ◌<◌, ◌≤◌, slice_index, true};
+ghost use Rattle.std.specs.Prelude.{◌≡◌, ℕ, ◌-◌, ◌*◌, ◌/◌, ◌%◌, ◌<◌, true};
 ghost use Rattle.bitvec_move.specs.base.Lists.{combined};
 ghost use Rattle.bitvec_move.specs.base.Memory.{HasWindow, Writes, list_in};
 ghost use Rattle.bitvec_move.specs.cells.Access.{CostsAtMost, OnlyReads, OnlyReadsAtMost};
 ghost use Rattle.bitvec_move.specs.walk.Cost.{edit_loads, read_loads, touched_count, write_stores};
 ghost use Rattle.bitvec_move.specs.words.Operator.{operator};
+ghost use Rattle.bitvec_combine.specs.Sides.{Combines};
+ghost use Rattle.bitvec_combine.specs.Spans.{HasShiftedShorter, HasShorter};
 
 use crate::combining_elements::{
     combine_end, combine_head, combine_joined, combine_whole, combine_zeros, padded,
 };
-use bitvec_move::base::{BitOrder, Window, first_part};
+use bitvec_move::base::{BitOrder, Window, first_part, whole_elements};
 use bitvec_move::cells::{Cells, CellsRead};
 use bitvec_move::store::BitStore;
 use bitvec_move::words::{BitOp, WordOrder, field, field_after};
@@ -53,12 +55,9 @@ fn combine_met<O: WordOrder, C: Cells, D: CellsRead<Elem = C::Elem>>(
     from: Window,
     op: BitOp,
 )
-    requires window { HasWindow C.Elem.BITS (C.numbers left.old) to }
-    requires right_window { HasWindow C.Elem.BITS (D.numbers right.old) from }
+    requires span { HasShorter C.Elem.BITS (C.numbers left.old) (D.numbers right.old) to from }
     requires some { 0 < from.len }
-    requires lengths { from.len ≤ to.len }
-    ensures writes { Writes C.Elem.BITS O.at (C.numbers left.old) (C.numbers left.new) to
-        (combined (operator op) (list_in C.Elem.BITS O.at (C.numbers left.old) to) (list_in C.Elem.BITS O.at (D.numbers right.old) from)) }
+    ensures writes { Combines C.Elem.BITS O.at op (C.numbers left.old) (C.numbers left.new) (D.numbers right.old) to from }
     ensures cost { let each = touched_count C.Elem.BITS to.start to.len in CostsAtMost C.CellsRead left.old left.new each each }
     ensures right { OnlyReads D.CellsRead right.old right.new (touched_count C.Elem.BITS from.start from.len) }
 {
@@ -88,22 +87,19 @@ fn combine_aligned<O: WordOrder, C: Cells, D: CellsRead<Elem = C::Elem>>(
     from: Window,
     op: BitOp,
 )
-    requires window { HasWindow C.Elem.BITS (C.numbers left.old) to }
-    requires right_window { HasWindow C.Elem.BITS (D.numbers right.old) from }
-    requires lengths { from.len ≤ to.len }
+    requires span { HasShorter C.Elem.BITS (C.numbers left.old) (D.numbers right.old) to from }
     requires edge { to.start % C.Elem.BITS ≡ 0 }
     requires right_edge { from.start % C.Elem.BITS ≡ 0 }
-    ensures writes { Writes C.Elem.BITS O.at (C.numbers left.old) (C.numbers left.new) to
-        (combined (operator op) (list_in C.Elem.BITS O.at (C.numbers left.old) to) (list_in C.Elem.BITS O.at (D.numbers right.old) from)) }
+    ensures writes { Combines C.Elem.BITS O.at op (C.numbers left.old) (C.numbers left.new) (D.numbers right.old) to from }
     ensures cost { let each = touched_count C.Elem.BITS to.start to.len in CostsAtMost C.CellsRead left.old left.new each each }
     ensures right { OnlyReads D.CellsRead right.old right.new (touched_count C.Elem.BITS from.start from.len) }
 {
     let bits = C::Elem::BITS as usize;
-    let count = from.len / bits;
-    let (first, source) = (to.start / bits, from.start / bits);
+    let (source, count) = whole_elements(bits, from);
+    let first = to.start / bits;
     combine_whole::<O, C, D>(left, first, right, source, count, op);
-    let rest = to.after(count * bits);
-    let tail = from.after(count * bits);
+    let passed = count * bits;
+    let (rest, tail) = (to.after(passed), from.after(passed));
     if tail.len == 0 {
         combine_zeros::<O, C>(left, rest, op);
         return;
@@ -123,14 +119,8 @@ fn combine_shifted<O: WordOrder, C: Cells, D: CellsRead<Elem = C::Elem>>(
     carry: C::Elem,
     op: BitOp,
 )
-    requires window { HasWindow C.Elem.BITS (C.numbers left.old) to }
-    requires right_window { HasWindow C.Elem.BITS (D.numbers right.old) from }
-    requires lengths { from.len ≤ to.len }
-    requires edge { to.start % C.Elem.BITS ≡ 0 }
-    requires phase { 0 < from.start % C.Elem.BITS }
-    requires carry { C.Elem.value carry ≡ slice_index (D.numbers right.old) (from.start / C.Elem.BITS) }
-    ensures writes { Writes C.Elem.BITS O.at (C.numbers left.old) (C.numbers left.new) to
-        (combined (operator op) (list_in C.Elem.BITS O.at (C.numbers left.old) to) (list_in C.Elem.BITS O.at (D.numbers right.old) from)) }
+    requires { HasShiftedShorter C.Elem.BITS (C.numbers left.old) (D.numbers right.old) to from (C.Elem.value carry) }
+    ensures writes { Combines C.Elem.BITS O.at op (C.numbers left.old) (C.numbers left.new) (D.numbers right.old) to from }
     ensures cost { let each = touched_count C.Elem.BITS to.start to.len in CostsAtMost C.CellsRead left.old left.new each each }
     ensures right { OnlyReads D.CellsRead right.old right.new (touched_count C.Elem.BITS from.start from.len - 1) }
 {
@@ -138,8 +128,8 @@ fn combine_shifted<O: WordOrder, C: Cells, D: CellsRead<Elem = C::Elem>>(
     let count = from.len / bits;
     let (first, source, skip) = (to.start / bits, from.start / bits, from.start % bits);
     let last = combine_joined::<O, C, D>(left, first, right, source, carry, skip, count, op);
-    let rest = to.after(count * bits);
-    let tail = from.after(count * bits);
+    let passed = count * bits;
+    let (rest, tail) = (to.after(passed), from.after(passed));
     if tail.len == 0 {
         combine_zeros::<O, C>(left, rest, op);
         return;

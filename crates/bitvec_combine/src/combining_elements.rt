@@ -1,12 +1,16 @@
 //! Elements with the bits of others: a part of one, many whole ones, and zeros.
-ghost use Rattle.std.specs.Prelude.{◌≡◌, ℕ, ◌+◌, ◌-◌, ◌*◌, ◌/◌, ◌%◌, ◌<◌, ◌≤◌, [], false, min, ◌++◌, replicate, slice_index, slice_range, take};
+ghost use Rattle.std.specs.Prelude.{◌≡◌, ℕ, ◌+◌, ◌-◌, ◌*◌, ◌/◌, ◌%◌, ◌<◌, ◌≤◌, [], false, ◌++◌, replicate, slice_index, slice_range, take};
 ghost use Rattle.bitvec_move.specs.base.Lists.{combined};
 ghost use Rattle.bitvec_move.specs.base.Memory.{HasWindow, Writes, element_bits, list_in};
 ghost use Rattle.bitvec_move.specs.base.Parts.{HasPart, part_window};
-ghost use Rattle.bitvec_move.specs.cells.Access.{Costs, CostsAtMost, OnlyReads, OnlyReadsAtMost};
+ghost use Rattle.bitvec_move.specs.base.Spans.{HasSpan};
+ghost use Rattle.bitvec_move.specs.cells.Access.{Costs, CostsAtMost, OnlyReads};
 ghost use Rattle.bitvec_move.specs.walk.Cost.{touched_count};
 ghost use Rattle.bitvec_move.specs.words.Elements.{elements_window, elements_window_from};
 ghost use Rattle.bitvec_move.specs.words.Operator.{operator};
+ghost use Rattle.bitvec_move.specs.words.Spans.{HasShiftedElements};
+ghost use Rattle.bitvec_combine.specs.Sides.{Combines};
+ghost use Rattle.bitvec_combine.specs.Spans.{HasPartBeside};
 
 use bitvec_move::base::{BitOrder, Part, Window, first_part};
 use bitvec_move::cells::{Cells, CellsRead};
@@ -57,13 +61,8 @@ pub(crate) fn combine_head<O: WordOrder, C: Cells, D: CellsRead<Elem = C::Elem>>
     from: Window,
     op: BitOp,
 ) -> C::Elem
-    requires part { HasPart C.Elem.BITS (C.numbers left.old) part }
-    requires right_window { HasWindow C.Elem.BITS (D.numbers right.old) from }
-    requires some { 0 < from.len }
-    requires bound { part.from + from.len ≤ part.to }
-    ensures writes { Writes C.Elem.BITS O.at (C.numbers left.old) (C.numbers left.new) (part_window C.Elem.BITS part)
-        (combined (operator op) (list_in C.Elem.BITS O.at (C.numbers left.old) (part_window C.Elem.BITS part))
-        (list_in C.Elem.BITS O.at (D.numbers right.old) from)) }
+    requires { HasPartBeside C.Elem.BITS (C.numbers left.old) (D.numbers right.old) part from }
+    ensures writes { Combines C.Elem.BITS O.at op (C.numbers left.old) (C.numbers left.new) (D.numbers right.old) (part_window C.Elem.BITS part) from }
     ensures last { C.Elem.value result ≡ slice_index (D.numbers right.old) ((from.start + from.len - 1) / C.Elem.BITS) }
     ensures cost { Costs C.CellsRead left.old left.new 1 1 }
     ensures right { OnlyReads D.CellsRead right.old right.new (touched_count C.Elem.BITS from.start from.len) }
@@ -120,11 +119,9 @@ pub(crate) fn combine_whole<O: BitOrder, C: Cells, D: CellsRead<Elem = C::Elem>>
     count: usize,
     op: BitOp,
 )
-    requires window { HasWindow C.Elem.BITS (C.numbers left.old) (elements_window C.Elem.BITS first count) }
-    requires right_window { HasWindow C.Elem.BITS (D.numbers right.old) (elements_window C.Elem.BITS source count) }
-    ensures writes { Writes C.Elem.BITS O.at (C.numbers left.old) (C.numbers left.new) (elements_window C.Elem.BITS first count)
-        (combined (operator op) (list_in C.Elem.BITS O.at (C.numbers left.old) (elements_window C.Elem.BITS first count))
-        (list_in C.Elem.BITS O.at (D.numbers right.old) (elements_window C.Elem.BITS source count))) }
+    requires { HasSpan C.Elem.BITS (C.numbers left.old) (D.numbers right.old) (elements_window C.Elem.BITS first count) (elements_window C.Elem.BITS source count) }
+    ensures writes { Combines C.Elem.BITS O.at op (C.numbers left.old) (C.numbers left.new) (D.numbers right.old)
+        (elements_window C.Elem.BITS first count) (elements_window C.Elem.BITS source count) }
     ensures cost { Costs C.CellsRead left.old left.new count count }
     ensures right { OnlyReads D.CellsRead right.old right.new count }
 {
@@ -148,14 +145,9 @@ pub(crate) fn combine_joined<O: WordOrder, C: Cells, D: CellsRead<Elem = C::Elem
     count: usize,
     op: BitOp,
 ) -> C::Elem
-    requires window { HasWindow C.Elem.BITS (C.numbers left.old) (elements_window C.Elem.BITS first count) }
-    requires right_window { HasWindow C.Elem.BITS (D.numbers right.old) (elements_window_from C.Elem.BITS source skip count) }
-    requires some { 0 < skip }
-    requires bound { skip < C.Elem.BITS }
-    requires carry { C.Elem.value carry ≡ slice_index (D.numbers right.old) source }
-    ensures writes { Writes C.Elem.BITS O.at (C.numbers left.old) (C.numbers left.new) (elements_window C.Elem.BITS first count)
-        (combined (operator op) (list_in C.Elem.BITS O.at (C.numbers left.old) (elements_window C.Elem.BITS first count))
-        (list_in C.Elem.BITS O.at (D.numbers right.old) (elements_window_from C.Elem.BITS source skip count))) }
+    requires { HasShiftedElements C.Elem.BITS (C.numbers left.old) (D.numbers right.old) first source skip count (C.Elem.value carry) }
+    ensures writes { Combines C.Elem.BITS O.at op (C.numbers left.old) (C.numbers left.new) (D.numbers right.old)
+        (elements_window C.Elem.BITS first count) (elements_window_from C.Elem.BITS source skip count) }
     ensures carried { C.Elem.value result ≡ slice_index (D.numbers right.old) (source + count) }
     ensures cost { Costs C.CellsRead left.old left.new count count }
     ensures right { OnlyReads D.CellsRead right.old right.new count }
@@ -188,14 +180,9 @@ fn combine_pairs<O: WordOrder, C: Cells, D: CellsRead<Elem = C::Elem>>(
     op: BitOp,
 ) -> C::Elem
     requires wide { C.Elem.BITS ≡ 128 }
-    requires window { HasWindow C.Elem.BITS (C.numbers left.old) (elements_window C.Elem.BITS first count) }
-    requires right_window { HasWindow C.Elem.BITS (D.numbers right.old) (elements_window_from C.Elem.BITS source skip count) }
-    requires some { 0 < skip }
-    requires bound { skip < C.Elem.BITS }
-    requires carry { C.Elem.value carry ≡ slice_index (D.numbers right.old) source }
-    ensures writes { Writes C.Elem.BITS O.at (C.numbers left.old) (C.numbers left.new) (elements_window C.Elem.BITS first count)
-        (combined (operator op) (list_in C.Elem.BITS O.at (C.numbers left.old) (elements_window C.Elem.BITS first count))
-        (list_in C.Elem.BITS O.at (D.numbers right.old) (elements_window_from C.Elem.BITS source skip count))) }
+    requires shifted { HasShiftedElements C.Elem.BITS (C.numbers left.old) (D.numbers right.old) first source skip count (C.Elem.value carry) }
+    ensures writes { Combines C.Elem.BITS O.at op (C.numbers left.old) (C.numbers left.new) (D.numbers right.old)
+        (elements_window C.Elem.BITS first count) (elements_window_from C.Elem.BITS source skip count) }
     ensures carried { C.Elem.value result ≡ slice_index (D.numbers right.old) (source + count) }
     ensures cost { Costs C.CellsRead left.old left.new count count }
     ensures right { OnlyReads D.CellsRead right.old right.new count }
@@ -240,14 +227,9 @@ fn combine_carried<O: WordOrder, C: Cells, D: CellsRead<Elem = C::Elem>, K: Carr
     op: BitOp,
 ) -> C::Elem
     requires form { K.fits C.Elem.BITS }
-    requires window { HasWindow C.Elem.BITS (C.numbers left.old) (elements_window C.Elem.BITS first count) }
-    requires right_window { HasWindow C.Elem.BITS (D.numbers right.old) (elements_window_from C.Elem.BITS source skip count) }
-    requires some { 0 < skip }
-    requires bound { skip < C.Elem.BITS }
-    requires carry { C.Elem.value carry ≡ slice_index (D.numbers right.old) source }
-    ensures writes { Writes C.Elem.BITS O.at (C.numbers left.old) (C.numbers left.new) (elements_window C.Elem.BITS first count)
-        (combined (operator op) (list_in C.Elem.BITS O.at (C.numbers left.old) (elements_window C.Elem.BITS first count))
-        (list_in C.Elem.BITS O.at (D.numbers right.old) (elements_window_from C.Elem.BITS source skip count))) }
+    requires shifted { HasShiftedElements C.Elem.BITS (C.numbers left.old) (D.numbers right.old) first source skip count (C.Elem.value carry) }
+    ensures writes { Combines C.Elem.BITS O.at op (C.numbers left.old) (C.numbers left.new) (D.numbers right.old)
+        (elements_window C.Elem.BITS first count) (elements_window_from C.Elem.BITS source skip count) }
     ensures carried { C.Elem.value result ≡ slice_index (D.numbers right.old) (source + count) }
     ensures cost { Costs C.CellsRead left.old left.new count count }
     ensures right { OnlyReads D.CellsRead right.old right.new count }

@@ -1,14 +1,16 @@
 //! Windows combined that begin at the same index of an element: elements as they are.
 ghost use Rattle.std.specs.Prelude.{◌≡◌, ℕ, ◌%◌, ◌<◌, length};
 ghost use Rattle.bitvec_move.specs.base.Lists.{combined};
-ghost use Rattle.bitvec_move.specs.base.Memory.{HasWindow, Writes, list_in};
+ghost use Rattle.bitvec_move.specs.base.Memory.{Writes, list_in};
 ghost use Rattle.bitvec_move.specs.base.Parts.{HasPart, part_window};
+ghost use Rattle.bitvec_move.specs.base.Spans.{HasSpan};
 ghost use Rattle.bitvec_move.specs.cells.Access.{Costs, OnlyReads};
 ghost use Rattle.bitvec_move.specs.walk.Cost.{touched_count};
 ghost use Rattle.bitvec_move.specs.words.Operator.{operator};
+ghost use Rattle.bitvec_combine.specs.Sides.{Combines};
 
 use crate::combining_elements::{combine_part, combine_whole};
-use bitvec_move::base::{BitOrder, Part, Window, first_part};
+use bitvec_move::base::{BitOrder, Part, Window, first_part, tail_part, whole_elements};
 use bitvec_move::cells::{Cells, CellsRead};
 use bitvec_move::store::BitStore;
 use bitvec_move::words::BitOp;
@@ -24,9 +26,7 @@ pub fn combine_equal<O: BitOrder, C: Cells, D: CellsRead<Elem = C::Elem>>(
     from: Window,
     op: BitOp,
 )
-    requires window { HasWindow C.Elem.BITS (C.numbers left.old) to }
-    requires right_window { HasWindow C.Elem.BITS (D.numbers right.old) from }
-    requires lengths { to.len ≡ from.len }
+    requires span { HasSpan C.Elem.BITS (C.numbers left.old) (D.numbers right.old) to from }
     requires some { 0 < to.len }
     requires phases { to.start % C.Elem.BITS ≡ from.start % C.Elem.BITS }
     ensures writes { Writes C.Elem.BITS O.at (C.numbers left.old) (C.numbers left.new) to
@@ -52,29 +52,21 @@ fn combine_unpadded<O: BitOrder, C: Cells, D: CellsRead<Elem = C::Elem>>(
     from: Window,
     op: BitOp,
 )
-    requires window { HasWindow C.Elem.BITS (C.numbers left.old) to }
-    requires right_window { HasWindow C.Elem.BITS (D.numbers right.old) from }
-    requires lengths { to.len ≡ from.len }
+    requires span { HasSpan C.Elem.BITS (C.numbers left.old) (D.numbers right.old) to from }
     requires edge { to.start % C.Elem.BITS ≡ 0 }
     requires right_edge { from.start % C.Elem.BITS ≡ 0 }
-    ensures writes { Writes C.Elem.BITS O.at (C.numbers left.old) (C.numbers left.new) to
-        (combined (operator op) (list_in C.Elem.BITS O.at (C.numbers left.old) to) (list_in C.Elem.BITS O.at (D.numbers right.old) from)) }
+    ensures writes { Combines C.Elem.BITS O.at op (C.numbers left.old) (C.numbers left.new) (D.numbers right.old) to from }
     ensures cost { let each = touched_count C.Elem.BITS to.start to.len in Costs C.CellsRead left.old left.new each each }
     ensures right { OnlyReads D.CellsRead right.old right.new (touched_count C.Elem.BITS from.start from.len) }
 {
     let bits = C::Elem::BITS as usize;
-    let count = to.len / bits;
-    let (first, source) = (to.start / bits, from.start / bits);
+    let (first, count) = whole_elements(bits, to);
+    let source = from.start / bits;
     combine_whole::<O, C, D>(left, first, right, source, count, op);
-    let rest = to.len % bits;
-    if rest == 0 {
+    let tail = tail_part(bits, to);
+    if tail.to == 0 {
         return;
     }
-    let tail = Part {
-        element: first + count,
-        from: 0,
-        to: rest,
-    };
     combine_element::<O, C, D>(left, tail, right, source + count, op);
 }
 
@@ -88,9 +80,8 @@ fn combine_element<O: BitOrder, C: Cells, D: CellsRead<Elem = C::Elem>>(
 )
     requires part { HasPart C.Elem.BITS (C.numbers left.old) part }
     requires source { source < length (D.numbers right.old) }
-    ensures writes { Writes C.Elem.BITS O.at (C.numbers left.old) (C.numbers left.new) (part_window C.Elem.BITS part)
-        (combined (operator op) (list_in C.Elem.BITS O.at (C.numbers left.old) (part_window C.Elem.BITS part))
-        (list_in C.Elem.BITS O.at (D.numbers right.old) (part_window C.Elem.BITS (record part { element = source })))) }
+    ensures writes { Combines C.Elem.BITS O.at op (C.numbers left.old) (C.numbers left.new) (D.numbers right.old)
+        (part_window C.Elem.BITS part) (part_window C.Elem.BITS (record part { element = source })) }
     ensures cost { Costs C.CellsRead left.old left.new 1 1 }
     ensures right { OnlyReads D.CellsRead right.old right.new 1 }
 {

@@ -16,7 +16,6 @@ use bitvec_move::words::WordOrder;
 /// each window lies in its memory. On each side it loads each element that the window touches at
 /// most once, and none where the windows aren't as long; it stops soon after the first bits that
 /// differ.
-#[tactic(auto, using(bitvec_move::specs::Cited::in_steps, bitvec_move::specs::Cited::width_some))]
 pub fn equal<O: WordOrder, C: CellsRead, D: CellsRead<Elem = C::Elem>>(
     left: &mut C,
     left_window: Window,

@@ -1,13 +1,15 @@
 //! Windows compared that begin at the same index of an element: elements as they are.
 ghost use Rattle.std.specs.Prelude.{◌≡◌, ℕ, ◌*◌, ◌/◌, ◌%◌, ◌<◌, ◌==◌, length};
 ghost use Rattle.bitvec_move.specs.base.Lists.{same_bits};
-ghost use Rattle.bitvec_move.specs.base.Memory.{HasWindow, list_in};
+ghost use Rattle.bitvec_move.specs.base.Memory.{list_in};
 ghost use Rattle.bitvec_move.specs.base.Parts.{HasPart, part_window};
+ghost use Rattle.bitvec_move.specs.base.Spans.{HasSpan};
 ghost use Rattle.bitvec_move.specs.cells.Access.{OnlyReads, OnlyReadsAtMost};
 ghost use Rattle.bitvec_move.specs.walk.Cost.{touched_count};
 ghost use Rattle.bitvec_move.specs.words.Elements.{elements_window};
+ghost use Rattle.bitvec_combine.specs.Sides.{same_sides};
 
-use bitvec_move::base::{BitOrder, Part, Window, first_part};
+use bitvec_move::base::{BitOrder, Part, Window, first_part, tail_part, whole_elements};
 use bitvec_move::cells::CellsRead;
 use bitvec_move::store::BitStore;
 use bitvec_move::words::{WORD_BITS, same_between};
@@ -46,9 +48,7 @@ pub fn equal_unshifted<O: BitOrder, C: CellsRead, D: CellsRead<Elem = C::Elem>>(
     right: &mut D,
     right_window: Window,
 ) -> bool
-    requires window { HasWindow C.Elem.BITS (C.numbers left.old) left_window }
-    requires right_window { HasWindow C.Elem.BITS (D.numbers right.old) right_window }
-    requires lengths { left_window.len ≡ right_window.len }
+    requires span { HasSpan C.Elem.BITS (C.numbers left.old) (D.numbers right.old) left_window right_window }
     requires some { 0 < left_window.len }
     requires phases { left_window.start % C.Elem.BITS ≡ right_window.start % C.Elem.BITS }
     ensures value { result ≡ same_bits (list_in C.Elem.BITS O.at (C.numbers left.old) left_window)
@@ -80,20 +80,18 @@ fn equal_aligned<O: BitOrder, C: CellsRead, D: CellsRead<Elem = C::Elem>>(
     right: &mut D,
     right_window: Window,
 ) -> bool
-    requires window { HasWindow C.Elem.BITS (C.numbers left.old) left_window }
-    requires right_window { HasWindow C.Elem.BITS (D.numbers right.old) right_window }
-    requires lengths { left_window.len ≡ right_window.len }
+    requires span { HasSpan C.Elem.BITS (C.numbers left.old) (D.numbers right.old) left_window right_window }
     requires edge { left_window.start % C.Elem.BITS ≡ 0 }
     requires right_edge { right_window.start % C.Elem.BITS ≡ 0 }
-    ensures value { result ≡ same_bits (list_in C.Elem.BITS O.at (C.numbers left.old) left_window)
-        (list_in C.Elem.BITS O.at (D.numbers right.old) right_window) }
+    ensures value { result ≡ same_sides C.Elem.BITS O.at (C.numbers left.old) (D.numbers right.old) left_window right_window }
     ensures reads { OnlyReadsAtMost C.CellsRead left.old left.new (touched_count C.Elem.BITS left_window.start left_window.len) }
     ensures right { OnlyReadsAtMost D.CellsRead right.old right.new (touched_count C.Elem.BITS right_window.start right_window.len) }
 {
     let bits = C::Elem::BITS as usize;
-    let (first, source) = (left_window.start / bits, right_window.start / bits);
+    let (first, count) = whole_elements(bits, left_window);
+    let source = right_window.start / bits;
     let span = elements_per_test(bits);
-    let tests = left_window.len / bits / span;
+    let tests = count / span;
     for test in 0..tests {
         let passed = test * span;
         let found = differences::<O, C, D>(left, first + passed, right, source + passed, span);
@@ -117,32 +115,24 @@ fn equal_aligned_rest<O: BitOrder, C: CellsRead, D: CellsRead<Elem = C::Elem>>(
     right: &mut D,
     right_window: Window,
 ) -> bool
-    requires window { HasWindow C.Elem.BITS (C.numbers left.old) left_window }
-    requires right_window { HasWindow C.Elem.BITS (D.numbers right.old) right_window }
-    requires lengths { left_window.len ≡ right_window.len }
+    requires span { HasSpan C.Elem.BITS (C.numbers left.old) (D.numbers right.old) left_window right_window }
     requires edge { left_window.start % C.Elem.BITS ≡ 0 }
     requires right_edge { right_window.start % C.Elem.BITS ≡ 0 }
-    ensures value { result ≡ same_bits (list_in C.Elem.BITS O.at (C.numbers left.old) left_window)
-        (list_in C.Elem.BITS O.at (D.numbers right.old) right_window) }
+    ensures value { result ≡ same_sides C.Elem.BITS O.at (C.numbers left.old) (D.numbers right.old) left_window right_window }
     ensures reads { OnlyReadsAtMost C.CellsRead left.old left.new (touched_count C.Elem.BITS left_window.start left_window.len) }
     ensures right { OnlyReadsAtMost D.CellsRead right.old right.new (touched_count C.Elem.BITS right_window.start right_window.len) }
 {
     let bits = C::Elem::BITS as usize;
-    let count = left_window.len / bits;
-    let (first, source) = (left_window.start / bits, right_window.start / bits);
+    let (first, count) = whole_elements(bits, left_window);
+    let source = right_window.start / bits;
     let found = differences::<O, C, D>(left, first, right, source, count);
     if !is_zero::<C::Elem>(found) {
         return false;
     }
-    let rest = left_window.len % bits;
-    if rest == 0 {
+    let tail = tail_part(bits, left_window);
+    if tail.to == 0 {
         return true;
     }
-    let tail = Part {
-        element: first + count,
-        from: 0,
-        to: rest,
-    };
     equal_part::<O, C, D>(left, tail, right, source + count)
 }
 
@@ -156,11 +146,9 @@ fn differences<O: BitOrder, C: CellsRead, D: CellsRead<Elem = C::Elem>>(
     source: usize,
     count: usize,
 ) -> C::Elem
-    requires window { HasWindow C.Elem.BITS (C.numbers left.old) (elements_window C.Elem.BITS first count) }
-    requires right_window { HasWindow C.Elem.BITS (D.numbers right.old) (elements_window C.Elem.BITS source count) }
-    ensures value { (C.Elem.value result == 0)
-        ≡ same_bits (list_in C.Elem.BITS O.at (C.numbers left.old) (elements_window C.Elem.BITS first count))
-        (list_in C.Elem.BITS O.at (D.numbers right.old) (elements_window C.Elem.BITS source count)) }
+    requires { HasSpan C.Elem.BITS (C.numbers left.old) (D.numbers right.old) (elements_window C.Elem.BITS first count) (elements_window C.Elem.BITS source count) }
+    ensures value { (C.Elem.value result == 0) ≡ same_sides C.Elem.BITS O.at (C.numbers left.old) (D.numbers right.old)
+        (elements_window C.Elem.BITS first count) (elements_window C.Elem.BITS source count) }
     ensures reads { OnlyReads C.CellsRead left.old left.new count }
     ensures right { OnlyReads D.CellsRead right.old right.new count }
 {
@@ -182,8 +170,8 @@ fn equal_part<O: BitOrder, C: CellsRead, D: CellsRead<Elem = C::Elem>>(
 ) -> bool
     requires part { HasPart C.Elem.BITS (C.numbers left.old) part }
     requires source { source < length (D.numbers right.old) }
-    ensures value { result ≡ same_bits (list_in C.Elem.BITS O.at (C.numbers left.old) (part_window C.Elem.BITS part))
-        (list_in C.Elem.BITS O.at (D.numbers right.old) (part_window C.Elem.BITS (record part { element = source }))) }
+    ensures value { result ≡ same_sides C.Elem.BITS O.at (C.numbers left.old) (D.numbers right.old)
+        (part_window C.Elem.BITS part) (part_window C.Elem.BITS (record part { element = source })) }
     ensures reads { OnlyReads C.CellsRead left.old left.new 1 }
     ensures right { OnlyReads D.CellsRead right.old right.new 1 }
 {

@@ -1,16 +1,18 @@
 //! Windows compared that begin at different indices of an element: each element on the left with
 //! one that is joined of two on the right.
-ghost use Rattle.std.specs.Prelude.{◌≡◌, ◌≢◌, ℕ, ◌+◌, ◌-◌, ◌*◌, ◌/◌, ◌%◌, ◌<◌, ◌≤◌, ◌==◌, length, slice_index};
-ghost use Rattle.bitvec_move.specs.base.Lists.{same_bits};
-ghost use Rattle.bitvec_move.specs.base.Memory.{HasWindow, list_in};
-ghost use Rattle.bitvec_move.specs.base.Parts.{HasPart, part_window};
+ghost use Rattle.std.specs.Prelude.{◌≡◌, ◌≢◌, ℕ, ◌+◌, ◌-◌, ◌*◌, ◌/◌, ◌%◌, ◌<◌, ◌==◌, slice_index};
+ghost use Rattle.bitvec_move.specs.base.Parts.{part_window};
+ghost use Rattle.bitvec_move.specs.base.Spans.{HasSpan};
 ghost use Rattle.bitvec_move.specs.cells.Access.{OnlyReads, OnlyReadsAtMost};
 ghost use Rattle.bitvec_move.specs.walk.Cost.{touched_count};
 ghost use Rattle.bitvec_move.specs.words.Elements.{elements_window, elements_window_from};
+ghost use Rattle.bitvec_move.specs.words.Spans.{HasShiftedElements, HasShiftedSpan};
+ghost use Rattle.bitvec_combine.specs.Sides.{same_sides};
+ghost use Rattle.bitvec_combine.specs.Spans.{HasPartBeside};
 
 use crate::comparing_equal::{elements_per_test, is_zero};
 use bitvec_move::at_known_skip;
-use bitvec_move::base::{BitOrder, Part, Window, first_part};
+use bitvec_move::base::{BitOrder, Part, Window, first_part, tail_part, whole_elements};
 use bitvec_move::cells::CellsRead;
 use bitvec_move::store::BitStore;
 use bitvec_move::words::{
@@ -25,13 +27,10 @@ pub(crate) fn equal_shifted<O: WordOrder, C: CellsRead, D: CellsRead<Elem = C::E
     right: &mut D,
     right_window: Window,
 ) -> bool
-    requires window { HasWindow C.Elem.BITS (C.numbers left.old) left_window }
-    requires right_window { HasWindow C.Elem.BITS (D.numbers right.old) right_window }
-    requires lengths { left_window.len ≡ right_window.len }
+    requires span { HasSpan C.Elem.BITS (C.numbers left.old) (D.numbers right.old) left_window right_window }
     requires some { 0 < left_window.len }
     requires phases { left_window.start % C.Elem.BITS ≢ right_window.start % C.Elem.BITS }
-    ensures value { result ≡ same_bits (list_in C.Elem.BITS O.at (C.numbers left.old) left_window)
-        (list_in C.Elem.BITS O.at (D.numbers right.old) right_window) }
+    ensures value { result ≡ same_sides C.Elem.BITS O.at (C.numbers left.old) (D.numbers right.old) left_window right_window }
     ensures reads { OnlyReadsAtMost C.CellsRead left.old left.new (touched_count C.Elem.BITS left_window.start left_window.len) }
     ensures right { OnlyReadsAtMost D.CellsRead right.old right.new (touched_count C.Elem.BITS right_window.start right_window.len) }
 {
@@ -67,12 +66,9 @@ fn equal_shifted_head<O: WordOrder, C: CellsRead, D: CellsRead<Elem = C::Elem>>(
     right: &mut D,
     window: Window,
 ) -> (bool, C::Elem)
-    requires part { HasPart C.Elem.BITS (C.numbers left.old) part }
-    requires right_window { HasWindow C.Elem.BITS (D.numbers right.old) window }
+    requires beside { HasPartBeside C.Elem.BITS (C.numbers left.old) (D.numbers right.old) part window }
     requires lengths { part.to ≡ part.from + window.len }
-    requires some { 0 < window.len }
-    ensures value { result.0 ≡ same_bits (list_in C.Elem.BITS O.at (C.numbers left.old) (part_window C.Elem.BITS part))
-        (list_in C.Elem.BITS O.at (D.numbers right.old) window) }
+    ensures value { result.0 ≡ same_sides C.Elem.BITS O.at (C.numbers left.old) (D.numbers right.old) (part_window C.Elem.BITS part) window }
     ensures last { C.Elem.value result.1
         ≡ slice_index (D.numbers right.old) ((window.start + window.len - 1) / C.Elem.BITS) }
     ensures reads { OnlyReads C.CellsRead left.old left.new 1 }
@@ -96,25 +92,16 @@ fn equal_carried<O: WordOrder, C: CellsRead, D: CellsRead<Elem = C::Elem>>(
     right_window: Window,
     carry: C::Elem,
 ) -> bool
-    requires window { HasWindow C.Elem.BITS (C.numbers left.old) left_window }
-    requires right_window { HasWindow C.Elem.BITS (D.numbers right.old) right_window }
-    requires lengths { left_window.len ≡ right_window.len }
-    requires edge { left_window.start % C.Elem.BITS ≡ 0 }
-    requires phase { 0 < right_window.start % C.Elem.BITS }
-    requires carry { C.Elem.value carry ≡ slice_index (D.numbers right.old) (right_window.start / C.Elem.BITS) }
-    ensures value { result ≡ same_bits (list_in C.Elem.BITS O.at (C.numbers left.old) left_window)
-        (list_in C.Elem.BITS O.at (D.numbers right.old) right_window) }
+    requires { HasShiftedSpan C.Elem.BITS (C.numbers left.old) (D.numbers right.old) left_window right_window (C.Elem.value carry) }
+    ensures value { result ≡ same_sides C.Elem.BITS O.at (C.numbers left.old) (D.numbers right.old) left_window right_window }
     ensures reads { OnlyReadsAtMost C.CellsRead left.old left.new (touched_count C.Elem.BITS left_window.start left_window.len) }
     ensures right { OnlyReadsAtMost D.CellsRead right.old right.new (touched_count C.Elem.BITS right_window.start right_window.len - 1) }
 {
     let bits = C::Elem::BITS as usize;
-    let (first, source, skip) = (
-        left_window.start / bits,
-        right_window.start / bits,
-        right_window.start % bits,
-    );
+    let (first, count) = whole_elements(bits, left_window);
+    let (source, skip) = (right_window.start / bits, right_window.start % bits);
     let span = elements_per_test(bits);
-    let tests = left_window.len / bits / span;
+    let tests = count / span;
     let mut last = carry;
     for test in 0..tests {
         let passed = test * span;
@@ -150,36 +137,27 @@ fn equal_carried_rest<O: WordOrder, C: CellsRead, D: CellsRead<Elem = C::Elem>>(
     right_window: Window,
     carry: C::Elem,
 ) -> bool
-    requires window { HasWindow C.Elem.BITS (C.numbers left.old) left_window }
-    requires right_window { HasWindow C.Elem.BITS (D.numbers right.old) right_window }
-    requires lengths { left_window.len ≡ right_window.len }
-    requires edge { left_window.start % C.Elem.BITS ≡ 0 }
-    requires phase { 0 < right_window.start % C.Elem.BITS }
-    requires carry { C.Elem.value carry ≡ slice_index (D.numbers right.old) (right_window.start / C.Elem.BITS) }
-    ensures value { result ≡ same_bits (list_in C.Elem.BITS O.at (C.numbers left.old) left_window)
-        (list_in C.Elem.BITS O.at (D.numbers right.old) right_window) }
+    requires { HasShiftedSpan C.Elem.BITS (C.numbers left.old) (D.numbers right.old) left_window right_window (C.Elem.value carry) }
+    ensures value { result ≡ same_sides C.Elem.BITS O.at (C.numbers left.old) (D.numbers right.old) left_window right_window }
     ensures reads { OnlyReadsAtMost C.CellsRead left.old left.new (touched_count C.Elem.BITS left_window.start left_window.len) }
     ensures right { OnlyReadsAtMost D.CellsRead right.old right.new (touched_count C.Elem.BITS right_window.start right_window.len - 1) }
 {
     let bits = C::Elem::BITS as usize;
-    let count = left_window.len / bits;
-    let (first, source, skip) = (
-        left_window.start / bits,
-        right_window.start / bits,
-        right_window.start % bits,
-    );
+    let (first, count) = whole_elements(bits, left_window);
+    let (source, skip) = (right_window.start / bits, right_window.start % bits);
     let (found, last) = shifted_differences::<O, C, D>(
         left, first, right, source, carry, skip, count,
     );
     if !is_zero::<C::Elem>(found) {
         return false;
     }
-    if left_window.len % bits == 0 {
+    let tail = tail_part(bits, left_window);
+    if tail.to == 0 {
         return true;
     }
     equal_shifted_tail::<O, C, D>(
         left,
-        first + count,
+        tail.element,
         right,
         right_window.after(count * bits),
         last,
@@ -195,13 +173,10 @@ fn equal_shifted_tail<O: WordOrder, C: CellsRead, D: CellsRead<Elem = C::Elem>>(
     window: Window,
     carry: C::Elem,
 ) -> bool
-    requires element { element < length (C.numbers left.old) }
-    requires right_window { HasWindow C.Elem.BITS (D.numbers right.old) window }
-    requires some { 0 < window.len }
-    requires bound { window.len ≤ C.Elem.BITS }
+    requires beside { HasPartBeside C.Elem.BITS (C.numbers left.old) (D.numbers right.old) (record { element = element; from = 0; to = window.len }) window }
     requires carry { C.Elem.value carry ≡ slice_index (D.numbers right.old) (window.start / C.Elem.BITS) }
-    ensures value { result ≡ same_bits (list_in C.Elem.BITS O.at (C.numbers left.old) (part_window C.Elem.BITS (record { element = element; from = 0; to = window.len })))
-        (list_in C.Elem.BITS O.at (D.numbers right.old) window) }
+    ensures value { result ≡ same_sides C.Elem.BITS O.at (C.numbers left.old) (D.numbers right.old)
+        (part_window C.Elem.BITS (record { element = element; from = 0; to = window.len })) window }
     ensures reads { OnlyReads C.CellsRead left.old left.new 1 }
     ensures right { OnlyReads D.CellsRead right.old right.new (touched_count C.Elem.BITS window.start window.len - 1) }
 {
@@ -222,14 +197,9 @@ fn shifted_differences<O: WordOrder, C: CellsRead, D: CellsRead<Elem = C::Elem>>
     skip: usize,
     count: usize,
 ) -> (C::Elem, C::Elem)
-    requires window { HasWindow C.Elem.BITS (C.numbers left.old) (elements_window C.Elem.BITS first count) }
-    requires right_window { HasWindow C.Elem.BITS (D.numbers right.old) (elements_window_from C.Elem.BITS source skip count) }
-    requires some { 0 < skip }
-    requires bound { skip < C.Elem.BITS }
-    requires carry { C.Elem.value carry ≡ slice_index (D.numbers right.old) source }
-    ensures value { (C.Elem.value result.0 == 0)
-        ≡ same_bits (list_in C.Elem.BITS O.at (C.numbers left.old) (elements_window C.Elem.BITS first count))
-        (list_in C.Elem.BITS O.at (D.numbers right.old) (elements_window_from C.Elem.BITS source skip count)) }
+    requires { HasShiftedElements C.Elem.BITS (C.numbers left.old) (D.numbers right.old) first source skip count (C.Elem.value carry) }
+    ensures value { (C.Elem.value result.0 == 0) ≡ same_sides C.Elem.BITS O.at (C.numbers left.old) (D.numbers right.old)
+        (elements_window C.Elem.BITS first count) (elements_window_from C.Elem.BITS source skip count) }
     ensures carried { C.Elem.value result.1 ≡ slice_index (D.numbers right.old) (source + count) }
     ensures reads { OnlyReads C.CellsRead left.old left.new count }
     ensures right { OnlyReads D.CellsRead right.old right.new count }
@@ -252,14 +222,9 @@ fn tested_differences<O: WordOrder, C: CellsRead, D: CellsRead<Elem = C::Elem>>(
     skip: usize,
     count: usize,
 ) -> (C::Elem, C::Elem)
-    requires window { HasWindow C.Elem.BITS (C.numbers left.old) (elements_window C.Elem.BITS first count) }
-    requires right_window { HasWindow C.Elem.BITS (D.numbers right.old) (elements_window_from C.Elem.BITS source skip count) }
-    requires some { 0 < skip }
-    requires bound { skip < C.Elem.BITS }
-    requires carry { C.Elem.value carry ≡ slice_index (D.numbers right.old) source }
-    ensures value { (C.Elem.value result.0 == 0)
-        ≡ same_bits (list_in C.Elem.BITS O.at (C.numbers left.old) (elements_window C.Elem.BITS first count))
-        (list_in C.Elem.BITS O.at (D.numbers right.old) (elements_window_from C.Elem.BITS source skip count)) }
+    requires { HasShiftedElements C.Elem.BITS (C.numbers left.old) (D.numbers right.old) first source skip count (C.Elem.value carry) }
+    ensures value { (C.Elem.value result.0 == 0) ≡ same_sides C.Elem.BITS O.at (C.numbers left.old) (D.numbers right.old)
+        (elements_window C.Elem.BITS first count) (elements_window_from C.Elem.BITS source skip count) }
     ensures carried { C.Elem.value result.1 ≡ slice_index (D.numbers right.old) (source + count) }
     ensures reads { OnlyReads C.CellsRead left.old left.new count }
     ensures right { OnlyReads D.CellsRead right.old right.new count }
@@ -291,14 +256,9 @@ fn carried_differences<
     count: usize,
 ) -> (C::Elem, C::Elem)
     requires form { K.fits C.Elem.BITS }
-    requires window { HasWindow C.Elem.BITS (C.numbers left.old) (elements_window C.Elem.BITS first count) }
-    requires right_window { HasWindow C.Elem.BITS (D.numbers right.old) (elements_window_from C.Elem.BITS source skip count) }
-    requires some { 0 < skip }
-    requires bound { skip < C.Elem.BITS }
-    requires carry { C.Elem.value carry ≡ slice_index (D.numbers right.old) source }
-    ensures value { (C.Elem.value result.0 == 0)
-        ≡ same_bits (list_in C.Elem.BITS O.at (C.numbers left.old) (elements_window C.Elem.BITS first count))
-        (list_in C.Elem.BITS O.at (D.numbers right.old) (elements_window_from C.Elem.BITS source skip count)) }
+    requires shifted { HasShiftedElements C.Elem.BITS (C.numbers left.old) (D.numbers right.old) first source skip count (C.Elem.value carry) }
+    ensures value { (C.Elem.value result.0 == 0) ≡ same_sides C.Elem.BITS O.at (C.numbers left.old) (D.numbers right.old)
+        (elements_window C.Elem.BITS first count) (elements_window_from C.Elem.BITS source skip count) }
     ensures carried { C.Elem.value result.1 ≡ slice_index (D.numbers right.old) (source + count) }
     ensures reads { OnlyReads C.CellsRead left.old left.new count }
     ensures right { OnlyReads D.CellsRead right.old right.new count }

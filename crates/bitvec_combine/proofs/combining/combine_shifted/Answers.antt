@@ -1,12 +1,13 @@
-use Rattle.std.proofs.Common.{◌≡◌, ◌≤◌, ◌*◌, ◌/◌, ◌%◌, ◌-◌, ◌+◌, arith, rules, ◌∙◌}
+use Rattle.std.proofs.Common.{◌≡◌, refl, ◌≤◌, ◌*◌, ◌/◌, ◌%◌, ◌-◌, ◌+◌, arith, rules, ◌∙◌}
 use Rattle.bitvec_move.specs.WaitingLaws.{behind-element}
-use Rattle.bitvec_move.specs.words.WholeLaws.{behind-mod}
-use Rattle.std.proofs.lemmas.Nat.{div-add-mod', mod_below}
+use Rattle.bitvec_move.specs.words.WholeLaws.{behind-mod, whole_fits}
+use Rattle.std.proofs.lemmas.Nat.{div-add-mod'}
 use Rattle.bitvec_move.specs.store.WidthLaws.{width_some}
 use Rattle.bitvec_move.specs.words.CombinedLaws.{Writes-all_met, Writes-some_met}
 use Rattle.bitvec_move.specs.words.Operator.{operator}
 use Rattle.bitvec_move.specs.words.TouchedLaws.{touched-after, touched-from_full, touched-from_more}
-use Rattle.bitvec_move.specs.PlaceLaws.{whole-window, whole-window_from, width-some}
+use Rattle.bitvec_move.specs.PlaceLaws.{width-some}
+use Rattle.bitvec_combine.proofs.SpanLemmas.{behind-whole, tail-short, front-shifted, whole-shifted}
 use Rattle.bitvec_combine.proofs.combining.combine_shifted.Goals as goal
 
 pub nonzero_div-count : goal.nonzero_div-count
@@ -21,23 +22,41 @@ nonzero_div-source g c = let some = width-some _ _ g.met.C.Elem.BitStore.width_l
 pub nonzero_rem-skip : goal.nonzero_rem-skip
 nonzero_rem-skip g c = let some = width-some _ _ g.met.C.Elem.BitStore.width_law c.BITS-bits.ensures in omega arith
 
-pub combine_joined-last-requires-clause-window : goal.combine_joined-last-requires-clause-window
-combine_joined-last-requires-clause-window g c = whole-window _ _ _ c.args.to _ g.met.C.Elem.BitStore.width_law c.BITS-bits.ensures c.requires.window c.requires.edge (let lengths = c.requires.lengths in omega arith)
+pub combine_joined-last-requires : goal.combine_joined-last-requires
+combine_joined-last-requires g c = rw c.BITS-bits.ensures (whole-shifted _ _ _ _ _ _ g.met.C.Elem.BitStore.width_law (front-shifted _ _ _ _ _ _ c.requires))
 
-pub combine_joined-last-requires-clause-right_window : goal.combine_joined-last-requires-clause-right_window
-combine_joined-last-requires-clause-right_window g c = whole-window_from _ _ _ c.args.from _ g.met.C.Elem.BitStore.width_law c.BITS-bits.ensures c.requires.right_window (omega arith)
-
-pub combine_joined-last-requires-clause-some : goal.combine_joined-last-requires-clause-some
-combine_joined-last-requires-clause-some g c = rw c.BITS-bits.ensures c.requires.phase
-
-pub combine_joined-last-requires-clause-bound : goal.combine_joined-last-requires-clause-bound
-combine_joined-last-requires-clause-bound g c =
+pub overflow_mul-passed : goal.overflow_mul-passed
+overflow_mul-passed g c =
     let b = g.C.Elem.BitStore.BITS in
-    let some = width_some _ g.met.C.Elem.BitStore.width_law in
-    rw c.BITS-bits.ensures (mod_below c.args.from.start b some)
+    let fits = whole_fits b c.args.from.len (c.args.from.len / b) (omega arith) in
+    rw c.BITS-bits.ensures (omega arith)
 
-pub combine_joined-last-requires-clause-carry : goal.combine_joined-last-requires-clause-carry
-combine_joined-last-requires-clause-carry g c = rw c.BITS-bits.ensures c.requires.carry
+pub after-rest-requires-clause-bound : goal.after-rest-requires-clause-bound
+after-rest-requires-clause-bound g c =
+    let b = g.C.Elem.BitStore.BITS in
+    let lengths = c.requires.span.lengths in
+    let fits = whole_fits b c.args.from.len (c.args.from.len / b) (omega arith) in
+    rw c.BITS-bits.ensures (omega arith)
+
+pub after-tail-requires-clause-bound : goal.after-tail-requires-clause-bound
+after-tail-requires-clause-bound g c =
+    let b = g.C.Elem.BitStore.BITS in
+    rw c.BITS-bits.ensures (whole_fits b c.args.from.len (c.args.from.len / b) (omega arith))
+
+pub field_after-front-requires-clause-window : goal.field_after-front-requires-clause-window
+field_after-front-requires-clause-window g c = rw (c.after-tail.ensures, c.BITS-bits.ensures, c.combine_joined-last.ensures.right.numbers) ((behind-whole _ _ _ _ _ _ c.requires.span refl).beside)
+
+pub field_after-front-requires-clause-bound : goal.field_after-front-requires-clause-bound
+field_after-front-requires-clause-bound g c = rw (c.after-tail.ensures, c.BITS-bits.ensures) (tail-short _ _ (width_some _ g.met.C.Elem.BitStore.width_law))
+
+pub combine_end-requires-clause-window : goal.combine_end-requires-clause-window
+combine_end-requires-clause-window g c = rw (c.after-rest.ensures, c.BITS-bits.ensures) ((behind-whole _ _ _ _ _ _ c.requires.span c.combine_joined-last.ensures.writes.elements).window)
+
+pub combine_end-requires-clause-some : goal.combine_end-requires-clause-some
+combine_end-requires-clause-some g c =
+    let lengths = c.requires.span.lengths in
+    let left = rw c.after-tail.ensures at c.if-tail-eq0.false in
+    rw c.after-rest.ensures (omega arith)
 
 pub combine_end-requires-clause-edge : goal.combine_end-requires-clause-edge
 combine_end-requires-clause-edge g c =
@@ -61,13 +80,13 @@ returns-then-tail-eq0-clause-writes g c =
     let all : c.args.from.len / b * b ≡ c.args.from.len = omega arith in
     let first = rw c.BITS-bits.ensures at c.combine_joined-last.ensures.writes in
     let rest = rw (c.after-rest.ensures, c.BITS-bits.ensures) at c.combine_zeros.ensures.writes in
-    Writes-all_met _ _ (operator c.args.op) _ _ _ _ _ _ _ _ c.requires.window c.requires.right_window c.requires.edge start all c.requires.lengths first rest
+    Writes-all_met _ _ (operator c.args.op) _ _ _ _ _ _ _ _ c.requires.span.window c.requires.span.beside c.requires.edge start all c.requires.span.lengths first rest
 
 pub returns-then-tail-eq0-clause-cost : goal.returns-then-tail-eq0-clause-cost
 returns-then-tail-eq0-clause-cost g c =
     let b = g.C.Elem.BitStore.BITS in
     let parts = div-add-mod' c.args.from.len b in
-    let lengths = c.requires.lengths in
+    let lengths = c.requires.span.lengths in
     let fits : c.args.from.len / b * b ≤ c.args.to.len = omega arith in
     let all = touched-after b c.args.to.start c.args.to.len (c.args.from.len / b) (width_some _ g.met.C.Elem.BitStore.width_law) c.requires.edge fits in
     let whole = rw c.BITS-bits.ensures at c.combine_joined-last.ensures.cost in
@@ -79,7 +98,7 @@ returns-then-tail-eq0-clause-right g c =
     let b = g.C.Elem.BitStore.BITS in
     let parts = div-add-mod' c.args.from.len b in
     let none = rw (c.after-tail.ensures, c.BITS-bits.ensures) at c.if-tail-eq0.true in
-    let all = touched-from_full b c.args.from.start c.args.from.len (width_some _ g.met.C.Elem.BitStore.width_law) c.requires.phase (omega arith) in
+    let all = touched-from_full b c.args.from.start c.args.from.len (width_some _ g.met.C.Elem.BitStore.width_law) c.requires.inside (omega arith) in
     rw all (rw c.BITS-bits.ensures at c.combine_joined-last.ensures.right)
 
 pub returns-clause-writes : goal.returns-clause-writes
@@ -93,13 +112,13 @@ returns-clause-writes g c =
     let rest = rw (c.after-rest.ensures, c.BITS-bits.ensures) at c.combine_end.ensures.writes in
     let value = rw (c.after-tail.ensures, c.BITS-bits.ensures, c.combine_joined-last.ensures.right.numbers) at c.field_after-front.ensures.value in
     let tail = rw (c.after-tail.ensures, c.BITS-bits.ensures, value) at c.padded.ensures in
-    Writes-some_met _ _ (operator c.args.op) _ _ _ _ _ _ _ _ _ _ c.requires.window c.requires.right_window c.requires.edge start fits c.requires.lengths first rest tail
+    Writes-some_met _ _ (operator c.args.op) _ _ _ _ _ _ _ _ _ _ c.requires.span.window c.requires.span.beside c.requires.edge start fits c.requires.span.lengths first rest tail
 
 pub returns-clause-cost : goal.returns-clause-cost
 returns-clause-cost g c =
     let b = g.C.Elem.BitStore.BITS in
     let parts = div-add-mod' c.args.from.len b in
-    let lengths = c.requires.lengths in
+    let lengths = c.requires.span.lengths in
     let fits : c.args.from.len / b * b ≤ c.args.to.len = omega arith in
     let all = touched-after b c.args.to.start c.args.to.len (c.args.from.len / b) (width_some _ g.met.C.Elem.BitStore.width_law) c.requires.edge fits in
     let whole = rw c.BITS-bits.ensures at c.combine_joined-last.ensures.cost in
@@ -112,7 +131,7 @@ returns-clause-right g c =
     let parts = div-add-mod' c.args.from.len b in
     let long : c.args.from.len - c.args.from.len / b * b ≡ c.args.from.len % b = omega arith in
     let some = rw (c.after-tail.ensures, c.BITS-bits.ensures) at c.if-tail-eq0.false in
-    let all = touched-from_more b c.args.from.start c.args.from.len (width_some _ g.met.C.Elem.BitStore.width_law) c.requires.phase (omega arith) in
+    let all = touched-from_more b c.args.from.start c.args.from.len (width_some _ g.met.C.Elem.BitStore.width_law) c.requires.inside (omega arith) in
     let whole = rw c.BITS-bits.ensures at c.combine_joined-last.ensures.right in
     let rest = rw (c.after-tail.ensures, c.BITS-bits.ensures, long) at c.field_after-front.ensures.reads in
     record { numbers = search rules; borrow = search rules; loads = omega arith; stores = search rules }

@@ -12,32 +12,32 @@ use Rattle.bitvec_combine.proofs.combining_elements.combine_carried.Goals as goa
 
 pub overflow_add-source : goal.overflow_add-source
 overflow_add-source g c =
-    let below = next-word _ _ _ _ _ _ g.met.C.Elem.BitStore.width_law c.requires.right_window c.requires.some c.loop-step-test.true in
+    let below = next-word _ _ _ _ _ _ g.met.C.Elem.BitStore.width_law c.requires.shifted.span.beside c.requires.shifted.inside c.loop-step-test.true in
     omega arith
 
 pub overflow_add-source-in-loop-step : goal.overflow_add-source-in-loop-step
 overflow_add-source-in-loop-step g c =
-    let below = next-word _ _ _ _ _ _ g.met.C.Elem.BitStore.width_law c.requires.right_window c.requires.some c.loop-step-test.true in
+    let below = next-word _ _ _ _ _ _ g.met.C.Elem.BitStore.width_law c.requires.shifted.span.beside c.requires.shifted.inside c.loop-step-test.true in
     omega arith
 
 pub load-requires : goal.load-requires
-load-requires g c = rw c.loop-step.invariant.right.numbers (next-inside _ _ _ _ _ _ _ c.requires.right_window c.requires.some c.loop-step-test.true refl)
+load-requires g c = rw c.loop-step.invariant.right.numbers (next-inside _ _ _ _ _ _ _ c.requires.shifted.span.beside c.requires.shifted.inside c.loop-step-test.true refl)
 
 pub overflow_add-first : goal.overflow_add-first
 overflow_add-first g c =
-    let below = inside-word _ _ _ _ _ g.met.C.Elem.BitStore.width_law c.requires.window c.loop-step-test.true in
+    let below = inside-word _ _ _ _ _ g.met.C.Elem.BitStore.width_law c.requires.shifted.span.window c.loop-step-test.true in
     omega arith
 
 pub overflow_add-first-in-loop-step : goal.overflow_add-first-in-loop-step
 overflow_add-first-in-loop-step g c =
-    let below = inside-word _ _ _ _ _ g.met.C.Elem.BitStore.width_law c.requires.window c.loop-step-test.true in
+    let below = inside-word _ _ _ _ _ g.met.C.Elem.BitStore.width_law c.requires.shifted.span.window c.loop-step-test.true in
     omega arith
 
 pub load-element-requires : goal.load-element-requires
-load-element-requires g c = inside _ _ _ _ _ _ g.met.C.Elem.BitStore.width_law c.requires.window c.loop-step-test.true c.loop-step.invariant.writes.elements
+load-element-requires g c = inside _ _ _ _ _ _ g.met.C.Elem.BitStore.width_law c.requires.shifted.span.window c.loop-step-test.true c.loop-step.invariant.writes.elements
 
 pub store-requires : goal.store-requires
-store-requires g c = rw c.load-element.ensures.numbers (inside _ _ _ _ _ _ g.met.C.Elem.BitStore.width_law c.requires.window c.loop-step-test.true c.loop-step.invariant.writes.elements)
+store-requires g c = rw c.load-element.ensures.numbers (inside _ _ _ _ _ _ g.met.C.Elem.BitStore.width_law c.requires.shifted.span.window c.loop-step-test.true c.loop-step.invariant.writes.elements)
 
 pub returns-clause-writes : goal.returns-clause-writes
 returns-clause-writes g c =
@@ -61,8 +61,8 @@ returns-clause-right g c =
 
 pub loop-step-init : goal.loop-step-init
 loop-step-init g c = record {
-  writes = combined-none _ _ _ _ _ _ _ c.requires.window;
-  carried = c.of-last.ensures ∙ c.requires.carry ∙ ap (slice_index (g.D.CellsRead.numbers c.args.right.now)) (omega arith);
+  writes = combined-none _ _ _ _ _ _ _ c.requires.shifted.span.window;
+  carried = c.of-last.ensures ∙ c.requires.shifted.carried ∙ ap (slice_index (g.D.CellsRead.numbers c.args.right.now)) (omega arith);
   cost = search rules;
   right = search rules;
 }
@@ -81,8 +81,8 @@ loop-step-preserved g c =
     record {
       writes = rw (c.store.ensures.numbers, c.load-element.ensures.numbers)
           (Writes-is _ _ _ _ _ _ _
-          (Writes-combined _ _ (operator c.args.op) _ _ _ _ _ _ _ _ some c.requires.window more (length-elements _ _ _ _ _ _ c.requires.right_window more) made inv.writes)
-          (ap (λ (l : List Bool). combined (operator c.args.op) list l) (list-joined _ _ _ _ _ _ _ c.requires.some c.requires.bound c.requires.right_window more)));
+          (Writes-combined _ _ (operator c.args.op) _ _ _ _ _ _ _ _ some c.requires.shifted.span.window more (length-elements _ _ _ _ _ _ c.requires.shifted.span.beside more) made inv.writes)
+          (ap (λ (l : List Bool). combined (operator c.args.op) list l) (list-joined _ _ _ _ _ _ _ c.requires.shifted.inside c.requires.shifted.bound c.requires.shifted.span.beside more)));
       carried = value ∙ ap (slice_index (g.D.CellsRead.numbers c.args.right.now)) (omega arith);
       cost = search rules;
       right = search rules;

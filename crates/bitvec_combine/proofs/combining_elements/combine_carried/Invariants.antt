@@ -1,19 +1,15 @@
 use Rattle.std.proofs.Common.{◌≡◌, ◌+◌, slice_index}
-use Rattle.bitvec_move.specs.base.Lists.{combined}
-use Rattle.bitvec_move.specs.base.Memory.{Writes, list_in}
 use Rattle.bitvec_move.specs.cells.Access.{Costs, OnlyReads}
 use Rattle.bitvec_move.specs.words.Elements.{elements_window, elements_window_from}
-use Rattle.bitvec_move.specs.words.Operator.{operator}
+use Rattle.bitvec_combine.specs.Sides.{Combines}
 use Rattle.bitvec_combine.proofs.combining_elements.combine_carried.Given as goal
 
 abbrev pub invariant-loop-step : goal.invariant-loop-step
 invariant-loop-step g l =
     let b = g.C.Elem.BitStore.BITS in
     let at = g.O.BitOrder.at in
-    let before = g.C.CellsRead.numbers l.fn.left in
-    let part = elements_window b l.first l.step in
     record {
-      writes : Writes b at before (g.C.CellsRead.numbers l.left) part (combined (operator l.op) (list_in b at before part) (list_in b at (g.D.CellsRead.numbers l.fn.right) (elements_window_from b l.source l.skip l.step)));
+      writes : Combines b at l.op (g.C.CellsRead.numbers l.fn.left) (g.C.CellsRead.numbers l.left) (g.D.CellsRead.numbers l.fn.right) (elements_window b l.first l.step) (elements_window_from b l.source l.skip l.step);
       carried : g.K.Carried.value l.last ≡ slice_index (g.D.CellsRead.numbers l.fn.right) (l.source + l.step);
       cost : Costs g.C.CellsRead l.fn.left l.left l.step l.step;
       right : OnlyReads g.D.CellsRead l.fn.right l.right l.step;

@@ -1,4 +1,4 @@
-use Rattle.std.proofs.Common.{◌+◌, ap, rules, List, Bool}
+use Rattle.std.proofs.Common.{◌+◌, ap, arith, rules, List, Bool}
 use Rattle.bitvec_move.specs.store.WidthLaws.{width_some}
 use Rattle.bitvec_move.specs.base.Lists.{combined}
 use Rattle.bitvec_move.specs.base.Memory.{list_in}
@@ -7,7 +7,23 @@ use Rattle.bitvec_move.specs.words.CombinedLaws.{Writes-combined, combined-none,
 use Rattle.bitvec_move.specs.words.Elements.{elements_window}
 use Rattle.bitvec_move.specs.words.FieldLaws.{list-element}
 use Rattle.bitvec_move.specs.words.Operator.{operator}
+use Rattle.bitvec_move.specs.PlaceLaws.{inside-word}
 use Rattle.bitvec_combine.proofs.combining_elements.combine_whole.Goals as goal
+
+pub overflow_add-source : goal.overflow_add-source
+overflow_add-source g c =
+    let below = inside-word _ _ _ _ _ g.met.C.Elem.BitStore.width_law c.requires.beside c.loop-step-test.true in
+    omega arith
+
+pub overflow_add-first : goal.overflow_add-first
+overflow_add-first g c =
+    let below = inside-word _ _ _ _ _ g.met.C.Elem.BitStore.width_law c.requires.window c.loop-step-test.true in
+    omega arith
+
+pub overflow_add-first-in-loop-step : goal.overflow_add-first-in-loop-step
+overflow_add-first-in-loop-step g c =
+    let below = inside-word _ _ _ _ _ g.met.C.Elem.BitStore.width_law c.requires.window c.loop-step-test.true in
+    omega arith
 
 pub loop-step-init : goal.loop-step-init
 loop-step-init g c = record {
@@ -29,8 +45,8 @@ loop-step-preserved g c =
     record {
       writes = rw (c.store.ensures.numbers, c.load-element.ensures.numbers)
           (Writes-is _ _ _ _ _ _ _
-          (Writes-combined _ _ (operator c.args.op) _ _ _ _ _ _ _ _ some c.requires.window more (length-elements _ _ _ _ _ _ c.requires.right_window more) made inv.writes)
-          (ap (λ (l : List Bool). combined (operator c.args.op) list l) (list-element _ _ _ _ _ _ some c.requires.right_window more)));
+          (Writes-combined _ _ (operator c.args.op) _ _ _ _ _ _ _ _ some c.requires.window more (length-elements _ _ _ _ _ _ c.requires.beside more) made inv.writes)
+          (ap (λ (l : List Bool). combined (operator c.args.op) list l) (list-element _ _ _ _ _ _ some c.requires.beside more)));
       cost = search rules;
       right = search rules;
     }

@@ -14,6 +14,7 @@ use Rattle.bitvec_move.specs.words.FieldLaws.{first_part-long, list-head}
 use Rattle.bitvec_move.specs.words.Operator.{operator}
 use Rattle.bitvec_move.specs.words.TouchedLaws.{touched-head, touched-rest}
 use Rattle.bitvec_move.specs.PlaceLaws.{behind-edge, head-element, head-part, width-some}
+use Rattle.bitvec_combine.proofs.SpanLemmas.{after-span}
 use Rattle.bitvec_combine.proofs.combining_equal.combine_equal.Goals as goal
 
 pub nonzero_div-from : goal.nonzero_div-from
@@ -23,13 +24,19 @@ pub first_part-head-requires-clause-bits : goal.first_part-head-requires-clause-
 first_part-head-requires-clause-bits g c = width-some _ _ g.met.C.Elem.BitStore.width_law c.BITS-bits.ensures
 
 pub combine_element-requires-clause-part : goal.combine_element-requires-clause-part
-combine_element-requires-clause-part g c = head-part _ _ _ c.args.to _ g.met.C.Elem.BitStore.width_law c.BITS-bits.ensures c.first_part-head.ensures c.requires.some c.requires.window
+combine_element-requires-clause-part g c = head-part _ _ _ c.args.to _ g.met.C.Elem.BitStore.width_law c.BITS-bits.ensures c.first_part-head.ensures c.requires.some c.requires.span.window
 
 pub combine_element-requires-clause-source : goal.combine_element-requires-clause-source
 combine_element-requires-clause-source g c =
-    let lengths = c.requires.lengths in
+    let lengths = c.requires.span.lengths in
     let some = c.requires.some in
-    head-element _ _ _ c.args.from g.met.C.Elem.BitStore.width_law c.BITS-bits.ensures (omega arith) c.requires.right_window
+    head-element _ _ _ c.args.from g.met.C.Elem.BitStore.width_law c.BITS-bits.ensures (omega arith) c.requires.span.beside
+
+pub combine_unpadded-requires-clause-span : goal.combine_unpadded-requires-clause-span
+combine_unpadded-requires-clause-span g c =
+    let b = g.C.Elem.BitStore.BITS in
+    let step = first_part-long c.len-passed.result b c.BITS-bits.result c.args.to c.first_part-head.result c.len-passed.ensures c.first_part-head.ensures c.BITS-bits.ensures in
+    rw (c.after.ensures, c.after-2.ensures, c.combine_element.ensures.right.numbers) (after-span _ _ _ _ _ _ _ c.requires.span c.combine_element.ensures.writes.elements (omega arith))
 
 pub combine_unpadded-requires-clause-edge : goal.combine_unpadded-requires-clause-edge
 combine_unpadded-requires-clause-edge g c =
@@ -41,7 +48,7 @@ pub combine_unpadded-requires-clause-right_edge : goal.combine_unpadded-requires
 combine_unpadded-requires-clause-right_edge g c =
     let b = g.C.Elem.BitStore.BITS in
     let step = first_part-long c.len-passed.result b c.BITS-bits.result c.args.to c.first_part-head.result c.len-passed.ensures c.first_part-head.ensures c.BITS-bits.ensures in
-    let same : c.len-passed.result ≡ min c.args.from.len (b - c.args.from.start % b) = rw (c.requires.lengths, c.requires.phases) at step in
+    let same : c.len-passed.result ≡ min c.args.from.len (b - c.args.from.start % b) = rw (c.requires.span.lengths, c.requires.phases) at step in
     let left : c.len-passed.result ≢ c.args.from.len = λ e. c.if-passed-to.false (omega arith) in
     behind-edge b _ c.args.from _ g.met.C.Elem.BitStore.width_law c.after-2.ensures same left
 
@@ -59,9 +66,9 @@ returns-then-passed-to-clause-right g c =
     let b = g.C.Elem.BitStore.BITS in
     let some = width_some _ g.met.C.Elem.BitStore.width_law in
     let step = first_part-long c.len-passed.result b c.BITS-bits.result c.args.to c.first_part-head.result c.len-passed.ensures c.first_part-head.ensures c.BITS-bits.ensures in
-    let same : c.len-passed.result ≡ min c.args.from.len (b - c.args.from.start % b) = rw (c.requires.lengths, c.requires.phases) at step in
+    let same : c.len-passed.result ≡ min c.args.from.len (b - c.args.from.start % b) = rw (c.requires.span.lengths, c.requires.phases) at step in
     let one = touched-head b c.args.from.start c.len-passed.result c.args.from.len some (omega arith) same in
-    let all = ap (touched_count b c.args.from.start) (c.if-passed-to.true ∙ c.requires.lengths) in
+    let all = ap (touched_count b c.args.from.start) (c.if-passed-to.true ∙ c.requires.span.lengths) in
     record { numbers = search rules; borrow = search rules; loads = omega arith; stores = search rules }
 
 pub returns-clause-writes : goal.returns-clause-writes
@@ -78,9 +85,9 @@ returns-clause-writes g c =
     let place = first-place b to in
     let len = first-len b to some c.requires.some in
     let right_place = div-add-mod' from.start b in
-    let lengths = c.requires.lengths in
+    let lengths = c.requires.span.lengths in
     let phases = c.requires.phases in
-    let right = c.requires.right_window in
+    let right = c.requires.span.beside in
     let begin = right.within.start in
     let end = right.within.len in
     let t = c.len-passed.result in
@@ -90,7 +97,7 @@ returns-clause-writes g c =
     let x_long = length-list b at ys (part_window b part) (record { fits = right.fits; within = record { start = omega arith; len = omega arith } }) in
     let first = rw (head, c.BITS-bits.ensures) at c.combine_element.ensures.writes in
     let rest = rw (c.after.ensures, c.after-2.ensures, c.combine_element.ensures.right.numbers) at c.combine_unpadded.ensures.writes in
-    Writes-both b at f _ _ _ (part_window b (first_part_of b to)) (window_after t to) to x y _ c.requires.window place (omega arith) (omega arith)
+    Writes-both b at f _ _ _ (part_window b (first_part_of b to)) (window_after t to) to x y _ c.requires.span.window place (omega arith) (omega arith)
     (λ (a d : List Bool) (a_long : length a ≡ (first_part_of b to).to - (first_part_of b to).from) (d_long : length d ≡ to.len - t).
     let as_long : length x ≡ length a = omega arith in
     combined-append f a d x y as_long
@@ -111,7 +118,7 @@ returns-clause-right g c =
     let b = g.C.Elem.BitStore.BITS in
     let some = width_some _ g.met.C.Elem.BitStore.width_law in
     let step = first_part-long c.len-passed.result b c.BITS-bits.result c.args.to c.first_part-head.result c.len-passed.ensures c.first_part-head.ensures c.BITS-bits.ensures in
-    let same : c.len-passed.result ≡ min c.args.from.len (b - c.args.from.start % b) = rw (c.requires.lengths, c.requires.phases) at step in
+    let same : c.len-passed.result ≡ min c.args.from.len (b - c.args.from.start % b) = rw (c.requires.span.lengths, c.requires.phases) at step in
     let left : c.len-passed.result ≢ c.args.from.len = λ e. c.if-passed-to.false (omega arith) in
     let all = touched-rest b c.args.from.start c.len-passed.result c.args.from.len some (omega arith) same left in
     let rest = rw c.after-2.ensures at c.combine_unpadded.ensures.right in

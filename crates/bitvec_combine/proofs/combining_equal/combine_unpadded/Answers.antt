@@ -10,55 +10,53 @@ use Rattle.bitvec_move.specs.words.Elements.{elements_window}
 use Rattle.bitvec_move.specs.words.FieldLaws.{list-tail}
 use Rattle.bitvec_move.specs.words.Operator.{operator}
 use Rattle.bitvec_move.specs.words.TouchedLaws.{touched-full, touched-more}
-use Rattle.bitvec_move.specs.PlaceLaws.{tail-inside, tail-part, tail-word, whole-window, width-some}
+use Rattle.bitvec_move.specs.PlaceLaws.{tail-inside, tail-part, tail-word, width-some}
+use Rattle.bitvec_combine.proofs.SpanLemmas.{whole-span}
 use Rattle.bitvec_combine.proofs.combining_equal.combine_unpadded.Goals as goal
 
-pub nonzero_div-count : goal.nonzero_div-count
-nonzero_div-count g c = let some = width-some _ _ g.met.C.Elem.BitStore.width_law c.BITS-bits.ensures in omega arith
-
-pub nonzero_div-first : goal.nonzero_div-first
-nonzero_div-first g c = let some = width-some _ _ g.met.C.Elem.BitStore.width_law c.BITS-bits.ensures in omega arith
+pub whole_elements-first-requires : goal.whole_elements-first-requires
+whole_elements-first-requires g c = width-some _ _ g.met.C.Elem.BitStore.width_law c.BITS-bits.ensures
 
 pub nonzero_div-source : goal.nonzero_div-source
 nonzero_div-source g c = let some = width-some _ _ g.met.C.Elem.BitStore.width_law c.BITS-bits.ensures in omega arith
 
-pub nonzero_rem-rest : goal.nonzero_rem-rest
-nonzero_rem-rest g c = let some = width-some _ _ g.met.C.Elem.BitStore.width_law c.BITS-bits.ensures in omega arith
+pub tail_part-tail-requires-clause-bits : goal.tail_part-tail-requires-clause-bits
+tail_part-tail-requires-clause-bits g c = width-some _ _ g.met.C.Elem.BitStore.width_law c.BITS-bits.ensures
 
-pub combine_whole-requires-clause-window : goal.combine_whole-requires-clause-window
-combine_whole-requires-clause-window g c = whole-window _ _ _ c.args.to _ g.met.C.Elem.BitStore.width_law c.BITS-bits.ensures c.requires.window c.requires.edge (omega arith)
-
-pub combine_whole-requires-clause-right_window : goal.combine_whole-requires-clause-right_window
-combine_whole-requires-clause-right_window g c = whole-window _ _ _ c.args.from _ g.met.C.Elem.BitStore.width_law c.BITS-bits.ensures c.requires.right_window c.requires.right_edge (let lengths = c.requires.lengths in omega arith)
-
-pub overflow_add-tail : goal.overflow_add-tail
-overflow_add-tail g c =
-    let below = tail-word _ _ _ c.args.to c.args.to.len g.met.C.Elem.BitStore.width_law c.BITS-bits.ensures c.requires.window (omega arith) (let left = c.if-rest-eq0.false in omega arith) in
-    omega arith
+pub combine_whole-requires : goal.combine_whole-requires
+combine_whole-requires g c = rw (c.whole_elements-first.ensures, c.BITS-bits.ensures) (whole-span _ _ _ _ _ c.requires.span c.requires.edge c.requires.right_edge)
 
 pub overflow_add-source : goal.overflow_add-source
 overflow_add-source g c =
-    let below = tail-word _ _ _ c.args.from c.args.to.len g.met.C.Elem.BitStore.width_law c.BITS-bits.ensures c.requires.right_window (let lengths = c.requires.lengths in omega arith) (let left = c.if-rest-eq0.false in omega arith) in
-    omega arith
+    let lengths = c.requires.span.lengths in
+    let left = rw c.tail_part-tail.ensures at c.if-tail-eq0.false in
+    let below = tail-word _ _ _ c.args.from c.args.to.len g.met.C.Elem.BitStore.width_law c.BITS-bits.ensures c.requires.span.beside (omega arith) (omega arith) in
+    rw c.whole_elements-first.ensures (omega arith)
 
 pub combine_element-requires-clause-part : goal.combine_element-requires-clause-part
-combine_element-requires-clause-part g c = tail-part _ _ _ _ c.args.to _ g.met.C.Elem.BitStore.width_law c.BITS-bits.ensures c.requires.window (omega arith) (let left = c.if-rest-eq0.false in omega arith) c.combine_whole.ensures.writes.elements
+combine_element-requires-clause-part g c =
+    let left = rw c.tail_part-tail.ensures at c.if-tail-eq0.false in
+    rw c.tail_part-tail.ensures
+    (tail-part _ _ _ _ c.args.to _ g.met.C.Elem.BitStore.width_law c.BITS-bits.ensures c.requires.span.window (omega arith) (omega arith) c.combine_whole.ensures.writes.elements)
 
 pub combine_element-requires-clause-source : goal.combine_element-requires-clause-source
 combine_element-requires-clause-source g c =
-    rw c.combine_whole.ensures.right.numbers (tail-inside _ _ _ c.args.from _ g.met.C.Elem.BitStore.width_law c.BITS-bits.ensures c.requires.right_window (let lengths = c.requires.lengths in omega arith) (let left = c.if-rest-eq0.false in omega arith))
+    let lengths = c.requires.span.lengths in
+    let left = rw c.tail_part-tail.ensures at c.if-tail-eq0.false in
+    rw (c.whole_elements-first.ensures, c.combine_whole.ensures.right.numbers)
+    (tail-inside _ _ _ c.args.from _ g.met.C.Elem.BitStore.width_law c.BITS-bits.ensures c.requires.span.beside (omega arith) (omega arith))
 
-pub returns-then-rest-eq0-clause-cost : goal.returns-then-rest-eq0-clause-cost
-returns-then-rest-eq0-clause-cost g c =
-    let full = rw c.BITS-bits.ensures at c.if-rest-eq0.true in
+pub returns-then-tail-eq0-clause-cost : goal.returns-then-tail-eq0-clause-cost
+returns-then-tail-eq0-clause-cost g c =
+    let full = rw (c.tail_part-tail.ensures, c.BITS-bits.ensures) at c.if-tail-eq0.true in
     let all = touched-full g.C.Elem.BitStore.BITS c.args.to.start c.args.to.len (width_some _ g.met.C.Elem.BitStore.width_law) c.requires.edge full in
-    rw all (rw c.BITS-bits.ensures at c.combine_whole.ensures.cost)
+    rw all (rw (c.whole_elements-first.ensures, c.BITS-bits.ensures) at c.combine_whole.ensures.cost)
 
-pub returns-then-rest-eq0-clause-right : goal.returns-then-rest-eq0-clause-right
-returns-then-rest-eq0-clause-right g c =
-    let full = rw (c.BITS-bits.ensures, c.requires.lengths) at c.if-rest-eq0.true in
+pub returns-then-tail-eq0-clause-right : goal.returns-then-tail-eq0-clause-right
+returns-then-tail-eq0-clause-right g c =
+    let full = rw (c.tail_part-tail.ensures, c.BITS-bits.ensures, c.requires.span.lengths) at c.if-tail-eq0.true in
     let all = touched-full g.C.Elem.BitStore.BITS c.args.from.start c.args.from.len (width_some _ g.met.C.Elem.BitStore.width_law) c.requires.right_edge full in
-    rw (all, ← c.requires.lengths) (rw c.BITS-bits.ensures at c.combine_whole.ensures.right)
+    rw (all, ← c.requires.span.lengths) (rw (c.whole_elements-first.ensures, c.BITS-bits.ensures) at c.combine_whole.ensures.right)
 
 pub returns-clause-writes : goal.returns-clause-writes
 returns-clause-writes g c =
@@ -74,14 +72,14 @@ returns-clause-writes g c =
     let right_edge = c.requires.right_edge in
     let x = list_in b at ys (elements_window b (c.args.from.start / b) (to.len / b)) in
     let y = list_in b at ys (part_window b (record { element = c.args.from.start / b + to.len / b; from = 0; to = to.len % b })) in
-    let right = c.requires.right_window in
+    let right = c.requires.span.beside in
     let begin = right.within.start in
     let end = right.within.len in
-    let lengths = c.requires.lengths in
+    let lengths = c.requires.span.lengths in
     let x_long = length-list b at ys (elements_window b (c.args.from.start / b) (to.len / b)) (record { fits = right.fits; within = record { start = omega arith; len = omega arith } }) in
-    let first = rw c.BITS-bits.ensures at c.combine_whole.ensures.writes in
-    let second = rw (c.BITS-bits.ensures, c.combine_whole.ensures.right.numbers) at c.combine_element.ensures.writes in
-    Writes-both b at f _ _ _ (elements_window b (to.start / b) (to.len / b)) (part_window b (record { element = to.start / b + to.len / b; from = 0; to = to.len % b })) to x y _ c.requires.window (omega arith) (omega arith) (omega arith)
+    let first = rw (c.whole_elements-first.ensures, c.BITS-bits.ensures) at c.combine_whole.ensures.writes in
+    let second = rw (c.tail_part-tail.ensures, c.whole_elements-first.ensures, c.BITS-bits.ensures, c.combine_whole.ensures.right.numbers) at c.combine_element.ensures.writes in
+    Writes-both b at f _ _ _ (elements_window b (to.start / b) (to.len / b)) (part_window b (record { element = to.start / b + to.len / b; from = 0; to = to.len % b })) to x y _ c.requires.span.window (omega arith) (omega arith) (omega arith)
     (λ (a d : List Bool) (a_long : length a ≡ to.len / b * b) (d_long : length d ≡ to.len % b - 0).
     let as_long : length x ≡ length a = omega arith in
     combined-append f a d x y as_long
@@ -90,14 +88,14 @@ returns-clause-writes g c =
 
 pub returns-clause-cost : goal.returns-clause-cost
 returns-clause-cost g c =
-    let left = rw c.BITS-bits.ensures at c.if-rest-eq0.false in
+    let left = rw (c.tail_part-tail.ensures, c.BITS-bits.ensures) at c.if-tail-eq0.false in
     let all = touched-more g.C.Elem.BitStore.BITS c.args.to.start c.args.to.len (width_some _ g.met.C.Elem.BitStore.width_law) c.requires.edge (omega arith) in
-    let whole = rw c.BITS-bits.ensures at c.combine_whole.ensures.cost in
+    let whole = rw (c.whole_elements-first.ensures, c.BITS-bits.ensures) at c.combine_whole.ensures.cost in
     record { borrow = search rules; loads = omega arith; stores = omega arith }
 
 pub returns-clause-right : goal.returns-clause-right
 returns-clause-right g c =
-    let left = rw (c.BITS-bits.ensures, c.requires.lengths) at c.if-rest-eq0.false in
+    let left = rw (c.tail_part-tail.ensures, c.BITS-bits.ensures, c.requires.span.lengths) at c.if-tail-eq0.false in
     let all = touched-more g.C.Elem.BitStore.BITS c.args.from.start c.args.from.len (width_some _ g.met.C.Elem.BitStore.width_law) c.requires.right_edge (omega arith) in
-    let whole = rw (c.BITS-bits.ensures, c.requires.lengths) at c.combine_whole.ensures.right in
+    let whole = rw (c.whole_elements-first.ensures, c.BITS-bits.ensures, c.requires.span.lengths) at c.combine_whole.ensures.right in
     record { numbers = search rules; borrow = search rules; loads = omega arith; stores = search rules }

@@ -32,12 +32,12 @@ loop-step-preserved g c =
     let number = rw c.xor.ensures at c.or-found.ensures in
     let long = same-length b at xs ys (elements_window b c.args.first step) (elements_window b c.args.source step)
     (HasWindow-part b xs (elements_window b c.args.first c.args.count) (elements_window b c.args.first step) c.requires.window (omega arith) (omega arith))
-    (HasWindow-part b ys (elements_window b c.args.source c.args.count) (elements_window b c.args.source step) c.requires.right_window (omega arith) (omega arith))
+    (HasWindow-part b ys (elements_window b c.args.source c.args.count) (elements_window b c.args.source step) c.requires.beside (omega arith) (omega arith))
     (omega arith) in
     record {
       found = same-element b at (g.met.O.BitOrder.permutes _ g.met.C.Elem.BitStore.width_law) _ _ _ _ _ _ _ _ c.load-element.ensures.in_range c.load-other.ensures.in_range long number
           (ap (λ (n : ℕ). list_in b at xs (elements_window b c.args.first step) ++ element_bits b at n) value ∙ list-element b at xs c.args.first c.args.count step some c.requires.window more)
-          (ap (λ (n : ℕ). list_in b at ys (elements_window b c.args.source step) ++ element_bits b at n) other ∙ list-element b at ys c.args.source c.args.count step some c.requires.right_window more)
+          (ap (λ (n : ℕ). list_in b at ys (elements_window b c.args.source step) ++ element_bits b at n) other ∙ list-element b at ys c.args.source c.args.count step some c.requires.beside more)
           inv.found;
       reads = search rules;
       right = search rules;

@@ -7,6 +7,7 @@ use Rattle.bitvec_move.specs.words.SameLaws.{same-apart, same-then}
 use Rattle.bitvec_move.specs.words.TouchedLaws.{touched-first, touched-rest}
 use Rattle.bitvec_move.specs.words.WholeLaws.{long-head}
 use Rattle.bitvec_move.specs.PlaceLaws.{behind-edge, head-element, head-part, width-some}
+use Rattle.bitvec_combine.proofs.SpanLemmas.{after-span}
 use Rattle.bitvec_combine.proofs.comparing_equal.equal_unshifted.Goals as goal
 
 pub nonzero_div-right_window : goal.nonzero_div-right_window
@@ -16,13 +17,19 @@ pub first_part-head-requires-clause-bits : goal.first_part-head-requires-clause-
 first_part-head-requires-clause-bits g c = width-some _ _ g.met.C.Elem.BitStore.width_law c.BITS-bits.ensures
 
 pub equal_part-requires-clause-part : goal.equal_part-requires-clause-part
-equal_part-requires-clause-part g c = head-part _ _ _ c.args.left_window _ g.met.C.Elem.BitStore.width_law c.BITS-bits.ensures c.first_part-head.ensures c.requires.some c.requires.window
+equal_part-requires-clause-part g c = head-part _ _ _ c.args.left_window _ g.met.C.Elem.BitStore.width_law c.BITS-bits.ensures c.first_part-head.ensures c.requires.some c.requires.span.window
 
 pub equal_part-requires-clause-source : goal.equal_part-requires-clause-source
 equal_part-requires-clause-source g c =
-    let lengths = c.requires.lengths in
+    let lengths = c.requires.span.lengths in
     let some = c.requires.some in
-    head-element _ _ _ c.args.right_window g.met.C.Elem.BitStore.width_law c.BITS-bits.ensures (omega arith) c.requires.right_window
+    head-element _ _ _ c.args.right_window g.met.C.Elem.BitStore.width_law c.BITS-bits.ensures (omega arith) c.requires.span.beside
+
+pub equal_aligned-requires-clause-span : goal.equal_aligned-requires-clause-span
+equal_aligned-requires-clause-span g c =
+    let b = g.C.Elem.BitStore.BITS in
+    let step = first_part-long c.len-passed.result b c.BITS-bits.result c.args.left_window c.first_part-head.result c.len-passed.ensures c.first_part-head.ensures c.BITS-bits.ensures in
+    rw (c.after.ensures, c.after-2.ensures, c.equal_part.ensures.reads.numbers, c.equal_part.ensures.right.numbers) (after-span _ _ _ _ _ _ _ c.requires.span refl (omega arith))
 
 pub equal_aligned-requires-clause-edge : goal.equal_aligned-requires-clause-edge
 equal_aligned-requires-clause-edge g c =
@@ -34,7 +41,7 @@ pub equal_aligned-requires-clause-right_edge : goal.equal_aligned-requires-claus
 equal_aligned-requires-clause-right_edge g c =
     let b = g.C.Elem.BitStore.BITS in
     let step = first_part-long c.len-passed.result b c.BITS-bits.result c.args.left_window c.first_part-head.result c.len-passed.ensures c.first_part-head.ensures c.BITS-bits.ensures in
-    let same : c.len-passed.result ≡ min c.args.right_window.len (b - c.args.right_window.start % b) = rw (c.requires.lengths, c.requires.phases) at step in
+    let same : c.len-passed.result ≡ min c.args.right_window.len (b - c.args.right_window.start % b) = rw (c.requires.span.lengths, c.requires.phases) at step in
     let left : c.len-passed.result ≢ c.args.right_window.len = λ e. c.if-passed-left_window.false (omega arith) in
     behind-edge b _ c.args.right_window _ g.met.C.Elem.BitStore.width_law c.after-2.ensures same left
 
@@ -46,9 +53,9 @@ returns-then-not-equal_part-clause-value g c =
     let t : ℕ = (first_part_of b c.args.left_window).to - (first_part_of b c.args.left_window).from in
     let told = rw (head, c.BITS-bits.ensures) at c.equal_part.ensures.value in
     same-apart _ _ _ _ _ _
-    (long-head _ _ _ _ _ _ some c.requires.some c.requires.lengths c.requires.phases c.requires.window c.requires.right_window)
-    (list-head _ _ _ _ _ t some c.requires.some refl refl refl c.requires.window)
-    (list-head _ _ _ _ _ t some c.requires.some refl c.requires.lengths c.requires.phases c.requires.right_window)
+    (long-head _ _ _ _ _ _ some c.requires.some c.requires.span.lengths c.requires.phases c.requires.span.window c.requires.span.beside)
+    (list-head _ _ _ _ _ t some c.requires.some refl refl refl c.requires.span.window)
+    (list-head _ _ _ _ _ t some c.requires.some refl c.requires.span.lengths c.requires.phases c.requires.span.beside)
     (sym c.if-not-equal_part.true ∙ told)
 
 pub returns-then-not-equal_part-clause-reads : goal.returns-then-not-equal_part-clause-reads
@@ -58,7 +65,7 @@ returns-then-not-equal_part-clause-reads g c =
 
 pub returns-then-not-equal_part-clause-right : goal.returns-then-not-equal_part-clause-right
 returns-then-not-equal_part-clause-right g c =
-    let lengths = c.requires.lengths in
+    let lengths = c.requires.span.lengths in
     let some = c.requires.some in
     let all = touched-first g.C.Elem.BitStore.BITS c.args.right_window.start c.args.right_window.len (omega arith) in
     record { numbers = search rules; borrow = search rules; loads = omega arith; stores = search rules }
@@ -70,7 +77,7 @@ returns-then-passed-left_window-clause-reads g c =
 
 pub returns-then-passed-left_window-clause-right : goal.returns-then-passed-left_window-clause-right
 returns-then-passed-left_window-clause-right g c =
-    let lengths = c.requires.lengths in
+    let lengths = c.requires.span.lengths in
     let some = c.requires.some in
     let all = touched-first g.C.Elem.BitStore.BITS c.args.right_window.start c.args.right_window.len (omega arith) in
     record { numbers = search rules; borrow = search rules; loads = omega arith; stores = search rules }
@@ -84,9 +91,9 @@ returns-clause-value g c =
     let told = rw (head, c.BITS-bits.ensures) at c.equal_part.ensures.value in
     let rest = rw (c.after.ensures, c.after-2.ensures, c.equal_part.ensures.reads.numbers, c.equal_part.ensures.right.numbers) at c.equal_aligned.ensures.value in
     rest ∙ same-then _ _ _ _ _ _
-    (long-head _ _ _ _ _ _ some c.requires.some c.requires.lengths c.requires.phases c.requires.window c.requires.right_window)
-    (list-head _ _ _ _ _ _ some c.requires.some step refl refl c.requires.window)
-    (list-head _ _ _ _ _ _ some c.requires.some step c.requires.lengths c.requires.phases c.requires.right_window)
+    (long-head _ _ _ _ _ _ some c.requires.some c.requires.span.lengths c.requires.phases c.requires.span.window c.requires.span.beside)
+    (list-head _ _ _ _ _ _ some c.requires.some step refl refl c.requires.span.window)
+    (list-head _ _ _ _ _ _ some c.requires.some step c.requires.span.lengths c.requires.phases c.requires.span.beside)
     (sym c.if-not-equal_part.false ∙ told)
 
 pub returns-clause-reads : goal.returns-clause-reads
@@ -103,9 +110,9 @@ returns-clause-right g c =
     let b = g.C.Elem.BitStore.BITS in
     let some = width_some _ g.met.C.Elem.BitStore.width_law in
     let step = first_part-long c.len-passed.result b c.BITS-bits.result c.args.left_window c.first_part-head.result c.len-passed.ensures c.first_part-head.ensures c.BITS-bits.ensures in
-    let lengths = c.requires.lengths in
+    let lengths = c.requires.span.lengths in
     let more = c.requires.some in
-    let same : c.len-passed.result ≡ min c.args.right_window.len (b - c.args.right_window.start % b) = rw (c.requires.lengths, c.requires.phases) at step in
+    let same : c.len-passed.result ≡ min c.args.right_window.len (b - c.args.right_window.start % b) = rw (c.requires.span.lengths, c.requires.phases) at step in
     let left : c.len-passed.result ≢ c.args.right_window.len = λ e. c.if-passed-left_window.false (omega arith) in
     let all = touched-rest b c.args.right_window.start c.len-passed.result c.args.right_window.len some (omega arith) same left in
     let rest = rw c.after-2.ensures at c.equal_aligned.ensures.right in

@@ -11,8 +11,8 @@ by_halves n =
     (Decides-like (n == 0)
     (λ none. rw none refl)
     (λ none.
-    let low : n % 18446744073709551616 ≡ 0 = or_none _ _ none in
-    let high : n / 18446744073709551616 ≡ 0 = or_none_right _ _ none in
+    let low : n % 18446744073709551616 ≡ 0 = or_none (n % 18446744073709551616) (n / 18446744073709551616) none in
+    let high : n / 18446744073709551616 ≡ 0 = or_none_right (n % 18446744073709551616) (n / 18446744073709551616) none in
     let parts = div-add-mod' n 18446744073709551616 in
     omega arith)
     (Decides-eqb n 0))

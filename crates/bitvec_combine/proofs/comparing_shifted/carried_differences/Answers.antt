@@ -11,24 +11,24 @@ use Rattle.bitvec_combine.proofs.comparing_shifted.carried_differences.Goals as 
 
 pub overflow_add-source : goal.overflow_add-source
 overflow_add-source g c =
-    let below = next-word _ _ _ _ _ _ g.met.C.Elem.BitStore.width_law c.requires.right_window c.requires.some c.loop-step-test.true in
+    let below = next-word _ _ _ _ _ _ g.met.C.Elem.BitStore.width_law c.requires.shifted.span.beside c.requires.shifted.inside c.loop-step-test.true in
     omega arith
 
 pub overflow_add-source-in-loop-step : goal.overflow_add-source-in-loop-step
 overflow_add-source-in-loop-step g c =
-    let below = next-word _ _ _ _ _ _ g.met.C.Elem.BitStore.width_law c.requires.right_window c.requires.some c.loop-step-test.true in
+    let below = next-word _ _ _ _ _ _ g.met.C.Elem.BitStore.width_law c.requires.shifted.span.beside c.requires.shifted.inside c.loop-step-test.true in
     omega arith
 
 pub load-requires : goal.load-requires
-load-requires g c = rw c.loop-step.invariant.right.numbers (next-inside _ _ _ _ _ _ _ c.requires.right_window c.requires.some c.loop-step-test.true refl)
+load-requires g c = rw c.loop-step.invariant.right.numbers (next-inside _ _ _ _ _ _ _ c.requires.shifted.span.beside c.requires.shifted.inside c.loop-step-test.true refl)
 
 pub overflow_add-first : goal.overflow_add-first
 overflow_add-first g c =
-    let below = inside-word _ _ _ _ _ g.met.C.Elem.BitStore.width_law c.requires.window c.loop-step-test.true in
+    let below = inside-word _ _ _ _ _ g.met.C.Elem.BitStore.width_law c.requires.shifted.span.window c.loop-step-test.true in
     omega arith
 
 pub load-element-requires : goal.load-element-requires
-load-element-requires g c = rw c.loop-step.invariant.reads.numbers (inside _ _ _ _ _ _ g.met.C.Elem.BitStore.width_law c.requires.window c.loop-step-test.true refl)
+load-element-requires g c = rw c.loop-step.invariant.reads.numbers (inside _ _ _ _ _ _ g.met.C.Elem.BitStore.width_law c.requires.shifted.span.window c.loop-step-test.true refl)
 
 pub returns-clause-value : goal.returns-clause-value
 returns-clause-value g c =
@@ -54,7 +54,7 @@ pub loop-step-init : goal.loop-step-init
 loop-step-init g c = record {
   found = ap (λ (n : ℕ). n == 0) (ap g.C.Elem.BitStore.value c.ZERO-found.ensures ∙ g.met.C.Elem.BitStore.zero_law)
       ∙ same-empty _ _ _ _ _ _ (omega arith) (omega arith);
-  carried = c.of-last.ensures ∙ c.requires.carry ∙ ap (slice_index (g.D.CellsRead.numbers c.args.right.now)) (omega arith);
+  carried = c.of-last.ensures ∙ c.requires.shifted.carried ∙ ap (slice_index (g.D.CellsRead.numbers c.args.right.now)) (omega arith);
   reads = search rules;
   right = search rules;
 }
@@ -75,13 +75,13 @@ loop-step-preserved g c =
     let joined = rw (inv.carried, next) at c.joined-other.ensures in
     let number = rw c.xor.ensures at c.or-found.ensures in
     let long = same-length b at xs ys (elements_window b c.args.first step) (elements_window_from b c.args.source c.args.skip step)
-    (HasWindow-part b xs (elements_window b c.args.first c.args.count) (elements_window b c.args.first step) c.requires.window (omega arith) (omega arith))
-    (HasWindow-part b ys (elements_window_from b c.args.source c.args.skip c.args.count) (elements_window_from b c.args.source c.args.skip step) c.requires.right_window (omega arith) (omega arith))
+    (HasWindow-part b xs (elements_window b c.args.first c.args.count) (elements_window b c.args.first step) c.requires.shifted.span.window (omega arith) (omega arith))
+    (HasWindow-part b ys (elements_window_from b c.args.source c.args.skip c.args.count) (elements_window_from b c.args.source c.args.skip step) c.requires.shifted.span.beside (omega arith) (omega arith))
     (omega arith) in
     record {
       found = same-element b at (g.met.O.BitOrder.permutes _ g.met.C.Elem.BitStore.width_law) _ _ _ _ _ _ _ _ c.load-element.ensures.in_range c.in_range.ensures long number
-          (ap (λ (n : ℕ). list_in b at xs (elements_window b c.args.first step) ++ element_bits b at n) value ∙ list-element b at xs c.args.first c.args.count step some c.requires.window more)
-          (ap (λ (l : List Bool). list_in b at ys (elements_window_from b c.args.source c.args.skip step) ++ l) joined ∙ list-joined b at ys c.args.source c.args.skip c.args.count step c.requires.some c.requires.bound c.requires.right_window more)
+          (ap (λ (n : ℕ). list_in b at xs (elements_window b c.args.first step) ++ element_bits b at n) value ∙ list-element b at xs c.args.first c.args.count step some c.requires.shifted.span.window more)
+          (ap (λ (l : List Bool). list_in b at ys (elements_window_from b c.args.source c.args.skip step) ++ l) joined ∙ list-joined b at ys c.args.source c.args.skip c.args.count step c.requires.shifted.inside c.requires.shifted.bound c.requires.shifted.span.beside more)
           inv.found;
       carried = next ∙ ap (slice_index ys) (omega arith);
       reads = search rules;

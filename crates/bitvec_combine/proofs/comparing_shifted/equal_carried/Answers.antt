@@ -1,81 +1,92 @@
-use Rattle.std.proofs.Common.{◌≡◌, ◌≤◌, ℕ, ◌+◌, ◌*◌, ◌/◌, ◌%◌, arith, rules, sym, ◌∙◌, ap, slice_index}
-use Rattle.bitvec_move.specs.WaitingLaws.{behind-element}
+use Rattle.std.proofs.Common.{◌≡◌, ◌≤◌, ℕ, ◌+◌, ◌*◌, ◌/◌, arith, rules, sym, ◌∙◌, ap, slice_index}
 use Rattle.std.proofs.Math.Nat.{mul-le-mul_left}
-use Rattle.std.proofs.lemmas.Nat.{div-add-mod', mod_below}
-use Rattle.bitvec_move.specs.words.Elements.{elements_window, elements_window_from}
 use Rattle.bitvec_move.specs.store.WidthLaws.{width_some}
 use Rattle.bitvec_move.specs.words.SameLaws.{same-apart, same-then}
 use Rattle.bitvec_move.specs.words.TouchedLaws.{touched-after}
-use Rattle.bitvec_move.specs.words.WholeLaws.{HasWindow-part, list-elements, list-elements_from, long-elements_from, touched-behind_from, whole_fits, behind-mod}
+use Rattle.bitvec_move.specs.words.WholeLaws.{list-elements, list-elements_from, long-elements_from, touched-behind_from}
 use Rattle.bitvec_move.specs.PlaceLaws.{width-some}
+use Rattle.bitvec_combine.proofs.SpanLemmas.{few, group-fits, group-word, groups-fit, behind-shifted, some-shifted}
 use Rattle.bitvec_combine.proofs.comparing_shifted.equal_carried.Goals as goal
 
-pub nonzero_div-first : goal.nonzero_div-first
-nonzero_div-first g c = let some = width-some _ _ g.met.C.Elem.BitStore.width_law c.BITS-bits.ensures in omega arith
+pub whole_elements-first-requires : goal.whole_elements-first-requires
+whole_elements-first-requires g c = width-some _ _ g.met.C.Elem.BitStore.width_law c.BITS-bits.ensures
 
 pub nonzero_div-source : goal.nonzero_div-source
 nonzero_div-source g c = let some = width-some _ _ g.met.C.Elem.BitStore.width_law c.BITS-bits.ensures in omega arith
 
-pub nonzero_div-tests : goal.nonzero_div-tests
-nonzero_div-tests g c = let some = width-some _ _ g.met.C.Elem.BitStore.width_law c.BITS-bits.ensures in omega arith
+pub nonzero_rem-skip : goal.nonzero_rem-skip
+nonzero_rem-skip g c = let some = width-some _ _ g.met.C.Elem.BitStore.width_law c.BITS-bits.ensures in omega arith
 
 pub elements_per_test-span-requires : goal.elements_per_test-span-requires
 elements_per_test-span-requires g c = let some = width-some _ _ g.met.C.Elem.BitStore.width_law c.BITS-bits.ensures in omega arith
 
-pub nonzero_rem-skip : goal.nonzero_rem-skip
-nonzero_rem-skip g c = let some = width-some _ _ g.met.C.Elem.BitStore.width_law c.BITS-bits.ensures in omega arith
-
-pub tested_differences-found-requires-clause-some : goal.tested_differences-found-requires-clause-some
-tested_differences-found-requires-clause-some g c = rw c.BITS-bits.ensures c.requires.phase
-
-pub tested_differences-found-requires-clause-bound : goal.tested_differences-found-requires-clause-bound
-tested_differences-found-requires-clause-bound g c =
-    let b = g.C.Elem.BitStore.BITS in
-    let some = width_some _ g.met.C.Elem.BitStore.width_law in
-    rw c.BITS-bits.ensures (mod_below c.args.right_window.start b some)
-
-pub equal_carried_rest-requires-clause-edge : goal.equal_carried_rest-requires-clause-edge
-equal_carried_rest-requires-clause-edge g c =
-    let b = g.C.Elem.BitStore.BITS in
-    let some = width_some _ g.met.C.Elem.BitStore.width_law in
-    rw (c.after.ensures, c.BITS-bits.ensures) (behind-mod b c.args.left_window.start (c.args.left_window.len / b / c.elements_per_test-span.result * c.elements_per_test-span.result) some ∙ c.requires.edge)
-
-pub equal_carried_rest-requires-clause-phase : goal.equal_carried_rest-requires-clause-phase
-equal_carried_rest-requires-clause-phase g c =
-    let b = g.C.Elem.BitStore.BITS in
-    let some = width_some _ g.met.C.Elem.BitStore.width_law in
-    rw (c.after-2.ensures, c.BITS-bits.ensures, behind-mod b c.args.right_window.start (c.args.left_window.len / b / c.elements_per_test-span.result * c.elements_per_test-span.result) some) c.requires.phase
-
-pub equal_carried_rest-requires-clause-carry : goal.equal_carried_rest-requires-clause-carry
-equal_carried_rest-requires-clause-carry g c =
-    let b = g.C.Elem.BitStore.BITS in
-    let some = width_some _ g.met.C.Elem.BitStore.width_law in
-    let end = rw c.BITS-bits.ensures at c.loop-test-test.false in
-    let most = rw c.BITS-bits.ensures at c.loop-test.auto.test-end in
-    let all : c.loop-test.test ≡ c.args.left_window.len / b / c.elements_per_test-span.result = omega arith in
-    rw (c.after-2.ensures, c.BITS-bits.ensures, c.loop-test.invariant.right.numbers, behind-element b c.args.right_window.start (c.args.left_window.len / b / c.elements_per_test-span.result * c.elements_per_test-span.result) some) (rw (all, c.BITS-bits.ensures) at c.loop-test.invariant.carried)
-
-pub tested_differences-found-requires-clause-window : goal.tested_differences-found-requires-clause-window
-tested_differences-found-requires-clause-window g c =
+pub overflow_mul-passed : goal.overflow_mul-passed
+overflow_mul-passed g c =
     let b = g.C.Elem.BitStore.BITS in
     let k = c.elements_per_test-span.result in
-    let more = rw c.BITS-bits.ensures at c.loop-test-test.true in
-    let room = whole_fits k (c.args.left_window.len / b) (c.loop-test.test + 1) (omega arith) in
-    let fits = whole_fits b c.args.left_window.len (c.loop-test.test * k + k) (omega arith) in
-    let place = div-add-mod' c.args.left_window.start b in
-    let lengths = c.requires.lengths in
-    rw (c.BITS-bits.ensures, c.loop-test.invariant.reads.numbers) (HasWindow-part b (g.C.CellsRead.numbers c.args.left.now) c.args.left_window (elements_window b (c.args.left_window.start / b + c.loop-test.test * k) k) c.requires.window (omega arith) (omega arith))
+    let more = rw (c.whole_elements-first.ensures, c.BITS-bits.ensures) at c.loop-test-test.true in
+    let fits = group-fits k b c.args.left_window.len c.loop-test.test (omega arith) in
+    let most = few b (c.loop-test.test * k + k) c.args.left_window.len (width_some _ g.met.C.Elem.BitStore.width_law) fits in
+    omega arith
 
-pub tested_differences-found-requires-clause-right_window : goal.tested_differences-found-requires-clause-right_window
-tested_differences-found-requires-clause-right_window g c =
+pub overflow_add-first : goal.overflow_add-first
+overflow_add-first g c =
     let b = g.C.Elem.BitStore.BITS in
     let k = c.elements_per_test-span.result in
-    let more = rw (c.BITS-bits.ensures, c.requires.lengths) at c.loop-test-test.true in
-    let room = whole_fits k (c.args.right_window.len / b) (c.loop-test.test + 1) (omega arith) in
-    let fits = whole_fits b c.args.right_window.len (c.loop-test.test * k + k) (omega arith) in
-    let place = div-add-mod' c.args.right_window.start b in
-    let lengths = c.requires.lengths in
-    rw (c.BITS-bits.ensures, c.loop-test.invariant.right.numbers) (HasWindow-part b (g.D.CellsRead.numbers c.args.right.now) c.args.right_window (elements_window_from b (c.args.right_window.start / b + c.loop-test.test * k) (c.args.right_window.start % b) k) c.requires.right_window (omega arith) (omega arith))
+    let more = rw (c.whole_elements-first.ensures, c.BITS-bits.ensures) at c.loop-test-test.true in
+    let fits = group-fits k b c.args.left_window.len c.loop-test.test (omega arith) in
+    let below = group-word b _ c.args.left_window (c.loop-test.test * k + k) g.met.C.Elem.BitStore.width_law c.requires.span.window fits in
+    rw (c.whole_elements-first.ensures, c.BITS-bits.ensures) (omega arith)
+
+pub overflow_add-source : goal.overflow_add-source
+overflow_add-source g c =
+    let b = g.C.Elem.BitStore.BITS in
+    let k = c.elements_per_test-span.result in
+    let more = rw (c.whole_elements-first.ensures, c.BITS-bits.ensures, c.requires.span.lengths) at c.loop-test-test.true in
+    let fits = group-fits k b c.args.right_window.len c.loop-test.test (omega arith) in
+    let below = group-word b _ c.args.right_window (c.loop-test.test * k + k) g.met.C.Elem.BitStore.width_law c.requires.span.beside fits in
+    rw c.BITS-bits.ensures (omega arith)
+
+pub overflow_mul-passed-2 : goal.overflow_mul-passed-2
+overflow_mul-passed-2 g c =
+    let b = g.C.Elem.BitStore.BITS in
+    let k = c.elements_per_test-span.result in
+    let most = few b (c.args.left_window.len / b / k * k) c.args.left_window.len (width_some _ g.met.C.Elem.BitStore.width_law) (groups-fit k b c.args.left_window.len) in
+    rw (c.whole_elements-first.ensures, c.BITS-bits.ensures) (omega arith)
+
+pub overflow_mul-passed-3 : goal.overflow_mul-passed-3
+overflow_mul-passed-3 g c =
+    let fits = groups-fit c.elements_per_test-span.result g.C.Elem.BitStore.BITS c.args.left_window.len in
+    rw (c.whole_elements-first.ensures, c.BITS-bits.ensures) (omega arith)
+
+pub after-requires-clause-bound : goal.after-requires-clause-bound
+after-requires-clause-bound g c = rw (c.whole_elements-first.ensures, c.BITS-bits.ensures) (groups-fit c.elements_per_test-span.result g.C.Elem.BitStore.BITS c.args.left_window.len)
+
+pub after-requires-2-clause-bound : goal.after-requires-2-clause-bound
+after-requires-2-clause-bound g c =
+    rw (c.whole_elements-first.ensures, c.BITS-bits.ensures, c.requires.span.lengths) (groups-fit c.elements_per_test-span.result g.C.Elem.BitStore.BITS c.args.right_window.len)
+
+pub tested_differences-found-requires : goal.tested_differences-found-requires
+tested_differences-found-requires g c =
+    let b = g.C.Elem.BitStore.BITS in
+    let inv = c.loop-test.invariant in
+    let k = c.elements_per_test-span.result in
+    let more = rw (c.whole_elements-first.ensures, c.BITS-bits.ensures) at c.loop-test-test.true in
+    let fits = group-fits k b c.args.left_window.len c.loop-test.test (omega arith) in
+    rw (c.whole_elements-first.ensures, c.BITS-bits.ensures, inv.reads.numbers, inv.right.numbers)
+    (some-shifted _ _ _ _ _ _ _ (c.loop-test.test * k) k g.met.C.Elem.BitStore.width_law c.requires fits (rw c.BITS-bits.ensures at inv.carried))
+
+pub equal_carried_rest-requires : goal.equal_carried_rest-requires
+equal_carried_rest-requires g c =
+    let b = g.C.Elem.BitStore.BITS in
+    let inv = c.loop-test.invariant in
+    let k = c.elements_per_test-span.result in
+    let end = rw (c.whole_elements-first.ensures, c.BITS-bits.ensures) at c.loop-test-test.false in
+    let most = rw (c.whole_elements-first.ensures, c.BITS-bits.ensures) at c.loop-test.auto.test-end in
+    let all : c.loop-test.test ≡ c.args.left_window.len / b / k = omega arith in
+    let fits = groups-fit k b c.args.left_window.len in
+    rw (c.after.ensures, c.after-2.ensures, c.whole_elements-first.ensures, c.BITS-bits.ensures, inv.reads.numbers, inv.right.numbers)
+    (behind-shifted _ _ _ _ _ _ _ (c.args.left_window.len / b / k * k) g.met.C.Elem.BitStore.width_law c.requires fits (rw (all, c.BITS-bits.ensures) at inv.carried))
 
 pub returns-then-not-is_zero-clause-value : goal.returns-then-not-is_zero-clause-value
 returns-then-not-is_zero-clause-value g c =
@@ -83,16 +94,15 @@ returns-then-not-is_zero-clause-value g c =
     let inv = c.loop-test.invariant in
     let k = c.elements_per_test-span.result in
     let passed : ℕ = c.loop-test.test * k in
-    let more = rw c.BITS-bits.ensures at c.loop-test-test.true in
-    let room = whole_fits k (c.args.left_window.len / b) (c.loop-test.test + 1) (omega arith) in
-    let fits = whole_fits b c.args.left_window.len (passed + k) (omega arith) in
-    let lengths = c.requires.lengths in
+    let more = rw (c.whole_elements-first.ensures, c.BITS-bits.ensures) at c.loop-test-test.true in
+    let fits = group-fits k b c.args.left_window.len c.loop-test.test (omega arith) in
+    let lengths = c.requires.span.lengths in
     let other_fits : (passed + k) * b ≤ c.args.right_window.len = omega arith in
-    let told = rw (c.BITS-bits.ensures, inv.reads.numbers, inv.right.numbers) at c.tested_differences-found.ensures.value in
+    let told = rw (c.whole_elements-first.ensures, c.BITS-bits.ensures, inv.reads.numbers, inv.right.numbers) at c.tested_differences-found.ensures.value in
     same-apart _ _ _ _ _ _
-    (long-elements_from _ _ _ _ _ _ passed k c.requires.window c.requires.right_window c.requires.edge fits other_fits)
-    (list-elements _ _ _ _ passed k c.requires.window c.requires.edge fits)
-    (list-elements_from _ _ _ _ passed k c.requires.right_window other_fits)
+    (long-elements_from _ _ _ _ _ _ passed k c.requires.span.window c.requires.span.beside c.requires.edge fits other_fits)
+    (list-elements _ _ _ _ passed k c.requires.span.window c.requires.edge fits)
+    (list-elements_from _ _ _ _ passed k c.requires.span.beside other_fits)
     (sym c.if-not-is_zero.true ∙ c.is_zero.ensures ∙ told)
     ∙ inv.same
 
@@ -101,9 +111,8 @@ returns-then-not-is_zero-clause-reads g c =
     let b = g.C.Elem.BitStore.BITS in
     let k = c.elements_per_test-span.result in
     let passed : ℕ = c.loop-test.test * k in
-    let more = rw c.BITS-bits.ensures at c.loop-test-test.true in
-    let room = whole_fits k (c.args.left_window.len / b) (c.loop-test.test + 1) (omega arith) in
-    let fits = whole_fits b c.args.left_window.len (passed + k) (omega arith) in
+    let more = rw (c.whole_elements-first.ensures, c.BITS-bits.ensures) at c.loop-test-test.true in
+    let fits = group-fits k b c.args.left_window.len c.loop-test.test (omega arith) in
     let all = touched-after b c.args.left_window.start c.args.left_window.len (passed + k) (width_some _ g.met.C.Elem.BitStore.width_law) c.requires.edge fits in
     let before = c.loop-test.invariant.reads in
     record { numbers = search rules; borrow = search rules; loads = omega arith; stores = search rules }
@@ -113,10 +122,9 @@ returns-then-not-is_zero-clause-right g c =
     let b = g.C.Elem.BitStore.BITS in
     let k = c.elements_per_test-span.result in
     let passed : ℕ = c.loop-test.test * k in
-    let more = rw (c.BITS-bits.ensures, c.requires.lengths) at c.loop-test-test.true in
-    let room = whole_fits k (c.args.right_window.len / b) (c.loop-test.test + 1) (omega arith) in
-    let fits = whole_fits b c.args.right_window.len (passed + k) (omega arith) in
-    let all = touched-behind_from b c.args.right_window.start c.args.right_window.len (passed + k) (width_some _ g.met.C.Elem.BitStore.width_law) c.requires.phase fits in
+    let more = rw (c.whole_elements-first.ensures, c.BITS-bits.ensures, c.requires.span.lengths) at c.loop-test-test.true in
+    let fits = group-fits k b c.args.right_window.len c.loop-test.test (omega arith) in
+    let all = touched-behind_from b c.args.right_window.start c.args.right_window.len (passed + k) (width_some _ g.met.C.Elem.BitStore.width_law) c.requires.inside fits in
     let before = c.loop-test.invariant.right in
     record { numbers = search rules; borrow = search rules; loads = omega arith; stores = search rules }
 
@@ -126,20 +134,19 @@ loop-test-preserved g c =
     let inv = c.loop-test.invariant in
     let k = c.elements_per_test-span.result in
     let passed : ℕ = c.loop-test.test * k in
-    let more = rw c.BITS-bits.ensures at c.loop-test-test.true in
-    let room = whole_fits k (c.args.left_window.len / b) (c.loop-test.test + 1) (omega arith) in
-    let fits = whole_fits b c.args.left_window.len (passed + k) (omega arith) in
-    let lengths = c.requires.lengths in
+    let more = rw (c.whole_elements-first.ensures, c.BITS-bits.ensures) at c.loop-test-test.true in
+    let fits = group-fits k b c.args.left_window.len c.loop-test.test (omega arith) in
+    let lengths = c.requires.span.lengths in
     let other_fits : (passed + k) * b ≤ c.args.right_window.len = omega arith in
-    let told = rw (c.BITS-bits.ensures, inv.reads.numbers, inv.right.numbers) at c.tested_differences-found.ensures.value in
+    let told = rw (c.whole_elements-first.ensures, c.BITS-bits.ensures, inv.reads.numbers, inv.right.numbers) at c.tested_differences-found.ensures.value in
     let carried = rw inv.right.numbers at c.tested_differences-found.ensures.carried in
     let next : (c.loop-test.test + 1) * k ≡ c.loop-test.test * k + k = omega arith in
     record {
       same = rw next
           (same-then _ _ _ _ _ _
-          (long-elements_from _ _ _ _ _ _ passed k c.requires.window c.requires.right_window c.requires.edge fits other_fits)
-          (list-elements _ _ _ _ passed k c.requires.window c.requires.edge fits)
-          (list-elements_from _ _ _ _ passed k c.requires.right_window other_fits)
+          (long-elements_from _ _ _ _ _ _ passed k c.requires.span.window c.requires.span.beside c.requires.edge fits other_fits)
+          (list-elements _ _ _ _ passed k c.requires.span.window c.requires.edge fits)
+          (list-elements_from _ _ _ _ passed k c.requires.span.beside other_fits)
           (sym c.if-not-is_zero.false ∙ c.is_zero.ensures ∙ told)
           ∙ inv.same);
       carried = carried ∙ ap (slice_index (g.D.CellsRead.numbers c.args.right.now)) (omega arith);
@@ -152,12 +159,11 @@ returns-clause-reads g c =
     let b = g.C.Elem.BitStore.BITS in
     let k = c.elements_per_test-span.result in
     let passed : ℕ = c.args.left_window.len / b / k * k in
-    let room = whole_fits k (c.args.left_window.len / b) (c.args.left_window.len / b / k) (omega arith) in
-    let fits = whole_fits b c.args.left_window.len passed (omega arith) in
+    let fits = groups-fit k b c.args.left_window.len in
     let all = touched-after b c.args.left_window.start c.args.left_window.len passed (width_some _ g.met.C.Elem.BitStore.width_law) c.requires.edge fits in
-    let last = mul-le-mul_left k (rw c.BITS-bits.ensures at c.loop-test.auto.test-end) in
+    let last = mul-le-mul_left k (rw (c.whole_elements-first.ensures, c.BITS-bits.ensures) at c.loop-test.auto.test-end) in
     let before = c.loop-test.invariant.reads in
-    let rest = rw (c.after.ensures, c.BITS-bits.ensures) at c.equal_carried_rest.ensures.reads in
+    let rest = rw (c.after.ensures, c.whole_elements-first.ensures, c.BITS-bits.ensures) at c.equal_carried_rest.ensures.reads in
     record { numbers = search rules; borrow = search rules; loads = omega arith; stores = search rules }
 
 pub returns-clause-right : goal.returns-clause-right
@@ -165,10 +171,9 @@ returns-clause-right g c =
     let b = g.C.Elem.BitStore.BITS in
     let k = c.elements_per_test-span.result in
     let passed : ℕ = c.args.right_window.len / b / k * k in
-    let room = whole_fits k (c.args.right_window.len / b) (c.args.right_window.len / b / k) (omega arith) in
-    let fits = whole_fits b c.args.right_window.len passed (omega arith) in
-    let all = touched-behind_from b c.args.right_window.start c.args.right_window.len passed (width_some _ g.met.C.Elem.BitStore.width_law) c.requires.phase fits in
-    let last = mul-le-mul_left k (rw (c.BITS-bits.ensures, c.requires.lengths) at c.loop-test.auto.test-end) in
+    let fits = groups-fit k b c.args.right_window.len in
+    let all = touched-behind_from b c.args.right_window.start c.args.right_window.len passed (width_some _ g.met.C.Elem.BitStore.width_law) c.requires.inside fits in
+    let last = mul-le-mul_left k (rw (c.whole_elements-first.ensures, c.BITS-bits.ensures, c.requires.span.lengths) at c.loop-test.auto.test-end) in
     let before = c.loop-test.invariant.right in
-    let rest = rw (c.after-2.ensures, c.BITS-bits.ensures, c.requires.lengths) at c.equal_carried_rest.ensures.right in
+    let rest = rw (c.after-2.ensures, c.whole_elements-first.ensures, c.BITS-bits.ensures, c.requires.span.lengths) at c.equal_carried_rest.ensures.right in
     record { numbers = search rules; borrow = search rules; loads = omega arith; stores = search rules }

@@ -1,19 +1,20 @@
-use Rattle.std.proofs.Common.{◌≡◌, ◌+◌, ◌-◌, ◌*◌, ◌/◌, ◌%◌, arith, rules, refl, sym, ◌∙◌}
+use Rattle.std.proofs.Common.{◌≡◌, ◌+◌, ◌-◌, ◌*◌, ◌/◌, ◌%◌, arith, ap, rules, refl, sym, ◌∙◌}
 use Rattle.bitvec_move.specs.WaitingLaws.{behind-element}
-use Rattle.std.proofs.lemmas.Nat.{div-add-mod', mod_below}
+use Rattle.std.proofs.lemmas.Nat.{div-add-mod'}
 use Rattle.bitvec_move.specs.store.WidthLaws.{width_some}
+use Rattle.bitvec_move.specs.base.declared.window.Window.{Window}
+use Rattle.bitvec_move.specs.words.Elements.{elements_window, elements_window_from}
 use Rattle.bitvec_move.specs.words.FieldLaws.{list-rest, list-tail}
 use Rattle.bitvec_move.specs.words.SameLaws.{same-apart, same-then}
 use Rattle.bitvec_move.specs.words.TouchedLaws.{touched-after, touched-from_more, touched-more}
 use Rattle.bitvec_move.specs.words.WholeLaws.{long-whole_from, touched-behind_from, whole_fits}
-use Rattle.bitvec_move.specs.PlaceLaws.{tail-inside, tail-word, whole-window, whole-window_from, width-some}
+use Rattle.bitvec_move.specs.PlaceLaws.{width-some}
+use Rattle.bitvec_combine.proofs.SpanLemmas.{tail-beside, whole-shifted, window-same}
+use Rattle.bitvec_combine.specs.Sides.{same_sides}
 use Rattle.bitvec_combine.proofs.comparing_shifted.equal_carried_rest.Goals as goal
 
-pub nonzero_div-count : goal.nonzero_div-count
-nonzero_div-count g c = let some = width-some _ _ g.met.C.Elem.BitStore.width_law c.BITS-bits.ensures in omega arith
-
-pub nonzero_div-first : goal.nonzero_div-first
-nonzero_div-first g c = let some = width-some _ _ g.met.C.Elem.BitStore.width_law c.BITS-bits.ensures in omega arith
+pub whole_elements-first-requires : goal.whole_elements-first-requires
+whole_elements-first-requires g c = width-some _ _ g.met.C.Elem.BitStore.width_law c.BITS-bits.ensures
 
 pub nonzero_div-source : goal.nonzero_div-source
 nonzero_div-source g c = let some = width-some _ _ g.met.C.Elem.BitStore.width_law c.BITS-bits.ensures in omega arith
@@ -21,53 +22,49 @@ nonzero_div-source g c = let some = width-some _ _ g.met.C.Elem.BitStore.width_l
 pub nonzero_rem-skip : goal.nonzero_rem-skip
 nonzero_rem-skip g c = let some = width-some _ _ g.met.C.Elem.BitStore.width_law c.BITS-bits.ensures in omega arith
 
-pub nonzero_rem-left_window : goal.nonzero_rem-left_window
-nonzero_rem-left_window g c = let some = width-some _ _ g.met.C.Elem.BitStore.width_law c.BITS-bits.ensures in omega arith
+pub tail_part-tail-requires-clause-bits : goal.tail_part-tail-requires-clause-bits
+tail_part-tail-requires-clause-bits g c = width-some _ _ g.met.C.Elem.BitStore.width_law c.BITS-bits.ensures
 
-pub shifted_differences-found-requires-clause-window : goal.shifted_differences-found-requires-clause-window
-shifted_differences-found-requires-clause-window g c = whole-window _ _ _ c.args.left_window _ g.met.C.Elem.BitStore.width_law c.BITS-bits.ensures c.requires.window c.requires.edge (omega arith)
-
-pub shifted_differences-found-requires-clause-right_window : goal.shifted_differences-found-requires-clause-right_window
-shifted_differences-found-requires-clause-right_window g c = whole-window_from _ _ _ c.args.right_window _ g.met.C.Elem.BitStore.width_law c.BITS-bits.ensures c.requires.right_window (let lengths = c.requires.lengths in omega arith)
-
-pub shifted_differences-found-requires-clause-some : goal.shifted_differences-found-requires-clause-some
-shifted_differences-found-requires-clause-some g c = rw c.BITS-bits.ensures c.requires.phase
-
-pub shifted_differences-found-requires-clause-bound : goal.shifted_differences-found-requires-clause-bound
-shifted_differences-found-requires-clause-bound g c =
+pub overflow_mul-count : goal.overflow_mul-count
+overflow_mul-count g c =
     let b = g.C.Elem.BitStore.BITS in
-    let some = width_some _ g.met.C.Elem.BitStore.width_law in
-    rw c.BITS-bits.ensures (mod_below c.args.right_window.start b some)
+    let fits = whole_fits b c.args.left_window.len (c.args.left_window.len / b) (omega arith) in
+    rw (c.whole_elements-first.ensures, c.BITS-bits.ensures) (omega arith)
 
-pub shifted_differences-found-requires-clause-carry : goal.shifted_differences-found-requires-clause-carry
-shifted_differences-found-requires-clause-carry g c = rw c.BITS-bits.ensures c.requires.carry
+pub after-requires-clause-bound : goal.after-requires-clause-bound
+after-requires-clause-bound g c =
+    let b = g.C.Elem.BitStore.BITS in
+    let lengths = c.requires.span.lengths in
+    let fits = whole_fits b c.args.left_window.len (c.args.left_window.len / b) (omega arith) in
+    rw (c.whole_elements-first.ensures, c.BITS-bits.ensures) (omega arith)
 
-pub overflow_add-first : goal.overflow_add-first
-overflow_add-first g c =
-    let below = tail-word _ _ _ c.args.left_window c.args.left_window.len g.met.C.Elem.BitStore.width_law c.BITS-bits.ensures c.requires.window (omega arith) (let left = c.if-left_window-bits-eq0.false in omega arith) in
-    omega arith
+pub shifted_differences-found-requires : goal.shifted_differences-found-requires
+shifted_differences-found-requires g c = rw (c.whole_elements-first.ensures, c.BITS-bits.ensures) (whole-shifted _ _ _ _ _ _ g.met.C.Elem.BitStore.width_law c.requires)
 
-pub equal_shifted_tail-requires-clause-element : goal.equal_shifted_tail-requires-clause-element
-equal_shifted_tail-requires-clause-element g c =
-    rw c.shifted_differences-found.ensures.reads.numbers (tail-inside _ _ _ c.args.left_window _ g.met.C.Elem.BitStore.width_law c.BITS-bits.ensures c.requires.window (omega arith) (let left = c.if-left_window-bits-eq0.false in omega arith))
+pub equal_shifted_tail-requires-clause-beside : goal.equal_shifted_tail-requires-clause-beside
+equal_shifted_tail-requires-clause-beside g c =
+    let left = rw (c.tail_part-tail.ensures, c.BITS-bits.ensures) at c.if-tail-eq0.false in
+    rw (c.after.ensures, c.tail_part-tail.ensures, c.whole_elements-first.ensures, c.BITS-bits.ensures, c.shifted_differences-found.ensures.reads.numbers, c.shifted_differences-found.ensures.right.numbers)
+    (tail-beside _ _ _ _ _ g.met.C.Elem.BitStore.width_law c.requires.span (omega arith))
 
 pub equal_shifted_tail-requires-clause-carry : goal.equal_shifted_tail-requires-clause-carry
 equal_shifted_tail-requires-clause-carry g c =
     let b = g.C.Elem.BitStore.BITS in
     let some = width_some _ g.met.C.Elem.BitStore.width_law in
-    rw (c.after.ensures, c.BITS-bits.ensures, c.shifted_differences-found.ensures.right.numbers, behind-element b c.args.right_window.start (c.args.left_window.len / b) some) (rw c.BITS-bits.ensures at c.shifted_differences-found.ensures.carried)
+    rw (c.after.ensures, c.whole_elements-first.ensures, c.BITS-bits.ensures, c.shifted_differences-found.ensures.right.numbers, behind-element b c.args.right_window.start (c.args.left_window.len / b) some)
+    (rw (c.whole_elements-first.ensures, c.BITS-bits.ensures) at c.shifted_differences-found.ensures.carried)
 
 pub returns-then-not-is_zero-clause-value : goal.returns-then-not-is_zero-clause-value
 returns-then-not-is_zero-clause-value g c =
     let b = g.C.Elem.BitStore.BITS in
     let all = div-add-mod' c.args.left_window.len b in
-    let lengths = c.requires.lengths in
+    let lengths = c.requires.span.lengths in
     let whole : c.args.right_window.len ≡ c.args.left_window.len / b * b + c.args.left_window.len % b = omega arith in
-    let told = rw c.BITS-bits.ensures at c.shifted_differences-found.ensures.value in
+    let told = rw (c.whole_elements-first.ensures, c.BITS-bits.ensures) at c.shifted_differences-found.ensures.value in
     same-apart _ _ _ _ _ _
-    (long-whole_from _ _ _ _ _ _ c.requires.window c.requires.right_window c.requires.edge c.requires.lengths)
-    (list-tail _ _ _ _ _ c.requires.window c.requires.edge refl)
-    (list-rest _ _ _ _ _ _ c.requires.right_window whole)
+    (long-whole_from _ _ _ _ _ _ c.requires.span.window c.requires.span.beside c.requires.edge c.requires.span.lengths)
+    (list-tail _ _ _ _ _ c.requires.span.window c.requires.edge refl)
+    (list-rest _ _ _ _ _ _ c.requires.span.beside whole)
     (sym c.if-not-is_zero.true ∙ c.is_zero.ensures ∙ told)
 
 pub returns-then-not-is_zero-clause-reads : goal.returns-then-not-is_zero-clause-reads
@@ -75,62 +72,80 @@ returns-then-not-is_zero-clause-reads g c =
     let b = g.C.Elem.BitStore.BITS in
     let n = c.args.left_window.len in
     let all = touched-after b c.args.left_window.start n (n / b) (width_some _ g.met.C.Elem.BitStore.width_law) c.requires.edge (whole_fits b n (n / b) (omega arith)) in
-    let reads = rw c.BITS-bits.ensures at c.shifted_differences-found.ensures.reads in
+    let reads = rw (c.whole_elements-first.ensures, c.BITS-bits.ensures) at c.shifted_differences-found.ensures.reads in
     record { numbers = search rules; borrow = search rules; loads = omega arith; stores = search rules }
 
 pub returns-then-not-is_zero-clause-right : goal.returns-then-not-is_zero-clause-right
 returns-then-not-is_zero-clause-right g c =
     let b = g.C.Elem.BitStore.BITS in
     let n = c.args.right_window.len in
-    let all = touched-behind_from b c.args.right_window.start n (n / b) (width_some _ g.met.C.Elem.BitStore.width_law) c.requires.phase (whole_fits b n (n / b) (omega arith)) in
-    let reads = rw (c.BITS-bits.ensures, c.requires.lengths) at c.shifted_differences-found.ensures.right in
+    let all = touched-behind_from b c.args.right_window.start n (n / b) (width_some _ g.met.C.Elem.BitStore.width_law) c.requires.inside (whole_fits b n (n / b) (omega arith)) in
+    let reads = rw (c.whole_elements-first.ensures, c.BITS-bits.ensures, c.requires.span.lengths) at c.shifted_differences-found.ensures.right in
     record { numbers = search rules; borrow = search rules; loads = omega arith; stores = search rules }
 
-pub returns-then-left_window-bits-eq0-clause-reads : goal.returns-then-left_window-bits-eq0-clause-reads
-returns-then-left_window-bits-eq0-clause-reads g c =
+pub returns-then-tail-eq0-clause-value : goal.returns-then-tail-eq0-clause-value
+returns-then-tail-eq0-clause-value g c =
+    let b = g.C.Elem.BitStore.BITS in
+    let xs = g.C.CellsRead.numbers c.args.left.now in
+    let ys = g.D.CellsRead.numbers c.args.right.now in
+    let full = rw (c.tail_part-tail.ensures, c.BITS-bits.ensures) at c.if-tail-eq0.true in
+    let parts = div-add-mod' c.args.left_window.len b in
+    let place = div-add-mod' c.args.left_window.start b in
+    let other_place = div-add-mod' c.args.right_window.start b in
+    let edge = c.requires.edge in
+    let lengths = c.requires.span.lengths in
+    let left : elements_window b (c.args.left_window.start / b) (c.args.left_window.len / b) ≡ c.args.left_window = window-same _ _ (omega arith) (omega arith) in
+    let right : elements_window_from b (c.args.right_window.start / b) (c.args.right_window.start % b) (c.args.left_window.len / b) ≡ c.args.right_window = window-same _ _ (omega arith) (omega arith) in
+    let told = rw (c.whole_elements-first.ensures, c.BITS-bits.ensures) at c.shifted_differences-found.ensures.value in
+    (sym c.if-not-is_zero.false ∙ c.is_zero.ensures ∙ told)
+    ∙ ap (λ (w : Window). same_sides b g.O.BitOrder.at xs ys w (elements_window_from b (c.args.right_window.start / b) (c.args.right_window.start % b) (c.args.left_window.len / b))) left
+    ∙ ap (same_sides b g.O.BitOrder.at xs ys c.args.left_window) right
+
+pub returns-then-tail-eq0-clause-reads : goal.returns-then-tail-eq0-clause-reads
+returns-then-tail-eq0-clause-reads g c =
     let b = g.C.Elem.BitStore.BITS in
     let n = c.args.left_window.len in
     let all = touched-after b c.args.left_window.start n (n / b) (width_some _ g.met.C.Elem.BitStore.width_law) c.requires.edge (whole_fits b n (n / b) (omega arith)) in
-    let reads = rw c.BITS-bits.ensures at c.shifted_differences-found.ensures.reads in
+    let reads = rw (c.whole_elements-first.ensures, c.BITS-bits.ensures) at c.shifted_differences-found.ensures.reads in
     record { numbers = search rules; borrow = search rules; loads = omega arith; stores = search rules }
 
-pub returns-then-left_window-bits-eq0-clause-right : goal.returns-then-left_window-bits-eq0-clause-right
-returns-then-left_window-bits-eq0-clause-right g c =
+pub returns-then-tail-eq0-clause-right : goal.returns-then-tail-eq0-clause-right
+returns-then-tail-eq0-clause-right g c =
     let b = g.C.Elem.BitStore.BITS in
     let n = c.args.right_window.len in
-    let all = touched-behind_from b c.args.right_window.start n (n / b) (width_some _ g.met.C.Elem.BitStore.width_law) c.requires.phase (whole_fits b n (n / b) (omega arith)) in
-    let reads = rw (c.BITS-bits.ensures, c.requires.lengths) at c.shifted_differences-found.ensures.right in
+    let all = touched-behind_from b c.args.right_window.start n (n / b) (width_some _ g.met.C.Elem.BitStore.width_law) c.requires.inside (whole_fits b n (n / b) (omega arith)) in
+    let reads = rw (c.whole_elements-first.ensures, c.BITS-bits.ensures, c.requires.span.lengths) at c.shifted_differences-found.ensures.right in
     record { numbers = search rules; borrow = search rules; loads = omega arith; stores = search rules }
 
 pub returns-clause-value : goal.returns-clause-value
 returns-clause-value g c =
     let b = g.C.Elem.BitStore.BITS in
     let all = div-add-mod' c.args.left_window.len b in
-    let lengths = c.requires.lengths in
+    let lengths = c.requires.span.lengths in
     let rest : c.args.right_window.len - c.args.left_window.len / b * b ≡ c.args.left_window.len % b = omega arith in
     let whole : c.args.right_window.len ≡ c.args.left_window.len / b * b + c.args.left_window.len % b = omega arith in
-    let told = rw c.BITS-bits.ensures at c.shifted_differences-found.ensures.value in
-    let tail = rw (c.after.ensures, c.BITS-bits.ensures, c.shifted_differences-found.ensures.reads.numbers, c.shifted_differences-found.ensures.right.numbers) at c.equal_shifted_tail.ensures.value in
+    let told = rw (c.whole_elements-first.ensures, c.BITS-bits.ensures) at c.shifted_differences-found.ensures.value in
+    let tail = rw (c.after.ensures, c.tail_part-tail.ensures, c.whole_elements-first.ensures, c.BITS-bits.ensures, c.shifted_differences-found.ensures.reads.numbers, c.shifted_differences-found.ensures.right.numbers) at c.equal_shifted_tail.ensures.value in
     rw rest at tail ∙ same-then _ _ _ _ _ _
-    (long-whole_from _ _ _ _ _ _ c.requires.window c.requires.right_window c.requires.edge c.requires.lengths)
-    (list-tail _ _ _ _ _ c.requires.window c.requires.edge refl)
-    (list-rest _ _ _ _ _ _ c.requires.right_window whole)
+    (long-whole_from _ _ _ _ _ _ c.requires.span.window c.requires.span.beside c.requires.edge c.requires.span.lengths)
+    (list-tail _ _ _ _ _ c.requires.span.window c.requires.edge refl)
+    (list-rest _ _ _ _ _ _ c.requires.span.beside whole)
     (sym c.if-not-is_zero.false ∙ c.is_zero.ensures ∙ told)
 
 pub returns-clause-reads : goal.returns-clause-reads
 returns-clause-reads g c =
-    let left = rw c.BITS-bits.ensures at c.if-left_window-bits-eq0.false in
+    let left = rw (c.tail_part-tail.ensures, c.BITS-bits.ensures) at c.if-tail-eq0.false in
     let all = touched-more g.C.Elem.BitStore.BITS c.args.left_window.start c.args.left_window.len (width_some _ g.met.C.Elem.BitStore.width_law) c.requires.edge (omega arith) in
-    let reads = rw c.BITS-bits.ensures at c.shifted_differences-found.ensures.reads in
+    let reads = rw (c.whole_elements-first.ensures, c.BITS-bits.ensures) at c.shifted_differences-found.ensures.reads in
     record { numbers = search rules; borrow = search rules; loads = omega arith; stores = search rules }
 
 pub returns-clause-right : goal.returns-clause-right
 returns-clause-right g c =
     let b = g.C.Elem.BitStore.BITS in
-    let left = rw (c.BITS-bits.ensures, c.requires.lengths) at c.if-left_window-bits-eq0.false in
+    let left = rw (c.tail_part-tail.ensures, c.BITS-bits.ensures, c.requires.span.lengths) at c.if-tail-eq0.false in
     let parts = div-add-mod' c.args.right_window.len b in
-    let all = touched-from_more b c.args.right_window.start c.args.right_window.len (width_some _ g.met.C.Elem.BitStore.width_law) c.requires.phase (omega arith) in
-    let reads = rw (c.BITS-bits.ensures, c.requires.lengths) at c.shifted_differences-found.ensures.right in
+    let all = touched-from_more b c.args.right_window.start c.args.right_window.len (width_some _ g.met.C.Elem.BitStore.width_law) c.requires.inside (omega arith) in
+    let reads = rw (c.whole_elements-first.ensures, c.BITS-bits.ensures, c.requires.span.lengths) at c.shifted_differences-found.ensures.right in
     let rest : c.args.right_window.len - c.args.right_window.len / b * b ≡ c.args.right_window.len % b = omega arith in
-    let tail = rw (c.after.ensures, c.BITS-bits.ensures, c.requires.lengths, rest) at c.equal_shifted_tail.ensures.right in
+    let tail = rw (c.after.ensures, c.whole_elements-first.ensures, c.BITS-bits.ensures, c.requires.span.lengths, rest) at c.equal_shifted_tail.ensures.right in
     record { numbers = search rules; borrow = search rules; loads = omega arith; stores = search rules }

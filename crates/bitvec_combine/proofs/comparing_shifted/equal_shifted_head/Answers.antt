@@ -9,9 +9,9 @@ pub returns-clause-value : goal.returns-clause-value
 returns-clause-value g c =
     let front = element_bits g.C.Elem.BitStore.BITS g.O.BitOrder.at (g.C.Elem.BitStore.value c.field-front.result.0) in
     let long = length-element_bits g.C.Elem.BitStore.BITS g.O.BitOrder.at (g.C.Elem.BitStore.value c.field-front.result.0) in
-    let bound = c.requires.part.bound in
+    let bound = c.requires.beside.part.bound in
     let inside : c.args.part.to ≤ length front = omega arith in
     let same = rw (c.load-element.ensures.value, c.toward_end-moved.ensures) at c.same_between.ensures in
     same ∙ same-lists _ _ _ _
-    (sym (list-part _ _ _ _ c.requires.part))
+    (sym (list-part _ _ _ _ c.requires.beside.part))
     (range-shifted front c.args.part.from c.args.window.len c.args.part.to c.requires.lengths inside ∙ c.field-front.ensures.value)

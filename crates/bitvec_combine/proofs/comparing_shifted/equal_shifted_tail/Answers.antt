@@ -1,5 +1,4 @@
-use Rattle.std.proofs.Common.{sym, ◌∙◌, refl, arith}
-use Rattle.bitvec_move.specs.base.declared.part.Part.{Part}
+use Rattle.std.proofs.Common.{sym, ◌∙◌, refl}
 use Rattle.bitvec_move.specs.base.SliceLaws.{range-from_start}
 use Rattle.bitvec_move.specs.words.FieldLaws.{list-part}
 use Rattle.bitvec_move.specs.words.SameLaws.{same-lists}
@@ -7,8 +6,7 @@ use Rattle.bitvec_combine.proofs.comparing_shifted.equal_shifted_tail.Goals as g
 
 pub returns-clause-value : goal.returns-clause-value
 returns-clause-value g c =
-    let part : Part = record { element = c.args.element; from = 0; to = c.args.window.len } in
     let same = rw c.load-beginning.ensures.value at c.same_between.ensures in
     same ∙ same-lists _ _ _ _
-    (sym (list-part _ _ _ part (record { element = c.requires.element; order = omega arith; bound = c.requires.bound })))
+    (sym (list-part _ _ _ _ c.requires.beside.part))
     (range-from_start _ _ _ refl ∙ c.field_after-front.ensures.value)
