@@ -23,9 +23,7 @@ pub mod cells {
 
 /// What crates above name of `bitvec_move`.
 pub mod moves {
-    pub use bitvec_move::{
-        copy, copy_equal, copy_within, load_elements, reverse, store_elements, swap, swap_equal,
-    };
+    pub use bitvec_move::{copy, copy_equal, copy_within, reverse, swap, swap_equal};
 }
 
 /// What crates above name of `bitvec_store`.
@@ -44,8 +42,10 @@ pub mod walk {
 /// What crates above name of `bitvec_words`.
 pub mod words {
     pub use bitvec_move::words::{
-        BitOp, WORD_BITS, WordOrder, field, field_after, fill, invert, joined, load_field, merged,
-        moved, reversed, same_between, store_field, store_part, toward_end, toward_start,
+        BitOp, WORD_BITS, WordOrder, bits_load_front, bits_lowest_first, bits_scan_first,
+        bits_scan_last, count, count_zeros, field, field_after, fill, gathered, invert, joined,
+        load_elements, load_field, merged, moved, reversed, same_between, store_elements,
+        store_field, store_part, toward_end, toward_start, words_load_front, words_scan_first,
     };
 }
 

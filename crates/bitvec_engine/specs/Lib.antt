@@ -1,5 +1,6 @@
 pub mod Cited
-pub mod Front
+pub mod Pairs
+pub use Rattle.bitvec_combine.specs.words.Front as Front
 pub use Rattle.bitvec_combine.specs.base as base
 pub use Rattle.bitvec_combine.specs.cells as cells
 pub use Rattle.bitvec_combine.specs.moves as moves

@@ -3,6 +3,7 @@
 ghost use Rattle.std.specs.Prelude.{◌≡◌, false};
 ghost use Rattle.bitvec_combine.specs.base.Lists.{combined, same_bits};
 ghost use Rattle.bitvec_combine.specs.base.Memory.{HasWindow, Writes, list_in};
+ghost use Rattle.bitvec_combine.specs.base.Spans.{HasSpan};
 ghost use Rattle.bitvec_combine.specs.cells.Access.{CostsAtMost, OnlyReadsAtMost};
 ghost use Rattle.bitvec_combine.specs.walk.Cost.{edit_loads, equal_loads, read_loads, write_loads, write_stores};
 ghost use Rattle.bitvec_combine.specs.words.Operator.{operator};
@@ -27,9 +28,7 @@ pub fn elements_copy<O: BitOrder, C: Cells, D: CellsRead<Elem = C::Elem>>(
     right: &mut D,
     from: Window,
 )
-    requires window { HasWindow C.Elem.BITS (C.numbers left.old) to }
-    requires right_window { HasWindow C.Elem.BITS (D.numbers right.old) from }
-    requires lengths { to.len ≡ from.len }
+    requires { HasSpan C.Elem.BITS (C.numbers left.old) (D.numbers right.old) to from }
     ensures writes { Writes C.Elem.BITS O.at (C.numbers left.old) (C.numbers left.new) to
         (list_in C.Elem.BITS O.at (D.numbers right.old) from) }
     ensures cost { CostsAtMost C.CellsRead left.old left.new (write_loads C.Elem.BITS false to.len) (write_stores C.Elem.BITS false to.len) }
@@ -52,9 +51,7 @@ pub fn elements_swap<O: BitOrder, C: Cells, D: Cells + CellsRead<Elem = C::Elem>
     right: &mut D,
     right_window: Window,
 )
-    requires window { HasWindow C.Elem.BITS (C.numbers left.old) left_window }
-    requires right_window { HasWindow C.Elem.BITS (D.numbers right.old) right_window }
-    requires lengths { left_window.len ≡ right_window.len }
+    requires { HasSpan C.Elem.BITS (C.numbers left.old) (D.numbers right.old) left_window right_window }
     ensures writes { Writes C.Elem.BITS O.at (C.numbers left.old) (C.numbers left.new) left_window
         (list_in C.Elem.BITS O.at (D.numbers right.old) right_window) }
     ensures cost { CostsAtMost C.CellsRead left.old left.new (edit_loads C.Elem.BITS false left_window.len) (write_stores C.Elem.BITS false left_window.len) }

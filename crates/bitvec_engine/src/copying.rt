@@ -1,7 +1,7 @@
 //! Bits copied from one window to another.
-ghost use Rattle.std.specs.Prelude.{◌≡◌};
-ghost use Rattle.bitvec_combine.specs.base.Memory.{HasWindow, Writes, list_in};
+ghost use Rattle.bitvec_combine.specs.base.Memory.{Writes, list_in};
 ghost use Rattle.bitvec_combine.specs.cells.Access.{Costs, OnlyReads};
+ghost use Rattle.bitvec_engine.specs.Pairs.{HasPair};
 
 use bitvec_combine::base::{BitOrder, Window};
 use bitvec_combine::cells::{Cells, CellsRead};
@@ -17,9 +17,7 @@ pub fn bits_copy<O: BitOrder, P: BitOrder, C: Cells, D: CellsRead>(
     right: &mut D,
     from: Window,
 )
-    requires window { HasWindow C.Elem.BITS (C.numbers left.old) to }
-    requires right_window { HasWindow D.Elem.BITS (D.numbers right.old) from }
-    requires lengths { to.len ≡ from.len }
+    requires { HasPair C.Elem.BITS (C.numbers left.old) to D.Elem.BITS (D.numbers right.old) from }
     ensures writes { Writes C.Elem.BITS O.at (C.numbers left.old) (C.numbers left.new) to
         (list_in D.Elem.BITS P.at (D.numbers right.old) from) }
     ensures cost { Costs C.CellsRead left.old left.new to.len to.len }

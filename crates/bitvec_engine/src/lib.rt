@@ -7,8 +7,6 @@ mod combining;
 mod comparing;
 mod copying;
 mod copying_within;
-mod counting;
-mod fronts;
 mod hi_lo;
 mod lsb0;
 mod msb0;
@@ -16,7 +14,6 @@ mod needles;
 mod reversing;
 mod rotating;
 mod scanning;
-mod scanning_words;
 mod shifting;
 mod slice_order;
 mod swapping;
@@ -45,9 +42,10 @@ pub mod comparisons {
     pub use bitvec_combine::equal;
 }
 
-/// The copies of `bitvec_move` that crates above name.
+/// The copies of `bitvec_move`, and words of elements, that crates above name.
 pub mod copy {
-    pub use bitvec_combine::moves::{copy, copy_within, load_elements, store_elements};
+    pub use bitvec_combine::moves::{copy, copy_within};
+    pub use bitvec_combine::words::{load_elements, store_elements};
 }
 
 /// The exchanges of `bitvec_move` that crates above name.
@@ -78,18 +76,19 @@ pub mod words {
 
 pub use bit_needles::{bits_contains, bits_ends_with, bits_starts_with};
 pub use bitvec_combine::walk::{get_bit, replace_bit, swap_bits};
-pub use bitvec_combine::words::{BitOp, fill, invert};
+pub use bitvec_combine::words::{
+    BitOp, bits_load_front, bits_lowest_first, bits_scan_first, bits_scan_last, count, count_zeros,
+    fill, gathered, invert,
+};
 pub use by_elements::{elements_copy, elements_eq, elements_op, elements_swap};
 pub use combining::bits_op;
 pub use comparing::{bits_eq, compare};
 pub use copying::bits_copy;
 pub use copying_within::bits_copy_within;
-pub use counting::{count, count_zeros};
-pub use fronts::{bits_load_front, bits_lowest_first, gathered};
 pub use needles::{contains, ends_with, starts_with};
 pub use reversing::{bits_reverse, reverse};
 pub use rotating::{rotate_left, rotate_right};
-pub use scanning::{all, any, bits_scan_first, bits_scan_last};
+pub use scanning::{all, any};
 pub use shifting::{shift_end, shift_start};
 pub use slice_order::{ByWords, SliceOrder};
 pub use swapping::bits_swap;

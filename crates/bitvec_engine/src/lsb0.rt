@@ -4,13 +4,11 @@
 
 ghost use Rattle.std.specs.Prelude.{refl, true};
 
-use crate::fronts::words_load_front;
-use crate::scanning_words::words_scan_first;
 use crate::slice_order::{ByWords, SliceOrder};
 use bitvec_combine::base::{Lsb0, Window};
 use bitvec_combine::cells::{Cells, CellsRead};
 use bitvec_combine::moves::{copy, copy_within, reverse, swap};
-use bitvec_combine::words::BitOp;
+use bitvec_combine::words::{BitOp, words_load_front, words_scan_first};
 use bitvec_combine::{combine, equal};
 
 impl SliceOrder for Lsb0 {

@@ -2,17 +2,18 @@
 ghost use Rattle.std.specs.Prelude.{◌≡◌, ◌-◌, ◌<◌, Bool, reverse, true};
 ghost use Rattle.bitvec_combine.specs.base.Lists.{FitsWithin, combined, copied_within, first_place, last_place, same_bits};
 ghost use Rattle.bitvec_combine.specs.base.Memory.{Edits, HasWindow, Writes, element_bits, list_in};
+ghost use Rattle.bitvec_combine.specs.base.Spans.{HasSpan};
 ghost use Rattle.bitvec_combine.specs.cells.Access.{CostsAtMost, OnlyReads, OnlyReadsAtMost};
-ghost use Rattle.bitvec_engine.specs.Front.{IsFront};
+ghost use Rattle.bitvec_combine.specs.words.Front.{IsFront};
 ghost use Rattle.bitvec_combine.specs.words.Operator.{operator};
 ghost use Rattle.bitvec_combine.specs.walk.Cost.{edit_loads, equal_loads, first_loads, last_loads, read_loads, reverse_loads, reverse_stores, touched_count, write_loads, write_stores};
 
-use crate::fronts::{bits_load_front, bits_lowest_first};
-use crate::scanning::{bits_scan_first, bits_scan_last};
 use bitvec_combine::base::{BitOrder, Window};
 use bitvec_combine::cells::{Cells, CellsRead};
 use bitvec_combine::store::BitStore;
-use bitvec_combine::words::BitOp;
+use bitvec_combine::words::{
+    BitOp, bits_load_front, bits_lowest_first, bits_scan_first, bits_scan_last,
+};
 
 /// A bit order with its way of working on whole windows.
 ///
@@ -47,9 +48,7 @@ pub trait SliceOrder: BitOrder {
         right: &mut D,
         from: Window,
     )
-        requires window { HasWindow C.Elem.BITS (C.numbers left.old) to }
-        requires right_window { HasWindow C.Elem.BITS (D.numbers right.old) from }
-        requires lengths { to.len ≡ from.len }
+        requires { HasSpan C.Elem.BITS (C.numbers left.old) (D.numbers right.old) to from }
         ensures writes { Writes C.Elem.BITS Self.at (C.numbers left.old) (C.numbers left.new) to
             (list_in C.Elem.BITS Self.at (D.numbers right.old) from) }
         ensures cost { CostsAtMost C.CellsRead left.old left.new (write_loads C.Elem.BITS WORDS to.len) (write_stores C.Elem.BITS WORDS to.len) }
@@ -62,9 +61,7 @@ pub trait SliceOrder: BitOrder {
         right: &mut D,
         right_window: Window,
     )
-        requires window { HasWindow C.Elem.BITS (C.numbers left.old) left_window }
-        requires right_window { HasWindow C.Elem.BITS (D.numbers right.old) right_window }
-        requires lengths { left_window.len ≡ right_window.len }
+        requires { HasSpan C.Elem.BITS (C.numbers left.old) (D.numbers right.old) left_window right_window }
         ensures writes { Writes C.Elem.BITS Self.at (C.numbers left.old) (C.numbers left.new) left_window
             (list_in C.Elem.BITS Self.at (D.numbers right.old) right_window) }
         ensures cost { CostsAtMost C.CellsRead left.old left.new (edit_loads C.Elem.BITS WORDS left_window.len) (write_stores C.Elem.BITS WORDS left_window.len) }

@@ -1,7 +1,8 @@
 //! The bits of two windows, exchanged.
-ghost use Rattle.std.specs.Prelude.{◌≡◌, ◌*◌};
-ghost use Rattle.bitvec_combine.specs.base.Memory.{HasWindow, Writes, list_in};
+ghost use Rattle.std.specs.Prelude.{◌*◌};
+ghost use Rattle.bitvec_combine.specs.base.Memory.{Writes, list_in};
 ghost use Rattle.bitvec_combine.specs.cells.Access.{Costs};
+ghost use Rattle.bitvec_engine.specs.Pairs.{HasPair};
 
 use bitvec_combine::base::{BitOrder, Window};
 use bitvec_combine::cells::{Cells, CellsRead};
@@ -18,9 +19,7 @@ pub fn bits_swap<O: BitOrder, P: BitOrder, C: Cells, D: Cells>(
     right: &mut D,
     right_window: Window,
 )
-    requires window { HasWindow C.Elem.BITS (C.numbers left.old) left_window }
-    requires right_window { HasWindow D.Elem.BITS (D.numbers right.old) right_window }
-    requires lengths { left_window.len ≡ right_window.len }
+    requires { HasPair C.Elem.BITS (C.numbers left.old) left_window D.Elem.BITS (D.numbers right.old) right_window }
     ensures writes { Writes C.Elem.BITS O.at (C.numbers left.old) (C.numbers left.new) left_window
         (list_in D.Elem.BITS P.at (D.numbers right.old) right_window) }
     ensures cost { Costs C.CellsRead left.old left.new left_window.len left_window.len }

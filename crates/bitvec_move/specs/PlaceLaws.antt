@@ -1,5 +1,5 @@
 -- Where elements, parts and windows lie, as calls need it. A width comes as `w`, the number in the code, which is `b`.
-use Rattle.std.proofs.Common.{◌≡◌, ◌≢◌, ℕ, ◌+◌, ◌-◌, ◌*◌, ◌/◌, ◌%◌, ◌^◌, ◌<◌, ◌≤◌, min, List, length, refl, arith}
+use Rattle.std.proofs.Common.{◌≡◌, ◌≢◌, ℕ, ◌+◌, ◌-◌, ◌/◌, ◌%◌, ◌^◌, ◌<◌, ◌≤◌, min, List, length, refl, arith}
 use Rattle.std.proofs.Math.Nat.{mul-le-mul_left}
 use Rattle.std.proofs.lemmas.Nat.{div-add-mod', mod_below}
 use Rattle.bitvec_words.specs.base.declared.part.Part.{Part}
@@ -16,10 +16,7 @@ use Rattle.bitvec_words.specs.FieldLaws.{element_of}
 use Rattle.bitvec_words.specs.FieldWalkLaws.{HasPart-first}
 use Rattle.bitvec_words.specs.TouchedLaws.{head_edge}
 use Rattle.bitvec_move.specs.Moves.{HasPartSpan}
-use Rattle.bitvec_move.specs.WordLaws.{word_whole}
-
-pub width-some : (b w : ℕ) → IsWidth b → w ≡ b → 0 < w
-width-some b w width is = rw is (width_some b width)
+pub use Rattle.bitvec_words.specs.WordLaws.{fits-word, inside, inside-word, width-some}
 
 pub head-part : (b w : ℕ) (xs : List ℕ) (window : Window) (part : Part) → IsWidth b → w ≡ b → part ≡ first_part_of w window → 0 < window.len → HasWindow b xs window
     → HasPart b xs part
@@ -32,12 +29,6 @@ pub behind-edge : (b t : ℕ) (window rest : Window) → IsWidth b → rest ≡ 
 behind-edge b t window rest width made long left = rw made (head_edge b window.start t window.len (width_some b width) long left)
 
 -- ---- whole elements of a window, as many as n bits have, and what is behind them
-
-pub fits-word : (b e : ℕ) (xs : List ℕ) (window : Window) → IsWidth b → HasWindow b xs window → e ≤ length xs → e < 2 ^ 64
-fits-word b e xs window width has inside =
-    let fits = has.fits in
-    let most = mul-le-mul_left (length xs) (width_some b width) in
-    omega arith
 
 pub whole-window : (b w : ℕ) (xs : List ℕ) (window : Window) (n : ℕ) → IsWidth b → w ≡ b → HasWindow b xs window → window.start % b ≡ 0 → n ≤ window.len
     → HasWindow b xs (elements_window b (window.start / w) (n / w))
@@ -118,20 +109,6 @@ tail-word b w xs window n width is has short left =
 
 -- ---- an element of a window of whole elements, and the next one where the window begins inside an element
 
-pub inside : (b : ℕ) (xs ys : List ℕ) (first count i : ℕ) → IsWidth b → HasWindow b xs (elements_window b first count) → i < count → length ys ≡ length xs
-    → first + i < length ys
-inside b xs ys first count i width has more same =
-    let start = has.within.start in
-    let len = has.within.len in
-    let order = mul-le-mul_left b more in
-    let some = width_some b width in
-    rw same (element_of b (first + i) 0 (length xs) (omega arith))
-
-pub inside-word : (b : ℕ) (xs : List ℕ) (first count i : ℕ) → IsWidth b → HasWindow b xs (elements_window b first count) → i < count → first + i < 2 ^ 64
-inside-word b xs first count i width has more =
-    let here = inside b xs xs first count i width has more refl in
-    fits-word b (first + i) xs (elements_window b first count) width has (omega arith)
-
 pub next-inside : (b : ℕ) (xs ys : List ℕ) (first skip count i : ℕ) → HasWindow b xs (elements_window_from b first skip count) → 0 < skip → i < count → length ys ≡ length xs
     → first + i + 1 < length ys
 next-inside b xs ys first skip count i has some more same =
@@ -157,10 +134,3 @@ pub from-word : (b : ℕ) (xs : List ℕ) (first skip count i : ℕ) → IsWidth
 from-word b xs first skip count i width has some most =
     let here = from-inside b xs xs first skip count i has some most refl in
     fits-word b (first + i) xs (elements_window_from b first skip count) width has (omega arith)
-
--- an element in a word
-pub word-place : (b w i : ℕ) → IsWidth b → w ≡ b → b ≤ 64 → i < 64 / w → i * w + w ≤ 64
-word-place b w i width is narrow more =
-    let whole = word_whole b width narrow in
-    let order = mul-le-mul_left b (rw is at more) in
-    rw is (omega arith)

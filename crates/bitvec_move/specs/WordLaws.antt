@@ -1,5 +1,6 @@
 -- Words of 64 bits of a memory of elements of b bits.
-use Rattle.std.specs.Prelude.{◌≡◌, ℕ, ◌+◌, ◌-◌, ◌*◌, ◌/◌, ◌<◌, ◌≤◌, true, Bool, false, List, [], ◌++◌, length, take, drop, replicate, slice_index, slice_range, refl}
+pub use Rattle.bitvec_words.specs.WordLaws.{padded-all, take-all, word_whole}
+use Rattle.std.specs.Prelude.{◌≡◌, ℕ, ◌+◌, ◌-◌, ◌*◌, ◌/◌, ◌<◌, ◌≤◌, true, Bool, false, List, ◌++◌, length, take, drop, replicate, slice_index, slice_range}
 use Rattle.std.proofs.Common.{arith, rules, sym, ◌∙◌, ap}
 use Rattle.std.proofs.lemmas.List.{same_lists, places}
 use Rattle.std.proofs.lemmas.Nat.{le-div}
@@ -8,22 +9,14 @@ use Rattle.bitvec_words.specs.base.declared.window.Window.{Window}
 use Rattle.bitvec_words.specs.base.Lists.{shifted_end}
 use Rattle.bitvec_words.specs.base.Memory.{HasWindow, Writes, element_bits, list_in, memory_bits}
 use Rattle.bitvec_words.specs.base.MemoryLaws.{element-range, length-memory_bits}
-use Rattle.bitvec_words.specs.base.SliceLaws.{range-none}
 use Rattle.bitvec_words.specs.base.Window.{window_of, write_at}
 use Rattle.bitvec_words.specs.base.WindowLaws.{part-written}
-use Rattle.bitvec_words.specs.base.WritesLaws.{Writes-empty, Writes-is, length-list, within-list}
-use Rattle.bitvec_words.specs.store.Width.{IsWidth}
-use Rattle.bitvec_words.specs.store.WidthLaws.{at_each_width}
+use Rattle.bitvec_words.specs.base.WritesLaws.{Writes-is, length-list, within-list}
 use Rattle.bitvec_words.specs.walk.Cost.{reverse_loads, reverse_stores, step_span, work_steps}
 use Rattle.bitvec_words.specs.walk.WalkLaws.{div-order}
 use Rattle.bitvec_words.specs.Elements.{elements_window}
-use Rattle.bitvec_words.specs.Field.{padded}
 
 -- ---- numbers
-
--- a word is whole elements that are not wider
-pub word_whole : (b : ℕ) → IsWidth b → b ≤ 64 → 64 / b * b ≡ 64
-word_whole b w = at_each_width (λ n. n ≤ 64 → 64 / n * n ≡ 64) (λ _. refl) (λ _. refl) (λ _. refl) (λ _. refl) (λ narrow. absurd (omega arith)) b w
 
 pub word_span : (b : ℕ) → 0 < b → 64 / b + 1 ≤ step_span b true
 unfolding step_span
@@ -72,19 +65,6 @@ words-enough b m n some narrow fewer =
 
 -- ---- lists
 
-pub padded-all : (b : ℕ) (list : List Bool) → length list ≡ b → padded b list ≡ list
-unfolding padded
-padded-all b list long = same_lists _ _ (search (rules, places)) (λ k d inside. grind (arith, places))
-
-pub take-all : (list : List Bool) (n : ℕ) → length list ≤ n → take n list ≡ list
-take-all list n long = same_lists _ _ (search (rules, places)) (λ k d inside. grind (arith, places))
-
--- the values of an element, behind those of the elements before it
-pub word-part : (word : List Bool) (b n e : ℕ) → n + b ≤ length word → e ≡ n + b
-    → take n word ++ write_at (replicate b false) 0 (slice_range word n (n + b)) ≡ take e word
-unfolding write_at
-word-part word b n e fits end = same_lists _ _ (search (rules, places)) (λ k d inside. grind (arith, places))
-
 -- 64 values from the index `skip` of an element on
 pub word-across : (list : List Bool) (a b skip : ℕ) → skip < b → b < 64 → a + 64 + b ≤ length list
     → drop skip (slice_range list a (a + 64)) ++ take skip (write_at (replicate 64 false) 0 (slice_range (slice_range list (a + 64) (a + 64 + b)) 0 (0 + b))) ≡ slice_range list (a + skip) (a + skip + 64)
@@ -127,22 +107,6 @@ first-values b at xs first count s some inside has below more =
     let long = length-memory_bits b at xs in
     first-range (memory_bits b at xs) (first * b) b (count * b) s (omega arith) more (omega arith)
     ∙ ap (take s) (element-range b at xs first inside)
-
-pub list-no_element : (b : ℕ) (at : ℕ → ℕ → ℕ) (xs : List ℕ) (first : ℕ) → list_in b at xs (elements_window b first 0) ≡ []
-unfolding window_of
-list-no_element b at xs first = range-none (memory_bits b at xs) (first * b) (first * b + 0 * b) (omega arith)
-
-none-taken : (list : List Bool) (n : ℕ) → n ≡ 0 → [] ≡ take n list
-none-taken list n none = rw none refl
-
-pub Writes-none_taken : (b : ℕ) (at : ℕ → ℕ → ℕ) (xs : List ℕ) (first count : ℕ) (list : List Bool)
-    → HasWindow b xs (elements_window b first count) → Writes b at xs xs (elements_window b first 0) (take (0 * b) list)
-Writes-none_taken b at xs first count list has =
-    let start = has.within.start in
-    let none : 0 * b ≡ 0 = omega arith in
-    Writes-is b at xs xs (elements_window b first 0) _ _
-    (Writes-empty b at xs xs (elements_window b first 0) (record { fits = has.fits; within = record { start = start; len = omega arith } }) none refl)
-    (none-taken list (0 * b) none)
 
 -- a write that leaves the first s bits of its window is one into the others
 pub Writes-behind : (b : ℕ) (at : ℕ → ℕ → ℕ) (old new : List ℕ) (window part : Window) (s : ℕ) (list : List Bool) → HasWindow b old window

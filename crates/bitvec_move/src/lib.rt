@@ -73,9 +73,11 @@ pub mod walk {
 /// What crates above name of `bitvec_words`.
 pub mod words {
     pub use bitvec_words::{
-        BitOp, Carried, Lanes, WORD_BITS, Whole, WordOrder, field, field_after, fill, invert,
-        joined, load_field, merged, moved, reversed, same_between, store_field, store_part,
-        toward_end, toward_start,
+        BitOp, Carried, Lanes, WORD_BITS, Whole, WordOrder, bits_load_front, bits_lowest_first,
+        bits_scan_first, bits_scan_last, count, count_zeros, field, field_after, fill, gathered,
+        invert, joined, load_elements, load_field, merged, moved, reversed, same_between,
+        store_elements, store_field, store_part, toward_end, toward_start, words_load_front,
+        words_scan_first,
     };
 }
 
@@ -85,4 +87,3 @@ pub use copying_within::copy_within;
 pub use reversing::reverse;
 pub use swapping::swap;
 pub use swapping_equal::swap_equal;
-pub use word_elements::{load_elements, store_elements};

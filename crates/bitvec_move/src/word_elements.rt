@@ -1,14 +1,16 @@
 //! Words of 64 bits of a memory.
-ghost use Rattle.std.specs.Prelude.{◌≡◌, ◌/◌, ◌<◌, ◌≤◌, true};
+ghost use Rattle.std.specs.Prelude.{◌≡◌, ℕ, ◌<◌, true};
 ghost use Rattle.bitvec_words.specs.base.Memory.{HasWindow, Writes, element_bits, list_in};
-ghost use Rattle.bitvec_words.specs.cells.Access.{Costs, CostsAtMost, OnlyReads, OnlyReadsAtMost};
+ghost use Rattle.bitvec_words.specs.cells.Access.{CostsAtMost, OnlyReadsAtMost};
 ghost use Rattle.bitvec_words.specs.walk.Cost.{step_span};
-ghost use Rattle.bitvec_words.specs.Elements.{elements_window};
 
 use bitvec_words::base::{Part, Window};
 use bitvec_words::cells::{Cells, CellsRead};
 use bitvec_words::store::BitStore;
-use bitvec_words::{WORD_BITS, WordOrder, joined, merged, moved, store_part, toward_end};
+use bitvec_words::{
+    WORD_BITS, WordOrder, joined, load_elements, merged, moved, store_elements, store_part,
+    toward_end,
+};
 
 /// The bits of a window of 64 bits as a word. Condition: the elements are narrower than a word, and
 /// the window lies in a memory of at most `MAX_BITS` bits. It loads each element that the window
@@ -29,25 +31,6 @@ pub(crate) fn load_word<O: WordOrder, C: CellsRead>(cells: &mut C, window: Windo
     let next = cells.load(first + WORD_BITS / bits);
     let behind = moved::<O, C::Elem, u64>(next, 0, bits, 0);
     joined::<O, u64>(word, behind, skip)
-}
-
-/// The bits of the elements of one word from the element `first` on. Condition: they are not wider than
-/// a word, and lie in a memory of at most `MAX_BITS` bits. It loads each of them once.
-#[inline(always)]
-pub fn load_elements<O: WordOrder, C: CellsRead>(cells: &mut C, first: usize) -> u64
-    requires window { HasWindow C.Elem.BITS (C.numbers cells.old) (elements_window C.Elem.BITS first (64 / C.Elem.BITS)) }
-    requires narrow { C.Elem.BITS ≤ 64 }
-    ensures value { element_bits 64 O.at result
-        ≡ list_in C.Elem.BITS O.at (C.numbers cells.old) (elements_window C.Elem.BITS first (64 / C.Elem.BITS)) }
-    ensures reads { OnlyReads C.CellsRead cells.old cells.new (64 / C.Elem.BITS) }
-{
-    let bits = C::Elem::BITS as usize;
-    let mut word = 0;
-    for step in 0..WORD_BITS / bits {
-        let element = cells.load(first + step);
-        word |= moved::<O, C::Elem, u64>(element, 0, bits, step * bits);
-    }
-    word
 }
 
 /// A window of 64 bits gets those of a word; all other bits of the memory stay. Condition: as of
@@ -77,21 +60,4 @@ pub(crate) fn store_word<O: WordOrder, C: Cells>(cells: &mut C, window: Window, 
     };
     let end = moved::<O, u64, C::Elem>(word, WORD_BITS - skip, skip, 0);
     store_part::<O, C>(cells, tail, end);
-}
-
-/// Stores the elements of one word from the element `first` on. Condition: as of
-/// [`load_elements`].
-#[inline(always)]
-pub fn store_elements<O: WordOrder, C: Cells>(cells: &mut C, first: usize, word: u64)
-    requires window { HasWindow C.Elem.BITS (C.numbers cells.old) (elements_window C.Elem.BITS first (64 / C.Elem.BITS)) }
-    requires narrow { C.Elem.BITS ≤ 64 }
-    ensures writes { Writes C.Elem.BITS O.at (C.numbers cells.old) (C.numbers cells.new) (elements_window C.Elem.BITS first (64 / C.Elem.BITS))
-        (element_bits 64 O.at word) }
-    ensures cost { Costs C.CellsRead cells.old cells.new 0 (64 / C.Elem.BITS) }
-{
-    let bits = C::Elem::BITS as usize;
-    for step in 0..WORD_BITS / bits {
-        let element = moved::<O, u64, C::Elem>(word, step * bits, bits, 0);
-        cells.store(first + step, element);
-    }
 }

@@ -4,3 +4,4 @@ pub mod PlainLaws
 pub mod Segments
 pub mod SegmentsLaws
 pub mod StoreLaws
+pub mod Windows

@@ -3,6 +3,7 @@ ghost use Rattle.std.specs.Prelude.{◌≡◌, ◌+◌, ◌-◌, ◌*◌, ◌/�
 ghost use Rattle.bitvec_words.specs.base.Memory.{HasWindow, element_bits, list_in};
 ghost use Rattle.bitvec_words.specs.cells.Access.{OnlyReads};
 ghost use Rattle.bitvec_segments.specs.Segments.{segment_number};
+ghost use Rattle.bitvec_segments.specs.Windows.{FitsWord, HasHalves};
 ghost use Rattle.bitvec_words.specs.walk.Cost.{touched_count};
 ghost use Rattle.bitvec_words.specs.Elements.{elements_window};
 ghost use Rattle.bitvec_words.specs.Field.{lowest_bit};
@@ -18,9 +19,7 @@ use bitvec_words::{WORD_BITS, WordOrder};
 #[inline(always)]
 pub(crate) fn fits_word<T: BitStore>(window: Window) -> bool
     requires { window.len ≤ 128 }
-    ensures some { result ≡ true → 0 < window.len }
-    ensures narrow { result ≡ true → T.BITS ≤ 64 }
-    ensures fits { result ≡ true → window.start % T.BITS + window.len ≤ 64 }
+    ensures { result ≡ true → FitsWord T.BITS window }
 {
     T::BITS as usize <= WORD_BITS
         && window.len > 0
@@ -34,9 +33,7 @@ pub(crate) fn fits_word<T: BitStore>(window: Window) -> bool
 #[inline(always)]
 pub(crate) fn joined_number<O: WordOrder, C: CellsRead>(cells: &mut C, window: Window) -> u64
     requires window { HasWindow C.Elem.BITS (C.numbers cells.old) window }
-    requires some { 0 < window.len }
-    requires narrow { C.Elem.BITS ≤ 64 }
-    requires fits { window.start % C.Elem.BITS + window.len ≤ 64 }
+    requires word { FitsWord C.Elem.BITS window }
     ensures value { result ≡ segment_number O.HIGH (list_in C.Elem.BITS O.at (C.numbers cells.old) window) }
     ensures reads { OnlyReads C.CellsRead cells.old cells.new (touched_count C.Elem.BITS window.start window.len) }
 {
@@ -60,9 +57,7 @@ pub(crate) fn joined_number<O: WordOrder, C: CellsRead>(cells: &mut C, window: W
 #[inline(always)]
 pub(crate) fn word_number<O: WordOrder, C: CellsRead>(cells: &mut C, window: Window) -> u64
     requires window { HasWindow C.Elem.BITS (C.numbers cells.old) window }
-    requires some { 0 < window.len }
-    requires narrow { C.Elem.BITS ≤ 64 }
-    requires fits { window.start % C.Elem.BITS + window.len ≤ 64 }
+    requires word { FitsWord C.Elem.BITS window }
     ensures value { result ≡ segment_number O.HIGH (list_in C.Elem.BITS O.at (C.numbers cells.old) window) }
     ensures reads { OnlyReads C.CellsRead cells.old cells.new (touched_count C.Elem.BITS window.start window.len) }
 {
@@ -77,11 +72,7 @@ pub(crate) fn word_number<O: WordOrder, C: CellsRead>(cells: &mut C, window: Win
 #[inline(always)]
 fn halves_number<O: WordOrder, C: CellsRead>(cells: &mut C, window: Window, half: usize) -> u64
     requires window { HasWindow C.Elem.BITS (C.numbers cells.old) window }
-    requires some { 0 < half }
-    requires bound { half ≤ 32 }
-    requires edge { window.start % C.Elem.BITS ≡ 0 }
-    requires whole { half % C.Elem.BITS ≡ 0 }
-    requires len { window.len ≡ half + half }
+    requires halves { HasHalves C.Elem.BITS half window }
     ensures value { result ≡ segment_number O.HIGH (list_in C.Elem.BITS O.at (C.numbers cells.old) window) }
     ensures reads { OnlyReads C.CellsRead cells.old cells.new (touched_count C.Elem.BITS window.start window.len) }
 {

@@ -1,8 +1,7 @@
 //! The number of the bits of a window.
 ghost use Rattle.std.specs.Prelude.{◌≡◌, ◌<◌, ◌≤◌};
-ghost use Rattle.bitvec_words.specs.base.Memory.{HasWindow, list_in};
 ghost use Rattle.bitvec_words.specs.cells.Access.{OnlyReads};
-ghost use Rattle.bitvec_segments.specs.Segments.{loaded};
+ghost use Rattle.bitvec_segments.specs.Windows.{HasNumber, loaded_in};
 ghost use Rattle.bitvec_words.specs.walk.Cost.{touched_count};
 
 use crate::endian::{Endian, lower_bits};
@@ -18,10 +17,8 @@ use bitvec_words::store::BitStore;
 /// loop where the window lies in one element or two.
 #[inline(always)]
 pub(crate) fn load<E: Endian, O: WordOrder, C: CellsRead>(cells: &mut C, window: Window) -> u128
-    requires window { HasWindow C.Elem.BITS (C.numbers cells.old) window }
-    requires bound { window.len ≤ 128 }
-    ensures value { result
-        ≡ loaded E.BIG O.HIGH C.Elem.BITS window.start (list_in C.Elem.BITS O.at (C.numbers cells.old) window) }
+    requires { HasNumber C.Elem.BITS (C.numbers cells.old) window }
+    ensures value { result ≡ loaded_in E.BIG O.HIGH C.Elem.BITS O.at (C.numbers cells.old) window }
     ensures reads { OnlyReads C.CellsRead cells.old cells.new (touched_count C.Elem.BITS window.start window.len) }
 {
     if E::BIG == O::HIGH && fits_word::<C::Elem>(window) {
@@ -32,10 +29,8 @@ pub(crate) fn load<E: Endian, O: WordOrder, C: CellsRead>(cells: &mut C, window:
 
 /// `load` of any window: straight where it lies in one element or two.
 fn load_parts<E: Endian, O: WordOrder, C: CellsRead>(cells: &mut C, window: Window) -> u128
-    requires window { HasWindow C.Elem.BITS (C.numbers cells.old) window }
-    requires bound { window.len ≤ 128 }
-    ensures value { result
-        ≡ loaded E.BIG O.HIGH C.Elem.BITS window.start (list_in C.Elem.BITS O.at (C.numbers cells.old) window) }
+    requires { HasNumber C.Elem.BITS (C.numbers cells.old) window }
+    ensures value { result ≡ loaded_in E.BIG O.HIGH C.Elem.BITS O.at (C.numbers cells.old) window }
     ensures reads { OnlyReads C.CellsRead cells.old cells.new (touched_count C.Elem.BITS window.start window.len) }
 {
     if window.len == 0 {
@@ -54,11 +49,9 @@ fn load_parts<E: Endian, O: WordOrder, C: CellsRead>(cells: &mut C, window: Wind
 
 /// `load` of a window that isn't empty: straight where the window lies in one element.
 fn load_few<E: Endian, O: WordOrder, C: CellsRead>(cells: &mut C, window: Window) -> u128
-    requires window { HasWindow C.Elem.BITS (C.numbers cells.old) window }
+    requires number { HasNumber C.Elem.BITS (C.numbers cells.old) window }
     requires some { 0 < window.len }
-    requires bound { window.len ≤ 128 }
-    ensures value { result
-        ≡ loaded E.BIG O.HIGH C.Elem.BITS window.start (list_in C.Elem.BITS O.at (C.numbers cells.old) window) }
+    ensures value { result ≡ loaded_in E.BIG O.HIGH C.Elem.BITS O.at (C.numbers cells.old) window }
     ensures reads { OnlyReads C.CellsRead cells.old cells.new (touched_count C.Elem.BITS window.start window.len) }
 {
     let part = first_part(C::Elem::BITS as usize, window);
@@ -71,10 +64,8 @@ fn load_few<E: Endian, O: WordOrder, C: CellsRead>(cells: &mut C, window: Window
 
 /// `load` of any window, a part of one element at a time.
 fn load_many<E: Endian, O: WordOrder, C: CellsRead>(cells: &mut C, window: Window) -> u128
-    requires window { HasWindow C.Elem.BITS (C.numbers cells.old) window }
-    requires bound { window.len ≤ 128 }
-    ensures value { result
-        ≡ loaded E.BIG O.HIGH C.Elem.BITS window.start (list_in C.Elem.BITS O.at (C.numbers cells.old) window) }
+    requires { HasNumber C.Elem.BITS (C.numbers cells.old) window }
+    ensures value { result ≡ loaded_in E.BIG O.HIGH C.Elem.BITS O.at (C.numbers cells.old) window }
     ensures reads { OnlyReads C.CellsRead cells.old cells.new (touched_count C.Elem.BITS window.start window.len) }
 {
     let bits = C::Elem::BITS as usize;

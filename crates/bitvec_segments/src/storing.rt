@@ -1,8 +1,7 @@
 //! A number put into the bits of a window.
 ghost use Rattle.std.specs.Prelude.{◌≡◌, ◌+◌, ◌*◌, ◌%◌, ◌<◌, ◌≤◌};
-ghost use Rattle.bitvec_words.specs.base.Memory.{Edits, HasWindow};
 ghost use Rattle.bitvec_words.specs.cells.Access.{CostsAtMost};
-ghost use Rattle.bitvec_segments.specs.Segments.{stored};
+ghost use Rattle.bitvec_segments.specs.Windows.{HasNumber, StoresIn};
 ghost use Rattle.bitvec_words.specs.walk.Cost.{fill_loads, touched_count};
 
 use crate::cutting::{edge_part, head_part, only_part, whole_part};
@@ -18,10 +17,8 @@ use bitvec_words::store::BitStore;
 /// window is too short. Condition: as of `load`. It stores each element that the window touches once,
 /// loads at most the first and the last, and takes no loop where the window lies in few elements.
 pub(crate) fn store<E: Endian, O: WordOrder, C: Cells>(cells: &mut C, window: Window, number: u128)
-    requires window { HasWindow C.Elem.BITS (C.numbers cells.old) window }
-    requires bound { window.len ≤ 128 }
-    ensures writes { Edits C.Elem.BITS O.at (C.numbers cells.old) (C.numbers cells.new) window
-        (stored E.BIG O.HIGH C.Elem.BITS window.start number) }
+    requires { HasNumber C.Elem.BITS (C.numbers cells.old) window }
+    ensures writes { StoresIn E.BIG O.HIGH C.Elem.BITS O.at (C.numbers cells.old) (C.numbers cells.new) window number }
     ensures cost { CostsAtMost C.CellsRead cells.old cells.new (fill_loads window.len) (touched_count C.Elem.BITS window.start window.len) }
 {
     if window.len == 0 {
@@ -51,12 +48,10 @@ pub(crate) fn store<E: Endian, O: WordOrder, C: Cells>(cells: &mut C, window: Wi
 
 /// `store` of a window that reaches past its first element: straight where it lies in three.
 fn store_parts<E: Endian, O: WordOrder, C: Cells>(cells: &mut C, window: Window, number: u128)
-    requires window { HasWindow C.Elem.BITS (C.numbers cells.old) window }
+    requires number { HasNumber C.Elem.BITS (C.numbers cells.old) window }
     requires some { 0 < window.len }
-    requires bound { window.len ≤ 128 }
     requires passes { C.Elem.BITS < window.start % C.Elem.BITS + window.len }
-    ensures writes { Edits C.Elem.BITS O.at (C.numbers cells.old) (C.numbers cells.new) window
-        (stored E.BIG O.HIGH C.Elem.BITS window.start number) }
+    ensures writes { StoresIn E.BIG O.HIGH C.Elem.BITS O.at (C.numbers cells.old) (C.numbers cells.new) window number }
     ensures cost { CostsAtMost C.CellsRead cells.old cells.new (fill_loads window.len) (touched_count C.Elem.BITS window.start window.len) }
 {
     let bits = C::Elem::BITS as usize;
@@ -80,13 +75,11 @@ fn store_few<E: Endian, O: WordOrder, C: Cells>(
     element: usize,
     number: u128,
 )
-    requires window { HasWindow C.Elem.BITS (C.numbers cells.old) window }
+    requires number { HasNumber C.Elem.BITS (C.numbers cells.old) window }
     requires some { 0 < window.len }
-    requires bound { window.len ≤ 128 }
     requires few { window.len ≤ 2 * C.Elem.BITS }
     requires edge { window.start ≡ element * C.Elem.BITS }
-    ensures writes { Edits C.Elem.BITS O.at (C.numbers cells.old) (C.numbers cells.new) window
-        (stored E.BIG O.HIGH C.Elem.BITS window.start number) }
+    ensures writes { StoresIn E.BIG O.HIGH C.Elem.BITS O.at (C.numbers cells.old) (C.numbers cells.new) window number }
     ensures cost { CostsAtMost C.CellsRead cells.old cells.new 1 (touched_count C.Elem.BITS window.start window.len) }
 {
     let bits = C::Elem::BITS as usize;
@@ -103,10 +96,8 @@ fn store_few<E: Endian, O: WordOrder, C: Cells>(
 
 /// `store` of any window, a part of one element at a time.
 fn store_many<E: Endian, O: WordOrder, C: Cells>(cells: &mut C, window: Window, number: u128)
-    requires window { HasWindow C.Elem.BITS (C.numbers cells.old) window }
-    requires bound { window.len ≤ 128 }
-    ensures writes { Edits C.Elem.BITS O.at (C.numbers cells.old) (C.numbers cells.new) window
-        (stored E.BIG O.HIGH C.Elem.BITS window.start number) }
+    requires { HasNumber C.Elem.BITS (C.numbers cells.old) window }
+    ensures writes { StoresIn E.BIG O.HIGH C.Elem.BITS O.at (C.numbers cells.old) (C.numbers cells.new) window number }
     ensures cost { CostsAtMost C.CellsRead cells.old cells.new (fill_loads window.len) (touched_count C.Elem.BITS window.start window.len) }
 {
     let bits = C::Elem::BITS as usize;

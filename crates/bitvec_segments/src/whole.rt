@@ -1,8 +1,7 @@
 //! A number put into whole elements.
 ghost use Rattle.std.specs.Prelude.{◌≡◌, ◌%◌, ◌≤◌};
-ghost use Rattle.bitvec_words.specs.base.Memory.{Edits, HasWindow};
 ghost use Rattle.bitvec_words.specs.cells.Access.{CostsAtMost};
-ghost use Rattle.bitvec_segments.specs.Segments.{stored};
+ghost use Rattle.bitvec_segments.specs.Windows.{HasNumber, StoresIn};
 ghost use Rattle.bitvec_words.specs.walk.Cost.{fill_loads, touched_count};
 
 use crate::cutting::whole_part;
@@ -33,12 +32,10 @@ pub(crate) fn store_whole<E: Endian, O: WordOrder, C: Cells>(
     window: Window,
     number: u128,
 )
-    requires window { HasWindow C.Elem.BITS (C.numbers cells.old) window }
+    requires number { HasNumber C.Elem.BITS (C.numbers cells.old) window }
     requires edge { window.start % C.Elem.BITS ≡ 0 }
     requires whole { window.len % C.Elem.BITS ≡ 0 }
-    requires bound { window.len ≤ 128 }
-    ensures writes { Edits C.Elem.BITS O.at (C.numbers cells.old) (C.numbers cells.new) window
-        (stored E.BIG O.HIGH C.Elem.BITS window.start number) }
+    ensures writes { StoresIn E.BIG O.HIGH C.Elem.BITS O.at (C.numbers cells.old) (C.numbers cells.new) window number }
     ensures cost { CostsAtMost C.CellsRead cells.old cells.new (fill_loads window.len) (touched_count C.Elem.BITS window.start window.len) }
 {
     let bits = C::Elem::BITS as usize;

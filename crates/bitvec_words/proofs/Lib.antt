@@ -1,2 +1,6 @@
+pub mod CountLemmas
+pub mod FrontLemmas
 pub mod LaneLemmas
+pub mod ScanLemmas
 pub mod TurnLemmas
+pub mod WordScanLemmas

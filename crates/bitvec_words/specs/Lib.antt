@@ -6,6 +6,8 @@ pub mod Field
 pub mod FieldLaws
 pub mod FieldWalkLaws
 pub mod FillingLaws
+pub mod Front
+pub mod FrontLaws
 pub mod Lanes
 pub mod MovedLaws
 pub mod Operator
@@ -17,6 +19,7 @@ pub mod Spans
 pub mod TouchedLaws
 pub mod Turn
 pub mod WholeLaws
+pub mod WordLaws
 pub mod walk
 pub use Rattle.bitvec_cells.specs.base as base
 pub use Rattle.bitvec_cells.specs as cells

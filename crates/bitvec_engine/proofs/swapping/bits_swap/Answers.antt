@@ -7,7 +7,7 @@ pub loop-index-init : goal.loop-index-init
 loop-index-init g c = record {
   writes = transfer-none _ c.requires.window;
   cost = search rules;
-  right_writes = transfer-none _ c.requires.right_window;
+  right_writes = transfer-none _ c.requires.beside;
   right_cost = search rules;
 }
 
@@ -15,7 +15,7 @@ pub loop-index-preserved : goal.loop-index-preserved
 loop-index-preserved g c =
     let inv = c.loop-index.invariant in
     let window = c.requires.window in
-    let right_window = c.requires.right_window in
+    let right_window = c.requires.beside in
     let inside = c.loop-index-test.true in
     let long = length-list _ g.P.BitOrder.at _ _ right_window ∙ sym c.requires.lengths in
     let right_long = length-list _ g.O.BitOrder.at _ _ window ∙ c.requires.lengths in
@@ -30,8 +30,8 @@ loop-index-preserved g c =
 
 pub returns-clause-writes : goal.returns-clause-writes
 returns-clause-writes g c =
-    transfer-all c.requires.window (length-list _ _ _ _ c.requires.right_window ∙ sym c.requires.lengths) (omega arith) c.loop-index.invariant.writes
+    transfer-all c.requires.window (length-list _ _ _ _ c.requires.beside ∙ sym c.requires.lengths) (omega arith) c.loop-index.invariant.writes
 
 pub returns-clause-right_writes : goal.returns-clause-right_writes
 returns-clause-right_writes g c =
-    transfer-all c.requires.right_window (length-list _ _ _ _ c.requires.window ∙ c.requires.lengths) (omega arith) c.loop-index.invariant.right_writes
+    transfer-all c.requires.beside (length-list _ _ _ _ c.requires.window ∙ c.requires.lengths) (omega arith) c.loop-index.invariant.right_writes

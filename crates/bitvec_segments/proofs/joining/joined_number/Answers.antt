@@ -6,7 +6,7 @@ use Rattle.bitvec_segments.proofs.joining.joined_number.Goals as goal
 pub loop-width-init : goal.loop-width-init
 loop-width-init g c =
     let some = width_some _ g.met.C.Elem.BitStore.width_law in
-    let more = c.requires.some in
+    let more = c.requires.word.some in
     let word = c.element_number-word.ensures in
     record {
       some = omega arith;
@@ -58,5 +58,5 @@ pub returns-clause-reads : goal.returns-clause-reads
 returns-clause-reads g c =
     let inv = c.loop-width.invariant in
     let all = rw (c.BITS-bits.ensures, inv.width) at c.loop-width-test.false in
-    let count = touched-elements g.C.Elem.BitStore.BITS c.args.window.start c.args.window.len c.loop-width.count c.requires.some inv.some inv.last all in
+    let count = touched-elements g.C.Elem.BitStore.BITS c.args.window.start c.args.window.len c.loop-width.count c.requires.word.some inv.some inv.last all in
     rw count inv.reads

@@ -13,7 +13,7 @@ returns-then-len-window-clause-value g c =
     let part : c.first_part-part.result ≡ first_part_of g.C.Elem.BitStore.BITS window = c.first_part-part.ensures ∙ ap (λ (n : ℕ). first_part_of n window) c.BITS.ensures in
     let step = c.len.ensures ∙ ap (λ (p : Part). p.to - p.from) part in
     let all = c.if-len-window.true in
-    rw part at c.part_number.ensures.value ∙ number-only _ _ _ _ _ window _ some c.requires.some step c.requires.window (omega arith)
+    rw part at c.part_number.ensures.value ∙ number-only _ _ _ _ _ window _ some c.requires.some step c.requires.number.window (omega arith)
 
 pub returns-then-len-window-clause-reads : goal.returns-then-len-window-clause-reads
 returns-then-len-window-clause-reads g c =

@@ -16,7 +16,7 @@ returns-then-window-bits-clause-writes g c =
     let short = rw c.BITS-bits.ensures at c.if-window-bits.true in
     let part : c.edge_part.result ≡ first_part_of b window = c.edge_part.ensures ∙ ap (λ (n : ℕ). first_part_of n window) c.BITS-bits.ensures in
     let step = edge-len b c.args.element window some c.requires.edge in
-    stored-one _ _ _ _ _ window (min window.len b) _ some c.requires.some step c.requires.window _ (omega arith) (rw part at c.store_part_number.ensures.writes)
+    stored-one _ _ _ _ _ window (min window.len b) _ some c.requires.some step c.requires.number.window _ (omega arith) (rw part at c.store_part_number.ensures.writes)
 
 pub returns-then-window-bits-clause-cost : goal.returns-then-window-bits-clause-cost
 returns-then-window-bits-clause-cost g c =
@@ -44,13 +44,13 @@ returns-clause-writes g c =
     let step = whole ∙ edge-len b c.args.element window some edge in
     let part : c.whole_part.result ≡ first_part_of b window = c.whole_part.ensures ∙ ap (λ (n : ℕ). first_part_of n window) c.BITS-bits.ensures in
     let next : c.edge_part-2.result ≡ first_part_of b rest = rw after at c.edge_part-2.ensures ∙ ap (λ (n : ℕ). first_part_of n rest) c.BITS-bits.ensures in
-    let start = c.requires.window.within.start in
-    let end = c.requires.window.within.len in
-    let has : HasWindow b _ rest = record { fits = c.requires.window.fits; within = record { start = omega arith; len = omega arith } } in
+    let start = c.requires.number.window.within.start in
+    let end = c.requires.number.window.within.len in
+    let has : HasWindow b _ rest = record { fits = c.requires.number.window.fits; within = record { start = omega arith; len = omega arith } } in
     let first = rw (part, c.lower_bits.ensures.bits, after) at c.store_part_number-2.ensures.writes in
     let second = rw (next, c.lower_bits-2.ensures.bits, c.BITS-bits.ensures) at c.store_part_number-3.ensures.writes in
     let left = edge-len b (c.args.element + 1) rest some (omega arith) in
-    stored-joined _ _ _ _ _ window b c.args.number some c.requires.some step c.requires.window _ _ first
+    stored-joined _ _ _ _ _ window b c.args.number some c.requires.some step c.requires.number.window _ _ first
     (stored-one _ _ _ _ _ rest (min rest.len b) _ some (omega arith) left (HasWindow-kept _ _ _ rest has first.elements) _ (omega arith) second)
 
 pub returns-clause-cost : goal.returns-clause-cost

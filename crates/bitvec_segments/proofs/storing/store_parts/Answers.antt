@@ -18,7 +18,7 @@ returns-clause-writes g c =
     let step : head ≡ (first_part_of b window).to - (first_part_of b window).from = omega arith in
     let part : c.head_part.result ≡ first_part_of b window = c.head_part.ensures ∙ ap (λ (n : ℕ). first_part_of n window) c.BITS-bits.ensures in
     let after : c.after-rest.result ≡ window_after head window = c.after-rest.ensures ∙ ap (λ (n : ℕ). window_after (n - window.start % n) window) c.BITS-bits.ensures in
-    stored-joined _ _ _ _ _ window head c.args.number some more step c.requires.window _ _
+    stored-joined _ _ _ _ _ window head c.args.number some more step c.requires.number.window _ _
     (rw (part, c.lower_bits.ensures.bits, after) at c.store_part_number.ensures.writes) (rw (after, c.lower_bits-2.ensures.bits, c.BITS-bits.ensures) at c.store_few.ensures.writes)
 
 pub returns-clause-cost : goal.returns-clause-cost

@@ -22,7 +22,7 @@ loop-rest-init g c =
       edge = rw c.BITS-bits.ensures at_edge;
       whole = c.requires.whole;
       walk = Walked-start _ _;
-      writes = Writes-is _ _ _ _ _ _ _ (Writes-none_passed _ _ _ _ c.requires.window) (ap (λ (n : ℕ). take n target) (sym none));
+      writes = Writes-is _ _ _ _ _ _ _ (Writes-none_passed _ _ _ _ c.requires.number.window) (ap (λ (n : ℕ). take n target) (sym none));
       left = Left-start _ _ _ _ window _;
       cost = search rules;
     }
@@ -46,12 +46,12 @@ loop-rest-preserved g c =
       edge = omega arith;
       whole = whole-less b rest.len all inv.whole;
       walk = Walked-next _ _ _ _ some more step inv.walk;
-      writes = Writes-next _ _ _ _ _ window rest _ _ _ some more step c.requires.window inv.walk _ _ inv.writes inv.left stored.writes;
-      left = Left-next _ _ _ _ _ window rest _ _ _ some more step c.requires.window inv.walk inv.left;
+      writes = Writes-next _ _ _ _ _ window rest _ _ _ some more step c.requires.number.window inv.walk _ _ inv.writes inv.left stored.writes;
+      left = Left-next _ _ _ _ _ window rest _ _ _ some more step c.requires.number.window inv.walk inv.left;
       cost = record { borrow = search rules; loads = omega arith; stores = omega arith };
     })
 
 pub returns-clause-writes : goal.returns-clause-writes
 returns-clause-writes g c =
     let none = c.loop-rest-test.false in
-    Writes-all _ _ _ _ _ _ _ (omega arith) (length-stored _ _ _ _ _ _ ∙ length-list _ _ _ _ c.requires.window) c.loop-rest.invariant.walk c.loop-rest.invariant.writes
+    Writes-all _ _ _ _ _ _ _ (omega arith) (length-stored _ _ _ _ _ _ ∙ length-list _ _ _ _ c.requires.number.window) c.loop-rest.invariant.walk c.loop-rest.invariant.writes

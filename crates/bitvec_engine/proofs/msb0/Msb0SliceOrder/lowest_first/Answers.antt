@@ -1,4 +1,4 @@
-use Rattle.bitvec_engine.proofs.FrontLemmas.{reversed-lowest}
+use Rattle.bitvec_combine.specs.words.FrontLaws.{reversed-lowest}
 use Rattle.bitvec_engine.proofs.msb0.Msb0SliceOrder.lowest_first.Goals as goal
 
 pub returns : goal.returns

@@ -1,0 +1,129 @@
+-- The first bits of a window as a word: a whole word of elements, a part of one, and one bit after the other.
+use Rattle.std.specs.Prelude.{◌≡◌, ◌≢◌, ℕ, zero, suc, ◌+◌, ◌-◌, ◌*◌, ◌/◌, ◌%◌, ◌^◌, ◌<◌, ◌≤◌, ◌==◌, Bool, true, false, List, [], ◌∷◌, ◌++◌, length, replicate, slice_index, slice_range, bit_and, bit_or, refl}
+use Rattle.std.specs.Int.{bit_at}
+use Rattle.std.proofs.Common.{arith, rules, sym, ◌∙◌, ap}
+use Rattle.std.proofs.lemmas.List.{places, same_lists}
+use Rattle.std.proofs.lemmas.Nat.{div-add-mod', pow_pos}
+use Rattle.std.proofs.lemmas.Nat.Bits.{and_pow, bit_at-lt}
+use Rattle.bitvec_cells.specs.base.declared.window.Window.{Window}
+use Rattle.bitvec_cells.specs.base.Memory.{HasWindow, element_bits, list_in}
+use Rattle.bitvec_cells.specs.base.MemoryLaws.{element-or_mask, get-element_bits, length-element_bits}
+use Rattle.bitvec_cells.specs.base.Order.{Permutes}
+use Rattle.bitvec_cells.specs.base.PartLaws.{length-part}
+use Rattle.bitvec_cells.specs.base.SliceLaws.{range-push}
+use Rattle.bitvec_cells.specs.ElementLaws.{single_mask}
+use Rattle.bitvec_cells.specs.base.Parts.{first_part_of, part_window}
+use Rattle.bitvec_cells.specs.base.Window.{window_of, window_range, write_at}
+use Rattle.bitvec_cells.specs.store.Width.{IsWidth}
+use Rattle.bitvec_cells.specs.store.WidthLaws.{at_each_width, width_some}
+use Rattle.bitvec_cells.specs.base.WritesLaws.{length-list}
+use Rattle.bitvec_words.specs.WordLaws.{padded-all, word_whole}
+use Rattle.bitvec_cells.specs.WalkLaws.{Walked-start, first-len, first-place}
+use Rattle.bitvec_words.specs.Elements.{elements_window}
+use Rattle.bitvec_words.specs.Field.{padded}
+use Rattle.bitvec_words.specs.FieldLaws.{list-part}
+use Rattle.bitvec_words.specs.FieldWalkLaws.{HasPart-first}
+use Rattle.bitvec_words.specs.TouchedLaws.{head_edge, touched-full, touched-head}
+use Rattle.bitvec_words.specs.WholeLaws.{HasWindow-part, behind-mod}
+use Rattle.bitvec_cells.specs.Cost.{touched_count}
+use Rattle.bitvec_words.specs.Front.{IsFront, front_window}
+
+-- the same places, told in another way
+pub list-same : (b : ℕ) (at : ℕ → ℕ → ℕ) (xs : List ℕ) (window other : Window) → window.start ≡ other.start → window.len ≡ other.len → list_in b at xs window ≡ list_in b at xs other
+unfolding window_of
+list-same b at xs window other start len = rw (start, len) refl
+
+pub touched-word : (b s : ℕ) → IsWidth b → b ≤ 64 → s % b ≡ 0 → touched_count b s 64 ≡ 64 / b
+touched-word b s width narrow edge =
+    touched-full b s 64 (width_some b width) edge
+    (at_each_width (λ n. n ≤ 64 → 64 % n ≡ 0) (λ _. refl) (λ _. refl) (λ _. refl) (λ _. refl) (λ few. absurd (omega arith)) b width narrow)
+
+pub touched-part : (b : ℕ) (window : Window) → IsWidth b → 0 < window.len → touched_count b window.start ((first_part_of b window).to - (first_part_of b window).from) ≡ 1
+touched-part b window width some =
+    let wide = width_some b width in
+    let len = first-len b window wide some in
+    touched-head b window.start _ window.len wide some (omega arith)
+
+module _ (b : ℕ) (at : ℕ → ℕ → ℕ) (xs : List ℕ) (window : Window) (word : ℕ) (width : IsWidth b) where
+  -- the elements of a word
+  pub word-front : b ≤ 64 → 64 ≤ window.len → window.start % b ≡ 0 → HasWindow b xs window → element_bits 64 at word ≡ list_in b at xs (elements_window b (window.start / b) (64 / b)) → IsFront b at xs window word 64
+  word-front narrow long edge has bits =
+      let whole = word_whole b width narrow in
+      let place = div-add-mod' window.start b in
+      let elements = elements_window b (window.start / b) (64 / b) in
+      let len = length-list b at xs elements (HasWindow-part b xs window elements has (omega arith) (omega arith)) in
+      record {
+        some = omega arith;
+        most = omega arith;
+        within = long;
+        edge = λ few more. ap (λ (n : ℕ). (window.start + n) % b) (sym whole) ∙ behind-mod b window.start (64 / b) (width_some b width) ∙ edge;
+        bits = bits ∙ sym (padded-all 64 _ (len ∙ whole)) ∙ ap (padded 64) (list-same b at xs elements (window_range window 0 64) (omega arith) (omega arith));
+      }
+
+  -- the part of the first element, up to 64 bits of it
+  pub part-front : 0 < window.len → HasWindow b xs window → (v : ℕ) → let part = first_part_of b (front_window window) in v ≡ slice_index xs part.element
+      → element_bits 64 at word ≡ padded 64 (slice_range (element_bits b at v) part.from part.to) → IsFront b at xs window word (part.to - part.from)
+  part-front some has v loaded bits =
+      let wide = width_some b width in
+      let front = front_window window in
+      let part = first_part_of b front in
+      let len = first-len b front wide (omega arith) in
+      let place = first-place b front in
+      let start = has.within.start in
+      let end = has.within.len in
+      let has_front : HasWindow b xs front = record { fits = has.fits; within = record { start = start; len = omega arith } } in
+      let same = list-same b at xs (part_window b part) (window_range window 0 (part.to - part.from)) (omega arith) (omega arith) in
+      let holds = list-part b at xs part (HasPart-first b xs front front wide (omega arith) has_front (Walked-start b front)) in
+      record {
+        some = omega arith;
+        most = omega arith;
+        within = omega arith;
+        edge = λ narrow more. head_edge b window.start (part.to - part.from) window.len wide (omega arith) (omega arith);
+        bits = bits ∙ ap (λ (n : ℕ). padded 64 (slice_range (element_bits b at n) part.from part.to)) loaded ∙ ap (padded 64) (sym holds ∙ same);
+      }
+
+-- a list moved to the start of zeros
+pub written-padded : (b : ℕ) (list : List Bool) → length list ≤ b → write_at (replicate b false) 0 list ≡ padded b list
+unfolding write_at padded
+written-padded b list fits = same_lists _ _ (search (rules, places)) (λ k d inside. grind (arith, places))
+
+-- ---- one bit more, n being what an element has of it
+
+tested : (c w n : ℕ) → 0 < w → n ≡ c * w → n ≡ 0 → (c == 1) ≡ false
+tested zero w n some is none = refl
+tested (suc c) w n some is none = absurd (omega arith)
+
+tested_one : (c w n : ℕ) → c < 2 → n ≡ c * w → n ≢ 0 → (c == 1) ≡ true
+tested_one zero w n below is some = absurd (some (omega arith))
+tested_one (suc zero) w n below is some = refl
+tested_one (suc (suc c)) w n below is some = absurd (omega arith)
+
+more_padded : (b n : ℕ) (list : List Bool) → n ≡ length list → n < b → write_at (padded b list) n (replicate (n + 1 - n) true) ≡ padded b (list ++ (true ∷ []))
+unfolding write_at padded
+more_padded b n list long below = same_lists _ _ (search (rules, places)) (λ k d inside. grind (arith, places))
+
+none_padded : (b : ℕ) (list : List Bool) → length list < b → padded b list ≡ padded b (list ++ (false ∷ []))
+unfolding padded
+none_padded b list below = same_lists _ _ (search (rules, places)) (λ k d inside. grind (arith, places))
+
+module _ (b c : ℕ) (at to : ℕ → ℕ → ℕ) (v word from i n : ℕ) (order : from ≤ i) (below : i < b) (fits : i < from + c) (is : n ≡ bit_and v (2 ^ at b i)) (held : element_bits c to word ≡ padded c (slice_range (element_bits b at v) from i)) where
+  long : length (slice_range (element_bits b at v) from i) ≡ i - from
+  long = length-part b at v from i (omega arith)
+
+  next : (bit : Bool) → (bit_at v (at b i) == 1) ≡ bit → slice_range (element_bits b at v) from i ++ (bit ∷ []) ≡ slice_range (element_bits b at v) from (i + 1)
+  next bit here =
+      let wide = length-element_bits b at v in
+      rw (← here, ← get-element_bits b at v i false below) (range-push (element_bits b at v) from i false order (omega arith))
+
+  pub gathered-none : n ≡ 0 → element_bits c to word ≡ padded c (slice_range (element_bits b at v) from (i + 1))
+  gathered-none none =
+      let size = long in
+      held ∙ none_padded c _ (omega arith) ∙ ap (padded c) (next false (tested _ (2 ^ at b i) n (pow_pos (at b i)) (is ∙ and_pow v (at b i)) none))
+
+  pub gathered-one : Permutes c (to c) → n ≢ 0 → element_bits c to (bit_or word (2 ^ to c (i - from))) ≡ padded c (slice_range (element_bits b at v) from (i + 1))
+  gathered-one p some =
+      let size = long in
+      rw (single_mask (to c) (i - from)) (element-or_mask c to p word (i - from) (i - from + 1) (omega arith) (omega arith))
+      ∙ ap (λ (l : List Bool). write_at l (i - from) (replicate (i - from + 1 - (i - from)) true)) held
+      ∙ more_padded c (i - from) _ (sym size) (omega arith)
+      ∙ ap (padded c) (next true (tested_one _ (2 ^ at b i) n (bit_at-lt v (at b i)) (is ∙ and_pow v (at b i)) some))

@@ -1,0 +1,41 @@
+use Rattle.std.proofs.Common.{◌+◌, arith, rules, sym, ap, Bool, List, count_by}
+use Rattle.std.proofs.Math.Nat.{mul-le-mul_left}
+use Rattle.bitvec_cells.specs.store.WidthLaws.{width_some}
+use Rattle.bitvec_words.specs.Elements.{elements_window}
+use Rattle.bitvec_words.specs.WholeLaws.{HasWindow-part, list-empty}
+use Rattle.bitvec_words.proofs.CountLemmas.{count-element, count-within}
+use Rattle.bitvec_words.proofs.counting.count_elements.Goals as goal
+
+pub loop-step-init : goal.loop-step-init
+loop-step-init g c = record {
+  ones = ap (λ (l : List Bool). count_by (λ (bit : Bool). bit) l) (sym (list-empty _ _ _ _ (omega arith)));
+  reads = search rules;
+}
+
+pub overflow_add-ones : goal.overflow_add-ones
+overflow_add-ones g c =
+    let b = g.C.Elem.BitStore.BITS in
+    let inv = c.loop-step.invariant in
+    let width = g.met.C.Elem.BitStore.width_law in
+    let more = c.loop-step-test.true in
+    let value = rw inv.reads.numbers at c.load.ensures.value in
+    let order = mul-le-mul_left b more in
+    let fits = c.requires.fits in
+    let start = c.requires.within.start in
+    let len = c.requires.within.len in
+    let ones = count-element b g.O.BitOrder.at (g.met.O.BitOrder.permutes _ width) _ _ _ _ _ _ _ (width_some _ width) c.requires more value c.load.ensures.in_range inv.ones c.count_ones.ensures in
+    let most = count-within b g.O.BitOrder.at _ _ _
+    (HasWindow-part b _ (elements_window b c.args.first c.args.count) (elements_window b c.args.first (c.loop-step.step + 1)) c.requires (omega arith) (omega arith))
+    ones in
+    omega arith
+
+pub loop-step-preserved : goal.loop-step-preserved
+loop-step-preserved g c =
+    let b = g.C.Elem.BitStore.BITS in
+    let inv = c.loop-step.invariant in
+    let width = g.met.C.Elem.BitStore.width_law in
+    let value = rw inv.reads.numbers at c.load.ensures.value in
+    record {
+      ones = count-element b g.O.BitOrder.at (g.met.O.BitOrder.permutes _ width) _ _ _ _ _ _ _ (width_some _ width) c.requires c.loop-step-test.true value c.load.ensures.in_range inv.ones c.count_ones.ensures;
+      reads = search rules;
+    }

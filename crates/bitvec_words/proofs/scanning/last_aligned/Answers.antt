@@ -1,0 +1,51 @@
+use Rattle.std.proofs.Common.{ℕ, ◌+◌, ◌-◌, ◌*◌, ◌/◌, arith, rules, refl, sym}
+use Rattle.std.proofs.lemmas.Nat.{div-add-mod'}
+use Rattle.bitvec_cells.specs.store.WidthLaws.{width_some}
+use Rattle.bitvec_cells.specs.base.WritesLaws.{length-list}
+use Rattle.bitvec_words.specs.FieldLaws.{list-tail}
+use Rattle.bitvec_words.specs.TouchedLaws.{touched-first}
+use Rattle.bitvec_words.proofs.ScanLemmas.{HasWindow-tail, HasWindow-whole, last-behind, last-front, last-inside, last_loads-tail}
+use Rattle.bitvec_words.proofs.scanning.last_aligned.Goals as goal
+
+pub overflow_add-result : goal.overflow_add-result
+overflow_add-result g c =
+    let b = g.C.Elem.BitStore.BITS in
+    let here = rw (c.tail_part-tail.ensures, c.BITS-bits.ensures) at c.in-Some.ensures.value in
+    let below = last-inside b g.O.BitOrder.at _ _ c.args.want _ (HasWindow-tail b _ _ c.requires.window c.requires.edge) here _ refl in
+    let parts = div-add-mod' c.args.window.len b in
+    let fits = c.requires.window.fits in
+    let len = c.requires.window.within.len in
+    rw (c.whole_elements-first.ensures, c.BITS-bits.ensures) (omega arith)
+
+pub returns-in-Some : goal.returns-in-Some
+returns-in-Some g c =
+    let b = g.C.Elem.BitStore.BITS in
+    let at = g.O.BitOrder.at in
+    let here = rw (c.tail_part-tail.ensures, c.BITS-bits.ensures) at c.in-Some.ensures.value in
+    let long = length-list b at _ _ (HasWindow-whole b _ _ c.requires.window c.requires.edge) in
+    let below = last-inside b at _ _ c.args.want _ (HasWindow-tail b _ _ c.requires.window c.requires.edge) here _ refl in
+    let parts = div-add-mod' c.args.window.len b in
+    let place : ℕ = c.args.window.len / b * b + c.in-Some.found in
+    let first = touched-first b (c.args.window.start + place) (c.args.window.len - place) (omega arith) in
+    let reads = c.in-Some.ensures.reads in
+    rw (c.whole_elements-first.ensures, c.BITS-bits.ensures) (record {
+      value = last-behind c.args.want _ _ _ _ _ here (sym long) (list-tail b at _ _ _ c.requires.window c.requires.edge refl);
+      reads = record { numbers = search rules; borrow = search rules; loads = omega arith; stores = search rules };
+    })
+
+pub returns : goal.returns
+returns g c =
+    let b = g.C.Elem.BitStore.BITS in
+    let at = g.O.BitOrder.at in
+    let left = rw (c.tail_part-tail.ensures, c.BITS-bits.ensures) at c.if-tail-eq0.false in
+    let none = rw (c.tail_part-tail.ensures, c.BITS-bits.ensures) at c.in_default.ensures.value in
+    let first = c.in_default.ensures.reads in
+    let whole = rw (c.whole_elements-first.ensures, c.BITS-bits.ensures, first.numbers) at c.last_whole-2.ensures in
+    let found = whole.value in
+    let second = whole.reads in
+    let most = last_loads-tail b c.args.window _ (width_some _ g.met.C.Elem.BitStore.width_law) c.requires.edge (omega arith)
+    (last-inside b at _ _ c.args.want _ (HasWindow-whole b _ _ c.requires.window c.requires.edge) found) in
+    record {
+      value = last-front c.args.want _ _ _ _ none found (list-tail b at _ _ _ c.requires.window c.requires.edge refl);
+      reads = record { numbers = search rules; borrow = search rules; loads = omega arith; stores = search rules };
+    }

@@ -1,0 +1,86 @@
+use Rattle.std.proofs.Common.{◌≡◌, ◌<◌, ℕ, ◌+◌, ◌-◌, ◌*◌, arith, rules, sym, ◌∙◌, ap, Bool, List}
+use Rattle.std.proofs.Math.Nat.{mul-le-mul_left}
+use Rattle.bitvec_cells.specs.store.WidthLaws.{width_some}
+use Rattle.bitvec_cells.specs.base.Lists.{last_place}
+use Rattle.bitvec_cells.specs.base.PlacesLaws.{last_place-nil}
+use Rattle.bitvec_words.specs.TouchedLaws.{touched-whole}
+use Rattle.bitvec_words.specs.WholeLaws.{list-empty}
+use Rattle.bitvec_words.proofs.ScanLemmas.{last-below, last-element_has, last-element_lacks, last-must, last-passed, range-element, touched-until_elements}
+use Rattle.bitvec_words.proofs.scanning.last_whole.Goals as goal
+
+pub loop-step-init : goal.loop-step-init
+loop-step-init g c =
+    let none : c.args.count - c.args.count ≡ 0 = omega arith in
+    let empty : (c.args.count - c.args.count) * g.C.Elem.BitStore.BITS ≡ 0 = rw none (omega arith) in
+    record {
+      none = sym (ap (λ (l : List Bool). last_place c.args.want l) (list-empty _ _ _ _ empty) ∙ last_place-nil c.args.want);
+      reads = search rules;
+    }
+
+pub loop-step-preserved : goal.loop-step-preserved
+loop-step-preserved g c =
+    let b = g.C.Elem.BitStore.BITS in
+    let at = g.O.BitOrder.at in
+    let inv = c.loop-step.invariant in
+    let width = g.met.C.Elem.BitStore.width_law in
+    let value = rw inv.reads.numbers at c.load-element.ensures.value in
+    record {
+      none = last-element_lacks b at _ _ _ _ _ _ c.args.want (width_some _ width) c.requires (omega arith) (omega arith) value inv.none
+          (last-passed b at (g.met.O.BitOrder.permutes _ width) _ _ _ c.args.want c.xor.ensures (sym c.to_u128.ensures.number ∙ c.if-to_u128-ne0.false) c.filled-lacking.ensures);
+      reads = record { numbers = search rules; borrow = search rules; loads = omega arith; stores = search rules };
+    }
+
+pub returns-in_err-found : goal.returns-in_err-found
+returns-in_err-found g c =
+    let b = g.C.Elem.BitStore.BITS in
+    let at = g.O.BitOrder.at in
+    let number = c.to_u128.ensures.number ∙ c.xor.ensures in
+    let none = c.in_err-found.ensures ∙ ap (λ (l : List Bool). last_place c.args.want l) (range-element b at _ _ c.BITS-bits.ensures) in
+    absurd (last-must b at (g.met.O.BitOrder.permutes _ g.met.C.Elem.BitStore.width_law) _ _ _ c.args.want number c.if-to_u128-ne0.true c.load-element.ensures.in_range c.filled-lacking.ensures none)
+
+pub overflow_add-result : goal.overflow_add-result
+overflow_add-result g c =
+    let b = g.C.Elem.BitStore.BITS in
+    let at = g.O.BitOrder.at in
+    let here = c.in_ok-found.ensures ∙ ap (λ (l : List Bool). last_place c.args.want l) (range-element b at _ _ c.BITS-bits.ensures) in
+    let below = last-below b at _ _ c.args.want here in
+    let more : c.loop-step.step - 1 < c.args.count = omega arith in
+    let order = mul-le-mul_left b more in
+    let fits = c.requires.fits in
+    let start = c.requires.within.start in
+    let len = c.requires.within.len in
+    rw c.BITS-bits.ensures (omega arith)
+
+pub returns-then-to_u128-ne0-clause-value : goal.returns-then-to_u128-ne0-clause-value
+returns-then-to_u128-ne0-clause-value g c =
+    let b = g.C.Elem.BitStore.BITS in
+    let at = g.O.BitOrder.at in
+    let inv = c.loop-step.invariant in
+    let value = rw inv.reads.numbers at c.load-element.ensures.value in
+    let here = c.in_ok-found.ensures ∙ ap (λ (l : List Bool). last_place c.args.want l) (range-element b at _ _ c.BITS-bits.ensures) in
+    rw c.BITS-bits.ensures (last-element_has b at _ _ _ _ _ _ _ c.args.want (width_some _ g.met.C.Elem.BitStore.width_law) c.requires (omega arith) (omega arith) value inv.none here)
+
+pub returns-then-to_u128-ne0-clause-reads : goal.returns-then-to_u128-ne0-clause-reads
+returns-then-to_u128-ne0-clause-reads g c =
+    let b = g.C.Elem.BitStore.BITS in
+    let at = g.O.BitOrder.at in
+    let inv = c.loop-step.invariant in
+    let some = width_some _ g.met.C.Elem.BitStore.width_law in
+    let here = c.in_ok-found.ensures ∙ ap (λ (l : List Bool). last_place c.args.want l) (range-element b at _ _ c.BITS-bits.ensures) in
+    let below = last-below b at _ _ c.args.want here in
+    let step : ℕ = c.loop-step.step - 1 in
+    let left : ℕ = c.args.count - c.loop-step.step in
+    let place : ℕ = c.args.first * b + (step * b + c.in_ok-found.found) in
+    let next : step + 1 ≡ c.loop-step.step = omega arith in
+    let end : place + (b - c.in_ok-found.found) ≡ (c.args.first + (step + 1)) * b = omega arith in
+    let sum : step + 1 + left ≡ c.args.count = omega arith in
+    let product = ap (λ (n : ℕ). n * b) sum in
+    let all : b - c.in_ok-found.found + left * b ≡ c.args.count * b - (step * b + c.in_ok-found.found) = omega arith in
+    let most = touched-until_elements b place (b - c.in_ok-found.found) (c.args.first + (step + 1)) left (c.args.count * b - (step * b + c.in_ok-found.found)) some (omega arith) end all in
+    rw c.BITS-bits.ensures (record { numbers = search rules; borrow = search rules; loads = omega arith; stores = search rules })
+
+pub returns-clause-reads : goal.returns-clause-reads
+returns-clause-reads g c =
+    let all = touched-whole g.C.Elem.BitStore.BITS c.args.first c.args.count (width_some _ g.met.C.Elem.BitStore.width_law) in
+    let reads = c.loop-step.invariant.reads in
+    record { numbers = search rules; borrow = search rules; loads = omega arith; stores = search rules }

@@ -1,0 +1,61 @@
+use Rattle.std.proofs.Common.{◌+◌, ◌*◌, ◌/◌, arith, ap, ◌∙◌}
+use Rattle.bitvec_cells.specs.base.Lists.{first_place}
+use Rattle.bitvec_cells.specs.store.WidthLaws.{width_some}
+use Rattle.bitvec_words.proofs.WordScanLemmas.{HasWindow-elements, block_words, elements-bound, list-block}
+use Rattle.bitvec_words.proofs.scanning_words.first_in_narrow_block.Goals as goal
+
+pub returns-clause-value : goal.returns-clause-value
+returns-clause-value g c =
+    let first = c.load_elements-one.ensures.reads.numbers in
+    let second = c.load_elements-two.ensures.reads.numbers ∙ first in
+    let one = c.load_elements-one.ensures.value in
+    let two = rw (c.BITS.ensures, first) at c.load_elements-two.ensures.value in
+    let three = rw (c.BITS.ensures, second) at c.load_elements-three.ensures.value in
+    let four = rw (c.BITS.ensures, c.load_elements-three.ensures.reads.numbers ∙ second) at c.load_elements-four.ensures.value in
+    (rw (one, two, three, four) at c.first_in_words.ensures)
+    ∙ ap (first_place c.args.want) (list-block g.C.Elem.BitStore.BITS g.O.BitOrder.at _ c.args.first g.met.C.Elem.BitStore.width_law c.requires.narrow c.requires.window)
+
+pub load_elements-one-requires : goal.load_elements-one-requires
+load_elements-one-requires g c =
+    let b = g.C.Elem.BitStore.BITS in
+    let words = block_words b g.met.C.Elem.BitStore.width_law c.requires.narrow in
+    record { window = HasWindow-elements b g.O.BitOrder.at _ c.args.first (256 / b) c.requires.window c.args.first (64 / b) (omega arith) (omega arith); narrow = c.requires.narrow }
+
+pub load_elements-two-requires : goal.load_elements-two-requires
+load_elements-two-requires g c =
+    let b = g.C.Elem.BitStore.BITS in
+    let words = block_words b g.met.C.Elem.BitStore.width_law c.requires.narrow in
+    rw (c.BITS.ensures, c.load_elements-one.ensures.reads.numbers) (record { window = HasWindow-elements b g.O.BitOrder.at _ c.args.first (256 / b) c.requires.window (c.args.first + 64 / b) (64 / b) (omega arith) (omega arith); narrow = c.requires.narrow })
+
+pub load_elements-three-requires : goal.load_elements-three-requires
+load_elements-three-requires g c =
+    let b = g.C.Elem.BitStore.BITS in
+    let words = block_words b g.met.C.Elem.BitStore.width_law c.requires.narrow in
+    rw (c.BITS.ensures, c.load_elements-two.ensures.reads.numbers, c.load_elements-one.ensures.reads.numbers) (record { window = HasWindow-elements b g.O.BitOrder.at _ c.args.first (256 / b) c.requires.window (c.args.first + 2 * (64 / b)) (64 / b) (omega arith) (omega arith); narrow = c.requires.narrow })
+
+pub load_elements-four-requires : goal.load_elements-four-requires
+load_elements-four-requires g c =
+    let b = g.C.Elem.BitStore.BITS in
+    let words = block_words b g.met.C.Elem.BitStore.width_law c.requires.narrow in
+    rw (c.BITS.ensures, c.load_elements-three.ensures.reads.numbers, c.load_elements-two.ensures.reads.numbers, c.load_elements-one.ensures.reads.numbers) (record { window = HasWindow-elements b g.O.BitOrder.at _ c.args.first (256 / b) c.requires.window (c.args.first + 3 * (64 / b)) (64 / b) (omega arith) (omega arith); narrow = c.requires.narrow })
+
+pub overflow_add-first : goal.overflow_add-first
+overflow_add-first g c =
+    let b = g.C.Elem.BitStore.BITS in
+    let words = block_words b g.met.C.Elem.BitStore.width_law c.requires.narrow in
+    let bound = elements-bound b g.O.BitOrder.at _ c.args.first (256 / b) c.requires.window (width_some b g.met.C.Elem.BitStore.width_law) in
+    rw c.BITS.ensures (omega arith)
+
+pub overflow_add-first-2 : goal.overflow_add-first-2
+overflow_add-first-2 g c =
+    let b = g.C.Elem.BitStore.BITS in
+    let words = block_words b g.met.C.Elem.BitStore.width_law c.requires.narrow in
+    let bound = elements-bound b g.O.BitOrder.at _ c.args.first (256 / b) c.requires.window (width_some b g.met.C.Elem.BitStore.width_law) in
+    rw c.BITS.ensures (omega arith)
+
+pub overflow_add-first-3 : goal.overflow_add-first-3
+overflow_add-first-3 g c =
+    let b = g.C.Elem.BitStore.BITS in
+    let words = block_words b g.met.C.Elem.BitStore.width_law c.requires.narrow in
+    let bound = elements-bound b g.O.BitOrder.at _ c.args.first (256 / b) c.requires.window (width_some b g.met.C.Elem.BitStore.width_law) in
+    rw c.BITS.ensures (omega arith)

@@ -1,0 +1,18 @@
+-- The first bits of a window, as the first bits of a word.
+use Rattle.std.specs.Prelude.{◌≡◌, ℕ, ◌+◌, ◌%◌, ◌<◌, ◌≤◌, List, min}
+use Rattle.bitvec_cells.specs.base.declared.window.Window.{Window}
+use Rattle.bitvec_cells.specs.base.Memory.{element_bits, list_in}
+use Rattle.bitvec_cells.specs.base.Window.{window_range}
+use Rattle.bitvec_words.specs.Field.{padded}
+
+-- the first `count` bits of the window are those of the word, whose others are 0; where more are left, and elements are not wider than a word, one begins behind them
+pub record IsFront (b : ℕ) (at : ℕ → ℕ → ℕ) (xs : List ℕ) (window : Window) (word count : ℕ) : Type 0 where
+  pub some : 0 < count
+  pub most : count ≤ 64
+  pub within : count ≤ window.len
+  pub edge : b ≤ 64 → count < window.len → (window.start + count) % b ≡ 0
+  pub bits : element_bits 64 at word ≡ padded 64 (list_in b at xs (window_range window 0 count))
+
+-- the first bits of a window, up to 64 of them
+abbrev pub front_window : Window → Window
+front_window window = record { start = window.start; len = min window.len 64 }

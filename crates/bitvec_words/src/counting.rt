@@ -1,0 +1,111 @@
+//! How many bits of a window are 1, or 0.
+ghost use Rattle.std.specs.Prelude.{◌≡◌, ℕ, ◌+◌, ◌*◌, ◌/◌, ◌%◌, ◌<◌, ◌≤◌, not, count_by};
+ghost use Rattle.bitvec_cells.specs.base.Memory.{HasWindow, list_in};
+ghost use Rattle.bitvec_cells.specs.Access.{OnlyReads};
+ghost use Rattle.bitvec_cells.specs.Cost.{touched_count};
+ghost use Rattle.bitvec_words.specs.Elements.{elements_window};
+
+use crate::fields::WORD_BITS;
+use crate::word_elements::load_elements;
+use bitvec_cells::base::{BitOrder, Lsb0, Window, first_part, tail_part, whole_elements};
+use bitvec_cells::store::BitStore;
+use bitvec_cells::{CellsRead, count_part};
+
+/// How many bits of a window are 1. Condition: the memory has at most `MAX_BITS` bits, and the
+/// window lies in it. It loads each element that the window touches once.
+pub fn count<O: BitOrder, C: CellsRead>(cells: &mut C, window: Window) -> usize
+    requires { HasWindow C.Elem.BITS (C.numbers cells.old) window }
+    ensures value { result ≡ count_by (λ bit. bit) (list_in C.Elem.BITS O.at (C.numbers cells.old) window) }
+    ensures reads { OnlyReads C.CellsRead cells.old cells.new (touched_count C.Elem.BITS window.start window.len) }
+{
+    if window.len == 0 {
+        return 0;
+    }
+    let bits = C::Elem::BITS as usize;
+    let head = first_part(bits, window);
+    let ones = count_part::<O, C>(cells, head);
+    let passed = head.len();
+    if passed == window.len {
+        return ones;
+    }
+    ones + count_aligned::<O, C>(cells, window.after(passed))
+}
+
+/// How many bits are 1 of a window that begins where an element does.
+fn count_aligned<O: BitOrder, C: CellsRead>(cells: &mut C, window: Window) -> usize
+    requires window { HasWindow C.Elem.BITS (C.numbers cells.old) window }
+    requires edge { window.start % C.Elem.BITS ≡ 0 }
+    ensures value { result ≡ count_by (λ bit. bit) (list_in C.Elem.BITS O.at (C.numbers cells.old) window) }
+    ensures reads { OnlyReads C.CellsRead cells.old cells.new (touched_count C.Elem.BITS window.start window.len) }
+{
+    let bits = C::Elem::BITS as usize;
+    let (first, count) = whole_elements(bits, window);
+    let ones = count_whole::<O, C>(cells, first, count);
+    let tail = tail_part(bits, window);
+    if tail.to == 0 {
+        return ones;
+    }
+    ones + count_part::<O, C>(cells, tail)
+}
+
+/// How many bits of `count` whole elements are 1, of elements narrower than a word by the word. It loads
+/// each element once.
+fn count_whole<O: BitOrder, C: CellsRead>(cells: &mut C, first: usize, count: usize) -> usize
+    requires { HasWindow C.Elem.BITS (C.numbers cells.old) (elements_window C.Elem.BITS first count) }
+    ensures value { result
+        ≡ count_by (λ bit. bit) (list_in C.Elem.BITS O.at (C.numbers cells.old) (elements_window C.Elem.BITS first count)) }
+    ensures reads { OnlyReads C.CellsRead cells.old cells.new count }
+{
+    let bits = C::Elem::BITS as usize;
+    if bits >= WORD_BITS {
+        return count_elements::<O, C>(cells, first, count);
+    }
+    let elements = WORD_BITS / bits;
+    let words = count / elements;
+    let passed = words * elements;
+    let ones = count_words::<C>(cells, first, words);
+    ones + count_elements::<O, C>(cells, first + passed, count - passed)
+}
+
+/// How many bits of the elements of `count` words are 1: as many as the words have, which are gathered
+/// in one order, since a whole element has as many in each. Condition: the elements are narrower than a
+/// word. It loads each element once.
+fn count_words<C: CellsRead>(cells: &mut C, first: usize, count: usize) -> usize
+    requires window { HasWindow C.Elem.BITS (C.numbers cells.old) (elements_window C.Elem.BITS first (count * (64 / C.Elem.BITS))) }
+    requires narrow { C.Elem.BITS ≤ 64 }
+    ensures value { result
+        ≡ count_by (λ bit. bit) (list_in C.Elem.BITS (λ b i. i) (C.numbers cells.old) (elements_window C.Elem.BITS first (count * (64 / C.Elem.BITS)))) }
+    ensures reads { OnlyReads C.CellsRead cells.old cells.new (count * (64 / C.Elem.BITS)) }
+{
+    let elements = WORD_BITS / C::Elem::BITS as usize;
+    let mut ones = 0;
+    for step in 0..count {
+        let word = load_elements::<Lsb0, C>(cells, first + step * elements);
+        ones += word.count_ones() as usize;
+    }
+    ones
+}
+
+/// How many bits of `count` whole elements are 1, one element at a time. It loads each element once.
+fn count_elements<O: BitOrder, C: CellsRead>(cells: &mut C, first: usize, count: usize) -> usize
+    requires { HasWindow C.Elem.BITS (C.numbers cells.old) (elements_window C.Elem.BITS first count) }
+    ensures value { result
+        ≡ count_by (λ bit. bit) (list_in C.Elem.BITS O.at (C.numbers cells.old) (elements_window C.Elem.BITS first count)) }
+    ensures reads { OnlyReads C.CellsRead cells.old cells.new count }
+{
+    let mut ones = 0;
+    for step in 0..count {
+        ones += cells.load(first + step).count_ones() as usize;
+    }
+    ones
+}
+
+/// How many bits of a window are 0. Condition: as of [`count`]. It loads each element that the
+/// window touches once.
+pub fn count_zeros<O: BitOrder, C: CellsRead>(cells: &mut C, window: Window) -> usize
+    requires { HasWindow C.Elem.BITS (C.numbers cells.old) window }
+    ensures value { result ≡ count_by not (list_in C.Elem.BITS O.at (C.numbers cells.old) window) }
+    ensures reads { OnlyReads C.CellsRead cells.old cells.new (touched_count C.Elem.BITS window.start window.len) }
+{
+    window.len - count::<O, C>(cells, window)
+}

@@ -1,0 +1,180 @@
+//! Searches of a window for a bit.
+ghost use Rattle.std.specs.Prelude.{◌≡◌, ℕ, ◌+◌, ◌-◌, ◌*◌, ◌/◌, ◌%◌, ◌<◌, ◌≤◌};
+ghost use Rattle.bitvec_cells.specs.base.Lists.{first_place, last_place};
+ghost use Rattle.bitvec_cells.specs.base.Memory.{HasWindow, list_in};
+ghost use Rattle.bitvec_cells.specs.Access.{OnlyReadsAtMost};
+ghost use Rattle.bitvec_cells.specs.Cost.{first_loads, last_loads};
+ghost use Rattle.bitvec_words.specs.Elements.{elements_window};
+
+use bitvec_cells::base::{BitOrder, Part, Window, first_part, tail_part, whole_elements};
+use bitvec_cells::store::BitStore;
+use bitvec_cells::{
+    CellsRead, filled, first_in_element, first_in_part, last_in_element, last_in_part,
+};
+
+/// The index of a window's first bit that is `want`, if there is one. Condition: the memory has at
+/// most `MAX_BITS` bits, and the window lies in it. It loads each element that the window touches
+/// at most once, from the first on, and none behind the bit.
+pub fn bits_scan_first<O: BitOrder, C: CellsRead>(
+    cells: &mut C,
+    window: Window,
+    want: bool,
+) -> Option<usize>
+    requires { HasWindow C.Elem.BITS (C.numbers cells.old) window }
+    ensures value { result ≡ first_place want (list_in C.Elem.BITS O.at (C.numbers cells.old) window) }
+    ensures reads { OnlyReadsAtMost C.CellsRead cells.old cells.new (first_loads C.Elem.BITS window result) }
+{
+    let bits = C::Elem::BITS as usize;
+    if window.start % bits == 0 {
+        return first_aligned::<O, C>(cells, window, want);
+    }
+    if window.len == 0 {
+        return None;
+    }
+    let head = first_part(bits, window);
+    if let Some(found) = first_in_part::<O, C>(cells, head, want) {
+        return Some(found);
+    }
+    let passed = head.len();
+    if passed == window.len {
+        return None;
+    }
+    let found = first_aligned::<O, C>(cells, window.after(passed), want)?;
+    Some(passed + found)
+}
+
+/// The first of a window that begins where an element does.
+fn first_aligned<O: BitOrder, C: CellsRead>(
+    cells: &mut C,
+    window: Window,
+    want: bool,
+) -> Option<usize>
+    requires window { HasWindow C.Elem.BITS (C.numbers cells.old) window }
+    requires edge { window.start % C.Elem.BITS ≡ 0 }
+    ensures value { result ≡ first_place want (list_in C.Elem.BITS O.at (C.numbers cells.old) window) }
+    ensures reads { OnlyReadsAtMost C.CellsRead cells.old cells.new (first_loads C.Elem.BITS window result) }
+{
+    let bits = C::Elem::BITS as usize;
+    let (first, count) = whole_elements(bits, window);
+    if let Some(found) = first_whole::<O, C>(cells, first, count, want) {
+        return Some(found);
+    }
+    let tail = tail_part(bits, window);
+    if tail.to == 0 {
+        return None;
+    }
+    let found = first_in_part::<O, C>(cells, tail, want)?;
+    Some(count * bits + found)
+}
+
+/// The first of `count` whole elements, each of which is passed by one comparison if it lacks the
+/// bit.
+fn first_whole<O: BitOrder, C: CellsRead>(
+    cells: &mut C,
+    first: usize,
+    count: usize,
+    want: bool,
+) -> Option<usize>
+    requires { HasWindow C.Elem.BITS (C.numbers cells.old) (elements_window C.Elem.BITS first count) }
+    ensures value { result
+        ≡ first_place want (list_in C.Elem.BITS O.at (C.numbers cells.old) (elements_window C.Elem.BITS first count)) }
+    ensures reads { OnlyReadsAtMost C.CellsRead cells.old cells.new
+        (first_loads C.Elem.BITS (elements_window C.Elem.BITS first count) result) }
+{
+    let bits = C::Elem::BITS as usize;
+    let lacking = filled::<C::Elem>(!want);
+    for step in 0..count {
+        let element = cells.load(first + step);
+        if element.xor(lacking).to_u128() != 0 {
+            let part = Part {
+                element: first + step,
+                from: 0,
+                to: bits,
+            };
+            let found = first_in_element::<O, C::Elem>(element, part, want)?;
+            return Some(step * bits + found);
+        }
+    }
+    None
+}
+
+/// The index of a window's last bit that is `want`, if there is one. Condition: as of
+/// [`bits_scan_first`]. It loads each element that the window touches at most once, from the last
+/// on, and none before the bit.
+pub fn bits_scan_last<O: BitOrder, C: CellsRead>(
+    cells: &mut C,
+    window: Window,
+    want: bool,
+) -> Option<usize>
+    requires { HasWindow C.Elem.BITS (C.numbers cells.old) window }
+    ensures value { result ≡ last_place want (list_in C.Elem.BITS O.at (C.numbers cells.old) window) }
+    ensures reads { OnlyReadsAtMost C.CellsRead cells.old cells.new (last_loads C.Elem.BITS window result) }
+{
+    if window.len == 0 {
+        return None;
+    }
+    let bits = C::Elem::BITS as usize;
+    let head = first_part(bits, window);
+    let kept = head.len();
+    if kept == window.len {
+        return last_in_part::<O, C>(cells, head, want);
+    }
+    if let Some(found) = last_aligned::<O, C>(cells, window.after(kept), want) {
+        return Some(kept + found);
+    }
+    last_in_part::<O, C>(cells, head, want)
+}
+
+/// The last of a window that begins where an element does.
+fn last_aligned<O: BitOrder, C: CellsRead>(
+    cells: &mut C,
+    window: Window,
+    want: bool,
+) -> Option<usize>
+    requires window { HasWindow C.Elem.BITS (C.numbers cells.old) window }
+    requires edge { window.start % C.Elem.BITS ≡ 0 }
+    ensures value { result ≡ last_place want (list_in C.Elem.BITS O.at (C.numbers cells.old) window) }
+    ensures reads { OnlyReadsAtMost C.CellsRead cells.old cells.new (last_loads C.Elem.BITS window result) }
+{
+    let bits = C::Elem::BITS as usize;
+    let (first, count) = whole_elements(bits, window);
+    let tail = tail_part(bits, window);
+    if tail.to == 0 {
+        return last_whole::<O, C>(cells, first, count, want);
+    }
+    if let Some(found) = last_in_part::<O, C>(cells, tail, want) {
+        return Some(count * bits + found);
+    }
+    last_whole::<O, C>(cells, first, count, want)
+}
+
+/// The last of `count` whole elements, each of which is passed by one comparison if it lacks the
+/// bit.
+fn last_whole<O: BitOrder, C: CellsRead>(
+    cells: &mut C,
+    first: usize,
+    count: usize,
+    want: bool,
+) -> Option<usize>
+    requires { HasWindow C.Elem.BITS (C.numbers cells.old) (elements_window C.Elem.BITS first count) }
+    ensures value { result
+        ≡ last_place want (list_in C.Elem.BITS O.at (C.numbers cells.old) (elements_window C.Elem.BITS first count)) }
+    ensures reads { OnlyReadsAtMost C.CellsRead cells.old cells.new
+        (last_loads C.Elem.BITS (elements_window C.Elem.BITS first count) result) }
+{
+    let bits = C::Elem::BITS as usize;
+    let lacking = filled::<C::Elem>(!want);
+    for step in (0..count).rev() {
+        let element = cells.load(first + step);
+        if element.xor(lacking).to_u128() != 0 {
+            let part = Part {
+                element: first + step,
+                from: 0,
+                to: bits,
+            };
+            let found = last_in_element::<O, C::Elem>(element, part, want)?;
+            return Some(step * bits + found);
+        }
+    }
+    None
+}

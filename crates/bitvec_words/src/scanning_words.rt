@@ -1,0 +1,201 @@
+//! Searches of a window by blocks of words.
+ghost use Rattle.std.specs.Prelude.{◌≡◌, ◌+◌, ◌*◌, ◌/◌, ◌%◌, ◌<◌, ◌≤◌, ◌++◌};
+ghost use Rattle.bitvec_cells.specs.base.Lists.{first_place};
+ghost use Rattle.bitvec_cells.specs.base.Memory.{HasWindow, element_bits, list_in};
+ghost use Rattle.bitvec_cells.specs.base.Window.{window_range};
+ghost use Rattle.bitvec_cells.specs.Access.{OnlyReads, OnlyReadsAtMost};
+ghost use Rattle.bitvec_cells.specs.Cost.{touched_count};
+ghost use Rattle.bitvec_words.specs.Elements.{elements_window};
+
+use crate::fields::WORD_BITS;
+use crate::fronts::words_load_front;
+use crate::scanning::bits_scan_first;
+use crate::word_elements::load_elements;
+use crate::word_order::WordOrder;
+use bitvec_cells::base::{BitOrder, Part, Window};
+use bitvec_cells::store::BitStore;
+use bitvec_cells::{CellsRead, filled, first_in_element};
+
+/// The bits of a block, which is four words.
+const BLOCK_BITS: usize = 4 * WORD_BITS;
+
+/// The index of a window's first bit that is `want`, if there is one. Condition: the memory has at
+/// most `MAX_BITS` bits, and the window lies in it. It loads each element that the window touches at
+/// most once, those of a block together.
+#[inline(always)]
+pub fn words_scan_first<O: WordOrder, C: CellsRead>(
+    cells: &mut C,
+    window: Window,
+    want: bool,
+) -> Option<usize>
+    requires { HasWindow C.Elem.BITS (C.numbers cells.old) window }
+    ensures value { result ≡ first_place want (list_in C.Elem.BITS O.at (C.numbers cells.old) window) }
+    ensures reads { OnlyReadsAtMost C.CellsRead cells.old cells.new (touched_count C.Elem.BITS window.start window.len) }
+{
+    let mut rest = window;
+    while rest.len > 0 {
+        let (found, count) = first_in_front::<O, C>(cells, rest, want);
+        if let Some(place) = found {
+            return Some(rest.start - window.start + place);
+        }
+        rest = rest.after(count);
+    }
+    None
+}
+
+/// The first of the first bits of a window, and how many these are: where it begins inside an
+/// element, those of that; else those of all blocks, of one word of narrower elements, or all.
+/// Condition: the window isn't empty.
+#[inline(always)]
+fn first_in_front<O: WordOrder, C: CellsRead>(
+    cells: &mut C,
+    window: Window,
+    want: bool,
+) -> (Option<usize>, usize)
+    requires window { HasWindow C.Elem.BITS (C.numbers cells.old) window }
+    requires some { 0 < window.len }
+    ensures value { result.0 ≡ first_place want (list_in C.Elem.BITS O.at (C.numbers cells.old) (window_range window 0 result.1)) }
+    ensures some { 0 < result.1 }
+    ensures within { result.1 ≤ window.len }
+    ensures edge { result.1 < window.len → (window.start + result.1) % C.Elem.BITS ≡ 0 }
+    ensures reads { OnlyReadsAtMost C.CellsRead cells.old cells.new (touched_count C.Elem.BITS window.start result.1) }
+{
+    let bits = C::Elem::BITS as usize;
+    let inside = window.start % bits;
+    let blocks = window.len / BLOCK_BITS;
+    if inside > 0 || window.len < WORD_BITS || bits >= WORD_BITS && blocks == 0 {
+        let count = if inside > 0 {
+            window.len.min(bits - inside)
+        } else {
+            window.len
+        };
+        let found = bits_scan_first::<O, C>(cells, window.range(0, count), want);
+        return (found, count);
+    }
+    if blocks > 0 {
+        let found = first_in_blocks::<O, C>(cells, window.start / bits, blocks, want);
+        return (found, blocks * BLOCK_BITS);
+    }
+    let (word, count) = words_load_front::<O, C>(cells, window);
+    let part = Part {
+        element: 0,
+        from: 0,
+        to: count,
+    };
+    (first_in_element::<O, u64>(word, part, want), count)
+}
+
+/// The first of the elements of `count` blocks.
+#[inline(always)]
+fn first_in_blocks<O: WordOrder, C: CellsRead>(
+    cells: &mut C,
+    first: usize,
+    count: usize,
+    want: bool,
+) -> Option<usize>
+    requires { HasWindow C.Elem.BITS (C.numbers cells.old) (elements_window C.Elem.BITS first (count * (256 / C.Elem.BITS))) }
+    ensures value { result ≡ first_place want
+        (list_in C.Elem.BITS O.at (C.numbers cells.old) (elements_window C.Elem.BITS first (count * (256 / C.Elem.BITS)))) }
+    ensures reads { OnlyReadsAtMost C.CellsRead cells.old cells.new (count * (256 / C.Elem.BITS)) }
+{
+    let elements = BLOCK_BITS / C::Elem::BITS as usize;
+    for step in 0..count {
+        if let Some(found) = first_in_block::<O, C>(cells, first + step * elements, want) {
+            return Some(step * BLOCK_BITS + found);
+        }
+    }
+    None
+}
+
+/// The first of the elements of a block, which are two if they are wider than a word.
+#[inline(always)]
+fn first_in_block<O: WordOrder, C: CellsRead>(
+    cells: &mut C,
+    first: usize,
+    want: bool,
+) -> Option<usize>
+    requires { HasWindow C.Elem.BITS (C.numbers cells.old) (elements_window C.Elem.BITS first (256 / C.Elem.BITS)) }
+    ensures value { result ≡ first_place want
+        (list_in C.Elem.BITS O.at (C.numbers cells.old) (elements_window C.Elem.BITS first (256 / C.Elem.BITS))) }
+    ensures reads { OnlyReads C.CellsRead cells.old cells.new (256 / C.Elem.BITS) }
+{
+    if C::Elem::BITS as usize <= WORD_BITS {
+        return first_in_narrow_block::<O, C>(cells, first, want);
+    }
+    let one = cells.load(first);
+    let two = cells.load(first + 1);
+    first_in_pair::<O, C::Elem>(one, two, want)
+}
+
+/// The first of the elements of a block. Condition: they are not wider than a word.
+#[inline(always)]
+fn first_in_narrow_block<O: WordOrder, C: CellsRead>(
+    cells: &mut C,
+    first: usize,
+    want: bool,
+) -> Option<usize>
+    requires window { HasWindow C.Elem.BITS (C.numbers cells.old) (elements_window C.Elem.BITS first (256 / C.Elem.BITS)) }
+    requires narrow { C.Elem.BITS ≤ 64 }
+    ensures value { result ≡ first_place want
+        (list_in C.Elem.BITS O.at (C.numbers cells.old) (elements_window C.Elem.BITS first (256 / C.Elem.BITS))) }
+    ensures reads { OnlyReads C.CellsRead cells.old cells.new (256 / C.Elem.BITS) }
+{
+    let elements = WORD_BITS / C::Elem::BITS as usize;
+    let one = load_elements::<O, C>(cells, first);
+    let two = load_elements::<O, C>(cells, first + elements);
+    let three = load_elements::<O, C>(cells, first + 2 * elements);
+    let four = load_elements::<O, C>(cells, first + 3 * elements);
+    first_in_words::<O>(one, two, three, four, want)
+}
+
+/// The first of two elements, which are passed by one comparison if they lack the bit.
+#[inline(always)]
+fn first_in_pair<O: BitOrder, T: BitStore>(one: T, two: T, want: bool) -> Option<usize>
+    ensures { result ≡ first_place want (element_bits T.BITS O.at (T.value one) ++ element_bits T.BITS O.at (T.value two)) }
+{
+    let lacking = filled::<T>(!want);
+    if one.xor(lacking).or(two.xor(lacking)).to_u128() == 0 {
+        return None;
+    }
+    first_of_two::<O, T>(one, two, want)
+}
+
+/// The first of four words, which are passed by one comparison if they lack the bit.
+#[inline(always)]
+fn first_in_words<O: BitOrder>(
+    one: u64,
+    two: u64,
+    three: u64,
+    four: u64,
+    want: bool,
+) -> Option<usize>
+    ensures { result ≡ first_place want
+        ((element_bits 64 O.at one ++ element_bits 64 O.at two) ++ (element_bits 64 O.at three ++ element_bits 64 O.at four)) }
+{
+    let lacking = filled::<u64>(!want);
+    if (one ^ lacking) | (two ^ lacking) | (three ^ lacking) | (four ^ lacking) == 0 {
+        return None;
+    }
+    if let Some(found) = first_of_two::<O, u64>(one, two, want) {
+        return Some(found);
+    }
+    let found = first_of_two::<O, u64>(three, four, want)?;
+    Some(2 * WORD_BITS + found)
+}
+
+/// The first of two elements.
+fn first_of_two<O: BitOrder, T: BitStore>(one: T, two: T, want: bool) -> Option<usize>
+    ensures { result ≡ first_place want (element_bits T.BITS O.at (T.value one) ++ element_bits T.BITS O.at (T.value two)) }
+{
+    let bits = T::BITS as usize;
+    let element = Part {
+        element: 0,
+        from: 0,
+        to: bits,
+    };
+    if let Some(found) = first_in_element::<O, T>(one, element, want) {
+        return Some(found);
+    }
+    let found = first_in_element::<O, T>(two, element, want)?;
+    Some(bits + found)
+}

@@ -1,0 +1,46 @@
+//! The elements of a word of 64 bits.
+ghost use Rattle.std.specs.Prelude.{◌≡◌, ℕ, ◌/◌, ◌≤◌};
+ghost use Rattle.bitvec_cells.specs.base.Memory.{HasWindow, Writes, element_bits, list_in};
+ghost use Rattle.bitvec_cells.specs.Access.{Costs, OnlyReads};
+ghost use Rattle.bitvec_words.specs.Elements.{elements_window};
+
+use crate::fields::{WORD_BITS, moved};
+use crate::word_order::WordOrder;
+use bitvec_cells::store::BitStore;
+use bitvec_cells::{Cells, CellsRead};
+
+/// The bits of the elements of one word from the element `first` on. Condition: they are not wider than
+/// a word, and lie in a memory of at most `MAX_BITS` bits. It loads each of them once.
+#[inline(always)]
+pub fn load_elements<O: WordOrder, C: CellsRead>(cells: &mut C, first: usize) -> u64
+    requires window { HasWindow C.Elem.BITS (C.numbers cells.old) (elements_window C.Elem.BITS first (64 / C.Elem.BITS)) }
+    requires narrow { C.Elem.BITS ≤ 64 }
+    ensures value { element_bits 64 O.at result
+        ≡ list_in C.Elem.BITS O.at (C.numbers cells.old) (elements_window C.Elem.BITS first (64 / C.Elem.BITS)) }
+    ensures reads { OnlyReads C.CellsRead cells.old cells.new (64 / C.Elem.BITS) }
+{
+    let bits = C::Elem::BITS as usize;
+    let mut word = 0;
+    for step in 0..WORD_BITS / bits {
+        let element = cells.load(first + step);
+        word |= moved::<O, C::Elem, u64>(element, 0, bits, step * bits);
+    }
+    word
+}
+
+/// Stores the elements of one word from the element `first` on. Condition: as of
+/// [`load_elements`].
+#[inline(always)]
+pub fn store_elements<O: WordOrder, C: Cells>(cells: &mut C, first: usize, word: u64)
+    requires window { HasWindow C.Elem.BITS (C.numbers cells.old) (elements_window C.Elem.BITS first (64 / C.Elem.BITS)) }
+    requires narrow { C.Elem.BITS ≤ 64 }
+    ensures writes { Writes C.Elem.BITS O.at (C.numbers cells.old) (C.numbers cells.new) (elements_window C.Elem.BITS first (64 / C.Elem.BITS))
+        (element_bits 64 O.at word) }
+    ensures cost { Costs C.CellsRead cells.old cells.new 0 (64 / C.Elem.BITS) }
+{
+    let bits = C::Elem::BITS as usize;
+    for step in 0..WORD_BITS / bits {
+        let element = moved::<O, u64, C::Elem>(word, step * bits, bits, 0);
+        cells.store(first + step, element);
+    }
+}
