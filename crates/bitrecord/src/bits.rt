@@ -2,5 +2,5 @@
 pub use bitvec::index::Window;
 pub use bitvec::prelude::{
     BitEdits, BitQueries, BitSlice, BitSliceMut, BitStore, BitVec, FieldOrder, Lsb0, Msb0,
-    OnesCalls, ToBitVec,
+    OnesCalls, RepeatError, SliceOrder, ToBitVec,
 };

@@ -1,8 +1,11 @@
-//! Tests of packed records, and a caller of `bitrecord` alone.
+//! Tests of packed records, of elements of the caller's own and of copies of views, with their want of memory: callers
+//! of `bitrecord` alone.
 #![tactic(auto)]
 
 #[cfg(test)]
 mod coded;
+#[cfg(test)]
+mod copies;
 #[cfg(test)]
 mod headers;
 #[cfg(test)]
@@ -10,4 +13,12 @@ mod laws;
 #[cfg(test)]
 mod memory;
 #[cfg(test)]
+mod own_element;
+#[cfg(test)]
+mod own_wide_element;
+#[cfg(test)]
 mod records;
+#[cfg(test)]
+mod refusals;
+#[cfg(test)]
+mod repeats;

@@ -23,8 +23,6 @@ mod lent_bits;
 #[cfg(test)]
 mod meetings;
 #[cfg(test)]
-mod moves;
-#[cfg(test)]
 mod old_names;
 #[cfg(test)]
 mod pieces;

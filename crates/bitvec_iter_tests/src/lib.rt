@@ -1,5 +1,5 @@
-//! Callers of the walks over views, and of the numbers in views and in runs: what they know afterwards, and what
-//! no clause says.
+//! Callers of the walks over views, of their searches, and of the numbers in views and in runs, with the digits that
+//! views print: what they know afterwards, and what no clause says.
 #![tactic(auto)]
 
 #[cfg(test)]
@@ -29,7 +29,11 @@ mod run_rows;
 #[cfg(test)]
 mod runs;
 #[cfg(test)]
+mod scans;
+#[cfg(test)]
 mod shown;
+#[cfg(test)]
+mod texts;
 #[cfg(test)]
 mod widths;
 

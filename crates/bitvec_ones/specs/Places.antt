@@ -1,5 +1,5 @@
 -- The places of a bit that a walk has still to come to.
-use Rattle.std.specs.Prelude.{ℕ, ◌-◌, ◌≤◌, Bool, false, List, filter, slice_index_or}
+use Rattle.std.specs.Prelude.{◌≡◌, ℕ, ◌-◌, ◌≤◌, Bool, false, List, filter, slice_index_or}
 use Rattle.std.specs.Bool.{beq}
 use Rattle.std.specs.List.{range_with_len}
 use Rattle.bitvec_ones.specs.declared.rest.Rest.{Rest}
@@ -16,3 +16,9 @@ places_left wanted list rest = places_in wanted list rest.front rest.back
 pub record IsRestOf (rest : Rest) (n : ℕ) : Type 0 where
   pub order : rest.front ≤ rest.back
   pub bound : rest.back ≤ n
+
+-- what is left of the rest begins where that did, ends no later, and is of n places
+pub record ShortensBack (rest left : Rest) (n : ℕ) : Type 0 where
+  pub inside : IsRestOf left n
+  pub front : left.front ≡ rest.front
+  pub back : left.back ≤ rest.back

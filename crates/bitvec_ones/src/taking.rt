@@ -1,11 +1,11 @@
 //! The first and the last place of a bit that a walk has still to come to.
-ghost use Rattle.std.specs.Prelude.{◌≡◌, ◌+◌, ◌-◌, ◌≤◌, length};
+ghost use Rattle.std.specs.Prelude.{◌≡◌, ◌+◌, ◌-◌, length};
 ghost use Rattle.std.specs.Iterator.{YieldsFirst, YieldsLast};
 ghost use Rattle.bitvec_query.specs.base.Memory.{HasWindow, list_in};
 ghost use Rattle.bitvec_query.specs.cells.Access.{OnlyReads};
 ghost use Rattle.bitvec_query.specs.walk.Cost.{touched_count};
 ghost use Rattle.bitvec_ones.specs.Loads.{LoadsPassed};
-ghost use Rattle.bitvec_ones.specs.Places.{IsRestOf, places_left};
+ghost use Rattle.bitvec_ones.specs.Places.{IsRestOf, ShortensBack, places_left};
 
 use crate::rest::Rest;
 use bitvec_query::base::{BitOrder, Window};
@@ -53,9 +53,7 @@ pub fn take_last<O: SliceOrder, C: CellsRead>(
 ) -> Option<usize>
     requires window { HasWindow C.Elem.BITS (C.numbers cells.old) window }
     requires inside { IsRestOf rest.old window.len }
-    ensures inside { IsRestOf rest.new window.len }
-    ensures front { rest.new.front ≡ rest.old.front }
-    ensures back { rest.new.back ≤ rest.old.back }
+    ensures rest { ShortensBack rest.old rest.new window.len }
     ensures gives { YieldsLast (places_left want (list_in C.Elem.BITS O.at (C.numbers cells.old) window)) rest.old result rest.new }
     ensures reads { LoadsPassed C.CellsRead C.Elem.BITS window rest.old rest.new result cells.old cells.new }
 {

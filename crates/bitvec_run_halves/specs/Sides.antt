@@ -1,9 +1,11 @@
 -- Two lists, of which a step is made on one.
-use Rattle.std.specs.Prelude.{ℕ, Bool, List, ◌++◌, drop, take}
+use Rattle.std.specs.Prelude.{◌≡◌, ℕ, Bool, List, ◌++◌, drop, take}
 use Rattle.bitvec_slice.specs.base.declared.window.Window.{Window}
+use Rattle.bitvec_slice.specs.base.Memory.{Writes, list_in}
 use Rattle.bitvec_slice.specs.base.Window.{window_range}
 use Rattle.bitvec_run.specs.declared.command.Reply.{Reply}
 use Rattle.bitvec_run.specs.declared.command.Step.{Step}
+use Rattle.bitvec_run.specs.Fold.{list_after, replies_of}
 use Rattle.bitvec_run.specs.Runs.{step_list, step_reply}
 use Rattle.bitvec_run_halves.specs.declared.halves.Side.{Side}
 use Rattle.bitvec_run_halves.specs.declared.halves.Side.TheVariants.{Left, Right}
@@ -24,6 +26,11 @@ side_reply right lists (Right, step) = step_reply right lists.1 step
 abbrev pub side_lists : List Bool → List Bool × List Bool → Side × Step → List Bool × List Bool
 side_lists right lists (Left, step) = (step_list right lists.0 step, lists.1)
 side_lists right lists (Right, step) = (lists.0, step_list right lists.1 step)
+
+-- what steps reply and leave in a window of a memory that is cut at `mid`, each made on the half that its side names
+pub record RunsSides (b : ℕ) (at : ℕ → ℕ → ℕ) (right : List Bool) (window : Window) (mid : ℕ) (steps : List (Side × Step)) (old new : List ℕ) (replies : List Reply) : Type 0 where
+  pub replies_is : replies ≡ replies_of (side_reply right) (side_lists right) (halves_of mid (list_in b at old window)) steps
+  pub writes : Writes b at old new window (joined (list_after (side_lists right) (halves_of mid (list_in b at old window)) steps))
 
 -- where the side stands of a window that is cut at `mid`
 abbrev pub side_window : Window → ℕ → Side → Window

@@ -1,10 +1,10 @@
 //! Runs of whole lists of commands through two halves.
 ghost use Rattle.std.specs.Prelude.{◌≡◌, ◌≤◌, length, map};
-ghost use Rattle.bitvec_slice.specs.base.Memory.{HasWindow, Writes, list_in};
+ghost use Rattle.bitvec_slice.specs.base.Memory.{HasWindow, list_in};
 ghost use Rattle.bitvec_run.specs.Fold.{list_after, replies_of};
 ghost use Rattle.bitvec_slice.specs.Views.{seen, seen_mut};
 ghost use Rattle.bitvec_slice.specs.Writes.{WritesBits};
-ghost use Rattle.bitvec_run_halves.specs.Sides.{halves_of, joined, side_lists, side_reply};
+ghost use Rattle.bitvec_run_halves.specs.Sides.{RunsSides, halves_of, joined, side_lists, side_reply};
 
 use crate::Side;
 use crate::halves::side_window;
@@ -64,11 +64,8 @@ fn run_in<T: BitStore, O: SliceOrder>(
     requires right_window { HasWindow T.BITS (map T.value right.now) source }
     requires bound { mid ≤ window.len }
     requires lengths { length steps.now ≡ length out.old }
-    ensures replies { let other = list_in T.BITS O.at (map T.value right.now) source in
-        out.new ≡ replies_of (side_reply other) (side_lists other) (halves_of mid (list_in T.BITS O.at (map T.value cells.old) window)) steps.now }
-    ensures writes { let other = list_in T.BITS O.at (map T.value right.now) source in
-        Writes T.BITS O.at (map T.value cells.old) (map T.value cells.new) window
-        (joined (list_after (side_lists other) (halves_of mid (list_in T.BITS O.at (map T.value cells.old) window)) steps.now)) }
+    ensures { RunsSides T.BITS O.at (list_in T.BITS O.at (map T.value right.now) source)
+        window mid steps.now (map T.value cells.old) (map T.value cells.new) out.new }
 {
     let mut accessor = Exclusive::new(cells);
     let mut beside = Shared::new(right);
@@ -101,11 +98,8 @@ where
     requires right_window { HasWindow C.Elem.BITS (D.numbers right.old) source }
     requires bound { mid ≤ window.len }
     requires lengths { length steps.now ≡ length out.old }
-    ensures replies { let other = list_in C.Elem.BITS O.at (D.numbers right.old) source in
-        out.new ≡ replies_of (side_reply other) (side_lists other) (halves_of mid (list_in C.Elem.BITS O.at (C.numbers cells.old) window)) steps.now }
-    ensures writes { let other = list_in C.Elem.BITS O.at (D.numbers right.old) source in
-        Writes C.Elem.BITS O.at (C.numbers cells.old) (C.numbers cells.new) window
-        (joined (list_after (side_lists other) (halves_of mid (list_in C.Elem.BITS O.at (C.numbers cells.old) window)) steps.now)) }
+    ensures runs { RunsSides C.Elem.BITS O.at (list_in C.Elem.BITS O.at (D.numbers right.old) source)
+        window mid steps.now (C.numbers cells.old) (C.numbers cells.new) out.new }
     ensures borrow { C.borrow cells.new ≡ C.borrow cells.old }
 {
     for index in 0..steps.len() {

@@ -21,11 +21,7 @@ mod number_set;
 #[cfg(test)]
 mod numbers_known;
 #[cfg(test)]
-mod own_element;
-#[cfg(test)]
 mod own_order;
-#[cfg(test)]
-mod own_wide_element;
 #[cfg(test)]
 mod runs_known;
 #[cfg(test)]

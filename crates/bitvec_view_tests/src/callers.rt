@@ -1,9 +1,8 @@
-//! Callers of views, of a split and of owned sequences, with contracts of their own.
-ghost use Rattle.std.specs.Prelude.{◌≡◌, ◌<◌, ◌≤◌, ◌↔◌, IfOk, IfSome, IsSome, count_by, false, find, map, not, reverse, slice_index_or, slice_range, unwrap_or};
+//! Callers of views and of owned sequences, with contracts of their own.
+ghost use Rattle.std.specs.Prelude.{◌≡◌, ◌<◌, ◌≤◌, ◌↔◌, IfOk, IfSome, IsSome, count_by, false, map, not, reverse, slice_index_or, slice_range};
 ghost use Rattle.bitvec_owned.specs.query.slice.Views.{seen, seen_mut};
 ghost use Rattle.bitvec_owned.specs.Copies.{Holds, copy_start};
 ghost use Rattle.bitvec_owned.specs.Owned.{owned};
-ghost use Rattle.bitvec_split.specs.Asked.{upward};
 
 use bitvec_owned::edit::BitEdits;
 use bitvec_owned::query::BitQueries;
@@ -12,18 +11,7 @@ use bitvec_owned::query::engine::SliceOrder;
 use bitvec_owned::query::slice::{BitSlice, BitSliceMut};
 use bitvec_owned::query::store::BitStore;
 use bitvec_owned::{BitVec, ToBitVec};
-use bitvec_split::SplitCalls;
 use std::alloc::{AllocError, Global};
-
-/// How many bits stand before the first one: as many as there are, if none is.
-pub fn before_one<T: BitStore, O: BitOrder>(view: BitSlice<'_, T, O>) -> usize
-    ensures { result ≡ unwrap_or (find (λ index. slice_index_or (seen view.entry).bits index false) (upward (seen view.entry).window.len)) (seen view.entry).window.len }
-{
-    match view.split(|_, bit| *bit).next() {
-        Some(piece) => piece.len(),
-        None => view.len(),
-    }
-}
 
 /// A copy of the bits, each of them flipped, and how many of them were 1.
 pub fn flipped<T: BitStore, O: SliceOrder>(
@@ -99,17 +87,10 @@ pub fn fill_before<T: BitStore, O: SliceOrder>(
 
 #[cfg(test)]
 mod tests {
-    use super::{backwards, before_one, flipped};
+    use super::{backwards, flipped};
     use bitvec_owned::query::base::Lsb0;
     use bitvec_owned::query::slice::BitSlice;
     use std::alloc::Global;
-
-    #[test]
-    fn bits_before_the_first_one(rt: HostRuntime) {
-        let cells = [0x48u8];
-        assert!(rt; before_one(BitSlice::<u8, Lsb0>::from_slice(&cells)) == 3);
-        assert!(rt; before_one(BitSlice::<u8, Lsb0>::from_slice(&[0])) == 8);
-    }
 
     /// Whether a flipped copy was made, of so many ones and with these elements.
     fn flips(

@@ -1,5 +1,4 @@
-//! Views, what they lend and what they are asked, their order, hash and texts, copies and repeats, and owned
-//! sequences: callers, and what no clause says.
+//! Views, their edits, order, hash and texts, and owned sequences: callers, and what no clause says.
 #![tactic(auto)]
 
 #[cfg(test)]
@@ -8,8 +7,6 @@ mod callers;
 mod comparing;
 #[cfg(test)]
 mod constructors;
-#[cfg(test)]
-mod copies;
 #[cfg(test)]
 mod edits;
 #[cfg(test)]
@@ -23,7 +20,7 @@ mod indices;
 #[cfg(test)]
 mod laws;
 #[cfg(test)]
-mod lends;
+mod moves;
 #[cfg(test)]
 mod owned;
 #[cfg(test)]
@@ -31,23 +28,11 @@ mod ranges;
 #[cfg(test)]
 mod references;
 #[cfg(test)]
-mod refusals;
-#[cfg(test)]
-mod repeats;
-#[cfg(test)]
-mod scans;
-#[cfg(test)]
 mod shown;
-#[cfg(test)]
-mod split_apart;
-#[cfg(test)]
-mod split_at;
-#[cfg(test)]
-mod texts;
 #[cfg(test)]
 mod two_types;
 #[cfg(test)]
 mod widths;
 
 #[cfg(test)]
-pub use callers::{backwards, before_one, flipped};
+pub use callers::{backwards, flipped};

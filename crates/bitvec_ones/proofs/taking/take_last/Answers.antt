@@ -21,9 +21,7 @@ returns-in-Some g c =
     let below = last-below b g.O.BitOrder.at _ c.args.window c.args.rest.now c.args.want c.requires.window c.requires.inside _ found in
     let passed = touched-passed_back b c.args.window.start c.args.rest.now.front c.args.rest.now.back c.in-Some.found (width_some _ g.met.C.Elem.BitStore.width_law) below in
     record {
-      inside = record { order = omega arith; bound = search rules };
-      front = search rules;
-      back = omega arith;
+      rest = record { inside = record { order = omega arith; bound = search rules }; front = search rules; back = omega arith };
       gives = last-taken b g.O.BitOrder.at _ c.args.window c.args.rest.now c.args.want c.requires.window c.requires.inside _ found;
       reads = record { numbers = search rules; borrow = search rules; loads = omega arith; stores = search rules };
     }

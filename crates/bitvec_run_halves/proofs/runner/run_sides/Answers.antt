@@ -43,8 +43,10 @@ returns g c =
     let lists = halves_of c.args.mid (list_in g.C.Elem.BitStore.BITS g.O.BitOrder.at (g.C.CellsRead.numbers c.args.cells.now) c.args.window) in
     let over = c.loop-index-test.false in
     record {
-      replies = sym (take_all c.loop-index.index c.loop-index.out (omega (arith, over, inv.count, c.requires.lengths))) ∙ inv.ran.replied
-          ∙ replies-all (side_reply right) (side_lists right) lists c.args.steps.now c.loop-index.index (omega (arith, over));
-      writes = Writes-is _ _ _ _ c.args.window _ _ inv.ran.writes (ap joined (after-all (side_lists right) lists c.args.steps.now c.loop-index.index (omega (arith, over))));
+      runs = record {
+        replies_is = sym (take_all c.loop-index.index c.loop-index.out (omega (arith, over, inv.count, c.requires.lengths))) ∙ inv.ran.replied
+            ∙ replies-all (side_reply right) (side_lists right) lists c.args.steps.now c.loop-index.index (omega (arith, over));
+        writes = Writes-is _ _ _ _ c.args.window _ _ inv.ran.writes (ap joined (after-all (side_lists right) lists c.args.steps.now c.loop-index.index (omega (arith, over))));
+      };
       borrow = inv.borrow;
     }

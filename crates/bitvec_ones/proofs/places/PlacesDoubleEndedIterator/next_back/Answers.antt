@@ -5,4 +5,4 @@ pub invariant_of-self : goal.invariant_of-self
 invariant_of-self g c =
     let taken = c.take_last-index.ensures in
     let shows = rw (c.min-count.ensures, c.saturating_sub.ensures) at c.sought_first-self.ensures in
-    record { inside = rw c.window.ensures.value at taken.inside; keeps = kept-ended _ _ _ _ c.args.self.now.keeps _ _ taken.front taken.back shows }
+    record { inside = rw c.window.ensures.value at taken.rest.inside; keeps = kept-ended _ _ _ _ c.args.self.now.keeps _ _ taken.rest.front taken.rest.back shows }

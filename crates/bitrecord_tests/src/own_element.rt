@@ -2,7 +2,7 @@
 ghost use Rattle.std.specs.Prelude.{◌≡◌, ◌-◌, ◌^◌, refl};
 ghost use Rattle.std.proofs.Common.{rules};
 
-use bitvec::prelude::*;
+use bitrecord::bits::{BitEdits, BitQueries, BitSliceMut, BitStore, Msb0};
 
 /// A register of 16 bits.
 #[derive(Clone, Copy)]

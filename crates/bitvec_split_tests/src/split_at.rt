@@ -1,9 +1,9 @@
 //! Views, cut in two.
-use bitvec_owned::query::BitQueries;
-use bitvec_owned::query::base::Lsb0;
-use bitvec_owned::query::engine::SliceOrder;
-use bitvec_owned::query::slice::{BitSlice, BitSliceMut};
-use bitvec_owned::query::store::BitStore;
+use bitvec_query::BitQueries;
+use bitvec_query::base::Lsb0;
+use bitvec_query::engine::SliceOrder;
+use bitvec_query::slice::{BitSlice, BitSliceMut};
+use bitvec_query::store::BitStore;
 
 /// How many bits two views have each, and how many of these are 1.
 fn counts<T: BitStore, O: SliceOrder>(

@@ -1,9 +1,9 @@
 //! Edits that move the bits of a view: what the user's elements are afterwards, the bits outside
 //! the view among them.
 
-use bitvec_edit::BitEdits;
-use bitvec_edit::base::Lsb0;
-use bitvec_edit::slice::BitSliceMut;
+use bitvec_owned::edit::BitEdits;
+use bitvec_owned::query::base::Lsb0;
+use bitvec_owned::query::slice::BitSliceMut;
 
 /// Edits the first five bits, by one call a number.
 fn edit_five(bytes: &mut [u8; 1], kind: usize) {

@@ -1,9 +1,6 @@
 //! What copies hold.
 
-use bitvec_owned::query::base::{Lsb0, Msb0, Window};
-use bitvec_owned::query::engine::SliceOrder;
-use bitvec_owned::query::slice::{BitSlice, BitSliceMut};
-use bitvec_owned::{BitVec, ToBitVec};
+use bitrecord::bits::{BitSlice, BitSliceMut, BitVec, Lsb0, Msb0, SliceOrder, ToBitVec, Window};
 use bitvec_test_support::{bits_of, flipped};
 use std::alloc::{AllocError, Global};
 

@@ -1,10 +1,10 @@
 //! Searches of a view, and comparisons of two.
 
-use bitvec_owned::query::BitQueries;
-use bitvec_owned::query::base::{BitOrder, Lsb0, Msb0};
-use bitvec_owned::query::engine::SliceOrder;
-use bitvec_owned::query::slice::{BitSlice, BitSliceMut};
-use bitvec_owned::query::store::BitStore;
+use bitvec_query::BitQueries;
+use bitvec_query::base::{BitOrder, Lsb0, Msb0};
+use bitvec_query::engine::SliceOrder;
+use bitvec_query::slice::{BitSlice, BitSliceMut};
+use bitvec_query::store::BitStore;
 use std::cmp::Ordering;
 
 /// Whether these are the ones before the first zero, the zeros before the first one, and the same behind the
