@@ -96,6 +96,30 @@ fn needles_of_another_width_and_order(rt: HostRuntime) {
     }
 }
 
+// The view is 66 zeros, a 1, 93 zeros, a 1 and 31 zeros, the needles a 1 and zeros.
+#[test]
+fn needles_longer_than_a_word(rt: HostRuntime) {
+    let mut cells = [0u8; 24];
+    cells[8] = 0x04;
+    cells[20] = 0x01;
+    let view = BitSlice::<u8, Lsb0>::from_slice(&cells);
+    let parts = [0x8000_0000_0000_0000u64, 0];
+    let needles = BitSlice::<u64, Msb0>::from_slice(&parts);
+    for (from, to, found) in [
+        (0, 90, [true, false, false]),
+        (0, 94, [true, false, false]),
+        (0, 95, [false, false, false]),
+        (0, 32, [true, false, true]),
+        (0, 33, [true, false, false]),
+        (1, 67, [true, true, false]),
+        (1, 68, [true, false, false]),
+        (1, 94, [true, false, false]),
+        (1, 95, [false, false, false]),
+    ] {
+        assert!(rt; stands(view, needles.get(from..to), found), "{from} {to}");
+    }
+}
+
 /// Whether what is left of a view has these bits.
 fn is_left<T: BitStore, O: SliceOrder, U: BitStore, P: BitOrder>(
     rest: Option<BitSlice<'_, T, O>>,
