@@ -1,10 +1,10 @@
 //! The whole program, but for what a process is.
-ghost use Rattle.std.specs.Prelude.{◌≡◌, ℕ, ◌⊎◌, ◌≤◌, is_some, length, map, string_bytes, IfOk, IfErr, IsSome};
+ghost use Rattle.std.specs.Prelude.{◌≡◌, ℕ, ◌⊎◌, is_some, length, map, string_bytes, IfOk, IfErr, IsSome};
 ghost use Rattle.std.specs.Io.KnownBytes.{Appends};
 ghost use Rattle.bitvec_run.specs.Runs.{FailsRun};
 ghost use Rattle.bitdo_work.specs.Arguments.{request, request_of, typed_request, ordered_request, own_request};
 ghost use Rattle.bitdo_work.specs.Faults.{status_of, fault_text};
-ghost use Rattle.bitdo_work.specs.Program.{IsRun, HasRun, HasFault, PrintsRun, PrintsFault, Works};
+ghost use Rattle.bitdo_work.specs.Program.{IsRun, HasRun, HasFault, Works};
 ghost use Rattle.bitdo_work.specs.Texts.{line_of};
 
 use crate::arguments::Arguments;
@@ -173,13 +173,9 @@ pub fn work<A: Allocator + Clone + Drop, R: Read, W: Write>(
     input: &mut R,
     output: &mut W,
 ) -> u8
-    ensures status { result ≤ 3 }
-    ensures run { result ≡ 0 → PrintsRun (request_of (map string_bytes args.now))
-        (R.remaining input.old) (R.remaining input.new) (W.contents output.old) (W.contents output.new) }
-    ensures fault { 2 ≤ result → PrintsFault (request_of (map string_bytes args.now))
-        (R.remaining input.old) (R.remaining input.new) (W.contents output.old) (W.contents output.new) result }
+    ensures works { Works R.remaining (request_of (map string_bytes args.now)) input.old input.new
+        (W.contents output.old) (W.contents output.new) result }
     ensures bad_arguments { request_of (map string_bytes args.now) ≡ None → (result ≡ 2) ⊎ (result ≡ 1) }
-    ensures unread { request_of (map string_bytes args.now) ≡ None → input.new ≡ input.old }
 {
     match Arguments::parse(args) {
         Some(arguments) => run_given(&alloc, &arguments, input, output),

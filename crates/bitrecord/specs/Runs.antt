@@ -4,6 +4,7 @@ use Rattle.bitvec.specs.Segments.{segment_number}
 use Rattle.bitvec.specs.Types.{Window}
 use Rattle.bitvec.specs.Window.{window_of}
 use Rattle.bitrecord.specs.Layouts.{field_at}
+use Rattle.bitrecord.specs.Records.{number_in}
 use Rattle.bitrecord.specs.declared.endian.Endian.{Endian}
 use Rattle.bitrecord.specs.declared.endian.Endian.TheVariants as end
 
@@ -23,6 +24,11 @@ pub record IsRun (fields : List Window) (first last : ℕ) : Type 0 where
 -- the numbers tell how many fields follow each of the first fields in its run
 abbrev pub AreRuns : List Window → List ℕ → Type 0
 AreRuns fields runs = (n : ℕ) → n < length fields → n < 64 → IsRun fields n (n + slice_index runs n)
+
+-- the numbers of the fields from the first to the last are those that a list of bits has at the place, and those before are as they were
+pub record ReadsRun (endian : Endian) (high : Bool) (b s : ℕ) (list : List Bool) (fields : List Window) (first last : ℕ) (old new : List ℕ) : Type 0 where
+  pub done : (k : ℕ) → first ≤ k → k ≤ last → slice_index new k ≡ number_in endian high b s list (field_at fields k)
+  pub kept : (k : ℕ) → k < first → slice_index new k ≡ slice_index old k
 
 -- the bits of fields that follow one another
 abbrev pub across : List Window → ℕ → ℕ → Window

@@ -1,10 +1,10 @@
 //! Records read from views.
-ghost use Rattle.std.specs.Prelude.{◌≡◌, ℕ, ◌<◌, ◌≤◌, ◌↔◌, IsTrue, length, slice_index};
+ghost use Rattle.std.specs.Prelude.{◌≡◌, ◌<◌, ◌↔◌, IsTrue, length};
 ghost use Rattle.bitvec.specs.Views.{seen};
 ghost use Rattle.bitvec.specs.Window.{IsWithin};
-ghost use Rattle.bitrecord.specs.Layouts.{HasWidth, field_at};
+ghost use Rattle.bitrecord.specs.Layouts.{HasWidth};
 ghost use Rattle.bitrecord.specs.Records.{AreEncodable, number_in, record_in};
-ghost use Rattle.bitrecord.specs.Runs.{IsRun, IsSeamless};
+ghost use Rattle.bitrecord.specs.Runs.{IsRun, IsSeamless, ReadsRun};
 ghost use Rattle.bitrecord.specs.Views.{bits_of, fields_of};
 
 use crate::coding::take;
@@ -41,9 +41,7 @@ fn decode_run<T: BitStore, O: FieldOrder, A: Allocator>(
     requires run { IsRun (fields_of layout.now) first last }
     requires several { first < last }
     requires seamless { IsSeamless endian O.HIGH }
-    ensures done { (k : ℕ) → first ≤ k → k ≤ last → slice_index out.new k
-        ≡ number_in endian O.HIGH T.BITS (seen view.entry).window.start (seen view.entry).bits (field_at (fields_of layout.now) k) }
-    ensures kept { (k : ℕ) → k < first → slice_index out.new k ≡ slice_index out.old k }
+    ensures { ReadsRun endian O.HIGH T.BITS (seen view.entry).window.start (seen view.entry).bits (fields_of layout.now) first last out.old out.new }
 {
     let start = layout.field(first).start;
     let end = layout.field(last);

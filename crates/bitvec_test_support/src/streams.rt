@@ -1,10 +1,10 @@
 //! Readers and writers that give or take little, or fail.
 //!
 //! A `Vec<u8, A>` is the writer that takes everything and keeps it.
-ghost use Rattle.std.specs.Prelude.{◌≡◌, ◌+◌, ◌<◌, ◌≤◌, ◌↔◌, [], length, min, Some, None, IfOk, IfErr, IsErr, OnOk, OnErr, IsTrue, IsFalse};
+ghost use Rattle.std.specs.Prelude.{◌≡◌, ◌+◌, ◌<◌, ◌≤◌, ◌↔◌, [], length, min, Some, None, IfOk, OnErr, IsTrue, IsFalse};
 ghost use Rattle.std.specs.Io.{ReadsAtMost, WritesAtMost};
 ghost use Rattle.std.specs.Io.KnownBytes.{Keeps, ReadConsumes, WriteAppends};
-ghost use Rattle.std.specs.IoError.{error_kind};
+ghost use Rattle.bitvec_test_support.specs.Fails.{FailsWhere};
 
 use std::io::{self, ErrorKind, Read, Write};
 
@@ -38,8 +38,7 @@ impl<'a> Read for OneByteReader<'a> {
         ensures bound { ReadsAtMost result buf.new }
         ensures bytes { ReadConsumes (Some self.old.bytes.now) (Some self.new.bytes.now) result buf.new }
         ensures one { IfOk result (λ count. count ≤ 1) }
-        ensures fails { IsErr result ↔ IsTrue self.old.is_interrupted }
-        ensures kind { IfErr result (λ error. error_kind error ≡ ErrorKind.Interrupted) }
+        ensures fails { FailsWhere result (IsTrue self.old.is_interrupted) ErrorKind.Interrupted }
         ensures next { IfOk result (λ count. IsTrue self.new.is_interrupted ↔ (0 < count) × (0 < length self.new.bytes.now)) }
         ensures retried { OnErr result (IsFalse self.new.is_interrupted) }
     {
@@ -81,8 +80,7 @@ impl<'a> Read for FailingReader<'a> {
         ensures bound { ReadsAtMost result buf.new }
         ensures bytes { ReadConsumes (Some self.old.bytes.now) (Some self.new.bytes.now) result buf.new }
         ensures count { IfOk result (λ count. count ≡ min (length self.old.bytes.now) (length buf.old)) }
-        ensures fails { IsErr result ↔ self.old.bytes.now ≡ [] }
-        ensures kind { IfErr result (λ error. error_kind error ≡ self.old.kind) }
+        ensures fails { FailsWhere result (self.old.bytes.now ≡ []) self.old.kind }
         ensures kept { self.new.kind ≡ self.old.kind }
     {
         if self.bytes.is_empty() {
@@ -117,10 +115,9 @@ impl Write for FailingWriter {
     fn write(&mut self, buf: &[u8]) -> io::Result<usize>
         ensures bound { WritesAtMost result buf.now }
         ensures bytes { WriteAppends None None result buf.now }
-        ensures count { IfOk result (λ count. count ≡ min (length buf.now) self.old.room) }
-        ensures room { IfOk result (λ count. self.new.room + count ≡ self.old.room) }
-        ensures fails { IsErr result ↔ self.old.room ≡ 0 }
-        ensures kind { IfErr result (λ error. error_kind error ≡ self.old.kind) }
+        ensures count { IfOk result (λ count. (count ≡ min (length buf.now) self.old.room)
+            × (self.new.room + count ≡ self.old.room)) }
+        ensures fails { FailsWhere result (self.old.room ≡ 0) self.old.kind }
         ensures unchanged { OnErr result (self.new ≡ self.old) }
         ensures kept { self.new.kind ≡ self.old.kind }
     {
@@ -132,8 +129,7 @@ impl Write for FailingWriter {
 
     fn flush(&mut self) -> io::Result<()>
         ensures bytes { Keeps None None }
-        ensures fails { IsErr result ↔ self.old.room ≡ 0 }
-        ensures kind { IfErr result (λ error. error_kind error ≡ self.old.kind) }
+        ensures fails { FailsWhere result (self.old.room ≡ 0) self.old.kind }
         ensures unchanged { self.new ≡ self.old }
     {
         if self.room == 0 {

@@ -57,7 +57,7 @@ loop-field-preserved g c =
       kept = λ k low. get_or-set_other c.loop-field.out n k c.from.result 0 (λ same. absurd (omega arith)) ∙ inv.kept k low;
     }
 
-pub returns-clause-done : goal.returns-clause-done
-returns-clause-done g c =
+pub returns : goal.returns
+returns g c =
     let test = c.loop-field-test.false in
-    λ k from low. c.loop-field.invariant.done k from (omega arith)
+    record { done = λ k from low. c.loop-field.invariant.done k from (omega arith); kept = c.loop-field.invariant.kept }
