@@ -38,11 +38,12 @@ after-tail-requires-clause-bound g c =
     let b = g.C.Elem.BitStore.BITS in
     rw (c.whole_elements-source.ensures, c.BITS-bits.ensures) (whole_fits b c.args.from.len (c.args.from.len / b) (omega arith))
 
-pub field-front-requires-clause-window : goal.field-front-requires-clause-window
-field-front-requires-clause-window g c = rw (c.after-tail.ensures, c.whole_elements-source.ensures, c.BITS-bits.ensures, c.combine_whole.ensures.right.numbers) ((behind-whole _ _ _ _ _ _ c.requires.span refl).beside)
-
-pub field-front-requires-clause-bound : goal.field-front-requires-clause-bound
-field-front-requires-clause-bound g c = rw (c.after-tail.ensures, c.whole_elements-source.ensures, c.BITS-bits.ensures) (tail-short _ _ (width_some _ g.met.C.Elem.BitStore.width_law))
+pub field-front-requires : goal.field-front-requires
+field-front-requires g c = record {
+  inside = rw (c.after-tail.ensures, c.whole_elements-source.ensures, c.BITS-bits.ensures, c.combine_whole.ensures.right.numbers) ((behind-whole _ _ _ _ _ _ c.requires.span refl).beside);
+  some = search rules;
+  bound = rw (c.after-tail.ensures, c.whole_elements-source.ensures, c.BITS-bits.ensures) (tail-short _ _ (width_some _ g.met.C.Elem.BitStore.width_law));
+}
 
 pub combine_end-requires-clause-window : goal.combine_end-requires-clause-window
 combine_end-requires-clause-window g c = rw (c.after-rest.ensures, c.whole_elements-source.ensures, c.BITS-bits.ensures) ((behind-whole _ _ _ _ _ _ c.requires.span c.combine_whole.ensures.writes.elements).window)

@@ -43,11 +43,12 @@ after-tail-requires-clause-bound g c =
     let b = g.C.Elem.BitStore.BITS in
     rw c.BITS-bits.ensures (whole_fits b c.args.from.len (c.args.from.len / b) (omega arith))
 
-pub field_after-front-requires-clause-window : goal.field_after-front-requires-clause-window
-field_after-front-requires-clause-window g c = rw (c.after-tail.ensures, c.BITS-bits.ensures, c.combine_joined-last.ensures.right.numbers) ((behind-whole _ _ _ _ _ _ c.requires.span refl).beside)
-
-pub field_after-front-requires-clause-bound : goal.field_after-front-requires-clause-bound
-field_after-front-requires-clause-bound g c = rw (c.after-tail.ensures, c.BITS-bits.ensures) (tail-short _ _ (width_some _ g.met.C.Elem.BitStore.width_law))
+pub field_after-front-requires-clause-field : goal.field_after-front-requires-clause-field
+field_after-front-requires-clause-field g c = record {
+  inside = rw (c.after-tail.ensures, c.BITS-bits.ensures, c.combine_joined-last.ensures.right.numbers) ((behind-whole _ _ _ _ _ _ c.requires.span refl).beside);
+  some = search rules;
+  bound = rw (c.after-tail.ensures, c.BITS-bits.ensures) (tail-short _ _ (width_some _ g.met.C.Elem.BitStore.width_law));
+}
 
 pub combine_end-requires-clause-window : goal.combine_end-requires-clause-window
 combine_end-requires-clause-window g c = rw (c.after-rest.ensures, c.BITS-bits.ensures) ((behind-whole _ _ _ _ _ _ c.requires.span c.combine_joined-last.ensures.writes.elements).window)
