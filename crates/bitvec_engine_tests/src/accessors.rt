@@ -1,5 +1,6 @@
 //! What a caller knows of its slices after a call through accessors.
 ghost use Rattle.std.specs.Prelude.{◌≡◌, ◌+◌, ◌<◌, length, map, slice_index, slice_set};
+ghost use Rattle.bitvec_engine.specs.cells.Access.{OnlyReads};
 
 use bitvec_test_support::Counted;
 use bitvec_test_support::cells::{Cells, CellsRead, Exclusive, Shared};
@@ -22,10 +23,8 @@ fn copy_between<C: Cells, D: CellsRead<Elem = C::Elem>>(to: &mut C, from: &mut D
     requires from { index < length (D.numbers from.old) }
     ensures numbers { C.numbers to.new
         ≡ slice_set (C.numbers to.old) index (slice_index (D.numbers from.old) index) }
-    ensures from { D.numbers from.new ≡ D.numbers from.old }
+    ensures reads { OnlyReads D.CellsRead from.old from.new 1 }
     ensures borrow { C.borrow to.new ≡ C.borrow to.old }
-    ensures from_memory { D.borrow from.new ≡ D.borrow from.old }
-    ensures loads { D.loads from.new ≡ D.loads from.old + 1 }
     ensures stores { C.stores to.new ≡ C.stores to.old + 1 }
 {
     let element = from.load(index);

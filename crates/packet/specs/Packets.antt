@@ -108,6 +108,13 @@ pub record AreFields (windows : List Window) : Type 0 where
   pub checksum : field_at windows CHECKSUM ≡ word_window checksum_word
   pub some : CHECKSUM < length windows
 
+-- two layouts, of so many bits and with these windows, are of a packet's fields and of its header's words, and their records have n bits
+pub record AreLayouts (field_bits word_bits : ℕ) (fields words : List Window) (n : ℕ) : Type 0 where
+  pub field_bits_are : field_bits ≡ n
+  pub word_bits_are : word_bits ≡ n
+  pub are_fields : AreFields fields
+  pub are_words : AreWords words
+
 -- the windows that are read of a packet lie in it
 pub record HasHeaders (bytes : List ℕ) : Type 0 where
   pub internet : IsLayout (8 * length bytes) (windows_of internet_fields)

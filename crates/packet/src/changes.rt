@@ -3,7 +3,7 @@ ghost use Rattle.std.specs.Prelude.{◌≡◌, ◌*◌, ◌≤◌, All, length};
 ghost use Rattle.bitrecord.specs.bits.{seen_mut};
 ghost use Rattle.bitrecord.specs.Views.{bits_of, fields_of};
 ghost use Rattle.packet.specs.Changes.{CanChange, SetsFields, WritesChanges};
-ghost use Rattle.packet.specs.Packets.{AreFields, AreWords};
+ghost use Rattle.packet.specs.Packets.{AreLayouts};
 
 use crate::checksum::make_right;
 use bitrecord::bits::{BitSliceMut, Msb0};
@@ -44,10 +44,7 @@ fn changed<'a, A: Allocator>(
     bytes: &'a mut [u8],
 ) -> &'a mut [u8]
     requires bound { length bytes.old ≤ 65535 }
-    requires bits { bits_of layout.now ≡ 8 * length bytes.old }
-    requires word_bits { bits_of words.now ≡ 8 * length bytes.old }
-    requires fields { AreFields (fields_of layout.now) }
-    requires words { AreWords (fields_of words.now) }
+    requires layouts { AreLayouts (bits_of layout.now) (bits_of words.now) (fields_of layout.now) (fields_of words.now) (8 * length bytes.old) }
     requires changes { All (CanChange (fields_of layout.now)) changes.now }
     ensures set { SetsFields (fields_of layout.now) (fields_of words.now) changes.now bytes.old result.now }
     ensures name { result.ghost_name ≡ bytes.entry.ghost_name }
@@ -68,10 +65,7 @@ pub fn set_fields<A: Allocator>(
     bytes: &mut [u8],
 )
     requires bound { length bytes.old ≤ 65535 }
-    requires bits { bits_of layout.now ≡ 8 * length bytes.old }
-    requires word_bits { bits_of words.now ≡ 8 * length bytes.old }
-    requires fields { AreFields (fields_of layout.now) }
-    requires words { AreWords (fields_of words.now) }
+    requires layouts { AreLayouts (bits_of layout.now) (bits_of words.now) (fields_of layout.now) (fields_of words.now) (8 * length bytes.old) }
     requires changes { All (CanChange (fields_of layout.now)) changes.now }
     ensures { SetsFields (fields_of layout.now) (fields_of words.now) changes.now bytes.old bytes.new }
 {

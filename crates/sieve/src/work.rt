@@ -1,7 +1,8 @@
 //! The whole program, but for what a process is.
-ghost use Rattle.std.specs.Prelude.{◌≡◌, ◌*◌, ◌≤◌, ◌⊎◌, None, IfOk, IsNone, IsSome, IsSomeAnd, OnOk, codes, length, map, string_bytes};
+ghost use Rattle.std.specs.Prelude.{◌≡◌, ◌*◌, ◌≤◌, ◌⊎◌, None, IfOk, OnOk, length, map, string_bytes};
 ghost use Rattle.std.specs.Io.KnownBytes.{Appends};
 ghost use Rattle.bitvec.specs.Window.{max_bits};
+ghost use Rattle.sieve.specs.Program.{Works};
 ghost use Rattle.sieve.specs.Requests.{HasWidth, request_of};
 ghost use Rattle.sieve.specs.Texts.{line_of, text_of};
 
@@ -73,13 +74,7 @@ fn report<W: Write>(output: &mut W, line: &str, status: u8) -> u8
 /// arguments`, since the words are no request, and with 3 `out of memory`, since there was no room
 /// for a bit a number. With 1 the output couldn't be written.
 pub fn work<A: Allocator, W: Write>(alloc: A, args: &[String], output: &mut W) -> u8
-    ensures status { result ≤ 3 }
-    ensures done { result ≡ 0 → IsSomeAnd (request_of (map string_bytes args.now)) (λ request.
-        Appends (W.contents output.old) (W.contents output.new) (text_of request)) }
-    ensures bad_arguments { result ≡ 2 → IsNone (request_of (map string_bytes args.now))
-        × Appends (W.contents output.old) (W.contents output.new) (line_of (codes "bad arguments")) }
-    ensures no_memory { result ≡ 3 → IsSome (request_of (map string_bytes args.now))
-        × Appends (W.contents output.old) (W.contents output.new) (line_of (codes "out of memory")) }
+    ensures works { Works (request_of (map string_bytes args.now)) (W.contents output.old) (W.contents output.new) result }
     ensures refused { request_of (map string_bytes args.now) ≡ None → (result ≡ 2) ⊎ (result ≡ 1) }
 {
     let Some(request) = Request::parse(args) else {

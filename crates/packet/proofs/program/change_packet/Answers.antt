@@ -1,4 +1,4 @@
-use Rattle.std.proofs.Common.{◌≡◌, List, map, sym, ap, subst, ◌∙◌}
+use Rattle.std.proofs.Common.{◌≡◌, List, map, rules, sym, ap, subst, ◌∙◌}
 use Rattle.std.specs.Prelude.{All}
 use Rattle.std.proofs.lemmas.Result.{err_from_is_err_and}
 use Rattle.bitrecord.specs.bits.{Window}
@@ -19,10 +19,11 @@ returns-in_err-changes-clause-fault g c =
     let same : places_of c.as_slice.result.now ≡ packet_fields c.in_ok-bytes.field-0.bytes.items = ap places_of c.as_slice.ensures.value ∙ is.header.fields in
     rw (fault.1, fault.2) (changes-fault (map named c.args.assignments.now) _ _ _ c.in_ok-bytes.field-0.bytes.items (places_of c.as_slice.result.now) is.input same c.in_err-changes.ensures.fault)
 
-pub set_fields-requires-clause-words : goal.set_fields-requires-clause-words
-set_fields-requires-clause-words g c =
+pub set_fields-requires-clause-layouts : goal.set_fields-requires-clause-layouts
+set_fields-requires-clause-layouts g c =
     let is = c.in_ok-bytes.ensures.packet in
-    subst (λ (l : List Window). AreWords l) (sym is.header.words.fields) (header-words c.in_ok-bytes.field-0.bytes.items c.in_ok-bytes.field-0.header is.header)
+    let words = subst (λ (l : List Window). AreWords l) (sym is.header.words.fields) (header-words c.in_ok-bytes.field-0.bytes.items c.in_ok-bytes.field-0.header is.header) in
+    record { field_bits_are = search rules; word_bits_are = search rules; are_fields = search rules; are_words = words }
 
 pub set_fields-requires-clause-changes : goal.set_fields-requires-clause-changes
 set_fields-requires-clause-changes g c =
