@@ -6,6 +6,7 @@ ghost use Rattle.bitvec_cells.specs.base.Window.{window_range};
 ghost use Rattle.bitvec_cells.specs.Access.{OnlyReads, OnlyReadsAtMost};
 ghost use Rattle.bitvec_cells.specs.Cost.{touched_count};
 ghost use Rattle.bitvec_words.specs.Elements.{elements_window};
+ghost use Rattle.bitvec_words.specs.Front.{EndsAtEdge};
 
 use crate::fields::WORD_BITS;
 use crate::fronts::words_load_front;
@@ -55,9 +56,7 @@ fn first_in_front<O: WordOrder, C: CellsRead>(
     requires window { HasWindow C.Elem.BITS (C.numbers cells.old) window }
     requires some { 0 < window.len }
     ensures value { result.0 ≡ first_place want (list_in C.Elem.BITS O.at (C.numbers cells.old) (window_range window 0 result.1)) }
-    ensures some { 0 < result.1 }
-    ensures within { result.1 ≤ window.len }
-    ensures edge { result.1 < window.len → (window.start + result.1) % C.Elem.BITS ≡ 0 }
+    ensures ends { EndsAtEdge C.Elem.BITS window result.1 }
     ensures reads { OnlyReadsAtMost C.CellsRead cells.old cells.new (touched_count C.Elem.BITS window.start result.1) }
 {
     let bits = C::Elem::BITS as usize;

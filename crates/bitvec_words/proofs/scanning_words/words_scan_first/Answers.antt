@@ -23,10 +23,10 @@ loop-rest-preserved g c =
     let b = g.C.Elem.BitStore.BITS in
     let inv = c.loop-rest.invariant in
     let front = rw inv.numbers at c.first_in_front-found.ensures in
-    let within = front.within in
+    let within = front.ends.within in
     let start = inv.start in
     let end = inv.end in
-    let cut = touched-cut b c.loop-rest.rest.start _ c.loop-rest.rest.len (width_some b g.met.C.Elem.BitStore.width_law) within front.edge in
+    let cut = touched-cut b c.loop-rest.rest.start _ c.loop-rest.rest.len (width_some b g.met.C.Elem.BitStore.width_law) within front.ends.edge in
     rw c.after-rest.ensures (record {
       start = omega arith;
       end = omega arith;
@@ -41,14 +41,14 @@ pub returns-in-Some-clause-value : goal.returns-in-Some-clause-value
 returns-in-Some-clause-value g c =
     let inv = c.loop-rest.invariant in
     let front = rw inv.numbers at c.first_in_front-found.ensures in
-    first-left g.C.Elem.BitStore.BITS g.O.BitOrder.at _ c.args.window c.loop-rest.rest c.args.want c.requires inv.start inv.end _ front.within inv.none _ (sym c.in-Some.is ∙ front.value)
+    first-left g.C.Elem.BitStore.BITS g.O.BitOrder.at _ c.args.window c.loop-rest.rest c.args.want c.requires inv.start inv.end _ front.ends.within inv.none _ (sym c.in-Some.is ∙ front.value)
 
 pub returns-in-Some-clause-reads : goal.returns-in-Some-clause-reads
 returns-in-Some-clause-reads g c =
     let b = g.C.Elem.BitStore.BITS in
     let inv = c.loop-rest.invariant in
     let front = c.first_in_front-found.ensures in
-    let cut = touched-cut b c.loop-rest.rest.start _ c.loop-rest.rest.len (width_some b g.met.C.Elem.BitStore.width_law) front.within front.edge in
+    let cut = touched-cut b c.loop-rest.rest.start _ c.loop-rest.rest.len (width_some b g.met.C.Elem.BitStore.width_law) front.ends.within front.ends.edge in
     record { numbers = front.reads.numbers ∙ inv.numbers; borrow = front.reads.borrow ∙ inv.borrow; loads = omega arith; stores = front.reads.stores ∙ inv.stores }
 
 pub overflow_add-result : goal.overflow_add-result
@@ -57,7 +57,7 @@ overflow_add-result g c =
     let at = g.O.BitOrder.at in
     let inv = c.loop-rest.invariant in
     let front = rw inv.numbers at c.first_in_front-found.ensures in
-    let found = first-left b at _ c.args.window c.loop-rest.rest c.args.want c.requires inv.start inv.end _ front.within inv.none _ (sym c.in-Some.is ∙ front.value) in
+    let found = first-left b at _ c.args.window c.loop-rest.rest c.args.want c.requires inv.start inv.end _ front.ends.within inv.none _ (sym c.in-Some.is ∙ front.value) in
     let below = first-inside b at _ c.args.window c.args.want _ c.requires found in
     let fits = c.requires.fits in
     let bound = c.requires.within.len in
