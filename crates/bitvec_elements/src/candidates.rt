@@ -9,9 +9,8 @@ use bitvec_engine::words::{WordOrder, joined, toward_start};
 /// How many bits of the needle [`candidates`] compares before it asks whether any place is left.
 const TURNS_PER_TEST: usize = 8;
 
-/// The indices of two words side by side, of the first 64, from which `count` bits may be the first
-/// bits of the needle: each from which they are is 1, and where one is 1 it may be that there was no
-/// other left to tell apart. Condition: `count` is at most 64.
+/// A word in which each of the first 64 indices of two words side by side is 1 from which they have
+/// the first `count` bits of the needle. Condition: `count` is at most 64.
 #[inline(always)]
 pub(crate) fn candidates<W: WordOrder>(low: u64, high: u64, needle: u64, count: usize) -> u64
     requires { count ≤ 64 }
