@@ -5,7 +5,6 @@
 
 pub mod cells;
 pub mod domain;
-pub mod elements;
 pub mod engine;
 pub mod field;
 pub mod index;
@@ -17,4 +16,5 @@ pub mod slice;
 pub mod store;
 pub mod vec;
 pub mod walk;
+pub mod windows;
 pub mod words;

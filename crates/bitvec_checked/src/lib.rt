@@ -6,8 +6,8 @@
 macro_rules! under {
     ($order:expr, $function:ident::<$element:ty>($($argument:expr),*)) => {
         match $order {
-            $crate::status::LSB0 => $function::<$element, bitvec_elements::base::Lsb0>($($argument),*),
-            _ => $function::<$element, bitvec_elements::base::Msb0>($($argument),*),
+            $crate::status::LSB0 => $function::<$element, bitvec_windows::base::Lsb0>($($argument),*),
+            _ => $function::<$element, bitvec_windows::base::Msb0>($($argument),*),
         }
     };
 }
@@ -25,22 +25,22 @@ mod transfers;
 
 /// What crates above name of `bitvec_base`.
 pub mod base {
-    pub use bitvec_elements::base::{Lsb0, Msb0, Window};
+    pub use bitvec_windows::base::{Lsb0, Msb0, Window};
 }
 
 /// What crates above name of `bitvec_store`.
 pub mod store {
-    pub use bitvec_elements::store::BitStore;
+    pub use bitvec_windows::store::BitStore;
 }
 
 /// What crates above name of `bitvec_cells`.
 pub mod cells {
-    pub use bitvec_elements::cells::{Cells, CellsRead, Exclusive, Shared};
+    pub use bitvec_windows::cells::{Cells, CellsRead, Exclusive, Shared};
 }
 
 /// What crates above name of `bitvec_engine`.
 pub mod engine {
-    pub use bitvec_elements::engine::SliceOrder;
+    pub use bitvec_windows::engine::SliceOrder;
 }
 
 /// What crates above name of `bitvec_segments`.

@@ -4,9 +4,9 @@ ghost use Rattle.bitvec_checked.specs.Calls.{Seeks};
 ghost use Rattle.bitvec_checked.specs.Statuses.{bits_from};
 
 use crate::status::{DONE, NONE, window_status};
-use bitvec_elements::base::Window;
-use bitvec_elements::store::BitStore;
-use bitvec_elements::{first_in, last_in};
+use bitvec_windows::base::Window;
+use bitvec_windows::store::BitStore;
+use bitvec_windows::{first_in, last_in};
 
 /// The index of the first bit of a window that is 1.
 pub fn first_one<T: BitStore>(

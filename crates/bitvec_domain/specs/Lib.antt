@@ -1,6 +1,11 @@
 pub mod CutLaws
 pub mod Cuts
 pub mod Domains
+pub mod Feeding
+pub mod FeedingLaws
+pub mod Listing
+pub mod ListingLaws
 pub mod Parts
+pub mod References
 pub mod Values
 pub mod ValuesLaws

@@ -1,16 +1,29 @@
-//! The elements that a range of bits touches: where it is cut at their edges, and the parts.
+//! What a borrowed slice of elements falls into: the elements that a range of bits touches, cut at their edges, and their
+//! parts; single bits of a window, references to one; and what views' hash and texts stand on.
 #![tactic(auto)]
 
+mod bits;
 mod cut;
 mod domain;
 mod domain_mut;
+mod feeding;
+mod listing;
 mod part;
 mod part_mut;
+mod reference;
+mod reference_equality;
+mod reference_mut;
+mod reference_texts;
 mod values;
 
+pub use bits::{bit_in, replace_in, set_in, swap_in};
 pub use cut::Cut;
 pub use domain::{Domain, Region, domain_of};
 pub use domain_mut::{DomainMut, RegionMut, domain_mut_of};
+pub use feeding::hash_in;
+pub use listing::{separator_before, write_bits_in};
 pub use part::PartialElement;
 pub use part_mut::PartialElementMut;
+pub use reference::BitRef;
+pub use reference_mut::BitRefMut;
 pub use values::DomainValues;

@@ -5,8 +5,8 @@ ghost use Rattle.bitvec_domain.specs.Domains.{pieces_of, seen_part_if};
 ghost use Rattle.bitvec_domain.specs.Values.{numbers_if, numbers_of_pieces};
 
 use crate::{Domain, PartialElement};
-use bitvec_base::BitOrder;
-use bitvec_base::store::BitStore;
+use bitvec_cells::base::BitOrder;
+use bitvec_cells::store::BitStore;
 use std::iter::FusedIterator;
 
 /// The values of the elements that a view touches, in their order and from both ends; of an element

@@ -1,11 +1,11 @@
 pub mod base
 pub mod domain
-pub mod elements
 pub mod lends
 pub mod reference
 pub mod slice
 pub mod store
 pub mod traits
 pub mod walk
+pub mod windows
 pub mod words
 pub mod UndoLaws

@@ -1,3 +1,3 @@
--- What crates above name of `bitvec_elements`.
+-- The references to one bit of `bitvec_domain`.
 pub use Rattle.bitvec_slice.specs.reference.References
 pub use Rattle.bitvec_slice.specs.reference.declared

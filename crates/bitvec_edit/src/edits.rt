@@ -2,21 +2,21 @@
 ghost use Rattle.std.specs.Prelude.{◌≡◌, ◌<◌, ◌≤◌, false, length, map, not, replicate, reverse, slice_index_or, slice_set};
 ghost use Rattle.std.specs.List.{swap};
 ghost use Rattle.bitvec_slice.specs.base.Lists.{FitsWithin, combined, copied_within, rotated_left, rotated_right, shifted_end, shifted_start};
-ghost use Rattle.bitvec_slice.specs.elements.Asked.{CallableBelow, CallableOnBits, FillsWith, RefillsWith};
+ghost use Rattle.bitvec_slice.specs.windows.Asked.{CallableBelow, CallableOnBits, FillsWith, RefillsWith};
 ghost use Rattle.bitvec_slice.specs.words.Operator.{operator};
 ghost use Rattle.bitvec_slice.specs.words.declared.operator.BitOp.TheVariants.{And, Or, Xor};
 ghost use Rattle.bitvec_slice.specs.Views.{seen, seen_mut};
 ghost use Rattle.bitvec_slice.specs.Writes.{WritesBits};
-ghost use Rattle.bitvec_edit.specs.elements.Swaps.{LieApart, swapped_within};
+ghost use Rattle.bitvec_edit.specs.windows.Swaps.{LieApart, swapped_within};
 
 use bitvec_slice::base::BitOrder;
-use bitvec_slice::elements::{
+use bitvec_slice::engine::{BitOp, SliceOrder};
+use bitvec_slice::store::BitStore;
+use bitvec_slice::windows::{
     combine_in, copy_from_in, copy_within_in, fill_in, fill_with_in, for_each_in, invert_in,
     replace_in, reverse_in, rotate_left_in, rotate_right_in, set_in, shift_end_in, shift_start_in,
     swap_in, swap_with_in, swap_within_in,
 };
-use bitvec_slice::engine::{BitOp, SliceOrder};
-use bitvec_slice::store::BitStore;
 use bitvec_slice::{BitSlice, BitSliceMut, Inside, View, ViewMut};
 use std::ops::Range;
 

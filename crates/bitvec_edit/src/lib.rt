@@ -39,9 +39,9 @@ pub mod domain {
     };
 }
 
-/// What crates above name of `bitvec_elements`.
-pub mod elements {
-    pub use bitvec_slice::elements::{
+/// What crates above name of `bitvec_windows`.
+pub mod windows {
+    pub use bitvec_slice::windows::{
         all_in, any_in, bit_in, combine_block_in, combine_in, compare_block_in, compare_in,
         contains_in, copy_from_block_in, copy_from_in, copy_within_in, count_in, ends_with_in,
         eq_block_in, eq_in, fill_in, fill_with_in, first_in, for_each_in, invert_in, last_in,
@@ -66,7 +66,7 @@ pub mod exchange {
     pub use bitvec_slice::exchange::{reverse, swap};
 }
 
-/// What crates above name of `bitvec_elements`.
+/// What crates above name of `bitvec_windows`.
 pub mod reference {
     pub use bitvec_slice::reference::{BitRef, BitRefMut};
 }

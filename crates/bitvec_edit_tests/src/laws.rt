@@ -3,7 +3,7 @@ ghost use Rattle.std.specs.Prelude.{◌≡◌, ℕ, ◌*◌, ◌%◌, ◌≤◌,
 ghost use Rattle.std.specs.List.{range_with_len};
 ghost use Rattle.bitvec_edit.specs.base.Memory.{memory_bits};
 ghost use Rattle.bitvec_edit.specs.base.Window.{max_bits};
-ghost use Rattle.bitvec_edit.specs.elements.Asked.{FillsWith, RefillsWith};
+ghost use Rattle.bitvec_edit.specs.windows.Asked.{FillsWith, RefillsWith};
 
 use bitvec_edit::BitEdits;
 use bitvec_edit::engine::SliceOrder;

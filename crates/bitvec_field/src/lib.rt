@@ -22,9 +22,9 @@ pub mod cells {
     pub use bitvec_slice::cells::{Exclusive, Shared};
 }
 
-/// What crates above name of `bitvec_elements`.
-pub mod elements {
-    pub use bitvec_slice::elements::{
+/// What crates above name of `bitvec_windows`.
+pub mod windows {
+    pub use bitvec_slice::windows::{
         combine_block_in, copy_from_block_in, copy_within_in, count_in, eq_block_in, fill_in,
         first_in, invert_in, reverse_in, rotate_left_in, shift_start_in, swap_with_block_in,
     };

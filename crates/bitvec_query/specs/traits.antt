@@ -1,3 +1,3 @@
--- What crates above name of `bitvec_elements`.
+-- What hash and texts stand on.
 pub use Rattle.bitvec_slice.specs.traits.Feeding
 pub use Rattle.bitvec_slice.specs.traits.Listing

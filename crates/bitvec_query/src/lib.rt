@@ -33,7 +33,7 @@ pub mod store {
     pub use bitvec_slice::store::BitStore;
 }
 
-/// What crates above name of `bitvec_elements`.
+/// What crates above name of `bitvec_windows`.
 pub mod traits {
     pub use bitvec_slice::traits::separator_before;
 }

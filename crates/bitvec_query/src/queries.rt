@@ -8,12 +8,12 @@ ghost use Rattle.bitvec_slice.specs.Views.{seen};
 
 use crate::runs::{before_first, behind_last};
 use bitvec_slice::base::BitOrder;
-use bitvec_slice::elements::{
+use bitvec_slice::engine::SliceOrder;
+use bitvec_slice::store::BitStore;
+use bitvec_slice::windows::{
     all_in, any_in, compare_in, contains_in, count_in, ends_with_in, eq_in, first_in, last_in,
     starts_with_in,
 };
-use bitvec_slice::engine::SliceOrder;
-use bitvec_slice::store::BitStore;
 use bitvec_slice::{BitSlice, View};
 use std::cmp::Ordering;
 

@@ -5,9 +5,9 @@ ghost use Rattle.bitvec_slice.specs.base.LeadingLaws.{is_other};
 ghost use Rattle.bitvec_slice.specs.Views.{seen};
 
 use bitvec_slice::BitSlice;
-use bitvec_slice::elements::{first_in, last_in};
 use bitvec_slice::engine::SliceOrder;
 use bitvec_slice::store::BitStore;
+use bitvec_slice::windows::{first_in, last_in};
 
 /// How many bits stand before the first that is `end`, or in all if none is.
 #[tactic(auto, using(bitvec_slice::specs::Cited::first_run))]

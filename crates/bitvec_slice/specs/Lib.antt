@@ -1,13 +1,13 @@
 pub mod base
 pub mod cells
 pub mod domain
-pub mod elements
 pub mod engine
 pub mod lends
 pub mod reference
 pub mod store
 pub mod traits
 pub mod walk
+pub mod windows
 pub mod words
 pub mod Cited
 pub mod Apart

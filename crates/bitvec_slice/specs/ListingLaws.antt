@@ -1,2 +1,2 @@
 -- The text of a list with one item more, for crates above.
-pub use Rattle.bitvec_elements.specs.ListingLaws.{join_by-more}
+pub use Rattle.bitvec_domain.specs.ListingLaws.{join_by-more}

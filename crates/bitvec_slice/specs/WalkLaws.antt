@@ -2,13 +2,13 @@
 use Rattle.std.specs.Prelude.{◌≡◌, ◌+◌, ◌-◌, ◌<◌, ◌≤◌, [], ◌∷◌, ◌++◌, false, length, refl, slice_index_or, slice_range}
 use Rattle.std.proofs.Common.{arith, sym}
 use Rattle.std.proofs.iter.Rest.{range_last, run_of_first, run_of_first_by, run_of_last, run_of_last_by}
-use Rattle.bitvec_elements.specs.base.SliceLaws.{range-front, range-none}
-use Rattle.bitvec_elements.specs.base.WriteLaws.{length-slice_range}
-use Rattle.bitvec_elements.specs.store.declared.store.BitStore.{Ghosts as Store}
-use Rattle.bitvec_elements.specs.base.declared.order.BitOrder.{Ghosts as Order}
+use Rattle.bitvec_windows.specs.base.SliceLaws.{range-front, range-none}
+use Rattle.bitvec_windows.specs.base.WriteLaws.{length-slice_range}
+use Rattle.bitvec_windows.specs.store.declared.store.BitStore.{Ghosts as Store}
+use Rattle.bitvec_windows.specs.base.declared.order.BitOrder.{Ghosts as Order}
 use Rattle.bitvec_slice.specs.SeenLaws.{length_bits}
 use Rattle.bitvec_slice.specs.Views.{seen}
-use Rattle.bitvec_elements.specs.References.{bit_of_ref}
+use Rattle.bitvec_domain.specs.References.{bit_of_ref}
 use Rattle.bitvec_slice.specs.Walks.{YieldsBits, YieldsRefs, YieldsVals, refs_left, remaining_bits, vals_left}
 use Rattle.bitvec_slice.specs.declared.bit_iters.BitRefIter.{BitRefIter}
 use Rattle.bitvec_slice.specs.declared.bit_iters.BitValIter.{BitValIter}

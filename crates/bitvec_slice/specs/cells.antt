@@ -1,3 +1,3 @@
 -- What crates above name of `bitvec_cells`.
-pub use Rattle.bitvec_elements.specs.cells.Access
-pub use Rattle.bitvec_elements.specs.cells.declared
+pub use Rattle.bitvec_windows.specs.cells.Access
+pub use Rattle.bitvec_windows.specs.cells.declared

@@ -1,2 +1,2 @@
 -- What crates above name of `bitvec_engine`.
-pub use Rattle.bitvec_elements.specs.engine.Front
+pub use Rattle.bitvec_windows.specs.engine.Front

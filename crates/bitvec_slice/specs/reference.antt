@@ -1,3 +1,3 @@
--- What crates above name of `bitvec_elements`.
-pub use Rattle.bitvec_elements.specs.References
-pub use Rattle.bitvec_elements.specs.declared
+-- The references to one bit of `bitvec_domain`.
+pub use Rattle.bitvec_domain.specs.References
+pub use Rattle.bitvec_domain.specs.declared

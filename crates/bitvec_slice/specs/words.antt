@@ -1,4 +1,4 @@
 -- What crates above name of `bitvec_words`.
-pub use Rattle.bitvec_elements.specs.words.Field
-pub use Rattle.bitvec_elements.specs.words.Operator
-pub use Rattle.bitvec_elements.specs.words.declared
+pub use Rattle.bitvec_windows.specs.words.Field
+pub use Rattle.bitvec_windows.specs.words.Operator
+pub use Rattle.bitvec_windows.specs.words.declared

@@ -1,12 +1,12 @@
 //! The hash of shared views.
 ghost use Rattle.bitvec_slice.specs.Views.{seen};
-ghost use Rattle.bitvec_elements.specs.Feeding.{bits_fed};
-ghost use Rattle.bitvec_elements.specs.FeedingLaws.{fed_same};
+ghost use Rattle.bitvec_domain.specs.Feeding.{bits_fed};
+ghost use Rattle.bitvec_domain.specs.FeedingLaws.{fed_same};
 
 use crate::BitSlice;
-use bitvec_elements::engine::SliceOrder;
-use bitvec_elements::hash_in;
-use bitvec_elements::store::BitStore;
+use bitvec_domain::hash_in;
+use bitvec_windows::engine::SliceOrder;
+use bitvec_windows::store::BitStore;
 use std::hash::{Hash, Hasher};
 
 impl<'a, T: BitStore, O: SliceOrder> Hash for BitSlice<'a, T, O> {

@@ -2,13 +2,13 @@
 ghost use Rattle.std.specs.Prelude.{◌≡◌, Some, IfSome, ⊤, length};
 ghost use Rattle.std.specs.Iterator.{UpTo, YieldsFirstBy, YieldsLastBy, at_most, item_count};
 ghost use Rattle.std.specs.Iterator.SizeHint.{IsWithinCount};
-ghost use Rattle.bitvec_elements.specs.References.{bit_of_ref};
+ghost use Rattle.bitvec_domain.specs.References.{bit_of_ref};
 ghost use Rattle.bitvec_slice.specs.Indices.{HasRange};
 ghost use Rattle.bitvec_slice.specs.Views.{seen};
 
 use crate::{BitRef, BitRefIter, BitSlice, BitValIter};
-use bitvec_elements::base::BitOrder;
-use bitvec_elements::store::BitStore;
+use bitvec_windows::base::BitOrder;
+use bitvec_windows::store::BitStore;
 use std::alloc::AllocError;
 use std::iter::FusedIterator;
 use std::ops::Range;

@@ -31,31 +31,31 @@ mod writing;
 
 /// What crates above name of `bitvec_base`.
 pub mod base {
-    pub use bitvec_elements::base::{
+    pub use bitvec_windows::base::{
         BitOrder, BitSpanError, HiLo, Lsb0, MAX_BITS, Msb0, Part, Window, first_part, last_part,
     };
 }
 
 /// What crates above name of `bitvec_cells`.
 pub mod cells {
-    pub use bitvec_elements::cells::{
+    pub use bitvec_windows::cells::{
         Cells, CellsRead, Exclusive, Shared, fits_max_bits, has_window,
     };
 }
 
 /// The operators of `bitvec_combine` that crates above name.
 pub mod combine {
-    pub use bitvec_elements::combine::combine;
+    pub use bitvec_windows::combine::combine;
 }
 
 /// The comparison of `bitvec_combine` that crates above name.
 pub mod comparisons {
-    pub use bitvec_elements::comparisons::equal;
+    pub use bitvec_windows::comparisons::equal;
 }
 
 /// The copies of `bitvec_move` that crates above name.
 pub mod copy {
-    pub use bitvec_elements::copy::{copy, copy_within};
+    pub use bitvec_windows::copy::{copy, copy_within};
 }
 
 /// What crates above name of `bitvec_domain`.
@@ -66,20 +66,9 @@ pub mod domain {
     };
 }
 
-/// What crates above name of `bitvec_elements`.
-pub mod elements {
-    pub use bitvec_elements::{
-        all_in, any_in, bit_in, combine_block_in, combine_in, compare_block_in, compare_in,
-        contains_in, copy_from_block_in, copy_from_in, copy_within_in, count_in, ends_with_in,
-        eq_block_in, eq_in, fill_in, fill_with_in, first_in, for_each_in, invert_in, last_in,
-        replace_in, reverse_in, rotate_left_in, rotate_right_in, set_in, shift_end_in,
-        shift_start_in, starts_with_in, swap_in, swap_with_block_in, swap_with_in, swap_within_in,
-    };
-}
-
 /// What crates above name of `bitvec_engine`.
 pub mod engine {
-    pub use bitvec_elements::engine::{
+    pub use bitvec_windows::engine::{
         BitOp, ByWords, SliceOrder, all, any, bits_contains, bits_copy, bits_copy_within,
         bits_ends_with, bits_eq, bits_op, bits_reverse, bits_scan_first, bits_scan_last,
         bits_starts_with, bits_swap, compare, contains, count, count_zeros, elements_copy,
@@ -90,35 +79,47 @@ pub mod engine {
 
 /// The exchanges of `bitvec_move` that crates above name.
 pub mod exchange {
-    pub use bitvec_elements::exchange::{reverse, swap};
+    pub use bitvec_windows::exchange::{reverse, swap};
 }
 
-/// What crates above name of `bitvec_elements`.
+/// The references to one bit of `bitvec_domain`.
 pub mod reference {
-    pub use bitvec_elements::{BitRef, BitRefMut};
+    pub use bitvec_domain::{BitRef, BitRefMut};
 }
 
 /// What crates above name of `bitvec_store`.
 pub mod store {
-    pub use bitvec_elements::store::BitStore;
+    pub use bitvec_windows::store::BitStore;
 }
 
-/// What crates above name of `bitvec_elements`.
+/// What texts of `bitvec_domain` stand on.
 pub mod traits {
-    pub use bitvec_elements::separator_before;
+    pub use bitvec_domain::separator_before;
 }
 
 /// What crates above name of `bitvec_cells`.
 pub mod walk {
-    pub use bitvec_elements::walk::{
+    pub use bitvec_windows::walk::{
         count_part, fill_part, filled, first_in_element, first_in_part, invert_part,
         last_in_element, last_in_part, sought,
     };
 }
 
+/// The bit operations on windows of borrowed slices that crates above name.
+pub mod windows {
+    pub use bitvec_domain::{bit_in, replace_in, set_in, swap_in};
+    pub use bitvec_windows::{
+        all_in, any_in, combine_block_in, combine_in, compare_block_in, compare_in, contains_in,
+        copy_from_block_in, copy_from_in, copy_within_in, count_in, ends_with_in, eq_block_in,
+        eq_in, fill_in, fill_with_in, first_in, for_each_in, invert_in, last_in, reverse_in,
+        rotate_left_in, rotate_right_in, shift_end_in, shift_start_in, starts_with_in,
+        swap_with_block_in, swap_with_in, swap_within_in,
+    };
+}
+
 /// What crates above name of `bitvec_words`.
 pub mod words {
-    pub use bitvec_elements::words::{
+    pub use bitvec_windows::words::{
         WORD_BITS, WordOrder, field, field_after, joined, load_field, merged, moved, reversed,
         same_between, store_field, store_part, toward_end, toward_start,
     };
@@ -127,9 +128,10 @@ pub mod words {
 pub use bit_domain::BitDomain;
 pub use bit_iters::{BitRefIter, BitValIter};
 pub use bit_parts::BitDomainParts;
-pub use bitvec_domain::{Domain, DomainMut, DomainValues, PartialElement, PartialElementMut};
-pub use bitvec_elements::base::{BitSpanError, Window};
-pub use bitvec_elements::{BitRef, BitRefMut};
+pub use bitvec_domain::{
+    BitRef, BitRefMut, Domain, DomainMut, DomainValues, PartialElement, PartialElementMut,
+};
+pub use bitvec_windows::base::{BitSpanError, Window};
 pub use conversions::{from_mut, from_ref};
 pub use index::{BitSliceIndex, Viewed, ViewedMut};
 #[doc(hidden)]

@@ -1,12 +1,12 @@
 //! The texts of views.
 ghost use Rattle.std.specs.Prelude.{Some};
 ghost use Rattle.bitvec_slice.specs.Views.{seen, seen_mut};
-ghost use Rattle.bitvec_elements.specs.Listing.{bits_text};
+ghost use Rattle.bitvec_domain.specs.Listing.{bits_text};
 
 use crate::{BitSlice, BitSliceMut};
-use bitvec_elements::base::BitOrder;
-use bitvec_elements::store::BitStore;
-use bitvec_elements::write_bits_in;
+use bitvec_domain::write_bits_in;
+use bitvec_windows::base::BitOrder;
+use bitvec_windows::store::BitStore;
 use std::fmt;
 
 /// The bits as a list, as `[0, 1, 0]`.

@@ -1,12 +1,12 @@
 //! The texts of walks over bits.
 ghost use Rattle.std.specs.Prelude.{Some, codes};
 ghost use Rattle.std.specs.Fmt.{DisplaysOnOk, debug_variant};
-ghost use Rattle.bitvec_elements.specs.Listing.{bits_text};
+ghost use Rattle.bitvec_domain.specs.Listing.{bits_text};
 ghost use Rattle.bitvec_slice.specs.Views.{seen};
 
 use crate::{BitRefIter, BitSlice, BitValIter, Iter};
-use bitvec_elements::base::BitOrder;
-use bitvec_elements::store::BitStore;
+use bitvec_windows::base::BitOrder;
+use bitvec_windows::store::BitStore;
 use std::fmt;
 
 /// Writes a name, and behind it the view in parentheses.

@@ -1,7 +1,7 @@
 use Rattle.std.specs.Prelude.{ℕ, ◌%◌, ◌==◌, Bool, map}
 use Rattle.std.specs.List.{range_with_len}
 use Rattle.std.proofs.Common.{rules, ap, ◌∙◌}
-use Rattle.bitvec_edit.specs.elements.AskedLaws.{answers-by}
+use Rattle.bitvec_edit.specs.windows.AskedLaws.{answers-by}
 use Rattle.bitvec_edit.specs.slice.WriteLaws.{whole-written}
 use Rattle.bitvec_edit_tests.proofs.laws.filled_with_even.Goals as goal
 

@@ -1,4 +1,4 @@
-use Rattle.bitvec_elements.specs.store.WidthLaws.{width_some}
+use Rattle.bitvec_windows.specs.store.WidthLaws.{width_some}
 use Rattle.bitvec_slice.specs.SeenLaws.{part_view}
 use Rattle.bitvec_slice.specs.TouchedLaws.{touched_few, touched_holds}
 use Rattle.bitvec_slice.proofs.view.BitSlice.into_part.Goals as goal

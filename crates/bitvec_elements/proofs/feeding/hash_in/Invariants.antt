@@ -1,8 +1,0 @@
-use Rattle.std.proofs.Common.{◌≡◌, fold, map, take}
-use Rattle.bitvec_elements.specs.base.Memory.{list_in}
-use Rattle.bitvec_elements.specs.Feeding.{bits_fed}
-use Rattle.bitvec_elements.proofs.feeding.hash_in.Given as goal
-
-abbrev pub invariant-loop-index : goal.invariant-loop-index
-invariant-loop-index g l =
-    l.state ≡ fold g.H.Hasher.write l.initial.state (bits_fed (take l.index (list_in g.T.BitStore.BITS g.O.BitOrder.at (map g.T.BitStore.value l.cells) l.window)))

@@ -1,8 +1,0 @@
-use Rattle.std.proofs.Common.{◌∙◌}
-use Rattle.bitvec_elements.specs.base.WindowLaws.{get-one}
-use Rattle.bitvec_elements.specs.References.{bit_of_ref_mut, memory_of_ref_mut}
-use Rattle.bitvec_elements.proofs.reference_mut.BitRefMut.bit.Goals as goal
-
-pub returns : goal.returns
-unfolding bit_of_ref_mut memory_of_ref_mut
-returns g c = rw (c.window.ensures) at c.bit_in.ensures ∙ get-one _ _ _

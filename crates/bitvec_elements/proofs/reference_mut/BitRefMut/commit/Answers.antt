@@ -1,5 +1,0 @@
-use Rattle.bitvec_elements.specs.base.WritesLaws.{Writes-one}
-use Rattle.bitvec_elements.proofs.reference_mut.BitRefMut.commit.Goals as goal
-
-pub returns : goal.returns
-returns g c = record { writes = Writes-one _ _ _ _ _ _ c.args.self.window c.set_in.ensures.writes }

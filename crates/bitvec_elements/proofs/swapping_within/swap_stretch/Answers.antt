@@ -1,9 +1,0 @@
-use Rattle.std.proofs.Common.{rules}
-use Rattle.bitvec_elements.proofs.Swapped.{stretch-swapped}
-use Rattle.bitvec_elements.proofs.swapping_within.swap_stretch.Goals as goal
-
-pub returns : goal.returns
-returns g c = record {
-  writes = stretch-swapped _ _ _ _ _ _ _ c.args.window _ c.args.first c.args.second c.args.count c.requires.window (search rules) c.requires.first c.requires.second
-      (rw c.range.ensures at c.copy_from_block_in.ensures.writes) c.copy_within_in.ensures.writes (rw c.range-2.ensures at c.copy_from_block_in-2.ensures.writes);
-}

@@ -1,9 +1,0 @@
--- Lists with the same bits feed a hasher the same.
-use Rattle.std.specs.Prelude.{◌≡◌, Bool, true, List}
-use Rattle.std.proofs.Common.{ap}
-use Rattle.bitvec_elements.specs.base.Lists.{same_bits}
-use Rattle.bitvec_elements.specs.base.ListsLaws.{same_bits-decides}
-use Rattle.bitvec_elements.specs.Feeding.{bits_fed}
-
-pub fed_same : (xs ys : List Bool) → same_bits xs ys ≡ true → bits_fed xs ≡ bits_fed ys
-fed_same xs ys same = ap bits_fed ((same_bits-decides xs ys).0 same)

@@ -1,0 +1,10 @@
+pub mod Answered
+mod CandidateLemmas
+mod DifferenceLemmas
+mod DirectionLemmas
+pub mod Edges
+pub mod Rotated
+mod StandingLemmas
+mod StoreLemmas
+mod WordLemmas
+pub mod Swapped

@@ -1,0 +1,134 @@
+-- Windows written a stretch at a time.
+use Rattle.std.specs.Prelude.{◌≡◌, ℕ, ◌+◌, ◌-◌, ◌<◌, ◌≤◌, min, Bool, false, List, length, slice_index_or, slice_range, take, refl}
+use Rattle.std.proofs.Common.{arith, rules, sym, ◌∙◌, ap, subst, ⊎_elim}
+use Rattle.std.proofs.lemmas.Bool.{cases_lt}
+use Rattle.std.proofs.lemmas.List.{places, same_lists}
+use Rattle.bitvec_windows.specs.Direction.{Agrees}
+use Rattle.bitvec_windows.specs.base.declared.window.Window.{Window}
+use Rattle.bitvec_windows.specs.base.Lists.{combined}
+use Rattle.bitvec_windows.specs.base.ListsLaws.{get-combined, length-combined}
+use Rattle.bitvec_windows.specs.base.Memory.{Edits, HasWindow, Writes, element_bits, list_in}
+use Rattle.bitvec_windows.specs.base.Window.{window_range, write_window}
+use Rattle.bitvec_windows.specs.base.WriteLaws.{get-slice_range, length-slice_range}
+use Rattle.bitvec_windows.specs.base.WritesLaws.{HasWindow-range, Writes-empty, Writes-is, Writes-join, length-list, list-behind, list-range}
+use Rattle.bitvec_windows.specs.moves.WordLaws.{take-all}
+use Rattle.bitvec_windows.specs.words.Field.{padded}
+use Rattle.bitvec_windows.specs.words.MovedLaws.{take-field, take-range}
+use Rattle.bitvec_windows.proofs.DifferenceLemmas.{in_padded, past_padded}
+use Rattle.bitvec_windows.proofs.DirectionLemmas.{list-agrees, memory-agrees}
+
+-- the first n places of a window
+abbrev pub until : Window → ℕ → Window
+until window n = record { start = window.start; len = n }
+
+-- a write under an order that agrees
+pub Writes-agrees : (b : ℕ) (at other : ℕ → ℕ → ℕ) (old new : List ℕ) (window : Window) (list : List Bool) → 0 < b → Agrees b at other → Writes b other old new window list → Writes b at old new window list
+Writes-agrees b at other old new window list some agrees writes = record {
+  bits = memory-agrees b at other new some agrees ∙ writes.bits ∙ ap (λ (l : List Bool). write_window l window list) (sym (memory-agrees b at other old some agrees));
+  long = writes.long;
+  elements = writes.elements;
+}
+
+-- a list of a memory under such an order, written elsewhere
+pub List-agrees : (b : ℕ) (at other : ℕ → ℕ → ℕ) (xs : List ℕ) (window : Window) (d : ℕ) (way : ℕ → ℕ → ℕ) (old new : List ℕ) (to : Window) → 0 < b → Agrees b at other → Writes d way old new to (list_in b other xs window) → Writes d way old new to (list_in b at xs window)
+List-agrees b at other xs window d way old new to some agrees writes = Writes-is d way old new to _ _ writes (sym (list-agrees b at other xs window some agrees))
+
+pub Edits-agrees : (b : ℕ) (at other : ℕ → ℕ → ℕ) (old new : List ℕ) (window : Window) (edit : List Bool → List Bool) → 0 < b → Agrees b at other → Edits b other old new window edit → Edits b at old new window edit
+Edits-agrees b at other old new window edit some agrees writes =
+    Writes-is b at old new window _ _ (Writes-agrees b at other old new window _ some agrees writes) (ap edit (sym (list-agrees b at other old window some agrees)))
+
+-- nothing yet
+pub stretch-none : (b : ℕ) (at : ℕ → ℕ → ℕ) (xs ys : List ℕ) (window : Window) (list : List Bool) → HasWindow b xs window → ys ≡ xs → Writes b at xs ys (until window 0) (take 0 list)
+stretch-none b at xs ys window list has same =
+    let start = has.within.start in
+    Writes-empty b at xs ys (until window 0) (record { fits = has.fits; within = record { start = start; len = omega arith } }) refl same
+
+-- a stretch more
+pub stretch-next : (b : ℕ) (at : ℕ → ℕ → ℕ) (old mid new : List ℕ) (window : Window) (list part : List Bool) (from to : ℕ) → HasWindow b old window → from ≤ to → to ≤ window.len → length list ≡ window.len → part ≡ slice_range list from to
+    → Writes b at old mid (until window from) (take from list) → Writes b at mid new (window_range window from to) part → Writes b at old new (until window to) (take to list)
+stretch-next b at old mid new window list part from to has order bound long same before after =
+    let start = has.within.start in
+    let end = has.within.len in
+    let whole : HasWindow b old (until window to) = record { fits = has.fits; within = record { start = start; len = omega arith } } in
+    Writes-is b at old new (until window to) _ _
+    (Writes-join b at old mid new (until window from) (window_range window from to) (until window to) (take from list) (slice_range list from to) whole refl refl (omega arith) before (Writes-is b at mid new (window_range window from to) part _ after same))
+    (take-range list from to to order (omega arith) refl)
+
+-- all of them
+pub stretch-all : (b : ℕ) (at : ℕ → ℕ → ℕ) (old new : List ℕ) (window : Window) (list : List Bool) (n : ℕ) → n ≡ window.len → length list ≡ window.len → Writes b at old new (until window n) (take n list) → Writes b at old new window list
+stretch-all b at old new window list n all long writes =
+    Writes-is b at old new window _ _ (subst (λ (k : ℕ). Writes b at old new (until window k) (take k list)) all writes) (take-all list window.len (omega arith))
+
+-- ---- what is stored
+
+-- the word's bits
+pub copied-stretch : (at : ℕ → ℕ → ℕ) (d : ℕ) (other : ℕ → ℕ → ℕ) (ys : List ℕ) (right : Window) (from to n word : ℕ) → HasWindow d ys right → from ≤ to → to ≤ right.len → n ≡ to - from → element_bits 64 at word ≡ padded 64 (list_in d other ys (window_range right from to))
+    → take n (element_bits 64 at word) ≡ slice_range (list_in d other ys right) from to
+copied-stretch at d other ys right from to n word has order bound size is =
+    let long = length-list d other ys right has in
+    let part = length-slice_range (list_in d other ys right) from to (omega arith) in
+    take-field 64 n _ (slice_range (list_in d other ys right) from to) (is ∙ ap (padded 64) (list-range d other ys right from to has order bound)) (omega arith)
+
+-- those of a stretch of another window, loaded under another order
+pub stored-stretch : (at to_at : ℕ → ℕ → ℕ) (list : List Bool) (from to n word made : ℕ) → from ≤ to → to ≤ length list → n ≡ to - from → element_bits 64 at word ≡ padded 64 (slice_range list from to) → element_bits 64 to_at made ≡ element_bits 64 at word
+    → take n (element_bits 64 to_at made) ≡ slice_range list from to
+stored-stretch at to_at list from to n word made order bound size loaded same =
+    let part = length-slice_range list from to bound in
+    take-field 64 n _ (slice_range list from to) (same ∙ loaded) (omega arith)
+
+-- ---- what an operator makes of a stretch
+
+long_padded : (b : ℕ) (list : List Bool) → length list ≤ b → length (padded b list) ≡ b
+unfolding padded
+long_padded b list fits = search (rules, places)
+
+in_taken : (list : List Bool) (n k : ℕ) (d : Bool) → k < n → slice_index_or (take n list) k d ≡ slice_index_or list k d
+in_taken list n k d inside = grind (arith, places)
+
+past_end : (list : List Bool) (k : ℕ) → length list ≤ k → slice_index_or list k false ≡ false
+past_end list k behind = grind (arith, places)
+
+module _ (f : Bool → Bool → Bool) (xs ys : List Bool) (from to r : ℕ) (long : r ≡ length ys) (order : from ≤ to) (bound : to ≤ length xs) (size : to ≤ from + 64) where
+  abbrev other : List Bool
+  other = slice_range ys (min from r) (min to r)
+
+  other_bit : (k : ℕ) → k < to - from → slice_index_or (padded 64 other) k false ≡ slice_index_or ys (from + k) false
+  other_bit k inside =
+      let wide = length-slice_range ys (min from r) (min to r) (omega arith) in
+      ⊎_elim
+      (λ (within : k < length other).
+      let place : min from r + k ≡ from + k = omega arith in
+      in_padded 64 other k within ∙ get-slice_range ys (min from r) (min to r) k false (omega arith) ∙ ap (λ (n : ℕ). slice_index_or ys n false) place)
+      (λ (behind : length other ≤ k). past_padded 64 other k behind (omega arith) ∙ sym (past_end ys (from + k) (omega arith)))
+      (cases_lt k (length other))
+
+  one_bit : (k : ℕ) → k < to - from → slice_index_or (padded 64 (slice_range xs from to)) k false ≡ slice_index_or xs (from + k) false
+  one_bit k inside =
+      let wide = length-slice_range xs from to bound in
+      in_padded 64 (slice_range xs from to) k (omega arith) ∙ get-slice_range xs from to k false (omega arith)
+
+  pub combined-stretch : (a b made : List Bool) → a ≡ padded 64 (slice_range xs from to) → b ≡ padded 64 other → made ≡ combined f a b → take (to - from) made ≡ slice_range (combined f xs ys) from to
+  combined-stretch a b made left right is =
+      let wide = length-slice_range xs from to bound in
+      let word = ap length left ∙ long_padded 64 (slice_range xs from to) (omega arith) in
+      let all : length made ≡ 64 = ap length is ∙ length-combined f a b ∙ word in
+      let whole = length-combined f xs ys in
+      let part = length-slice_range (combined f xs ys) from to (omega arith) in
+      let first : length (take (to - from) made) ≡ to - from = grind (arith, places) in
+      same_lists _ _ (omega arith) (λ k d inside.
+      in_taken made (to - from) k d (omega arith)
+      ∙ ap (λ (l : List Bool). slice_index_or l k d) is
+      ∙ get-combined f a b k d (omega arith)
+      ∙ ap (λ (x : Bool). f x (slice_index_or b k false)) (ap (λ (l : List Bool). slice_index_or l k false) left ∙ one_bit k (omega arith))
+      ∙ ap (f (slice_index_or xs (from + k) false)) (ap (λ (l : List Bool). slice_index_or l k false) right ∙ other_bit k (omega arith))
+      ∙ sym (get-slice_range (combined f xs ys) from to k d (omega arith) ∙ get-combined f xs ys (from + k) d (omega arith)))
+
+-- the stretch of the window that is not yet written
+pub stretch-old : (b : ℕ) (at : ℕ → ℕ → ℕ) (old mid : List ℕ) (window : Window) (list : List Bool) (from to : ℕ) → HasWindow b old window → from ≤ to → to ≤ window.len → Writes b at old mid (until window from) list
+    → list_in b at mid (window_range window from to) ≡ slice_range (list_in b at old window) from to
+stretch-old b at old mid window list from to has order bound writes =
+    let start = has.within.start in
+    let end = has.within.len in
+    let whole : HasWindow b old (until window from) = record { fits = has.fits; within = record { start = start; len = omega arith } } in
+    list-behind b at old mid (until window from) (window_range window from to) list whole (HasWindow-range b old window from to has order bound) (omega arith) writes
+    ∙ list-range b at old window from to has order bound

@@ -1,0 +1,50 @@
+use Rattle.std.proofs.Common.{arith, ap, map, rules, sym, ◌∙◌}
+use Rattle.bitvec_windows.specs.base.Lists.{combined}
+use Rattle.bitvec_windows.specs.base.ListsLaws.{length-combined}
+use Rattle.bitvec_windows.specs.base.Memory.{list_in}
+use Rattle.bitvec_windows.specs.base.WritesLaws.{length-list, list-range}
+use Rattle.bitvec_windows.specs.words.Field.{padded}
+use Rattle.bitvec_windows.specs.words.Operator.{operator}
+use Rattle.bitvec_windows.proofs.StoreLemmas.{combined-stretch, stretch-all, stretch-next, stretch-none, stretch-old}
+use Rattle.bitvec_windows.proofs.combining.combine_words.Goals as goal
+
+pub loop-from-init : goal.loop-from-init
+loop-from-init g c =
+    let list = list_in g.T.BitStore.BITS g.W.BitOrder.at (map g.T.BitStore.value c.args.left.now) c.args.left_window in
+    let other = list_in g.U.BitStore.BITS g.P.BitOrder.at (map g.U.BitStore.value c.args.right.now) c.args.right_window in
+    record {
+      fits = omega arith;
+      writes = stretch-none _ _ _ _ c.args.left_window (combined (operator c.args.op) list other) c.requires.window c.new-cells.ensures.numbers;
+      borrow = search rules;
+    }
+
+pub loop-from-preserved : goal.loop-from-preserved
+loop-from-preserved g c =
+    let inv = c.loop-from.invariant in
+    let window = c.args.left_window in
+    let right_window = c.args.right_window in
+    let at = g.W.BitOrder.at in
+    let from = c.loop-from.from in
+    let to = c.word_end-to.result in
+    let further = c.word_end-to.ensures.further in
+    let bound = c.word_end-to.ensures.bound in
+    let size = c.word_end-to.ensures.size in
+    let long = length-list _ at _ _ c.requires.window in
+    let right = length-list _ g.P.BitOrder.at _ _ c.requires.right_window in
+    let word = (rw c.range-part.ensures at c.load_bits-word.ensures.value) ∙ ap (padded 64) (stretch-old _ at _ _ window _ from to c.requires.window (omega arith) bound inv.writes) in
+    let right_word = (rw c.range-other.ensures at c.window_word-right_word.ensures) ∙ ap (padded 64) (list-range _ g.P.BitOrder.at _ right_window c.min.result c.min-in-loop-from.result c.requires.right_window (omega arith) (omega arith)) in
+    let wrote = rw (c.range-part.ensures, c.load_bits-word.ensures.reads.numbers) at c.store_bits.ensures.writes in
+    record {
+      fits = bound;
+      writes = stretch-next _ _ _ _ _ window _ _ from to c.requires.window (omega arith) bound (length-combined (operator c.args.op) _ _ ∙ long)
+          (combined-stretch (operator c.args.op) _ _ from to right_window.len (sym right) (omega arith) (omega arith) size _ _ _ word (rw (c.min.ensures, c.min-in-loop-from.ensures) at right_word) c.of_elements-made.ensures)
+          inv.writes wrote;
+      borrow = search rules;
+    }
+
+pub returns : goal.returns
+returns g c =
+    let inv = c.loop-from.invariant in
+    let long = length-list _ g.W.BitOrder.at _ _ c.requires.window in
+    let done = stretch-all _ g.W.BitOrder.at _ _ c.args.left_window _ c.loop-from.from (omega arith) (length-combined (operator c.args.op) _ _ ∙ long) inv.writes in
+    record { writes = record { bits = search (rules, done.bits); long = done.long; elements = search (rules, done.elements) } }

@@ -1,0 +1,38 @@
+use Rattle.std.proofs.Common.{arith, map, refl, rules, sym, ◌∙◌}
+use Rattle.bitvec_windows.specs.base.Memory.{list_in}
+use Rattle.bitvec_windows.specs.base.WritesLaws.{length-list}
+use Rattle.bitvec_windows.proofs.StoreLemmas.{copied-stretch, stretch-all, stretch-next, stretch-none}
+use Rattle.bitvec_windows.proofs.copying.copy_words.Goals as goal
+
+pub loop-from-init : goal.loop-from-init
+loop-from-init g c = record {
+  fits = omega arith;
+  writes = stretch-none _ _ _ _ c.args.left_window (list_in g.U.BitStore.BITS g.P.BitOrder.at (map g.U.BitStore.value c.args.right.now) c.args.right_window) c.requires.window c.new-cells.ensures.numbers;
+  borrow = search rules;
+}
+
+pub loop-from-preserved : goal.loop-from-preserved
+loop-from-preserved g c =
+    let inv = c.loop-from.invariant in
+    let from = c.loop-from.from in
+    let to = c.word_end-to.result in
+    let further = c.word_end-to.ensures.further in
+    let bound = c.word_end-to.ensures.bound in
+    let lengths = c.requires.lengths in
+    let right = length-list _ g.P.BitOrder.at _ _ c.requires.right_window in
+    let word = rw c.range.ensures at c.window_word-word.ensures in
+    let wrote = rw c.range-in-loop-from.ensures at c.store_bits.ensures.writes in
+    record {
+      fits = bound;
+      writes = stretch-next _ _ _ _ _ c.args.left_window _ _ from to c.requires.window (omega arith) bound (right ∙ sym lengths)
+          (copied-stretch g.W.BitOrder.at _ g.P.BitOrder.at _ c.args.right_window from to _ _ c.requires.right_window (omega arith) (omega arith) refl word)
+          inv.writes wrote;
+      borrow = search rules;
+    }
+
+pub returns : goal.returns
+returns g c =
+    let inv = c.loop-from.invariant in
+    let right = length-list _ g.P.BitOrder.at _ _ c.requires.right_window in
+    let done = stretch-all _ g.W.BitOrder.at _ _ c.args.left_window _ c.loop-from.from (omega arith) (right ∙ sym c.requires.lengths) inv.writes in
+    record { writes = record { bits = search (rules, done.bits); long = done.long; elements = search (rules, done.elements) } }

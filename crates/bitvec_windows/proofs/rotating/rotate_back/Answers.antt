@@ -1,0 +1,25 @@
+use Rattle.std.proofs.Common.{◌-◌, arith, rules, sym, map}
+use Rattle.bitvec_engine.specs.base.Memory.{list_in}
+use Rattle.bitvec_engine.specs.base.WritesLaws.{Writes-start, length-list}
+use Rattle.bitvec_windows.proofs.Rotated.{Writes-aside, back-held, rotated-all}
+use Rattle.bitvec_windows.proofs.rotating.rotate_back.Goals as goal
+
+pub returns-then-rest-eq0 : goal.returns-then-rest-eq0
+returns-then-rest-eq0 g c =
+    let long = length-list g.T.BitStore.BITS g.O.BitOrder.at (map g.T.BitStore.value c.args.cells.now) c.args.window c.requires.window in
+    let fits = c.requires.bound in
+    let none = c.if-rest-eq0.true in
+    record { writes = Writes-start c.requires.window (rotated-all _ c.args.by (omega arith)) }
+
+pub returns : goal.returns
+returns g c =
+    let list = list_in g.T.BitStore.BITS g.O.BitOrder.at (map g.T.BitStore.value c.args.cells.now) c.args.window in
+    let long = length-list g.T.BitStore.BITS g.O.BitOrder.at (map g.T.BitStore.value c.args.cells.now) c.args.window c.requires.window in
+    let len = c.args.window.len in
+    let by = c.args.by in
+    let fits = c.requires.bound in
+    record {
+      writes = Writes-aside _ _ _ _ _ _ _ c.args.window _ by len 0 (len - by) _ _ c.requires.window (search rules) fits (omega arith) (omega arith) (omega arith)
+          (rw c.range.ensures at c.copy_from_block_in.ensures.writes) c.copy_within_in.ensures.writes (rw c.range-2.ensures at c.copy_from_block_in-2.ensures.writes)
+          (back-held list by len (sym long) fits);
+    }

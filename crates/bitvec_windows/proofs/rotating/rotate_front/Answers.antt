@@ -1,0 +1,21 @@
+use Rattle.std.proofs.Common.{◌-◌, arith, rules, sym, map}
+use Rattle.bitvec_engine.specs.base.Memory.{list_in}
+use Rattle.bitvec_engine.specs.base.WritesLaws.{Writes-start, length-list}
+use Rattle.bitvec_windows.proofs.Rotated.{Writes-aside, front-held, rotated-none}
+use Rattle.bitvec_windows.proofs.rotating.rotate_front.Goals as goal
+
+pub returns-then-by-eq0 : goal.returns-then-by-eq0
+returns-then-by-eq0 g c = record { writes = Writes-start c.requires.window (rw c.if-by-eq0.true (rotated-none _)) }
+
+pub returns : goal.returns
+returns g c =
+    let list = list_in g.T.BitStore.BITS g.O.BitOrder.at (map g.T.BitStore.value c.args.cells.now) c.args.window in
+    let long = length-list g.T.BitStore.BITS g.O.BitOrder.at (map g.T.BitStore.value c.args.cells.now) c.args.window c.requires.window in
+    let len = c.args.window.len in
+    let by = c.args.by in
+    let fits = c.requires.bound in
+    record {
+      writes = Writes-aside _ _ _ _ _ _ _ c.args.window _ 0 by (len - by) len _ _ c.requires.window (search rules) (omega arith) fits (omega arith) (omega arith)
+          (rw c.range.ensures at c.copy_from_block_in.ensures.writes) c.copy_within_in.ensures.writes (rw c.range-behind.ensures at c.copy_from_block_in-2.ensures.writes)
+          (front-held list by len (sym long) fits);
+    }

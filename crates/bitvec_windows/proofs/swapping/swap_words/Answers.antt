@@ -1,0 +1,61 @@
+use Rattle.std.proofs.Common.{arith, ap, map, refl, rules, sym, ◌∙◌}
+use Rattle.bitvec_windows.specs.base.Memory.{list_in}
+use Rattle.bitvec_windows.specs.base.WritesLaws.{length-list}
+use Rattle.bitvec_windows.specs.words.Field.{padded}
+use Rattle.bitvec_windows.proofs.StoreLemmas.{stored-stretch, stretch-all, stretch-next, stretch-none, stretch-old}
+use Rattle.bitvec_windows.proofs.swapping.swap_words.Goals as goal
+
+pub loop-from-init : goal.loop-from-init
+loop-from-init g c =
+    let list = list_in g.T.BitStore.BITS g.W.BitOrder.at (map g.T.BitStore.value c.args.left.now) c.args.left_window in
+    let right_list = list_in g.U.BitStore.BITS g.V.BitOrder.at (map g.U.BitStore.value c.args.right.now) c.args.right_window in
+    record {
+      fits = omega arith;
+      writes = stretch-none _ _ _ _ c.args.left_window right_list c.requires.window c.new-cells.ensures.numbers;
+      right_writes = stretch-none _ _ _ _ c.args.right_window list c.requires.right_window c.new-others.ensures.numbers;
+      borrow = search rules;
+      right_borrow = search rules;
+    }
+
+pub loop-from-preserved : goal.loop-from-preserved
+loop-from-preserved g c =
+    let inv = c.loop-from.invariant in
+    let window = c.args.left_window in
+    let right_window = c.args.right_window in
+    let at = g.W.BitOrder.at in
+    let right_at = g.V.BitOrder.at in
+    let from = c.loop-from.from in
+    let to = c.word_end-to.result in
+    let further = c.word_end-to.ensures.further in
+    let bound = c.word_end-to.ensures.bound in
+    let lengths = c.requires.lengths in
+    let long = length-list _ at _ _ c.requires.window in
+    let right_long = length-list _ right_at _ _ c.requires.right_window in
+    let word = (rw c.range-part.ensures at c.load_bits-word.ensures.value) ∙ ap (padded 64) (stretch-old _ at _ _ window _ from to c.requires.window (omega arith) bound inv.writes) in
+    let right_word = (rw c.range-other.ensures at c.load_bits-right_word.ensures.value) ∙ ap (padded 64) (stretch-old _ right_at _ _ right_window _ from to c.requires.right_window (omega arith) (omega arith) inv.right_writes) in
+    let wrote = rw (c.range-part.ensures, c.load_bits-word.ensures.reads.numbers) at c.store_bits.ensures.writes in
+    let right_wrote = rw (c.range-other.ensures, c.load_bits-right_word.ensures.reads.numbers) at c.store_bits-in-loop-from.ensures.writes in
+    record {
+      fits = bound;
+      writes = stretch-next _ _ _ _ _ window _ _ from to c.requires.window (omega arith) bound (right_long ∙ sym lengths)
+          (stored-stretch right_at at _ from to _ _ _ (omega arith) (omega arith) refl right_word c.turned.ensures)
+          inv.writes wrote;
+      right_writes = stretch-next _ _ _ _ _ right_window _ _ from to c.requires.right_window (omega arith) (omega arith) (long ∙ lengths)
+          (stored-stretch at right_at _ from to _ _ _ (omega arith) (omega arith) refl word c.turned-in-loop-from.ensures)
+          inv.right_writes right_wrote;
+      borrow = search rules;
+      right_borrow = search rules;
+    }
+
+pub returns : goal.returns
+returns g c =
+    let inv = c.loop-from.invariant in
+    let long = length-list _ g.W.BitOrder.at _ _ c.requires.window in
+    let right_long = length-list _ g.V.BitOrder.at _ _ c.requires.right_window in
+    let lengths = c.requires.lengths in
+    let done = stretch-all _ g.W.BitOrder.at _ _ c.args.left_window _ c.loop-from.from (omega arith) (right_long ∙ sym lengths) inv.writes in
+    let right_done = stretch-all _ g.V.BitOrder.at _ _ c.args.right_window _ c.loop-from.from (omega arith) (long ∙ lengths) inv.right_writes in
+    record {
+      writes = record { bits = search (rules, done.bits); long = done.long; elements = search (rules, done.elements) };
+      right_writes = record { bits = search (rules, right_done.bits); long = right_done.long; elements = search (rules, right_done.elements) };
+    }

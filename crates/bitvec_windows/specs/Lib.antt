@@ -1,0 +1,15 @@
+pub mod Asked
+pub mod AskedLaws
+pub mod Candidates
+pub mod Cited
+pub mod Difference
+pub mod Direction
+pub mod OrderLaws
+pub mod Swaps
+pub use Rattle.bitvec_engine.specs.base as base
+pub use Rattle.bitvec_engine.specs.cells as cells
+pub use Rattle.bitvec_engine.specs as engine
+pub use Rattle.bitvec_engine.specs.moves as moves
+pub use Rattle.bitvec_engine.specs.store as store
+pub use Rattle.bitvec_engine.specs.walk as walk
+pub use Rattle.bitvec_engine.specs.words as words

@@ -1,0 +1,48 @@
+//! Edits of a window of a slice of elements whose bits a closure answers.
+ghost use Rattle.std.specs.Prelude.{Bool, List, map};
+ghost use Rattle.bitvec_engine.specs.base.Memory.{HasWindow, Writes, list_in};
+ghost use Rattle.bitvec_windows.specs.Asked.{CallableBelow, CallableOnBits, FillsWith, RefillsWith};
+
+use bitvec_engine::base::{BitOrder, Window};
+use bitvec_engine::cells::Exclusive;
+use bitvec_engine::store::BitStore;
+use bitvec_engine::{get_bit, replace_bit};
+
+/// Makes each bit of a window what `f` answers for its index, from the first one on. Condition: the
+/// memory has at most `MAX_BITS` bits, and the window lies in it.
+pub fn fill_with_in<T: BitStore, O: BitOrder, F: FnMut(usize) -> bool>(
+    cells: &mut [T],
+    window: Window,
+    mut f: F,
+)
+    requires window { HasWindow T.BITS (map T.value cells.old) window }
+    requires callable { CallableBelow F.FnMut f window.len }
+    ensures writes { (new : List Bool) × FillsWith F.FnMut f new
+        × Writes T.BITS O.at (map T.value cells.old) (map T.value cells.new) window new }
+{
+    let mut accessor = Exclusive::new(cells);
+    for index in 0..window.len {
+        let bit = f(index);
+        replace_bit::<O, Exclusive<T>>(&mut accessor, window, index, bit);
+    }
+}
+
+/// Makes each bit of a window what `f` answers for its index and the bit there, from the first one
+/// on. Condition: as of [`fill_with_in`].
+pub fn for_each_in<T: BitStore, O: BitOrder, F: FnMut(usize, bool) -> bool>(
+    cells: &mut [T],
+    window: Window,
+    mut f: F,
+)
+    requires window { HasWindow T.BITS (map T.value cells.old) window }
+    requires callable { CallableOnBits F.FnMut f (list_in T.BITS O.at (map T.value cells.old) window) }
+    ensures writes { (new : List Bool) × RefillsWith F.FnMut f (list_in T.BITS O.at (map T.value cells.old) window) new
+        × Writes T.BITS O.at (map T.value cells.old) (map T.value cells.new) window new }
+{
+    let mut accessor = Exclusive::new(cells);
+    for index in 0..window.len {
+        let bit = get_bit::<O, Exclusive<T>>(&mut accessor, window, index);
+        let answer = f(index, bit);
+        replace_bit::<O, Exclusive<T>>(&mut accessor, window, index, answer);
+    }
+}

@@ -1,0 +1,106 @@
+//! The bits of two windows of slices of elements, compared.
+ghost use Rattle.std.specs.Prelude.{◌≡◌, map};
+ghost use Rattle.std.specs.Cmp.Lexicographic.{slice_cmp};
+ghost use Rattle.std.specs.Ordering.{bool_cmp};
+ghost use Rattle.bitvec_engine.specs.base.Lists.{same_bits};
+ghost use Rattle.bitvec_engine.specs.base.Memory.{HasWindow, list_in};
+
+use crate::difference::common_bits;
+use bitvec_engine::base::{BitOrder, Window};
+use bitvec_engine::cells::Shared;
+use bitvec_engine::store::BitStore;
+use bitvec_engine::{SliceOrder, get_bit};
+use std::cmp::Ordering;
+
+/// How many bits [`compare_block_in`] passes at a time where they are equal.
+const STRETCH: usize = 512;
+
+/// Whether two windows have the same bits. Condition: each memory has at most `MAX_BITS` bits, and
+/// each window lies in its memory.
+pub fn eq_in<T: BitStore, O: BitOrder, U: BitStore, P: BitOrder>(
+    left: &[T],
+    left_window: Window,
+    right: &[U],
+    right_window: Window,
+) -> bool
+    requires window { HasWindow T.BITS (map T.value left.now) left_window }
+    requires right_window { HasWindow U.BITS (map U.value right.now) right_window }
+    ensures { result ≡ same_bits (list_in T.BITS O.at (map T.value left.now) left_window)
+        (list_in U.BITS P.at (map U.value right.now) right_window) }
+{
+    if left_window.len != right_window.len {
+        return false;
+    }
+    common_bits::<T, O, U, P>(left, left_window, right, right_window) == left_window.len
+}
+
+/// Whether two windows have the same bits, of elements of the same type and order, as the order
+/// compares them. Condition: as of [`eq_in`].
+pub fn eq_block_in<T: BitStore, O: SliceOrder>(
+    left: &[T],
+    left_window: Window,
+    right: &[T],
+    right_window: Window,
+) -> bool
+    requires window { HasWindow T.BITS (map T.value left.now) left_window }
+    requires right_window { HasWindow T.BITS (map T.value right.now) right_window }
+    ensures { result ≡ same_bits (list_in T.BITS O.at (map T.value left.now) left_window)
+        (list_in T.BITS O.at (map T.value right.now) right_window) }
+{
+    let mut left = Shared::new(left);
+    let mut right = Shared::new(right);
+    O::block_eq::<Shared<T>, Shared<T>>(&mut left, left_window, &mut right, right_window)
+}
+
+/// How the bits of two windows compare, as lists of truth values do. Condition: as of [`eq_in`].
+pub fn compare_in<T: BitStore, O: BitOrder, U: BitStore, P: BitOrder>(
+    left: &[T],
+    left_window: Window,
+    right: &[U],
+    right_window: Window,
+) -> Ordering
+    requires window { HasWindow T.BITS (map T.value left.now) left_window }
+    requires right_window { HasWindow U.BITS (map U.value right.now) right_window }
+    ensures { result ≡ slice_cmp bool_cmp (list_in T.BITS O.at (map T.value left.now) left_window)
+        (list_in U.BITS P.at (map U.value right.now) right_window) }
+{
+    let common = common_bits::<T, O, U, P>(left, left_window, right, right_window);
+    if common < left_window.len.min(right_window.len) {
+        let mut left = Shared::new(left);
+        let mut right = Shared::new(right);
+        let bit = get_bit::<O, Shared<T>>(&mut left, left_window, common);
+        let other = get_bit::<P, Shared<U>>(&mut right, right_window, common);
+        return bit.cmp(&other);
+    }
+    left_window.len.cmp(&right_window.len)
+}
+
+/// How the bits of two windows compare, as lists of truth values do, of elements of the same type
+/// and order. It passes equal stretches as the order compares them, and goes by words from the first
+/// stretch on that differs. Condition: as of [`eq_in`].
+pub fn compare_block_in<T: BitStore, O: SliceOrder>(
+    left: &[T],
+    left_window: Window,
+    right: &[T],
+    right_window: Window,
+) -> Ordering
+    requires window { HasWindow T.BITS (map T.value left.now) left_window }
+    requires right_window { HasWindow T.BITS (map T.value right.now) right_window }
+    ensures { result ≡ slice_cmp bool_cmp (list_in T.BITS O.at (map T.value left.now) left_window)
+        (list_in T.BITS O.at (map T.value right.now) right_window) }
+{
+    let len = left_window.len.min(right_window.len);
+    let mut from = 0;
+    while from < len {
+        let to = from + STRETCH.min(len - from);
+        let part = left_window.range(from, to);
+        let other = right_window.range(from, to);
+        if !eq_block_in::<T, O>(left, part, right, other) {
+            let rest = left_window.after(from);
+            let other = right_window.after(from);
+            return compare_in::<T, O, T, O>(left, rest, right, other);
+        }
+        from = to;
+    }
+    left_window.len.cmp(&right_window.len)
+}
