@@ -1,5 +1,5 @@
 //! A run: what each step replies, and what its window holds afterwards.
-use bitvec_checked_run::checked::{DONE, MSB0};
+use bitvec_checked_run::checked::{DONE, LSB0, MSB0};
 use bitvec_checked_run::{OP, ROOM, RawReply, RawStep, run};
 
 fn step(op: u32, to: usize, first: usize, second: usize) -> RawStep {
@@ -38,6 +38,14 @@ fn a_run_replies_to_each_step(rt: HostRuntime) {
     assert!(rt; bytes == [0x1F, 0x00, 0x06]);
     let [first, second, third] = replies;
     assert!(rt; says(first, 1, 1, DONE) && says(second, 6, 0, 1) && says(third, 0, 0, DONE));
+}
+
+#[test]
+fn a_number_of_a_step_has_its_low_half_first(rt: HostRuntime) {
+    let mut bytes = [0u8; 9];
+    let steps = [step(31, 72, 0x0807_0605_0403_0201, 9)];
+    assert!(rt; run(LSB0, &mut bytes, 0, 72, &[], &steps, &mut [NOTHING]) == DONE);
+    assert!(rt; bytes == [1, 2, 3, 4, 5, 6, 7, 8, 9]);
 }
 
 #[test]
