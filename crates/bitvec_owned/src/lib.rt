@@ -16,8 +16,8 @@ mod zeros;
 /// What crates above name of `bitvec_edit`.
 pub mod edit {
     pub use bitvec_edit::{
-        BitEdits, base, cells, combine, comparisons, copy, domain, elements, engine, exchange,
-        reference, slice, store, walk, words,
+        BitEdits, base, cells, combine, comparisons, copy, domain, engine, exchange, reference,
+        slice, store, walk, windows, words,
     };
 }
 
