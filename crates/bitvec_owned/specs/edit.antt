@@ -2,7 +2,7 @@
 pub use Rattle.bitvec_edit.specs.UndoLaws
 pub use Rattle.bitvec_edit.specs.base
 pub use Rattle.bitvec_edit.specs.domain
-pub use Rattle.bitvec_edit.specs.elements
+pub use Rattle.bitvec_edit.specs.windows
 pub use Rattle.bitvec_edit.specs.lends
 pub use Rattle.bitvec_edit.specs.reference
 pub use Rattle.bitvec_edit.specs.slice
