@@ -1,13 +1,14 @@
 use Rattle.std.proofs.Common.{◌≡◌, ◌<◌, ℕ, ◌-◌, arith, rules, refl, sym, ◌∙◌, ap}
 use Rattle.bitvec_cells.specs.base.declared.part.Part.{Part}
 use Rattle.bitvec_cells.specs.base.Parts.{first_part_of}
-use Rattle.bitvec_cells.specs.base.WritesLaws.{Writes-empty, Writes-is}
+use Rattle.bitvec_cells.specs.base.WritesLaws.{Writes-empty, Writes-is, HasWindow-kept}
 use Rattle.bitvec_cells.specs.store.WidthLaws.{width_some}
 use Rattle.bitvec_cells.specs.Cost.{touched_count}
 use Rattle.bitvec_cells.specs.WalkLaws.{first-len, touched-none}
 use Rattle.bitvec_words.specs.FieldLaws.{Writes-head, first_part-long}
 use Rattle.bitvec_words.specs.FillingLaws.{fill_loads-some, replicate-is, replicate-parts}
 use Rattle.bitvec_words.specs.TouchedLaws.{part_loads-most, touched-head, touched-rest}
+use Rattle.bitvec_words.proofs.PlaceLemmas.{HasPart-head, HasWindow-behind, bits-some, head-behind, head-order, head-start, head-within, window-end}
 use Rattle.bitvec_words.proofs.filling.fill.Goals as goal
 
 pub returns-then-window-eq0-clause-writes : goal.returns-then-window-eq0-clause-writes
@@ -75,3 +76,38 @@ returns g c =
       stores = omega arith;
       loads = omega arith;
     }
+
+pub returns-then-window-eq0-clause-cost : goal.returns-then-window-eq0-clause-cost
+returns-then-window-eq0-clause-cost g c = record { borrow = refl; loads = omega arith; stores = omega arith }
+
+pub returns-then-window-eq0-clause-loads : goal.returns-then-window-eq0-clause-loads
+returns-then-window-eq0-clause-loads g c = omega arith
+
+pub first_part-head-requires-clause-bits : goal.first_part-head-requires-clause-bits
+first_part-head-requires-clause-bits g c = bits-some _ _ g.met.C.Elem.BitStore.width_law c.BITS-bits.ensures
+
+pub first_part-head-requires-clause-some : goal.first_part-head-requires-clause-some
+first_part-head-requires-clause-some g c = omega arith
+
+pub fill_part-requires : goal.fill_part-requires
+fill_part-requires g c = HasPart-head _ _ c.args.window _ g.met.C.Elem.BitStore.width_law c.BITS-bits.ensures c.first_part-head.ensures c.if-window-eq0.false _ c.requires
+
+pub len-passed-requires : goal.len-passed-requires
+len-passed-requires g c = head-order _ _ c.args.window _ g.met.C.Elem.BitStore.width_law c.BITS-bits.ensures c.first_part-head.ensures c.if-window-eq0.false
+
+pub returns-then-passed-window-clause-writes : goal.returns-then-passed-window-clause-writes
+returns-then-passed-window-clause-writes g c =
+    let start = head-start _ _ c.args.window _ g.met.C.Elem.BitStore.width_law c.BITS-bits.ensures c.first_part-head.ensures in
+    rw (start, ← c.len-passed.ensures, c.if-passed-window.true) at c.fill_part.ensures.writes
+
+pub after-requires-clause-bound : goal.after-requires-clause-bound
+after-requires-clause-bound g c = head-within _ _ c.args.window _ g.met.C.Elem.BitStore.width_law c.BITS-bits.ensures c.first_part-head.ensures _ c.len-passed.ensures
+
+pub after-requires-clause-end : goal.after-requires-clause-end
+after-requires-clause-end g c = window-end _ _ c.args.window c.requires
+
+pub fill_aligned-requires-clause-window : goal.fill_aligned-requires-clause-window
+fill_aligned-requires-clause-window g c = rw c.after.ensures (HasWindow-kept _ _ _ _ (HasWindow-behind _ _ c.args.window _ g.met.C.Elem.BitStore.width_law c.BITS-bits.ensures c.first_part-head.ensures _ c.len-passed.ensures _ c.requires) c.fill_part.ensures.writes.elements)
+
+pub fill_aligned-requires-clause-edge : goal.fill_aligned-requires-clause-edge
+fill_aligned-requires-clause-edge g c = rw c.after.ensures (head-behind _ _ c.args.window _ g.met.C.Elem.BitStore.width_law c.BITS-bits.ensures c.first_part-head.ensures _ c.len-passed.ensures c.if-passed-window.false)

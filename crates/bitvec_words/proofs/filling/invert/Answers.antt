@@ -1,7 +1,7 @@
 use Rattle.std.proofs.Common.{◌≡◌, ◌<◌, ℕ, ◌-◌, arith, rules, refl, sym, ◌∙◌, ap, map, not}
 use Rattle.bitvec_cells.specs.base.declared.part.Part.{Part}
 use Rattle.bitvec_cells.specs.base.Parts.{first_part_of}
-use Rattle.bitvec_cells.specs.base.WritesLaws.{Writes-empty, Writes-is}
+use Rattle.bitvec_cells.specs.base.WritesLaws.{HasWindow-kept, Writes-empty, Writes-is}
 use Rattle.bitvec_cells.specs.store.WidthLaws.{width_some}
 use Rattle.bitvec_cells.specs.Cost.{touched_count}
 use Rattle.bitvec_cells.specs.WalkLaws.{touched-none}
@@ -9,6 +9,7 @@ use Rattle.bitvec_words.specs.FieldLaws.{first_part-long}
 use Rattle.bitvec_words.specs.FillingLaws.{Writes-flipped_head}
 use Rattle.bitvec_words.specs.TouchedLaws.{touched-head, touched-rest}
 use Rattle.bitvec_words.specs.WholeLaws.{list-empty}
+use Rattle.bitvec_words.proofs.PlaceLemmas.{HasPart-head, HasWindow-behind, bits-some, head-behind, head-order, head-start, head-within, window-end}
 use Rattle.bitvec_words.proofs.filling.invert.Goals as goal
 
 pub returns-then-window-eq0 : goal.returns-then-window-eq0
@@ -45,3 +46,34 @@ returns g c =
       writes = Writes-flipped_head _ _ _ _ _ _ _ some more step c.requires first rest.writes;
       cost = record { borrow = search rules; loads = omega arith; stores = omega arith };
     }
+
+pub first_part-head-requires-clause-bits : goal.first_part-head-requires-clause-bits
+first_part-head-requires-clause-bits g c = bits-some _ _ g.met.C.Elem.BitStore.width_law c.BITS-bits.ensures
+
+pub first_part-head-requires-clause-some : goal.first_part-head-requires-clause-some
+first_part-head-requires-clause-some g c = omega arith
+
+pub invert_part-requires : goal.invert_part-requires
+invert_part-requires g c = HasPart-head _ _ c.args.window _ g.met.C.Elem.BitStore.width_law c.BITS-bits.ensures c.first_part-head.ensures c.if-window-eq0.false _ c.requires
+
+pub len-passed-requires : goal.len-passed-requires
+len-passed-requires g c = head-order _ _ c.args.window _ g.met.C.Elem.BitStore.width_law c.BITS-bits.ensures c.first_part-head.ensures c.if-window-eq0.false
+
+pub returns-then-passed-window-clause-writes : goal.returns-then-passed-window-clause-writes
+returns-then-passed-window-clause-writes g c =
+    let start = head-start _ _ c.args.window _ g.met.C.Elem.BitStore.width_law c.BITS-bits.ensures c.first_part-head.ensures in
+    rw (start, ← c.len-passed.ensures, c.if-passed-window.true) at c.invert_part.ensures.writes
+
+pub after-requires-clause-bound : goal.after-requires-clause-bound
+after-requires-clause-bound g c = head-within _ _ c.args.window _ g.met.C.Elem.BitStore.width_law c.BITS-bits.ensures c.first_part-head.ensures _ c.len-passed.ensures
+
+pub after-requires-clause-end : goal.after-requires-clause-end
+after-requires-clause-end g c = window-end _ _ c.args.window c.requires
+
+pub invert_aligned-requires-clause-window : goal.invert_aligned-requires-clause-window
+invert_aligned-requires-clause-window g c =
+    rw c.after.ensures (HasWindow-kept _ _ _ _ (HasWindow-behind _ _ c.args.window _ g.met.C.Elem.BitStore.width_law c.BITS-bits.ensures c.first_part-head.ensures _ c.len-passed.ensures _ c.requires) c.invert_part.ensures.writes.elements)
+
+pub invert_aligned-requires-clause-edge : goal.invert_aligned-requires-clause-edge
+invert_aligned-requires-clause-edge g c =
+    rw c.after.ensures (head-behind _ _ c.args.window _ g.met.C.Elem.BitStore.width_law c.BITS-bits.ensures c.first_part-head.ensures _ c.len-passed.ensures c.if-passed-window.false)

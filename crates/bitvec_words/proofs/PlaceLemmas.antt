@@ -1,0 +1,75 @@
+-- Where the first part of a window stands, its whole elements, and what is behind them.
+use Rattle.std.specs.Prelude.{◌≡◌, ◌≢◌, ℕ, ◌+◌, ◌-◌, ◌*◌, ◌/◌, ◌%◌, ◌^◌, ◌<◌, ◌≤◌, List, length}
+use Rattle.std.proofs.Common.{arith, ◌∙◌, ap}
+use Rattle.std.proofs.lemmas.Nat.{div-add-mod', mod_below}
+use Rattle.bitvec_cells.specs.base.declared.part.Part.{Part}
+use Rattle.bitvec_cells.specs.base.declared.window.Window.{Window}
+use Rattle.bitvec_cells.specs.base.Memory.{HasWindow, list_in}
+use Rattle.bitvec_cells.specs.base.Parts.{HasPart, first_part_of, tail_part_of}
+use Rattle.bitvec_cells.specs.base.Window.{window_after}
+use Rattle.bitvec_cells.specs.store.Width.{IsWidth}
+use Rattle.bitvec_cells.specs.store.WidthLaws.{width_some}
+use Rattle.bitvec_cells.specs.WalkLaws.{Walked-start, first-len, first-place}
+use Rattle.bitvec_words.specs.Elements.{whole_of}
+use Rattle.bitvec_words.specs.FieldLaws.{element_of, first_part-long}
+use Rattle.bitvec_words.specs.FieldWalkLaws.{HasPart-first}
+use Rattle.bitvec_words.specs.TouchedLaws.{head_edge}
+use Rattle.bitvec_words.proofs.FrontLemmas.{list-same}
+use Rattle.bitvec_words.proofs.ScanLemmas.{HasWindow-after}
+
+-- the width as a word, and a window's end
+pub bits-some : (b w : ℕ) → IsWidth b → w ≡ b → 0 < w
+bits-some b w width is = rw is (width_some b width)
+
+pub window-end : (b : ℕ) (xs : List ℕ) (window : Window) → HasWindow b xs window → window.start + window.len < 2 ^ 64
+window-end b xs window has =
+    let fits = has.fits in
+    let start = has.within.start in
+    let len = has.within.len in
+    omega arith
+
+-- ---- the first part, of t places
+
+module _ (b w : ℕ) (window : Window) (part : Part) (width : IsWidth b) (is : w ≡ b) (first : part ≡ first_part_of w window) where
+  head-is : part ≡ first_part_of b window
+  head-is = first ∙ ap (λ (n : ℕ). first_part_of n window) is
+
+  pub head-start : part.element * b + part.from ≡ window.start
+  head-start = rw head-is (first-place b window)
+
+  module _ (more : window.len ≢ 0) where
+    pub head-order : part.from ≤ part.to
+    head-order = let len = first-len b window (width_some b width) (omega arith) in rw head-is (omega arith)
+
+    pub HasPart-head : (xs : List ℕ) → HasWindow b xs window → HasPart b xs part
+    HasPart-head xs has = rw head-is (HasPart-first b xs window window (width_some b width) (omega arith) has (Walked-start b window))
+
+  module _ (t : ℕ) (long : t ≡ part.to - part.from) where
+    pub head-within : t ≤ window.len
+    head-within = let step = first_part-long t b w window part long first is in omega arith
+
+    pub head-behind : t ≢ window.len → (window.start + t) % b ≡ 0
+    head-behind left = head_edge b window.start t window.len (width_some b width) (first_part-long t b w window part long first is) left
+
+    pub HasWindow-behind : (xs : List ℕ) → HasWindow b xs window → HasWindow b xs (window_after t window)
+    HasWindow-behind xs has = HasWindow-after b xs window t has head-within
+
+-- ---- the whole elements of a window that begins where one does, and the part behind them
+
+pub whole-end : (b n : ℕ) → n / b * b ≤ n
+whole-end b n = let all = div-add-mod' n b in omega arith
+
+pub whole-all : (b n : ℕ) → n % b ≡ 0 → n / b * b ≡ n
+whole-all b n full = let all = div-add-mod' n b in omega arith
+
+pub list-all : (b : ℕ) (at : ℕ → ℕ → ℕ) (xs : List ℕ) (window : Window) → window.start % b ≡ 0 → window.len % b ≡ 0 → list_in b at xs (whole_of b window) ≡ list_in b at xs window
+list-all b at xs window edge full = list-same b at xs (whole_of b window) window (whole-all b window.start edge) (whole-all b window.len full)
+
+pub HasPart-tail : (b : ℕ) (xs : List ℕ) (window : Window) → IsWidth b → HasWindow b xs window → window.start % b ≡ 0 → window.len % b ≢ 0 → HasPart b xs (tail_part_of b window)
+HasPart-tail b xs window width has edge left =
+    let start = has.within.start in
+    let len = has.within.len in
+    let place = whole-all b window.start edge in
+    let parts = div-add-mod' window.len b in
+    let below = mod_below window.len b (width_some b width) in
+    record { element = element_of b (window.start / b + window.len / b) 0 (length xs) (omega arith); order = omega arith; bound = omega arith }
