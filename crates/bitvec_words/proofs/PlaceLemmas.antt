@@ -1,7 +1,7 @@
 -- Where the first part of a window stands, its whole elements, and what is behind them.
 use Rattle.std.specs.Prelude.{◌≡◌, ◌≢◌, ℕ, ◌+◌, ◌-◌, ◌*◌, ◌/◌, ◌%◌, ◌^◌, ◌<◌, ◌≤◌, List, length}
 use Rattle.std.proofs.Common.{arith, ◌∙◌, ap}
-use Rattle.std.proofs.lemmas.Nat.{div-add-mod', mod_below}
+use Rattle.std.proofs.lemmas.Nat.{div-add-mod', div-mul-add, mod_below}
 use Rattle.bitvec_cells.specs.base.declared.part.Part.{Part}
 use Rattle.bitvec_cells.specs.base.declared.window.Window.{Window}
 use Rattle.bitvec_cells.specs.base.Memory.{HasWindow, list_in}
@@ -9,17 +9,27 @@ use Rattle.bitvec_cells.specs.base.Parts.{HasPart, first_part_of, tail_part_of}
 use Rattle.bitvec_cells.specs.base.Window.{window_after}
 use Rattle.bitvec_cells.specs.store.Width.{IsWidth}
 use Rattle.bitvec_cells.specs.store.WidthLaws.{width_some}
+use Rattle.bitvec_cells.specs.Walk.{Walked}
 use Rattle.bitvec_cells.specs.WalkLaws.{Walked-start, first-len, first-place}
-use Rattle.bitvec_words.specs.Elements.{whole_of}
+use Rattle.bitvec_words.specs.Elements.{elements_window, whole_of}
 use Rattle.bitvec_words.specs.FieldLaws.{element_of, first_part-long}
 use Rattle.bitvec_words.specs.FieldWalkLaws.{HasPart-first}
+use Rattle.bitvec_words.specs.Front.{front_window}
 use Rattle.bitvec_words.specs.TouchedLaws.{head_edge}
+use Rattle.bitvec_words.specs.WholeLaws.{HasWindow-part}
+use Rattle.bitvec_words.specs.WordLaws.{word_whole}
 use Rattle.bitvec_words.proofs.FrontLemmas.{list-same}
 use Rattle.bitvec_words.proofs.ScanLemmas.{HasWindow-after}
 
--- the width as a word, and a window's end
+-- the width as a word, an index, and a window's end
 pub bits-some : (b w : ℕ) → IsWidth b → w ≡ b → 0 < w
 bits-some b w width is = rw is (width_some b width)
+
+pub index-within : (b w s : ℕ) → IsWidth b → w ≡ b → s % w ≤ w
+index-within b w s width is = let below = mod_below s w (bits-some b w width is) in omega arith
+
+pub index-below : (b w s : ℕ) → IsWidth b → w ≡ b → s % w < b
+index-below b w s width is = rw is (mod_below s b (width_some b width))
 
 pub window-end : (b : ℕ) (xs : List ℕ) (window : Window) → HasWindow b xs window → window.start + window.len < 2 ^ 64
 window-end b xs window has =
@@ -41,6 +51,9 @@ module _ (b w : ℕ) (window : Window) (part : Part) (width : IsWidth b) (is : w
     pub head-order : part.from ≤ part.to
     head-order = let len = first-len b window (width_some b width) (omega arith) in rw head-is (omega arith)
 
+    head-last : part.to ≤ b
+    head-last = let len = first-len b window (width_some b width) (omega arith) in rw head-is (omega arith)
+
     pub HasPart-head : (xs : List ℕ) → HasWindow b xs window → HasPart b xs part
     HasPart-head xs has = rw head-is (HasPart-first b xs window window (width_some b width) (omega arith) has (Walked-start b window))
 
@@ -51,13 +64,22 @@ module _ (b w : ℕ) (window : Window) (part : Part) (width : IsWidth b) (is : w
     pub head-behind : t ≢ window.len → (window.start + t) % b ≡ 0
     head-behind left = head_edge b window.start t window.len (width_some b width) (first_part-long t b w window part long first is) left
 
+    pub head-some : window.len ≢ 0 → 0 < t
+    head-some more =
+        let step = first_part-long t b w window part long first is in
+        let index = mod_below window.start b (width_some b width) in
+        omega arith
+
+    pub head-inside : window.len ≢ 0 → part.from + t ≤ b
+    head-inside more =
+        let order = head-order more in
+        let last = head-last more in
+        omega arith
+
     pub HasWindow-behind : (xs : List ℕ) → HasWindow b xs window → HasWindow b xs (window_after t window)
     HasWindow-behind xs has = HasWindow-after b xs window t has head-within
 
 -- ---- the whole elements of a window that begins where one does, and the part behind them
-
-pub whole-end : (b n : ℕ) → n / b * b ≤ n
-whole-end b n = let all = div-add-mod' n b in omega arith
 
 pub whole-all : (b n : ℕ) → n % b ≡ 0 → n / b * b ≡ n
 whole-all b n full = let all = div-add-mod' n b in omega arith
@@ -73,3 +95,39 @@ HasPart-tail b xs window width has edge left =
     let parts = div-add-mod' window.len b in
     let below = mod_below window.len b (width_some b width) in
     record { element = element_of b (window.start / b + window.len / b) 0 (length xs) (omega arith); order = omega arith; bound = omega arith }
+
+-- ---- what a walk has left, a front, and the elements of a word
+
+pub HasWindow-rest : (b : ℕ) (xs : List ℕ) (window rest : Window) → HasWindow b xs window → Walked b window rest → HasWindow b xs rest
+HasWindow-rest b xs window rest has walk = let end = walk.end in HasWindow-part b xs window rest has walk.start (omega arith)
+
+pub HasWindow-front : (b : ℕ) (xs : List ℕ) (window front : Window) → front ≡ front_window window → HasWindow b xs window → HasWindow b xs front
+HasWindow-front b xs window front is has = rw is (HasWindow-part b xs window (front_window window) has (omega arith) (omega arith))
+
+pub HasWindow-word : (b : ℕ) (xs : List ℕ) (window : Window) → IsWidth b → b ≤ 64 → 64 ≤ window.len → window.start % b ≡ 0 → HasWindow b xs window → HasWindow b xs (elements_window b (window.start / b) (64 / b))
+HasWindow-word b xs window width narrow long edge has =
+    let whole = word_whole b width narrow in
+    let start = whole-all b window.start edge in
+    HasWindow-part b xs window (elements_window b (window.start / b) (64 / b)) has (omega arith) (omega arith)
+
+-- ---- the last element that a window touches: the first, or the next
+
+pub last-first : (b s n : ℕ) → 0 < b → 0 < n → s % b + n ≤ b → (s + n - 1) / b ≡ s / b
+last-first b s n some more fits =
+    let place = div-add-mod' s b in
+    let last : s + n - 1 ≡ s / b * b + (s % b + n - 1) = omega arith in
+    ap (λ (m : ℕ). m / b) last ∙ div-mul-add (s / b) b (s % b + n - 1) (omega arith)
+
+pub last-next : (b s n : ℕ) → 0 < b → n ≤ b → b < s % b + n → (s + n - 1) / b ≡ s / b + 1
+last-next b s n some fits over =
+    let place = div-add-mod' s b in
+    let index = mod_below s b some in
+    let last : s + n - 1 ≡ (s / b + 1) * b + (s % b + n - 1 - b) = omega arith in
+    ap (λ (m : ℕ). m / b) last ∙ div-mul-add (s / b + 1) b (s % b + n - 1 - b) (omega arith)
+
+pub next-inside : (b : ℕ) (xs : List ℕ) (window : Window) → HasWindow b xs window → b < window.start % b + window.len → window.start / b + 1 < length xs
+next-inside b xs window has over =
+    let start = has.within.start in
+    let len = has.within.len in
+    let place = div-add-mod' window.start b in
+    element_of b (window.start / b + 1) 0 (length xs) (omega arith)

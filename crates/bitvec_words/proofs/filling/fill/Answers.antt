@@ -1,7 +1,7 @@
 use Rattle.std.proofs.Common.{◌≡◌, ◌<◌, ℕ, ◌-◌, arith, rules, refl, sym, ◌∙◌, ap}
 use Rattle.bitvec_cells.specs.base.declared.part.Part.{Part}
 use Rattle.bitvec_cells.specs.base.Parts.{first_part_of}
-use Rattle.bitvec_cells.specs.base.WritesLaws.{Writes-empty, Writes-is, HasWindow-kept}
+use Rattle.bitvec_cells.specs.base.WritesLaws.{HasWindow-kept, Writes-empty, Writes-is}
 use Rattle.bitvec_cells.specs.store.WidthLaws.{width_some}
 use Rattle.bitvec_cells.specs.Cost.{touched_count}
 use Rattle.bitvec_cells.specs.WalkLaws.{first-len, touched-none}

@@ -1,7 +1,7 @@
 use Rattle.std.proofs.Common.{ℕ, ◌+◌, ◌/◌, ◌%◌, arith, rules}
 use Rattle.std.proofs.lemmas.Nat.{div-add-mod'}
 use Rattle.bitvec_cells.specs.store.WidthLaws.{width_some}
-use Rattle.bitvec_cells.specs.base.WritesLaws.{Writes-is, HasWindow-kept}
+use Rattle.bitvec_cells.specs.base.WritesLaws.{HasWindow-kept, Writes-is}
 use Rattle.bitvec_words.specs.FieldLaws.{Writes-tail}
 use Rattle.bitvec_words.specs.FillingLaws.{replicate-parts}
 use Rattle.bitvec_words.specs.TouchedLaws.{part_loads-most, touched-full, touched-more}

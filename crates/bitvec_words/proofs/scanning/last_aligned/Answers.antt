@@ -1,11 +1,12 @@
 use Rattle.std.proofs.Common.{ℕ, ◌+◌, ◌-◌, ◌*◌, ◌/◌, arith, rules, refl, sym}
+use Rattle.std.proofs.Math.Nat.{div-mul-le_self}
 use Rattle.std.proofs.lemmas.Nat.{div-add-mod'}
 use Rattle.bitvec_cells.specs.store.WidthLaws.{width_some}
 use Rattle.bitvec_cells.specs.base.WritesLaws.{length-list}
 use Rattle.bitvec_words.specs.FieldLaws.{list-tail}
 use Rattle.bitvec_words.specs.TouchedLaws.{touched-first}
 use Rattle.bitvec_words.proofs.ScanLemmas.{HasWindow-tail, HasWindow-whole, last-behind, last-front, last-inside, last_loads-tail}
-use Rattle.bitvec_words.proofs.PlaceLemmas.{HasPart-tail, bits-some, whole-all, whole-end, window-end}
+use Rattle.bitvec_words.proofs.PlaceLemmas.{HasPart-tail, bits-some, whole-all, window-end}
 use Rattle.bitvec_words.proofs.scanning.last_aligned.Goals as goal
 
 pub overflow_add-result : goal.overflow_add-result
@@ -80,7 +81,7 @@ returns-then-tail-eq0-clause-reads g c =
 
 pub overflow_mul-result : goal.overflow_mul-result
 overflow_mul-result g c =
-    let whole = whole-end g.C.Elem.BitStore.BITS c.args.window.len in
+    let whole = div-mul-le_self c.args.window.len g.C.Elem.BitStore.BITS in
     let end = window-end _ _ c.args.window c.requires.window in
     rw (c.whole_elements-first.ensures, c.BITS-bits.ensures) (omega arith)
 
