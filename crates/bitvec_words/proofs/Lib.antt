@@ -1,3 +1,4 @@
+pub mod CostLemmas
 pub mod CountLemmas
 pub mod FrontLemmas
 pub mod LaneLemmas

@@ -1,12 +1,14 @@
 -- Where the first part of a window stands, its whole elements, and what is behind them.
 use Rattle.std.specs.Prelude.{◌≡◌, ◌≢◌, ℕ, ◌+◌, ◌-◌, ◌*◌, ◌/◌, ◌%◌, ◌^◌, ◌<◌, ◌≤◌, List, length}
 use Rattle.std.proofs.Common.{arith, ◌∙◌, ap}
+use Rattle.std.proofs.Math.Nat.{mul-le-mul_left}
 use Rattle.std.proofs.lemmas.Nat.{div-add-mod', div-mul-add, mod_below}
 use Rattle.bitvec_cells.specs.base.declared.part.Part.{Part}
 use Rattle.bitvec_cells.specs.base.declared.window.Window.{Window}
 use Rattle.bitvec_cells.specs.base.Memory.{HasWindow, list_in}
 use Rattle.bitvec_cells.specs.base.Parts.{HasPart, first_part_of, tail_part_of}
 use Rattle.bitvec_cells.specs.base.Window.{window_after}
+use Rattle.bitvec_cells.specs.Cost.{touched_count}
 use Rattle.bitvec_cells.specs.store.Width.{IsWidth}
 use Rattle.bitvec_cells.specs.store.WidthLaws.{width_some}
 use Rattle.bitvec_cells.specs.Walk.{Walked}
@@ -15,7 +17,7 @@ use Rattle.bitvec_words.specs.Elements.{elements_window, whole_of}
 use Rattle.bitvec_words.specs.FieldLaws.{element_of, first_part-long}
 use Rattle.bitvec_words.specs.FieldWalkLaws.{HasPart-first}
 use Rattle.bitvec_words.specs.Front.{front_window}
-use Rattle.bitvec_words.specs.TouchedLaws.{head_edge}
+use Rattle.bitvec_words.specs.TouchedLaws.{head_edge, touched-head, touched-rest}
 use Rattle.bitvec_words.specs.WholeLaws.{HasWindow-part}
 use Rattle.bitvec_words.specs.WordLaws.{word_whole}
 use Rattle.bitvec_words.proofs.FrontLemmas.{list-same}
@@ -51,7 +53,7 @@ module _ (b w : ℕ) (window : Window) (part : Part) (width : IsWidth b) (is : w
     pub head-order : part.from ≤ part.to
     head-order = let len = first-len b window (width_some b width) (omega arith) in rw head-is (omega arith)
 
-    head-last : part.to ≤ b
+    pub head-last : part.to ≤ b
     head-last = let len = first-len b window (width_some b width) (omega arith) in rw head-is (omega arith)
 
     pub HasPart-head : (xs : List ℕ) → HasWindow b xs window → HasPart b xs part
@@ -60,6 +62,16 @@ module _ (b w : ℕ) (window : Window) (part : Part) (width : IsWidth b) (is : w
   module _ (t : ℕ) (long : t ≡ part.to - part.from) where
     pub head-within : t ≤ window.len
     head-within = let step = first_part-long t b w window part long first is in omega arith
+
+    pub head-parts : t + (window.len - t) ≡ window.len
+    head-parts = let within = head-within in omega arith
+
+    -- the elements that a window touches, if the part is all of it, and if it isn't
+    pub head-all : window.len ≢ 0 → t ≡ window.len → touched_count b window.start window.len ≡ 1
+    head-all more all = rw all at (touched-head b window.start t window.len (width_some b width) (omega arith) (first_part-long t b w window part long first is))
+
+    pub head-rest : window.len ≢ 0 → t ≢ window.len → touched_count b window.start window.len ≡ 1 + touched_count b (window.start + t) (window.len - t)
+    head-rest more left = touched-rest b window.start t window.len (width_some b width) (omega arith) (first_part-long t b w window part long first is) left
 
     pub head-behind : t ≢ window.len → (window.start + t) % b ≡ 0
     head-behind left = head_edge b window.start t window.len (width_some b width) (first_part-long t b w window part long first is) left
@@ -131,3 +143,27 @@ next-inside b xs window has over =
     let len = has.within.len in
     let place = div-add-mod' window.start b in
     element_of b (window.start / b + 1) 0 (length xs) (omega arith)
+
+-- ---- an element of some, its number, and the bits before it
+
+module _ (b : ℕ) (xs : List ℕ) (first count step : ℕ) (some : 0 < b) (has : HasWindow b xs (elements_window b first count)) (more : step < count) where
+  pub element-inside : first + step < length xs
+  element-inside =
+      let order = mul-le-mul_left b more in
+      let start = has.within.start in
+      let len = has.within.len in
+      element_of b (first + step) 0 (length xs) (omega arith)
+
+  pub element-few : first + step < 2 ^ 64
+  element-few =
+      let fits = has.fits in
+      let inside = element-inside in
+      let wide = mul-le-mul_left (length xs) (let h : 1 ≤ b = omega arith in h) in
+      omega arith
+
+  pub elements-few : (w : ℕ) → w ≡ b → step * w < 2 ^ 64
+  elements-few w is =
+      let order = mul-le-mul_left b more in
+      let fits = has.fits in
+      let len = has.within.len in
+      rw is (omega arith)

@@ -1,4 +1,4 @@
-use Rattle.std.proofs.Common.{ℕ, ◌+◌, ◌/◌, ◌%◌, arith, rules}
+use Rattle.std.proofs.Common.{ℕ, ◌+◌, ◌/◌, ◌%◌, arith}
 use Rattle.std.proofs.lemmas.Nat.{div-add-mod'}
 use Rattle.bitvec_cells.specs.store.WidthLaws.{width_some}
 use Rattle.bitvec_cells.specs.base.WritesLaws.{HasWindow-kept, Writes-is}
@@ -7,6 +7,7 @@ use Rattle.bitvec_words.specs.FillingLaws.{replicate-parts}
 use Rattle.bitvec_words.specs.TouchedLaws.{part_loads-most, touched-full, touched-more}
 use Rattle.bitvec_words.proofs.PlaceLemmas.{HasPart-tail, bits-some, whole-all, window-end}
 use Rattle.bitvec_words.proofs.ScanLemmas.{HasWindow-whole}
+use Rattle.bitvec_words.proofs.CostLemmas.{fill-tail, fill-whole, loads-tail, stores-sum}
 use Rattle.bitvec_words.proofs.filling.fill_aligned.Goals as goal
 
 pub returns-then-tail-eq0-clause-cost : goal.returns-then-tail-eq0-clause-cost
@@ -14,14 +15,14 @@ returns-then-tail-eq0-clause-cost g c =
     let full = rw (c.tail_part-tail.ensures, c.BITS-bits.ensures) at c.if-tail-eq0.true in
     let all = touched-full g.C.Elem.BitStore.BITS c.args.window.start c.args.window.len (width_some _ g.met.C.Elem.BitStore.width_law) c.requires.edge full in
     let cost = rw (c.whole_elements-first.ensures, c.BITS-bits.ensures) at c.fill_whole.ensures.cost in
-    record { borrow = search rules; loads = omega arith; stores = omega arith }
+    fill-whole _ _ _ _ _ all cost
 
 pub returns-then-tail-eq0-clause-stores : goal.returns-then-tail-eq0-clause-stores
 returns-then-tail-eq0-clause-stores g c =
     let full = rw (c.tail_part-tail.ensures, c.BITS-bits.ensures) at c.if-tail-eq0.true in
     let all = touched-full g.C.Elem.BitStore.BITS c.args.window.start c.args.window.len (width_some _ g.met.C.Elem.BitStore.width_law) c.requires.edge full in
     let cost = rw (c.whole_elements-first.ensures, c.BITS-bits.ensures) at c.fill_whole.ensures.cost in
-    omega arith
+    rw all cost.stores
 
 pub returns : goal.returns
 returns g c =
@@ -39,9 +40,9 @@ returns g c =
       writes = Writes-is _ _ _ _ _ _ _
           (Writes-tail _ _ _ _ _ _ _ _ c.requires.window c.requires.edge first.writes second.writes)
           (replicate-parts _ _ _ _ (omega arith));
-      cost = record { borrow = search rules; loads = omega arith; stores = omega arith };
-      stores = omega arith;
-      loads = omega arith;
+      cost = fill-tail _ _ _ _ _ _ _ most all cost tail;
+      stores = stores-sum _ _ _ _ _ _ cost.stores tail.stores all;
+      loads = loads-tail _ _ _ _ _ _ most cost.loads tail.loads all;
     }
 
 pub whole_elements-first-requires : goal.whole_elements-first-requires

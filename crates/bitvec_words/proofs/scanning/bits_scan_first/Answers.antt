@@ -11,6 +11,7 @@ use Rattle.bitvec_words.specs.TouchedLaws.{touched-first, touched-rest}
 use Rattle.bitvec_words.specs.WholeLaws.{list-empty}
 use Rattle.bitvec_words.proofs.ScanLemmas.{HasWindow-after, HasWindow-head, first-behind, first-front, first-inside, first-lacks, touched-behind_head}
 use Rattle.bitvec_words.proofs.PlaceLemmas.{HasPart-head, HasWindow-behind, bits-some, head-behind, head-order, head-start, head-within, window-end}
+use Rattle.bitvec_words.proofs.CostLemmas.{reads-head}
 use Rattle.bitvec_words.proofs.scanning.bits_scan_first.Goals as goal
 
 pub returns-then-window-eq0-clause-value : goal.returns-then-window-eq0-clause-value
@@ -48,10 +49,9 @@ returns-in_err-found g c =
     let none = rw head at c.in_default.ensures.value in
     let first = c.in_default.ensures.reads in
     let rest = rw (c.after.ensures, first.numbers) at c.in_err-found.ensures in
-    let second = rest.reads in
     rw c.from_residual.ensures (record {
       value = first-lacks c.args.want _ _ _ none rest.value (list-head b g.O.BitOrder.at _ _ _ _ some more step refl refl c.requires);
-      reads = record { numbers = search rules; borrow = search rules; loads = omega arith; stores = search rules };
+      reads = reads-head _ _ _ _ _ _ all first rest.reads;
     })
 
 pub overflow_add-result : goal.overflow_add-result
@@ -81,12 +81,11 @@ returns g c =
     let none = rw head at c.in_default.ensures.value in
     let first = c.in_default.ensures.reads in
     let rest = rw (c.after.ensures, first.numbers) at c.in_ok-found.ensures in
-    let second = rest.reads in
     record {
       value = first-behind c.args.want _ _ _ _ _ none rest.value
           (step ∙ sym (length-list b at _ _ (HasWindow-head b _ _ some more c.requires)))
           (list-head b at _ _ _ _ some more step refl refl c.requires);
-      reads = record { numbers = search rules; borrow = search rules; loads = omega arith; stores = search rules };
+      reads = reads-head _ _ _ _ _ _ all first rest.reads;
     }
 
 pub nonzero_rem-window : goal.nonzero_rem-window
