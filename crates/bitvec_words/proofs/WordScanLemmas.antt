@@ -1,9 +1,9 @@
 -- A search of a window from its front, and of elements some at a time.
-use Rattle.std.specs.Prelude.{◌≡◌, ℕ, ◌+◌, ◌-◌, ◌*◌, ◌/◌, ◌%◌, ◌^◌, ◌<◌, ◌≤◌, if◌then◌else◌, Bool, not, List, ◌++◌, length, slice_index, slice_range, bit_or, bit_xor, Some, None, refl}
+use Rattle.std.specs.Prelude.{◌≡◌, ℕ, ◌+◌, ◌-◌, ◌*◌, ◌/◌, ◌%◌, ◌^◌, ◌<◌, ◌≤◌, if◌then◌else◌, Bool, not, List, ◌++◌, length, min, slice_index, slice_range, bit_or, bit_xor, Some, None, refl}
 use Rattle.std.proofs.Common.{arith, lit≤, sym, ◌∙◌, ap, ⊎_elim, length-append}
-use Rattle.std.proofs.Math.Nat.{add-mul, mul-le-mul_left, mul_assoc}
+use Rattle.std.proofs.Math.Nat.{add-mul, div-mul-le_self, mul-le-mul_left, mul_assoc}
 use Rattle.std.proofs.lemmas.Bool.{cases_lt}
-use Rattle.std.proofs.lemmas.Nat.{div-add-mod'}
+use Rattle.std.proofs.lemmas.Nat.{div-add-mod', mod_below}
 use Rattle.bitvec_cells.specs.store.Width.{IsWidth}
 use Rattle.bitvec_cells.specs.store.WidthLaws.{at_each_width, width_some}
 use Rattle.bitvec_cells.specs.base.Lists.{first_place}
@@ -21,9 +21,10 @@ use Rattle.bitvec_words.specs.Elements.{elements_window}
 use Rattle.bitvec_words.specs.FieldLaws.{element_of, list-whole}
 use Rattle.bitvec_words.specs.MovedLaws.{take-field}
 use Rattle.bitvec_words.specs.SameLaws.{or_none, or_none_right}
-use Rattle.bitvec_words.specs.TouchedLaws.{touched-edge, touched-whole}
-use Rattle.bitvec_words.specs.WholeLaws.{HasWindow-part}
-use Rattle.bitvec_words.specs.Front.{IsFront}
+use Rattle.bitvec_words.specs.TouchedLaws.{head_edge, touched-edge, touched-whole}
+use Rattle.bitvec_words.specs.WholeLaws.{HasWindow-part, behind-mod}
+use Rattle.bitvec_words.specs.Front.{EndsAtEdge, IsFront}
+use Rattle.bitvec_words.proofs.FrontLemmas.{list-same}
 use Rattle.bitvec_words.proofs.ScanLemmas.{first-behind, first-front, first-lacks, first-passed}
 
 -- ---- what a search has passed of a window, and what is left
@@ -183,3 +184,47 @@ pub front-bits : (b : ℕ) (at : ℕ → ℕ → ℕ) (xs : List ℕ) (window : 
 front-bits b at xs window word count has front =
     let long = length-list b at xs (window_range window 0 count) (HasWindow-range b xs window 0 count has (omega arith) front.within) in
     range-from_start (element_bits 64 at word) count count refl ∙ take-field 64 count _ _ front.bits (omega arith)
+
+-- ---- where a front ends: at the end of the first element, or of the window; or behind its blocks
+
+pub ends-head : (b : ℕ) (window : Window) (t : ℕ) → 0 < b → 0 < window.len → t ≡ min window.len (b - window.start % b) → EndsAtEdge b window t
+ends-head b window t some more part =
+    let index = mod_below window.start b some in
+    record { some = omega arith; within = omega arith; edge = λ left. head_edge b window.start t window.len some part (omega arith) }
+
+pub ends-all : (b : ℕ) (window : Window) (t : ℕ) → 0 < window.len → t ≡ window.len → EndsAtEdge b window t
+ends-all b window t more all = record { some = omega arith; within = omega arith; edge = λ left. absurd (omega arith) }
+
+module _ (b : ℕ) (window : Window) (width : IsWidth b) (edge : window.start % b ≡ 0) where
+  long : window.len / 256 * (256 / b) * b ≡ window.len / 256 * 256
+  long = mul_assoc (window.len / 256) (256 / b) b ∙ ap (λ (n : ℕ). window.len / 256 * n) (block_whole b width)
+
+  pub HasWindow-blocks : (xs : List ℕ) → HasWindow b xs window → HasWindow b xs (elements_window b (window.start / b) (window.len / 256 * (256 / b)))
+  HasWindow-blocks xs has =
+      let place = div-add-mod' window.start b in
+      let bits = long in
+      let fits = div-mul-le_self window.len 256 in
+      HasWindow-part b xs window (elements_window b (window.start / b) (window.len / 256 * (256 / b))) has (omega arith) (omega arith)
+
+  pub list-blocks : (at : ℕ → ℕ → ℕ) (xs : List ℕ) → list_in b at xs (elements_window b (window.start / b) (window.len / 256 * (256 / b))) ≡ list_in b at xs (window_range window 0 (window.len / 256 * 256))
+  list-blocks at xs =
+      let place = div-add-mod' window.start b in
+      let bits = long in
+      list-same b at xs (elements_window b (window.start / b) (window.len / 256 * (256 / b))) (window_range window 0 (window.len / 256 * 256)) (omega arith) (omega arith)
+
+  pub ends-blocks : 0 < window.len / 256 → EndsAtEdge b window (window.len / 256 * 256)
+  ends-blocks more =
+      let fits = div-mul-le_self window.len 256 in
+      record {
+        some = omega arith;
+        within = fits;
+        edge = λ left. ap (λ (n : ℕ). (window.start + n) % b) (sym long) ∙ behind-mod b window.start (window.len / 256 * (256 / b)) (width_some b width) ∙ edge;
+      }
+
+-- the bits of some blocks are fewer than a number may be
+pub blocks-few : (b : ℕ) (xs : List ℕ) (first count step : ℕ) → IsWidth b → HasWindow b xs (elements_window b first (count * (256 / b))) → step < count → step * 256 < 2 ^ 64
+blocks-few b xs first count step width has more =
+    let bits : count * (256 / b) * b ≡ count * 256 = mul_assoc count (256 / b) b ∙ ap (λ (n : ℕ). count * n) (block_whole b width) in
+    let fits = has.fits in
+    let len = has.within.len in
+    omega arith

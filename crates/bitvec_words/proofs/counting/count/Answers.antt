@@ -8,6 +8,7 @@ use Rattle.bitvec_words.specs.FieldLaws.{first_part-long}
 use Rattle.bitvec_words.specs.TouchedLaws.{touched-head, touched-rest}
 use Rattle.bitvec_words.specs.WholeLaws.{list-empty}
 use Rattle.bitvec_words.proofs.CountLemmas.{count-head, count-within}
+use Rattle.bitvec_words.proofs.PlaceLemmas.{HasPart-head, HasWindow-behind, bits-some, head-behind, head-order, head-start, head-within, window-end}
 use Rattle.bitvec_words.proofs.counting.count.Goals as goal
 
 pub returns-then-window-eq0 : goal.returns-then-window-eq0
@@ -59,3 +60,32 @@ returns g c =
       value = count-head b g.O.BitOrder.at _ c.args.window _ _ _ some more step c.requires first rest;
       reads = record { numbers = search rules; borrow = search rules; loads = omega arith; stores = search rules };
     }
+
+pub first_part-head-requires-clause-bits : goal.first_part-head-requires-clause-bits
+first_part-head-requires-clause-bits g c = bits-some _ _ g.met.C.Elem.BitStore.width_law c.BITS-bits.ensures
+
+pub first_part-head-requires-clause-some : goal.first_part-head-requires-clause-some
+first_part-head-requires-clause-some g c = omega arith
+
+pub count_part-ones-requires : goal.count_part-ones-requires
+count_part-ones-requires g c = HasPart-head _ _ c.args.window _ g.met.C.Elem.BitStore.width_law c.BITS-bits.ensures c.first_part-head.ensures c.if-window-eq0.false _ c.requires
+
+pub len-passed-requires : goal.len-passed-requires
+len-passed-requires g c = head-order _ _ c.args.window _ g.met.C.Elem.BitStore.width_law c.BITS-bits.ensures c.first_part-head.ensures c.if-window-eq0.false
+
+pub returns-then-passed-window-clause-value : goal.returns-then-passed-window-clause-value
+returns-then-passed-window-clause-value g c =
+    let start = head-start _ _ c.args.window _ g.met.C.Elem.BitStore.width_law c.BITS-bits.ensures c.first_part-head.ensures in
+    rw (start, ← c.len-passed.ensures, c.if-passed-window.true) at c.count_part-ones.ensures.value
+
+pub after-requires-clause-bound : goal.after-requires-clause-bound
+after-requires-clause-bound g c = head-within _ _ c.args.window _ g.met.C.Elem.BitStore.width_law c.BITS-bits.ensures c.first_part-head.ensures _ c.len-passed.ensures
+
+pub after-requires-clause-end : goal.after-requires-clause-end
+after-requires-clause-end g c = window-end _ _ c.args.window c.requires
+
+pub count_aligned-requires-clause-window : goal.count_aligned-requires-clause-window
+count_aligned-requires-clause-window g c = rw (c.count_part-ones.ensures.reads.numbers, c.after.ensures) (HasWindow-behind _ _ c.args.window _ g.met.C.Elem.BitStore.width_law c.BITS-bits.ensures c.first_part-head.ensures _ c.len-passed.ensures _ c.requires)
+
+pub count_aligned-requires-clause-edge : goal.count_aligned-requires-clause-edge
+count_aligned-requires-clause-edge g c = rw c.after.ensures (head-behind _ _ c.args.window _ g.met.C.Elem.BitStore.width_law c.BITS-bits.ensures c.first_part-head.ensures _ c.len-passed.ensures c.if-passed-window.false)

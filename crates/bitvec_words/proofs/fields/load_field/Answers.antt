@@ -7,6 +7,7 @@ use Rattle.bitvec_cells.specs.WalkLaws.{Walked-start, Walked-next, first-len, pa
 use Rattle.bitvec_words.specs.Field.{padded}
 use Rattle.bitvec_words.specs.MovedLaws.{padded-none}
 use Rattle.bitvec_words.specs.FieldWalkLaws.{field-next}
+use Rattle.bitvec_words.proofs.PlaceLemmas.{HasPart-head, HasWindow-rest, bits-some, head-inside, head-order, head-some, head-within, window-end}
 use Rattle.bitvec_words.proofs.fields.load_field.Goals as goal
 
 pub loop-rest-init : goal.loop-rest-init
@@ -40,3 +41,52 @@ loop-rest-preserved g c =
       value = field-next _ _ _ _ _ _ _ _ _ _ some more c.requires.bound step refl c.requires.window inv.walk loaded moved inv.value;
       reads = record { numbers = c.load-element.ensures.numbers ∙ inv.reads.numbers; borrow = c.load-element.ensures.borrow ∙ inv.reads.borrow; loads = omega arith; stores = c.load-element.ensures.stores ∙ inv.reads.stores };
     })
+
+pub first_part-part-requires-clause-bits : goal.first_part-part-requires-clause-bits
+first_part-part-requires-clause-bits g c = bits-some _ _ g.met.C.Elem.BitStore.width_law c.BITS-bits.ensures
+
+pub first_part-part-requires-clause-some : goal.first_part-part-requires-clause-some
+first_part-part-requires-clause-some g c = c.loop-rest-test.true
+
+pub len-count-requires : goal.len-count-requires
+len-count-requires g c = head-order _ _ c.loop-rest.rest _ g.met.C.Elem.BitStore.width_law c.BITS-bits.ensures c.first_part-part.ensures (omega arith)
+
+pub overflow_sub-window : goal.overflow_sub-window
+overflow_sub-window g c = let walk = c.loop-rest.invariant.walk in omega arith
+
+pub after-rest-requires-clause-bound : goal.after-rest-requires-clause-bound
+after-rest-requires-clause-bound g c = head-within _ _ c.loop-rest.rest _ g.met.C.Elem.BitStore.width_law c.BITS-bits.ensures c.first_part-part.ensures _ c.len-count.ensures
+
+pub after-rest-requires-clause-end : goal.after-rest-requires-clause-end
+after-rest-requires-clause-end g c = window-end _ _ c.loop-rest.rest (HasWindow-rest _ _ c.args.window _ c.requires.window c.loop-rest.invariant.walk)
+
+pub loop-rest-smaller : goal.loop-rest-smaller
+loop-rest-smaller g c =
+    let some = head-some _ _ c.loop-rest.rest _ g.met.C.Elem.BitStore.width_law c.BITS-bits.ensures c.first_part-part.ensures _ c.len-count.ensures (omega arith) in
+    rw c.after-rest.ensures (omega arith)
+
+pub load-element-requires : goal.load-element-requires
+load-element-requires g c =
+    let has = HasPart-head _ _ c.loop-rest.rest _ g.met.C.Elem.BitStore.width_law c.BITS-bits.ensures c.first_part-part.ensures (omega arith) _ (HasWindow-rest _ _ c.args.window _ c.requires.window c.loop-rest.invariant.walk) in
+    rw c.loop-rest.invariant.reads.numbers has.element
+
+pub moved-field-requires-clause-source : goal.moved-field-requires-clause-source
+moved-field-requires-clause-source g c = head-inside _ _ c.loop-rest.rest _ g.met.C.Elem.BitStore.width_law c.BITS-bits.ensures c.first_part-part.ensures _ c.len-count.ensures (omega arith)
+
+pub moved-field-requires-clause-target : goal.moved-field-requires-clause-target
+moved-field-requires-clause-target g c =
+    let walk = c.loop-rest.invariant.walk in
+    let within = head-within _ _ c.loop-rest.rest _ g.met.C.Elem.BitStore.width_law c.BITS-bits.ensures c.first_part-part.ensures _ c.len-count.ensures in
+    omega arith
+
+pub returns-clause-value : goal.returns-clause-value
+returns-clause-value g c =
+    let walk = c.loop-rest.invariant.walk in
+    let all : c.loop-rest.rest.start - c.args.window.start ≡ c.args.window.len = omega arith in
+    rw all at c.loop-rest.invariant.value
+
+pub returns-clause-reads : goal.returns-clause-reads
+returns-clause-reads g c =
+    let walk = c.loop-rest.invariant.walk in
+    let all : c.loop-rest.rest.start - c.args.window.start ≡ c.args.window.len = omega arith in
+    rw all at c.loop-rest.invariant.reads

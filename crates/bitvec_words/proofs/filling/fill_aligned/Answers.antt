@@ -1,10 +1,13 @@
-use Rattle.std.proofs.Common.{ℕ, ◌+◌, ◌/◌, ◌%◌, arith, rules}
+use Rattle.std.proofs.Common.{ℕ, ◌+◌, ◌/◌, ◌%◌, arith}
 use Rattle.std.proofs.lemmas.Nat.{div-add-mod'}
 use Rattle.bitvec_cells.specs.store.WidthLaws.{width_some}
-use Rattle.bitvec_cells.specs.base.WritesLaws.{Writes-is}
+use Rattle.bitvec_cells.specs.base.WritesLaws.{HasWindow-kept, Writes-is}
 use Rattle.bitvec_words.specs.FieldLaws.{Writes-tail}
 use Rattle.bitvec_words.specs.FillingLaws.{replicate-parts}
 use Rattle.bitvec_words.specs.TouchedLaws.{part_loads-most, touched-full, touched-more}
+use Rattle.bitvec_words.proofs.PlaceLemmas.{HasPart-tail, bits-some, whole-all, window-end}
+use Rattle.bitvec_words.proofs.ScanLemmas.{HasWindow-whole}
+use Rattle.bitvec_words.proofs.CostLemmas.{fill-tail, fill-whole, loads-tail, stores-sum}
 use Rattle.bitvec_words.proofs.filling.fill_aligned.Goals as goal
 
 pub returns-then-tail-eq0-clause-cost : goal.returns-then-tail-eq0-clause-cost
@@ -12,14 +15,14 @@ returns-then-tail-eq0-clause-cost g c =
     let full = rw (c.tail_part-tail.ensures, c.BITS-bits.ensures) at c.if-tail-eq0.true in
     let all = touched-full g.C.Elem.BitStore.BITS c.args.window.start c.args.window.len (width_some _ g.met.C.Elem.BitStore.width_law) c.requires.edge full in
     let cost = rw (c.whole_elements-first.ensures, c.BITS-bits.ensures) at c.fill_whole.ensures.cost in
-    record { borrow = search rules; loads = omega arith; stores = omega arith }
+    fill-whole _ _ _ _ _ all cost
 
 pub returns-then-tail-eq0-clause-stores : goal.returns-then-tail-eq0-clause-stores
 returns-then-tail-eq0-clause-stores g c =
     let full = rw (c.tail_part-tail.ensures, c.BITS-bits.ensures) at c.if-tail-eq0.true in
     let all = touched-full g.C.Elem.BitStore.BITS c.args.window.start c.args.window.len (width_some _ g.met.C.Elem.BitStore.width_law) c.requires.edge full in
     let cost = rw (c.whole_elements-first.ensures, c.BITS-bits.ensures) at c.fill_whole.ensures.cost in
-    omega arith
+    rw all cost.stores
 
 pub returns : goal.returns
 returns g c =
@@ -37,7 +40,32 @@ returns g c =
       writes = Writes-is _ _ _ _ _ _ _
           (Writes-tail _ _ _ _ _ _ _ _ c.requires.window c.requires.edge first.writes second.writes)
           (replicate-parts _ _ _ _ (omega arith));
-      cost = record { borrow = search rules; loads = omega arith; stores = omega arith };
-      stores = omega arith;
-      loads = omega arith;
+      cost = fill-tail _ _ _ _ _ _ _ most all cost tail;
+      stores = stores-sum _ _ _ _ _ _ cost.stores tail.stores all;
+      loads = loads-tail _ _ _ _ _ _ most cost.loads tail.loads all;
     }
+
+pub whole_elements-first-requires : goal.whole_elements-first-requires
+whole_elements-first-requires g c = bits-some _ _ g.met.C.Elem.BitStore.width_law c.BITS-bits.ensures
+
+pub fill_whole-requires : goal.fill_whole-requires
+fill_whole-requires g c = rw (c.whole_elements-first.ensures, c.BITS-bits.ensures) (HasWindow-whole _ _ c.args.window c.requires.window c.requires.edge)
+
+pub tail_part-tail-requires-clause-bits : goal.tail_part-tail-requires-clause-bits
+tail_part-tail-requires-clause-bits g c = bits-some _ _ g.met.C.Elem.BitStore.width_law c.BITS-bits.ensures
+
+pub tail_part-tail-requires-clause-end : goal.tail_part-tail-requires-clause-end
+tail_part-tail-requires-clause-end g c = window-end _ _ c.args.window c.requires.window
+
+pub fill_part-requires : goal.fill_part-requires
+fill_part-requires g c =
+    let left = rw (c.tail_part-tail.ensures, c.BITS-bits.ensures) at c.if-tail-eq0.false in
+    rw (c.tail_part-tail.ensures, c.BITS-bits.ensures) (HasPart-tail _ _ c.args.window g.met.C.Elem.BitStore.width_law (HasWindow-kept _ _ _ _ c.requires.window c.fill_whole.ensures.writes.elements) c.requires.edge left)
+
+pub returns-then-tail-eq0-clause-writes : goal.returns-then-tail-eq0-clause-writes
+returns-then-tail-eq0-clause-writes g c =
+    let full = rw (c.tail_part-tail.ensures, c.BITS-bits.ensures) at c.if-tail-eq0.true in
+    rw (c.whole_elements-first.ensures, c.BITS-bits.ensures, whole-all _ c.args.window.start c.requires.edge, whole-all _ c.args.window.len full) at c.fill_whole.ensures.writes
+
+pub returns-then-tail-eq0-clause-loads : goal.returns-then-tail-eq0-clause-loads
+returns-then-tail-eq0-clause-loads g c = let cost = c.fill_whole.ensures.cost in omega arith

@@ -1,6 +1,7 @@
-use Rattle.std.proofs.Common.{rules}
+use Rattle.std.proofs.Common.{rules, ◌≡◌, arith}
 use Rattle.bitvec_cells.specs.store.WidthLaws.{width_some}
 use Rattle.bitvec_words.specs.FillingLaws.{Writes-flipped, Writes-none_flipped}
+use Rattle.bitvec_words.proofs.PlaceLemmas.{element-few, element-inside}
 use Rattle.bitvec_words.proofs.filling.invert_whole.Goals as goal
 
 pub loop-step-init : goal.loop-step-init
@@ -18,3 +19,28 @@ loop-step-preserved g c =
           (Writes-flipped _ _ (g.met.O.BitOrder.permutes _ width) _ _ _ _ _ _ (width_some _ width) c.requires c.loop-step-test.true c.load-element.ensures.value c.load-element.ensures.in_range inv.writes);
       cost = search rules;
     }
+
+pub overflow_add-first : goal.overflow_add-first
+overflow_add-first g c = let few = element-few _ _ c.args.first c.args.count _ (width_some _ g.met.C.Elem.BitStore.width_law) c.requires c.loop-step-test.true in omega arith
+
+pub load-element-requires : goal.load-element-requires
+load-element-requires g c = rw c.loop-step.invariant.writes.elements (element-inside _ _ c.args.first c.args.count _ (width_some _ g.met.C.Elem.BitStore.width_law) c.requires c.loop-step-test.true)
+
+pub overflow_add-first-in-loop-step : goal.overflow_add-first-in-loop-step
+overflow_add-first-in-loop-step g c = let few = element-few _ _ c.args.first c.args.count _ (width_some _ g.met.C.Elem.BitStore.width_law) c.requires c.loop-step-test.true in omega arith
+
+pub store-requires : goal.store-requires
+store-requires g c = rw (c.load-element.ensures.numbers, c.loop-step.invariant.writes.elements) (element-inside _ _ c.args.first c.args.count _ (width_some _ g.met.C.Elem.BitStore.width_law) c.requires c.loop-step-test.true)
+
+pub loop-step-smaller : goal.loop-step-smaller
+loop-step-smaller g c = omega arith
+
+pub returns-clause-writes : goal.returns-clause-writes
+returns-clause-writes g c =
+    let all : c.loop-step.step ≡ c.args.count = omega arith in
+    rw all at c.loop-step.invariant.writes
+
+pub returns-clause-cost : goal.returns-clause-cost
+returns-clause-cost g c =
+    let all : c.loop-step.step ≡ c.args.count = omega arith in
+    rw all at c.loop-step.invariant.cost

@@ -1,4 +1,4 @@
-use Rattle.std.proofs.Common.{◌≡◌, ℕ, ◌+◌, ◌-◌, arith, rules, ap, ◌∙◌, slice_range}
+use Rattle.std.proofs.Common.{◌≡◌, ℕ, ◌+◌, ◌-◌, ◌≤◌, arith, rules, ap, ◌∙◌, slice_range}
 use Rattle.bitvec_cells.specs.base.Memory.{element_bits}
 use Rattle.bitvec_cells.specs.base.PartLaws.{length-part}
 use Rattle.bitvec_cells.specs.base.Parts.{first_part_of}
@@ -6,6 +6,7 @@ use Rattle.bitvec_cells.specs.store.WidthLaws.{width_some}
 use Rattle.bitvec_cells.specs.WalkLaws.{first-len}
 use Rattle.bitvec_words.specs.Front.{front_window}
 use Rattle.bitvec_words.proofs.FrontLemmas.{part-front, touched-part, touched-word, word-front, written-padded}
+use Rattle.bitvec_words.proofs.PlaceLemmas.{HasPart-head, HasWindow-front, HasWindow-word, bits-some, head-inside, head-order, head-within}
 use Rattle.bitvec_words.proofs.fronts.words_load_front.Goals as goal
 
 pub returns-then-window-bits-eq0-clause-value : goal.returns-then-window-bits-eq0-clause-value
@@ -42,3 +43,38 @@ returns-clause-reads g c =
     let part : c.first_part-part.result ≡ first_part_of b front = rw c.front_window.ensures at c.first_part-part.ensures ∙ ap (λ (n : ℕ). first_part_of n front) c.BITS-bits.ensures in
     let one = touched-part b front g.met.C.Elem.BitStore.width_law (let some = c.requires.some in omega arith) in
     rw (c.len-count.ensures, part, one) (search rules)
+
+pub nonzero_rem-window : goal.nonzero_rem-window
+nonzero_rem-window g c = bits-some _ _ g.met.C.Elem.BitStore.width_law c.BITS-bits.ensures
+
+pub nonzero_div-window : goal.nonzero_div-window
+nonzero_div-window g c = bits-some _ _ g.met.C.Elem.BitStore.width_law c.BITS-bits.ensures
+
+pub load_elements-word-requires-clause-window : goal.load_elements-word-requires-clause-window
+load_elements-word-requires-clause-window g c =
+    let narrow : g.C.Elem.BitStore.BITS ≤ 64 = omega arith in
+    rw c.BITS-bits.ensures (HasWindow-word _ _ c.args.window g.met.C.Elem.BitStore.width_law narrow c.if-window-ge-WORD_BITS.true (rw c.BITS-bits.ensures at c.if-window-bits-eq0.true) c.requires.window)
+
+pub load_elements-word-requires-clause-narrow : goal.load_elements-word-requires-clause-narrow
+load_elements-word-requires-clause-narrow g c = omega arith
+
+pub first_part-part-requires-clause-bits : goal.first_part-part-requires-clause-bits
+first_part-part-requires-clause-bits g c = bits-some _ _ g.met.C.Elem.BitStore.width_law c.BITS-bits.ensures
+
+pub first_part-part-requires-clause-some : goal.first_part-part-requires-clause-some
+first_part-part-requires-clause-some g c = let some = c.requires.some in rw c.front_window.ensures (omega arith)
+
+pub len-count-requires : goal.len-count-requires
+len-count-requires g c = let some = c.requires.some in head-order _ _ c.front_window.result _ g.met.C.Elem.BitStore.width_law c.BITS-bits.ensures c.first_part-part.ensures (rw c.front_window.ensures (omega arith))
+
+pub load-element-requires : goal.load-element-requires
+load-element-requires g c =
+    let some = c.requires.some in
+    let has = HasPart-head _ _ c.front_window.result _ g.met.C.Elem.BitStore.width_law c.BITS-bits.ensures c.first_part-part.ensures (rw c.front_window.ensures (omega arith)) _ (HasWindow-front _ _ _ _ c.front_window.ensures c.requires.window) in
+    has.element
+
+pub moved-word-requires-clause-source : goal.moved-word-requires-clause-source
+moved-word-requires-clause-source g c = let some = c.requires.some in head-inside _ _ c.front_window.result _ g.met.C.Elem.BitStore.width_law c.BITS-bits.ensures c.first_part-part.ensures _ c.len-count.ensures (rw c.front_window.ensures (omega arith))
+
+pub moved-word-requires-clause-target : goal.moved-word-requires-clause-target
+moved-word-requires-clause-target g c = let within = rw c.front_window.ensures at (head-within _ _ c.front_window.result _ g.met.C.Elem.BitStore.width_law c.BITS-bits.ensures c.first_part-part.ensures _ c.len-count.ensures) in omega arith

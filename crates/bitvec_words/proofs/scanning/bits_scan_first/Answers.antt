@@ -10,6 +10,8 @@ use Rattle.bitvec_words.specs.FieldLaws.{first_part-long, list-head}
 use Rattle.bitvec_words.specs.TouchedLaws.{touched-first, touched-rest}
 use Rattle.bitvec_words.specs.WholeLaws.{list-empty}
 use Rattle.bitvec_words.proofs.ScanLemmas.{HasWindow-after, HasWindow-head, first-behind, first-front, first-inside, first-lacks, touched-behind_head}
+use Rattle.bitvec_words.proofs.PlaceLemmas.{HasPart-head, HasWindow-behind, bits-some, head-behind, head-order, head-start, head-within, window-end}
+use Rattle.bitvec_words.proofs.CostLemmas.{reads-head}
 use Rattle.bitvec_words.proofs.scanning.bits_scan_first.Goals as goal
 
 pub returns-then-window-eq0-clause-value : goal.returns-then-window-eq0-clause-value
@@ -47,10 +49,9 @@ returns-in_err-found g c =
     let none = rw head at c.in_default.ensures.value in
     let first = c.in_default.ensures.reads in
     let rest = rw (c.after.ensures, first.numbers) at c.in_err-found.ensures in
-    let second = rest.reads in
     rw c.from_residual.ensures (record {
       value = first-lacks c.args.want _ _ _ none rest.value (list-head b g.O.BitOrder.at _ _ _ _ some more step refl refl c.requires);
-      reads = record { numbers = search rules; borrow = search rules; loads = omega arith; stores = search rules };
+      reads = reads-head _ _ _ _ _ _ all first rest.reads;
     })
 
 pub overflow_add-result : goal.overflow_add-result
@@ -80,10 +81,56 @@ returns g c =
     let none = rw head at c.in_default.ensures.value in
     let first = c.in_default.ensures.reads in
     let rest = rw (c.after.ensures, first.numbers) at c.in_ok-found.ensures in
-    let second = rest.reads in
     record {
       value = first-behind c.args.want _ _ _ _ _ none rest.value
           (step ∙ sym (length-list b at _ _ (HasWindow-head b _ _ some more c.requires)))
           (list-head b at _ _ _ _ some more step refl refl c.requires);
-      reads = record { numbers = search rules; borrow = search rules; loads = omega arith; stores = search rules };
+      reads = reads-head _ _ _ _ _ _ all first rest.reads;
     }
+
+pub nonzero_rem-window : goal.nonzero_rem-window
+nonzero_rem-window g c = bits-some _ _ g.met.C.Elem.BitStore.width_law c.BITS-bits.ensures
+
+pub first_aligned-requires-clause-window : goal.first_aligned-requires-clause-window
+first_aligned-requires-clause-window g c = c.requires
+
+pub first_aligned-requires-clause-edge : goal.first_aligned-requires-clause-edge
+first_aligned-requires-clause-edge g c = rw c.BITS-bits.ensures at c.if-window-bits-eq0.true
+
+pub returns-then-window-bits-eq0-clause-value : goal.returns-then-window-bits-eq0-clause-value
+returns-then-window-bits-eq0-clause-value g c = c.first_aligned.ensures.value
+
+pub returns-then-window-bits-eq0-clause-reads : goal.returns-then-window-bits-eq0-clause-reads
+returns-then-window-bits-eq0-clause-reads g c = c.first_aligned.ensures.reads
+
+pub returns-then-window-eq0-clause-reads : goal.returns-then-window-eq0-clause-reads
+returns-then-window-eq0-clause-reads g c = record { numbers = refl; borrow = refl; loads = omega arith; stores = refl }
+
+pub first_part-head-requires-clause-bits : goal.first_part-head-requires-clause-bits
+first_part-head-requires-clause-bits g c = bits-some _ _ g.met.C.Elem.BitStore.width_law c.BITS-bits.ensures
+
+pub first_part-head-requires-clause-some : goal.first_part-head-requires-clause-some
+first_part-head-requires-clause-some g c = omega arith
+
+pub first_in_part-requires : goal.first_in_part-requires
+first_in_part-requires g c = HasPart-head _ _ c.args.window _ g.met.C.Elem.BitStore.width_law c.BITS-bits.ensures c.first_part-head.ensures c.if-window-eq0.false _ c.requires
+
+pub len-passed-requires : goal.len-passed-requires
+len-passed-requires g c = head-order _ _ c.args.window _ g.met.C.Elem.BitStore.width_law c.BITS-bits.ensures c.first_part-head.ensures c.if-window-eq0.false
+
+pub returns-then-passed-window-clause-value : goal.returns-then-passed-window-clause-value
+returns-then-passed-window-clause-value g c =
+    let start = head-start _ _ c.args.window _ g.met.C.Elem.BitStore.width_law c.BITS-bits.ensures c.first_part-head.ensures in
+    rw (start, ← c.len-passed.ensures, c.if-passed-window.true) at c.in_default.ensures.value
+
+pub after-requires-clause-bound : goal.after-requires-clause-bound
+after-requires-clause-bound g c = head-within _ _ c.args.window _ g.met.C.Elem.BitStore.width_law c.BITS-bits.ensures c.first_part-head.ensures _ c.len-passed.ensures
+
+pub after-requires-clause-end : goal.after-requires-clause-end
+after-requires-clause-end g c = window-end _ _ c.args.window c.requires
+
+pub first_aligned-requires-2-clause-window : goal.first_aligned-requires-2-clause-window
+first_aligned-requires-2-clause-window g c = rw (c.first_in_part.ensures.reads.numbers, c.after.ensures) (HasWindow-behind _ _ c.args.window _ g.met.C.Elem.BitStore.width_law c.BITS-bits.ensures c.first_part-head.ensures _ c.len-passed.ensures _ c.requires)
+
+pub first_aligned-requires-2-clause-edge : goal.first_aligned-requires-2-clause-edge
+first_aligned-requires-2-clause-edge g c = rw c.after.ensures (head-behind _ _ c.args.window _ g.met.C.Elem.BitStore.width_law c.BITS-bits.ensures c.first_part-head.ensures _ c.len-passed.ensures c.if-passed-window.false)

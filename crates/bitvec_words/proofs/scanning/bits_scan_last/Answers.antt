@@ -1,4 +1,4 @@
-use Rattle.std.proofs.Common.{◌≡◌, ◌<◌, ℕ, ◌-◌, arith, rules, refl, sym, ◌∙◌, ap, Bool, List}
+use Rattle.std.proofs.Common.{◌≡◌, ◌<◌, ℕ, ◌-◌, arith, rules, refl, sym, ◌∙◌, ap, Bool, List, ◌+◌}
 use Rattle.bitvec_cells.specs.base.declared.part.Part.{Part}
 use Rattle.bitvec_cells.specs.base.Lists.{last_place}
 use Rattle.bitvec_cells.specs.base.Parts.{first_part_of}
@@ -9,6 +9,7 @@ use Rattle.bitvec_cells.specs.WalkLaws.{first-len}
 use Rattle.bitvec_words.specs.FieldLaws.{first_part-long, list-head}
 use Rattle.bitvec_words.specs.WholeLaws.{list-empty}
 use Rattle.bitvec_words.proofs.ScanLemmas.{HasWindow-after, HasWindow-head, last-behind, last-front, last-inside, last_loads-head, last_loads-some}
+use Rattle.bitvec_words.proofs.PlaceLemmas.{HasPart-head, HasWindow-behind, bits-some, head-behind, head-order, head-start, head-within, window-end}
 use Rattle.bitvec_words.proofs.scanning.bits_scan_last.Goals as goal
 
 pub returns-then-window-eq0-clause-value : goal.returns-then-window-eq0-clause-value
@@ -72,3 +73,44 @@ returns g c =
       value = last-front c.args.want _ _ _ _ rest.value here (list-head b at _ _ _ _ some more step refl refl c.requires);
       reads = record { numbers = search rules; borrow = search rules; loads = omega arith; stores = search rules };
     }
+
+pub returns-then-window-eq0-clause-reads : goal.returns-then-window-eq0-clause-reads
+returns-then-window-eq0-clause-reads g c = record { numbers = refl; borrow = refl; loads = omega arith; stores = refl }
+
+pub first_part-head-requires-clause-bits : goal.first_part-head-requires-clause-bits
+first_part-head-requires-clause-bits g c = bits-some _ _ g.met.C.Elem.BitStore.width_law c.BITS-bits.ensures
+
+pub first_part-head-requires-clause-some : goal.first_part-head-requires-clause-some
+first_part-head-requires-clause-some g c = omega arith
+
+pub last_in_part-requires : goal.last_in_part-requires
+last_in_part-requires g c = HasPart-head _ _ c.args.window _ g.met.C.Elem.BitStore.width_law c.BITS-bits.ensures c.first_part-head.ensures c.if-window-eq0.false _ c.requires
+
+pub len-kept-requires : goal.len-kept-requires
+len-kept-requires g c = head-order _ _ c.args.window _ g.met.C.Elem.BitStore.width_law c.BITS-bits.ensures c.first_part-head.ensures c.if-window-eq0.false
+
+pub returns-then-kept-window-clause-value : goal.returns-then-kept-window-clause-value
+returns-then-kept-window-clause-value g c =
+    let start = head-start _ _ c.args.window _ g.met.C.Elem.BitStore.width_law c.BITS-bits.ensures c.first_part-head.ensures in
+    rw (start, ← c.len-kept.ensures, c.if-kept-window.true) at c.last_in_part.ensures.value
+
+pub after-requires-clause-bound : goal.after-requires-clause-bound
+after-requires-clause-bound g c = head-within _ _ c.args.window _ g.met.C.Elem.BitStore.width_law c.BITS-bits.ensures c.first_part-head.ensures _ c.len-kept.ensures
+
+pub after-requires-clause-end : goal.after-requires-clause-end
+after-requires-clause-end g c = window-end _ _ c.args.window c.requires
+
+pub last_aligned-requires-clause-window : goal.last_aligned-requires-clause-window
+last_aligned-requires-clause-window g c = rw c.after.ensures (HasWindow-behind _ _ c.args.window _ g.met.C.Elem.BitStore.width_law c.BITS-bits.ensures c.first_part-head.ensures _ c.len-kept.ensures _ c.requires)
+
+pub last_aligned-requires-clause-edge : goal.last_aligned-requires-clause-edge
+last_aligned-requires-clause-edge g c = rw c.after.ensures (head-behind _ _ c.args.window _ g.met.C.Elem.BitStore.width_law c.BITS-bits.ensures c.first_part-head.ensures _ c.len-kept.ensures c.if-kept-window.false)
+
+pub last_in_part-requires-2 : goal.last_in_part-requires-2
+last_in_part-requires-2 g c = rw c.last_aligned.ensures.reads.numbers (HasPart-head _ _ c.args.window _ g.met.C.Elem.BitStore.width_law c.BITS-bits.ensures c.first_part-head.ensures c.if-window-eq0.false _ c.requires)
+
+pub returns-in-Some-clause-reads : goal.returns-in-Some-clause-reads
+returns-in-Some-clause-reads g c =
+    let start : c.args.window.start + c.len-kept.result + c.in-Some.found ≡ c.args.window.start + (c.len-kept.result + c.in-Some.found) = omega arith in
+    let len : c.args.window.len - c.len-kept.result - c.in-Some.found ≡ c.args.window.len - (c.len-kept.result + c.in-Some.found) = omega arith in
+    rw (c.after.ensures, start, len) at c.in-Some.ensures.reads

@@ -1,4 +1,4 @@
-use Rattle.std.proofs.Common.{◌+◌, ◌*◌, arith, rules, sym, ◌∙◌, ap, Bool, List}
+use Rattle.std.proofs.Common.{◌+◌, ◌*◌, arith, rules, sym, ◌∙◌, ap, Bool, List, ◌≡◌}
 use Rattle.std.proofs.Math.Nat.{mul-le-mul_left}
 use Rattle.bitvec_cells.specs.store.WidthLaws.{width_some}
 use Rattle.bitvec_cells.specs.base.Lists.{first_place}
@@ -6,6 +6,7 @@ use Rattle.bitvec_cells.specs.base.PlacesLaws.{first_place-nil}
 use Rattle.bitvec_words.specs.TouchedLaws.{touched-whole}
 use Rattle.bitvec_words.specs.WholeLaws.{list-empty}
 use Rattle.bitvec_words.proofs.ScanLemmas.{first-below, first-element_has, first-element_lacks, first-must, first-passed, range-element, touched-behind_elements}
+use Rattle.bitvec_words.proofs.PlaceLemmas.{element-few, element-inside, elements-few}
 use Rattle.bitvec_words.proofs.scanning.first_whole.Goals as goal
 
 pub loop-step-init : goal.loop-step-init
@@ -69,3 +70,26 @@ returns-clause-reads g c =
     let all = touched-whole g.C.Elem.BitStore.BITS c.args.first c.args.count (width_some _ g.met.C.Elem.BitStore.width_law) in
     let reads = c.loop-step.invariant.reads in
     record { numbers = search rules; borrow = search rules; loads = omega arith; stores = search rules }
+
+pub overflow_add-first : goal.overflow_add-first
+overflow_add-first g c = let few = element-few _ _ c.args.first c.args.count _ (width_some _ g.met.C.Elem.BitStore.width_law) c.requires c.loop-step-test.true in omega arith
+
+pub load-element-requires : goal.load-element-requires
+load-element-requires g c = rw c.loop-step.invariant.reads.numbers (element-inside _ _ c.args.first c.args.count _ (width_some _ g.met.C.Elem.BitStore.width_law) c.requires c.loop-step-test.true)
+
+pub overflow_add-part : goal.overflow_add-part
+overflow_add-part g c = let few = element-few _ _ c.args.first c.args.count _ (width_some _ g.met.C.Elem.BitStore.width_law) c.requires c.loop-step-test.true in omega arith
+
+pub first_in_element-requires-clause-bound : goal.first_in_element-requires-clause-bound
+first_in_element-requires-clause-bound g c = omega arith
+
+pub overflow_mul-result : goal.overflow_mul-result
+overflow_mul-result g c = let few = elements-few _ _ c.args.first c.args.count _ (width_some _ g.met.C.Elem.BitStore.width_law) c.requires c.loop-step-test.true _ c.BITS-bits.ensures in omega arith
+
+pub loop-step-smaller : goal.loop-step-smaller
+loop-step-smaller g c = omega arith
+
+pub returns-clause-value : goal.returns-clause-value
+returns-clause-value g c =
+    let all : c.loop-step.step ≡ c.args.count = omega arith in
+    rw all at c.loop-step.invariant.none

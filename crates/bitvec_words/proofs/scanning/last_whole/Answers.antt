@@ -6,6 +6,7 @@ use Rattle.bitvec_cells.specs.base.PlacesLaws.{last_place-nil}
 use Rattle.bitvec_words.specs.TouchedLaws.{touched-whole}
 use Rattle.bitvec_words.specs.WholeLaws.{list-empty}
 use Rattle.bitvec_words.proofs.ScanLemmas.{last-below, last-element_has, last-element_lacks, last-must, last-passed, range-element, touched-until_elements}
+use Rattle.bitvec_words.proofs.PlaceLemmas.{element-few, element-inside, elements-few}
 use Rattle.bitvec_words.proofs.scanning.last_whole.Goals as goal
 
 pub loop-step-init : goal.loop-step-init
@@ -84,3 +85,32 @@ returns-clause-reads g c =
     let all = touched-whole g.C.Elem.BitStore.BITS c.args.first c.args.count (width_some _ g.met.C.Elem.BitStore.width_law) in
     let reads = c.loop-step.invariant.reads in
     record { numbers = search rules; borrow = search rules; loads = omega arith; stores = search rules }
+
+pub overflow_add-first : goal.overflow_add-first
+overflow_add-first g c =
+    let more : c.loop-step.step - 1 < c.args.count = omega arith in
+    let few = element-few _ _ c.args.first c.args.count _ (width_some _ g.met.C.Elem.BitStore.width_law) c.requires more in
+    omega arith
+
+pub load-element-requires : goal.load-element-requires
+load-element-requires g c =
+    let more : c.loop-step.step - 1 < c.args.count = omega arith in
+    rw c.loop-step.invariant.reads.numbers (element-inside _ _ c.args.first c.args.count _ (width_some _ g.met.C.Elem.BitStore.width_law) c.requires more)
+
+pub overflow_add-part : goal.overflow_add-part
+overflow_add-part g c =
+    let more : c.loop-step.step - 1 < c.args.count = omega arith in
+    let few = element-few _ _ c.args.first c.args.count _ (width_some _ g.met.C.Elem.BitStore.width_law) c.requires more in
+    omega arith
+
+pub last_in_element-requires-clause-bound : goal.last_in_element-requires-clause-bound
+last_in_element-requires-clause-bound g c = omega arith
+
+pub overflow_mul-result : goal.overflow_mul-result
+overflow_mul-result g c =
+    let more : c.loop-step.step - 1 < c.args.count = omega arith in
+    let few = elements-few _ _ c.args.first c.args.count _ (width_some _ g.met.C.Elem.BitStore.width_law) c.requires more _ c.BITS-bits.ensures in
+    omega arith
+
+pub loop-step-smaller : goal.loop-step-smaller
+loop-step-smaller g c = omega arith

@@ -1,4 +1,4 @@
-use Rattle.std.proofs.Common.{◌+◌, ◌*◌, ◌/◌, arith, rules, sym, ◌∙◌, ap, Bool, List}
+use Rattle.std.proofs.Common.{◌+◌, ◌*◌, ◌/◌, arith, rules, sym, ◌∙◌, ap, Bool, List, ◌≡◌}
 use Rattle.std.proofs.Math.Nat.{mul-le-mul_left}
 use Rattle.bitvec_cells.specs.base.Lists.{first_place}
 use Rattle.bitvec_cells.specs.store.WidthLaws.{width_some}
@@ -6,7 +6,8 @@ use Rattle.bitvec_cells.specs.base.PlacesLaws.{first_place-nil}
 use Rattle.bitvec_words.specs.Elements.{elements_window}
 use Rattle.bitvec_words.specs.WholeLaws.{list-empty}
 use Rattle.bitvec_words.proofs.ScanLemmas.{first-inside}
-use Rattle.bitvec_words.proofs.WordScanLemmas.{HasWindow-elements, elements-bound, first-block_has, first-block_lacks}
+use Rattle.bitvec_words.proofs.WordScanLemmas.{HasWindow-elements, blocks-few, elements-bound, first-block_has, first-block_lacks}
+use Rattle.bitvec_words.proofs.PlaceLemmas.{bits-some}
 use Rattle.bitvec_words.proofs.scanning_words.first_in_blocks.Goals as goal
 
 pub loop-step-init : goal.loop-step-init
@@ -60,3 +61,30 @@ overflow_add-first g c =
     let order = mul-le-mul_left (256 / b) c.loop-step-test.true in
     let bound = elements-bound b g.O.BitOrder.at _ c.args.first (c.args.count * (256 / b)) c.requires (width_some b g.met.C.Elem.BitStore.width_law) in
     rw c.BITS.ensures (omega arith)
+
+pub nonzero_div-elements : goal.nonzero_div-elements
+nonzero_div-elements g c = bits-some _ _ g.met.C.Elem.BitStore.width_law c.BITS.ensures
+
+pub overflow_mul-result : goal.overflow_mul-result
+overflow_mul-result g c = let few = blocks-few _ _ _ _ _ g.met.C.Elem.BitStore.width_law c.requires c.loop-step-test.true in omega arith
+
+pub returns-in-Some-clause-reads : goal.returns-in-Some-clause-reads
+returns-in-Some-clause-reads g c =
+    let before = c.loop-step.invariant.reads in
+    let reads = c.first_in_block.ensures.reads in
+    let order = mul-le-mul_left (256 / g.C.Elem.BitStore.BITS) c.loop-step-test.true in
+    record { numbers = reads.numbers ∙ before.numbers; borrow = reads.borrow ∙ before.borrow; loads = omega arith; stores = reads.stores ∙ before.stores }
+
+pub loop-step-smaller : goal.loop-step-smaller
+loop-step-smaller g c = omega arith
+
+pub returns-clause-value : goal.returns-clause-value
+returns-clause-value g c =
+    let all : c.loop-step.step ≡ c.args.count = omega arith in
+    rw all at c.loop-step.invariant.none
+
+pub returns-clause-reads : goal.returns-clause-reads
+returns-clause-reads g c =
+    let all : c.loop-step.step ≡ c.args.count = omega arith in
+    let reads = rw all at c.loop-step.invariant.reads in
+    record { numbers = reads.numbers; borrow = reads.borrow; loads = omega arith; stores = reads.stores }

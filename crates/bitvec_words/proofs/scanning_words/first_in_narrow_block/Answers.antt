@@ -2,6 +2,8 @@ use Rattle.std.proofs.Common.{◌+◌, ◌*◌, ◌/◌, arith, ap, ◌∙◌}
 use Rattle.bitvec_cells.specs.base.Lists.{first_place}
 use Rattle.bitvec_cells.specs.store.WidthLaws.{width_some}
 use Rattle.bitvec_words.proofs.WordScanLemmas.{HasWindow-elements, block_words, elements-bound, list-block}
+use Rattle.bitvec_words.proofs.PlaceLemmas.{bits-some}
+use Rattle.std.proofs.Math.Nat.{div-le_self}
 use Rattle.bitvec_words.proofs.scanning_words.first_in_narrow_block.Goals as goal
 
 pub returns-clause-value : goal.returns-clause-value
@@ -59,3 +61,26 @@ overflow_add-first-3 g c =
     let words = block_words b g.met.C.Elem.BitStore.width_law c.requires.narrow in
     let bound = elements-bound b g.O.BitOrder.at _ c.args.first (256 / b) c.requires.window (width_some b g.met.C.Elem.BitStore.width_law) in
     rw c.BITS.ensures (omega arith)
+
+pub nonzero_div-elements : goal.nonzero_div-elements
+nonzero_div-elements g c = bits-some _ _ g.met.C.Elem.BitStore.width_law c.BITS.ensures
+
+pub overflow_mul-elements : goal.overflow_mul-elements
+overflow_mul-elements g c = let few = div-le_self 64 c.BITS.result in omega arith
+
+pub overflow_mul-elements-2 : goal.overflow_mul-elements-2
+overflow_mul-elements-2 g c = let few = div-le_self 64 c.BITS.result in omega arith
+
+pub returns-clause-reads : goal.returns-clause-reads
+returns-clause-reads g c =
+    let one = c.load_elements-one.ensures.reads in
+    let two = c.load_elements-two.ensures.reads in
+    let three = c.load_elements-three.ensures.reads in
+    let four = c.load_elements-four.ensures.reads in
+    let words = block_words g.C.Elem.BitStore.BITS g.met.C.Elem.BitStore.width_law c.requires.narrow in
+    record {
+      numbers = four.numbers ∙ three.numbers ∙ two.numbers ∙ one.numbers;
+      borrow = four.borrow ∙ three.borrow ∙ two.borrow ∙ one.borrow;
+      loads = omega arith;
+      stores = four.stores ∙ three.stores ∙ two.stores ∙ one.stores;
+    }
