@@ -1,0 +1,83 @@
+-- What proofs of copies, moves and exchanges need of windows and costs, said by plain numbers.
+use Rattle.std.proofs.Common.{◌≡◌, ℕ, ◌+◌, ◌-◌, ◌*◌, ◌/◌, ◌^◌, ◌<◌, ◌≤◌, true, List, length, arith}
+use Rattle.std.proofs.lemmas.Nat.{div_below}
+use Rattle.bitvec_words.specs.base.declared.part.Part.{Part}
+use Rattle.bitvec_words.specs.base.declared.window.Window.{Window}
+use Rattle.bitvec_words.specs.base.Memory.{HasWindow}
+use Rattle.bitvec_words.specs.base.Parts.{first_part_of}
+use Rattle.bitvec_words.specs.base.Spans.{HasSpan}
+use Rattle.bitvec_words.specs.base.Window.{window_after, window_until}
+use Rattle.bitvec_words.specs.base.WritesLaws.{HasWindow-kept}
+use Rattle.bitvec_words.specs.store.Width.{IsWidth}
+use Rattle.bitvec_words.specs.store.WidthLaws.{width_some}
+use Rattle.bitvec_words.specs.walk.Cost.{work_steps, write_loads}
+use Rattle.bitvec_words.specs.WholeLaws.{HasWindow-part}
+use Rattle.bitvec_move.specs.Moves.{Copies, Swaps}
+
+-- ---- numbers
+
+-- a window's end is a `usize`
+pub end-word : (b : ℕ) (xs : List ℕ) (window : Window) → HasWindow b xs window → window.start + window.len < 2 ^ 64
+end-word b xs window has =
+    let fits = has.fits in
+    let len = has.within.len in
+    omega arith
+
+-- the element of a place in a window, where the memory may have changed
+pub place-element : (b w : ℕ) (xs ys : List ℕ) (window : Window) (e : ℕ) → IsWidth b → w ≡ b → HasWindow b xs window → e < window.start + window.len → length ys ≡ length xs → e / w < length ys
+place-element b w xs ys window e width is has below kept =
+    let len = has.within.len in
+    let all : e < length xs * b = omega arith in
+    rw (is, kept) (div_below e b (length xs) (width_some b width) all)
+
+pub head-order : (w : ℕ) (window : Window) (part : Part) → part ≡ first_part_of w window → part.from ≤ part.to
+head-order w window part is = rw is (omega arith)
+
+-- the first part has no more bits than the window
+pub head-fits : (t w : ℕ) (window : Window) (part : Part) → t ≡ part.to - part.from → part ≡ first_part_of w window → t ≤ window.len
+head-fits t w window part step is =
+    let long = rw is at step in
+    omega arith
+
+pub edges-loads : (b n : ℕ) → 0 < n → 2 ≤ write_loads b true n
+unfolding write_loads work_steps
+edges-loads b n more =
+    let some : 1 ≤ (n + 63) / 64 = omega arith in
+    omega arith
+
+-- ---- the same windows, told in another way
+
+pub Copies-same : (b : ℕ) (at : ℕ → ℕ → ℕ) (old new other : List ℕ) (part source to from : Window)
+    → to.start ≡ part.start → to.len ≡ part.len → from.start ≡ source.start → from.len ≡ source.len
+    → Copies b at old new part other source → Copies b at old new to other from
+Copies-same b at old new other part source to from start len source_start source_len copies = rw (start, len, source_start, source_len) copies
+
+pub Swaps-same : (b : ℕ) (at : ℕ → ℕ → ℕ) (xs new_xs ys new_ys : List ℕ) (part source left right : Window)
+    → left.start ≡ part.start → left.len ≡ part.len → right.start ≡ source.start → right.len ≡ source.len
+    → Swaps b at xs new_xs ys new_ys part source → Swaps b at xs new_xs ys new_ys left right
+Swaps-same b at xs new_xs ys new_ys part source left right start len source_start source_len swaps = record {
+  writes = Copies-same b at xs new_xs ys part source left right start len source_start source_len swaps.writes;
+  right_writes = Copies-same b at ys new_ys xs source part right left source_start source_len start len swaps.right_writes;
+}
+
+-- ---- what is behind t bits, and what is before as many at the end, where the memories may have changed
+
+pub after-span : (b : ℕ) (xs now ys others : List ℕ) (left right : Window) (t : ℕ) → HasSpan b xs ys left right → length now ≡ length xs → length others ≡ length ys
+    → t ≤ left.len → HasSpan b now others (window_after t left) (window_after t right)
+after-span b xs now ys others left right t has kept right_kept fits =
+    let lengths = has.lengths in
+    record {
+      window = HasWindow-part b now left (window_after t left) (HasWindow-kept b xs now left has.window kept) (omega arith) (omega arith);
+      beside = HasWindow-part b others right (window_after t right) (HasWindow-kept b ys others right has.beside right_kept) (omega arith) (omega arith);
+      lengths = omega arith;
+    }
+
+pub until-span : (b : ℕ) (xs now ys others : List ℕ) (left right : Window) (t : ℕ) → HasSpan b xs ys left right → length now ≡ length xs → length others ≡ length ys
+    → t ≤ left.len → HasSpan b now others (window_until t left) (window_until t right)
+until-span b xs now ys others left right t has kept right_kept fits =
+    let lengths = has.lengths in
+    record {
+      window = HasWindow-part b now left (window_until t left) (HasWindow-kept b xs now left has.window kept) (omega arith) (omega arith);
+      beside = HasWindow-part b others right (window_until t right) (HasWindow-kept b ys others right has.beside right_kept) (omega arith) (omega arith);
+      lengths = omega arith;
+    }
