@@ -10,7 +10,8 @@ use Rattle.bitvec_words.specs.base.Window.{window_after, window_until}
 use Rattle.bitvec_words.specs.base.WritesLaws.{HasWindow-kept}
 use Rattle.bitvec_words.specs.store.Width.{IsWidth}
 use Rattle.bitvec_words.specs.store.WidthLaws.{width_some}
-use Rattle.bitvec_words.specs.walk.Cost.{work_steps, write_loads}
+use Rattle.bitvec_words.specs.walk.Cost.{read_loads, touched_count, work_steps, write_loads, write_stores}
+use Rattle.bitvec_words.specs.walk.CostLaws.{touched_read, touched_stored}
 use Rattle.bitvec_words.specs.WholeLaws.{HasWindow-part}
 use Rattle.bitvec_move.specs.Moves.{Copies, Swaps}
 
@@ -44,6 +45,13 @@ unfolding write_loads work_steps
 edges-loads b n more =
     let some : 1 ≤ (n + 63) / 64 = omega arith in
     omega arith
+
+-- the elements that n bits touch are some of the loads and stores of as many bits
+pub touched-read : (b s n m : ℕ) → 0 < b → m ≡ n → touched_count b s n ≤ read_loads b true m
+touched-read b s n m some same = rw same (touched_read b true s n some)
+
+pub touched-stored : (b s n m : ℕ) → 0 < b → m ≡ n → touched_count b s n ≤ write_stores b true m
+touched-stored b s n m some same = rw same (touched_stored b true s n some)
 
 -- ---- the same windows, told in another way
 
