@@ -1,1 +1,2 @@
 pub mod MoveLemmas
+pub mod ReversedLemmas
