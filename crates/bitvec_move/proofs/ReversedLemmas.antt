@@ -1,5 +1,5 @@
 -- A turn of the loop that reverses elements of which the last one takes part with its first bits, and the one in the middle.
-use Rattle.std.proofs.Common.{◌≡◌, ℕ, ◌+◌, ◌-◌, ◌*◌, ◌/◌, ◌<◌, ◌≤◌, ◌++◌, List, length, take, drop, reverse, slice_index, slice_range, slice_set, arith, ap, ◌∙◌}
+use Rattle.std.proofs.Common.{◌≡◌, ℕ, ◌+◌, ◌-◌, ◌*◌, ◌/◌, ◌<◌, ◌≤◌, ◌++◌, List, take, drop, reverse, slice_index, slice_range, slice_set, arith, ap, ◌∙◌}
 use Rattle.std.proofs.Math.Nat.{mul-le-mul_left}
 use Rattle.bitvec_words.specs.base.Memory.{HasWindow, Writes, element_bits, list_in}
 use Rattle.bitvec_words.specs.base.SliceLaws.{range-same}

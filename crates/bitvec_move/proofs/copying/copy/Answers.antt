@@ -10,14 +10,6 @@ returns-then-to-eq0-clause-writes g c =
     let none = c.if-to-eq0.true in
     Writes-none _ _ _ _ _ _ c.requires.window none (sym c.requires.lengths ∙ none)
 
-
-
-
-
-
-
-
-
 pub nonzero_rem-to : goal.nonzero_rem-to
 nonzero_rem-to g c = let some = width-some _ _ g.met.C.Elem.BitStore.width_law c.BITS-bits.ensures in omega arith
 

@@ -6,7 +6,7 @@ use Rattle.bitvec_words.specs.base.Memory.{element_bits, list_in}
 use Rattle.bitvec_words.specs.base.MemoryLaws.{length-element_bits}
 use Rattle.bitvec_words.specs.base.Parts.{HasPart, part_window}
 use Rattle.bitvec_words.specs.base.Window.{window_range}
-use Rattle.bitvec_words.specs.base.WritesLaws.{list-range, HasWindow-kept, HasWindow-range}
+use Rattle.bitvec_words.specs.base.WritesLaws.{list-range, HasWindow-range}
 use Rattle.bitvec_words.specs.FieldLaws.{list-part, part-stored}
 use Rattle.bitvec_move.specs.ReversalLaws.{Writes-ends, touched-most, turned-front, turned-part}
 use Rattle.bitvec_move.specs.SettledLaws.{Writes-same, list-same}

@@ -1,14 +1,13 @@
-use Rattle.std.proofs.Common.{◌≡◌, ℕ, ◌+◌, ◌-◌, ◌*◌, ◌/◌, ◌<◌, ◌≤◌, arith, rules, ap, ◌∙◌, refl}
-use Rattle.std.proofs.Math.Nat.{mul-le-mul_left}
+use Rattle.std.proofs.Common.{◌≡◌, ℕ, ◌+◌, ◌-◌, ◌*◌, ◌/◌, arith, rules, ap, ◌∙◌, refl}
 use Rattle.bitvec_words.specs.store.WidthLaws.{width_some}
 use Rattle.bitvec_words.specs.base.Memory.{element_bits, list_in}
-use Rattle.bitvec_words.specs.base.SliceLaws.{range-same}
 use Rattle.bitvec_words.specs.base.WritesLaws.{length-list}
 use Rattle.bitvec_words.specs.Elements.{elements_window}
 use Rattle.bitvec_move.specs.Settled.{front_reversed}
-use Rattle.bitvec_move.specs.SettledLaws.{Settled-left, Settled-pair, Settled-rest, Settled-start, element-before, element-inside, length-front_reversed, reversed-behind, reversed-first, reversed-last, reversed-start, settled-all}
+use Rattle.bitvec_move.specs.SettledLaws.{Settled-start, element-before, element-inside, length-front_reversed, reversed-start, settled-all}
 use Rattle.bitvec_move.specs.PlaceLaws.{fits-word, inside, inside-word}
 use Rattle.bitvec_move.proofs.ReversedLemmas.{shifted-middle, shifted-pair}
+use Rattle.std.proofs.lemmas.List.{length-set}
 use Rattle.bitvec_move.proofs.reversing_elements.reverse_shifted.Goals as goal
 
 pub overflow_add-last : goal.overflow_add-last
@@ -90,7 +89,7 @@ loop-pair-preserved g c =
     let inv = c.loop-pair.invariant in
     let value = rw c.load-low.ensures.numbers at c.load-next.ensures.value in
     let next = shifted-pair b at (g.C.CellsRead.numbers c.args.cells.now) (g.C.CellsRead.numbers c.loop-pair.cells) c.args.first c.args.count c.args.part c.loop-pair.pair _ _ _ _ _ some c.requires.bound c.loop-pair-test.true c.requires.window
-        inv.writes inv.high inv.behind (rw (c.joined-front.ensures, value) at c.reversed.ensures) (rw c.load-low.ensures.value at c.reversed-turned.ensures) (rw c.BITS-bits.ensures at c.joined.ensures) in
+    inv.writes inv.high inv.behind (rw (c.joined-front.ensures, value) at c.reversed.ensures) (rw c.load-low.ensures.value at c.reversed-turned.ensures) (rw c.BITS-bits.ensures at c.joined.ensures) in
     record {
       writes = rw (c.store-in-loop-pair.ensures.numbers, c.store.ensures.numbers, c.load-next.ensures.numbers, c.load-low.ensures.numbers) next.writes;
       high = ap (element_bits b at) value ∙ next.high;
@@ -118,3 +117,52 @@ returns-else-count-eq1-clause-writes g c =
     let high : (count - pair) * b ≡ pair * b = ap (λ (m : ℕ). m * b) (let e : count - pair ≡ pair = omega arith in e) in
     let all : count * b ≡ pair * b + pair * b = ap (λ (m : ℕ). m * b) (let e : count ≡ pair + pair = omega arith in e) ∙ omega arith in
     rw (← settled-all (front_reversed n list) list (pair * b) ((count - pair) * b) (length-front_reversed n list) (omega arith) (omega arith)) c.loop-pair.invariant.writes
+
+pub overflow_sub-bits : goal.overflow_sub-bits
+overflow_sub-bits g c =
+    let bound = c.requires.bound in
+    rw c.BITS-bits.ensures (omega arith)
+
+pub joined-requires-clause-some : goal.joined-requires-clause-some
+joined-requires-clause-some g c =
+    let bound = c.requires.bound in
+    rw c.BITS-bits.ensures (omega arith)
+
+pub joined-requires-clause-bound : goal.joined-requires-clause-bound
+joined-requires-clause-bound g c =
+    let some = c.requires.some in
+    let bound = c.requires.bound in
+    rw c.BITS-bits.ensures (omega arith)
+
+pub store-requires-in-loop-pair : goal.store-requires-in-loop-pair
+store-requires-in-loop-pair g c =
+    let here = inside _ _ _ _ _ (c.args.count - 1 - c.loop-pair.pair) g.met.C.Elem.BitStore.width_law c.requires.window (omega arith) c.loop-pair.invariant.writes.elements in
+    rw (c.store.ensures.numbers, c.load-next.ensures.numbers, c.load-low.ensures.numbers) (omega (arith, length-set {A = ℕ}))
+
+pub overflow_sub-bits-then-count-eq1 : goal.overflow_sub-bits-then-count-eq1
+overflow_sub-bits-then-count-eq1 g c =
+    let bound = c.requires.bound in
+    rw c.BITS-bits.ensures (omega arith)
+
+pub joined-middle-requires-clause-some : goal.joined-middle-requires-clause-some
+joined-middle-requires-clause-some g c =
+    let bound = c.requires.bound in
+    rw c.BITS-bits.ensures (omega arith)
+
+pub joined-middle-requires-clause-bound : goal.joined-middle-requires-clause-bound
+joined-middle-requires-clause-bound g c =
+    let some = c.requires.some in
+    let bound = c.requires.bound in
+    rw c.BITS-bits.ensures (omega arith)
+
+pub returns-then-count-eq1-clause-cost : goal.returns-then-count-eq1-clause-cost
+returns-then-count-eq1-clause-cost g c =
+    let cost = c.loop-pair.invariant.cost in
+    let all : c.loop-pair.pair ≡ c.args.count / 2 = omega arith in
+    record { borrow = c.store-then-count-eq1.ensures.borrow ∙ cost.borrow; loads = omega arith; stores = omega arith }
+
+pub returns-else-count-eq1-clause-cost : goal.returns-else-count-eq1-clause-cost
+returns-else-count-eq1-clause-cost g c =
+    let cost = c.loop-pair.invariant.cost in
+    let all : c.loop-pair.pair ≡ c.args.count / 2 = omega arith in
+    record { borrow = cost.borrow; loads = omega arith; stores = omega arith }

@@ -13,14 +13,6 @@ returns-then-left_window-eq0-clause-swaps g c =
       right_writes = Writes-none _ _ _ _ _ _ c.requires.beside (sym c.requires.lengths ∙ none) none;
     }
 
-
-
-
-
-
-
-
-
 pub nonzero_rem-left_window : goal.nonzero_rem-left_window
 nonzero_rem-left_window g c = let some = width-some _ _ g.met.C.Elem.BitStore.width_law c.BITS-bits.ensures in omega arith
 

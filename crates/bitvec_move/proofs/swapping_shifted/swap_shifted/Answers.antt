@@ -150,7 +150,6 @@ overflow_sub-met g c =
     let lengths = c.requires.span.lengths in
     rw c.until-met.ensures (omega arith)
 
-
 pub after-rest-requires-clause-bound : goal.after-rest-requires-clause-bound
 after-rest-requires-clause-bound g c = head-fits _ _ c.args.left_window _ c.len-passed.ensures c.first_part-head.ensures
 
