@@ -16,7 +16,6 @@ use bitvec_words::store::BitStore;
 /// at most `MAX_BITS` bits, each window lies in its memory, and the windows are as long. On the left
 /// it stores each element that the window touches once, and loads at most the first and the last;
 /// on the right it loads each element that the window touches once.
-#[tactic(auto, using(bitvec_words::specs::Cited::in_steps, bitvec_words::specs::Cited::width_some))]
 #[inline(always)]
 pub fn copy<O: WordOrder, C: Cells, D: CellsRead<Elem = C::Elem>>(
     left: &mut C,

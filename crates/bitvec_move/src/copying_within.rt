@@ -41,7 +41,6 @@ pub fn copy_within<O: WordOrder, C: Cells>(
 
 /// Moves the bits of a window to another of the same memory and of the same length, also where they
 /// overlap: at most 64 bits as one field, more by whole elements.
-#[tactic(auto, using(bitvec_words::specs::Cited::in_steps, crate::specs::WithinLaws::edges_enough, bitvec_words::specs::Cited::width_some))]
 #[inline(always)]
 fn move_window<O: WordOrder, C: Cells>(cells: &mut C, to: Window, from: Window)
     requires { HasSpan C.Elem.BITS (C.numbers cells.old) (C.numbers cells.old) to from }

@@ -15,7 +15,6 @@ use bitvec_words::store::BitStore;
 /// Exchanges the bits of two windows of two memories of the same elements. Condition: each memory
 /// has at most `MAX_BITS` bits, each window lies in its memory, and the windows are as long. On both
 /// sides it loads and stores each element that the window touches once.
-#[tactic(auto, using(bitvec_words::specs::Cited::in_steps, bitvec_words::specs::Cited::width_some))]
 #[inline(always)]
 pub fn swap<O: WordOrder, C: Cells, D: Cells + CellsRead<Elem = C::Elem>>(
     left: &mut C,

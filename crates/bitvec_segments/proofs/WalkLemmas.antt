@@ -4,7 +4,7 @@ use Rattle.std.proofs.Common.{arith, sym, ◌∙◌, ap, ⊎_elim, eqb}
 use Rattle.std.proofs.lemmas.Bool.{cases_lt, cond-false, cond-true, eq-eqb, ne_eqb}
 use Rattle.std.proofs.lemmas.Nat.{div-add-mod', div-mul-add, mod-mul-add, mod_below, pow-add, shr-shr}
 use Rattle.std.proofs.lemmas.List.{drop-drop, take_all}
-use Rattle.std.proofs.Math.Nat.{add-mul-mod_self_right, mod-eq_of_lt}
+use Rattle.std.proofs.Math.Nat.{add-mul-mod_self_right, mod-eq_of_lt, mul-le-mul_left}
 use Rattle.std.proofs.Math.Pow.{pow_mono}
 use Rattle.std.proofs.Math.Seq.{take-add}
 use Rattle.bitvec_words.specs.base.declared.part.Part.{Part}
@@ -337,3 +337,33 @@ pub whole-less : (b n : ℕ) → b ≤ n → n % b ≡ 0 → (n - b) % b ≡ 0
 whole-less b n most whole =
     let back : n - b + 1 * b ≡ n = omega arith in
     sym (add-mul-mod_self_right (n - b) 1 b) ∙ ap (λ (m : ℕ). m % b) back ∙ whole
+
+-- ---- what a turn needs of the rest
+
+pub rest-end : (b : ℕ) (xs : List ℕ) (window rest : Window) → HasWindow b xs window → Walked b window rest → rest.start + rest.len < 2 ^ 64
+rest-end b xs window rest has walk =
+    let end = walk.end in
+    let fits = has.fits in
+    let len = has.within.len in
+    omega arith
+
+pub rest-fits : (b : ℕ) (window rest : Window) → Walked b window rest → rest.len ≤ window.len
+rest-fits b window rest walk =
+    let start = walk.start in
+    let end = walk.end in
+    omega arith
+
+-- a part has at least one bit, and no more than the rest
+pub taken : (b w t : ℕ) (rest : Window) (part : Part) → 0 < b → w ≡ b → 0 < rest.len → part ≡ first_part_of w rest → t ≡ part.to - part.from → (0 < t) × (t ≤ rest.len)
+taken b w t rest part some is more made step =
+    let long = rw (made, is) at step in
+    let len = first-len b rest some more in
+    (omega arith, omega arith)
+
+pub element-word : (b e : ℕ) (xs : List ℕ) (window rest : Window) → 0 < b → HasWindow b xs window → Walked b window rest → rest.start ≡ e * b → e + 1 < 2 ^ 64
+element-word b e xs window rest some has walk edge =
+    let end = walk.end in
+    let fits = has.fits in
+    let len = has.within.len in
+    let most = mul-le-mul_left e some in
+    omega arith

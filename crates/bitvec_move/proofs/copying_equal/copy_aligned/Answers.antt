@@ -4,6 +4,8 @@ use Rattle.bitvec_words.specs.base.WritesLaws.{Writes-is}
 use Rattle.bitvec_words.specs.FieldLaws.{Writes-tail, list-tail}
 use Rattle.bitvec_words.specs.TouchedLaws.{part_loads-most, touched-full, touched-more}
 use Rattle.bitvec_move.specs.PlaceLaws.{tail-inside, tail-part, tail-word, whole-span, width-some}
+use Rattle.bitvec_move.proofs.MoveLemmas.{Copies-same, end-word}
+use Rattle.std.proofs.lemmas.Nat.{div-add-mod'}
 use Rattle.bitvec_move.proofs.copying_equal.copy_aligned.Goals as goal
 
 pub nonzero_div-source : goal.nonzero_div-source
@@ -61,3 +63,23 @@ returns-clause-right g c =
     let all = touched-more g.C.Elem.BitStore.BITS c.args.from.start c.args.from.len (width_some _ g.met.C.Elem.BitStore.width_law) c.requires.right_edge (omega arith) in
     let whole = rw (c.whole_elements-first.ensures, c.BITS-bits.ensures, c.requires.span.lengths) at c.copy_whole.ensures.right in
     record { numbers = search rules; borrow = search rules; loads = omega arith; stores = search rules }
+
+pub whole_elements-first-requires : goal.whole_elements-first-requires
+whole_elements-first-requires g c = width-some _ _ g.met.C.Elem.BitStore.width_law c.BITS-bits.ensures
+
+pub tail_part-tail-requires-clause-bits : goal.tail_part-tail-requires-clause-bits
+tail_part-tail-requires-clause-bits g c = width-some _ _ g.met.C.Elem.BitStore.width_law c.BITS-bits.ensures
+
+pub tail_part-tail-requires-clause-end : goal.tail_part-tail-requires-clause-end
+tail_part-tail-requires-clause-end g c = end-word _ _ c.args.to c.requires.span.window
+
+pub returns-then-tail-eq0-clause-writes : goal.returns-then-tail-eq0-clause-writes
+returns-then-tail-eq0-clause-writes g c =
+    let b = g.C.Elem.BitStore.BITS in
+    let full = rw (c.tail_part-tail.ensures, c.BITS-bits.ensures) at c.if-tail-eq0.true in
+    let place = div-add-mod' c.args.to.start b in
+    let right_place = div-add-mod' c.args.from.start b in
+    let parts = div-add-mod' c.args.to.len b in
+    let span = c.requires in
+    let lengths = c.requires.span.lengths in
+    Copies-same b _ _ _ _ _ _ c.args.to c.args.from (omega arith) (omega arith) (omega arith) (omega arith) (rw (c.whole_elements-first.ensures, c.BITS-bits.ensures) at c.copy_whole.ensures.writes)

@@ -1,4 +1,4 @@
-use Rattle.std.proofs.Common.{◌≡◌, ◌≢◌, ℕ, ◌-◌, ◌%◌, min, arith, rules, ◌∙◌, ap}
+use Rattle.std.proofs.Common.{◌≡◌, ◌≢◌, ℕ, ◌-◌, ◌%◌, min, arith, rules, ◌∙◌, ap, length}
 use Rattle.bitvec_words.specs.base.declared.part.Part.{Part}
 use Rattle.bitvec_words.specs.base.Parts.{first_part_of}
 use Rattle.bitvec_words.specs.base.WritesLaws.{Writes-is}
@@ -7,6 +7,8 @@ use Rattle.bitvec_words.specs.walk.Cost.{touched_count}
 use Rattle.bitvec_words.specs.FieldLaws.{Writes-head, first_part-long, list-head}
 use Rattle.bitvec_words.specs.TouchedLaws.{part_loads-most, touched-head, touched-rest}
 use Rattle.bitvec_move.specs.PlaceLaws.{behind-edge, head-element, head-part, width-some}
+use Rattle.bitvec_move.proofs.MoveLemmas.{Copies-same, after-span, end-word, head-fits, head-order}
+use Rattle.std.proofs.lemmas.Nat.{div-add-mod', mod_below}
 use Rattle.bitvec_move.proofs.copying_equal.copy_equal.Goals as goal
 
 pub first_part-head-requires-clause-bits : goal.first_part-head-requires-clause-bits
@@ -89,3 +91,39 @@ returns-clause-right g c =
     let all = touched-rest b c.args.from.start c.len-passed.result c.args.from.len some (omega arith) same left in
     let rest = rw c.after-2.ensures at c.copy_aligned.ensures.right in
     record { numbers = search rules; borrow = search rules; loads = omega arith; stores = search rules }
+
+pub len-passed-requires : goal.len-passed-requires
+len-passed-requires g c = head-order _ c.args.to _ c.first_part-head.ensures
+
+pub returns-then-passed-to-clause-writes : goal.returns-then-passed-to-clause-writes
+returns-then-passed-to-clause-writes g c =
+    let b = g.C.Elem.BitStore.BITS in
+    let all = c.if-passed-to.true in
+    let phases = c.requires.phases in
+    let lengths = c.requires.span.lengths in
+    let place = div-add-mod' c.args.to.start b in
+    let source = div-add-mod' c.args.from.start b in
+    let below = mod_below c.args.to.start b (width_some _ g.met.C.Elem.BitStore.width_law) in
+    let head : c.first_part-head.result ≡ first_part_of b c.args.to = c.first_part-head.ensures ∙ ap (λ (n : ℕ). first_part_of n c.args.to) c.BITS-bits.ensures in
+    let step = first_part-long c.len-passed.result g.C.Elem.BitStore.BITS c.BITS-bits.result c.args.to c.first_part-head.result c.len-passed.ensures c.first_part-head.ensures c.BITS-bits.ensures in
+    Copies-same b _ _ _ _ _ _ c.args.to c.args.from (omega arith) (omega arith) (omega arith) (omega arith) (rw (head, c.BITS-bits.ensures) at c.copy_part.ensures.writes)
+
+pub after-requires-clause-bound : goal.after-requires-clause-bound
+after-requires-clause-bound g c = head-fits _ _ c.args.to _ c.len-passed.ensures c.first_part-head.ensures
+
+pub after-requires-clause-end : goal.after-requires-clause-end
+after-requires-clause-end g c = end-word _ _ c.args.to c.requires.span.window
+
+pub after-requires-2-clause-bound : goal.after-requires-2-clause-bound
+after-requires-2-clause-bound g c =
+    let fits = head-fits _ _ c.args.to _ c.len-passed.ensures c.first_part-head.ensures in
+    let lengths = c.requires.span.lengths in
+    omega arith
+
+pub after-requires-2-clause-end : goal.after-requires-2-clause-end
+after-requires-2-clause-end g c = end-word _ _ c.args.from c.requires.span.beside
+
+pub copy_aligned-requires-clause-span : goal.copy_aligned-requires-clause-span
+copy_aligned-requires-clause-span g c =
+    rw (c.after.ensures, c.after-2.ensures)
+    (after-span _ _ _ _ _ c.args.to c.args.from _ c.requires.span c.copy_part.ensures.writes.elements (ap length c.copy_part.ensures.right.numbers) (head-fits _ _ c.args.to _ c.len-passed.ensures c.first_part-head.ensures))

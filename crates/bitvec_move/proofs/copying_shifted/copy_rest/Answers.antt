@@ -1,11 +1,13 @@
-use Rattle.std.proofs.Common.{◌≡◌, ◌+◌, ◌-◌, ◌*◌, ◌/◌, ◌%◌, arith, rules}
+use Rattle.std.proofs.Common.{◌≡◌, ◌+◌, ◌-◌, ◌*◌, ◌/◌, ◌%◌, arith, refl, rules}
 use Rattle.bitvec_move.specs.WaitingLaws.{behind-element}
 use Rattle.std.proofs.lemmas.Nat.{div-add-mod', mod_below}
 use Rattle.bitvec_words.specs.base.WritesLaws.{Writes-is}
 use Rattle.bitvec_words.specs.store.WidthLaws.{width_some}
 use Rattle.bitvec_words.specs.FieldLaws.{Writes-tail, list-rest}
 use Rattle.bitvec_words.specs.TouchedLaws.{touched-from_full, touched-from_more, touched-full, touched-more}
+use Rattle.bitvec_words.specs.WholeLaws.{whole_fits}
 use Rattle.bitvec_move.specs.PlaceLaws.{tail-span, whole-span_from, width-some}
+use Rattle.bitvec_move.proofs.MoveLemmas.{Copies-same, end-word}
 use Rattle.bitvec_move.proofs.copying_shifted.copy_rest.Goals as goal
 
 pub nonzero_div-source : goal.nonzero_div-source
@@ -82,3 +84,41 @@ shift_tail-requires-clause-carry g c =
     let some = width_some _ g.met.C.Elem.BitStore.width_law in
     rw (c.after.ensures, c.whole_elements-first.ensures, c.BITS-bits.ensures, c.shift_whole-last.ensures.right.numbers, behind-element b c.args.from.start (c.args.to.len / b) some)
     (rw (c.whole_elements-first.ensures, c.BITS-bits.ensures) at c.shift_whole-last.ensures.carried)
+
+pub whole_elements-first-requires : goal.whole_elements-first-requires
+whole_elements-first-requires g c = width-some _ _ g.met.C.Elem.BitStore.width_law c.BITS-bits.ensures
+
+pub tail_part-tail-requires-clause-bits : goal.tail_part-tail-requires-clause-bits
+tail_part-tail-requires-clause-bits g c = width-some _ _ g.met.C.Elem.BitStore.width_law c.BITS-bits.ensures
+
+pub tail_part-tail-requires-clause-end : goal.tail_part-tail-requires-clause-end
+tail_part-tail-requires-clause-end g c = end-word _ _ c.args.to c.requires.shifted.span.window
+
+pub returns-then-tail-eq0-clause-writes : goal.returns-then-tail-eq0-clause-writes
+returns-then-tail-eq0-clause-writes g c =
+    let b = g.C.Elem.BitStore.BITS in
+    let none = rw (c.tail_part-tail.ensures, c.BITS-bits.ensures) at c.if-tail-eq0.true in
+    let place = div-add-mod' c.args.to.start b in
+    let source = div-add-mod' c.args.from.start b in
+    let parts = div-add-mod' c.args.to.len b in
+    let edge = c.requires.shifted.edge in
+    let lengths = c.requires.shifted.span.lengths in
+    Copies-same b _ _ _ _ _ _ c.args.to c.args.from (omega arith) (omega arith) (omega arith) (omega arith)
+    (rw (c.whole_elements-first.ensures, c.BITS-bits.ensures) at c.shift_whole-last.ensures.writes)
+
+pub overflow_mul-count : goal.overflow_mul-count
+overflow_mul-count g c =
+    let fits = whole_fits g.C.Elem.BitStore.BITS c.args.to.len (c.args.to.len / g.C.Elem.BitStore.BITS) (omega arith) in
+    rw (c.whole_elements-first.ensures, c.BITS-bits.ensures) (omega arith)
+
+pub after-requires-clause-bound : goal.after-requires-clause-bound
+after-requires-clause-bound g c =
+    let lengths = c.requires.shifted.span.lengths in
+    let fits = whole_fits g.C.Elem.BitStore.BITS c.args.to.len (c.args.to.len / g.C.Elem.BitStore.BITS) (omega arith) in
+    rw (c.whole_elements-first.ensures, c.BITS-bits.ensures) (omega arith)
+
+pub after-requires-clause-end : goal.after-requires-clause-end
+after-requires-clause-end g c = end-word _ _ c.args.from c.requires.shifted.span.beside
+
+pub shift_tail-requires-clause-edge : goal.shift_tail-requires-clause-edge
+shift_tail-requires-clause-edge g c = rw c.tail_part-tail.ensures refl

@@ -8,6 +8,8 @@ use Rattle.bitvec_words.specs.walk.Cost.{touched_count}
 use Rattle.bitvec_words.specs.FieldLaws.{Writes-head, first_part-long, list-parted}
 use Rattle.bitvec_words.specs.TouchedLaws.{apart_edge, inside_element, part_loads-most, touched-first, touched-head, touched-inside, touched-rest}
 use Rattle.bitvec_move.specs.PlaceLaws.{behind-edge, head-element, head-part, width-some}
+use Rattle.bitvec_move.proofs.MoveLemmas.{end-word, head-fits, head-order}
+use Rattle.bitvec_move.specs.WithinLaws.{part-first}
 use Rattle.bitvec_move.proofs.copying_shifted.copy_shifted.Goals as goal
 
 pub nonzero_rem-to : goal.nonzero_rem-to
@@ -119,3 +121,60 @@ returns-clause-right g c =
     let first = rw (c.until.ensures, long) at c.shift_head-carry.ensures.right in
     let rest = rw c.after-2.ensures at c.copy_rest-2.ensures.right in
     record { numbers = search rules; borrow = search rules; loads = omega arith; stores = search rules }
+
+pub returns-then-to-bits-eq0-clause-writes : goal.returns-then-to-bits-eq0-clause-writes
+returns-then-to-bits-eq0-clause-writes g c = rw c.load-carry.ensures.numbers at c.copy_rest.ensures.writes
+
+pub returns-then-to-bits-eq0-clause-cost : goal.returns-then-to-bits-eq0-clause-cost
+returns-then-to-bits-eq0-clause-cost g c =
+    let cost = c.copy_rest.ensures.cost in
+    record { borrow = cost.borrow; loads = omega arith; stores = cost.stores }
+
+pub len-passed-requires : goal.len-passed-requires
+len-passed-requires g c = head-order _ c.args.to _ c.first_part-head.ensures
+
+pub overflow_sub-from : goal.overflow_sub-from
+overflow_sub-from g c =
+    let fits = head-fits _ _ c.args.to _ c.len-passed.ensures c.first_part-head.ensures in
+    let lengths = c.requires.span.lengths in
+    omega arith
+
+pub returns-then-passed-to-clause-writes : goal.returns-then-passed-to-clause-writes
+returns-then-passed-to-clause-writes g c =
+    let b = g.C.Elem.BitStore.BITS in
+    let all = c.if-passed-to.true in
+    let lengths = c.requires.span.lengths in
+    let below = mod_below c.args.to.start b (width_some _ g.met.C.Elem.BitStore.width_law) in
+    let head : c.first_part-head.result ≡ first_part_of b c.args.to = c.first_part-head.ensures ∙ ap (λ (n : ℕ). first_part_of n c.args.to) c.BITS-bits.ensures in
+    let step = first_part-long c.len-passed.result g.C.Elem.BitStore.BITS c.BITS-bits.result c.args.to c.first_part-head.result c.len-passed.ensures c.first_part-head.ensures c.BITS-bits.ensures in
+    let place = part-first b c.args.to (omega arith) in
+    let long : c.args.from.len - (c.args.from.len - c.len-passed.result) ≡ c.args.from.len = omega arith in
+    rw (head, place, c.until.ensures, long) at c.shift_head-carry.ensures.writes
+
+pub returns-then-passed-to-clause-right : goal.returns-then-passed-to-clause-right
+returns-then-passed-to-clause-right g c =
+    let all = c.if-passed-to.true in
+    let lengths = c.requires.span.lengths in
+    let long : c.args.from.len - (c.args.from.len - c.len-passed.result) ≡ c.args.from.len = omega arith in
+    rw (c.until.ensures, long) at c.shift_head-carry.ensures.right
+
+pub after-requires-clause-bound : goal.after-requires-clause-bound
+after-requires-clause-bound g c = head-fits _ _ c.args.to _ c.len-passed.ensures c.first_part-head.ensures
+
+pub after-requires-clause-end : goal.after-requires-clause-end
+after-requires-clause-end g c = end-word _ _ c.args.to c.requires.span.window
+
+pub after-requires-2-clause-bound : goal.after-requires-2-clause-bound
+after-requires-2-clause-bound g c =
+    let fits = head-fits _ _ c.args.to _ c.len-passed.ensures c.first_part-head.ensures in
+    let lengths = c.requires.span.lengths in
+    omega arith
+
+pub after-requires-2-clause-end : goal.after-requires-2-clause-end
+after-requires-2-clause-end g c = end-word _ _ c.args.from c.requires.span.beside
+
+pub copy_rest-requires-2-clause-some : goal.copy_rest-requires-2-clause-some
+copy_rest-requires-2-clause-some g c =
+    let fits = head-fits _ _ c.args.to _ c.len-passed.ensures c.first_part-head.ensures in
+    let left = c.if-passed-to.false in
+    rw c.after.ensures (omega arith)

@@ -1,8 +1,9 @@
-use Rattle.std.proofs.Common.{◌+◌, arith, rules}
+use Rattle.std.proofs.Common.{◌+◌, arith, rules, ◌≡◌}
 use Rattle.bitvec_words.specs.store.WidthLaws.{width_some}
 use Rattle.bitvec_words.specs.base.WritesLaws.{Writes-is}
 use Rattle.bitvec_words.specs.FieldLaws.{Writes-element, Writes-no_element, list-element}
 use Rattle.bitvec_move.specs.WithinLaws.{element-left}
+use Rattle.bitvec_move.specs.PlaceLaws.{inside, inside-word}
 use Rattle.bitvec_move.proofs.moving_to_start.move_whole_to_start.Goals as goal
 
 pub loop-step-init : goal.loop-step-init
@@ -26,3 +27,29 @@ loop-step-preserved g c =
           (rw kept (list-element _ _ _ _ _ _ some c.requires.span.beside more)));
       cost = search rules;
     }
+
+pub overflow_add-source : goal.overflow_add-source
+overflow_add-source g c =
+    let below = inside-word _ _ _ _ _ g.met.C.Elem.BitStore.width_law c.requires.span.beside c.loop-step-test.true in
+    omega arith
+
+pub load-element-requires : goal.load-element-requires
+load-element-requires g c = inside _ _ _ _ _ _ g.met.C.Elem.BitStore.width_law c.requires.span.beside c.loop-step-test.true c.loop-step.invariant.writes.elements
+
+pub overflow_add-first : goal.overflow_add-first
+overflow_add-first g c =
+    let below = inside-word _ _ _ _ _ g.met.C.Elem.BitStore.width_law c.requires.span.window c.loop-step-test.true in
+    omega arith
+
+pub store-requires : goal.store-requires
+store-requires g c = rw c.load-element.ensures.numbers (inside _ _ _ _ _ _ g.met.C.Elem.BitStore.width_law c.requires.span.window c.loop-step-test.true c.loop-step.invariant.writes.elements)
+
+pub returns-clause-writes : goal.returns-clause-writes
+returns-clause-writes g c =
+    let all : c.loop-step.step ≡ c.args.count = omega arith in
+    rw (← all) c.loop-step.invariant.writes
+
+pub returns-clause-cost : goal.returns-clause-cost
+returns-clause-cost g c =
+    let all : c.loop-step.step ≡ c.args.count = omega arith in
+    rw (← all) c.loop-step.invariant.cost

@@ -1,15 +1,17 @@
-use Rattle.std.proofs.Common.{◌≡◌, ℕ, ◌+◌, ◌-◌, ◌/◌, ◌%◌, arith, rules, ap, sym, ◌∙◌, reverse, slice_range, take, length, List, Bool}
-use Rattle.std.proofs.lemmas.Nat.{div-add-mod', div_below}
+use Rattle.std.proofs.Common.{◌≡◌, ℕ, ◌+◌, ◌-◌, ◌/◌, ◌%◌, arith, rules, ap, sym, ◌∙◌, reverse, slice_range, take, length, List, Bool, refl}
+use Rattle.std.proofs.lemmas.Nat.{div-add-mod', div_below, mod_below}
 use Rattle.bitvec_words.specs.store.WidthLaws.{width_some}
 use Rattle.bitvec_words.specs.base.declared.part.Part.{Part}
 use Rattle.bitvec_words.specs.base.Memory.{element_bits, list_in}
 use Rattle.bitvec_words.specs.base.MemoryLaws.{length-element_bits}
 use Rattle.bitvec_words.specs.base.Parts.{HasPart, part_window}
 use Rattle.bitvec_words.specs.base.Window.{window_range}
-use Rattle.bitvec_words.specs.base.WritesLaws.{list-range}
+use Rattle.bitvec_words.specs.base.WritesLaws.{list-range, HasWindow-range}
 use Rattle.bitvec_words.specs.FieldLaws.{list-part, part-stored}
 use Rattle.bitvec_move.specs.ReversalLaws.{Writes-ends, touched-most, turned-front, turned-part}
 use Rattle.bitvec_move.specs.SettledLaws.{Writes-same, list-same}
+use Rattle.bitvec_move.specs.PlaceLaws.{width-some}
+use Rattle.bitvec_move.proofs.MoveLemmas.{end-word, place-element}
 use Rattle.bitvec_move.proofs.reversing.exchange_edges.Goals as goal
 
 pub returns-clause-writes : goal.returns-clause-writes
@@ -76,3 +78,64 @@ returns-clause-cost g c =
     let store = c.store.ensures in
     let more_cost = c.store_front.ensures.cost in
     record { borrow = search rules; loads = omega arith; stores = omega arith }
+
+pub nonzero_div-element : goal.nonzero_div-element
+nonzero_div-element g c = let some = width-some _ _ g.met.C.Elem.BitStore.width_law c.BITS-bits.ensures in omega arith
+
+pub nonzero_rem-from : goal.nonzero_rem-from
+nonzero_rem-from g c = let some = width-some _ _ g.met.C.Elem.BitStore.width_law c.BITS-bits.ensures in omega arith
+
+pub range-back-requires-clause-end : goal.range-back-requires-clause-end
+range-back-requires-clause-end g c = end-word _ _ c.args.window c.requires.window
+
+pub field-last-requires : goal.field-last-requires
+field-last-requires g c =
+    let bound = c.requires.bound in
+    let more = c.requires.some in
+    let apart = c.requires.apart in
+    rw c.range-back.ensures (record {
+      inside = HasWindow-range _ _ _ (c.args.window.len - c.args.count) c.args.window.len c.requires.window (omega arith) (omega arith);
+      some = omega arith;
+      bound = omega arith;
+    })
+
+pub load-first-requires : goal.load-first-requires
+load-first-requires g c =
+    let bound = c.requires.bound in
+    let more = c.requires.some in
+    let apart = c.requires.apart in
+    rw c.field-last.ensures.reads.numbers (place-element _ _ _ _ c.args.window _ g.met.C.Elem.BitStore.width_law c.BITS-bits.ensures c.requires.window (omega arith) refl)
+
+pub overflow_sub-skip : goal.overflow_sub-skip
+overflow_sub-skip g c =
+    let below = mod_below c.args.window.start c.BITS-bits.result (width-some _ _ g.met.C.Elem.BitStore.width_law c.BITS-bits.ensures) in
+    omega arith
+
+pub overflow_sub-skip-2 : goal.overflow_sub-skip-2
+overflow_sub-skip-2 g c =
+    let bound = c.requires.bound in
+    rw c.BITS-bits.ensures (omega arith)
+
+pub toward_start-turned-requires : goal.toward_start-turned-requires
+toward_start-turned-requires g c =
+    let bound = c.requires.bound in
+    let more = c.requires.some in
+    let apart = c.requires.apart in
+    rw c.BITS-bits.ensures (omega arith)
+
+pub merged-requires-clause-bound : goal.merged-requires-clause-bound
+merged-requires-clause-bound g c = rw c.BITS-bits.ensures c.requires.bound
+
+pub store-requires : goal.store-requires
+store-requires g c =
+    let bound = c.requires.bound in
+    let more = c.requires.some in
+    let apart = c.requires.apart in
+    rw (c.load-first.ensures.numbers, c.field-last.ensures.reads.numbers) (place-element _ _ _ _ c.args.window _ g.met.C.Elem.BitStore.width_law c.BITS-bits.ensures c.requires.window (omega arith) refl)
+
+pub toward_start-other-requires : goal.toward_start-other-requires
+toward_start-other-requires g c =
+    let bound = c.requires.bound in
+    let more = c.requires.some in
+    let apart = c.requires.apart in
+    rw c.BITS-bits.ensures (omega arith)

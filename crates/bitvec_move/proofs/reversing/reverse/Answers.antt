@@ -1,13 +1,15 @@
-use Rattle.std.proofs.Common.{◌+◌, ◌-◌, arith, sym, ◌∙◌}
+use Rattle.std.proofs.Common.{◌+◌, ◌-◌, arith, sym, ◌∙◌, ◌/◌}
 use Rattle.std.proofs.lemmas.Nat.{mod_below}
 use Rattle.bitvec_words.specs.store.WidthLaws.{width_some}
 use Rattle.bitvec_words.specs.base.Memory.{list_in}
 use Rattle.bitvec_words.specs.base.ReversalLaws.{mirror-all}
-use Rattle.bitvec_words.specs.base.WritesLaws.{Writes-is, Writes-start, length-list}
+use Rattle.bitvec_words.specs.base.WritesLaws.{Writes-is, Writes-start, length-list, HasWindow-kept, HasWindow-range}
 use Rattle.bitvec_words.specs.walk.WalkLaws.{touched-less}
 use Rattle.bitvec_move.specs.ReversalLaws.{Edits-middle, mirror-edges, reverse-edges, reverse-enough, reverse-short}
-use Rattle.bitvec_words.specs.TouchedLaws.{touched-parts}
+use Rattle.bitvec_words.specs.TouchedLaws.{touched-parts, head_edge}
 use Rattle.bitvec_move.specs.WordLaws.{words-enough}
+use Rattle.bitvec_move.specs.PlaceLaws.{width-some}
+use Rattle.bitvec_move.proofs.MoveLemmas.{end-word}
 use Rattle.bitvec_move.proofs.reversing.reverse.Goals as goal
 
 pub returns-then-window-lt2-clause-writes : goal.returns-then-window-lt2-clause-writes
@@ -89,3 +91,69 @@ returns-clause-cost g c =
     let edges = c.exchange_edges.ensures.cost in
     let cost = rw c.range-rest.ensures at c.reverse_elements.ensures.cost in
     record { borrow = cost.borrow ∙ edges.borrow; loads = omega arith; stores = omega arith }
+
+pub nonzero_rem-window : goal.nonzero_rem-window
+nonzero_rem-window g c = let some = width-some _ _ g.met.C.Elem.BitStore.width_law c.BITS-bits.ensures in omega arith
+
+pub overflow_sub-bits : goal.overflow_sub-bits
+overflow_sub-bits g c =
+    let below = mod_below c.args.window.start c.BITS-bits.result (width-some _ _ g.met.C.Elem.BitStore.width_law c.BITS-bits.ensures) in
+    omega arith
+
+pub exchange_edges-requires-clause-some : goal.exchange_edges-requires-clause-some
+exchange_edges-requires-clause-some g c =
+    let below = mod_below c.args.window.start g.C.Elem.BitStore.BITS (width_some _ g.met.C.Elem.BitStore.width_law) in
+    let count = rw c.BITS-bits.ensures at c.min-count.ensures in
+    let more = c.if-window-lt2.false in
+    omega arith
+
+pub exchange_edges-requires-clause-bound : goal.exchange_edges-requires-clause-bound
+exchange_edges-requires-clause-bound g c =
+    let below = mod_below c.args.window.start g.C.Elem.BitStore.BITS (width_some _ g.met.C.Elem.BitStore.width_law) in
+    let count = rw c.BITS-bits.ensures at c.min-count.ensures in
+    omega arith
+
+pub exchange_edges-requires-clause-apart : goal.exchange_edges-requires-clause-apart
+exchange_edges-requires-clause-apart g c =
+    let count = rw c.BITS-bits.ensures at c.min-count.ensures in
+    omega arith
+
+pub overflow_sub-window : goal.overflow_sub-window
+overflow_sub-window g c =
+    let count = rw c.BITS-bits.ensures at c.min-count.ensures in
+    omega arith
+
+pub range-rest-requires-clause-order : goal.range-rest-requires-clause-order
+range-rest-requires-clause-order g c =
+    let count = rw c.BITS-bits.ensures at c.min-count.ensures in
+    omega arith
+
+pub range-rest-requires-clause-end : goal.range-rest-requires-clause-end
+range-rest-requires-clause-end g c = end-word _ _ c.args.window c.requires
+
+pub reverse_words-requires-clause-window : goal.reverse_words-requires-clause-window
+reverse_words-requires-clause-window g c =
+    let count = rw c.BITS-bits.ensures at c.min-count.ensures in
+    rw (c.range-rest.ensures) (HasWindow-range _ _ _ c.min-count.result (c.args.window.len - c.min-count.result) (HasWindow-kept _ _ _ _ c.requires c.exchange_edges.ensures.writes.elements) (omega arith) (omega arith))
+
+pub reverse_words-requires-clause-edge : goal.reverse_words-requires-clause-edge
+reverse_words-requires-clause-edge g c =
+    let below = mod_below c.args.window.start g.C.Elem.BitStore.BITS (width_some _ g.met.C.Elem.BitStore.width_law) in
+    let count = rw c.BITS-bits.ensures at c.min-count.ensures in
+    let left = rw c.range-rest.ensures at c.if-rest-lt2.false in
+    rw c.range-rest.ensures (head_edge g.C.Elem.BitStore.BITS c.args.window.start c.min-count.result (c.args.window.len / 2) (width_some _ g.met.C.Elem.BitStore.width_law) (omega arith) (λ e. absurd (omega arith)))
+
+pub reverse_words-requires-clause-narrow : goal.reverse_words-requires-clause-narrow
+reverse_words-requires-clause-narrow g c = rw c.BITS-bits.ensures at c.if-bits-lt-WORD_BITS.true
+
+pub reverse_elements-requires-clause-window : goal.reverse_elements-requires-clause-window
+reverse_elements-requires-clause-window g c =
+    let count = rw c.BITS-bits.ensures at c.min-count.ensures in
+    rw (c.range-rest.ensures) (HasWindow-range _ _ _ c.min-count.result (c.args.window.len - c.min-count.result) (HasWindow-kept _ _ _ _ c.requires c.exchange_edges.ensures.writes.elements) (omega arith) (omega arith))
+
+pub reverse_elements-requires-clause-edge : goal.reverse_elements-requires-clause-edge
+reverse_elements-requires-clause-edge g c =
+    let below = mod_below c.args.window.start g.C.Elem.BitStore.BITS (width_some _ g.met.C.Elem.BitStore.width_law) in
+    let count = rw c.BITS-bits.ensures at c.min-count.ensures in
+    let left = rw c.range-rest.ensures at c.if-rest-lt2.false in
+    rw c.range-rest.ensures (head_edge g.C.Elem.BitStore.BITS c.args.window.start c.min-count.result (c.args.window.len / 2) (width_some _ g.met.C.Elem.BitStore.width_law) (omega arith) (λ e. absurd (omega arith)))

@@ -1,13 +1,13 @@
-use Rattle.std.proofs.Common.{◌≡◌, ℕ, ◌+◌, ◌-◌, ◌*◌, ◌/◌, ◌<◌, ◌≤◌, arith, rules, ap, ◌∙◌, refl}
-use Rattle.std.proofs.Math.Nat.{mul-le-mul_left}
+use Rattle.std.proofs.Common.{◌≡◌, ℕ, ◌+◌, ◌-◌, ◌*◌, ◌/◌, arith, rules, ap, ◌∙◌, refl}
 use Rattle.bitvec_words.specs.store.WidthLaws.{width_some}
 use Rattle.bitvec_words.specs.base.Memory.{element_bits, list_in}
-use Rattle.bitvec_words.specs.base.SliceLaws.{range-same}
 use Rattle.bitvec_words.specs.base.WritesLaws.{length-list}
 use Rattle.bitvec_words.specs.Elements.{elements_window}
 use Rattle.bitvec_move.specs.Settled.{front_reversed}
-use Rattle.bitvec_move.specs.SettledLaws.{Settled-left, Settled-pair, Settled-rest, Settled-start, element-before, element-inside, length-front_reversed, reversed-behind, reversed-first, reversed-last, reversed-start, settled-all}
+use Rattle.bitvec_move.specs.SettledLaws.{Settled-start, element-before, element-inside, length-front_reversed, reversed-start, settled-all}
 use Rattle.bitvec_move.specs.PlaceLaws.{fits-word, inside, inside-word}
+use Rattle.bitvec_move.proofs.ReversedLemmas.{shifted-middle, shifted-pair}
+use Rattle.std.proofs.lemmas.List.{length-set}
 use Rattle.bitvec_move.proofs.reversing_elements.reverse_shifted.Goals as goal
 
 pub overflow_add-last : goal.overflow_add-last
@@ -85,80 +85,25 @@ pub loop-pair-preserved : goal.loop-pair-preserved
 loop-pair-preserved g c =
     let b = g.C.Elem.BitStore.BITS in
     let at = g.O.BitOrder.at in
-    let old = g.C.CellsRead.numbers c.args.cells.now in
-    let mid = g.C.CellsRead.numbers c.loop-pair.cells in
-    let first = c.args.first in
-    let count = c.args.count in
-    let part = c.args.part in
-    let pair = c.loop-pair.pair in
-    let last : ℕ = count - pair - 1 in
-    let next : ℕ = count - (pair + 1) - 1 in
-    let n : ℕ = (count - 1) * b + part in
-    let list = list_in b at old (elements_window b first count) in
-    let target = front_reversed n list in
-    let has = c.requires.window in
-    let bound = c.requires.bound in
     let some = width_some _ g.met.C.Elem.BitStore.width_law in
-    let long = length-list b at old _ has in
-    let same = length-front_reversed n list in
-    let more = c.loop-pair-test.true in
     let inv = c.loop-pair.invariant in
-    let high = element-before (count - pair) b (omega arith) in
-    let whole = element-before count b c.requires.count in
-    let before_last : last * b ≡ next * b + b = ap (λ (m : ℕ). m * b) (let e : last ≡ next + 1 = omega arith in e) ∙ omega arith in
-    let next_high : (count - (pair + 1)) * b ≡ last * b = ap (λ (m : ℕ). m * b) (omega arith) in
-    let all : (count - 1) * b ≡ pair * b + last * b = ap (λ (m : ℕ). m * b) (let e : count - 1 ≡ pair + last = omega arith in e) ∙ omega arith in
-    let order : pair * b + b ≤ last * b = omega (arith, mul-le-mul_left b (let e : pair < last = omega arith in e)) in
-    let low_left = Settled-left b at old mid first count (pair * b) ((count - pair) * b) pair (first + pair) target some has (same ∙ long) (omega arith) (omega arith) (omega arith) (omega arith) (omega arith) inv.writes in
-    let next_left = Settled-left b at old mid first count (pair * b) ((count - pair) * b) next (first + count - 1 - pair - 1) target some has (same ∙ long) (omega arith) (omega arith) (omega arith) (omega arith) (omega arith) inv.writes in
-    let next_bits = ap (element_bits b at) (rw c.load-low.ensures.numbers at c.load-next.ensures.value) ∙ next_left in
-    let next_range = next_bits ∙ range-same list (next * b) (next * b + b) (last * b - b) (last * b) (omega arith) (omega arith) in
-    let front = rw (c.joined-front.ensures, next_range, inv.high) at c.reversed.ensures in
-    let turned = rw (c.load-low.ensures.value, low_left) at c.reversed-turned.ensures in
-    let back = rw (c.BITS-bits.ensures, turned, inv.behind) at c.joined.ensures in
+    let value = rw c.load-low.ensures.numbers at c.load-next.ensures.value in
+    let next = shifted-pair b at (g.C.CellsRead.numbers c.args.cells.now) (g.C.CellsRead.numbers c.loop-pair.cells) c.args.first c.args.count c.args.part c.loop-pair.pair _ _ _ _ _ some c.requires.bound c.loop-pair-test.true c.requires.window
+    inv.writes inv.high inv.behind (rw (c.joined-front.ensures, value) at c.reversed.ensures) (rw c.load-low.ensures.value at c.reversed-turned.ensures) (rw c.BITS-bits.ensures at c.joined.ensures) in
     record {
-      writes = rw (c.store-in-loop-pair.ensures.numbers, c.store.ensures.numbers, c.load-next.ensures.numbers, c.load-low.ensures.numbers)
-          (Settled-pair b at old mid first count pair last (first + pair) (first + count - 1 - pair) _ _ (pair * b) ((count - pair) * b) ((pair + 1) * b) ((count - (pair + 1)) * b) target some has (same ∙ long) (omega arith) (omega arith)
-          (omega arith) (omega arith) (omega arith) high (omega arith) next_high
-          (front ∙ reversed-first list (pair * b) (last * b) b part n (omega arith) (omega arith) (omega arith) bound (omega arith))
-          (back ∙ reversed-last list (pair * b) (last * b) b part n (omega arith) (omega arith) bound (omega arith) (omega arith)) inv.writes);
-      high = next_bits;
-      behind = rw turned
-          (reversed-behind list (pair * b) (last * b) b part n (omega arith) (omega arith) (omega arith) bound (omega arith)
-          ∙ range-same target (last * b - b + part) (last * b) (next * b + part) (next * b + b) (omega arith) (omega arith));
+      writes = rw (c.store-in-loop-pair.ensures.numbers, c.store.ensures.numbers, c.load-next.ensures.numbers, c.load-low.ensures.numbers) next.writes;
+      high = ap (element_bits b at) value ∙ next.high;
+      behind = next.behind;
       cost = search rules;
     }
 
 pub returns-then-count-eq1-clause-writes : goal.returns-then-count-eq1-clause-writes
 returns-then-count-eq1-clause-writes g c =
-    let b = g.C.Elem.BitStore.BITS in
-    let at = g.O.BitOrder.at in
-    let old = g.C.CellsRead.numbers c.args.cells.now in
-    let mid = g.C.CellsRead.numbers c.loop-pair.cells in
-    let first = c.args.first in
-    let count = c.args.count in
-    let part = c.args.part in
-    let pair = c.loop-pair.pair in
-    let last : ℕ = count - pair - 1 in
-    let n : ℕ = (count - 1) * b + part in
-    let list = list_in b at old (elements_window b first count) in
-    let target = front_reversed n list in
-    let has = c.requires.window in
-    let bound = c.requires.bound in
     let some = width_some _ g.met.C.Elem.BitStore.width_law in
-    let long = length-list b at old _ has in
-    let same = length-front_reversed n list in
     let inv = c.loop-pair.invariant in
-    let middle : pair ≡ last = omega arith in
-    let place : pair * b ≡ last * b = ap (λ (m : ℕ). m * b) middle in
-    let high = element-before (count - pair) b (omega arith) in
-    let whole = element-before count b c.requires.count in
-    let all : (count - 1) * b ≡ last * b + last * b = ap (λ (m : ℕ). m * b) (let e : count - 1 ≡ last + last = omega arith in e) ∙ omega arith in
-    let turned = rw inv.high at c.reversed-turned-then-count-eq1.ensures in
-    let made = rw (c.BITS-bits.ensures, turned, inv.behind) at c.joined-middle.ensures in
     rw c.store-then-count-eq1.ensures.numbers
-    (Settled-rest b at old mid first count last (first + count / 2) _ (pair * b) ((count - pair) * b) target some has (same ∙ long) (omega arith) (omega arith) place high
-    (made ∙ reversed-last list (last * b) (last * b) b part n (omega arith) (omega arith) bound (omega arith) (omega arith)) inv.writes)
+    (shifted-middle g.C.Elem.BitStore.BITS g.O.BitOrder.at (g.C.CellsRead.numbers c.args.cells.now) (g.C.CellsRead.numbers c.loop-pair.cells) c.args.first c.args.count c.args.part c.loop-pair.pair _ _ _ _ some c.requires.bound (omega arith) c.requires.window
+    inv.writes inv.high inv.behind c.reversed-turned-then-count-eq1.ensures (rw c.BITS-bits.ensures at c.joined-middle.ensures))
 
 pub returns-else-count-eq1-clause-writes : goal.returns-else-count-eq1-clause-writes
 returns-else-count-eq1-clause-writes g c =
@@ -172,3 +117,52 @@ returns-else-count-eq1-clause-writes g c =
     let high : (count - pair) * b ≡ pair * b = ap (λ (m : ℕ). m * b) (let e : count - pair ≡ pair = omega arith in e) in
     let all : count * b ≡ pair * b + pair * b = ap (λ (m : ℕ). m * b) (let e : count ≡ pair + pair = omega arith in e) ∙ omega arith in
     rw (← settled-all (front_reversed n list) list (pair * b) ((count - pair) * b) (length-front_reversed n list) (omega arith) (omega arith)) c.loop-pair.invariant.writes
+
+pub overflow_sub-bits : goal.overflow_sub-bits
+overflow_sub-bits g c =
+    let bound = c.requires.bound in
+    rw c.BITS-bits.ensures (omega arith)
+
+pub joined-requires-clause-some : goal.joined-requires-clause-some
+joined-requires-clause-some g c =
+    let bound = c.requires.bound in
+    rw c.BITS-bits.ensures (omega arith)
+
+pub joined-requires-clause-bound : goal.joined-requires-clause-bound
+joined-requires-clause-bound g c =
+    let some = c.requires.some in
+    let bound = c.requires.bound in
+    rw c.BITS-bits.ensures (omega arith)
+
+pub store-requires-in-loop-pair : goal.store-requires-in-loop-pair
+store-requires-in-loop-pair g c =
+    let here = inside _ _ _ _ _ (c.args.count - 1 - c.loop-pair.pair) g.met.C.Elem.BitStore.width_law c.requires.window (omega arith) c.loop-pair.invariant.writes.elements in
+    rw (c.store.ensures.numbers, c.load-next.ensures.numbers, c.load-low.ensures.numbers) (omega (arith, length-set {A = ℕ}))
+
+pub overflow_sub-bits-then-count-eq1 : goal.overflow_sub-bits-then-count-eq1
+overflow_sub-bits-then-count-eq1 g c =
+    let bound = c.requires.bound in
+    rw c.BITS-bits.ensures (omega arith)
+
+pub joined-middle-requires-clause-some : goal.joined-middle-requires-clause-some
+joined-middle-requires-clause-some g c =
+    let bound = c.requires.bound in
+    rw c.BITS-bits.ensures (omega arith)
+
+pub joined-middle-requires-clause-bound : goal.joined-middle-requires-clause-bound
+joined-middle-requires-clause-bound g c =
+    let some = c.requires.some in
+    let bound = c.requires.bound in
+    rw c.BITS-bits.ensures (omega arith)
+
+pub returns-then-count-eq1-clause-cost : goal.returns-then-count-eq1-clause-cost
+returns-then-count-eq1-clause-cost g c =
+    let cost = c.loop-pair.invariant.cost in
+    let all : c.loop-pair.pair ≡ c.args.count / 2 = omega arith in
+    record { borrow = c.store-then-count-eq1.ensures.borrow ∙ cost.borrow; loads = omega arith; stores = omega arith }
+
+pub returns-else-count-eq1-clause-cost : goal.returns-else-count-eq1-clause-cost
+returns-else-count-eq1-clause-cost g c =
+    let cost = c.loop-pair.invariant.cost in
+    let all : c.loop-pair.pair ≡ c.args.count / 2 = omega arith in
+    record { borrow = cost.borrow; loads = omega arith; stores = omega arith }

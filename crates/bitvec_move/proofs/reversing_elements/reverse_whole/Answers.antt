@@ -1,5 +1,5 @@
 use Rattle.std.proofs.Common.{◌≡◌, ℕ, ◌+◌, ◌-◌, ◌*◌, ◌/◌, ◌<◌, ◌≤◌, arith, rules, ap, ◌∙◌, reverse, refl}
-use Rattle.std.proofs.lemmas.List.{length-reverse}
+use Rattle.std.proofs.lemmas.List.{length-reverse, length-set}
 use Rattle.std.proofs.Math.Nat.{mul-le-mul_left}
 use Rattle.bitvec_words.specs.store.WidthLaws.{width_some}
 use Rattle.bitvec_words.specs.base.Memory.{list_in}
@@ -141,3 +141,20 @@ returns-else-count-eq1-clause-writes g c =
     let high : (count - pair) * b ≡ pair * b = ap (λ (n : ℕ). n * b) (let e : count - pair ≡ pair = omega arith in e) in
     let all : count * b ≡ pair * b + pair * b = ap (λ (n : ℕ). n * b) (let e : count ≡ pair + pair = omega arith in e) ∙ omega arith in
     rw (← settled-all (reverse list) list (pair * b) ((count - pair) * b) turned (omega arith) (omega arith)) c.loop-pair.invariant.writes
+
+pub store-requires-in-loop-pair : goal.store-requires-in-loop-pair
+store-requires-in-loop-pair g c =
+    let here = inside _ _ _ _ _ (c.args.count - 1 - c.loop-pair.pair) g.met.C.Elem.BitStore.width_law c.requires.window (omega arith) c.loop-pair.invariant.writes.elements in
+    rw (c.store.ensures.numbers, c.load-high.ensures.numbers, c.load-low.ensures.numbers) (omega (arith, length-set {A = ℕ}))
+
+pub returns-then-count-eq1-clause-cost : goal.returns-then-count-eq1-clause-cost
+returns-then-count-eq1-clause-cost g c =
+    let cost = c.loop-pair.invariant.cost in
+    let all : c.loop-pair.pair ≡ c.args.count / 2 = omega arith in
+    record { borrow = c.store-then-count-eq1.ensures.borrow ∙ c.load-middle.ensures.borrow ∙ cost.borrow; loads = omega arith; stores = omega arith }
+
+pub returns-else-count-eq1-clause-cost : goal.returns-else-count-eq1-clause-cost
+returns-else-count-eq1-clause-cost g c =
+    let cost = c.loop-pair.invariant.cost in
+    let all : c.loop-pair.pair ≡ c.args.count / 2 = omega arith in
+    record { borrow = cost.borrow; loads = omega arith; stores = omega arith }

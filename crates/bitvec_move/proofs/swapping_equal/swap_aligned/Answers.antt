@@ -3,6 +3,8 @@ use Rattle.bitvec_words.specs.store.WidthLaws.{width_some}
 use Rattle.bitvec_move.specs.SwapLaws.{Swaps-joined, beside-tail}
 use Rattle.bitvec_words.specs.TouchedLaws.{touched-full, touched-more}
 use Rattle.bitvec_move.specs.PlaceLaws.{tail-inside, tail-part, tail-word, whole-span, width-some}
+use Rattle.bitvec_move.proofs.MoveLemmas.{Swaps-same, end-word}
+use Rattle.std.proofs.lemmas.Nat.{div-add-mod'}
 use Rattle.bitvec_move.proofs.swapping_equal.swap_aligned.Goals as goal
 
 pub nonzero_div-source : goal.nonzero_div-source
@@ -63,3 +65,23 @@ returns-clause-right_cost g c =
     let all = touched-more g.C.Elem.BitStore.BITS c.args.right_window.start c.args.right_window.len (width_some _ g.met.C.Elem.BitStore.width_law) c.requires.right_edge (omega arith) in
     let cost = rw (c.whole_elements-first.ensures, c.BITS-bits.ensures, c.requires.span.lengths) at c.swap_whole.ensures.right_cost in
     record { borrow = search rules; loads = omega arith; stores = omega arith }
+
+pub whole_elements-first-requires : goal.whole_elements-first-requires
+whole_elements-first-requires g c = width-some _ _ g.met.C.Elem.BitStore.width_law c.BITS-bits.ensures
+
+pub tail_part-tail-requires-clause-bits : goal.tail_part-tail-requires-clause-bits
+tail_part-tail-requires-clause-bits g c = width-some _ _ g.met.C.Elem.BitStore.width_law c.BITS-bits.ensures
+
+pub tail_part-tail-requires-clause-end : goal.tail_part-tail-requires-clause-end
+tail_part-tail-requires-clause-end g c = end-word _ _ c.args.left_window c.requires.span.window
+
+pub returns-then-tail-eq0-clause-swaps : goal.returns-then-tail-eq0-clause-swaps
+returns-then-tail-eq0-clause-swaps g c =
+    let b = g.C.Elem.BitStore.BITS in
+    let full = rw (c.tail_part-tail.ensures, c.BITS-bits.ensures) at c.if-tail-eq0.true in
+    let place = div-add-mod' c.args.left_window.start b in
+    let right_place = div-add-mod' c.args.right_window.start b in
+    let parts = div-add-mod' c.args.left_window.len b in
+    let span = c.requires in
+    let lengths = c.requires.span.lengths in
+    Swaps-same b _ _ _ _ _ _ _ c.args.left_window c.args.right_window (omega arith) (omega arith) (omega arith) (omega arith) (rw (c.whole_elements-first.ensures, c.BITS-bits.ensures) at c.swap_whole.ensures.swaps)

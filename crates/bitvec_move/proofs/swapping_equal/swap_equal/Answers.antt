@@ -7,6 +7,7 @@ use Rattle.bitvec_words.specs.FieldLaws.{first_part-long}
 use Rattle.bitvec_move.specs.SwapLaws.{Swaps-joined, beside-head}
 use Rattle.bitvec_words.specs.TouchedLaws.{touched-head, touched-rest}
 use Rattle.bitvec_move.specs.PlaceLaws.{behind-edge, head-element, head-part, width-some}
+use Rattle.bitvec_move.proofs.MoveLemmas.{after-span, end-word, head-fits, head-order}
 use Rattle.bitvec_move.proofs.swapping_equal.swap_equal.Goals as goal
 
 pub nonzero_div-right_window : goal.nonzero_div-right_window
@@ -89,3 +90,26 @@ returns-clause-right_cost g c =
     let all = touched-rest b c.args.right_window.start c.len-passed.result c.args.right_window.len some (omega arith) same left in
     let rest = rw c.after-behind.ensures at c.swap_aligned.ensures.right_cost in
     record { borrow = search rules; loads = omega arith; stores = omega arith }
+
+pub len-passed-requires : goal.len-passed-requires
+len-passed-requires g c = head-order _ c.args.left_window _ c.first_part-head.ensures
+
+pub after-rest-requires-clause-bound : goal.after-rest-requires-clause-bound
+after-rest-requires-clause-bound g c = head-fits _ _ c.args.left_window _ c.len-passed.ensures c.first_part-head.ensures
+
+pub after-rest-requires-clause-end : goal.after-rest-requires-clause-end
+after-rest-requires-clause-end g c = end-word _ _ c.args.left_window c.requires.span.window
+
+pub after-behind-requires-clause-bound : goal.after-behind-requires-clause-bound
+after-behind-requires-clause-bound g c =
+    let fits = head-fits _ _ c.args.left_window _ c.len-passed.ensures c.first_part-head.ensures in
+    let lengths = c.requires.span.lengths in
+    omega arith
+
+pub after-behind-requires-clause-end : goal.after-behind-requires-clause-end
+after-behind-requires-clause-end g c = end-word _ _ c.args.right_window c.requires.span.beside
+
+pub swap_aligned-requires-clause-span : goal.swap_aligned-requires-clause-span
+swap_aligned-requires-clause-span g c =
+    let swaps = c.swap_part.ensures.swaps in
+    rw (c.after-rest.ensures, c.after-behind.ensures) (after-span _ _ _ _ _ c.args.left_window c.args.right_window _ c.requires.span swaps.writes.elements swaps.right_writes.elements (head-fits _ _ c.args.left_window _ c.len-passed.ensures c.first_part-head.ensures))

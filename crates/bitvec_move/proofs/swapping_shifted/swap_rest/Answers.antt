@@ -7,6 +7,8 @@ use Rattle.bitvec_move.specs.SwapLaws.{Swaps-joined, beside-after, beside-tail}
 use Rattle.bitvec_words.specs.TouchedLaws.{touched-first, touched-from_full, touched-from_more, touched-full, touched-more}
 use Rattle.bitvec_move.specs.WaitingLaws.{HasWindow-set, behind-element}
 use Rattle.bitvec_move.specs.PlaceLaws.{from-inside, from-word, tail-span, whole-span_from, whole-window_from, width-some}
+use Rattle.bitvec_move.proofs.MoveLemmas.{Swaps-same, end-word, place-element}
+use Rattle.bitvec_words.specs.WholeLaws.{whole_fits}
 use Rattle.bitvec_move.proofs.swapping_shifted.swap_rest.Goals as goal
 
 pub nonzero_div-source : goal.nonzero_div-source
@@ -109,3 +111,63 @@ returns-clause-right_cost g c =
     let whole = rw (c.whole_elements-first.ensures, c.BITS-bits.ensures, lengths) at c.swap_across-last.ensures.right_cost in
     let part = rw (c.after-behind.ensures, c.whole_elements-first.ensures, c.BITS-bits.ensures, lengths, rest) at c.swap_waiting-end.ensures.right_cost in
     record { borrow = search rules; loads = omega arith; stores = omega arith }
+
+pub whole_elements-first-requires : goal.whole_elements-first-requires
+whole_elements-first-requires g c = width-some _ _ g.met.C.Elem.BitStore.width_law c.BITS-bits.ensures
+
+pub tail_part-tail-requires-clause-bits : goal.tail_part-tail-requires-clause-bits
+tail_part-tail-requires-clause-bits g c = width-some _ _ g.met.C.Elem.BitStore.width_law c.BITS-bits.ensures
+
+pub tail_part-tail-requires-clause-end : goal.tail_part-tail-requires-clause-end
+tail_part-tail-requires-clause-end g c = end-word _ _ c.args.left_window c.requires.skipped.span.window
+
+pub returns-then-tail-eq0-clause-swaps : goal.returns-then-tail-eq0-clause-swaps
+returns-then-tail-eq0-clause-swaps g c =
+    let b = g.C.Elem.BitStore.BITS in
+    let full = rw (c.tail_part-tail.ensures, c.BITS-bits.ensures) at c.if-tail-eq0.true in
+    let place = div-add-mod' c.args.left_window.start b in
+    let right_place = div-add-mod' c.args.right_window.start b in
+    let parts = div-add-mod' c.args.left_window.len b in
+    let edge = c.requires.skipped.edge in
+    let lengths = c.requires.skipped.span.lengths in
+    rw (c.store.ensures.numbers, c.whole_elements-first.ensures, c.BITS-bits.ensures)
+    (Swaps-same b _ _ _ _ _ _ _ c.args.left_window c.args.right_window (omega arith) (omega arith) (omega arith) (omega arith)
+    (rw (c.whole_elements-first.ensures, c.BITS-bits.ensures) at c.swap_across-last.ensures.swaps))
+
+pub overflow_mul-count : goal.overflow_mul-count
+overflow_mul-count g c =
+    let fits = whole_fits g.C.Elem.BitStore.BITS c.args.left_window.len (c.args.left_window.len / g.C.Elem.BitStore.BITS) (omega arith) in
+    rw (c.whole_elements-first.ensures, c.BITS-bits.ensures) (omega arith)
+
+pub after-behind-requires-clause-bound : goal.after-behind-requires-clause-bound
+after-behind-requires-clause-bound g c =
+    let lengths = c.requires.skipped.span.lengths in
+    let fits = whole_fits g.C.Elem.BitStore.BITS c.args.left_window.len (c.args.left_window.len / g.C.Elem.BitStore.BITS) (omega arith) in
+    rw (c.whole_elements-first.ensures, c.BITS-bits.ensures) (omega arith)
+
+pub after-behind-requires-clause-end : goal.after-behind-requires-clause-end
+after-behind-requires-clause-end g c = end-word _ _ c.args.right_window c.requires.skipped.span.beside
+
+pub overflow_add-behind : goal.overflow_add-behind
+overflow_add-behind g c =
+    let end = end-word _ _ c.args.right_window c.requires.skipped.span.beside in
+    let lengths = c.requires.skipped.span.lengths in
+    let fits = whole_fits g.C.Elem.BitStore.BITS c.args.left_window.len (c.args.left_window.len / g.C.Elem.BitStore.BITS) (omega arith) in
+    rw (c.after-behind.ensures, c.whole_elements-first.ensures, c.BITS-bits.ensures) (omega arith)
+
+pub overflow_sub-behind : goal.overflow_sub-behind
+overflow_sub-behind g c =
+    let left = rw (c.tail_part-tail.ensures, c.BITS-bits.ensures) at c.if-tail-eq0.false in
+    let parts = div-add-mod' c.args.left_window.len g.C.Elem.BitStore.BITS in
+    let lengths = c.requires.skipped.span.lengths in
+    rw (c.after-behind.ensures, c.whole_elements-first.ensures, c.BITS-bits.ensures) (omega arith)
+
+pub store-requires-2 : goal.store-requires-2
+store-requires-2 g c =
+    let left = rw (c.tail_part-tail.ensures, c.BITS-bits.ensures) at c.if-tail-eq0.false in
+    let parts = div-add-mod' c.args.left_window.len g.C.Elem.BitStore.BITS in
+    let lengths = c.requires.skipped.span.lengths in
+    let kept = c.swap_across-last.ensures.swaps.right_writes.elements in
+    let again = c.swap_waiting-end.ensures.swaps.right_writes.elements in
+    place-element _ _ _ _ c.args.right_window _ g.met.C.Elem.BitStore.width_law c.BITS-bits.ensures c.requires.skipped.span.beside
+    (rw (c.after-behind.ensures, c.whole_elements-first.ensures, c.BITS-bits.ensures) (omega arith)) (omega (arith, length-set {A = ℕ}))

@@ -1,5 +1,5 @@
-use Rattle.std.proofs.Common.{◌≡◌, ◌≤◌, ℕ, ◌+◌, ◌-◌, arith, rules, ◌∙◌, ap, refl}
-use Rattle.std.proofs.lemmas.List.{set-get_or}
+use Rattle.std.proofs.Common.{◌≡◌, ◌≤◌, ℕ, ◌+◌, ◌-◌, arith, rules, ◌∙◌, ap, refl, length}
+use Rattle.std.proofs.lemmas.List.{set-get_or, length-set}
 use Rattle.std.proofs.lemmas.Nat.{mod_below}
 use Rattle.bitvec_words.specs.base.declared.part.Part.{Part}
 use Rattle.bitvec_words.specs.base.Parts.{first_part_of}
@@ -10,6 +10,7 @@ use Rattle.bitvec_move.specs.SwapLaws.{Swaps-joined, beside-head, beside-parted}
 use Rattle.bitvec_words.specs.TouchedLaws.{apart_edge, inside_element, touched-first, touched-head, touched-inside, touched-rest}
 use Rattle.bitvec_move.specs.WithinLaws.{part-first}
 use Rattle.bitvec_move.specs.PlaceLaws.{behind-edge, head-element, head-part, width-some}
+use Rattle.bitvec_move.proofs.MoveLemmas.{end-word, head-fits, head-order, place-element}
 use Rattle.bitvec_move.proofs.swapping_shifted.swap_shifted.Goals as goal
 
 pub nonzero_div-right_window : goal.nonzero_div-right_window
@@ -127,3 +128,54 @@ returns-then-passed-left_window-clause-swaps g c =
     let long : c.args.right_window.len - (c.args.right_window.len - c.len-passed.result) ≡ c.args.right_window.len = omega arith in
     let first = rw (start, place, c.until-met.ensures, c.load-waiting.ensures.numbers, c.load-waiting.ensures.value, c.BITS-bits.ensures, set-get_or, long) at c.swap_waiting-last.ensures.swaps in
     rw (c.store.ensures.numbers, c.until-met.ensures, c.BITS-bits.ensures, long) first
+
+pub len-passed-requires : goal.len-passed-requires
+len-passed-requires g c = head-order _ c.args.left_window _ c.first_part-head.ensures
+
+pub overflow_sub-right_window : goal.overflow_sub-right_window
+overflow_sub-right_window g c =
+    let fits = head-fits _ _ c.args.left_window _ c.len-passed.ensures c.first_part-head.ensures in
+    let lengths = c.requires.span.lengths in
+    omega arith
+
+pub overflow_add-met : goal.overflow_add-met
+overflow_add-met g c =
+    let end = end-word _ _ c.args.right_window c.requires.span.beside in
+    rw c.until-met.ensures (omega arith)
+
+pub overflow_sub-met : goal.overflow_sub-met
+overflow_sub-met g c =
+    let more = c.requires.some in
+    let all = c.if-passed-left_window.true in
+    let lengths = c.requires.span.lengths in
+    rw c.until-met.ensures (omega arith)
+
+pub after-rest-requires-clause-bound : goal.after-rest-requires-clause-bound
+after-rest-requires-clause-bound g c = head-fits _ _ c.args.left_window _ c.len-passed.ensures c.first_part-head.ensures
+
+pub after-rest-requires-clause-end : goal.after-rest-requires-clause-end
+after-rest-requires-clause-end g c = end-word _ _ c.args.left_window c.requires.span.window
+
+pub after-behind-requires-clause-bound : goal.after-behind-requires-clause-bound
+after-behind-requires-clause-bound g c =
+    let fits = head-fits _ _ c.args.left_window _ c.len-passed.ensures c.first_part-head.ensures in
+    let lengths = c.requires.span.lengths in
+    omega arith
+
+pub after-behind-requires-clause-end : goal.after-behind-requires-clause-end
+after-behind-requires-clause-end g c = end-word _ _ c.args.right_window c.requires.span.beside
+
+pub swap_rest-requires-clause-some : goal.swap_rest-requires-clause-some
+swap_rest-requires-clause-some g c =
+    let fits = head-fits _ _ c.args.left_window _ c.len-passed.ensures c.first_part-head.ensures in
+    let left = c.if-passed-left_window.false in
+    rw c.after-rest.ensures (omega arith)
+
+pub store-requires : goal.store-requires
+store-requires g c =
+    let more = c.requires.some in
+    let lengths = c.requires.span.lengths in
+    let all = c.if-passed-left_window.true in
+    let kept = c.swap_waiting-last.ensures.swaps.right_writes.elements in
+    let loaded = ap length c.load-waiting.ensures.numbers in
+    place-element _ _ _ _ c.args.right_window _ g.met.C.Elem.BitStore.width_law c.BITS-bits.ensures c.requires.span.beside (rw c.until-met.ensures (omega arith)) (omega (arith, length-set {A = ℕ}))

@@ -7,6 +7,8 @@ use Rattle.bitvec_words.specs.store.WidthLaws.{width_some}
 use Rattle.bitvec_words.specs.FieldLaws.{list-part, part-stored, range-shifted}
 use Rattle.bitvec_words.specs.TouchedLaws.{touched-one, touched-two}
 use Rattle.bitvec_move.specs.WaitingLaws.{range-moved, range-moved_across, waiting-across, waiting-beyond, waiting-front, waiting-inside}
+use Rattle.bitvec_move.specs.PlaceLaws.{width-some}
+use Rattle.bitvec_move.proofs.MoveLemmas.{place-element, second-element, second-word}
 use Rattle.bitvec_move.proofs.swapping_shifted.swap_waiting.Goals as goal
 
 pub returns-then-end-bits-clause-swaps : goal.returns-then-end-bits-clause-swaps
@@ -95,3 +97,77 @@ returns-clause-right_cost g c =
     let lengths = c.requires.lengths in
     let two = touched-two g.C.Elem.BitStore.BITS c.args.from.start c.args.from.len (width_some _ g.met.C.Elem.BitStore.width_law) (omega arith) over in
     record { borrow = search rules; loads = omega arith; stores = omega arith }
+
+pub nonzero_div-index : goal.nonzero_div-index
+nonzero_div-index g c = let some = width-some _ _ g.met.C.Elem.BitStore.width_law c.BITS-bits.ensures in omega arith
+
+pub nonzero_rem-skip : goal.nonzero_rem-skip
+nonzero_rem-skip g c = let some = width-some _ _ g.met.C.Elem.BitStore.width_law c.BITS-bits.ensures in omega arith
+
+pub toward_start-moved-requires : goal.toward_start-moved-requires
+toward_start-moved-requires g c =
+    let bound = c.requires.element.bound in
+    let lengths = c.requires.lengths in
+    let more = c.requires.some in
+    omega arith
+
+pub toward_start-front-requires : goal.toward_start-front-requires
+toward_start-front-requires g c = rw c.BITS-bits.ensures (mod_below c.args.from.start g.C.Elem.BitStore.BITS (width_some _ g.met.C.Elem.BitStore.width_law))
+
+pub toward_end-new-requires : goal.toward_end-new-requires
+toward_end-new-requires g c =
+    let bound = c.requires.element.bound in
+    let lengths = c.requires.lengths in
+    let more = c.requires.some in
+    omega arith
+
+pub toward_end-back-requires : goal.toward_end-back-requires
+toward_end-back-requires g c = rw c.BITS-bits.ensures (mod_below c.args.from.start g.C.Elem.BitStore.BITS (width_some _ g.met.C.Elem.BitStore.width_law))
+
+pub overflow_add-index : goal.overflow_add-index
+overflow_add-index g c =
+    let below = second-word _ _ _ c.args.from g.met.C.Elem.BitStore.width_law c.BITS-bits.ensures c.requires.beside c.if-end-bits.false in
+    omega arith
+
+pub load-next-requires : goal.load-next-requires
+load-next-requires g c = second-element _ _ _ _ c.args.from g.met.C.Elem.BitStore.width_law c.BITS-bits.ensures c.requires.beside c.if-end-bits.false refl
+
+pub joined-front-requires-clause-some : goal.joined-front-requires-clause-some
+joined-front-requires-clause-some g c =
+    let over = c.if-end-bits.false in
+    let is = c.BITS-bits.ensures in
+    let bound = c.requires.element.bound in
+    let lengths = c.requires.lengths in
+    omega arith
+
+pub joined-front-requires-clause-bound : goal.joined-front-requires-clause-bound
+joined-front-requires-clause-bound g c = rw c.BITS-bits.ensures (mod_below c.args.from.start g.C.Elem.BitStore.BITS (width_some _ g.met.C.Elem.BitStore.width_law))
+
+pub toward_end-new-requires-2 : goal.toward_end-new-requires-2
+toward_end-new-requires-2 g c =
+    let bound = c.requires.element.bound in
+    let lengths = c.requires.lengths in
+    let more = c.requires.some in
+    omega arith
+
+pub toward_end-back-requires-2 : goal.toward_end-back-requires-2
+toward_end-back-requires-2 g c = rw c.BITS-bits.ensures (mod_below c.args.from.start g.C.Elem.BitStore.BITS (width_some _ g.met.C.Elem.BitStore.width_law))
+
+pub store-requires-3 : goal.store-requires-3
+store-requires-3 g c =
+    let more = c.requires.some in
+    rw c.load-next.ensures.numbers (place-element _ _ _ _ c.args.from _ g.met.C.Elem.BitStore.width_law c.BITS-bits.ensures c.requires.beside (omega arith) refl)
+
+pub overflow_sub-bits : goal.overflow_sub-bits
+overflow_sub-bits g c =
+    let below = mod_below c.args.from.start c.BITS-bits.result (width-some _ _ g.met.C.Elem.BitStore.width_law c.BITS-bits.ensures) in
+    omega arith
+
+pub toward_start-carried-requires : goal.toward_start-carried-requires
+toward_start-carried-requires g c =
+    let below = mod_below c.args.from.start g.C.Elem.BitStore.BITS (width_some _ g.met.C.Elem.BitStore.width_law) in
+    let over = c.if-end-bits.false in
+    let is = c.BITS-bits.ensures in
+    let bound = c.requires.element.bound in
+    let lengths = c.requires.lengths in
+    omega arith

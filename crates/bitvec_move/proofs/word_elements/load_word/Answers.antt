@@ -6,6 +6,10 @@ use Rattle.bitvec_words.specs.base.MemoryLaws.{element-range, element_fits, leng
 use Rattle.bitvec_words.specs.base.Window.{window_of}
 use Rattle.bitvec_words.specs.FieldLaws.{element_of}
 use Rattle.bitvec_move.specs.WordLaws.{word-across, word_span, word_whole}
+use Rattle.bitvec_move.specs.PlaceLaws.{width-some}
+use Rattle.bitvec_words.specs.Elements.{elements_window}
+use Rattle.bitvec_move.specs.SettledLaws.{list-same}
+use Rattle.bitvec_move.proofs.MoveLemmas.{word-elements, word-next, word-next_word}
 use Rattle.bitvec_move.proofs.word_elements.load_word.Goals as goal
 
 pub returns-then-skip-eq0-clause-reads : goal.returns-then-skip-eq0-clause-reads
@@ -54,3 +58,44 @@ returns-clause-reads g c =
     let reads = c.load_elements-word.ensures.reads in
     let next = c.load-next.ensures in
     record { numbers = next.numbers ∙ reads.numbers; borrow = next.borrow ∙ reads.borrow; loads = omega arith; stores = next.stores ∙ reads.stores }
+
+pub nonzero_div-first : goal.nonzero_div-first
+nonzero_div-first g c = let some = width-some _ _ g.met.C.Elem.BitStore.width_law c.BITS-bits.ensures in omega arith
+
+pub nonzero_rem-skip : goal.nonzero_rem-skip
+nonzero_rem-skip g c = let some = width-some _ _ g.met.C.Elem.BitStore.width_law c.BITS-bits.ensures in omega arith
+
+pub load_elements-word-requires-clause-window : goal.load_elements-word-requires-clause-window
+load_elements-word-requires-clause-window g c = word-elements _ _ _ c.args.window g.met.C.Elem.BitStore.width_law c.BITS-bits.ensures c.requires.window c.requires.size c.requires.narrow
+
+pub returns-then-skip-eq0-clause-value : goal.returns-then-skip-eq0-clause-value
+returns-then-skip-eq0-clause-value g c =
+    let b = g.C.Elem.BitStore.BITS in
+    let size = c.requires.size in
+    let narrow = c.requires.narrow in
+    let whole = word_whole b g.met.C.Elem.BitStore.width_law (omega arith) in
+    let place = div-add-mod' c.args.window.start b in
+    let edge = rw c.BITS-bits.ensures at c.if-skip-eq0.true in
+    (rw c.BITS-bits.ensures at c.load_elements-word.ensures.value) ∙ list-same b _ _ c.args.window (elements_window b (c.args.window.start / b) (64 / b)) (omega arith) (omega arith)
+
+pub nonzero_div-bits : goal.nonzero_div-bits
+nonzero_div-bits g c = let some = width-some _ _ g.met.C.Elem.BitStore.width_law c.BITS-bits.ensures in omega arith
+
+pub overflow_add-first : goal.overflow_add-first
+overflow_add-first g c =
+    let here = word-next_word _ _ _ c.args.window g.met.C.Elem.BitStore.width_law c.BITS-bits.ensures c.requires.window c.requires.size c.requires.narrow (let left = c.if-skip-eq0.false in omega arith) in
+    omega arith
+
+pub load-next-requires : goal.load-next-requires
+load-next-requires g c = word-next _ _ _ _ c.args.window g.met.C.Elem.BitStore.width_law c.BITS-bits.ensures c.requires.window c.requires.size c.requires.narrow (let left = c.if-skip-eq0.false in omega arith) (ap length c.load_elements-word.ensures.reads.numbers)
+
+pub moved-behind-requires-clause-target : goal.moved-behind-requires-clause-target
+moved-behind-requires-clause-target g c =
+    let narrow = c.requires.narrow in
+    rw c.BITS-bits.ensures (omega arith)
+
+pub joined-requires-clause-bound : goal.joined-requires-clause-bound
+joined-requires-clause-bound g c =
+    let below = mod_below c.args.window.start c.BITS-bits.result (width-some _ _ g.met.C.Elem.BitStore.width_law c.BITS-bits.ensures) in
+    let narrow = c.requires.narrow in
+    omega arith

@@ -1,4 +1,4 @@
-use Rattle.std.proofs.Common.{ℕ, ◌+◌, ◌-◌, ◌/◌, ◌%◌, ◌<◌, arith, ap, sym, ◌∙◌, length, take, ◌++◌, List, Bool}
+use Rattle.std.proofs.Common.{ℕ, ◌+◌, ◌-◌, ◌/◌, ◌%◌, ◌<◌, arith, ap, sym, ◌∙◌, length, take, ◌++◌, List, Bool, refl}
 use Rattle.std.proofs.lemmas.Nat.{div-add-mod', mod_below}
 use Rattle.bitvec_words.specs.store.WidthLaws.{width_some}
 use Rattle.bitvec_words.specs.base.declared.part.Part.{Part}
@@ -11,6 +11,9 @@ use Rattle.bitvec_words.specs.Elements.{elements_window}
 use Rattle.bitvec_words.specs.FieldLaws.{element_of}
 use Rattle.bitvec_words.specs.TouchedLaws.{part_loads-most}
 use Rattle.bitvec_move.specs.WordLaws.{Writes-behind, first-values, length-first, word-behind, word-tail, word_span, word_whole}
+use Rattle.bitvec_move.specs.PlaceLaws.{width-some}
+use Rattle.bitvec_move.specs.SettledLaws.{Writes-same}
+use Rattle.bitvec_move.proofs.MoveLemmas.{place-element, word-elements, word-next, word-next_word}
 use Rattle.bitvec_move.proofs.word_elements.store_word.Goals as goal
 
 pub returns-then-skip-eq0-clause-cost : goal.returns-then-skip-eq0-clause-cost
@@ -72,3 +75,81 @@ returns-clause-cost g c =
     let cost = rw c.BITS-bits.ensures at c.store_part.ensures.cost in
     let most = part_loads-most g.C.Elem.BitStore.BITS (record { element = c.args.window.start / g.C.Elem.BitStore.BITS + 64 / g.C.Elem.BitStore.BITS; from = 0; to = c.args.window.start % g.C.Elem.BitStore.BITS }) in
     record { borrow = cost.borrow ∙ stored.borrow ∙ head.borrow; loads = omega arith; stores = omega arith }
+
+pub nonzero_div-first : goal.nonzero_div-first
+nonzero_div-first g c = let some = width-some _ _ g.met.C.Elem.BitStore.width_law c.BITS-bits.ensures in omega arith
+
+pub nonzero_rem-skip : goal.nonzero_rem-skip
+nonzero_rem-skip g c = let some = width-some _ _ g.met.C.Elem.BitStore.width_law c.BITS-bits.ensures in omega arith
+
+pub store_elements-requires-clause-window : goal.store_elements-requires-clause-window
+store_elements-requires-clause-window g c = word-elements _ _ _ c.args.window g.met.C.Elem.BitStore.width_law c.BITS-bits.ensures c.requires.window c.requires.size c.requires.narrow
+
+pub returns-then-skip-eq0-clause-writes : goal.returns-then-skip-eq0-clause-writes
+returns-then-skip-eq0-clause-writes g c =
+    let b = g.C.Elem.BitStore.BITS in
+    let size = c.requires.size in
+    let narrow = c.requires.narrow in
+    let whole = word_whole b g.met.C.Elem.BitStore.width_law (omega arith) in
+    let place = div-add-mod' c.args.window.start b in
+    let edge = rw c.BITS-bits.ensures at c.if-skip-eq0.true in
+    Writes-same (elements_window b (c.args.window.start / b) (64 / b)) c.args.window (omega arith) (omega arith) (rw c.BITS-bits.ensures at c.store_elements.ensures.writes)
+
+pub load-head-requires : goal.load-head-requires
+load-head-requires g c =
+    let size = c.requires.size in
+    place-element _ _ _ _ c.args.window _ g.met.C.Elem.BitStore.width_law c.BITS-bits.ensures c.requires.window (omega arith) refl
+
+pub moved-kept-requires-clause-target : goal.moved-kept-requires-clause-target
+moved-kept-requires-clause-target g c =
+    let narrow = c.requires.narrow in
+    rw c.BITS-bits.ensures (omega arith)
+
+pub toward_end-requires : goal.toward_end-requires
+toward_end-requires g c =
+    let below = mod_below c.args.window.start c.BITS-bits.result (width-some _ _ g.met.C.Elem.BitStore.width_law c.BITS-bits.ensures) in
+    let narrow = c.requires.narrow in
+    omega arith
+
+pub merged-front-requires-clause-bound : goal.merged-front-requires-clause-bound
+merged-front-requires-clause-bound g c =
+    let below = mod_below c.args.window.start c.BITS-bits.result (width-some _ _ g.met.C.Elem.BitStore.width_law c.BITS-bits.ensures) in
+    let narrow = c.requires.narrow in
+    omega arith
+
+pub store_elements-requires-2-clause-window : goal.store_elements-requires-2-clause-window
+store_elements-requires-2-clause-window g c = rw c.load-head.ensures.numbers (word-elements _ _ _ c.args.window g.met.C.Elem.BitStore.width_law c.BITS-bits.ensures c.requires.window c.requires.size c.requires.narrow)
+
+pub nonzero_div-tail : goal.nonzero_div-tail
+nonzero_div-tail g c = let some = width-some _ _ g.met.C.Elem.BitStore.width_law c.BITS-bits.ensures in omega arith
+
+pub overflow_add-tail : goal.overflow_add-tail
+overflow_add-tail g c =
+    let here = word-next_word _ _ _ c.args.window g.met.C.Elem.BitStore.width_law c.BITS-bits.ensures c.requires.window c.requires.size c.requires.narrow (let left = c.if-skip-eq0.false in omega arith) in
+    omega arith
+
+pub overflow_sub-skip : goal.overflow_sub-skip
+overflow_sub-skip g c =
+    let below = mod_below c.args.window.start c.BITS-bits.result (width-some _ _ g.met.C.Elem.BitStore.width_law c.BITS-bits.ensures) in
+    let narrow = c.requires.narrow in
+    omega arith
+
+pub moved-end-requires-clause-source : goal.moved-end-requires-clause-source
+moved-end-requires-clause-source g c =
+    let below = mod_below c.args.window.start c.BITS-bits.result (width-some _ _ g.met.C.Elem.BitStore.width_law c.BITS-bits.ensures) in
+    let narrow = c.requires.narrow in
+    omega arith
+
+pub moved-end-requires-clause-target : goal.moved-end-requires-clause-target
+moved-end-requires-clause-target g c =
+    let below = mod_below c.args.window.start c.BITS-bits.result (width-some _ _ g.met.C.Elem.BitStore.width_law c.BITS-bits.ensures) in
+    let is = c.BITS-bits.ensures in
+    omega arith
+
+pub store_part-requires : goal.store_part-requires
+store_part-requires g c =
+    let below = mod_below c.args.window.start c.BITS-bits.result (width-some _ _ g.met.C.Elem.BitStore.width_law c.BITS-bits.ensures) in
+    let is = c.BITS-bits.ensures in
+    let kept = ap length c.load-head.ensures.numbers in
+    let stored = c.store_elements-2.ensures.writes.elements in
+    record { element = word-next _ _ _ _ c.args.window g.met.C.Elem.BitStore.width_law c.BITS-bits.ensures c.requires.window c.requires.size c.requires.narrow (let left = c.if-skip-eq0.false in omega arith) (stored ∙ kept); order = omega arith; bound = omega arith }

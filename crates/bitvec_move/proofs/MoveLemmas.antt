@@ -1,0 +1,168 @@
+-- What proofs of copies, moves and exchanges need of windows and costs, said by plain numbers.
+use Rattle.std.proofs.Common.{◌≡◌, ℕ, zero, suc, ◌+◌, ◌-◌, ◌*◌, ◌/◌, ◌%◌, ◌^◌, ◌<◌, ◌≤◌, true, Bool, List, length, arith, refl}
+use Rattle.std.proofs.Math.Nat.{mul-le-mul_left}
+use Rattle.std.proofs.lemmas.Nat.{div-add-mod', div_below}
+use Rattle.bitvec_words.specs.base.declared.part.Part.{Part}
+use Rattle.bitvec_words.specs.base.declared.window.Window.{Window}
+use Rattle.bitvec_words.specs.base.Memory.{Edits, HasWindow}
+use Rattle.bitvec_words.specs.base.Parts.{first_part_of}
+use Rattle.bitvec_words.specs.base.Spans.{HasSpan}
+use Rattle.bitvec_words.specs.base.Window.{window_after, window_until}
+use Rattle.bitvec_words.specs.base.WritesLaws.{HasWindow-kept}
+use Rattle.bitvec_words.specs.store.Width.{IsWidth}
+use Rattle.bitvec_words.specs.store.WidthLaws.{width_some}
+use Rattle.bitvec_words.specs.walk.Cost.{read_loads, touched_count, work_steps, write_loads, write_stores}
+use Rattle.bitvec_words.specs.walk.CostLaws.{touched_read, touched_stored}
+use Rattle.bitvec_words.specs.WholeLaws.{HasWindow-part}
+use Rattle.bitvec_words.specs.FieldLaws.{element_of}
+use Rattle.bitvec_words.specs.WordLaws.{fits-word}
+use Rattle.bitvec_words.specs.Elements.{elements_window}
+use Rattle.bitvec_move.specs.Moves.{Copies, Swaps}
+use Rattle.bitvec_move.specs.PlaceLaws.{tail-inside}
+use Rattle.bitvec_move.specs.WordLaws.{word_whole}
+
+-- ---- numbers
+
+-- a window's end is a `usize`
+pub end-word : (b : ℕ) (xs : List ℕ) (window : Window) → HasWindow b xs window → window.start + window.len < 2 ^ 64
+end-word b xs window has =
+    let fits = has.fits in
+    let len = has.within.len in
+    omega arith
+
+-- the element of a place in a window, where the memory may have changed
+pub place-element : (b w : ℕ) (xs ys : List ℕ) (window : Window) (e : ℕ) → IsWidth b → w ≡ b → HasWindow b xs window → e < window.start + window.len → length ys ≡ length xs → e / w < length ys
+place-element b w xs ys window e width is has below kept =
+    let len = has.within.len in
+    let all : e < length xs * b = omega arith in
+    rw (is, kept) (div_below e b (length xs) (width_some b width) all)
+
+-- the number of the elements that a window touches fits a `usize`
+pub count-word : (b w : ℕ) (xs : List ℕ) (window : Window) → IsWidth b → w ≡ b → HasWindow b xs window → window.len / w + 1 < 2 ^ 64
+count-word b w xs window width is has =
+    let fits = has.fits in
+    let len = has.within.len in
+    let parts = div-add-mod' window.len b in
+    let most = mul-le-mul_left (window.len / b) (width_some b width) in
+    rw is (omega arith)
+
+some-factor : (q w n : ℕ) → q * w ≡ n → 0 < n → 0 < q
+some-factor zero w n all more = absurd (omega arith)
+some-factor (suc q) w n all more = omega arith
+
+-- bits of whole elements only
+pub whole-some : (w n : ℕ) → n % w ≡ 0 → 0 < n → 0 < n / w
+whole-some w n full more = let parts = div-add-mod' n w in some-factor (n / w) w n (omega arith) more
+
+pub head-order : (w : ℕ) (window : Window) (part : Part) → part ≡ first_part_of w window → part.from ≤ part.to
+head-order w window part is = rw is (omega arith)
+
+-- the first part has no more bits than the window
+pub head-fits : (t w : ℕ) (window : Window) (part : Part) → t ≡ part.to - part.from → part ≡ first_part_of w window → t ≤ window.len
+head-fits t w window part step is =
+    let long = rw is at step in
+    omega arith
+
+pub edges-loads : (b n : ℕ) → 0 < n → 2 ≤ write_loads b true n
+unfolding write_loads work_steps
+edges-loads b n more =
+    let some : 1 ≤ (n + 63) / 64 = omega arith in
+    omega arith
+
+-- the elements that n bits touch are some of the loads and stores of as many bits
+pub touched-read : (b s n m : ℕ) → 0 < b → m ≡ n → touched_count b s n ≤ read_loads b true m
+touched-read b s n m some same = rw same (touched_read b true s n some)
+
+pub touched-stored : (b s n m : ℕ) → 0 < b → m ≡ n → touched_count b s n ≤ write_stores b true m
+touched-stored b s n m some same = rw same (touched_stored b true s n some)
+
+-- ---- the same windows, told in another way
+
+pub Copies-same : (b : ℕ) (at : ℕ → ℕ → ℕ) (old new other : List ℕ) (part source to from : Window)
+    → to.start ≡ part.start → to.len ≡ part.len → from.start ≡ source.start → from.len ≡ source.len
+    → Copies b at old new part other source → Copies b at old new to other from
+Copies-same b at old new other part source to from start len source_start source_len copies = rw (start, len, source_start, source_len) copies
+
+pub Edits-same : (b : ℕ) (at : ℕ → ℕ → ℕ) (old new : List ℕ) (part window : Window) (edit : List Bool → List Bool) → window.start ≡ part.start → window.len ≡ part.len
+    → Edits b at old new part edit → Edits b at old new window edit
+Edits-same b at old new part window edit start len edits = rw (start, len) edits
+
+pub Swaps-same : (b : ℕ) (at : ℕ → ℕ → ℕ) (xs new_xs ys new_ys : List ℕ) (part source left right : Window)
+    → left.start ≡ part.start → left.len ≡ part.len → right.start ≡ source.start → right.len ≡ source.len
+    → Swaps b at xs new_xs ys new_ys part source → Swaps b at xs new_xs ys new_ys left right
+Swaps-same b at xs new_xs ys new_ys part source left right start len source_start source_len swaps = record {
+  writes = Copies-same b at xs new_xs ys part source left right start len source_start source_len swaps.writes;
+  right_writes = Copies-same b at ys new_ys xs source part right left source_start source_len start len swaps.right_writes;
+}
+
+-- ---- what is behind t bits, and what is before as many at the end, where the memories may have changed
+
+pub after-span : (b : ℕ) (xs now ys others : List ℕ) (left right : Window) (t : ℕ) → HasSpan b xs ys left right → length now ≡ length xs → length others ≡ length ys
+    → t ≤ left.len → HasSpan b now others (window_after t left) (window_after t right)
+after-span b xs now ys others left right t has kept right_kept fits =
+    let lengths = has.lengths in
+    record {
+      window = HasWindow-part b now left (window_after t left) (HasWindow-kept b xs now left has.window kept) (omega arith) (omega arith);
+      beside = HasWindow-part b others right (window_after t right) (HasWindow-kept b ys others right has.beside right_kept) (omega arith) (omega arith);
+      lengths = omega arith;
+    }
+
+pub until-span : (b : ℕ) (xs now ys others : List ℕ) (left right : Window) (t : ℕ) → HasSpan b xs ys left right → length now ≡ length xs → length others ≡ length ys
+    → t ≤ left.len → HasSpan b now others (window_until t left) (window_until t right)
+until-span b xs now ys others left right t has kept right_kept fits =
+    let lengths = has.lengths in
+    record {
+      window = HasWindow-part b now left (window_until t left) (HasWindow-kept b xs now left has.window kept) (omega arith) (omega arith);
+      beside = HasWindow-part b others right (window_until t right) (HasWindow-kept b ys others right has.beside right_kept) (omega arith) (omega arith);
+      lengths = omega arith;
+    }
+
+-- ---- the elements that a window touches, where it begins with one and ends inside one
+
+pub HasWindow-touched : (b w : ℕ) (xs : List ℕ) (window : Window) → IsWidth b → w ≡ b → HasWindow b xs window → window.start % b ≡ 0 → 0 < window.len % w
+    → HasWindow b xs (elements_window b (window.start / w) (window.len / w + 1))
+HasWindow-touched b w xs window width is has edge left =
+    let low = has.within.start in
+    let last = rw is at (tail-inside b w xs window window.len width is has (omega arith) left) in
+    let order = mul-le-mul_left b last in
+    rw is (record { fits = has.fits; within = record { start = omega arith; len = omega arith } })
+
+-- the elements of a word, from the first one that a window of 64 bits touches
+pub word-elements : (b w : ℕ) (xs : List ℕ) (window : Window) → IsWidth b → w ≡ b → HasWindow b xs window → window.len ≡ 64 → b < 64
+    → HasWindow b xs (elements_window b (window.start / w) (64 / b))
+word-elements b w xs window width is has size narrow =
+    let low = has.within.start in
+    let high = has.within.len in
+    let whole = word_whole b width (omega arith) in
+    let place = div-add-mod' window.start b in
+    rw is (record { fits = has.fits; within = record { start = omega arith; len = omega arith } })
+
+-- and the one behind them, where the window begins inside an element
+pub word-next : (b w : ℕ) (xs ys : List ℕ) (window : Window) → IsWidth b → w ≡ b → HasWindow b xs window → window.len ≡ 64 → b < 64 → 0 < window.start % w → length ys ≡ length xs
+    → window.start / w + 64 / w < length ys
+word-next b w xs ys window width is has size narrow inside same =
+    let high = has.within.len in
+    let whole = word_whole b width (omega arith) in
+    let place = div-add-mod' window.start b in
+    let more = rw is at inside in
+    rw (is, same) (element_of b (window.start / b + 64 / b) (window.start % b - 1) (length xs) (omega arith))
+
+pub word-next_word : (b w : ℕ) (xs : List ℕ) (window : Window) → IsWidth b → w ≡ b → HasWindow b xs window → window.len ≡ 64 → b < 64 → 0 < window.start % w
+    → window.start / w + 64 / w < 2 ^ 64
+word-next_word b w xs window width is has size narrow inside =
+    let here = word-next b w xs xs window width is has size narrow inside refl in
+    fits-word b (window.start / w + 64 / w) xs window width has (omega arith)
+
+-- the second element of a window that has bits behind its first one
+pub second-element : (b w : ℕ) (xs ys : List ℕ) (window : Window) → IsWidth b → w ≡ b → HasWindow b xs window → w < window.start % w + window.len → length ys ≡ length xs
+    → window.start / w + 1 < length ys
+second-element b w xs ys window width is has over same =
+    let high = has.within.len in
+    let place = div-add-mod' window.start b in
+    let more = rw is at over in
+    rw (is, same) (element_of b (window.start / b + 1) 0 (length xs) (omega arith))
+
+pub second-word : (b w : ℕ) (xs : List ℕ) (window : Window) → IsWidth b → w ≡ b → HasWindow b xs window → w < window.start % w + window.len → window.start / w + 1 < 2 ^ 64
+second-word b w xs window width is has over =
+    let here = second-element b w xs xs window width is has over refl in
+    fits-word b (window.start / w + 1) xs window width has (omega arith)
