@@ -1,6 +1,7 @@
 -- Windows written a stretch at a time.
-use Rattle.std.specs.Prelude.{◌≡◌, ℕ, ◌+◌, ◌-◌, ◌<◌, ◌≤◌, min, Bool, false, List, length, slice_index_or, slice_range, take, refl}
+use Rattle.std.specs.Prelude.{◌≡◌, ℕ, ◌+◌, ◌-◌, ◌*◌, ◌<◌, ◌≤◌, min, Bool, false, List, length, slice_index_or, slice_range, take, refl}
 use Rattle.std.proofs.Common.{arith, rules, sym, ◌∙◌, ap, subst, ⊎_elim}
+use Rattle.std.proofs.Math.Nat.{mul-le-mul_left}
 use Rattle.std.proofs.lemmas.Bool.{cases_lt}
 use Rattle.std.proofs.lemmas.List.{places, same_lists}
 use Rattle.bitvec_windows.specs.Direction.{Agrees}
@@ -10,8 +11,10 @@ use Rattle.bitvec_windows.specs.base.ListsLaws.{get-combined, length-combined}
 use Rattle.bitvec_windows.specs.base.Memory.{Edits, HasWindow, Writes, element_bits, list_in}
 use Rattle.bitvec_windows.specs.base.Window.{window_range, write_window}
 use Rattle.bitvec_windows.specs.base.WriteLaws.{get-slice_range, length-slice_range}
-use Rattle.bitvec_windows.specs.base.WritesLaws.{HasWindow-range, Writes-empty, Writes-is, Writes-join, length-list, list-behind, list-range}
+use Rattle.bitvec_windows.specs.base.WritesLaws.{HasWindow-kept, HasWindow-range, Writes-empty, Writes-is, Writes-join, length-list, list-behind, list-range}
 use Rattle.bitvec_windows.specs.moves.WordLaws.{take-all}
+use Rattle.bitvec_windows.specs.store.Width.{IsWidth}
+use Rattle.bitvec_windows.specs.store.WidthLaws.{at_each_width}
 use Rattle.bitvec_windows.specs.words.Field.{padded}
 use Rattle.bitvec_windows.specs.words.MovedLaws.{take-field, take-range}
 use Rattle.bitvec_windows.proofs.DifferenceLemmas.{in_padded, past_padded}
@@ -36,6 +39,21 @@ List-agrees b at other xs window d way old new to some agrees writes = Writes-is
 pub Edits-agrees : (b : ℕ) (at other : ℕ → ℕ → ℕ) (old new : List ℕ) (window : Window) (edit : List Bool → List Bool) → 0 < b → Agrees b at other → Edits b other old new window edit → Edits b at old new window edit
 Edits-agrees b at other old new window edit some agrees writes =
     Writes-is b at old new window _ _ (Writes-agrees b at other old new window _ some agrees writes) (ap edit (sym (list-agrees b at other old window some agrees)))
+
+-- a range of a window lies in the memory, also after a write
+pub range-inside : (b : ℕ) (xs : List ℕ) (window part : Window) (from to : ℕ) → HasWindow b xs window → part ≡ window_range window from to → from ≤ to → to ≤ window.len → HasWindow b xs part
+range-inside b xs window part from to has is order bound = rw is (HasWindow-range b xs window from to has order bound)
+
+pub range-kept : (b : ℕ) (xs ys : List ℕ) (window part : Window) (from to : ℕ) → HasWindow b xs window → length ys ≡ length xs → part ≡ window_range window from to → from ≤ to → to ≤ window.len → HasWindow b ys part
+range-kept b xs ys window part from to has long is order bound = range-inside b ys window part from to (HasWindow-kept b xs ys window has long) is order bound
+
+-- the first bits of the few elements that are held aside
+pub held-inside : (b : ℕ) (xs : List ℕ) (n count : ℕ) → IsWidth b → length xs ≡ n → n ≤ 16 → count ≤ b * n → HasWindow b xs (record { start = 0; len = count })
+held-inside b xs n count width long few fits =
+    let most : b ≤ 128 = at_each_width (λ m. m ≤ 128) (omega arith) (omega arith) (omega arith) (omega arith) (omega arith) b width in
+    let room = mul-le-mul_left b few in
+    let all : b * length xs ≡ b * n = ap (λ (m : ℕ). b * m) long in
+    record { fits = omega arith; within = record { start = omega arith; len = omega arith } }
 
 -- nothing yet
 pub stretch-none : (b : ℕ) (at : ℕ → ℕ → ℕ) (xs ys : List ℕ) (window : Window) (list : List Bool) → HasWindow b xs window → ys ≡ xs → Writes b at xs ys (until window 0) (take 0 list)

@@ -5,7 +5,7 @@ use Rattle.bitvec_windows.specs.base.Memory.{list_in}
 use Rattle.bitvec_windows.specs.base.WritesLaws.{length-list, list-range}
 use Rattle.bitvec_windows.specs.words.Field.{padded}
 use Rattle.bitvec_windows.specs.words.Operator.{operator}
-use Rattle.bitvec_windows.proofs.StoreLemmas.{combined-stretch, stretch-all, stretch-next, stretch-none, stretch-old}
+use Rattle.bitvec_windows.proofs.StoreLemmas.{combined-stretch, range-inside, range-kept, stretch-all, stretch-next, stretch-none, stretch-old}
 use Rattle.bitvec_windows.proofs.combining.combine_words.Goals as goal
 
 pub loop-from-init : goal.loop-from-init
@@ -17,6 +17,22 @@ loop-from-init g c =
       writes = stretch-none _ _ _ _ c.args.left_window (combined (operator c.args.op) list other) c.requires.window c.new-cells.ensures.numbers;
       borrow = search rules;
     }
+
+pub word_end-to-requires-clause-fits : goal.word_end-to-requires-clause-fits
+word_end-to-requires-clause-fits g c = omega arith
+
+pub load_bits-word-requires-clause-window : goal.load_bits-word-requires-clause-window
+load_bits-word-requires-clause-window g c = range-kept _ _ _ c.args.left_window _ _ _ c.requires.window c.loop-from.invariant.writes.elements c.range-part.ensures (omega arith) c.word_end-to.ensures.bound
+
+pub window_word-right_word-requires-clause-window : goal.window_word-right_word-requires-clause-window
+window_word-right_word-requires-clause-window g c = range-inside _ _ c.args.right_window _ _ _ c.requires.right_window c.range-other.ensures (omega arith) (omega arith)
+
+pub window_word-right_word-requires-clause-bound : goal.window_word-right_word-requires-clause-bound
+window_word-right_word-requires-clause-bound g c = rw c.range-other.ensures (omega arith)
+
+pub store_bits-requires-clause-window : goal.store_bits-requires-clause-window
+store_bits-requires-clause-window g c =
+    rw c.load_bits-word.ensures.reads.numbers (range-kept _ _ _ c.args.left_window _ _ _ c.requires.window c.loop-from.invariant.writes.elements c.range-part.ensures (omega arith) c.word_end-to.ensures.bound)
 
 pub loop-from-preserved : goal.loop-from-preserved
 loop-from-preserved g c =

@@ -2,7 +2,7 @@ use Rattle.std.proofs.Common.{arith, ap, map, refl, rules, sym, ◌∙◌}
 use Rattle.bitvec_windows.specs.base.Memory.{list_in}
 use Rattle.bitvec_windows.specs.base.WritesLaws.{length-list}
 use Rattle.bitvec_windows.specs.words.Field.{padded}
-use Rattle.bitvec_windows.proofs.StoreLemmas.{stored-stretch, stretch-all, stretch-next, stretch-none, stretch-old}
+use Rattle.bitvec_windows.proofs.StoreLemmas.{range-kept, stored-stretch, stretch-all, stretch-next, stretch-none, stretch-old}
 use Rattle.bitvec_windows.proofs.swapping.swap_words.Goals as goal
 
 pub loop-from-init : goal.loop-from-init
@@ -16,6 +16,25 @@ loop-from-init g c =
       borrow = search rules;
       right_borrow = search rules;
     }
+
+pub word_end-to-requires-clause-fits : goal.word_end-to-requires-clause-fits
+word_end-to-requires-clause-fits g c = omega arith
+
+pub load_bits-word-requires-clause-window : goal.load_bits-word-requires-clause-window
+load_bits-word-requires-clause-window g c =
+    range-kept _ _ _ c.args.left_window _ _ _ c.requires.window c.loop-from.invariant.writes.elements c.range-part.ensures (omega arith) c.word_end-to.ensures.bound
+
+pub load_bits-right_word-requires-clause-window : goal.load_bits-right_word-requires-clause-window
+load_bits-right_word-requires-clause-window g c =
+    range-kept _ _ _ c.args.right_window _ _ _ c.requires.right_window c.loop-from.invariant.right_writes.elements c.range-other.ensures (omega arith) (omega arith)
+
+pub store_bits-requires-clause-window : goal.store_bits-requires-clause-window
+store_bits-requires-clause-window g c =
+    rw c.load_bits-word.ensures.reads.numbers (range-kept _ _ _ c.args.left_window _ _ _ c.requires.window c.loop-from.invariant.writes.elements c.range-part.ensures (omega arith) c.word_end-to.ensures.bound)
+
+pub store_bits-requires-in-loop-from-clause-window : goal.store_bits-requires-in-loop-from-clause-window
+store_bits-requires-in-loop-from-clause-window g c =
+    rw c.load_bits-right_word.ensures.reads.numbers (range-kept _ _ _ c.args.right_window _ _ _ c.requires.right_window c.loop-from.invariant.right_writes.elements c.range-other.ensures (omega arith) (omega arith))
 
 pub loop-from-preserved : goal.loop-from-preserved
 loop-from-preserved g c =
