@@ -150,3 +150,20 @@ stretch-old b at old mid window list from to has order bound writes =
     let whole : HasWindow b old (until window from) = record { fits = has.fits; within = record { start = start; len = omega arith } } in
     list-behind b at old mid (until window from) (window_range window from to) list whole (HasWindow-range b old window from to has order bound) (omega arith) writes
     ∙ list-range b at old window from to has order bound
+
+-- the word that is loaded of it
+pub stretch-loaded : (b : ℕ) (at : ℕ → ℕ → ℕ) (old mid : List ℕ) (window part : Window) (list : List Bool) (from to word : ℕ) → HasWindow b old window → from ≤ to → to ≤ window.len → part ≡ window_range window from to → Writes b at old mid (until window from) list
+    → element_bits 64 at word ≡ padded 64 (list_in b at mid part) → element_bits 64 at word ≡ padded 64 (slice_range (list_in b at old window) from to)
+stretch-loaded b at old mid window part list from to word has order bound is writes loaded = (rw is at loaded) ∙ ap (padded 64) (stretch-old b at old mid window list from to has order bound writes)
+
+-- a stretch more, of a word's first bits; of a word that was loaded under another order
+pub stretch-stored : (b : ℕ) (at : ℕ → ℕ → ℕ) (old mid now new : List ℕ) (window part : Window) (list made : List Bool) (from to : ℕ) → HasWindow b old window → from ≤ to → to ≤ window.len → length list ≡ window.len → part ≡ window_range window from to → now ≡ mid → take (to - from) made ≡ slice_range list from to
+    → Writes b at old mid (until window from) (take from list) → Writes b at now new part (take part.len made) → Writes b at old new (until window to) (take to list)
+stretch-stored b at old mid now new window part list made from to has order bound long is same fits before after =
+    stretch-next b at old mid new window list (take (to - from) made) from to has order bound long fits before (rw (is, same) at after)
+
+pub stretch-turned : (b : ℕ) (at other : ℕ → ℕ → ℕ) (old mid now new : List ℕ) (window part : Window) (list : List Bool) (from to word made : ℕ) → HasWindow b old window → from ≤ to → to ≤ window.len → length list ≡ window.len → part ≡ window_range window from to → now ≡ mid
+    → element_bits 64 other word ≡ padded 64 (slice_range list from to) → element_bits 64 at made ≡ element_bits 64 other word
+    → Writes b at old mid (until window from) (take from list) → Writes b at now new part (take part.len (element_bits 64 at made)) → Writes b at old new (until window to) (take to list)
+stretch-turned b at other old mid now new window part list from to word made has order bound long is same loaded turned before after =
+    stretch-stored b at old mid now new window part list (element_bits 64 at made) from to has order bound long is same (stored-stretch other at list from to (to - from) word made order (omega arith) refl loaded turned) before after
