@@ -47,6 +47,11 @@ range-inside b xs window part from to has is order bound = rw is (HasWindow-rang
 pub range-kept : (b : ℕ) (xs ys : List ℕ) (window part : Window) (from to : ℕ) → HasWindow b xs window → length ys ≡ length xs → part ≡ window_range window from to → from ≤ to → to ≤ window.len → HasWindow b ys part
 range-kept b xs ys window part from to has long is order bound = range-inside b ys window part from to (HasWindow-kept b xs ys window has long) is order bound
 
+-- the word that is loaded of a range
+pub loaded-range : (b : ℕ) (at way : ℕ → ℕ → ℕ) (xs : List ℕ) (window part : Window) (from to word : ℕ) → part ≡ window_range window from to → element_bits 64 way word ≡ padded 64 (list_in b at xs part)
+    → element_bits 64 way word ≡ padded 64 (list_in b at xs (window_range window from to))
+loaded-range b at way xs window part from to word is loaded = rw is at loaded
+
 -- the first bits of the few elements that are held aside
 pub held-inside : (b : ℕ) (xs : List ℕ) (n count : ℕ) → IsWidth b → length xs ≡ n → n ≤ 16 → count ≤ b * n → HasWindow b xs (record { start = 0; len = count })
 held-inside b xs n count width long few fits =
