@@ -1,6 +1,7 @@
 -- Windows written a stretch at a time.
-use Rattle.std.specs.Prelude.{◌≡◌, ℕ, ◌+◌, ◌-◌, ◌<◌, ◌≤◌, min, Bool, false, List, length, slice_index_or, slice_range, take, refl}
+use Rattle.std.specs.Prelude.{◌≡◌, ℕ, ◌+◌, ◌-◌, ◌*◌, ◌<◌, ◌≤◌, min, Bool, false, List, length, slice_index_or, slice_range, take, refl}
 use Rattle.std.proofs.Common.{arith, rules, sym, ◌∙◌, ap, subst, ⊎_elim}
+use Rattle.std.proofs.Math.Nat.{mul-le-mul_left}
 use Rattle.std.proofs.lemmas.Bool.{cases_lt}
 use Rattle.std.proofs.lemmas.List.{places, same_lists}
 use Rattle.bitvec_windows.specs.Direction.{Agrees}
@@ -10,8 +11,10 @@ use Rattle.bitvec_windows.specs.base.ListsLaws.{get-combined, length-combined}
 use Rattle.bitvec_windows.specs.base.Memory.{Edits, HasWindow, Writes, element_bits, list_in}
 use Rattle.bitvec_windows.specs.base.Window.{window_range, write_window}
 use Rattle.bitvec_windows.specs.base.WriteLaws.{get-slice_range, length-slice_range}
-use Rattle.bitvec_windows.specs.base.WritesLaws.{HasWindow-range, Writes-empty, Writes-is, Writes-join, length-list, list-behind, list-range}
+use Rattle.bitvec_windows.specs.base.WritesLaws.{HasWindow-kept, HasWindow-range, Writes-empty, Writes-is, Writes-join, length-list, list-behind, list-range}
 use Rattle.bitvec_windows.specs.moves.WordLaws.{take-all}
+use Rattle.bitvec_windows.specs.store.Width.{IsWidth}
+use Rattle.bitvec_windows.specs.store.WidthLaws.{at_each_width}
 use Rattle.bitvec_windows.specs.words.Field.{padded}
 use Rattle.bitvec_windows.specs.words.MovedLaws.{take-field, take-range}
 use Rattle.bitvec_windows.proofs.DifferenceLemmas.{in_padded, past_padded}
@@ -36,6 +39,26 @@ List-agrees b at other xs window d way old new to some agrees writes = Writes-is
 pub Edits-agrees : (b : ℕ) (at other : ℕ → ℕ → ℕ) (old new : List ℕ) (window : Window) (edit : List Bool → List Bool) → 0 < b → Agrees b at other → Edits b other old new window edit → Edits b at old new window edit
 Edits-agrees b at other old new window edit some agrees writes =
     Writes-is b at old new window _ _ (Writes-agrees b at other old new window _ some agrees writes) (ap edit (sym (list-agrees b at other old window some agrees)))
+
+-- a range of a window lies in the memory, also after a write
+pub range-inside : (b : ℕ) (xs : List ℕ) (window part : Window) (from to : ℕ) → HasWindow b xs window → part ≡ window_range window from to → from ≤ to → to ≤ window.len → HasWindow b xs part
+range-inside b xs window part from to has is order bound = rw is (HasWindow-range b xs window from to has order bound)
+
+pub range-kept : (b : ℕ) (xs ys : List ℕ) (window part : Window) (from to : ℕ) → HasWindow b xs window → length ys ≡ length xs → part ≡ window_range window from to → from ≤ to → to ≤ window.len → HasWindow b ys part
+range-kept b xs ys window part from to has long is order bound = range-inside b ys window part from to (HasWindow-kept b xs ys window has long) is order bound
+
+-- the word that is loaded of a range
+pub loaded-range : (b : ℕ) (at way : ℕ → ℕ → ℕ) (xs : List ℕ) (window part : Window) (from to word : ℕ) → part ≡ window_range window from to → element_bits 64 way word ≡ padded 64 (list_in b at xs part)
+    → element_bits 64 way word ≡ padded 64 (list_in b at xs (window_range window from to))
+loaded-range b at way xs window part from to word is loaded = rw is at loaded
+
+-- the first bits of the few elements that are held aside
+pub held-inside : (b : ℕ) (xs : List ℕ) (n count : ℕ) → IsWidth b → length xs ≡ n → n ≤ 16 → count ≤ b * n → HasWindow b xs (record { start = 0; len = count })
+held-inside b xs n count width long few fits =
+    let most : b ≤ 128 = at_each_width (λ m. m ≤ 128) (omega arith) (omega arith) (omega arith) (omega arith) (omega arith) b width in
+    let room = mul-le-mul_left b few in
+    let all : b * length xs ≡ b * n = ap (λ (m : ℕ). b * m) long in
+    record { fits = omega arith; within = record { start = omega arith; len = omega arith } }
 
 -- nothing yet
 pub stretch-none : (b : ℕ) (at : ℕ → ℕ → ℕ) (xs ys : List ℕ) (window : Window) (list : List Bool) → HasWindow b xs window → ys ≡ xs → Writes b at xs ys (until window 0) (take 0 list)
@@ -132,3 +155,20 @@ stretch-old b at old mid window list from to has order bound writes =
     let whole : HasWindow b old (until window from) = record { fits = has.fits; within = record { start = start; len = omega arith } } in
     list-behind b at old mid (until window from) (window_range window from to) list whole (HasWindow-range b old window from to has order bound) (omega arith) writes
     ∙ list-range b at old window from to has order bound
+
+-- the word that is loaded of it
+pub stretch-loaded : (b : ℕ) (at : ℕ → ℕ → ℕ) (old mid : List ℕ) (window part : Window) (list : List Bool) (from to word : ℕ) → HasWindow b old window → from ≤ to → to ≤ window.len → part ≡ window_range window from to → Writes b at old mid (until window from) list
+    → element_bits 64 at word ≡ padded 64 (list_in b at mid part) → element_bits 64 at word ≡ padded 64 (slice_range (list_in b at old window) from to)
+stretch-loaded b at old mid window part list from to word has order bound is writes loaded = (rw is at loaded) ∙ ap (padded 64) (stretch-old b at old mid window list from to has order bound writes)
+
+-- a stretch more, of a word's first bits; of a word that was loaded under another order
+pub stretch-stored : (b : ℕ) (at : ℕ → ℕ → ℕ) (old mid now new : List ℕ) (window part : Window) (list made : List Bool) (from to : ℕ) → HasWindow b old window → from ≤ to → to ≤ window.len → length list ≡ window.len → part ≡ window_range window from to → now ≡ mid → take (to - from) made ≡ slice_range list from to
+    → Writes b at old mid (until window from) (take from list) → Writes b at now new part (take part.len made) → Writes b at old new (until window to) (take to list)
+stretch-stored b at old mid now new window part list made from to has order bound long is same fits before after =
+    stretch-next b at old mid new window list (take (to - from) made) from to has order bound long fits before (rw (is, same) at after)
+
+pub stretch-turned : (b : ℕ) (at other : ℕ → ℕ → ℕ) (old mid now new : List ℕ) (window part : Window) (list : List Bool) (from to word made : ℕ) → HasWindow b old window → from ≤ to → to ≤ window.len → length list ≡ window.len → part ≡ window_range window from to → now ≡ mid
+    → element_bits 64 other word ≡ padded 64 (slice_range list from to) → element_bits 64 at made ≡ element_bits 64 other word
+    → Writes b at old mid (until window from) (take from list) → Writes b at now new part (take part.len (element_bits 64 at made)) → Writes b at old new (until window to) (take to list)
+stretch-turned b at other old mid now new window part list from to word made has order bound long is same loaded turned before after =
+    stretch-stored b at old mid now new window part list (element_bits 64 at made) from to has order bound long is same (stored-stretch other at list from to (to - from) word made order (omega arith) refl loaded turned) before after

@@ -1,8 +1,8 @@
 -- Words of a window: of two elements side by side, of whole elements, and of one part more.
-use Rattle.std.specs.Prelude.{◌≡◌, ℕ, ◌+◌, ◌-◌, ◌*◌, ◌/◌, ◌%◌, ◌<◌, ◌≤◌, Bool, false, List, [], ◌++◌, drop, length, replicate, slice_index, slice_range, take, bit_or, refl}
+use Rattle.std.specs.Prelude.{◌≡◌, ◌≢◌, ℕ, ◌+◌, ◌-◌, ◌*◌, ◌/◌, ◌%◌, ◌<◌, ◌≤◌, Bool, false, List, [], ◌++◌, drop, length, replicate, slice_index, slice_range, take, bit_or, refl}
 use Rattle.std.proofs.Common.{arith, rules, subst, sym, ◌∙◌, ap}
 use Rattle.std.proofs.lemmas.List.{places, same_lists}
-use Rattle.std.proofs.lemmas.Nat.{div-add-mod'}
+use Rattle.std.proofs.lemmas.Nat.{div-add-mod', mod_below}
 use Rattle.bitvec_windows.specs.base.declared.window.Window.{Window}
 use Rattle.bitvec_windows.specs.base.Memory.{HasWindow, Writes, element_bits, list_in, memory_bits}
 use Rattle.bitvec_windows.specs.base.MemoryLaws.{length-element_bits}
@@ -18,7 +18,7 @@ use Rattle.bitvec_windows.specs.walk.Walk.{Walked, passed}
 use Rattle.bitvec_windows.specs.walk.WalkLaws.{first-len, length-first as length-first_part, length-passed, list-next}
 use Rattle.bitvec_windows.specs.words.Elements.{elements_window}
 use Rattle.bitvec_windows.specs.words.Field.{padded}
-use Rattle.bitvec_windows.specs.words.FieldLaws.{list-part}
+use Rattle.bitvec_windows.specs.words.FieldLaws.{element_of, list-part}
 use Rattle.bitvec_windows.specs.words.FieldWalkLaws.{HasPart-first}
 use Rattle.bitvec_windows.specs.words.MovedLaws.{element-joined, take-range}
 use Rattle.bitvec_windows.specs.words.TouchedLaws.{touched-full}
@@ -35,6 +35,25 @@ pub touched-whole : (b s : ℕ) → IsWidth b → b ≤ 64 → s % b ≡ 0 → t
 touched-whole b s width narrow edge =
     touched-full b s 64 (width_some b width) edge
     (at_each_width (λ n. n ≤ 64 → 64 % n ≡ 0) (λ _. refl) (λ _. refl) (λ _. refl) (λ _. refl) (λ few. absurd (omega arith)) b width narrow)
+
+-- the elements that begin with the one of a window's first bit, and hold a word, lie in the memory; so does the next one, where that bit isn't its element's first
+pub word-inside : (b : ℕ) (xs : List ℕ) (window : Window) → IsWidth b → b ≤ 64 → window.len ≡ 64 → HasWindow b xs window → HasWindow b xs (elements_window b (window.start / b) (64 / b))
+word-inside b xs window width narrow size has =
+    let start = has.within.start in
+    let len = has.within.len in
+    let whole = word_whole b width narrow in
+    let place = div-add-mod' window.start b in
+    record { fits = has.fits; within = record { start = omega arith; len = omega arith } }
+
+pub next-inside : (b : ℕ) (xs : List ℕ) (window : Window) → IsWidth b → b ≤ 64 → window.len ≡ 64 → HasWindow b xs window → window.start % b ≢ 0 → window.start / b + 64 / b < length xs
+next-inside b xs window width narrow size has left =
+    let start = has.within.start in
+    let len = has.within.len in
+    let whole = word_whole b width narrow in
+    let place = div-add-mod' window.start b in
+    let below = mod_below window.start b (width_some b width) in
+    let sum : (window.start / b + 64 / b) * b ≡ window.start / b * b + 64 = omega arith in
+    element_of b (window.start / b + 64 / b) (window.start % b - 1) (length xs) (omega arith)
 
 module _ (b : ℕ) (at : ℕ → ℕ → ℕ) (window : Window) (width : IsWidth b) (narrow : b ≤ 64) (size : window.len ≡ 64) (edge : window.start % b ≡ 0) where
   abbrev elements : Window

@@ -5,7 +5,7 @@ use Rattle.bitvec_windows.specs.base.Memory.{list_in}
 use Rattle.bitvec_windows.specs.base.WritesLaws.{length-list, list-range}
 use Rattle.bitvec_windows.specs.words.Field.{padded}
 use Rattle.bitvec_windows.specs.words.Operator.{operator}
-use Rattle.bitvec_windows.proofs.StoreLemmas.{combined-stretch, stretch-all, stretch-next, stretch-none, stretch-old}
+use Rattle.bitvec_windows.proofs.StoreLemmas.{combined-stretch, range-inside, range-kept, stretch-all, stretch-loaded, stretch-none, stretch-stored}
 use Rattle.bitvec_windows.proofs.combining.combine_words.Goals as goal
 
 pub loop-from-init : goal.loop-from-init
@@ -17,6 +17,22 @@ loop-from-init g c =
       writes = stretch-none _ _ _ _ c.args.left_window (combined (operator c.args.op) list other) c.requires.window c.new-cells.ensures.numbers;
       borrow = search rules;
     }
+
+pub word_end-to-requires-clause-fits : goal.word_end-to-requires-clause-fits
+word_end-to-requires-clause-fits g c = omega arith
+
+pub load_bits-word-requires-clause-window : goal.load_bits-word-requires-clause-window
+load_bits-word-requires-clause-window g c = range-kept _ _ _ c.args.left_window _ _ _ c.requires.window c.loop-from.invariant.writes.elements c.range-part.ensures (omega arith) c.word_end-to.ensures.bound
+
+pub window_word-right_word-requires-clause-window : goal.window_word-right_word-requires-clause-window
+window_word-right_word-requires-clause-window g c = range-inside _ _ c.args.right_window _ _ _ c.requires.right_window c.range-other.ensures (omega arith) (omega arith)
+
+pub window_word-right_word-requires-clause-bound : goal.window_word-right_word-requires-clause-bound
+window_word-right_word-requires-clause-bound g c = rw c.range-other.ensures (omega arith)
+
+pub store_bits-requires-clause-window : goal.store_bits-requires-clause-window
+store_bits-requires-clause-window g c =
+    rw c.load_bits-word.ensures.reads.numbers (range-kept _ _ _ c.args.left_window _ _ _ c.requires.window c.loop-from.invariant.writes.elements c.range-part.ensures (omega arith) c.word_end-to.ensures.bound)
 
 pub loop-from-preserved : goal.loop-from-preserved
 loop-from-preserved g c =
@@ -31,14 +47,13 @@ loop-from-preserved g c =
     let size = c.word_end-to.ensures.size in
     let long = length-list _ at _ _ c.requires.window in
     let right = length-list _ g.P.BitOrder.at _ _ c.requires.right_window in
-    let word = (rw c.range-part.ensures at c.load_bits-word.ensures.value) ∙ ap (padded 64) (stretch-old _ at _ _ window _ from to c.requires.window (omega arith) bound inv.writes) in
+    let word = stretch-loaded _ at _ _ window _ _ from to _ c.requires.window (omega arith) bound c.range-part.ensures inv.writes c.load_bits-word.ensures.value in
     let right_word = (rw c.range-other.ensures at c.window_word-right_word.ensures) ∙ ap (padded 64) (list-range _ g.P.BitOrder.at _ right_window c.min.result c.min-in-loop-from.result c.requires.right_window (omega arith) (omega arith)) in
-    let wrote = rw (c.range-part.ensures, c.load_bits-word.ensures.reads.numbers) at c.store_bits.ensures.writes in
     record {
       fits = bound;
-      writes = stretch-next _ _ _ _ _ window _ _ from to c.requires.window (omega arith) bound (length-combined (operator c.args.op) _ _ ∙ long)
+      writes = stretch-stored _ _ _ _ _ _ window _ _ _ from to c.requires.window (omega arith) bound (length-combined (operator c.args.op) _ _ ∙ long) c.range-part.ensures c.load_bits-word.ensures.reads.numbers
           (combined-stretch (operator c.args.op) _ _ from to right_window.len (sym right) (omega arith) (omega arith) size _ _ _ word (rw (c.min.ensures, c.min-in-loop-from.ensures) at right_word) c.of_elements-made.ensures)
-          inv.writes wrote;
+          inv.writes c.store_bits.ensures.writes;
       borrow = search rules;
     }
 

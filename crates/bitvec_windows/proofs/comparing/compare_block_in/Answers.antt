@@ -1,7 +1,20 @@
 use Rattle.std.proofs.Common.{◌+◌, ◌∙◌, arith, sym}
 use Rattle.bitvec_engine.specs.base.CompareLaws.{order-behind, order-same, same-stretch}
-use Rattle.bitvec_engine.specs.base.WritesLaws.{length-list, list-after, list-range}
+use Rattle.bitvec_engine.specs.base.WritesLaws.{HasWindow-range, length-list, list-after, list-range}
+use Rattle.bitvec_windows.proofs.StoreLemmas.{range-inside}
 use Rattle.bitvec_windows.proofs.comparing.compare_block_in.Goals as goal
+
+pub eq_block_in-requires-clause-window : goal.eq_block_in-requires-clause-window
+eq_block_in-requires-clause-window g c = range-inside _ _ c.args.left_window _ _ _ c.requires.window c.range-part.ensures (omega arith) (omega arith)
+
+pub eq_block_in-requires-clause-right_window : goal.eq_block_in-requires-clause-right_window
+eq_block_in-requires-clause-right_window g c = range-inside _ _ c.args.right_window _ _ _ c.requires.right_window c.range-other.ensures (omega arith) (omega arith)
+
+pub compare_in-requires-clause-window : goal.compare_in-requires-clause-window
+compare_in-requires-clause-window g c = rw c.after-rest.ensures (HasWindow-range _ _ c.args.left_window c.loop-from.from c.args.left_window.len c.requires.window (omega arith) (omega arith))
+
+pub compare_in-requires-clause-right_window : goal.compare_in-requires-clause-right_window
+compare_in-requires-clause-right_window g c = rw c.after-other.ensures (HasWindow-range _ _ c.args.right_window c.loop-from.from c.args.right_window.len c.requires.right_window (omega arith) (omega arith))
 
 pub returns-then-not-eq_block_in : goal.returns-then-not-eq_block_in
 returns-then-not-eq_block_in g c =

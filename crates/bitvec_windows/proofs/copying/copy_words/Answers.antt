@@ -1,7 +1,7 @@
 use Rattle.std.proofs.Common.{arith, map, refl, rules, sym, ◌∙◌}
 use Rattle.bitvec_windows.specs.base.Memory.{list_in}
 use Rattle.bitvec_windows.specs.base.WritesLaws.{length-list}
-use Rattle.bitvec_windows.proofs.StoreLemmas.{copied-stretch, stretch-all, stretch-next, stretch-none}
+use Rattle.bitvec_windows.proofs.StoreLemmas.{copied-stretch, range-inside, range-kept, stretch-all, stretch-none, stretch-stored}
 use Rattle.bitvec_windows.proofs.copying.copy_words.Goals as goal
 
 pub loop-from-init : goal.loop-from-init
@@ -10,6 +10,15 @@ loop-from-init g c = record {
   writes = stretch-none _ _ _ _ c.args.left_window (list_in g.U.BitStore.BITS g.P.BitOrder.at (map g.U.BitStore.value c.args.right.now) c.args.right_window) c.requires.window c.new-cells.ensures.numbers;
   borrow = search rules;
 }
+
+pub word_end-to-requires-clause-fits : goal.word_end-to-requires-clause-fits
+word_end-to-requires-clause-fits g c = omega arith
+
+pub window_word-word-requires-clause-window : goal.window_word-word-requires-clause-window
+window_word-word-requires-clause-window g c = range-inside _ _ c.args.right_window _ _ _ c.requires.right_window c.range.ensures (omega arith) (omega arith)
+
+pub store_bits-requires-clause-window : goal.store_bits-requires-clause-window
+store_bits-requires-clause-window g c = range-kept _ _ _ c.args.left_window _ _ _ c.requires.window c.loop-from.invariant.writes.elements c.range-in-loop-from.ensures (omega arith) c.word_end-to.ensures.bound
 
 pub loop-from-preserved : goal.loop-from-preserved
 loop-from-preserved g c =
@@ -21,12 +30,11 @@ loop-from-preserved g c =
     let lengths = c.requires.lengths in
     let right = length-list _ g.P.BitOrder.at _ _ c.requires.right_window in
     let word = rw c.range.ensures at c.window_word-word.ensures in
-    let wrote = rw c.range-in-loop-from.ensures at c.store_bits.ensures.writes in
     record {
       fits = bound;
-      writes = stretch-next _ _ _ _ _ c.args.left_window _ _ from to c.requires.window (omega arith) bound (right ∙ sym lengths)
+      writes = stretch-stored _ _ _ _ _ _ c.args.left_window _ _ _ from to c.requires.window (omega arith) bound (right ∙ sym lengths) c.range-in-loop-from.ensures refl
           (copied-stretch g.W.BitOrder.at _ g.P.BitOrder.at _ c.args.right_window from to _ _ c.requires.right_window (omega arith) (omega arith) refl word)
-          inv.writes wrote;
+          inv.writes c.store_bits.ensures.writes;
       borrow = search rules;
     }
 

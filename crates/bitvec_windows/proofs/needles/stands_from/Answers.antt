@@ -24,3 +24,12 @@ loop-index-preserved g c =
       | else-starts-select-ne0-via-then-starts-select-ne0+else-stands_at_in w ↦ sym w.stands_at_in.ensures ∙ w.if-stands_at_in.false
       | else-starts-select-ne0-via-else-starts-select-ne0 w ↦ let clear = bit-not_tested g.W.BitOrder.at c.args.starts index c.loop-index-test.true (rw c.select.ensures at w.if-starts-select-ne0.false) in cc
     ])
+
+pub returns-then-stands_at_in-clause-absent : goal.returns-then-stands_at_in-clause-absent
+returns-then-stands_at_in-clause-absent g c told i below set = cc
+
+pub returns-clause-found : goal.returns-clause-found
+returns-clause-found g c told = cc
+
+pub returns-clause-absent : goal.returns-clause-absent
+returns-clause-absent g c told i below set = c.loop-index.invariant i (omega arith) set

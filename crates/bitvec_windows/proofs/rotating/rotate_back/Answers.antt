@@ -1,7 +1,8 @@
-use Rattle.std.proofs.Common.{◌-◌, arith, rules, sym, map}
+use Rattle.std.proofs.Common.{◌-◌, arith, refl, rules, sym, map}
 use Rattle.bitvec_engine.specs.base.Memory.{list_in}
 use Rattle.bitvec_engine.specs.base.WritesLaws.{Writes-start, length-list}
 use Rattle.bitvec_windows.proofs.Rotated.{Writes-aside, back-held, rotated-all}
+use Rattle.bitvec_windows.proofs.StoreLemmas.{held-inside, range-inside, range-kept}
 use Rattle.bitvec_windows.proofs.rotating.rotate_back.Goals as goal
 
 pub returns-then-rest-eq0 : goal.returns-then-rest-eq0
@@ -10,6 +11,21 @@ returns-then-rest-eq0 g c =
     let fits = c.requires.bound in
     let none = c.if-rest-eq0.true in
     record { writes = Writes-start c.requires.window (rotated-all _ c.args.by (omega arith)) }
+
+pub copy_from_block_in-requires-clause-window : goal.copy_from_block_in-requires-clause-window
+copy_from_block_in-requires-clause-window g c = held-inside _ _ 16 _ g.met.T.BitStore.width_law refl (omega arith) (omega arith)
+
+pub copy_from_block_in-requires-clause-right_window : goal.copy_from_block_in-requires-clause-right_window
+copy_from_block_in-requires-clause-right_window g c = range-inside _ _ c.args.window _ _ _ c.requires.window c.range.ensures (omega arith) (omega arith)
+
+pub copy_within_in-requires-clause-fits : goal.copy_within_in-requires-clause-fits
+copy_within_in-requires-clause-fits g c = record { order = omega arith; source = omega arith; room = omega arith }
+
+pub copy_from_block_in-requires-2-clause-window : goal.copy_from_block_in-requires-2-clause-window
+copy_from_block_in-requires-2-clause-window g c = range-kept _ _ _ c.args.window _ _ _ c.requires.window c.copy_within_in.ensures.writes.elements c.range-2.ensures (omega arith) (omega arith)
+
+pub copy_from_block_in-requires-2-clause-right_window : goal.copy_from_block_in-requires-2-clause-right_window
+copy_from_block_in-requires-2-clause-right_window g c = held-inside _ _ 16 _ g.met.T.BitStore.width_law c.copy_from_block_in.ensures.writes.elements (omega arith) (omega arith)
 
 pub returns : goal.returns
 returns g c =

@@ -1,8 +1,7 @@
-use Rattle.std.proofs.Common.{arith, ap, map, refl, rules, sym, ◌∙◌}
+use Rattle.std.proofs.Common.{arith, map, rules, sym, ◌∙◌}
 use Rattle.bitvec_windows.specs.base.Memory.{list_in}
 use Rattle.bitvec_windows.specs.base.WritesLaws.{length-list}
-use Rattle.bitvec_windows.specs.words.Field.{padded}
-use Rattle.bitvec_windows.proofs.StoreLemmas.{stored-stretch, stretch-all, stretch-next, stretch-none, stretch-old}
+use Rattle.bitvec_windows.proofs.StoreLemmas.{range-kept, stretch-all, stretch-loaded, stretch-none, stretch-turned}
 use Rattle.bitvec_windows.proofs.swapping.swap_words.Goals as goal
 
 pub loop-from-init : goal.loop-from-init
@@ -16,6 +15,25 @@ loop-from-init g c =
       borrow = search rules;
       right_borrow = search rules;
     }
+
+pub word_end-to-requires-clause-fits : goal.word_end-to-requires-clause-fits
+word_end-to-requires-clause-fits g c = omega arith
+
+pub load_bits-word-requires-clause-window : goal.load_bits-word-requires-clause-window
+load_bits-word-requires-clause-window g c =
+    range-kept _ _ _ c.args.left_window _ _ _ c.requires.window c.loop-from.invariant.writes.elements c.range-part.ensures (omega arith) c.word_end-to.ensures.bound
+
+pub load_bits-right_word-requires-clause-window : goal.load_bits-right_word-requires-clause-window
+load_bits-right_word-requires-clause-window g c =
+    range-kept _ _ _ c.args.right_window _ _ _ c.requires.right_window c.loop-from.invariant.right_writes.elements c.range-other.ensures (omega arith) (omega arith)
+
+pub store_bits-requires-clause-window : goal.store_bits-requires-clause-window
+store_bits-requires-clause-window g c =
+    rw c.load_bits-word.ensures.reads.numbers (range-kept _ _ _ c.args.left_window _ _ _ c.requires.window c.loop-from.invariant.writes.elements c.range-part.ensures (omega arith) c.word_end-to.ensures.bound)
+
+pub store_bits-requires-in-loop-from-clause-window : goal.store_bits-requires-in-loop-from-clause-window
+store_bits-requires-in-loop-from-clause-window g c =
+    rw c.load_bits-right_word.ensures.reads.numbers (range-kept _ _ _ c.args.right_window _ _ _ c.requires.right_window c.loop-from.invariant.right_writes.elements c.range-other.ensures (omega arith) (omega arith))
 
 pub loop-from-preserved : goal.loop-from-preserved
 loop-from-preserved g c =
@@ -31,18 +49,12 @@ loop-from-preserved g c =
     let lengths = c.requires.lengths in
     let long = length-list _ at _ _ c.requires.window in
     let right_long = length-list _ right_at _ _ c.requires.right_window in
-    let word = (rw c.range-part.ensures at c.load_bits-word.ensures.value) ∙ ap (padded 64) (stretch-old _ at _ _ window _ from to c.requires.window (omega arith) bound inv.writes) in
-    let right_word = (rw c.range-other.ensures at c.load_bits-right_word.ensures.value) ∙ ap (padded 64) (stretch-old _ right_at _ _ right_window _ from to c.requires.right_window (omega arith) (omega arith) inv.right_writes) in
-    let wrote = rw (c.range-part.ensures, c.load_bits-word.ensures.reads.numbers) at c.store_bits.ensures.writes in
-    let right_wrote = rw (c.range-other.ensures, c.load_bits-right_word.ensures.reads.numbers) at c.store_bits-in-loop-from.ensures.writes in
+    let word = stretch-loaded _ at _ _ window _ _ from to _ c.requires.window (omega arith) bound c.range-part.ensures inv.writes c.load_bits-word.ensures.value in
+    let right_word = stretch-loaded _ right_at _ _ right_window _ _ from to _ c.requires.right_window (omega arith) (omega arith) c.range-other.ensures inv.right_writes c.load_bits-right_word.ensures.value in
     record {
       fits = bound;
-      writes = stretch-next _ _ _ _ _ window _ _ from to c.requires.window (omega arith) bound (right_long ∙ sym lengths)
-          (stored-stretch right_at at _ from to _ _ _ (omega arith) (omega arith) refl right_word c.turned.ensures)
-          inv.writes wrote;
-      right_writes = stretch-next _ _ _ _ _ right_window _ _ from to c.requires.right_window (omega arith) (omega arith) (long ∙ lengths)
-          (stored-stretch at right_at _ from to _ _ _ (omega arith) (omega arith) refl word c.turned-in-loop-from.ensures)
-          inv.right_writes right_wrote;
+      writes = stretch-turned _ at right_at _ _ _ _ window _ _ from to _ _ c.requires.window (omega arith) bound (right_long ∙ sym lengths) c.range-part.ensures c.load_bits-word.ensures.reads.numbers right_word c.turned.ensures inv.writes c.store_bits.ensures.writes;
+      right_writes = stretch-turned _ right_at at _ _ _ _ right_window _ _ from to _ _ c.requires.right_window (omega arith) (omega arith) (long ∙ lengths) c.range-other.ensures c.load_bits-right_word.ensures.reads.numbers word c.turned-in-loop-from.ensures inv.right_writes c.store_bits-in-loop-from.ensures.writes;
       borrow = search rules;
       right_borrow = search rules;
     }

@@ -1,9 +1,29 @@
-use Rattle.std.proofs.Common.{◌≡◌, ◌+◌, ◌-◌, ◌∙◌, ap, arith, map, inl}
+use Rattle.std.proofs.Common.{◌≡◌, ◌+◌, ◌-◌, ◌<◌, ◌∙◌, ap, arith, map, inl}
+use Rattle.std.proofs.lemmas.Nat.{mod_below}
 use Rattle.bitvec_engine.specs.base.Memory.{list_in}
 use Rattle.bitvec_engine.specs.base.WritesLaws.{Writes-next, length-list}
+use Rattle.bitvec_engine.specs.store.WidthLaws.{width_some}
 use Rattle.bitvec_windows.specs.Swaps.{swapped_within}
 use Rattle.bitvec_windows.proofs.Swapped.{swapped-next}
 use Rattle.bitvec_windows.proofs.swapping_within.swap_ranges.Goals as goal
+
+pub swap_stretch-requires-clause-bound : goal.swap_stretch-requires-clause-bound
+swap_stretch-requires-clause-bound g c =
+    let some : 0 < c.BITS.result = rw c.BITS.ensures (width_some _ g.met.T.BitStore.width_law) in
+    let below = mod_below (c.args.window.start + c.args.second) _ some in
+    omega arith
+
+pub swap_stretch-requires-2-clause-bound : goal.swap_stretch-requires-2-clause-bound
+swap_stretch-requires-2-clause-bound g c =
+    let some : 0 < c.BITS.result = rw c.BITS.ensures (width_some _ g.met.T.BitStore.width_law) in
+    let below = mod_below (c.args.window.start + c.args.second) _ some in
+    omega arith
+
+pub swap_sides-requires-clause-edge : goal.swap_sides-requires-clause-edge
+swap_sides-requires-clause-edge g c =
+    let some : 0 < c.BITS.result = rw c.BITS.ensures (width_some _ g.met.T.BitStore.width_law) in
+    let below = mod_below (c.args.window.start + c.args.second) _ some in
+    rw (← c.BITS.ensures) (omega arith)
 
 pub returns : goal.returns
 returns g c =

@@ -3,11 +3,36 @@ use Rattle.std.proofs.Common.{arith, ap, subst, sym, ◌∙◌}
 use Rattle.std.proofs.Math.Nat.{div-add-mod, mul-add}
 use Rattle.std.proofs.lemmas.List.{length-append, length-map, map-append}
 use Rattle.bitvec_engine.specs.base.Memory.{HasWindow, Writes, list_in}
+use Rattle.bitvec_engine.specs.base.Window.{window_range}
 use Rattle.bitvec_engine.specs.base.declared.window.Window.{Window}
 use Rattle.bitvec_engine.specs.store.WidthLaws.{width_some}
 use Rattle.bitvec_windows.specs.Swaps.{swapped_within}
 use Rattle.bitvec_windows.proofs.Edges.{sides-swapped}
 use Rattle.bitvec_windows.proofs.swapping_within.swap_sides.Goals as goal
+
+-- the sides lie in the parts that the memory is cut into
+sides-inside : {A : Type 0} (b bits : ℕ) (value : A → ℕ) (cells front rest : List A) (window near : Window) (first second len : ℕ) → bits ≡ b → HasWindow b (map value cells) window → cells ≡ front ++ rest → length front ≡ (window.start + second) / bits
+    → near ≡ window_range window first (first + len) → window.start + first + len + (window.start + second) % b ≤ window.start + second → second + len ≤ window.len
+    → HasWindow b (map value front) near × HasWindow b (map value rest) (record { start = (window.start + second) % bits; len = len })
+sides-inside b bits value cells front rest window near first second len same has joined count range order bound =
+    let place = window.start + second in
+    let remainder : place % bits ≡ place % b = ap (λ (n : ℕ). place % n) same in
+    let cut : b * length (map value front) + place % bits ≡ place =
+    ap (λ (n : ℕ). b * n + place % bits) (length-map front value ∙ count) ∙ ap (λ (n : ℕ). n * (place / bits) + place % bits) (sym same) ∙ div-add-mod place bits in
+    let joint : b * length (map value cells) ≡ b * length (map value front) + b * length (map value rest) =
+    ap (λ (xs : List ℕ). b * length xs) (ap (map value) joined ∙ map-append value front rest) ∙ ap (λ (n : ℕ). b * n) (length-append (map value front) (map value rest)) ∙ mul-add b (length (map value front)) (length (map value rest)) in
+    let fits = has.fits in
+    let start = has.within.start in
+    let end = has.within.len in
+    rw range (record { fits = omega arith; within = record { start = omega arith; len = omega arith } }, record { fits = omega arith; within = record { start = omega arith; len = omega arith } })
+
+pub swap_with_block_in-requires-clause-window : goal.swap_with_block_in-requires-clause-window
+swap_with_block_in-requires-clause-window g c =
+    (sides-inside _ _ g.T.BitStore.value _ _ _ c.args.window _ c.args.first c.args.second c.args.len c.BITS-bits.ensures c.requires.window c.split_at_mut-front.ensures.value c.split_at_mut-front.ensures.front_len c.range-near.ensures c.requires.edge c.requires.bound).0
+
+pub swap_with_block_in-requires-clause-right_window : goal.swap_with_block_in-requires-clause-right_window
+swap_with_block_in-requires-clause-right_window g c =
+    (sides-inside _ _ g.T.BitStore.value _ _ _ c.args.window _ c.args.first c.args.second c.args.len c.BITS-bits.ensures c.requires.window c.split_at_mut-front.ensures.value c.split_at_mut-front.ensures.front_len c.range-near.ensures c.requires.edge c.requires.bound).1
 
 pub returns : goal.returns
 returns g c =
@@ -29,20 +54,13 @@ returns g c =
     let near-start : near.start ≡ window.start + c.args.first = ap (λ (w : Window). w.start) c.range-near.ensures in
     let near-len : near.len ≡ c.args.len = ap (λ (w : Window). w.len) c.range-near.ensures ∙ omega arith in
     let cells : map value c.args.cells.now ≡ map value front ++ map value rest = ap (map value) c.split_at_mut-front.ensures.value ∙ map-append value front rest in
-    let joint : b * length (map value c.args.cells.now) ≡ b * length (map value front) + b * length (map value rest) =
-    ap (λ (xs : List ℕ). b * length xs) cells ∙ ap (λ (n : ℕ). b * n) (length-append (map value front) (map value rest)) ∙ mul-add b (length (map value front)) (length (map value rest)) in
-    let fits = c.requires.window.fits in
-    let start = c.requires.window.within.start in
-    let end = c.requires.window.within.len in
+    let sides = sides-inside b bits value c.args.cells.now front rest window near c.args.first c.args.second c.args.len same c.requires.window c.split_at_mut-front.ensures.value c.split_at_mut-front.ensures.front_len c.range-near.ensures c.requires.edge c.requires.bound in
+    let has = subst (λ (xs : List ℕ). HasWindow b xs window) cells c.requires.window in
     let bound = c.requires.bound in
     let order = c.requires.edge in
-    let remainder : place % bits ≡ place % b = ap (λ (n : ℕ). place % n) same in
-    let near-has : HasWindow b (map value front) near = record { fits = omega arith; within = record { start = omega arith; len = omega arith } } in
-    let far-has : HasWindow b (map value rest) far = record { fits = omega arith; within = record { start = omega arith; len = omega arith } } in
-    let has = subst (λ (xs : List ℕ). HasWindow b xs window) cells c.requires.window in
     let source : c.args.first + c.args.len ≤ window.len = omega arith in
     let wrote = sides-swapped b at (width_some b g.met.T.BitStore.width_law) (map value front) (map value rest) (map value left) (map value right) window near far c.args.first c.args.second c.args.len
-    has near-has far-has near-start near-len far-start refl source c.requires.bound c.swap_with_block_in.ensures.writes c.swap_with_block_in.ensures.right_writes in
+    has sides.0 sides.1 near-start near-len far-start refl source c.requires.bound c.swap_with_block_in.ensures.writes c.swap_with_block_in.ensures.right_writes in
     record {
       writes = subst (λ (xs : List ℕ). Writes b at xs (map value (left ++ right)) window (swapped_within c.args.first (c.args.first + c.args.len) c.args.second (list_in b at xs window))) (sym cells)
           (subst (λ (xs : List ℕ). Writes b at (map value front ++ map value rest) xs window (swapped_within c.args.first (c.args.first + c.args.len) c.args.second (list_in b at (map value front ++ map value rest) window)))

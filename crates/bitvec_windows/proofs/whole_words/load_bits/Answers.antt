@@ -1,5 +1,9 @@
-use Rattle.bitvec_windows.proofs.WordLemmas.{loaded-whole, touched-whole}
+use Rattle.bitvec_windows.proofs.WordLemmas.{loaded-whole, touched-whole, word-inside}
 use Rattle.bitvec_windows.proofs.whole_words.load_bits.Goals as goal
+
+pub load_elements-requires-clause-window : goal.load_elements-requires-clause-window
+load_elements-requires-clause-window g c =
+    rw c.BITS-bits.ensures (word-inside _ _ c.args.window g.met.C.Elem.BitStore.width_law (rw c.BITS-bits.ensures at c.if-bits-le-WORD_BITS.true) c.if-window-eq-WORD_BITS.true c.requires.window)
 
 pub returns-then-window-bits-eq0-clause-value : goal.returns-then-window-bits-eq0-clause-value
 returns-then-window-bits-eq0-clause-value g c =

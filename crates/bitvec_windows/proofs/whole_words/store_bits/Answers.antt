@@ -1,6 +1,10 @@
 use Rattle.std.proofs.Common.{arith}
-use Rattle.bitvec_windows.proofs.WordLemmas.{stored-whole, touched-whole}
+use Rattle.bitvec_windows.proofs.WordLemmas.{stored-whole, touched-whole, word-inside}
 use Rattle.bitvec_windows.proofs.whole_words.store_bits.Goals as goal
+
+pub store_elements-requires-clause-window : goal.store_elements-requires-clause-window
+store_elements-requires-clause-window g c =
+    rw c.BITS-bits.ensures (word-inside _ _ c.args.window g.met.C.Elem.BitStore.width_law (rw c.BITS-bits.ensures at c.if-bits-le-WORD_BITS.true) c.if-window-eq-WORD_BITS.true c.requires.window)
 
 pub returns-then-window-bits-eq0 : goal.returns-then-window-bits-eq0
 returns-then-window-bits-eq0 g c =

@@ -1,7 +1,8 @@
-use Rattle.std.proofs.Common.{◌≡◌, ℕ, ◌-◌, ap, refl, sym, ◌∙◌}
+use Rattle.std.proofs.Common.{◌≡◌, ℕ, ◌-◌, ◌<◌, ◌≤◌, arith, ap, refl, sym, ◌∙◌}
 use Rattle.bitvec_windows.specs.base.declared.part.Part.{Part}
 use Rattle.bitvec_windows.specs.base.PartLaws.{element-none}
 use Rattle.bitvec_windows.specs.base.Parts.{first_part_of}
+use Rattle.bitvec_windows.specs.base.declared.window.Window.{Window}
 use Rattle.bitvec_windows.specs.store.WidthLaws.{width_some}
 use Rattle.bitvec_windows.specs.walk.WalkLaws.{Walked-start, Walked-next, first-len, passed-none}
 use Rattle.bitvec_windows.specs.words.Field.{padded}
@@ -9,6 +10,45 @@ use Rattle.bitvec_windows.specs.words.FieldWalkLaws.{HasPart-first}
 use Rattle.bitvec_windows.specs.words.MovedLaws.{padded-none}
 use Rattle.bitvec_windows.proofs.WordLemmas.{gathered-next}
 use Rattle.bitvec_windows.proofs.window_words.gathered_word.Goals as goal
+
+-- the rest's first part lies in an element, and in the rest
+part-fits : (b bits : ℕ) (rest : Window) (part : Part) → 0 < b → 0 < rest.len → bits ≡ b → part ≡ first_part_of bits rest → (part.from < part.to) × (part.to ≤ b) × (part.to - part.from ≤ rest.len)
+part-fits b bits rest part some more same is = let len = first-len b rest some more in rw (is, same) (omega arith, omega arith, omega arith)
+
+pub gathered_part-first-requires-clause-order : goal.gathered_part-first-requires-clause-order
+gathered_part-first-requires-clause-order g c =
+    let fits = part-fits _ _ _ _ (width_some _ g.met.T.BitStore.width_law) c.loop-rest-test.true c.BITS-bits.ensures c.first_part-part.ensures in
+    omega arith
+
+pub gathered_part-first-requires-clause-bound : goal.gathered_part-first-requires-clause-bound
+gathered_part-first-requires-clause-bound g c =
+    let fits = part-fits _ _ _ _ (width_some _ g.met.T.BitStore.width_law) c.loop-rest-test.true c.BITS-bits.ensures c.first_part-part.ensures in
+    omega arith
+
+pub gathered_part-first-requires-clause-fits : goal.gathered_part-first-requires-clause-fits
+gathered_part-first-requires-clause-fits g c =
+    let fits = part-fits _ _ _ _ (width_some _ g.met.T.BitStore.width_law) c.loop-rest-test.true c.BITS-bits.ensures c.first_part-part.ensures in
+    omega arith
+
+pub moved-word-requires-clause-source : goal.moved-word-requires-clause-source
+moved-word-requires-clause-source g c =
+    let fits = part-fits _ _ _ _ (width_some _ g.met.T.BitStore.width_law) c.loop-rest-test.true c.BITS-bits.ensures c.first_part-part.ensures in
+    omega arith
+
+pub moved-word-requires-clause-target : goal.moved-word-requires-clause-target
+moved-word-requires-clause-target g c =
+    let fits = part-fits _ _ _ _ (width_some _ g.met.T.BitStore.width_law) c.loop-rest-test.true c.BITS-bits.ensures c.first_part-part.ensures in
+    omega arith
+
+pub after-rest-requires-clause-bound : goal.after-rest-requires-clause-bound
+after-rest-requires-clause-bound g c =
+    let fits = part-fits _ _ _ _ (width_some _ g.met.T.BitStore.width_law) c.loop-rest-test.true c.BITS-bits.ensures c.first_part-part.ensures in
+    omega arith
+
+pub loop-rest-smaller : goal.loop-rest-smaller
+loop-rest-smaller g c =
+    let fits = part-fits _ _ _ _ (width_some _ g.met.T.BitStore.width_law) c.loop-rest-test.true c.BITS-bits.ensures c.first_part-part.ensures in
+    rw c.after-rest.ensures (omega arith)
 
 pub loop-rest-init : goal.loop-rest-init
 loop-rest-init g c = record {

@@ -1,4 +1,4 @@
-use Rattle.std.proofs.Common.{◌≡◌, ℕ, ◌+◌, ◌-◌, ◌*◌, ◌/◌, ◌%◌, ◌<◌, ◌≤◌, arith, ap, sym, ◌∙◌, length, map, slice_range}
+use Rattle.std.proofs.Common.{◌≡◌, ℕ, ◌+◌, ◌*◌, ◌/◌, ◌%◌, ◌≤◌, arith, ap, sym, ◌∙◌, length, map, slice_range}
 use Rattle.std.proofs.lemmas.Nat.{div-add-mod', mod_below}
 use Rattle.bitvec_windows.specs.base.Memory.{element_bits, memory_bits}
 use Rattle.bitvec_windows.specs.base.MemoryLaws.{element-range, element_fits, length-memory_bits}
@@ -6,9 +6,16 @@ use Rattle.bitvec_windows.specs.base.Window.{window_of}
 use Rattle.bitvec_windows.specs.base.WritesLaws.{length-list}
 use Rattle.bitvec_windows.specs.moves.WordLaws.{padded-all, word_whole}
 use Rattle.bitvec_windows.specs.store.WidthLaws.{width_some}
-use Rattle.bitvec_windows.specs.words.FieldLaws.{element_of}
-use Rattle.bitvec_windows.proofs.WordLemmas.{loaded-whole, word-joined}
+use Rattle.bitvec_windows.proofs.WordLemmas.{loaded-whole, next-inside, word-inside, word-joined}
 use Rattle.bitvec_windows.proofs.window_words.run_word.Goals as goal
+
+pub load_elements-word-requires-clause-window : goal.load_elements-word-requires-clause-window
+load_elements-word-requires-clause-window g c =
+    rw (c.BITS-bits.ensures, c.new-cells.ensures.numbers) (word-inside _ _ c.args.window g.met.T.BitStore.width_law (rw c.BITS-bits.ensures at c.if-bits-gt-WORD_BITS.false) (omega arith) c.requires.window)
+
+pub load-next-requires : goal.load-next-requires
+load-next-requires g c =
+    rw (c.BITS-bits.ensures, c.load_elements-word.ensures.reads.numbers, c.new-cells.ensures.numbers) (next-inside _ _ c.args.window g.met.T.BitStore.width_law (rw c.BITS-bits.ensures at c.if-bits-gt-WORD_BITS.false) (omega arith) c.requires.window (rw c.BITS-bits.ensures at c.if-skip-eq0.false))
 
 pub returns-then-skip-eq0 : goal.returns-then-skip-eq0
 returns-then-skip-eq0 g c =
@@ -39,7 +46,7 @@ returns g c =
     let long = length-memory_bits b at xs in
     let listed = length-list b at xs window has in
     let sum : (first + 64 / b) * b ≡ first * b + 64 = omega arith in
-    let inside : first + 64 / b < length xs = element_of b (first + 64 / b) (skip - 1) (length xs) (omega arith) in
+    let inside = next-inside b xs window g.met.T.BitStore.width_law narrow size has left in
     let fits : first * b + 64 + b ≤ b * length xs = omega (arith, element_fits b (first + 64 / b) (length xs) inside) in
     let word = (rw (c.BITS-bits.ensures, c.new-cells.ensures.numbers) at c.load_elements-word.ensures.value) ∙ ap (λ (n : ℕ). slice_range bits (first * b) (first * b + n)) whole in
     let next = rw (c.BITS-bits.ensures, c.load_elements-word.ensures.reads.numbers, c.new-cells.ensures.numbers) at c.load-next.ensures.value in
