@@ -18,10 +18,7 @@ pub fn write_named<T: BitStore, O: BitOrder, W: fmt::Write>(
 ) -> fmt::Result
     ensures { DisplaysOnOk W.write_str_gives f.old result (debug_variant name.now (Some (bits_text (seen view.entry).bits))) f.new }
 {
-    f.write_str(name)?;
-    f.write_str("(")?;
-    fmt::Display::fmt(&view, f)?;
-    f.write_str(")")
+    write!(f, "{name}({view})")
 }
 
 /// The bits that are still to come, as `Iter([0, 1, 0])`.

@@ -1,7 +1,35 @@
+use Rattle.std.proofs.Common.{arith}
 use Rattle.bitvec_windows.specs.store.WidthLaws.{width_some}
 use Rattle.bitvec_slice.specs.SeenLaws.{part_view}
-use Rattle.bitvec_slice.specs.TouchedLaws.{touched_few, touched_holds}
+use Rattle.bitvec_slice.specs.TouchedLaws.{touched_end, touched_few, touched_holds}
 use Rattle.bitvec_slice.proofs.view_mut.BitSliceMut.into_part.Goals as goal
+
+pub overflow_add-start : goal.overflow_add-start
+overflow_add-start g c = omega arith
+
+pub overflow_add-head : goal.overflow_add-head
+overflow_add-head g c = omega arith
+
+pub touched_range-cells-requires : goal.touched_range-cells-requires
+touched_range-cells-requires g c = omega arith
+
+pub slice_bounds-elements-count : goal.slice_bounds-elements-count
+slice_bounds-elements-count g c = c.touched_range-cells.ensures.order
+
+pub slice_bounds-elements-start : goal.slice_bounds-elements-start
+slice_bounds-elements-start g c = c.touched_range-cells.ensures.order
+
+pub slice_bounds-elements-end : goal.slice_bounds-elements-end
+slice_bounds-elements-end g c =
+    let v = c.args.self in
+    rw c.touched_range-cells.ensures.end
+    (touched_end g.T.BitStore.BITS v.elements.now v.head v.len c.args.range.start c.args.range.end (width_some _ g.met.T.BitStore.width_law) v.inside c.requires.0 c.requires.1)
+
+pub nonzero_rem-start : goal.nonzero_rem-start
+nonzero_rem-start g c = rw c.BITS.ensures (width_some _ g.met.T.BitStore.width_law)
+
+pub overflow_sub-range : goal.overflow_sub-range
+overflow_sub-range g c = omega arith
 
 pub from_parts-requires-clause-inside : goal.from_parts-requires-clause-inside
 from_parts-requires-clause-inside g c =

@@ -1,5 +1,7 @@
-use Rattle.std.proofs.Common.{refl, sym}
+use Rattle.std.proofs.Common.{sym}
+use Rattle.bitvec_lending.specs.Refill.{with_range}
 use Rattle.bitvec_windows.specs.store.WidthLaws.{width_some}
+use Rattle.bitvec_slice.specs.Lending.{with_elements}
 use Rattle.bitvec_slice.specs.SeenLaws.{part_view}
 use Rattle.bitvec_slice.specs.TouchedLaws.{touched_end, touched_few, touched_holds}
 use Rattle.bitvec_slice.proofs.view_mut.BitSliceMut.part_mut.Goals as goal
@@ -9,6 +11,9 @@ elements_part_mut-elements-requires-clause-bound g c =
     let v = c.args.self.now in
     rw (c.touched_range-cells.ensures.end, c.window-2.ensures.value)
     (touched_end g.T.BitStore.BITS v.elements.now v.head v.len c.args.range.start c.args.range.end (width_some _ g.met.T.BitStore.width_law) v.inside c.requires.0 c.requires.1)
+
+pub nonzero_rem-start : goal.nonzero_rem-start
+nonzero_rem-start g c = rw c.BITS.ensures (width_some _ g.met.T.BitStore.width_law)
 
 pub from_parts-requires-clause-inside : goal.from_parts-requires-clause-inside
 from_parts-requires-clause-inside g c =
@@ -24,8 +29,10 @@ from_parts-requires-clause-fits g c =
 
 pub returns : goal.returns
 returns g c =
-    let v = c.args.self.now in (
-      (sym c.from_parts.ensures.name, λ w. rw (c.touched_range-cells.ensures.first, c.touched_range-cells.ensures.end, c.window.ensures.value, c.window-2.ensures.value) refl),
+    let v = c.args.self.now in
+    let first = rw c.window.ensures.value at c.touched_range-cells.ensures.first in
+    let end = rw c.window-2.ensures.value at c.touched_range-cells.ensures.end in (
+      (sym c.from_parts.ensures.name, λ w. (λ i. with_elements v (with_range v.elements.now (first i) (end i) w))),
       record {
         writes_back = tt;
         part = part_view _ _ _ v.elements.now v.head v.len v.inside _ c.args.range.start c.args.range.end g.met.T.BitStore.width_law c.requires.0 c.requires.1
