@@ -1,10 +1,11 @@
 //! The texts of splits that lend their pieces.
 ghost use Rattle.std.specs.Prelude.{◌++◌, Some, codes};
-ghost use Rattle.std.specs.Fmt.{WritesOnOk, debug_variant, decimal};
+ghost use Rattle.std.specs.Fmt.{debug_variant, decimal};
 ghost use Rattle.bitvec_slice.specs.traits.Listing.{bits_text, comma};
 ghost use Rattle.bitvec_split.specs.Lent.{uncut_in};
 
 use crate::course::look;
+use crate::texts::write_limited;
 use crate::{SplitsMut, SplitsNMut};
 use bitvec_slice::base::BitOrder;
 use bitvec_slice::store::BitStore;
@@ -30,22 +31,7 @@ impl<'a, T: BitStore, O: BitOrder, P, W> fmt::Debug for SplitsNMut<'a, T, O, P, 
     ghost debug_output = { λ s. debug_variant (codes "SplitsNMut") (Some (bits_text (uncut_in (limited_in s).left) ++ (comma ++ decimal (limited_in s).count))) };
 
     fn fmt<V: fmt::Write>(&self, f: &mut fmt::Formatter<V>) -> fmt::Result {
-        f.write_str("SplitsNMut")?;
-        f.write_str("(")?;
-        self.write_left(f)?;
-        f.write_str(")")
-    }
-}
-
-impl<'a, T: BitStore, O: BitOrder, P, W> SplitsNMut<'a, T, O, P, W> {
-    ghost use Rattle.bitvec_split.specs.LentViews.{limited_in};
-
-    fn write_left<V: fmt::Write>(&self, f: &mut fmt::Formatter<V>) -> fmt::Result
-        ensures { WritesOnOk V.write_str_gives f.old result (bits_text (uncut_in (limited_in self.now).left) ++ (comma ++ decimal (limited_in self.now).count)) f.new }
-    {
         let bits = look::<T, O>(&self.elements, self.head, self.len);
-        fmt::Display::fmt(&self.course.uncut(bits), f)?;
-        f.write_str(", ")?;
-        fmt::Display::fmt(&self.count, f)
+        write_limited("SplitsNMut", self.course.uncut(bits), self.count, f)
     }
 }

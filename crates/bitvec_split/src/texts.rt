@@ -1,6 +1,6 @@
 //! The texts of shared splits.
 ghost use Rattle.std.specs.Prelude.{◌≡◌, ◌++◌, Some, codes};
-ghost use Rattle.std.specs.Fmt.{WritesOnOk, debug_variant, decimal};
+ghost use Rattle.std.specs.Fmt.{DisplaysOnOk, debug_variant, decimal};
 ghost use Rattle.bitvec_slice.specs.Views.{seen};
 ghost use Rattle.bitvec_slice.specs.traits.Listing.{bits_text, comma};
 ghost use Rattle.bitvec_split.specs.Splits.{uncut};
@@ -10,6 +10,20 @@ use bitvec_slice::base::BitOrder;
 use bitvec_slice::store::BitStore;
 use bitvec_slice::{BitSlice, write_named};
 use std::fmt;
+
+/// Writes a name, and behind it in parentheses a view and how many pieces may come.
+pub(crate) fn write_limited<T: BitStore, O: BitOrder, V: fmt::Write>(
+    name: &str,
+    left: BitSlice<'_, T, O>,
+    count: usize,
+    f: &mut fmt::Formatter<V>,
+) -> fmt::Result
+    ensures { DisplaysOnOk V.write_str_gives f.old result (debug_variant name.now (Some (bits_text (seen left.entry).bits ++ (comma ++ decimal count)))) f.new }
+{
+    write!(f, "{name}({left}, ")?;
+    fmt::Display::fmt(&count, f)?;
+    f.write_str(")")
+}
 
 impl<'a, T: BitStore, O: BitOrder, P, W> Splits<'a, T, O, P, W> {
     ghost use Rattle.bitvec_split.specs.Views.{left_of};
@@ -43,21 +57,6 @@ impl<'a, T: BitStore, O: BitOrder, P, W> fmt::Debug for SplitsN<'a, T, O, P, W> 
     ghost debug_output = { λ s. debug_variant (codes "SplitsN") (Some (bits_text (uncut (limited_of s).left) ++ (comma ++ decimal (limited_of s).count))) };
 
     fn fmt<V: fmt::Write>(&self, f: &mut fmt::Formatter<V>) -> fmt::Result {
-        f.write_str("SplitsN")?;
-        f.write_str("(")?;
-        self.write_left(f)?;
-        f.write_str(")")
-    }
-}
-
-impl<'a, T: BitStore, O: BitOrder, P, W> SplitsN<'a, T, O, P, W> {
-    ghost use Rattle.bitvec_split.specs.Views.{limited_of};
-
-    fn write_left<V: fmt::Write>(&self, f: &mut fmt::Formatter<V>) -> fmt::Result
-        ensures { WritesOnOk V.write_str_gives f.old result (bits_text (uncut (limited_of self.now).left) ++ (comma ++ decimal (limited_of self.now).count)) f.new }
-    {
-        fmt::Display::fmt(&self.parts.uncut(), f)?;
-        f.write_str(", ")?;
-        fmt::Display::fmt(&self.count, f)
+        write_limited("SplitsN", self.parts.uncut(), self.count, f)
     }
 }
