@@ -8,6 +8,7 @@ use bitvec_checked::store::BitStore;
 use bitvec_checked::{DONE, LSB0, end_status, or_next, window_status};
 use bitvec_ones::base::{Lsb0, Msb0, Window};
 use bitvec_ones::engine::SliceOrder;
+use bitvec_ones::words::WordOrder;
 use bitvec_ones::write_places;
 
 /// The indices, from `from` on, of the bits of a window that are 1, ascending, as many as there are
@@ -39,7 +40,7 @@ pub(crate) fn ones<T: BitStore>(
 
 /// The same under one order. Conditions: the memory has at most `MAX_BITS` bits, the window lies in it,
 /// and has so many bits.
-fn ones_in<T: BitStore, O: SliceOrder>(
+fn ones_in<T: BitStore, O: SliceOrder + WordOrder>(
     elements: &[T],
     window: Window,
     from: usize,

@@ -1,12 +1,13 @@
 //! The places of a bit, written down from an index on.
 ghost use Rattle.bitvec_ones.specs.base.Memory.{HasWindow};
 
-use bitvec_ones::base::{HiLo, Lsb0, Window};
+use bitvec_ones::base::{Lsb0, Msb0, Window};
 use bitvec_ones::engine::SliceOrder;
+use bitvec_ones::words::WordOrder;
 use bitvec_ones::write_places;
 
 /// Whether `count` places are written from the index on, and the four are then these.
-fn writes<O: SliceOrder>(
+fn writes<O: SliceOrder + WordOrder>(
     bytes: &[u8],
     window: Window,
     want: bool,
@@ -44,7 +45,22 @@ fn places_from_an_index_on(rt: HostRuntime) {
 }
 
 #[test]
-fn places_under_another_order(rt: HostRuntime) {
+fn places_under_the_other_order(rt: HostRuntime) {
     let window = Window { start: 0, len: 8 };
-    assert!(rt; writes::<HiLo>(&[0xA5], window, true, 2, 4, 3, &[3, 4, 6, 99]));
+    assert!(rt; writes::<Msb0>(&[0xA5], window, true, 2, 4, 3, &[2, 5, 7, 99]));
+}
+
+/// Whether the places of all ones of ten bytes are these eight, where there is room for 70.
+fn writes_all<O: SliceOrder + WordOrder>(bytes: &[u8; 10], wanted: &[usize; 8]) -> bool {
+    let mut places = [99; 70];
+    let window = Window { start: 0, len: 80 };
+    let found = write_places::<u8, O>(bytes, window, true, 0, &mut places);
+    found == 8 && places[..8] == wanted[..] && places[8] == 99
+}
+
+#[test]
+fn places_of_words_with_room_for_all(rt: HostRuntime) {
+    let bytes = [0x21, 0x00, 0x80, 0x0F, 0, 0, 0, 0, 0, 0x02];
+    assert!(rt; writes_all::<Lsb0>(&bytes, &[0, 5, 23, 24, 25, 26, 27, 73]));
+    assert!(rt; writes_all::<Msb0>(&bytes, &[2, 7, 16, 28, 29, 30, 31, 78]));
 }

@@ -1,6 +1,5 @@
 -- What is kept: what is loaded, and after each turn what it leaves.
-use Rattle.std.specs.Prelude.{◌≡◌, ◌≢◌, ℕ, ◌+◌, ◌-◌, ◌^◌, ◌<◌, ◌≤◌, zero, suc, min, Bool, true, false, List, [], ◌∷◌, ◌++◌, length, map, slice_index_or, bit_and}
-use mathlib.Core.List.{append-nil}
+use Rattle.std.specs.Prelude.{◌≡◌, ◌≢◌, ℕ, ◌+◌, ◌-◌, ◌^◌, ◌<◌, ◌≤◌, zero, suc, min, Bool, true, false, List, [], ◌∷◌, length, map, slice_index_or, bit_and}
 use Rattle.std.specs.Int.{bit_at, trailing_zeros, w64}
 use Rattle.std.proofs.Common.{arith, sym, ◌∙◌, ap, ⊎_elim}
 use Rattle.std.proofs.lemmas.Bool.{cases_eq, cases_lt}
@@ -16,12 +15,13 @@ use Rattle.bitvec_query.specs.base.WritesLaws.{HasWindow-range, within-list}
 use Rattle.bitvec_query.specs.engine.Front.{IsFront}
 use Rattle.bitvec_ones.specs.declared.rest.Rest.{Rest}
 use Rattle.bitvec_ones.specs.Places.{places_in}
-use Rattle.bitvec_ones.specs.PlacesLaws.{places-join, places-next, places-none}
+use Rattle.bitvec_ones.specs.PlacesLaws.{places-next, places-none}
 use Rattle.bitvec_query.specs.walk.Sought.{Shows}
 use Rattle.bitvec_query.specs.words.Field.{padded}
 use Rattle.bitvec_ones.specs.Kept.{Keeps}
 use Rattle.bitvec_ones.specs.declared.kept.Kept.{Kept}
-use Rattle.bitvec_ones.specs.WordOnes.{word_ones}
+use Rattle.bitvec_ones.specs.WordOnes.{order_ones, word_ones}
+use Rattle.bitvec_ones.proofs.OrderOnesLemmas.{shows-turned, turned-fits, turned-is, turned-ones, turned_word}
 use Rattle.bitvec_ones.proofs.LowestLemmas.{lowest-cleared, lowest-others}
 use Rattle.bitvec_ones.proofs.OnesLemmas.{ones-lowest, ones-none}
 
@@ -196,23 +196,18 @@ module _ (want : Bool) (list : List Bool) (rest : Rest) (kept : Kept) (keeps : K
       (λ i below set. let at = keeps.inside i below set in (set, at.0, at.2)) (λ i below set low high. set) in
       word_places (length (word_ones kept.ones)) want list (record { front = rest.front; back = kept.edge }) kept cut (omega arith) fits (omega arith)
 
-  -- and of a word of ones the first stands in the rest
-  pub base-below : kept.ones ≢ 0 → kept.ones < 2 ^ 64 → kept.base < rest.back
-  base-below some fits = let at = found-inside want list rest kept keeps some fits in let below = at.1 in omega arith
+-- the places of a rest's first bits, which were loaded as a word, of which the ones of `m` are the wanted
+module _ (b : ℕ) (at : ℕ → ℕ → ℕ) (xs : List ℕ) (window : Window) (rest : Rest) (word count : ℕ) (has : HasWindow b xs window) (some : rest.front < rest.back) (bound : rest.back ≤ window.len)
+    (front : IsFront b at xs (window_range window rest.front rest.back) word count) where
+  front-places : (want : Bool) (m : ℕ) → Shows 64 (λ b i. i) (turned_word at word) (turned_word at m) 0 count want → places_in want (list_in b at xs window) rest.front (rest.front + count) ≡ map (λ place. rest.front + place) (order_ones at m)
+  front-places want m shows =
+      let within = front.within in
+      let keeps = kept-loaded b at xs window rest word (turned_word at word) count has some bound front (turned-is at word) want (turned_word at m) shows in
+      kept-places want (list_in b at xs window) rest (record { ones = turned_word at m; base = rest.front; edge = rest.front + count }) keeps (turned-fits at m) (omega arith)
+      ∙ ap (map (λ place. rest.front + place)) (turned-ones at m (turned_word at m) (turned-is at m))
 
-  module _ (fits : kept.ones < 2 ^ 64) (within : kept.edge ≤ rest.back) (from : ℕ) (low : from ≤ rest.front) where
-    -- the places from one before the rest on
-    pub kept-joined : places_in want list from kept.edge ≡ places_in want list from rest.front ++ map (λ place. kept.base + place) (word_ones kept.ones)
-    kept-joined = places-join want list from rest.front kept.edge low keeps.order ∙ ap (λ (l : List ℕ). places_in want list from rest.front ++ l) (kept-places fits within)
+  pub front-ones : places_in true (list_in b at xs window) rest.front (rest.front + count) ≡ map (λ place. rest.front + place) (order_ones at word)
+  front-ones = front-places true word (shows-ones b at xs window rest word (turned_word at word) count has some bound front (turned-is at word))
 
-    pub kept-none : kept.ones ≡ 0 → places_in want list from kept.edge ≡ places_in want list from rest.front
-    kept-none none =
-        kept-joined ∙ ap (λ (l : List ℕ). places_in want list from rest.front ++ map (λ place. kept.base + place) l) (ones-none kept.ones none) ∙ append-nil (places_in want list from rest.front)
-
-    -- and all of them
-    pub kept-rest : places_in want list from rest.back ≡ places_in want list from rest.front ++ (map (λ place. kept.base + place) (word_ones kept.ones) ++ places_in want list kept.edge rest.back)
-    kept-rest =
-        let order = keeps.order in
-        places-join want list from rest.front rest.back low (omega arith)
-        ∙ ap (λ (l : List ℕ). places_in want list from rest.front ++ l)
-        (places-join want list rest.front kept.edge rest.back order within ∙ ap (λ (l : List ℕ). l ++ places_in want list kept.edge rest.back) (kept-places fits within))
+  pub front-zeros : (m : ℕ) → Shows 64 at word m 0 count false → places_in false (list_in b at xs window) rest.front (rest.front + count) ≡ map (λ place. rest.front + place) (order_ones at m)
+  front-zeros m shows = front-places false m (shows-turned at word m 0 count false shows)

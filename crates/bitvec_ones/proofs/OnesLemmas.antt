@@ -8,7 +8,7 @@ use Rattle.std.proofs.lemmas.Bool.{cases_eq}
 use Rattle.std.proofs.lemmas.List.{length-map}
 use Rattle.std.proofs.lemmas.List.Elements.{filter-append}
 use Rattle.std.proofs.lemmas.List.FromFn.{get_or-map-range_with_len, length-range_with_len}
-use Rattle.std.proofs.lemmas.List.Sums.{length-filter}
+use Rattle.std.proofs.lemmas.List.Sums.{count_by-le-length, length-filter}
 use Rattle.std.proofs.lemmas.Nat.Bits.{bit_at-lt, bit_at-trailing_zeros, bit_at-zero, same_from_bits_below}
 use Rattle.std.proofs.lemmas.Simd.{bit_mask_l, mask_l-lt, ones-mask_l}
 use Rattle.bitvec_query.specs.base.ListsLaws.{range_with_len-add}
@@ -42,12 +42,20 @@ unfolding word_ones
 ones-count word fits =
     length-filter (is_set word) (range_with_len 0 64) ∙ sym (ones-mask_l (is_set word) (range_with_len 0 64)) ∙ ap count_ones (masked word fits)
 
+pub ones-most : (word : ℕ) → length (word_ones word) ≤ 64
+unfolding word_ones
+ones-most word =
+    let count = length-filter (is_set word) (range_with_len 0 64) in
+    let most = count_by-le-length (is_set word) (range_with_len 0 64) in
+    let all = length-range_with_len 0 64 in
+    omega arith
+
 -- ---- the lowest of them
 
 clear : (word i : ℕ) → bit_at word i ≡ 0 → is_set word i ≡ false
 clear word i none = ap (λ (n : ℕ). n == 1) none
 
-filter-same : (p q : ℕ → Bool) (a n : ℕ) → ((k : ℕ) → k < n → p (a + k) ≡ q (a + k)) → filter p (range_with_len a n) ≡ filter q (range_with_len a n)
+pub filter-same : (p q : ℕ → Bool) (a n : ℕ) → ((k : ℕ) → k < n → p (a + k) ≡ q (a + k)) → filter p (range_with_len a n) ≡ filter q (range_with_len a n)
 filter-same p q a zero same = refl
 filter-same p q a (suc n) same =
     let first : a + 0 ≡ a = omega arith in

@@ -1,97 +1,152 @@
--- The ones of a word as they are written down: the first `n` of the places `all` were.
-use Rattle.std.specs.Prelude.{◌≡◌, ◌≢◌, ℕ, ◌+◌, ◌-◌, ◌^◌, ◌<◌, ◌≤◌, List, [], ◌∷◌, ◌++◌, length, drop, map, min, take, bit_and}
+-- A list whose first elements are written one after the other.
+use Rattle.std.specs.Prelude.{◌≡◌, ◌≢◌, ◌⊎◌, ℕ, ◌+◌, ◌-◌, ◌^◌, ◌<◌, ◌≤◌, List, [], ◌∷◌, ◌++◌, count_ones, length, drop, map, min, take, bit_and, refl}
 use Rattle.std.specs.Int.{trailing_zeros, w64}
-use Rattle.std.proofs.Common.{arith, sym, ◌∙◌, ap, get_or, length-drop}
+use Rattle.std.proofs.Common.{arith, sym, ◌∙◌, ap, ⊎_elim, length-drop}
 use mathlib.Core.List.{append-nil}
 use Rattle.std.proofs.Math.ListN.{set}
-use Rattle.std.proofs.Math.Seq.{take-append-add}
-use Rattle.std.proofs.lemmas.List.{drop-drop, get_or-drop, length-append, length-take-le, drop_all, map-append, take-append-le, take-map, take_all, take_more, take_more_set}
-use Rattle.std.proofs.lemmas.Slice.{drop-put_mid, take-put_mid}
+use Rattle.std.proofs.Math.Seq.{drop-append-add, drop-append_seam, take-add, take-append-add}
+use Rattle.std.proofs.lemmas.List.{drop-drop, drop-set-lt, length-append, length-map, length-set, length-take-le, drop_all, take-append-drop, take-append-le, take_all, take_more_set}
 use borrow.Rule.Slice.PartMut.{put_mid}
 use Rattle.bitvec_ones.specs.WordOnes.{word_ones}
-use Rattle.bitvec_ones.proofs.OnesLemmas.{ones-lowest, ones-none}
+use Rattle.bitvec_ones.proofs.OnesLemmas.{ones-count, ones-lowest, ones-most, ones-none}
 
--- the ones of `word` are those that are left
-module _ (all : List ℕ) (n word : ℕ) (left : drop n all ≡ word_ones word) where
-  pub ended : word ≡ 0 → length all ≤ n
-  ended none = let long = ap length (left ∙ ones-none word none) in omega (arith, length-drop n all)
+-- the first n of `all` stand in place of the first n of `old`
+pub record Written (all old now : List ℕ) (n : ℕ) : Type 0 where
+  pub few : n ≤ length all
+  pub within : n ≤ length old
+  pub room : length now ≡ length old
+  pub front : take n now ≡ take n all
+  pub behind : drop n now ≡ drop n old
 
-  -- some are left where there is a place to write one to
-  pub some-left : n < length all → word ≢ 0
-  some-left more none = let most = ended none in omega arith
+pub written-none : (all old : List ℕ) → Written all old old 0
+written-none all old = record { few = omega arith; within = omega arith; room = refl; front = refl; behind = refl }
 
-  module _ (some : word ≢ 0) (fits : word < 2 ^ 64) where
-    next : drop n all ≡ trailing_zeros w64 word ∷ word_ones (bit_and word (word - 1))
-    next = left ∙ ones-lowest word some fits
+-- what a call says that wrote the first n
+pub written-by : (all old now : List ℕ) (n : ℕ) → n ≤ length all → n ≤ length old → now ≡ take n all ++ drop n old → Written all old now n
+written-by all old now n few within is =
+    let begun = length-take-le n all few in
+    let sum = ap length is ∙ length-append (take n all) (drop n old) in
+    let rest = length-drop n old in
+    record {
+      few = few;
+      within = within;
+      room = omega arith;
+      front = ap (take n) is ∙ take-append-le n (take n all) (drop n old) (omega arith) ∙ take_all n (take n all) (omega arith);
+      behind = ap (drop n) is ∙ ap (λ (m : ℕ). drop m (take n all ++ drop n old)) (sym begun) ∙ drop-append_seam (take n all) (drop n old);
+    }
 
-    next-more : n < length all
-    next-more = let long = ap length next in omega (arith, length-drop n all)
+module _ (all old now : List ℕ) (n : ℕ) (before : Written all old now n) where
+  -- all that is known of the list in the end
+  pub written-is : now ≡ take n all ++ drop n old
+  written-is = sym (take-append-drop n now) ∙ ap (λ (l : List ℕ). l ++ drop n now) before.front ∙ ap (λ (l : List ℕ). take n all ++ l) before.behind
 
-    pub next-left : drop (n + 1) all ≡ word_ones (bit_and word (word - 1))
-    next-left = sym (drop-drop 1 n all) ∙ ap (drop 1) next
+  -- the next is written
+  pub written-next : (next : ℕ) (later : List ℕ) → drop n all ≡ next ∷ later → n < length old → Written all old (set now n next) (n + 1)
+  written-next next later more below =
+      let few = before.few in
+      let room = before.room in
+      let left = ap length more in
+      let long = length-drop n all in
+      let one : take 1 (drop n all) ≡ next ∷ [] = ap (take 1) more in
+      record {
+        few = omega arith;
+        within = omega arith;
+        room = length-set now n next ∙ room;
+        front = take_more_set now n next (omega arith) ∙ ap (λ (l : List ℕ). l ++ (next ∷ [])) before.front ∙ sym (take-add n 1 all ∙ ap (λ (l : List ℕ). take n all ++ l) one);
+        behind = drop-set-lt (n + 1) now n next (omega arith) ∙ sym (drop-drop 1 n now) ∙ ap (drop 1) before.behind ∙ drop-drop 1 n old;
+      }
 
-    next-taken : take (n + 1) all ≡ take n all ++ (trailing_zeros w64 word ∷ [])
-    next-taken =
-        let same : n ≡ n + 0 = omega arith in
-        let here : get_or all n 0 ≡ trailing_zeros w64 word = ap (λ (k : ℕ). get_or all k 0) same ∙ sym (get_or-drop n all 0 0) ∙ ap (λ (l : List ℕ). get_or l 0 0) next in
-        rw here at (take_more all n 0 next-more)
+  -- more was written to the rest of the list, where all stand in it
+  module _ (every more part : List ℕ) (k : ℕ) (is : every ≡ all ++ more) (whole : n ≡ length all) (most : k ≡ min (length more) (length (drop n now))) (wrote : part ≡ take k more ++ drop k (drop n now)) where
+    after : Written more (drop n now) part k
+    after = written-by more (drop n now) part k (omega arith) (omega arith) wrote
 
-    -- it was written as the next
-    pub next-written : (f : ℕ → ℕ) (now : List ℕ) → n < length now → take n now ≡ map f (take n all) → take (n + 1) (set now n (f (trailing_zeros w64 word))) ≡ map f (take (n + 1) all)
-    next-written f now below before =
-        take_more_set now n (f (trailing_zeros w64 word)) below ∙ ap (λ (l : List ℕ). l ++ (f (trailing_zeros w64 word) ∷ [])) before ∙ sym (map-append f (take n all) (trailing_zeros w64 word ∷ [])) ∙ ap (map f) (sym next-taken)
+    put : put_mid n (length now - n) now part ≡ take n now ++ part
+    put =
+        let rest = length-drop n now in
+        let none : drop (length now - n) (drop n now) ≡ [] = drop_all (length now - n) (drop n now) (omega arith) in
+        ap (λ (l : List ℕ). take n now ++ (part ++ l)) none ∙ ap (λ (l : List ℕ). take n now ++ l) (append-nil part)
 
--- what stands there in the end
-pub written : (f : ℕ → ℕ) (all now : List ℕ) (n room : ℕ) → n ≡ room → length now ≤ n → take n now ≡ map f (take n all) → now ≡ take room (map f all)
-written f all now n room same whole front = sym (take_all n now whole) ∙ front ∙ sym (take-map f n all) ∙ ap (λ (k : ℕ). take k (map f all)) same
+    pub more-written : Written every old (put_mid n (length now - n) now part) (n + k)
+    more-written =
+        let few = after.few in
+        let within = after.within in
+        let inside = before.within in
+        let room = before.room in
+        let rest = length-drop n now in
+        let begun = length-take-le n now (omega arith) in
+        let there = after.room in
+        let joined = length-append all more in
+        let sum = length-append (take n now) part in
+        let same = ap length put in
+        let first : n + k ≡ length (take n now) + k = omega arith in
+        let second : length all + k ≡ n + k = omega arith in
+        rw is (record {
+          few = omega arith;
+          within = omega arith;
+          room = omega arith;
+          front = ap (take (n + k)) put ∙ ap (λ (m : ℕ). take m (take n now ++ part)) first ∙ take-append-add (take n now) part k
+              ∙ ap (λ (l : List ℕ). l ++ take k part) (before.front ∙ take_all n all (omega arith)) ∙ ap (λ (l : List ℕ). all ++ l) after.front
+              ∙ sym (take-append-add all more k) ∙ ap (λ (m : ℕ). take m (all ++ more)) second;
+          behind = ap (drop (n + k)) put ∙ ap (λ (m : ℕ). drop m (take n now ++ part)) first ∙ drop-append-add (take n now) part k
+              ∙ after.behind ∙ ap (drop k) before.behind ∙ drop-drop k n old;
+        })
 
--- ---- a part of a list that was written whole
+    pub more-most : n + k ≡ min (length every) (length old)
+    more-most =
+        let joined = ap length is ∙ length-append all more in
+        let room = before.room in
+        let inside = before.within in
+        let rest = length-drop n now in
+        omega arith
 
--- behind the first `count` of `now` the part has `more`
-module _ (now part front more : List ℕ) (count n : ℕ) (within : count ≤ length now) (before : take count now ≡ front) where
-  pub part-written : part ≡ more → length more ≡ n → take (count + n) (put_mid count (count + n - count) now part) ≡ front ++ more
-  part-written is long =
-      let same = ap length is in
-      take-put_mid count (count + n - count) now part (count + n) (omega arith) within ∙ ap (λ (l : List ℕ). l ++ part) before ∙ ap (λ (l : List ℕ). front ++ l) is
+  module _ (every later : List ℕ) (is : every ≡ all ++ later) where
+    -- and of a longer list, of which no more have room
+    pub written-count : n ≡ min (length all) (length old) → (later ≡ []) ⊎ (length old ≤ n) → n ≡ min (length every) (length old)
+    written-count most ended =
+        let sum = ap length is ∙ length-append all later in
+        ⊎_elim (λ (none : later ≡ []). let long = ap length none in omega arith) (λ (full : length old ≤ n). omega arith) ended
 
-  -- what stands behind the part is as before
-  pub behind-part : (old : List ℕ) → drop count now ≡ drop count old → length part ≡ n → drop (count + n) (put_mid count (count + n - count) now part) ≡ drop (count + n) old
-  behind-part old behind long =
-      drop-put_mid count (count + n - count) now part (count + n) (omega arith) within (omega arith)
-      ∙ sym (drop-drop n count now) ∙ ap (drop n) behind ∙ drop-drop n count old
+    pub written-of : now ≡ take n every ++ drop n old
+    written-of = written-is ∙ ap (λ (l : List ℕ). l ++ drop n old) (sym (ap (take n) is ∙ take-append-le n all later before.few))
 
--- the list is as long as before
-pub part-long : (now part : List ℕ) (count n : ℕ) → count + n ≤ length now → length part ≡ n → length (put_mid count n now part) ≡ length now
-part-long now part count n within long =
-    let first = length-append (take count now) (part ++ drop n (drop count now)) in
-    let second = length-append part (drop n (drop count now)) in
-    let third = length-drop n (drop count now) in
-    let fourth = length-drop count now in
-    let fifth = length-take-le count now (omega arith) in
-    omega arith
+-- ---- the ones of a word
 
--- and the part may be all the rest of it
-pub rest-written : (now part front more later : List ℕ) (count : ℕ) → count ≤ length now → take count now ≡ front → length now - count ≤ length more → part ≡ take (length now - count) more → put_mid count (length now - count) now part ≡ take (length now) (front ++ (more ++ later))
-rest-written now part front more later count within before enough is =
-    let all = put_mid count (length now - count) now part in
-    let long : length part ≡ length now - count = ap length is ∙ length-take-le (length now - count) more enough in
-    let same = part-long now part count (length now - count) (omega arith) long in
-    let begun : length front ≡ count = sym (ap length before) ∙ length-take-le count now within in
-    let whole : length now ≡ length front + (length now - count) = omega arith in
-    sym (take_all (length now) all (omega arith))
-    ∙ take-put_mid count (length now - count) now part (length now) (omega arith) within
-    ∙ ap (λ (l : List ℕ). l ++ part) before
-    ∙ ap (λ (l : List ℕ). front ++ l) (is ∙ sym (take-append-le (length now - count) more later enough))
-    ∙ sym (ap (λ (k : ℕ). take k (front ++ (more ++ later))) whole ∙ take-append-add front (more ++ later) (length now - count))
+-- the places of the first n ones of a word, counted from `base`, were written, and those of `rest` are left
+pub record WrittenOnes (base word : ℕ) (old now : List ℕ) (n rest : ℕ) : Type 0 where
+  pub left : drop n (map (λ place. base + place) (word_ones word)) ≡ map (λ place. base + place) (word_ones rest)
+  pub written : Written (map (λ place. base + place) (word_ones word)) old now n
 
--- which is then as long as the shorter of all and `old`, and all of it was written
-pub rest-counted : (now part front more later all old : List ℕ) (count : ℕ) → count ≤ length now → take count now ≡ front → length now - count ≤ length more → length part ≡ length now - count → length now ≡ length old → all ≡ front ++ (more ++ later) → length (put_mid count (length now - count) now part) ≡ min (length all) (length old)
-rest-counted now part front more later all old count within before enough long room is =
-    let same = part-long now part count (length now - count) (omega arith) long in
-    let begun : length front ≡ count = sym (ap length before) ∙ length-take-le count now within in
-    let whole = ap length is in
-    omega (arith, length-append front (more ++ later), length-append more later)
+module _ (base word : ℕ) (old : List ℕ) where
+  pub ones-begun : WrittenOnes base word old old 0 word
+  ones-begun = record { left = refl; written = written-none _ old }
 
-pub rest-is : (new all old : List ℕ) (n : ℕ) → n ≡ length old → new ≡ take n all → length new ≡ n → new ≡ take (length new) all ++ drop (length new) old
-rest-is new all old n room is long =
-    is ∙ ap (λ (k : ℕ). take k all) (sym long) ∙ sym (append-nil (take (length new) all)) ∙ ap (λ (l : List ℕ). take (length new) all ++ l) (sym (drop_all (length new) old (omega arith)))
+  module _ (now : List ℕ) (n rest : ℕ) (before : WrittenOnes base word old now n rest) where
+    abbrev all : List ℕ
+    all = map (λ place. base + place) (word_ones word)
+
+    module _ (some : rest ≢ 0) (fits : rest < 2 ^ 64) where
+      next : drop n all ≡ (base + trailing_zeros w64 rest) ∷ map (λ place. base + place) (word_ones (bit_and rest (rest - 1)))
+      next = before.left ∙ ap (map (λ place. base + place)) (ones-lowest rest some fits)
+
+      pub ones-more : n < 64
+      ones-more =
+          let long = ap length next in
+          let left = length-drop n all in
+          let most = length-map (word_ones word) (λ place. base + place) in
+          omega (arith, ones-most word)
+
+      pub ones-next : n < length old → WrittenOnes base word old (set now n (base + trailing_zeros w64 rest)) (n + 1) (bit_and rest (rest - 1))
+      ones-next below = record {
+        left = sym (drop-drop 1 n all) ∙ ap (drop 1) next;
+        written = written-next all old now n before.written _ _ next below;
+      }
+
+    -- in the end all are written, or as many as there is room for
+    pub ones-ended : word < 2 ^ 64 → (rest ≡ 0) ⊎ (length old ≤ n) → n ≡ min (count_ones word) (length old)
+    ones-ended fits ended =
+        let few = before.written.few in
+        let within = before.written.within in
+        let count = length-map (word_ones word) (λ place. base + place) ∙ ones-count word fits in
+        let left = length-drop n all in
+        ⊎_elim (λ (none : rest ≡ 0). let long = ap length (before.left ∙ ap (map (λ place. base + place)) (ones-none rest none)) in omega arith) (λ (full : length old ≤ n). omega arith) ended

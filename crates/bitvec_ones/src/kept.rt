@@ -63,12 +63,7 @@ pub(crate) fn take_kept<T: BitStore, O: SliceOrder>(
 /// What is kept of the first elements of a rest. Conditions: the memory has at most `MAX_BITS`
 /// bits, the window lies in it, and the rest is of its indices and not empty.
 #[inline(always)]
-pub(crate) fn load<T: BitStore, O: SliceOrder>(
-    elements: &[T],
-    window: Window,
-    want: bool,
-    rest: Rest,
-) -> Kept
+fn load<T: BitStore, O: SliceOrder>(elements: &[T], window: Window, want: bool, rest: Rest) -> Kept
     requires window { HasWindow T.BITS (map T.value elements.now) window }
     requires some { rest.front < rest.back }
     requires bound { rest.back ≤ window.len }

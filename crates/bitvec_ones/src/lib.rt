@@ -44,6 +44,11 @@ pub mod store {
     pub use bitvec_query::store::BitStore;
 }
 
+/// What crates above name of `bitvec_words`.
+pub mod words {
+    pub use bitvec_query::words::WordOrder;
+}
+
 pub use index_walk::IndexWalk;
 pub use ones_calls::OnesCalls;
 pub use places::{IterOnes, IterZeros, Places};

@@ -3,6 +3,7 @@ pub use Rattle.bitvec_slice.specs.base.FoundLaws
 pub use Rattle.bitvec_slice.specs.base.Lists
 pub use Rattle.bitvec_slice.specs.base.ListsLaws
 pub use Rattle.bitvec_slice.specs.base.Memory
+pub use Rattle.bitvec_slice.specs.base.MemoryLaws
 pub use Rattle.bitvec_slice.specs.base.PlacesLaws
 pub use Rattle.bitvec_slice.specs.base.ScanLaws
 pub use Rattle.bitvec_slice.specs.base.SliceLaws

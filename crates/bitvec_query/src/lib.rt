@@ -43,4 +43,9 @@ pub mod walk {
     pub use bitvec_slice::walk::sought;
 }
 
+/// What crates above name of `bitvec_words`.
+pub mod words {
+    pub use bitvec_slice::words::{WORD_BITS, WordOrder};
+}
+
 pub use queries::BitQueries;
