@@ -242,7 +242,7 @@ static void bits(const char *program) {
 static void window(const char *program, const char *operation, size_t left, size_t right, const std::string &phase) {
     std::printf("| %s | %s |", operation, phase.c_str());
     for (size_t width : {8, 16, 64})
-        std::printf(" %.3g |", 1024 / time_runs(program, {operation, {width, right, left, 1024}}, 1'000'000));
+        std::printf(" %.3g |", 1024 / time_runs(program, {operation, {width, right, left, 1024}}, 4'000'000));
     std::printf("\n");
 }
 
