@@ -1,6 +1,6 @@
 //! Operations on few bits, at places that change from round to round.
 use crate::operation::zeros_and_one;
-use bitrecord::bits::{BitEdits, BitQueries, BitSlice, BitSliceMut, BitStore, Lsb0};
+use bitrecord::bits::{BitEdits, BitQueries, BitSlice, BitSliceMut, BitStore, BitVec, Lsb0};
 use std::alloc::Allocator;
 
 /// How many bits each of the two memories has.
@@ -24,6 +24,21 @@ impl Few {
             "equality_few" => Some(Few::Equality),
             "fill_few" => Some(Few::Fill),
             _ => None,
+        }
+    }
+
+    /// Carries it out so many times on parts of `LEN` bits, and gives the sum of what it gives.
+    fn carry_out<T: BitStore, const LEN: usize>(
+        self,
+        left: BitSliceMut<'_, T, Lsb0>,
+        right: BitSlice<'_, T, Lsb0>,
+        times: usize,
+    ) -> usize {
+        match self {
+            Few::Copy => rounds::<Copied, T, LEN>(left, right, times),
+            Few::Count => rounds::<Counted, T, LEN>(left, right, times),
+            Few::Equality => rounds::<Compared, T, LEN>(left, right, times),
+            Few::Fill => rounds::<Filled, T, LEN>(left, right, times),
         }
     }
 }
@@ -116,29 +131,26 @@ fn rounds<F: Act, T: BitStore, const LEN: usize>(
     sum
 }
 
-/// Carries an operation out so many times on parts of `LEN` bits of two views, one in three of whose
-/// bits is 1, and gives the sum of what it gives and of the ones that are left. None where memory was
-/// refused.
+/// A memory, one in three of whose bits is 1.
+fn memory<T: BitStore, A: Allocator>(alloc: A) -> Option<BitVec<T, Lsb0, A>> {
+    let mut bits = zeros_and_one::<T, Lsb0, A>(alloc, MEMORY)?;
+    for index in 0..MEMORY {
+        if index < bits.len() {
+            bits.set(index, index % 3 == 0);
+        }
+    }
+    Some(bits)
+}
+
+/// Carries an operation out so many times on parts of `LEN` bits of two memories, and gives the sum of
+/// what it gives and of the ones that are left. None where memory was refused.
 pub(crate) fn few_times<T: BitStore, A: Allocator + Copy, const LEN: usize>(
     alloc: A,
     few: Few,
     times: usize,
 ) -> Option<usize> {
-    let mut left = zeros_and_one::<T, Lsb0, A>(alloc, MEMORY)?;
-    let mut right = zeros_and_one::<T, Lsb0, A>(alloc, MEMORY)?;
-    for index in 0..MEMORY {
-        if index < left.len() && index < right.len() {
-            left.set(index, index % 3 == 0);
-            right.set(index, index % 3 == 0);
-        }
-    }
-    let mut left = left.as_mut_bitslice();
-    let right = right.as_bitslice();
-    let sum = match few {
-        Few::Copy => rounds::<Copied, T, LEN>(left.as_mut(), right, times),
-        Few::Count => rounds::<Counted, T, LEN>(left.as_mut(), right, times),
-        Few::Equality => rounds::<Compared, T, LEN>(left.as_mut(), right, times),
-        Few::Fill => rounds::<Filled, T, LEN>(left.as_mut(), right, times),
-    };
+    let mut left = memory::<T, A>(alloc)?;
+    let right = memory::<T, A>(alloc)?;
+    let sum = few.carry_out::<T, LEN>(left.as_mut_bitslice(), right.as_bitslice(), times);
     Some(sum.wrapping_add(left.count_ones()))
 }

@@ -39,29 +39,31 @@ fn number(word: &String) -> Option<usize> {
     usize::from_str_radix(word.as_str(), 10).ok()
 }
 
-/// The sum that the words after the program's name ask for. None where they ask for none.
-fn sum<A: Allocator + Copy>(alloc: A, words: &[String]) -> Option<u128> {
-    let (name, width, phase, times, left, bits) = match words {
-        [name, width, phase, times] => (name, width, phase, times, 0, BITS),
-        [name, width, phase, left, bits, times] => {
-            (name, width, phase, times, number(left)?, number(bits)?)
-        }
+/// Where the operation is carried out, and how many times, by the words behind the width.
+fn numbers(words: &[String]) -> Option<(Place, usize)> {
+    let (phase, left, bits, times) = match words {
+        [_, _, phase, times] => (phase, 0, BITS, times),
+        [_, _, phase, left, bits, times] => (phase, number(left)?, number(bits)?, times),
         _ => return None,
     };
-    let (name, width) = (name.as_str(), width.as_str());
-    let (phase, times) = (number(phase)?, number(times)?);
+    let right = number(phase)?;
+    Some((Place { left, right, bits }, number(times)?))
+}
+
+/// The sum that the words after the program's name ask for. None where they ask for none.
+fn sum<A: Allocator + Copy>(alloc: A, words: &[String]) -> Option<u128> {
+    let (place, times) = numbers(words)?;
+    let (name, width) = (words.first()?.as_str(), words.get(1)?.as_str());
     match name {
         "encode" => return encode_times(alloc, times),
         "decode" => return decode_times(alloc, times),
         _ => {}
     }
-    let right = phase;
-    let place = Place { left, right, bits };
     let sum = match (name, Mixed::of(name), Operation::of(name)) {
-        ("walk", _, _) => sum_of_walk(alloc, width, phase, times)?,
+        ("walk", _, _) => sum_of_walk(alloc, width, place.right, times)?,
         (_, Some(mixed), _) => sum_of_mixed(alloc, mixed, width, times)?,
         (_, _, Some(operation)) => sum_of_operation(alloc, operation, width, place, times)?,
-        _ => sum_of_bits(alloc, name, width, phase, times)?,
+        _ => sum_of_bits(alloc, name, width, place.right, times)?,
     };
     Some(sum as u128)
 }
