@@ -1,5 +1,7 @@
-// Times runs of `bitvec_times`, which is given as the first argument, and prints four tables in Markdown:
-// records beside a struct of bit fields, elements of 128 bits beside those of 64, views of two types, and walks over ones.
+// Times runs of `bitvec_times`, which is given as the first argument, and prints tables in Markdown: records beside a
+// struct of bit fields, elements of 128 bits beside those of 64, views of two types, walks over ones, single bits and few
+// bits beside loops by hand, and windows of 1024 bits.
+#include "bits.hpp"
 #include "header.hpp"
 #include <algorithm>
 #include <chrono>
@@ -20,10 +22,18 @@ static double seconds_since(Clock::time_point begin) {
     return std::chrono::duration<double>(Clock::now() - begin).count();
 }
 
-// Runs the program, and gives the seconds that it took and what it printed.
-static std::pair<double, std::string> run(const char *program, const std::string &operation, unsigned width,
-                                          unsigned phase, size_t times) {
-    std::string words[] = {program, operation, std::to_string(width), std::to_string(phase), std::to_string(times)};
+// What the program is asked for: an operation, and numbers.
+struct Task {
+    std::string operation;
+    std::vector<size_t> numbers;
+};
+
+// Runs the program so many times through, and gives the seconds that it took and what it printed.
+static std::pair<double, std::string> run(const char *program, const Task &task, size_t times) {
+    std::vector<std::string> words = {program, task.operation};
+    for (const size_t number : task.numbers)
+        words.push_back(std::to_string(number));
+    words.push_back(std::to_string(times));
     std::vector<char *> arguments;
     for (std::string &word : words)
         arguments.push_back(word.data());
@@ -54,12 +64,11 @@ static std::pair<double, std::string> run(const char *program, const std::string
 }
 
 // The time of one call in nanoseconds: of runs of `times` calls and of none, the best of 7 each.
-static double time_runs(const char *program, const std::string &operation, unsigned width, unsigned phase,
-                        size_t times) {
+static double time_runs(const char *program, const Task &task, size_t times) {
     double none = std::numeric_limits<double>::infinity(), all = none;
     for (int round = 0; round < 7; ++round) {
-        none = std::min(none, run(program, operation, width, phase, 0).first);
-        all = std::min(all, run(program, operation, width, phase, times).first);
+        none = std::min(none, run(program, task, 0).first);
+        all = std::min(all, run(program, task, times).first);
     }
     return 1e9 * (all - none) / double(times);
 }
@@ -77,27 +86,26 @@ static double time_loop(size_t times, Call call) {
     return 1e9 * best / double(times);
 }
 
-// What a loop over the struct gives, as the program prints it.
-template <class Call>
-static void check(const char *program, const char *operation, Call call) {
-    uint64_t sum = 0;
-    for (size_t i = 0; i < 1000; ++i)
-        sum += call(i);
-    const std::string said = run(program, operation, 8, 0, 1000).second;
+// That the program prints the sum of a loop by hand.
+static void check(const char *program, const Task &task, size_t times, size_t sum) {
+    const std::string said = run(program, task, times).second;
     if (said != std::to_string(sum) + "\n") {
-        std::fprintf(stderr, "%s: %s of the program, %lu of the struct\n", operation, said.c_str(), sum);
+        std::fprintf(stderr, "%s: %s of the program, %zu by hand\n", task.operation.c_str(), said.c_str(), sum);
         std::exit(1);
     }
 }
 
 template <class Call>
 static void compare(const char *program, const char *operation, Call call) {
-    check(program, operation, call);
+    const Task task{operation, {8, 0}};
     constexpr size_t times = 2'000'000;
-    uint64_t sum = 0;
+    size_t sum = 0;
+    for (size_t i = 0; i < 1000; ++i)
+        sum += call(i);
+    check(program, task, 1000, sum);
     const double by_struct = time_loop(10 * times, [&](size_t i) { sum += call(i); });
     asm volatile("" : : "g"(sum) : "memory");
-    const double by_layout = time_runs(program, operation, 8, 0, times);
+    const double by_layout = time_runs(program, task, times);
     std::printf("| %s | %.1f | %.1f | %.3g |\n", operation, by_layout, by_struct, by_struct / by_layout);
 }
 
@@ -122,15 +130,15 @@ static void records(const char *program) {
 static void widths(const char *program) {
     std::printf("\n### 1048576 bits in elements of 64 and of 128 bits, in bits per ns\n\n"
                 "| operation | phase | u8 | u64 | u128 | u128 / u64 |\n|---|---|---|---|---|---|\n");
-    for (const char *operation : {"copy", "or", "equality", "count", "search", "reverse"})
-        for (unsigned phase : {0u, 29u}) {
-            if (phase && std::string("count search reverse").find(operation) != std::string::npos)
+    for (const char *operation : {"copy", "or", "equality", "count_ones", "first_one", "reverse"})
+        for (size_t phase : {0, 29}) {
+            if (phase && std::string("count_ones first_one reverse").find(operation) != std::string::npos)
                 continue;
             double speeds[3];
-            const unsigned widths[] = {8, 64, 128};
+            const size_t widths[] = {8, 64, 128};
             for (int i = 0; i < 3; ++i)
-                speeds[i] = 1048576 / time_runs(program, operation, widths[i], phase, 4000);
-            std::printf("| %s | %u | %.3g | %.3g | %.3g | %.3g |\n", operation, phase, speeds[0], speeds[1], speeds[2],
+                speeds[i] = 1048576 / time_runs(program, {operation, {widths[i], phase}}, 4000);
+            std::printf("| %s | %zu | %.3g | %.3g | %.3g | %.3g |\n", operation, phase, speeds[0], speeds[1], speeds[2],
                         speeds[2] / speeds[1]);
         }
 }
@@ -139,12 +147,12 @@ static void widths(const char *program) {
 static void walks(const char *program) {
     std::printf("\n### A walk over the ones of 1048576 bits, in bits per ns\n\n"
                 "| ones | u8 | u64 | u128 |\n|---|---|---|---|\n");
-    for (unsigned every : {61u, 2u}) {
+    for (size_t every : {61, 2}) {
         double speeds[3];
-        const unsigned widths[] = {8, 64, 128};
+        const size_t widths[] = {8, 64, 128};
         for (int i = 0; i < 3; ++i)
-            speeds[i] = 1048576 / time_runs(program, "walk", widths[i], every, 400);
-        std::printf("| 1 in %u | %.3g | %.3g | %.3g |\n", every, speeds[0], speeds[1], speeds[2]);
+            speeds[i] = 1048576 / time_runs(program, {"walk", {widths[i], every}}, 400);
+        std::printf("| 1 in %zu | %.3g | %.3g | %.3g |\n", every, speeds[0], speeds[1], speeds[2]);
     }
 }
 
@@ -153,8 +161,104 @@ static void mixed(const char *program) {
     std::printf("\n### 1048576 bits of views of two types, the right one of u16, in bits per ns\n\n"
                 "| operation | u8 | u64 |\n|---|---|---|\n");
     for (const char *operation : {"eq_bits", "cmp_bits", "or_bits", "clone_from_bitslice"})
-        std::printf("| %s | %.3g | %.3g |\n", operation, 1048576 / time_runs(program, operation, 8, 0, 100),
-                    1048576 / time_runs(program, operation, 64, 0, 100));
+        std::printf("| %s | %.3g | %.3g |\n", operation, 1048576 / time_runs(program, {operation, {8, 0}}, 100),
+                    1048576 / time_runs(program, {operation, {64, 0}}, 100));
+}
+
+// The time of a round of what a loop by hand does; its first rounds have the sum of the program.
+template <class Hand, class Round>
+static double time_by_hand(const char *program, const Task &task, size_t rounds, size_t times, Round round) {
+    Hand checked, timed;
+    size_t sum = 0;
+    for (size_t i = 0; i < rounds; ++i)
+        sum += round(checked, i);
+    check(program, task, rounds, sum + checked.ones_left());
+    const double taken = time_loop(times, [&](size_t i) { sum += round(timed, i); });
+    sum += timed.ones_left();
+    asm volatile("" : : "g"(sum) : "memory");
+    return taken;
+}
+
+// A pass over single bits of views, of a `std::vector<bool>` and by hand, in nanoseconds a bit.
+template <class Element, class Order, class Pass>
+static void single(const char *program, const char *operation, const char *said) {
+    constexpr size_t width = 8 * sizeof(Element), times = 40;
+    const Task task{operation, {width, Order::number}};
+    auto round = [](auto &bits, size_t i) { return bits.round(i); };
+    const double by_vector = time_by_hand<Single<Vector, Pass>>(program, task, 3, times, round);
+    const double by_hand = time_by_hand<Single<Elements<Element, Order>, Pass>>(program, task, 3, times, round);
+    const double by_views = time_runs(program, task, times);
+    std::printf("| %s | u%zu %s | %.3g | %.3g | %.3g | %.3g | %.3g |\n", said, width, Order::name,
+                by_views / single_bits, by_vector / single_bits, by_hand / single_bits, by_vector / by_views,
+                by_hand / by_views);
+}
+
+template <class Element, class Order>
+static void singles(const char *program) {
+    single<Element, Order, InARow<Read>>(program, "index", "`bits[i]`, in a row");
+    single<Element, Order, InARow<Read>>(program, "get", "`get(i)`, in a row");
+    single<Element, Order, AtRandom<Read>>(program, "index_at_random", "`bits[i]`, at random");
+    single<Element, Order, InARow<Write>>(program, "set", "`set`, in a row");
+    single<Element, Order, AtRandom<Write>>(program, "set_at_random", "`set`, at random");
+    single<Element, Order, Walk>(program, "by_vals", "`iter().by_vals()`");
+}
+
+// An operation on few bits of views and by hand, in nanoseconds.
+template <class Element, unsigned len, class Round>
+static void few(const char *program, const char *operation, Round round) {
+    constexpr size_t width = 8 * sizeof(Element), times = 4'000'000;
+    const Task task{std::string(operation) + "_few", {width, len}};
+    const double by_hand = time_by_hand<FewBits<Element, len>>(program, task, 1000, times, round);
+    const double by_views = time_runs(program, task, times);
+    std::printf("| %s | %u | u%zu | %.3g | %.3g | %.3g |\n", operation, len, width, by_views, by_hand,
+                by_hand / by_views);
+}
+
+template <class Element, unsigned len>
+static void fews(const char *program) {
+    few<Element, len>(program, "copy", [](auto &bits, size_t i) { return bits.copy(i); });
+    few<Element, len>(program, "fill", [](auto &bits, size_t i) { return bits.fill(i); });
+    few<Element, len>(program, "count_ones", [](auto &bits, size_t i) { return bits.count_ones(i); });
+    few<Element, len>(program, "equality", [](auto &bits, size_t i) { return bits.equality(i); });
+}
+
+static void bits(const char *program) {
+    std::printf("\n### Single bits of a view in a loop, in ns a bit\n\n"
+                "| operation | elements | views | `vector<bool>` | by hand | views / vector, speed | views / by hand, "
+                "speed |\n|---|---|---|---|---|---|---|\n");
+    singles<uint64_t, Lsb0>(program);
+    singles<uint64_t, Msb0>(program);
+    singles<uint8_t, Lsb0>(program);
+    singles<uint8_t, Msb0>(program);
+    std::printf("\n### Few bits of a view in a loop, in ns\n\n"
+                "| operation | bits | elements | views | by hand | views / by hand, speed |\n|---|---|---|---|---|---|\n");
+    fews<uint64_t, 8>(program);
+    fews<uint64_t, 64>(program);
+    fews<uint8_t, 8>(program);
+    fews<uint8_t, 64>(program);
+}
+
+// Windows of 1024 bits that begin at these places of an element.
+static void window(const char *program, const char *operation, size_t left, size_t right, const std::string &phase) {
+    std::printf("| %s | %s |", operation, phase.c_str());
+    for (size_t width : {8, 16, 64})
+        std::printf(" %.3g |", 1024 / time_runs(program, {operation, {width, right, left, 1024}}, 4'000'000));
+    std::printf("\n");
+}
+
+static void windows(const char *program) {
+    std::printf("\n### Windows of 1024 bits of views, in bits per ns\n\n"
+                "| operation | phase | u8 | u16 | u64 |\n|---|---|---|---|---|\n");
+    for (const char *operation : {"copy", "or", "equality", "swap", "compare"}) {
+        window(program, operation, 0, 0, "0, 0");
+        window(program, operation, 0, 29, "0, 29");
+        if (std::string("copy or equality").find(operation) != std::string::npos)
+            window(program, operation, 29, 29, "29, 29");
+    }
+    for (const char *operation :
+         {"fill", "invert", "count_ones", "first_one", "reverse", "rotate_left", "copy_within", "shift_start"})
+        for (size_t phase : {0, 29})
+            window(program, operation, phase, phase, std::to_string(phase));
 }
 
 int main(int, char **words) {
@@ -162,4 +266,6 @@ int main(int, char **words) {
     widths(words[1]);
     mixed(words[1]);
     walks(words[1]);
+    bits(words[1]);
+    windows(words[1]);
 }

@@ -1,47 +1,69 @@
 //! `bitvec_times OPERATION WIDTH PHASE TIMES` carries an operation out so many times, and prints the
 //! sum of what it gave: the benchmark times its runs.
 //!
-//! OPERATION is `copy`, `count`, `equality`, `or`, `reverse` or `search`, of 2^20 bits in elements of
-//! WIDTH bits, under `Lsb0`; the right side begins PHASE bits into an element. Or it is `eq_bits`,
-//! `cmp_bits`, `or_bits` or `clone_from_bitslice`, whose right side has elements of 16 bits. Or it is
-//! `walk`, over the ones of as many bits, of which one in PHASE is 1. Or it is `encode` or `decode`, of
-//! the header of a packet, in bytes.
+//! OPERATION is `copy`, `or`, `swap`, `equality`, `compare`, `copy_within`, `shift_start`,
+//! `rotate_left`, `reverse`, `fill`, `invert`, `count_ones` or `first_one`, of 2^20 bits in elements of
+//! WIDTH bits, under `Lsb0`; the right side begins PHASE bits into an element. By
+//! `OPERATION WIDTH PHASE LEFT BITS TIMES` it is of so many bits, and the left side begins LEFT bits into
+//! an element. Or it is `eq_bits`, `cmp_bits`, `or_bits` or `clone_from_bitslice`, whose right side has
+//! elements of 16 bits. Or it is `walk`, over the ones of as many bits, of which one in PHASE is 1. Or it
+//! is `encode` or `decode`, of the header of a packet, in bytes.
+//!
+//! Or it is `index`, `get`, `set` or `by_vals`, of each of 2^20 bits in a row, or `index_at_random` or
+//! `set_at_random`, of each in another order, under `Lsb0` where PHASE is 0 and else under `Msb0`. Or it
+//! is `copy_few`, `fill_few`, `count_ones_few` or `equality_few`, of PHASE bits, 8 or 64, whose place
+//! changes.
 #![tactic(auto)]
 
+mod few;
 mod mixed;
 mod operation;
 mod record;
+mod single;
 mod walk;
 
+use bitrecord::bits::{Lsb0, Msb0};
+use few::{Few, few_times};
 use mixed::{Mixed, carry_out_mixed};
-use operation::{Operation, carry_out_times};
+use operation::{BITS, Operation, Place, carry_out_times};
 use record::{decode_times, encode_times};
+use single::{Single, single_times};
 use std::alloc::Allocator;
 use std::env;
 use std::process::ExitCode;
 use std::rt::Env;
 use walk::walk_times;
 
+/// The number that a word writes.
+fn number(word: &String) -> Option<usize> {
+    usize::from_str_radix(word.as_str(), 10).ok()
+}
+
+/// Where the operation is carried out, and how many times, by the words behind the width.
+fn numbers(words: &[String]) -> Option<(Place, usize)> {
+    let (phase, left, bits, times) = match words {
+        [_, _, phase, times] => (phase, 0, BITS, times),
+        [_, _, phase, left, bits, times] => (phase, number(left)?, number(bits)?, times),
+        _ => return None,
+    };
+    let right = number(phase)?;
+    Some((Place { left, right, bits }, number(times)?))
+}
+
 /// The sum that the words after the program's name ask for. None where they ask for none.
 fn sum<A: Allocator + Copy>(alloc: A, words: &[String]) -> Option<u128> {
-    let [name, width, phase, times] = words else {
-        return None;
-    };
-    let width = width.as_str();
-    let phase = usize::from_str_radix(phase.as_str(), 10).ok()?;
-    let times = usize::from_str_radix(times.as_str(), 10).ok()?;
-    match name.as_str() {
+    let (place, times) = numbers(words)?;
+    let (name, width) = (words.first()?.as_str(), words.get(1)?.as_str());
+    match name {
         "encode" => return encode_times(alloc, times),
         "decode" => return decode_times(alloc, times),
         _ => {}
     }
-    let sum = match (name.as_str(), Mixed::of(name.as_str())) {
-        ("walk", _) => sum_of_walk(alloc, width, phase, times)?,
-        (_, Some(mixed)) => sum_of_mixed(alloc, mixed, width, times)?,
-        _ => {
-            let operation = Operation::of(name.as_str())?;
-            sum_of_operation(alloc, operation, width, phase, times)?
-        }
+    let sum = match (name, Mixed::of(name), Operation::of(name)) {
+        ("walk", _, _) => sum_of_walk(alloc, width, place.right, times)?,
+        (_, Some(mixed), _) => sum_of_mixed(alloc, mixed, width, times)?,
+        (_, _, Some(operation)) => sum_of_operation(alloc, operation, width, place, times)?,
+        _ => sum_of_bits(alloc, name, width, place.right, times)?,
     };
     Some(sum as u128)
 }
@@ -51,13 +73,35 @@ fn sum_of_operation<A: Allocator + Copy>(
     alloc: A,
     operation: Operation,
     width: &str,
-    phase: usize,
+    place: Place,
     times: usize,
 ) -> Option<usize> {
     match width {
-        "8" => carry_out_times::<u8, A>(alloc, operation, phase, times),
-        "64" => carry_out_times::<u64, A>(alloc, operation, phase, times),
-        "128" => carry_out_times::<u128, A>(alloc, operation, phase, times),
+        "8" => carry_out_times::<u8, A>(alloc, operation, place, times),
+        "16" => carry_out_times::<u16, A>(alloc, operation, place, times),
+        "64" => carry_out_times::<u64, A>(alloc, operation, place, times),
+        "128" => carry_out_times::<u128, A>(alloc, operation, place, times),
+        _ => None,
+    }
+}
+
+/// As `sum_of_operation`, of single and of few bits; `which` is the order or how many.
+fn sum_of_bits<A: Allocator + Copy>(
+    alloc: A,
+    name: &str,
+    width: &str,
+    which: usize,
+    times: usize,
+) -> Option<usize> {
+    match (Single::of(name), Few::of(name), width, which) {
+        (Some(single), _, "8", 0) => single_times::<u8, Lsb0, A>(alloc, single, times),
+        (Some(single), _, "8", _) => single_times::<u8, Msb0, A>(alloc, single, times),
+        (Some(single), _, "64", 0) => single_times::<u64, Lsb0, A>(alloc, single, times),
+        (Some(single), _, "64", _) => single_times::<u64, Msb0, A>(alloc, single, times),
+        (_, Some(few), "8", 8) => few_times::<u8, A, 8>(alloc, few, times),
+        (_, Some(few), "8", 64) => few_times::<u8, A, 64>(alloc, few, times),
+        (_, Some(few), "64", 8) => few_times::<u64, A, 8>(alloc, few, times),
+        (_, Some(few), "64", 64) => few_times::<u64, A, 64>(alloc, few, times),
         _ => None,
     }
 }

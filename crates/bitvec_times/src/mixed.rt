@@ -48,8 +48,8 @@ pub(crate) fn carry_out_mixed<T: BitStore, U: BitStore, A: Allocator + Copy>(
     operation: Mixed,
     times: usize,
 ) -> Option<usize> {
-    let mut left = zeros_and_one::<T, A>(alloc, BITS)?;
-    let right = zeros_and_one::<U, A>(alloc, BITS)?;
+    let mut left = zeros_and_one::<T, Lsb0, A>(alloc, BITS)?;
+    let right = zeros_and_one::<U, Lsb0, A>(alloc, BITS)?;
     let right = right.as_bitslice();
     let mut left = left.as_mut_bitslice();
     let mut sum = 0usize;

@@ -22,7 +22,7 @@ pub(crate) fn walk_times<T: BitStore, A: Allocator + Copy>(
     if every == 0 {
         return None;
     }
-    let mut bits = zeros_and_one::<T, A>(alloc, BITS)?;
+    let mut bits = zeros_and_one::<T, Lsb0, A>(alloc, BITS)?;
     for index in 0..BITS {
         if index < bits.len() {
             bits.set(index, index % every == 0);
