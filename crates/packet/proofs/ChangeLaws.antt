@@ -1,14 +1,14 @@
 -- Fields of a view written one after the other, and the checksum last.
-use Rattle.std.specs.Prelude.{◌≡◌, ℕ, ◌+◌, ◌-◌, ◌<◌, All, Bool, true, List, [], ◌∷◌, ◌++◌, fold, length, slice_index_or, slice_set, OnOk, refl}
+use Rattle.std.specs.Prelude.{◌≡◌, ℕ, ◌-◌, ◌<◌, All, Bool, true, List, [], ◌∷◌, ◌++◌, length, slice_index_or, slice_set, OnOk, refl}
 use Rattle.std.proofs.Common.{Err, Ok, arith, sym, ◌∙◌, ap, subst}
 use Rattle.std.specs.declared.result.Result.{Result}
 use Rattle.std.proofs.lemmas.List.{get_or_append_left, get_or_push, get_or-map, length-map, length_push, set-set}
 use Rattle.std.proofs.lemmas.List.Sums.{fold_push}
-use Rattle.bitrecord.specs.bits.{BitSliceMut, Order, Store, Window, WritesBits, length_bits, seen_mut, written-none, written-then}
+use Rattle.bitrecord.specs.bits.{BitSliceMut, Order, Store, Window, length_bits, seen_mut, written-none, written-then}
 use Rattle.bitrecord.specs.Layouts.{IsLayout, field_at, no_field}
 use Rattle.bitrecord.specs.Records.{IsBeside, WritesField, number_in, record_in}
 use Rattle.bitrecord.specs.declared.endian.Endian.TheVariants.{Big}
-use Rattle.packet.specs.Changes.{IsBesideAll, MakesRight, SetsFields, WritesChanges, numbers_seen, with_changes}
+use Rattle.packet.specs.Changes.{MakesRight, SetsFields, WritesChanges, numbers_seen, with_changes}
 use Rattle.packet.specs.Checksums.{checksum_of, checksum_word, sum_words}
 use Rattle.packet.specs.Packets.{AreFields, AreWords, numbers_at, packet_bits}
 use Rattle.packet.specs.declared.changes.Change.{Change}

@@ -1,5 +1,5 @@
 -- The fields and the words of a header.
-use Rattle.std.proofs.Common.{◌≡◌, ℕ, ◌+◌, ◌*◌, ◌<◌, ◌≤◌, ◌⊎◌, List, [], ◌++◌, get_or, length, map, take, refl, sym, ap, ⊎_elim, ◌∙◌, arith}
+use Rattle.std.proofs.Common.{◌≡◌, ℕ, ◌+◌, ◌*◌, ◌<◌, ◌≤◌, ◌⊎◌, List, [], ◌++◌, get_or, length, take, refl, sym, ap, ⊎_elim, ◌∙◌, arith}
 use Rattle.std.proofs.lemmas.List.{flat_map_more, get_or-map, length-append, length-map, take_more}
 use Rattle.std.specs.List.{flat_map}
 use Rattle.std.proofs.lemmas.List.FromFn.{get_or-map-range_with_len, length-map-range_with_len}
@@ -12,7 +12,6 @@ use Rattle.packet.proofs.PlaceLaws.{window-at}
 use Rattle.packet.specs.declared.fault.Fault.{Fault}
 use Rattle.packet.specs.declared.fault.Fault.TheVariants.{Memory, Truncated}
 use Rattle.packet.specs.declared.field.Field.{Field}
-use Rattle.packet.specs.declared.field.TheConstants.{CHECKSUM}
 use Rattle.packet.specs.declared.header.Header.{Header}
 
 pub words-are : (count : ℕ) → checksum_word < count → count ≤ 30 → AreWords (word_windows count)

@@ -1,5 +1,5 @@
 -- Which changes assignments are.
-use Rattle.std.specs.Prelude.{◌≡◌, ℕ, ◌+◌, ◌<◌, Bool, true, false, ◌||◌, ◌==◌, List, [], length, map, slice_index_or, Option, Some, None, position, IsSomeAnd}
+use Rattle.std.specs.Prelude.{◌≡◌, ℕ, ◌+◌, ◌<◌, Bool, true, false, ◌||◌, ◌==◌, List, [], length, slice_index_or, Option, Some, None, position, IsSomeAnd}
 use Rattle.std.specs.Str.{bytes_eq}
 use Rattle.bitrecord.specs.Layouts.{field_at}
 use Rattle.bitrecord.specs.Records.{Fits}

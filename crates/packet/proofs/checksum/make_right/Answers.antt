@@ -1,4 +1,4 @@
-use Rattle.std.proofs.Common.{◌≡◌, ℕ, sym, ap, subst, ◌∙◌, true}
+use Rattle.std.proofs.Common.{ℕ, ap, subst, ◌∙◌, true}
 use Rattle.bitrecord.specs.Layouts.{IsLayout}
 use Rattle.bitrecord.specs.RecordLaws.{is-layout, seen-record}
 use Rattle.bitrecord.specs.Views.{bits_of, fields_of}

@@ -4,9 +4,7 @@ use Rattle.std.proofs.lemmas.Result.{err_from_is_err_and}
 use Rattle.bitrecord.specs.bits.{Window}
 use Rattle.packet.specs.Arguments.{named}
 use Rattle.packet.specs.Changes.{CanChange}
-use Rattle.packet.specs.Packets.{AreWords, Place, packet_fields, places_of, windows_of}
-use Rattle.packet.specs.Resolved.{ChangesFault}
-use Rattle.packet.specs.declared.changes.Change.{Change}
+use Rattle.packet.specs.Packets.{AreWords, packet_fields, places_of, windows_of}
 use Rattle.packet.proofs.EndLaws.{changes-fault}
 use Rattle.packet.proofs.HeaderLaws.{header-words}
 use Rattle.packet.proofs.PlaceLaws.{all-can}

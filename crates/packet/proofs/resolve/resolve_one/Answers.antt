@@ -1,9 +1,8 @@
-use Rattle.std.proofs.Common.{◌≡◌, ◌^◌, ◌<◌, [], length, Some, refl, sym, subst, ◌∙◌, arith}
+use Rattle.std.proofs.Common.{◌≡◌, ◌^◌, ◌<◌, [], Some, refl, sym, subst, ◌∙◌, arith}
 use Rattle.std.proofs.lemmas.List.{length-map}
 use Rattle.bitrecord.specs.bits.{Window}
 use Rattle.packet.specs.Packets.{Place, place, places_of}
 use Rattle.packet.specs.Resolved.{place_of}
-use Rattle.packet.specs.declared.field.Field.{Field}
 use Rattle.packet.proofs.PlaceLaws.{place-below, window-at}
 use Rattle.packet.proofs.resolve.resolve_one.Goals as goal
 
