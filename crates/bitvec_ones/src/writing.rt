@@ -86,12 +86,23 @@ fn write_ones<O: SliceOrder + WordOrder>(word: u64, base: usize, indices: &mut [
     ensures indices { indices.new ≡ take result (map (λ place. base + place) (order_ones O.at word)) ++ drop result indices.old }
 {
     if indices.len() < WORD_BITS {
-        write_first(O::lowest_first(word), base, indices)
+        write_few::<O>(word, base, indices)
     } else if O::HIGH {
         write_back(word, base, indices)
     } else {
         write_all(O::lowest_first(word), base, indices)
     }
+}
+
+/// [`write_ones`] where there may be room for fewer: a function of its own, so that it stands apart from
+/// the loop over words.
+#[inline(never)]
+fn write_few<O: SliceOrder>(word: u64, base: usize, indices: &mut [usize]) -> usize
+    requires { base + 64 < 2 ^ 64 }
+    ensures count { result ≡ min (length (order_ones O.at word)) (length indices.old) }
+    ensures indices { indices.new ≡ take result (map (λ place. base + place) (order_ones O.at word)) ++ drop result indices.old }
+{
+    write_first(O::lowest_first(word), base, indices)
 }
 
 /// Writes where the ones of a word stand from the least significant bit on, counted from `base`, as many

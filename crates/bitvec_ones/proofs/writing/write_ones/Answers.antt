@@ -6,18 +6,6 @@ use Rattle.bitvec_ones.proofs.OnesLemmas.{ones-count, ones-most}
 use Rattle.bitvec_ones.proofs.OrderOnesLemmas.{high-ones, map-reverse, turned-ones}
 use Rattle.bitvec_ones.proofs.writing.write_ones.Goals as goal
 
-pub returns-then-indices-lt-WORD_BITS-clause-count : goal.returns-then-indices-lt-WORD_BITS-clause-count
-returns-then-indices-lt-WORD_BITS-clause-count g c =
-    let turned = ap length (turned-ones g.O.BitOrder.at c.args.word c.lowest_first.result c.lowest_first.ensures) in
-    let fits : c.lowest_first.result < 2 ^ 64 = search rules in
-    let count = ones-count c.lowest_first.result fits in
-    let is = c.write_first.ensures.count in
-    omega arith
-
-pub returns-then-indices-lt-WORD_BITS-clause-indices : goal.returns-then-indices-lt-WORD_BITS-clause-indices
-returns-then-indices-lt-WORD_BITS-clause-indices g c =
-    rw (sym (turned-ones g.O.BitOrder.at c.args.word c.lowest_first.result c.lowest_first.ensures)) c.write_first.ensures.indices
-
 pub returns-then-HIGH-clause-count : goal.returns-then-HIGH-clause-count
 returns-then-HIGH-clause-count g c =
     let high = high-ones g.O.BitOrder.at (λ i below. cc (g.met.O.WordOrder.ends_law 64 i below, sym c.HIGH.ensures ∙ c.if-HIGH.true)) c.args.word in
@@ -42,12 +30,12 @@ returns-then-HIGH-clause-indices g c =
 
 pub returns-else-HIGH-clause-count : goal.returns-else-HIGH-clause-count
 returns-else-HIGH-clause-count g c =
-    let turned = ap length (turned-ones g.O.BitOrder.at c.args.word c.lowest_first-else-HIGH.result c.lowest_first-else-HIGH.ensures) in
-    let fits : c.lowest_first-else-HIGH.result < 2 ^ 64 = search rules in
-    let count = ones-count c.lowest_first-else-HIGH.result fits in
+    let turned = ap length (turned-ones g.O.BitOrder.at c.args.word c.lowest_first.result c.lowest_first.ensures) in
+    let fits : c.lowest_first.result < 2 ^ 64 = search rules in
+    let count = ones-count c.lowest_first.result fits in
     let is = c.write_all.ensures.count in
     omega arith
 
 pub returns-else-HIGH-clause-indices : goal.returns-else-HIGH-clause-indices
 returns-else-HIGH-clause-indices g c =
-    rw (sym (turned-ones g.O.BitOrder.at c.args.word c.lowest_first-else-HIGH.result c.lowest_first-else-HIGH.ensures)) c.write_all.ensures.indices
+    rw (sym (turned-ones g.O.BitOrder.at c.args.word c.lowest_first.result c.lowest_first.ensures)) c.write_all.ensures.indices
