@@ -326,8 +326,8 @@ void measure(size_t len, Phase phase, bool pairs_alone, PeerTimes &peers, Report
     row("invert", one, timed.invert(), [](Peers &p) { return p.invert(); });
     row("count_ones", one, timed.count_ones(), [](Peers &p) { return p.count_ones(); });
     row("first_one", one, timed.first_one(), [](Peers &p) { return p.first_one(); });
-    row("iter_ones 1/61", one, timed.iter_ones(61), [](Peers &p) { return p.iter_ones(61); });
-    row("iter_ones 1/2", one, timed.iter_ones(2), [](Peers &p) { return p.iter_ones(2); });
+    row("ones 1/61", one, timed.iter_ones(61), [](Peers &p) { return p.iter_ones(61); });
+    row("ones 1/2", one, timed.iter_ones(2), [](Peers &p) { return p.iter_ones(2); });
 }
 
 // Work on few bits, in nanoseconds, with starts that the compiler doesn't know.
