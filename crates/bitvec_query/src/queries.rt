@@ -28,6 +28,7 @@ pub trait BitQueries<T: BitStore, O: SliceOrder>: View<T, O> {
     /// let view = BitSlice::<u32, Lsb0>::from_slice(&cells);
     /// assert!(rt; (view.count_ones(), view.count_zeros()) == (48, 48));
     /// ```
+    #[inline(always)]
     final fn count_ones(&self) -> usize
         ensures { result ≡ count_by (λ bit. bit) (Self.shows self.now).bits }
     {

@@ -15,6 +15,7 @@ impl<'a, T: BitStore, O: SliceOrder> PartialEq for BitSlice<'a, T, O> {
     ghost laws = { Prim.search (comparing, rules) };
 
     /// Whether the other view has the same bits.
+    #[inline(always)]
     fn eq(&self, other: &Self) -> bool {
         eq_block_in::<T, O>(
             self.elements(),
@@ -35,6 +36,7 @@ impl<'a, T: BitStore, O: SliceOrder> PartialEq for BitSliceMut<'a, T, O> {
     ghost laws = { Prim.search (comparing, rules) };
 
     /// Whether the other view has the same bits.
+    #[inline(always)]
     fn eq(&self, other: &Self) -> bool {
         self.as_ref() == other.as_ref()
     }

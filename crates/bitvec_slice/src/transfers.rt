@@ -18,6 +18,7 @@ impl<'a, T: BitStore, O: SliceOrder> BitSliceMut<'a, T, O> {
     ///     part.copy_from_bitslice(from);
     /// }
     /// ```
+    #[inline(always)]
     pub fn copy_from_bitslice(&mut self, src: BitSlice<'_, T, O>)
         requires { (seen_mut self.old).window.len ≡ (seen src).window.len }
         ensures { WritesBits self.old self.new (seen src.entry).bits }

@@ -46,6 +46,7 @@ impl Few {
 /// An operation on parts of two views.
 trait Act {
     /// Carries it out, and gives a number that depends on what it read.
+    #[inline(always)]
     fn act<T: BitStore>(
         left: BitSliceMut<'_, T, Lsb0>,
         right: BitSlice<'_, T, Lsb0>,
@@ -66,6 +67,7 @@ struct Compared;
 struct Filled;
 
 impl Act for Copied {
+    #[inline(always)]
     fn act<T: BitStore>(
         mut left: BitSliceMut<'_, T, Lsb0>,
         right: BitSlice<'_, T, Lsb0>,
@@ -79,6 +81,7 @@ impl Act for Copied {
 }
 
 impl Act for Counted {
+    #[inline(always)]
     fn act<T: BitStore>(
         left: BitSliceMut<'_, T, Lsb0>,
         _: BitSlice<'_, T, Lsb0>,
@@ -89,6 +92,7 @@ impl Act for Counted {
 }
 
 impl Act for Compared {
+    #[inline(always)]
     fn act<T: BitStore>(
         left: BitSliceMut<'_, T, Lsb0>,
         right: BitSlice<'_, T, Lsb0>,
@@ -99,6 +103,7 @@ impl Act for Compared {
 }
 
 impl Act for Filled {
+    #[inline(always)]
     fn act<T: BitStore>(
         mut left: BitSliceMut<'_, T, Lsb0>,
         _: BitSlice<'_, T, Lsb0>,

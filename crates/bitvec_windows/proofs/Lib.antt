@@ -2,6 +2,7 @@ pub mod Answered
 mod CandidateLemmas
 mod DifferenceLemmas
 mod DirectionLemmas
+mod FewLemmas
 pub mod Edges
 pub mod Rotated
 mod StandingLemmas

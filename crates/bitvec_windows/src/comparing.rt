@@ -1,14 +1,17 @@
 //! The bits of two windows of slices of elements, compared.
-ghost use Rattle.std.specs.Prelude.{◌≡◌, map};
+ghost use Rattle.std.specs.Prelude.{◌≡◌, ◌≤◌, map};
 ghost use Rattle.std.specs.Cmp.Lexicographic.{slice_cmp};
 ghost use Rattle.std.specs.Ordering.{bool_cmp};
 ghost use Rattle.bitvec_engine.specs.base.Lists.{same_bits};
 ghost use Rattle.bitvec_engine.specs.base.Memory.{HasWindow, list_in};
 
 use crate::difference::common_bits;
-use bitvec_engine::base::{BitOrder, Window};
+use crate::direction::{Direction, direction_of};
+use crate::window_words::run_word;
+use bitvec_engine::base::{BitOrder, Lsb0, Msb0, Window};
 use bitvec_engine::cells::Shared;
 use bitvec_engine::store::BitStore;
+use bitvec_engine::words::{WORD_BITS, WordOrder};
 use bitvec_engine::{SliceOrder, get_bit};
 use std::cmp::Ordering;
 
@@ -36,7 +39,33 @@ pub fn eq_in<T: BitStore, O: BitOrder, U: BitStore, P: BitOrder>(
 
 /// Whether two windows have the same bits, of elements of the same type and order, as the order
 /// compares them. Condition: as of [`eq_in`].
+#[inline(always)]
 pub fn eq_block_in<T: BitStore, O: SliceOrder>(
+    left: &[T],
+    left_window: Window,
+    right: &[T],
+    right_window: Window,
+) -> bool
+    requires window { HasWindow T.BITS (map T.value left.now) left_window }
+    requires right_window { HasWindow T.BITS (map T.value right.now) right_window }
+    ensures { result ≡ same_bits (list_in T.BITS O.at (map T.value left.now) left_window)
+        (list_in T.BITS O.at (map T.value right.now) right_window) }
+{
+    if left_window.len != right_window.len {
+        return false;
+    }
+    if left_window.len <= WORD_BITS {
+        match direction_of::<O, T>() {
+            Direction::Up => return eq_few::<Lsb0, T>(left, left_window, right, right_window),
+            Direction::Down => return eq_few::<Msb0, T>(left, left_window, right, right_window),
+            Direction::Other => {}
+        }
+    }
+    eq_many::<T, O>(left, left_window, right, right_window)
+}
+
+/// [`eq_block_in`] of windows of any length.
+fn eq_many<T: BitStore, O: SliceOrder>(
     left: &[T],
     left_window: Window,
     right: &[T],
@@ -50,6 +79,24 @@ pub fn eq_block_in<T: BitStore, O: SliceOrder>(
     let mut left = Shared::new(left);
     let mut right = Shared::new(right);
     O::block_eq::<Shared<T>, Shared<T>>(&mut left, left_window, &mut right, right_window)
+}
+
+/// [`eq_block_in`] of windows of as many bits, at most 64, as words.
+#[inline(always)]
+fn eq_few<W: WordOrder, T: BitStore>(
+    left: &[T],
+    left_window: Window,
+    right: &[T],
+    right_window: Window,
+) -> bool
+    requires window { HasWindow T.BITS (map T.value left.now) left_window }
+    requires right_window { HasWindow T.BITS (map T.value right.now) right_window }
+    requires lengths { left_window.len ≡ right_window.len }
+    requires bound { left_window.len ≤ 64 }
+    ensures { result ≡ same_bits (list_in T.BITS W.at (map T.value left.now) left_window)
+        (list_in T.BITS W.at (map T.value right.now) right_window) }
+{
+    run_word::<W, T>(left, left_window) == run_word::<W, T>(right, right_window)
 }
 
 /// How the bits of two windows compare, as lists of truth values do. Condition: as of [`eq_in`].

@@ -1,14 +1,14 @@
 //! Bits copied from a window of one slice of elements to a window of another.
-ghost use Rattle.std.specs.Prelude.{◌≡◌, map};
+ghost use Rattle.std.specs.Prelude.{◌≡◌, ◌≤◌, map};
 ghost use Rattle.bitvec_engine.specs.base.Memory.{HasWindow, Writes, list_in};
 
 use crate::direction::{Direction, direction_of};
 use crate::whole_words::store_bits;
-use crate::window_words::{window_word, word_end};
+use crate::window_words::{run_word, window_word, word_end};
 use bitvec_engine::base::{BitOrder, Lsb0, Msb0, Window};
 use bitvec_engine::cells::{Exclusive, Shared};
 use bitvec_engine::store::BitStore;
-use bitvec_engine::words::WordOrder;
+use bitvec_engine::words::{WORD_BITS, WordOrder};
 use bitvec_engine::{SliceOrder, bits_copy};
 
 /// Copies the bits of the right window, of elements of any type and order. Condition: each memory
@@ -63,7 +63,31 @@ fn copy_words<W: WordOrder, T: BitStore, U: BitStore, P: BitOrder>(
 
 /// Copies the bits of the right window, of elements of the same type and order, as the order does
 /// it. Condition: as of [`copy_from_in`].
+#[inline(always)]
 pub fn copy_from_block_in<T: BitStore, O: SliceOrder>(
+    left: &mut [T],
+    left_window: Window,
+    right: &[T],
+    right_window: Window,
+)
+    requires window { HasWindow T.BITS (map T.value left.old) left_window }
+    requires right_window { HasWindow T.BITS (map T.value right.now) right_window }
+    requires lengths { left_window.len ≡ right_window.len }
+    ensures writes { Writes T.BITS O.at (map T.value left.old) (map T.value left.new) left_window
+        (list_in T.BITS O.at (map T.value right.now) right_window) }
+{
+    if left_window.len <= WORD_BITS {
+        match direction_of::<O, T>() {
+            Direction::Up => return copy_few::<Lsb0, T>(left, left_window, right, right_window),
+            Direction::Down => return copy_few::<Msb0, T>(left, left_window, right, right_window),
+            Direction::Other => {}
+        }
+    }
+    copy_many::<T, O>(left, left_window, right, right_window);
+}
+
+/// [`copy_from_block_in`] of windows of any length.
+fn copy_many<T: BitStore, O: SliceOrder>(
     left: &mut [T],
     left_window: Window,
     right: &[T],
@@ -78,4 +102,24 @@ pub fn copy_from_block_in<T: BitStore, O: SliceOrder>(
     let mut left = Exclusive::new(left);
     let mut right = Shared::new(right);
     O::block_copy::<Exclusive<T>, Shared<T>>(&mut left, left_window, &mut right, right_window);
+}
+
+/// [`copy_from_block_in`] of windows of at most 64 bits, as a word.
+#[inline(always)]
+fn copy_few<W: WordOrder, T: BitStore>(
+    left: &mut [T],
+    left_window: Window,
+    right: &[T],
+    right_window: Window,
+)
+    requires window { HasWindow T.BITS (map T.value left.old) left_window }
+    requires right_window { HasWindow T.BITS (map T.value right.now) right_window }
+    requires lengths { left_window.len ≡ right_window.len }
+    requires bound { left_window.len ≤ 64 }
+    ensures writes { Writes T.BITS W.at (map T.value left.old) (map T.value left.new) left_window
+        (list_in T.BITS W.at (map T.value right.now) right_window) }
+{
+    let word = run_word::<W, T>(right, right_window);
+    let mut cells = Exclusive::new(left);
+    store_bits::<W, Exclusive<T>>(&mut cells, left_window, word);
 }

@@ -2,17 +2,28 @@
 ghost use Rattle.std.specs.Prelude.{◌≡◌, count_by, map};
 ghost use Rattle.bitvec_engine.specs.base.Memory.{HasWindow, list_in};
 
-use bitvec_engine::base::{BitOrder, Window};
+use crate::direction::{Direction, direction_of};
+use crate::window_words::run_word;
+use bitvec_engine::base::{BitOrder, Lsb0, Msb0, Window};
 use bitvec_engine::cells::Shared;
 use bitvec_engine::count;
 use bitvec_engine::store::BitStore;
+use bitvec_engine::words::WORD_BITS;
 
 /// How many bits of a window are 1. Condition: the memory has at most `MAX_BITS` bits, and the
 /// window lies in it.
+#[inline(always)]
 pub fn count_in<T: BitStore, O: BitOrder>(cells: &[T], window: Window) -> usize
     requires window { HasWindow T.BITS (map T.value cells.now) window }
     ensures { result ≡ count_by (λ bit. bit) (list_in T.BITS O.at (map T.value cells.now) window) }
 {
+    if window.len <= WORD_BITS {
+        match direction_of::<O, T>() {
+            Direction::Up => return run_word::<Lsb0, T>(cells, window).count_ones() as usize,
+            Direction::Down => return run_word::<Msb0, T>(cells, window).count_ones() as usize,
+            Direction::Other => {}
+        }
+    }
     let mut accessor = Shared::new(cells);
     count::<O, Shared<T>>(&mut accessor, window)
 }

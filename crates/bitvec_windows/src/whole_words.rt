@@ -1,15 +1,15 @@
 //! Up to 64 bits of a window loaded and stored as a word: at once where they are whole elements.
-ghost use Rattle.std.specs.Prelude.{◌≡◌, ◌≤◌, take};
+ghost use Rattle.std.specs.Prelude.{◌≡◌, ◌≢◌, ◌%◌, ◌<◌, ◌≤◌, take};
 ghost use Rattle.bitvec_engine.specs.base.Memory.{HasWindow, Writes, element_bits, list_in};
 ghost use Rattle.bitvec_engine.specs.cells.Access.{CostsAtMost, OnlyReads};
 ghost use Rattle.bitvec_engine.specs.walk.Cost.{fill_loads, touched_count};
 ghost use Rattle.bitvec_engine.specs.words.Field.{padded};
 
-use bitvec_engine::base::Window;
+use bitvec_engine::base::{Part, Window, first_part};
 use bitvec_engine::cells::{Cells, CellsRead};
 use bitvec_engine::copy::{load_elements, store_elements};
 use bitvec_engine::store::BitStore;
-use bitvec_engine::words::{WORD_BITS, WordOrder, load_field, store_field};
+use bitvec_engine::words::{WORD_BITS, WordOrder, load_field, moved, store_field, store_part};
 
 /// The bits of a window as the first bits of a word; the others are 0. Condition and loads: as of
 /// [`load_field`].
@@ -42,5 +42,68 @@ pub(crate) fn store_bits<W: WordOrder, C: Cells>(cells: &mut C, window: Window, 
         store_elements::<W, C>(cells, window.start / bits, word);
         return;
     }
+    if window.len <= bits {
+        store_short::<W, C>(cells, window, word);
+        return;
+    }
+    if window.len == WORD_BITS {
+        store_across::<W, C>(cells, window, word);
+        return;
+    }
     store_field::<W, C>(cells, window, word);
+}
+
+/// [`store_bits`] of 64 bits that begin inside an element narrower than a word: the elements of one word,
+/// of which the first keeps its bits before the window, and a part of the next.
+#[inline(always)]
+fn store_across<W: WordOrder, C: Cells>(cells: &mut C, window: Window, word: u64)
+    requires window { HasWindow C.Elem.BITS (C.numbers cells.old) window }
+    requires size { window.len ≡ 64 }
+    requires narrow { C.Elem.BITS < 64 }
+    requires inside { window.start % C.Elem.BITS ≢ 0 }
+    ensures writes { Writes C.Elem.BITS W.at (C.numbers cells.old) (C.numbers cells.new) window
+        (take window.len (element_bits 64 W.at word)) }
+    ensures cost { CostsAtMost C.CellsRead cells.old cells.new (fill_loads window.len) (touched_count C.Elem.BITS window.start window.len) }
+{
+    let bits = C::Elem::BITS as usize;
+    let (first, skip) = (window.start / bits, window.start % bits);
+    let old = cells.load(first);
+    let kept = moved::<W, C::Elem, u64>(old, 0, skip, 0);
+    let front = kept | moved::<W, u64, u64>(word, 0, WORD_BITS - skip, skip);
+    store_elements::<W, C>(cells, first, front);
+    let tail = Part {
+        element: first + WORD_BITS / bits,
+        from: 0,
+        to: skip,
+    };
+    let behind = moved::<W, u64, C::Elem>(word, WORD_BITS - skip, skip, 0);
+    store_part::<W, C>(cells, tail, behind);
+}
+
+/// [`store_bits`] of a window no longer than an element: a part of one element, or of two.
+#[inline(always)]
+fn store_short<W: WordOrder, C: Cells>(cells: &mut C, window: Window, word: u64)
+    requires window { HasWindow C.Elem.BITS (C.numbers cells.old) window }
+    requires bound { window.len ≤ 64 }
+    requires short { window.len ≤ C.Elem.BITS }
+    ensures writes { Writes C.Elem.BITS W.at (C.numbers cells.old) (C.numbers cells.new) window
+        (take window.len (element_bits 64 W.at word)) }
+    ensures cost { CostsAtMost C.CellsRead cells.old cells.new (fill_loads window.len) (touched_count C.Elem.BITS window.start window.len) }
+{
+    if window.len == 0 {
+        return;
+    }
+    let head = first_part(C::Elem::BITS as usize, window);
+    let count = head.len();
+    let first = moved::<W, u64, C::Elem>(word, 0, count, head.from);
+    store_part::<W, C>(cells, head, first);
+    if count < window.len {
+        let tail = Part {
+            element: head.element + 1,
+            from: 0,
+            to: window.len - count,
+        };
+        let second = moved::<W, u64, C::Elem>(word, count, tail.to, 0);
+        store_part::<W, C>(cells, tail, second);
+    }
 }

@@ -13,7 +13,7 @@ use bitvec_engine::cells::{CellsRead, Shared};
 use bitvec_engine::copy::load_elements;
 use bitvec_engine::gathered;
 use bitvec_engine::store::BitStore;
-use bitvec_engine::words::{WORD_BITS, WordOrder, joined, load_field, moved, reversed};
+use bitvec_engine::words::{WORD_BITS, WordOrder, field, joined, load_field, moved, reversed};
 
 /// Where the word of 64 bits of the memory ends that has a window's index, or the window where that is
 /// before. Condition: the index is below the window's length, and the window ends in a memory of at
@@ -83,18 +83,26 @@ pub(crate) fn turned<V: WordOrder, W: WordOrder>(word: u64) -> u64
     }
 }
 
-/// [`window_word`] of an order that runs from one end to the other: 64 bits of elements that aren't
-/// wider are loaded as one word, and what is left of them with the next element.
+/// [`window_word`] of an order that runs from one end to the other: a window no longer than an element
+/// is loaded as one field, and 64 bits of narrower elements as one word, what is left of them with the
+/// next element.
 #[inline(always)]
-fn run_word<W: WordOrder, T: BitStore>(elements: &[T], window: Window) -> u64
+pub(crate) fn run_word<W: WordOrder, T: BitStore>(elements: &[T], window: Window) -> u64
     requires window { HasWindow T.BITS (map T.value elements.now) window }
     requires bound { window.len ≤ 64 }
     ensures { element_bits 64 W.at result
         ≡ padded 64 (list_in T.BITS W.at (map T.value elements.now) window) }
 {
     let mut cells = Shared::new(elements);
+    if window.len == 0 {
+        return 0;
+    }
     let bits = T::BITS as usize;
-    if window.len < WORD_BITS || bits > WORD_BITS {
+    if window.len <= bits {
+        let (front, _) = field::<W, Shared<T>>(&mut cells, window);
+        return moved::<W, T, u64>(front, 0, window.len, 0);
+    }
+    if window.len < WORD_BITS {
         return load_field::<W, Shared<T>>(&mut cells, window);
     }
     let (first, skip) = (window.start / bits, window.start % bits);

@@ -1,0 +1,10 @@
+use Rattle.std.proofs.Common.{◌∙◌, arith, sym}
+use Rattle.bitvec_windows.specs.base.WritesLaws.{length-list}
+use Rattle.bitvec_windows.proofs.FewLemmas.{same-words}
+use Rattle.bitvec_windows.proofs.comparing.eq_few.Goals as goal
+
+pub returns : goal.returns
+returns g c =
+    let left = length-list _ g.W.BitOrder.at _ _ c.requires.window in
+    let right = length-list _ g.W.BitOrder.at _ _ c.requires.right_window in
+    same-words g.W.BitOrder.at g.met.W.BitOrder.permutes _ _ _ _ (omega arith) (omega arith) (left ∙ c.requires.lengths ∙ sym right) c.run_word.ensures c.run_word-2.ensures
