@@ -8,7 +8,7 @@ ghost use Rattle.bitvec_checked.specs.Statuses.{bits_from};
 use crate::status::{DONE, windows_status};
 use bitvec_windows::base::Window;
 use bitvec_windows::store::BitStore;
-use bitvec_windows::{compare_block_in, eq_block_in};
+use bitvec_windows::{compare_block_in, eq_blocks_in};
 use std::cmp::Ordering;
 
 /// Whether two windows have the same bits.
@@ -33,7 +33,7 @@ pub fn equal<T: BitStore>(
     if status == DONE {
         *answer = under!(
             order,
-            eq_block_in::<T>(elements, window, right, right_window)
+            eq_blocks_in::<T>(elements, window, right, right_window)
         );
     }
     status

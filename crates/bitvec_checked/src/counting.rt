@@ -10,7 +10,7 @@ use crate::status::{DONE, window_status};
 use bitvec_windows::base::{BitOrder, Window};
 use bitvec_windows::cells::Shared;
 use bitvec_windows::store::BitStore;
-use bitvec_windows::{all_in, any_in, count_in, engine};
+use bitvec_windows::{all_in, any_in, count_blocks_in, engine};
 
 /// How many bits of a window are 1.
 pub fn count_ones<T: BitStore>(
@@ -25,7 +25,7 @@ pub fn count_ones<T: BitStore>(
     let window = Window { start, len };
     let status = window_status(order, elements, window);
     if status == DONE {
-        *ones = under!(order, count_in::<T>(elements, window));
+        *ones = under!(order, count_blocks_in::<T>(elements, window));
     }
     status
 }

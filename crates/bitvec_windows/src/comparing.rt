@@ -61,11 +61,12 @@ pub fn eq_block_in<T: BitStore, O: SliceOrder>(
             Direction::Other => {}
         }
     }
-    eq_many::<T, O>(left, left_window, right, right_window)
+    eq_blocks_in::<T, O>(left, left_window, right, right_window)
 }
 
-/// [`eq_block_in`] of windows of any length.
-fn eq_many<T: BitStore, O: SliceOrder>(
+/// [`eq_block_in`] by the order's block function at any length: the shorter way to few bits where their
+/// number isn't known when the machine code is made.
+pub fn eq_blocks_in<T: BitStore, O: SliceOrder>(
     left: &[T],
     left_window: Window,
     right: &[T],
@@ -142,7 +143,7 @@ pub fn compare_block_in<T: BitStore, O: SliceOrder>(
         let to = from + STRETCH.min(len - from);
         let part = left_window.range(from, to);
         let other = right_window.range(from, to);
-        if !eq_block_in::<T, O>(left, part, right, other) {
+        if !eq_blocks_in::<T, O>(left, part, right, other) {
             let rest = left_window.after(from);
             let other = right_window.after(from);
             return compare_in::<T, O, T, O>(left, rest, right, other);

@@ -83,11 +83,12 @@ pub fn copy_from_block_in<T: BitStore, O: SliceOrder>(
             Direction::Other => {}
         }
     }
-    copy_many::<T, O>(left, left_window, right, right_window);
+    copy_blocks_in::<T, O>(left, left_window, right, right_window);
 }
 
-/// [`copy_from_block_in`] of windows of any length.
-fn copy_many<T: BitStore, O: SliceOrder>(
+/// [`copy_from_block_in`] by the order's block function at any length: the shorter way to few bits where
+/// their number isn't known when the machine code is made.
+pub fn copy_blocks_in<T: BitStore, O: SliceOrder>(
     left: &mut [T],
     left_window: Window,
     right: &[T],

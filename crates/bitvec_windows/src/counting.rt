@@ -10,8 +10,8 @@ use bitvec_engine::count;
 use bitvec_engine::store::BitStore;
 use bitvec_engine::words::WORD_BITS;
 
-/// How many bits of a window are 1. Condition: the memory has at most `MAX_BITS` bits, and the
-/// window lies in it.
+/// How many bits of a window are 1; at most 64 bits go as a word. Condition: the memory has at most
+/// `MAX_BITS` bits, and the window lies in it.
 #[inline(always)]
 pub fn count_in<T: BitStore, O: BitOrder>(cells: &[T], window: Window) -> usize
     requires window { HasWindow T.BITS (map T.value cells.now) window }
@@ -24,6 +24,15 @@ pub fn count_in<T: BitStore, O: BitOrder>(cells: &[T], window: Window) -> usize
             Direction::Other => {}
         }
     }
+    count_blocks_in::<T, O>(cells, window)
+}
+
+/// [`count_in`] by whole elements at any length: the shorter way to few bits where their number isn't
+/// known when the machine code is made.
+pub fn count_blocks_in<T: BitStore, O: BitOrder>(cells: &[T], window: Window) -> usize
+    requires window { HasWindow T.BITS (map T.value cells.now) window }
+    ensures { result ≡ count_by (λ bit. bit) (list_in T.BITS O.at (map T.value cells.now) window) }
+{
     let mut accessor = Shared::new(cells);
     count::<O, Shared<T>>(&mut accessor, window)
 }

@@ -89,10 +89,10 @@ pub mod words {
 
 pub use answering::{fill_with_in, for_each_in};
 pub use combining::{combine_block_in, combine_in};
-pub use comparing::{compare_block_in, compare_in, eq_block_in, eq_in};
-pub use copying::{copy_from_block_in, copy_from_in};
+pub use comparing::{compare_block_in, compare_in, eq_block_in, eq_blocks_in, eq_in};
+pub use copying::{copy_blocks_in, copy_from_block_in, copy_from_in};
 pub use copying_within::copy_within_in;
-pub use counting::count_in;
+pub use counting::{count_blocks_in, count_in};
 pub use filling::{fill_in, invert_in};
 pub use needles::{contains_in, ends_with_in, starts_with_in};
 pub use reversing::reverse_in;

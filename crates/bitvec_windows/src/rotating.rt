@@ -3,7 +3,7 @@ ghost use Rattle.std.specs.Prelude.{ℕ, ◌*◌, ◌-◌, ◌≤◌, length, ma
 ghost use Rattle.bitvec_engine.specs.base.Lists.{rotated_left, rotated_right};
 ghost use Rattle.bitvec_engine.specs.base.Memory.{Edits, HasWindow};
 
-use crate::copying::copy_from_block_in;
+use crate::copying::copy_blocks_in;
 use crate::copying_within::copy_within_in;
 use crate::swapping_within::swap_ranges;
 use bitvec_engine::base::Window;
@@ -88,10 +88,10 @@ fn rotate_front<T: BitStore, O: SliceOrder>(cells: &mut [T], window: Window, by:
     T::fits_in_memory();
     let mut held = [T::ZERO; HELD];
     let aside = Window { start: 0, len: by };
-    copy_from_block_in::<T, O>(&mut held, aside, &*cells, window.range(0, by));
+    copy_blocks_in::<T, O>(&mut held, aside, &*cells, window.range(0, by));
     copy_within_in::<T, O>(cells, window, by..window.len, 0);
     let behind = window.range(window.len - by, window.len);
-    copy_from_block_in::<T, O>(cells, behind, &held, aside);
+    copy_blocks_in::<T, O>(cells, behind, &held, aside);
 }
 
 /// Rotates the bits of a window so that the bit at `by` comes first, with those from it on held
@@ -114,7 +114,7 @@ fn rotate_back<T: BitStore, O: SliceOrder>(cells: &mut [T], window: Window, by: 
         start: 0,
         len: rest,
     };
-    copy_from_block_in::<T, O>(&mut held, aside, &*cells, window.range(by, window.len));
+    copy_blocks_in::<T, O>(&mut held, aside, &*cells, window.range(by, window.len));
     copy_within_in::<T, O>(cells, window, 0..by, rest);
-    copy_from_block_in::<T, O>(cells, window.range(0, rest), &held, aside);
+    copy_blocks_in::<T, O>(cells, window.range(0, rest), &held, aside);
 }

@@ -4,7 +4,7 @@ ghost use Rattle.bitvec_engine.specs.base.Lists.{FitsWithin};
 ghost use Rattle.bitvec_engine.specs.base.Memory.{Edits, HasWindow};
 ghost use Rattle.bitvec_windows.specs.Swaps.{LieApart, swapped_within};
 
-use crate::copying::copy_from_block_in;
+use crate::copying::copy_blocks_in;
 use crate::copying_within::copy_within_in;
 use crate::swapping::swap_with_block_in;
 use bitvec_engine::SliceOrder;
@@ -106,12 +106,12 @@ fn swap_stretch<T: BitStore, O: SliceOrder>(
         start: 0,
         len: count,
     };
-    copy_from_block_in::<T, O>(
+    copy_blocks_in::<T, O>(
         &mut held,
         aside,
         &*cells,
         window.range(first, first + count),
     );
     copy_within_in::<T, O>(cells, window, second..second + count, first);
-    copy_from_block_in::<T, O>(cells, window.range(second, second + count), &held, aside);
+    copy_blocks_in::<T, O>(cells, window.range(second, second + count), &held, aside);
 }

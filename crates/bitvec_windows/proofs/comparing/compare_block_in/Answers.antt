@@ -4,11 +4,11 @@ use Rattle.bitvec_engine.specs.base.WritesLaws.{HasWindow-range, length-list, li
 use Rattle.bitvec_windows.proofs.StoreLemmas.{range-inside}
 use Rattle.bitvec_windows.proofs.comparing.compare_block_in.Goals as goal
 
-pub eq_block_in-requires-clause-window : goal.eq_block_in-requires-clause-window
-eq_block_in-requires-clause-window g c = range-inside _ _ c.args.left_window _ _ _ c.requires.window c.range-part.ensures (omega arith) (omega arith)
+pub eq_blocks_in-requires-clause-window : goal.eq_blocks_in-requires-clause-window
+eq_blocks_in-requires-clause-window g c = range-inside _ _ c.args.left_window _ _ _ c.requires.window c.range-part.ensures (omega arith) (omega arith)
 
-pub eq_block_in-requires-clause-right_window : goal.eq_block_in-requires-clause-right_window
-eq_block_in-requires-clause-right_window g c = range-inside _ _ c.args.right_window _ _ _ c.requires.right_window c.range-other.ensures (omega arith) (omega arith)
+pub eq_blocks_in-requires-clause-right_window : goal.eq_blocks_in-requires-clause-right_window
+eq_blocks_in-requires-clause-right_window g c = range-inside _ _ c.args.right_window _ _ _ c.requires.right_window c.range-other.ensures (omega arith) (omega arith)
 
 pub compare_in-requires-clause-window : goal.compare_in-requires-clause-window
 compare_in-requires-clause-window g c = rw c.after-rest.ensures (HasWindow-range _ _ c.args.left_window c.loop-from.from c.args.left_window.len c.requires.window (omega arith) (omega arith))
@@ -16,8 +16,8 @@ compare_in-requires-clause-window g c = rw c.after-rest.ensures (HasWindow-range
 pub compare_in-requires-clause-right_window : goal.compare_in-requires-clause-right_window
 compare_in-requires-clause-right_window g c = rw c.after-other.ensures (HasWindow-range _ _ c.args.right_window c.loop-from.from c.args.right_window.len c.requires.right_window (omega arith) (omega arith))
 
-pub returns-then-not-eq_block_in : goal.returns-then-not-eq_block_in
-returns-then-not-eq_block_in g c =
+pub returns-then-not-eq_blocks_in : goal.returns-then-not-eq_blocks_in
+returns-then-not-eq_blocks_in g c =
     let at = g.O.BitOrder.at in
     let inv = c.loop-from.invariant in
     let left = length-list _ at _ _ c.requires.window in
@@ -32,10 +32,10 @@ loop-from-preserved g c =
     let to = from + c.min.result in
     let left = list-range _ at _ _ from to c.requires.window (omega arith) (omega arith) in
     let right = list-range _ at _ _ from to c.requires.right_window (omega arith) (omega arith) in
-    let same = rw (c.range-part.ensures, c.range-other.ensures, left, right) at c.eq_block_in.ensures in
+    let same = rw (c.range-part.ensures, c.range-other.ensures, left, right) at c.eq_blocks_in.ensures in
     record {
       fits = omega arith;
-      same = same-stretch _ _ from to c.loop-from.invariant.same (sym same ∙ c.if-not-eq_block_in.false);
+      same = same-stretch _ _ from to c.loop-from.invariant.same (sym same ∙ c.if-not-eq_blocks_in.false);
     }
 
 pub returns : goal.returns

@@ -8,20 +8,20 @@ use Rattle.bitvec_windows.proofs.rotating.rotate_front.Goals as goal
 pub returns-then-by-eq0 : goal.returns-then-by-eq0
 returns-then-by-eq0 g c = record { writes = Writes-start c.requires.window (rw c.if-by-eq0.true (rotated-none _)) }
 
-pub copy_from_block_in-requires-clause-window : goal.copy_from_block_in-requires-clause-window
-copy_from_block_in-requires-clause-window g c = held-inside _ _ 16 _ g.met.T.BitStore.width_law refl (omega arith) (omega arith)
+pub copy_blocks_in-requires-clause-window : goal.copy_blocks_in-requires-clause-window
+copy_blocks_in-requires-clause-window g c = held-inside _ _ 16 _ g.met.T.BitStore.width_law refl (omega arith) (omega arith)
 
-pub copy_from_block_in-requires-clause-right_window : goal.copy_from_block_in-requires-clause-right_window
-copy_from_block_in-requires-clause-right_window g c = range-inside _ _ c.args.window _ _ _ c.requires.window c.range.ensures (omega arith) (omega arith)
+pub copy_blocks_in-requires-clause-right_window : goal.copy_blocks_in-requires-clause-right_window
+copy_blocks_in-requires-clause-right_window g c = range-inside _ _ c.args.window _ _ _ c.requires.window c.range.ensures (omega arith) (omega arith)
 
 pub copy_within_in-requires-clause-fits : goal.copy_within_in-requires-clause-fits
 copy_within_in-requires-clause-fits g c = record { order = omega arith; source = omega arith; room = omega arith }
 
-pub copy_from_block_in-requires-2-clause-window : goal.copy_from_block_in-requires-2-clause-window
-copy_from_block_in-requires-2-clause-window g c = range-kept _ _ _ c.args.window _ _ _ c.requires.window c.copy_within_in.ensures.writes.elements c.range-behind.ensures (omega arith) (omega arith)
+pub copy_blocks_in-requires-2-clause-window : goal.copy_blocks_in-requires-2-clause-window
+copy_blocks_in-requires-2-clause-window g c = range-kept _ _ _ c.args.window _ _ _ c.requires.window c.copy_within_in.ensures.writes.elements c.range-behind.ensures (omega arith) (omega arith)
 
-pub copy_from_block_in-requires-2-clause-right_window : goal.copy_from_block_in-requires-2-clause-right_window
-copy_from_block_in-requires-2-clause-right_window g c = held-inside _ _ 16 _ g.met.T.BitStore.width_law c.copy_from_block_in.ensures.writes.elements (omega arith) (omega arith)
+pub copy_blocks_in-requires-2-clause-right_window : goal.copy_blocks_in-requires-2-clause-right_window
+copy_blocks_in-requires-2-clause-right_window g c = held-inside _ _ 16 _ g.met.T.BitStore.width_law c.copy_blocks_in.ensures.writes.elements (omega arith) (omega arith)
 
 pub returns : goal.returns
 returns g c =
@@ -32,6 +32,6 @@ returns g c =
     let fits = c.requires.bound in
     record {
       writes = Writes-aside _ _ _ _ _ _ _ c.args.window _ 0 by (len - by) len _ _ c.requires.window (search rules) (omega arith) fits (omega arith) (omega arith)
-          (rw c.range.ensures at c.copy_from_block_in.ensures.writes) c.copy_within_in.ensures.writes (rw c.range-behind.ensures at c.copy_from_block_in-2.ensures.writes)
+          (rw c.range.ensures at c.copy_blocks_in.ensures.writes) c.copy_within_in.ensures.writes (rw c.range-behind.ensures at c.copy_blocks_in-2.ensures.writes)
           (front-held list by len (sym long) fits);
     }
