@@ -25,20 +25,20 @@ equal_part-requires-clause-source g c =
     let some = c.requires.some in
     head-element _ _ _ c.args.right_window g.met.C.Elem.BitStore.width_law c.BITS-bits.ensures (omega arith) c.requires.span.beside
 
-pub equal_aligned-requires-clause-span : goal.equal_aligned-requires-clause-span
-equal_aligned-requires-clause-span g c =
+pub equal_aligned-requires-2-clause-span : goal.equal_aligned-requires-2-clause-span
+equal_aligned-requires-2-clause-span g c =
     let b = g.C.Elem.BitStore.BITS in
     let step = first_part-long c.len-passed.result b c.BITS-bits.result c.args.left_window c.first_part-head.result c.len-passed.ensures c.first_part-head.ensures c.BITS-bits.ensures in
     rw (c.after.ensures, c.after-2.ensures, c.equal_part.ensures.reads.numbers, c.equal_part.ensures.right.numbers) (after-span _ _ _ _ _ _ _ c.requires.span refl (omega arith))
 
-pub equal_aligned-requires-clause-edge : goal.equal_aligned-requires-clause-edge
-equal_aligned-requires-clause-edge g c =
+pub equal_aligned-requires-2-clause-edge : goal.equal_aligned-requires-2-clause-edge
+equal_aligned-requires-2-clause-edge g c =
     let b = g.C.Elem.BitStore.BITS in
     let step = first_part-long c.len-passed.result b c.BITS-bits.result c.args.left_window c.first_part-head.result c.len-passed.ensures c.first_part-head.ensures c.BITS-bits.ensures in
     behind-edge _ _ c.args.left_window _ g.met.C.Elem.BitStore.width_law c.after.ensures step c.if-passed-left_window.false
 
-pub equal_aligned-requires-clause-right_edge : goal.equal_aligned-requires-clause-right_edge
-equal_aligned-requires-clause-right_edge g c =
+pub equal_aligned-requires-2-clause-right_edge : goal.equal_aligned-requires-2-clause-right_edge
+equal_aligned-requires-2-clause-right_edge g c =
     let b = g.C.Elem.BitStore.BITS in
     let step = first_part-long c.len-passed.result b c.BITS-bits.result c.args.left_window c.first_part-head.result c.len-passed.ensures c.first_part-head.ensures c.BITS-bits.ensures in
     let same : c.len-passed.result ≡ min c.args.right_window.len (b - c.args.right_window.start % b) = rw (c.requires.span.lengths, c.requires.phases) at step in
@@ -89,7 +89,7 @@ returns-clause-value g c =
     let head : c.first_part-head.result ≡ first_part_of b c.args.left_window = c.first_part-head.ensures ∙ ap (λ (n : ℕ). first_part_of n c.args.left_window) c.BITS-bits.ensures in
     let step = c.len-passed.ensures ∙ ap (λ (p : Part). p.to - p.from) head in
     let told = rw (head, c.BITS-bits.ensures) at c.equal_part.ensures.value in
-    let rest = rw (c.after.ensures, c.after-2.ensures, c.equal_part.ensures.reads.numbers, c.equal_part.ensures.right.numbers) at c.equal_aligned.ensures.value in
+    let rest = rw (c.after.ensures, c.after-2.ensures, c.equal_part.ensures.reads.numbers, c.equal_part.ensures.right.numbers) at c.equal_aligned-2.ensures.value in
     rest ∙ same-then _ _ _ _ _ _
     (long-head _ _ _ _ _ _ some c.requires.some c.requires.span.lengths c.requires.phases c.requires.span.window c.requires.span.beside)
     (list-head _ _ _ _ _ _ some c.requires.some step refl refl c.requires.span.window)
@@ -102,7 +102,7 @@ returns-clause-reads g c =
     let some = width_some _ g.met.C.Elem.BitStore.width_law in
     let step = first_part-long c.len-passed.result b c.BITS-bits.result c.args.left_window c.first_part-head.result c.len-passed.ensures c.first_part-head.ensures c.BITS-bits.ensures in
     let all = touched-rest b c.args.left_window.start c.len-passed.result c.args.left_window.len some c.requires.some step c.if-passed-left_window.false in
-    let rest = rw c.after.ensures at c.equal_aligned.ensures.reads in
+    let rest = rw c.after.ensures at c.equal_aligned-2.ensures.reads in
     record { numbers = search rules; borrow = search rules; loads = omega arith; stores = search rules }
 
 pub returns-clause-right : goal.returns-clause-right
@@ -115,5 +115,5 @@ returns-clause-right g c =
     let same : c.len-passed.result ≡ min c.args.right_window.len (b - c.args.right_window.start % b) = rw (c.requires.span.lengths, c.requires.phases) at step in
     let left : c.len-passed.result ≢ c.args.right_window.len = λ e. c.if-passed-left_window.false (omega arith) in
     let all = touched-rest b c.args.right_window.start c.len-passed.result c.args.right_window.len some (omega arith) same left in
-    let rest = rw c.after-2.ensures at c.equal_aligned.ensures.right in
+    let rest = rw c.after-2.ensures at c.equal_aligned-2.ensures.right in
     record { numbers = search rules; borrow = search rules; loads = omega arith; stores = search rules }
