@@ -30,7 +30,7 @@ pub fn copy_equal<O: BitOrder, C: Cells, D: CellsRead<Elem = C::Elem>>(
     ensures right { OnlyReads D.CellsRead right.old right.new (touched_count C.Elem.BITS from.start from.len) }
 {
     let bits = C::Elem::BITS as usize;
-    if to.start % bits == 0 {
+    if to.len > bits && to.start % bits == 0 {
         copy_aligned::<O, C, D>(left, to, right, from);
         return;
     }

@@ -22,7 +22,7 @@ pub fn count<O: BitOrder, C: CellsRead>(cells: &mut C, window: Window) -> usize
         return 0;
     }
     let bits = C::Elem::BITS as usize;
-    if window.start % bits == 0 {
+    if window.len > bits && window.start % bits == 0 {
         return count_aligned::<O, C>(cells, window);
     }
     let head = first_part(bits, window);

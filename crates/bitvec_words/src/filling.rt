@@ -94,7 +94,7 @@ pub fn invert<O: BitOrder, C: Cells>(cells: &mut C, window: Window)
         return;
     }
     let bits = C::Elem::BITS as usize;
-    if window.start % bits == 0 {
+    if window.len > bits && window.start % bits == 0 {
         invert_aligned::<O, C>(cells, window);
         return;
     }
