@@ -35,6 +35,10 @@ pub fn combine_equal<O: BitOrder, C: Cells, D: CellsRead<Elem = C::Elem>>(
     ensures right { OnlyReads D.CellsRead right.old right.new (touched_count C.Elem.BITS from.start from.len) }
 {
     let bits = C::Elem::BITS as usize;
+    if to.len > bits && to.start % bits == 0 {
+        combine_unpadded::<O, C, D>(left, to, right, from, op);
+        return;
+    }
     let head = first_part(bits, to);
     combine_element::<O, C, D>(left, head, right, from.start / bits, op);
     let passed = head.len();

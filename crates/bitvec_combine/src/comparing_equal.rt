@@ -57,13 +57,16 @@ pub fn equal_unshifted<O: BitOrder, C: CellsRead, D: CellsRead<Elem = C::Elem>>(
     ensures right { OnlyReadsAtMost D.CellsRead right.old right.new (touched_count C.Elem.BITS right_window.start right_window.len) }
 {
     let bits = C::Elem::BITS as usize;
-    let head = first_part(bits, left_window);
-    if !equal_part::<O, C, D>(left, head, right, right_window.start / bits) {
-        return false;
-    }
-    let passed = head.len();
-    if passed == left_window.len {
-        return true;
+    let mut passed = 0;
+    if left_window.len <= bits || left_window.start % bits > 0 {
+        let head = first_part(bits, left_window);
+        if !equal_part::<O, C, D>(left, head, right, right_window.start / bits) {
+            return false;
+        }
+        passed = head.len();
+        if passed == left_window.len {
+            return true;
+        }
     }
     equal_aligned::<O, C, D>(
         left,

@@ -30,6 +30,10 @@ pub fn copy_equal<O: BitOrder, C: Cells, D: CellsRead<Elem = C::Elem>>(
     ensures right { OnlyReads D.CellsRead right.old right.new (touched_count C.Elem.BITS from.start from.len) }
 {
     let bits = C::Elem::BITS as usize;
+    if to.len > bits && to.start % bits == 0 {
+        copy_aligned::<O, C, D>(left, to, right, from);
+        return;
+    }
     let head = first_part(bits, to);
     copy_part::<O, C, D>(left, head, right, from.start / bits);
     let passed = head.len();

@@ -29,6 +29,10 @@ pub fn swap_equal<O: BitOrder, C: Cells, D: Cells + CellsRead<Elem = C::Elem>>(
     ensures right_cost { let each = touched_count C.Elem.BITS right_window.start right_window.len in Costs D.CellsRead right.old right.new each each }
 {
     let bits = C::Elem::BITS as usize;
+    if left_window.len > bits && left_window.start % bits == 0 {
+        swap_aligned::<O, C, D>(left, left_window, right, right_window);
+        return;
+    }
     let head = first_part(bits, left_window);
     swap_part::<O, C, D>(left, head, right, right_window.start / bits);
     let passed = head.len();

@@ -22,6 +22,9 @@ pub fn count<O: BitOrder, C: CellsRead>(cells: &mut C, window: Window) -> usize
         return 0;
     }
     let bits = C::Elem::BITS as usize;
+    if window.len > bits && window.start % bits == 0 {
+        return count_aligned::<O, C>(cells, window);
+    }
     let head = first_part(bits, window);
     let ones = count_part::<O, C>(cells, head);
     let passed = head.len();

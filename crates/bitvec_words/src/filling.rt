@@ -94,6 +94,10 @@ pub fn invert<O: BitOrder, C: Cells>(cells: &mut C, window: Window)
         return;
     }
     let bits = C::Elem::BITS as usize;
+    if window.len > bits && window.start % bits == 0 {
+        invert_aligned::<O, C>(cells, window);
+        return;
+    }
     let head = first_part(bits, window);
     invert_part::<O, C>(cells, head);
     let passed = head.len();

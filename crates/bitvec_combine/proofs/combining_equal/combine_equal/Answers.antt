@@ -32,20 +32,20 @@ combine_element-requires-clause-source g c =
     let some = c.requires.some in
     head-element _ _ _ c.args.from g.met.C.Elem.BitStore.width_law c.BITS-bits.ensures (omega arith) c.requires.span.beside
 
-pub combine_unpadded-requires-clause-span : goal.combine_unpadded-requires-clause-span
-combine_unpadded-requires-clause-span g c =
+pub combine_unpadded-requires-2-clause-span : goal.combine_unpadded-requires-2-clause-span
+combine_unpadded-requires-2-clause-span g c =
     let b = g.C.Elem.BitStore.BITS in
     let step = first_part-long c.len-passed.result b c.BITS-bits.result c.args.to c.first_part-head.result c.len-passed.ensures c.first_part-head.ensures c.BITS-bits.ensures in
     rw (c.after.ensures, c.after-2.ensures, c.combine_element.ensures.right.numbers) (after-span _ _ _ _ _ _ _ c.requires.span c.combine_element.ensures.writes.elements (omega arith))
 
-pub combine_unpadded-requires-clause-edge : goal.combine_unpadded-requires-clause-edge
-combine_unpadded-requires-clause-edge g c =
+pub combine_unpadded-requires-2-clause-edge : goal.combine_unpadded-requires-2-clause-edge
+combine_unpadded-requires-2-clause-edge g c =
     let b = g.C.Elem.BitStore.BITS in
     let step = first_part-long c.len-passed.result b c.BITS-bits.result c.args.to c.first_part-head.result c.len-passed.ensures c.first_part-head.ensures c.BITS-bits.ensures in
     behind-edge _ _ c.args.to _ g.met.C.Elem.BitStore.width_law c.after.ensures step c.if-passed-to.false
 
-pub combine_unpadded-requires-clause-right_edge : goal.combine_unpadded-requires-clause-right_edge
-combine_unpadded-requires-clause-right_edge g c =
+pub combine_unpadded-requires-2-clause-right_edge : goal.combine_unpadded-requires-2-clause-right_edge
+combine_unpadded-requires-2-clause-right_edge g c =
     let b = g.C.Elem.BitStore.BITS in
     let step = first_part-long c.len-passed.result b c.BITS-bits.result c.args.to c.first_part-head.result c.len-passed.ensures c.first_part-head.ensures c.BITS-bits.ensures in
     let same : c.len-passed.result ≡ min c.args.from.len (b - c.args.from.start % b) = rw (c.requires.span.lengths, c.requires.phases) at step in
@@ -96,7 +96,7 @@ returns-clause-writes g c =
     let y = list_in b at ys (window_after t from) in
     let x_long = length-list b at ys (part_window b part) (record { fits = right.fits; within = record { start = omega arith; len = omega arith } }) in
     let first = rw (head, c.BITS-bits.ensures) at c.combine_element.ensures.writes in
-    let rest = rw (c.after.ensures, c.after-2.ensures, c.combine_element.ensures.right.numbers) at c.combine_unpadded.ensures.writes in
+    let rest = rw (c.after.ensures, c.after-2.ensures, c.combine_element.ensures.right.numbers) at c.combine_unpadded-2.ensures.writes in
     Writes-both b at f _ _ _ (part_window b (first_part_of b to)) (window_after t to) to x y _ c.requires.span.window place (omega arith) (omega arith)
     (λ (a d : List Bool) (a_long : length a ≡ (first_part_of b to).to - (first_part_of b to).from) (d_long : length d ≡ to.len - t).
     let as_long : length x ≡ length a = omega arith in
@@ -110,7 +110,7 @@ returns-clause-cost g c =
     let some = width_some _ g.met.C.Elem.BitStore.width_law in
     let step = first_part-long c.len-passed.result b c.BITS-bits.result c.args.to c.first_part-head.result c.len-passed.ensures c.first_part-head.ensures c.BITS-bits.ensures in
     let all = touched-rest b c.args.to.start c.len-passed.result c.args.to.len some c.requires.some step c.if-passed-to.false in
-    let rest = rw c.after.ensures at c.combine_unpadded.ensures.cost in
+    let rest = rw c.after.ensures at c.combine_unpadded-2.ensures.cost in
     record { borrow = search rules; loads = omega arith; stores = omega arith }
 
 pub returns-clause-right : goal.returns-clause-right
@@ -121,5 +121,5 @@ returns-clause-right g c =
     let same : c.len-passed.result ≡ min c.args.from.len (b - c.args.from.start % b) = rw (c.requires.span.lengths, c.requires.phases) at step in
     let left : c.len-passed.result ≢ c.args.from.len = λ e. c.if-passed-to.false (omega arith) in
     let all = touched-rest b c.args.from.start c.len-passed.result c.args.from.len some (omega arith) same left in
-    let rest = rw c.after-2.ensures at c.combine_unpadded.ensures.right in
+    let rest = rw c.after-2.ensures at c.combine_unpadded-2.ensures.right in
     record { numbers = search rules; borrow = search rules; loads = omega arith; stores = search rules }

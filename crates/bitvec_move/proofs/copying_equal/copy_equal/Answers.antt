@@ -26,13 +26,13 @@ copy_part-requires-clause-source g c =
     let some = c.requires.some in
     head-element _ _ _ c.args.from g.met.C.Elem.BitStore.width_law c.BITS-bits.ensures (omega arith) c.requires.span.beside
 
-pub copy_aligned-requires-clause-edge : goal.copy_aligned-requires-clause-edge
-copy_aligned-requires-clause-edge g c =
+pub copy_aligned-requires-2-clause-edge : goal.copy_aligned-requires-2-clause-edge
+copy_aligned-requires-2-clause-edge g c =
     let step = first_part-long c.len-passed.result _ c.BITS-bits.result c.args.to c.first_part-head.result c.len-passed.ensures c.first_part-head.ensures c.BITS-bits.ensures in
     behind-edge _ _ c.args.to _ g.met.C.Elem.BitStore.width_law c.after.ensures step c.if-passed-to.false
 
-pub copy_aligned-requires-clause-right_edge : goal.copy_aligned-requires-clause-right_edge
-copy_aligned-requires-clause-right_edge g c =
+pub copy_aligned-requires-2-clause-right_edge : goal.copy_aligned-requires-2-clause-right_edge
+copy_aligned-requires-2-clause-right_edge g c =
     let b = g.C.Elem.BitStore.BITS in
     let step = first_part-long c.len-passed.result b c.BITS-bits.result c.args.to c.first_part-head.result c.len-passed.ensures c.first_part-head.ensures c.BITS-bits.ensures in
     let same : c.len-passed.result ≡ min c.args.from.len (b - c.args.from.start % b) = rw (c.requires.span.lengths, c.requires.phases) at step in
@@ -66,7 +66,7 @@ returns-clause-writes g c =
     let head : c.first_part-head.result ≡ first_part_of b c.args.to = c.first_part-head.ensures ∙ ap (λ (n : ℕ). first_part_of n c.args.to) c.BITS-bits.ensures in
     let step = c.len-passed.ensures ∙ ap (λ (p : Part). p.to - p.from) head in
     let first = rw (head, c.BITS-bits.ensures) at c.copy_part.ensures.writes in
-    let rest = rw (c.after.ensures, c.after-2.ensures, c.copy_part.ensures.right.numbers) at c.copy_aligned.ensures.writes in
+    let rest = rw (c.after.ensures, c.after-2.ensures, c.copy_part.ensures.right.numbers) at c.copy_aligned-2.ensures.writes in
     Writes-is _ _ _ _ _ _ _
     (Writes-head _ _ _ _ _ _ _ _ _ some c.requires.some step c.requires.span.window first rest)
     (list-head _ _ _ _ _ _ some c.requires.some step c.requires.span.lengths c.requires.phases c.requires.span.beside)
@@ -78,7 +78,7 @@ returns-clause-cost g c =
     let step = first_part-long c.len-passed.result b c.BITS-bits.result c.args.to c.first_part-head.result c.len-passed.ensures c.first_part-head.ensures c.BITS-bits.ensures in
     let all = touched-rest b c.args.to.start c.len-passed.result c.args.to.len some c.requires.some step c.if-passed-to.false in
     let most = part_loads-most b c.first_part-head.result in
-    let rest = rw c.after.ensures at c.copy_aligned.ensures.cost in
+    let rest = rw c.after.ensures at c.copy_aligned-2.ensures.cost in
     record { borrow = search rules; loads = omega arith; stores = omega arith }
 
 pub returns-clause-right : goal.returns-clause-right
@@ -89,7 +89,7 @@ returns-clause-right g c =
     let same : c.len-passed.result ≡ min c.args.from.len (b - c.args.from.start % b) = rw (c.requires.span.lengths, c.requires.phases) at step in
     let left : c.len-passed.result ≢ c.args.from.len = λ e. c.if-passed-to.false (omega arith) in
     let all = touched-rest b c.args.from.start c.len-passed.result c.args.from.len some (omega arith) same left in
-    let rest = rw c.after-2.ensures at c.copy_aligned.ensures.right in
+    let rest = rw c.after-2.ensures at c.copy_aligned-2.ensures.right in
     record { numbers = search rules; borrow = search rules; loads = omega arith; stores = search rules }
 
 pub len-passed-requires : goal.len-passed-requires
@@ -123,7 +123,7 @@ after-requires-2-clause-bound g c =
 pub after-requires-2-clause-end : goal.after-requires-2-clause-end
 after-requires-2-clause-end g c = end-word _ _ c.args.from c.requires.span.beside
 
-pub copy_aligned-requires-clause-span : goal.copy_aligned-requires-clause-span
-copy_aligned-requires-clause-span g c =
+pub copy_aligned-requires-2-clause-span : goal.copy_aligned-requires-2-clause-span
+copy_aligned-requires-2-clause-span g c =
     rw (c.after.ensures, c.after-2.ensures)
     (after-span _ _ _ _ _ c.args.to c.args.from _ c.requires.span c.copy_part.ensures.writes.elements (ap length c.copy_part.ensures.right.numbers) (head-fits _ _ c.args.to _ c.len-passed.ensures c.first_part-head.ensures))

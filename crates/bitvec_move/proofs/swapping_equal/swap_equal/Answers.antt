@@ -25,14 +25,14 @@ swap_part-requires-clause-source g c =
     let some = c.requires.some in
     head-element _ _ _ c.args.right_window g.met.C.Elem.BitStore.width_law c.BITS-bits.ensures (omega arith) c.requires.span.beside
 
-pub swap_aligned-requires-clause-edge : goal.swap_aligned-requires-clause-edge
-swap_aligned-requires-clause-edge g c =
+pub swap_aligned-requires-2-clause-edge : goal.swap_aligned-requires-2-clause-edge
+swap_aligned-requires-2-clause-edge g c =
     let b = g.C.Elem.BitStore.BITS in
     let step = first_part-long c.len-passed.result b c.BITS-bits.result c.args.left_window c.first_part-head.result c.len-passed.ensures c.first_part-head.ensures c.BITS-bits.ensures in
     behind-edge _ _ c.args.left_window _ g.met.C.Elem.BitStore.width_law c.after-rest.ensures step c.if-passed-left_window.false
 
-pub swap_aligned-requires-clause-right_edge : goal.swap_aligned-requires-clause-right_edge
-swap_aligned-requires-clause-right_edge g c =
+pub swap_aligned-requires-2-clause-right_edge : goal.swap_aligned-requires-2-clause-right_edge
+swap_aligned-requires-2-clause-right_edge g c =
     let b = g.C.Elem.BitStore.BITS in
     let step = first_part-long c.len-passed.result b c.BITS-bits.result c.args.left_window c.first_part-head.result c.len-passed.ensures c.first_part-head.ensures c.BITS-bits.ensures in
     let same : c.len-passed.result ≡ min c.args.right_window.len (b - c.args.right_window.start % b) = rw (c.requires.span.lengths, c.requires.phases) at step in
@@ -65,7 +65,7 @@ returns-clause-swaps g c =
     let head : c.first_part-head.result ≡ first_part_of b c.args.left_window = c.first_part-head.ensures ∙ ap (λ (n : ℕ). first_part_of n c.args.left_window) c.BITS-bits.ensures in
     let step = c.len-passed.ensures ∙ ap (λ (p : Part). p.to - p.from) head in
     let first = rw (head, c.BITS-bits.ensures) at c.swap_part.ensures.swaps in
-    let rest = rw (c.after-rest.ensures, c.after-behind.ensures) at c.swap_aligned.ensures.swaps in
+    let rest = rw (c.after-rest.ensures, c.after-behind.ensures) at c.swap_aligned-2.ensures.swaps in
     Swaps-joined _ _ _ _ _ _ _ _ _ _ _ _ _ _ c.requires.span.window c.requires.span.beside
     (beside-head b c.args.left_window c.args.left_window c.len-passed.result some c.requires.some step refl refl)
     (beside-head b c.args.left_window c.args.right_window c.len-passed.result some c.requires.some step c.requires.span.lengths c.requires.phases)
@@ -77,7 +77,7 @@ returns-clause-cost g c =
     let some = width_some _ g.met.C.Elem.BitStore.width_law in
     let step = first_part-long c.len-passed.result b c.BITS-bits.result c.args.left_window c.first_part-head.result c.len-passed.ensures c.first_part-head.ensures c.BITS-bits.ensures in
     let all = touched-rest b c.args.left_window.start c.len-passed.result c.args.left_window.len some c.requires.some step c.if-passed-left_window.false in
-    let rest = rw c.after-rest.ensures at c.swap_aligned.ensures.cost in
+    let rest = rw c.after-rest.ensures at c.swap_aligned-2.ensures.cost in
     record { borrow = search rules; loads = omega arith; stores = omega arith }
 
 pub returns-clause-right_cost : goal.returns-clause-right_cost
@@ -88,7 +88,7 @@ returns-clause-right_cost g c =
     let same : c.len-passed.result ≡ min c.args.right_window.len (b - c.args.right_window.start % b) = rw (c.requires.span.lengths, c.requires.phases) at step in
     let left : c.len-passed.result ≢ c.args.right_window.len = λ e. c.if-passed-left_window.false (omega arith) in
     let all = touched-rest b c.args.right_window.start c.len-passed.result c.args.right_window.len some (omega arith) same left in
-    let rest = rw c.after-behind.ensures at c.swap_aligned.ensures.right_cost in
+    let rest = rw c.after-behind.ensures at c.swap_aligned-2.ensures.right_cost in
     record { borrow = search rules; loads = omega arith; stores = omega arith }
 
 pub len-passed-requires : goal.len-passed-requires
@@ -109,7 +109,7 @@ after-behind-requires-clause-bound g c =
 pub after-behind-requires-clause-end : goal.after-behind-requires-clause-end
 after-behind-requires-clause-end g c = end-word _ _ c.args.right_window c.requires.span.beside
 
-pub swap_aligned-requires-clause-span : goal.swap_aligned-requires-clause-span
-swap_aligned-requires-clause-span g c =
+pub swap_aligned-requires-2-clause-span : goal.swap_aligned-requires-2-clause-span
+swap_aligned-requires-2-clause-span g c =
     let swaps = c.swap_part.ensures.swaps in
     rw (c.after-rest.ensures, c.after-behind.ensures) (after-span _ _ _ _ _ c.args.left_window c.args.right_window _ c.requires.span swaps.writes.elements swaps.right_writes.elements (head-fits _ _ c.args.left_window _ c.len-passed.ensures c.first_part-head.ensures))

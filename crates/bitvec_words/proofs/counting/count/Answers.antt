@@ -37,7 +37,7 @@ overflow_add-result g c =
     let head : c.first_part-head.result ≡ first_part_of b c.args.window = c.first_part-head.ensures ∙ ap (λ (n : ℕ). first_part_of n c.args.window) c.BITS-bits.ensures in
     let step = c.len-passed.ensures ∙ ap (λ (p : Part). p.to - p.from) head in
     let first = rw head at c.count_part-ones.ensures.value in
-    let rest = rw (c.after.ensures, c.count_part-ones.ensures.reads.numbers) at c.count_aligned.ensures.value in
+    let rest = rw (c.after.ensures, c.count_part-ones.ensures.reads.numbers) at c.count_aligned-2.ensures.value in
     let sum = count-head b g.O.BitOrder.at _ c.args.window _ _ _ some more step c.requires first rest in
     let most = count-within b g.O.BitOrder.at _ _ _ c.requires sum in
     let fits = c.requires.fits in
@@ -54,8 +54,8 @@ returns g c =
     let long = first_part-long c.len-passed.result b c.BITS-bits.result c.args.window c.first_part-head.result c.len-passed.ensures c.first_part-head.ensures c.BITS-bits.ensures in
     let all = touched-rest b c.args.window.start c.len-passed.result c.args.window.len some more long c.if-passed-window.false in
     let first = rw head at c.count_part-ones.ensures.value in
-    let rest = rw (c.after.ensures, c.count_part-ones.ensures.reads.numbers) at c.count_aligned.ensures.value in
-    let reads = rw c.after.ensures at c.count_aligned.ensures.reads in
+    let rest = rw (c.after.ensures, c.count_part-ones.ensures.reads.numbers) at c.count_aligned-2.ensures.value in
+    let reads = rw c.after.ensures at c.count_aligned-2.ensures.reads in
     record {
       value = count-head b g.O.BitOrder.at _ c.args.window _ _ _ some more step c.requires first rest;
       reads = record { numbers = search rules; borrow = search rules; loads = omega arith; stores = search rules };
@@ -84,8 +84,8 @@ after-requires-clause-bound g c = head-within _ _ c.args.window _ g.met.C.Elem.B
 pub after-requires-clause-end : goal.after-requires-clause-end
 after-requires-clause-end g c = window-end _ _ c.args.window c.requires
 
-pub count_aligned-requires-clause-window : goal.count_aligned-requires-clause-window
-count_aligned-requires-clause-window g c = rw (c.count_part-ones.ensures.reads.numbers, c.after.ensures) (HasWindow-behind _ _ c.args.window _ g.met.C.Elem.BitStore.width_law c.BITS-bits.ensures c.first_part-head.ensures _ c.len-passed.ensures _ c.requires)
+pub count_aligned-requires-2-clause-window : goal.count_aligned-requires-2-clause-window
+count_aligned-requires-2-clause-window g c = rw (c.count_part-ones.ensures.reads.numbers, c.after.ensures) (HasWindow-behind _ _ c.args.window _ g.met.C.Elem.BitStore.width_law c.BITS-bits.ensures c.first_part-head.ensures _ c.len-passed.ensures _ c.requires)
 
-pub count_aligned-requires-clause-edge : goal.count_aligned-requires-clause-edge
-count_aligned-requires-clause-edge g c = rw c.after.ensures (head-behind _ _ c.args.window _ g.met.C.Elem.BitStore.width_law c.BITS-bits.ensures c.first_part-head.ensures _ c.len-passed.ensures c.if-passed-window.false)
+pub count_aligned-requires-2-clause-edge : goal.count_aligned-requires-2-clause-edge
+count_aligned-requires-2-clause-edge g c = rw c.after.ensures (head-behind _ _ c.args.window _ g.met.C.Elem.BitStore.width_law c.BITS-bits.ensures c.first_part-head.ensures _ c.len-passed.ensures c.if-passed-window.false)

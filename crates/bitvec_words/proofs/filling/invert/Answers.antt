@@ -32,7 +32,7 @@ returns g c =
     let step = c.len-passed.ensures ∙ ap (λ (p : Part). p.to - p.from) head in
     let all = head-rest _ _ c.args.window _ g.met.C.Elem.BitStore.width_law c.BITS-bits.ensures c.first_part-head.ensures _ c.len-passed.ensures c.if-window-eq0.false c.if-passed-window.false in
     let first = rw head at c.invert_part.ensures.writes in
-    let rest = rw c.after.ensures at c.invert_aligned.ensures in
+    let rest = rw c.after.ensures at c.invert_aligned-2.ensures in
     let one = c.invert_part.ensures.cost in
     let others = rest.cost in
     record {
@@ -63,10 +63,10 @@ after-requires-clause-bound g c = head-within _ _ c.args.window _ g.met.C.Elem.B
 pub after-requires-clause-end : goal.after-requires-clause-end
 after-requires-clause-end g c = window-end _ _ c.args.window c.requires
 
-pub invert_aligned-requires-clause-window : goal.invert_aligned-requires-clause-window
-invert_aligned-requires-clause-window g c =
+pub invert_aligned-requires-2-clause-window : goal.invert_aligned-requires-2-clause-window
+invert_aligned-requires-2-clause-window g c =
     rw c.after.ensures (HasWindow-kept _ _ _ _ (HasWindow-behind _ _ c.args.window _ g.met.C.Elem.BitStore.width_law c.BITS-bits.ensures c.first_part-head.ensures _ c.len-passed.ensures _ c.requires) c.invert_part.ensures.writes.elements)
 
-pub invert_aligned-requires-clause-edge : goal.invert_aligned-requires-clause-edge
-invert_aligned-requires-clause-edge g c =
+pub invert_aligned-requires-2-clause-edge : goal.invert_aligned-requires-2-clause-edge
+invert_aligned-requires-2-clause-edge g c =
     rw c.after.ensures (head-behind _ _ c.args.window _ g.met.C.Elem.BitStore.width_law c.BITS-bits.ensures c.first_part-head.ensures _ c.len-passed.ensures c.if-passed-window.false)
