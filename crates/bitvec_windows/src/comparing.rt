@@ -7,7 +7,7 @@ ghost use Rattle.bitvec_engine.specs.base.Memory.{HasWindow, list_in};
 
 use crate::difference::common_bits;
 use crate::direction::{Direction, direction_of};
-use crate::window_words::run_word;
+use crate::window_words::few_word;
 use bitvec_engine::base::{BitOrder, Lsb0, Msb0, Window};
 use bitvec_engine::cells::Shared;
 use bitvec_engine::store::BitStore;
@@ -97,7 +97,7 @@ fn eq_few<W: WordOrder, T: BitStore>(
     ensures { result ≡ same_bits (list_in T.BITS W.at (map T.value left.now) left_window)
         (list_in T.BITS W.at (map T.value right.now) right_window) }
 {
-    run_word::<W, T>(left, left_window) == run_word::<W, T>(right, right_window)
+    few_word::<W, T>(left, left_window) == few_word::<W, T>(right, right_window)
 }
 
 /// How the bits of two windows compare, as lists of truth values do. Condition: as of [`eq_in`].

@@ -3,8 +3,8 @@ ghost use Rattle.std.specs.Prelude.{◌≡◌, ◌≤◌, map};
 ghost use Rattle.bitvec_engine.specs.base.Memory.{HasWindow, Writes, list_in};
 
 use crate::direction::{Direction, direction_of};
-use crate::whole_words::store_bits;
-use crate::window_words::{run_word, window_word, word_end};
+use crate::whole_words::{store_bits, store_few};
+use crate::window_words::{few_word, window_word, word_end};
 use bitvec_engine::base::{BitOrder, Lsb0, Msb0, Window};
 use bitvec_engine::cells::{Exclusive, Shared};
 use bitvec_engine::store::BitStore;
@@ -120,7 +120,7 @@ fn copy_few<W: WordOrder, T: BitStore>(
     ensures writes { Writes T.BITS W.at (map T.value left.old) (map T.value left.new) left_window
         (list_in T.BITS W.at (map T.value right.now) right_window) }
 {
-    let word = run_word::<W, T>(right, right_window);
+    let word = few_word::<W, T>(right, right_window);
     let mut cells = Exclusive::new(left);
-    store_bits::<W, Exclusive<T>>(&mut cells, left_window, word);
+    store_few::<W, Exclusive<T>>(&mut cells, left_window, word);
 }

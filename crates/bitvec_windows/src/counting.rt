@@ -3,7 +3,7 @@ ghost use Rattle.std.specs.Prelude.{◌≡◌, count_by, map};
 ghost use Rattle.bitvec_engine.specs.base.Memory.{HasWindow, list_in};
 
 use crate::direction::{Direction, direction_of};
-use crate::window_words::run_word;
+use crate::window_words::few_word;
 use bitvec_engine::base::{BitOrder, Lsb0, Msb0, Window};
 use bitvec_engine::cells::Shared;
 use bitvec_engine::count;
@@ -19,8 +19,8 @@ pub fn count_in<T: BitStore, O: BitOrder>(cells: &[T], window: Window) -> usize
 {
     if window.len <= WORD_BITS {
         match direction_of::<O, T>() {
-            Direction::Up => return run_word::<Lsb0, T>(cells, window).count_ones() as usize,
-            Direction::Down => return run_word::<Msb0, T>(cells, window).count_ones() as usize,
+            Direction::Up => return few_word::<Lsb0, T>(cells, window).count_ones() as usize,
+            Direction::Down => return few_word::<Msb0, T>(cells, window).count_ones() as usize,
             Direction::Other => {}
         }
     }

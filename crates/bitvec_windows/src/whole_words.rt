@@ -42,15 +42,26 @@ pub(crate) fn store_bits<W: WordOrder, C: Cells>(cells: &mut C, window: Window, 
         store_elements::<W, C>(cells, window.start / bits, word);
         return;
     }
+    store_field::<W, C>(cells, window, word);
+}
+
+/// [`store_bits`], with no loop where the window is no longer than an element or has 64 bits.
+#[inline(always)]
+pub(crate) fn store_few<W: WordOrder, C: Cells>(cells: &mut C, window: Window, word: u64)
+    requires window { HasWindow C.Elem.BITS (C.numbers cells.old) window }
+    requires bound { window.len ≤ 64 }
+    ensures writes { Writes C.Elem.BITS W.at (C.numbers cells.old) (C.numbers cells.new) window
+        (take window.len (element_bits 64 W.at word)) }
+    ensures cost { CostsAtMost C.CellsRead cells.old cells.new (fill_loads window.len) (touched_count C.Elem.BITS window.start window.len) }
+{
+    let bits = C::Elem::BITS as usize;
     if window.len <= bits {
         store_short::<W, C>(cells, window, word);
-        return;
-    }
-    if window.len == WORD_BITS {
+    } else if window.len == WORD_BITS && window.start % bits > 0 {
         store_across::<W, C>(cells, window, word);
-        return;
+    } else {
+        store_bits::<W, C>(cells, window, word);
     }
-    store_field::<W, C>(cells, window, word);
 }
 
 /// [`store_bits`] of 64 bits that begin inside an element narrower than a word: the elements of one word,

@@ -83,26 +83,18 @@ pub(crate) fn turned<V: WordOrder, W: WordOrder>(word: u64) -> u64
     }
 }
 
-/// [`window_word`] of an order that runs from one end to the other: a window no longer than an element
-/// is loaded as one field, and 64 bits of narrower elements as one word, what is left of them with the
-/// next element.
+/// [`window_word`] of an order that runs from one end to the other: 64 bits of elements that aren't
+/// wider are loaded as one word, and what is left of them with the next element.
 #[inline(always)]
-pub(crate) fn run_word<W: WordOrder, T: BitStore>(elements: &[T], window: Window) -> u64
+fn run_word<W: WordOrder, T: BitStore>(elements: &[T], window: Window) -> u64
     requires window { HasWindow T.BITS (map T.value elements.now) window }
     requires bound { window.len ≤ 64 }
     ensures { element_bits 64 W.at result
         ≡ padded 64 (list_in T.BITS W.at (map T.value elements.now) window) }
 {
     let mut cells = Shared::new(elements);
-    if window.len == 0 {
-        return 0;
-    }
     let bits = T::BITS as usize;
-    if window.len <= bits {
-        let (front, _) = field::<W, Shared<T>>(&mut cells, window);
-        return moved::<W, T, u64>(front, 0, window.len, 0);
-    }
-    if window.len < WORD_BITS {
+    if window.len < WORD_BITS || bits > WORD_BITS {
         return load_field::<W, Shared<T>>(&mut cells, window);
     }
     let (first, skip) = (window.start / bits, window.start % bits);
@@ -113,6 +105,22 @@ pub(crate) fn run_word<W: WordOrder, T: BitStore>(elements: &[T], window: Window
     let next = cells.load(first + WORD_BITS / bits);
     let behind = moved::<W, T, u64>(next, 0, bits, 0);
     joined::<W, u64>(word, behind, skip)
+}
+
+/// [`run_word`], with no loop where the window is no longer than an element.
+#[inline(always)]
+pub(crate) fn few_word<W: WordOrder, T: BitStore>(elements: &[T], window: Window) -> u64
+    requires window { HasWindow T.BITS (map T.value elements.now) window }
+    requires bound { window.len ≤ 64 }
+    ensures { element_bits 64 W.at result
+        ≡ padded 64 (list_in T.BITS W.at (map T.value elements.now) window) }
+{
+    if window.len == 0 || window.len > T::BITS as usize {
+        return run_word::<W, T>(elements, window);
+    }
+    let mut cells = Shared::new(elements);
+    let (front, _) = field::<W, Shared<T>>(&mut cells, window);
+    moved::<W, T, u64>(front, 0, window.len, 0)
 }
 
 /// [`window_word`] of any order: each element is loaded once, and its bits are gathered one by one.

@@ -2,42 +2,25 @@ use Rattle.std.proofs.Common.{◌≡◌, ℕ, ◌+◌, ◌*◌, ◌/◌, ◌%◌
 use Rattle.std.proofs.lemmas.Nat.{div-add-mod', mod_below}
 use Rattle.bitvec_windows.specs.base.Memory.{element_bits, memory_bits}
 use Rattle.bitvec_windows.specs.base.MemoryLaws.{element-range, element_fits, length-memory_bits}
-use Rattle.bitvec_windows.specs.base.PartLaws.{element-none}
 use Rattle.bitvec_windows.specs.base.Window.{window_of}
 use Rattle.bitvec_windows.specs.base.WritesLaws.{length-list}
 use Rattle.bitvec_windows.specs.moves.WordLaws.{padded-all, word_whole}
 use Rattle.bitvec_windows.specs.store.WidthLaws.{width_some}
-use Rattle.bitvec_windows.specs.words.Field.{padded}
-use Rattle.bitvec_windows.specs.words.MovedLaws.{padded-none}
-use Rattle.bitvec_windows.specs.words.WholeLaws.{list-empty}
-use Rattle.bitvec_windows.proofs.FewLemmas.{padded-field}
 use Rattle.bitvec_windows.proofs.WordLemmas.{loaded-whole, next-inside, word-inside, word-joined}
 use Rattle.bitvec_windows.proofs.window_words.run_word.Goals as goal
 
-pub returns-then-window-eq0 : goal.returns-then-window-eq0
-returns-then-window-eq0 g c = element-none 64 g.W.BitOrder.at ∙ padded-none 64 ∙ ap (padded 64) (sym (list-empty g.T.BitStore.BITS g.W.BitOrder.at (map g.T.BitStore.value c.args.elements.now) c.args.window c.if-window-eq0.true))
-
-pub returns-then-window-bits : goal.returns-then-window-bits
-returns-then-window-bits g c =
-    padded-field g.T.BitStore.BITS g.W.BitOrder.at c.args.window.len _ _ _ (rw c.BITS-bits.ensures at c.if-window-bits.true) c.requires.bound c.moved.ensures (rw c.new-cells.ensures.numbers at c.field-front.ensures.value)
-
 pub load_elements-word-requires-clause-window : goal.load_elements-word-requires-clause-window
 load_elements-word-requires-clause-window g c =
-    let bound = c.requires.bound in
-    let wider = rw c.BITS-bits.ensures at c.if-window-bits.false in
-    rw (c.BITS-bits.ensures, c.new-cells.ensures.numbers) (word-inside _ _ c.args.window g.met.T.BitStore.width_law (omega arith) (omega arith) c.requires.window)
+    rw (c.BITS-bits.ensures, c.new-cells.ensures.numbers) (word-inside _ _ c.args.window g.met.T.BitStore.width_law (rw c.BITS-bits.ensures at c.if-bits-gt-WORD_BITS.false) (omega arith) c.requires.window)
 
 pub load-next-requires : goal.load-next-requires
 load-next-requires g c =
-    let bound = c.requires.bound in
-    let wider = rw c.BITS-bits.ensures at c.if-window-bits.false in
-    rw (c.BITS-bits.ensures, c.load_elements-word.ensures.reads.numbers, c.new-cells.ensures.numbers) (next-inside _ _ c.args.window g.met.T.BitStore.width_law (omega arith) (omega arith) c.requires.window (rw c.BITS-bits.ensures at c.if-skip-eq0.false))
+    rw (c.BITS-bits.ensures, c.load_elements-word.ensures.reads.numbers, c.new-cells.ensures.numbers) (next-inside _ _ c.args.window g.met.T.BitStore.width_law (rw c.BITS-bits.ensures at c.if-bits-gt-WORD_BITS.false) (omega arith) c.requires.window (rw c.BITS-bits.ensures at c.if-skip-eq0.false))
 
 pub returns-then-skip-eq0 : goal.returns-then-skip-eq0
 returns-then-skip-eq0 g c =
-    let bound = c.requires.bound in
-    let wider = rw c.BITS-bits.ensures at c.if-window-bits.false in
-    loaded-whole g.T.BitStore.BITS g.W.BitOrder.at c.args.window g.met.T.BitStore.width_law (omega arith) (omega arith) (rw c.BITS-bits.ensures at c.if-skip-eq0.true) _ _ c.requires.window
+    let size = c.requires.bound in
+    loaded-whole g.T.BitStore.BITS g.W.BitOrder.at c.args.window g.met.T.BitStore.width_law (rw c.BITS-bits.ensures at c.if-bits-gt-WORD_BITS.false) (omega arith) (rw c.BITS-bits.ensures at c.if-skip-eq0.true) _ _ c.requires.window
     (rw (c.BITS-bits.ensures, c.new-cells.ensures.numbers) at c.load_elements-word.ensures.value)
 
 pub returns : goal.returns
@@ -53,10 +36,8 @@ returns g c =
     let has = c.requires.window in
     let low = has.within.start in
     let high = has.within.len in
-    let bound = c.requires.bound in
-    let wider = rw c.BITS-bits.ensures at c.if-window-bits.false in
-    let size : window.len ≡ 64 = omega arith in
-    let narrow : b ≤ 64 = omega arith in
+    let size : window.len ≡ 64 = let most = c.requires.bound in omega arith in
+    let narrow = rw c.BITS-bits.ensures at c.if-bits-gt-WORD_BITS.false in
     let some = width_some _ g.met.T.BitStore.width_law in
     let whole = word_whole b g.met.T.BitStore.width_law narrow in
     let place = div-add-mod' window.start b in
