@@ -65,7 +65,7 @@ pub fn eq_block_in<T: BitStore, O: SliceOrder>(
 }
 
 /// [`eq_block_in`] by the order's block function at any length: the shorter way to few bits where their
-/// number isn't known when the machine code is made.
+/// number isn't known when the machine code is made. Condition: as of [`eq_in`].
 pub fn eq_blocks_in<T: BitStore, O: SliceOrder>(
     left: &[T],
     left_window: Window,

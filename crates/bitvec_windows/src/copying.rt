@@ -87,7 +87,7 @@ pub fn copy_from_block_in<T: BitStore, O: SliceOrder>(
 }
 
 /// [`copy_from_block_in`] by the order's block function at any length: the shorter way to few bits where
-/// their number isn't known when the machine code is made.
+/// their number isn't known when the machine code is made. Condition: as of [`copy_from_in`].
 pub fn copy_blocks_in<T: BitStore, O: SliceOrder>(
     left: &mut [T],
     left_window: Window,
