@@ -8,7 +8,7 @@ use std::fmt::{self, Display, Formatter};
 
 /// What ends the program without a packet. Its text is the line that is printed then. Changes go by
 /// their numbers, from 1 on.
-#[derive(Clone, Copy, PartialEq, Eq, Debug)]
+#[derive(Clone, Copy)]
 pub enum Fault {
     /// The arguments aren't changes.
     Arguments,

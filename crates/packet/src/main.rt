@@ -13,8 +13,6 @@ mod input;
 mod print;
 mod program;
 mod resolve;
-#[cfg(test)]
-mod tests;
 
 use program::work;
 use std::env;

@@ -5,8 +5,6 @@
 mod primes;
 mod print;
 mod request;
-#[cfg(test)]
-mod tests;
 mod work;
 
 use std::env;

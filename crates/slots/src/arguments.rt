@@ -2,7 +2,7 @@
 use crate::places::Change;
 
 /// What is asked for.
-#[derive(Debug, PartialEq, Eq, Drop)]
+#[derive(Drop)]
 pub enum Request {
     /// To change the map.
     Change(Change),
@@ -11,7 +11,7 @@ pub enum Request {
 }
 
 /// The path of a map, and what is asked of it.
-#[derive(Debug, PartialEq, Eq, Drop)]
+#[derive(Drop)]
 pub struct Arguments<'a> {
     /// FILE.
     pub path: &'a str,

@@ -7,7 +7,7 @@ use std::alloc::AllocError;
 use std::fmt::{self, Display, Formatter};
 
 /// What ends the program without an answer. Its text is the line that is printed then.
-#[derive(Clone, Copy, Debug, PartialEq, Eq)]
+#[derive(Clone, Copy)]
 pub enum Fault {
     /// The words aren't a request.
     Arguments,

@@ -83,11 +83,11 @@ pub fn give<T: BitStore, O: SliceOrder>(
 }
 
 /// Some of the places aren't taken, or aren't there.
-#[derive(Clone, Copy, Debug, PartialEq, Eq)]
+#[derive(Clone, Copy)]
 pub struct NotTaken;
 
 /// What changes a map.
-#[derive(Debug, PartialEq, Eq, Drop)]
+#[derive(Drop)]
 pub enum Change {
     /// To take so many neighbouring places.
     Take(usize),
