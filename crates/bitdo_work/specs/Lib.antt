@@ -1,4 +1,5 @@
 pub mod Arguments
+pub mod Cited
 pub mod Elements
 pub mod Faults
 pub mod Ops
@@ -6,3 +7,5 @@ pub mod Program
 pub mod Steps
 pub mod Texts
 pub mod Words
+pub use Rattle.bitvec_run.specs.base as base
+pub use Rattle.bitvec_run.specs.store as store

@@ -11,4 +11,33 @@ mod print;
 mod program;
 mod words;
 
+/// What crates above name of `bitvec_base`.
+pub mod base {
+    pub use bitvec_run::base::{BitOrder, HiLo, Lsb0, Msb0};
+}
+
+/// What crates above name of `bitvec_cells`.
+pub mod cells {
+    pub use bitvec_run::cells::{Cells, CellsRead, Exclusive, Shared};
+}
+
+/// What crates above name of `bitvec_run`.
+pub mod commands {
+    pub use bitvec_run::{
+        FieldOp, FieldStep, Op, Refusal, Reply, RunError, Step, Window, run, run_fields,
+    };
+}
+
+/// What crates above name of `bitvec_engine`.
+pub mod engine {
+    pub use bitvec_run::engine::{
+        BitOp, SliceOrder, bits_copy, bits_copy_within, bits_eq, bits_op, bits_reverse, bits_swap,
+    };
+}
+
+/// What crates above name of `bitvec_store`.
+pub mod store {
+    pub use bitvec_run::store::BitStore;
+}
+
 pub use program::work;

@@ -1,9 +1,9 @@
 -- Why the order of the tests' own is lawful.
 use Rattle.std.specs.Prelude.{ℕ}
 use Rattle.std.proofs.Common.{arith}
-use Rattle.bitvec_plain.specs.base.Order.{Permutes}
-use Rattle.bitvec_plain.specs.store.Width.{IsWidth}
-use Rattle.bitvec_plain.specs.store.WidthLaws.{at_each_width}
+use Rattle.bitdo_work.specs.base.Order.{Permutes}
+use Rattle.bitdo_work.specs.store.Width.{IsWidth}
+use Rattle.bitdo_work.specs.store.WidthLaws.{at_each_width}
 use Rattle.bitvec_run_tests.specs.Scattered.{scattered}
 
 -- 5 has no divisor in common with a width

@@ -1,8 +1,8 @@
 //! How many loads and stores a run makes.
 use crate::slices::{StepRow, step};
-use bitvec_plain::base::Lsb0;
-use bitvec_plain::cells::{Exclusive, Shared};
-use bitvec_plain::commands::{Op, Window, run};
+use bitdo_work::base::Lsb0;
+use bitdo_work::cells::{Exclusive, Shared};
+use bitdo_work::commands::{Op, Window, run};
 use bitvec_test_support::Counted;
 use std::alloc::Global;
 use std::process::Abort;

@@ -1,7 +1,7 @@
 //! When a run isn't made, and what its errors print.
 use crate::slices::{answer, four_nibbles};
-use bitvec_plain::base::Lsb0;
-use bitvec_plain::commands::{RunError, Window};
+use bitdo_work::base::Lsb0;
+use bitdo_work::commands::{RunError, Window};
 use bitvec_test_support::prints;
 
 #[test]

@@ -1,35 +1,35 @@
-//! Runs whose answers come from worked rows and from the plain program, and what no clause of a
-//! run says.
+//! Runs on worked rows, the program on streams and memory that fail, and what no clause of either says. The commands
+//! themselves are compared with a model in `runs/`.
 #![tactic(auto)]
 
 /// The steps of a table of rows: from, up to, and the command.
 #[cfg(test)]
 macro_rules! steps {
     ([$(($from:expr, $to:expr, $op:expr)),* $(,)?]) => {
-        [$(bitvec_plain::commands::Step { from: $from, to: $to, op: $op }),*]
+        [$(bitdo_work::commands::Step { from: $from, to: $to, op: $op }),*]
     };
 }
 
 #[cfg(test)]
-mod agreement;
-#[cfg(test)]
-mod command_rows;
-#[cfg(test)]
 mod cost;
-#[cfg(test)]
-mod drawn_steps;
 #[cfg(test)]
 mod errors;
 #[cfg(test)]
-mod field_agreement;
+mod field_rows;
+#[cfg(test)]
+mod growth;
 #[cfg(test)]
 mod own_order;
+#[cfg(test)]
+mod program;
+#[cfg(test)]
+mod refusing;
 #[cfg(test)]
 mod rows;
 #[cfg(test)]
 mod slices;
 #[cfg(test)]
-mod steps;
+mod streams;
 #[cfg(test)]
 mod want_of_memory;
 #[cfg(test)]

@@ -1,17 +1,17 @@
 //! A bit order of the tests' own.
-#![tactic(auto, using(bitvec_plain::specs::Cited::enough))]
+#![tactic(auto, using(bitdo_work::specs::Cited::enough))]
 
 ghost use Rattle.std.specs.Prelude.{Bool, false};
 ghost use Rattle.bitvec_run_tests.specs.Scattered.{scattered};
 ghost use Rattle.bitvec_run_tests.specs.ScatteredLaws.{scattered_permutes};
 
-use bitvec_plain::base::BitOrder;
-use bitvec_plain::cells::{Cells, CellsRead};
-use bitvec_plain::commands::Window;
-use bitvec_plain::engine::{
+use bitdo_work::base::BitOrder;
+use bitdo_work::cells::{Cells, CellsRead};
+use bitdo_work::commands::Window;
+use bitdo_work::engine::{
     BitOp, SliceOrder, bits_copy, bits_copy_within, bits_eq, bits_op, bits_reverse, bits_swap,
 };
-use bitvec_plain::store::BitStore;
+use bitdo_work::store::BitStore;
 
 /// The order in which index `i` is bit `(5 * i + 3) % BITS`.
 pub(crate) struct Scattered;

@@ -1,19 +1,19 @@
 //! Worked rows: what a run replies, and the memory that it leaves.
 use crate::own_order::Scattered;
 use crate::slices::{FOUR_NIBBLES_REPLIES, answer, four_nibbles};
-use bitvec_plain::base::{HiLo, Lsb0};
-use bitvec_plain::commands::{Op, Refusal, Reply, RunError, Step, Window};
-use bitvec_plain::engine::SliceOrder;
-use bitvec_plain::store::BitStore;
+use bitdo_work::base::{HiLo, Lsb0};
+use bitdo_work::commands::{Op, Refusal, Reply, RunError, Step, Window};
+use bitdo_work::engine::SliceOrder;
+use bitdo_work::store::BitStore;
 use std::process::Abort;
 
 #[derive(Drop)]
-pub(crate) struct Row<'a> {
-    pub(crate) window: Window,
-    pub(crate) right: &'a [u8],
-    pub(crate) steps: &'a [Step],
-    pub(crate) replies: &'a [Reply],
-    pub(crate) after: &'a [u8],
+struct Row<'a> {
+    window: Window,
+    right: &'a [u8],
+    steps: &'a [Step],
+    replies: &'a [Reply],
+    after: &'a [u8],
 }
 
 /// Whether a run was made, and replies so.
@@ -24,7 +24,7 @@ fn replies_so(replies: Result<Vec<Reply>, RunError>, wanted: &[Reply]) -> bool {
     }
 }
 
-pub(crate) fn check<O: SliceOrder, R: Abort + AllocGlobal>(rt: &R, cells: &mut [u8], row: &Row) {
+fn check<O: SliceOrder, R: Abort + AllocGlobal>(rt: &R, cells: &mut [u8], row: &Row) {
     let replies = answer::<u8, O, _>(rt.alloc(), cells, row.window, row.right, row.steps);
     assert!(rt; replies_so(replies, row.replies));
     assert!(rt; &*cells == row.after);

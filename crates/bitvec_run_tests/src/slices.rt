@@ -1,8 +1,8 @@
 //! A run on slices, and the row that several tests share.
-use bitvec_plain::cells::{Exclusive, Shared};
-use bitvec_plain::commands::{Op, Reply, RunError, Step, Window, run};
-use bitvec_plain::engine::SliceOrder;
-use bitvec_plain::store::BitStore;
+use bitdo_work::cells::{Exclusive, Shared};
+use bitdo_work::commands::{Op, Reply, RunError, Step, Window, run};
+use bitdo_work::engine::SliceOrder;
+use bitdo_work::store::BitStore;
 use std::alloc::Allocator;
 
 /// A bit set in each of four nibbles, and their count.

@@ -1,7 +1,7 @@
 //! A run for whose replies there is no room.
 use crate::slices::{FOUR_NIBBLES_REPLIES, answer, four_nibbles};
-use bitvec_plain::base::Lsb0;
-use bitvec_plain::commands::{RunError, Window};
+use bitdo_work::base::Lsb0;
+use bitdo_work::commands::{RunError, Window};
 use bitvec_test_support::Refusing;
 use std::alloc::Global;
 use std::mem::size_of_val;

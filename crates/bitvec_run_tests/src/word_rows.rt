@@ -1,10 +1,10 @@
 //! Worked rows of what goes by words: the memory afterwards, within so many loads and stores.
 use crate::slices::{StepRow, step};
-use bitvec_plain::base::{Lsb0, Msb0};
-use bitvec_plain::cells::{Exclusive, Shared};
-use bitvec_plain::commands::{Op, Reply, Window, run};
-use bitvec_plain::engine::SliceOrder;
-use bitvec_plain::store::BitStore;
+use bitdo_work::base::{Lsb0, Msb0};
+use bitdo_work::cells::{Exclusive, Shared};
+use bitdo_work::commands::{Op, Reply, Window, run};
+use bitdo_work::engine::SliceOrder;
+use bitdo_work::store::BitStore;
 use bitvec_test_support::Counted;
 use std::alloc::Allocator;
 use std::process::Abort;

@@ -1,5 +1,6 @@
-//! Readers and writers that give little or fail.
-use crate::support::{expect_read, status, words};
+//! The program on readers and writers that give or take little, or fail. What it makes of its own streams shows
+//! `runs/bitdo.txt`.
+use crate::program::{expect_read, status, words};
 use bitvec_test_support::{FailingReader, FailingWriter, OneByteReader};
 use std::alloc::Global;
 use std::io::ErrorKind;
@@ -11,9 +12,16 @@ const INPUT: &[u8] = b"0 8 get 0\r\n\n0 16 count_ones\n0 8 set 7 1";
 
 const PRINTED: &[u8] = b"bit 1\ncount 2\ndone\n= 81,02\n";
 
+/// A character of the input may come in several reads.
 #[test]
 fn a_byte_a_read_is_enough(rt: HostRuntime) {
-    expect_read(&rt, ARGS, &mut OneByteReader::new(INPUT), 0, PRINTED);
+    for (given, ended, printed) in [
+        (INPUT, 0, PRINTED),
+        (b"0 8 get 0\n\xE2\x82\xAC\n", 2, b"bad line 2\n"),
+        (b"0 8 get 0\n\xE2\x82", 2, b"bad input\n"),
+    ] {
+        expect_read(&rt, ARGS, &mut OneByteReader::new(given), ended, printed);
+    }
 }
 
 #[test]
@@ -32,26 +40,6 @@ fn a_reader_that_fails_is_bad_input(rt: HostRuntime) {
             expect_read(&rt, args, &mut FailingReader::new(given, kind), 2, printed);
         }
     }
-}
-
-#[test]
-fn an_input_is_text_before_its_first_line(rt: HostRuntime) {
-    for given in [
-        b"\xFF".as_slice(),
-        b"no line\n\xC3".as_slice(),
-        b"0 8 get 0\n\xED\xA0\x80\n".as_slice(),
-        b"0 8 get 0\n\xE2\x82".as_slice(),
-        b"0 8 get 0\n\xF0\x9F\x98".as_slice(),
-    ] {
-        expect_read(&rt, ARGS, &mut OneByteReader::new(given), 2, b"bad input\n");
-    }
-}
-
-/// A character of the input may come in several reads.
-#[test]
-fn a_character_may_be_cut_by_reads(rt: HostRuntime) {
-    let mut input = OneByteReader::new(b"0 8 get 0\n\xE2\x82\xAC\n");
-    expect_read(&rt, ARGS, &mut input, 2, b"bad line 2\n");
 }
 
 /// Whether a run with that output ends with status 1.

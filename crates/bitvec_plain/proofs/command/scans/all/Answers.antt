@@ -1,9 +1,0 @@
-use Rattle.std.proofs.Common.{ap, rules, tests}
-use Rattle.std.proofs.lemmas.Iterator.{YieldsList-from_slice}
-use Rattle.std.proofs.lemmas.Iterator.Search.{all_from_yields_List}
-use Rattle.bitvec_run.specs.declared.command.Reply.TheVariants.{Bit}
-use Rattle.bitvec_plain.proofs.command.scans.all.Goals as goal
-
-pub returns : goal.returns
-returns c =
-    ap Bit (all_from_yields_List (λ bit. bit) _ _ c.all.result c.all.ensures.ran (YieldsList-from_slice c.args.list.now cc) (λ x b q k. search (rules, tests)))
