@@ -1,12 +1,11 @@
-//! What tests share: an accessor that tallies its calls as it runs, elements with no pattern, an allocator that
-//! refuses, readers and writers that give little or fail, three bytes as a plain list of bits, walks that are
-//! called past their end, and what values print.
+//! What tests share: an accessor that tallies its calls as it runs, an allocator that refuses, readers and writers
+//! that give little or fail, three bytes as a plain list of bits, walks that are called past their end, and what
+//! values print.
 #![tactic(auto)]
 
 mod counted;
 mod ends;
 mod memory;
-mod mixed;
 pub mod refusing;
 pub mod streams;
 mod texts;
@@ -29,7 +28,6 @@ pub mod store {
 pub use counted::Counted;
 pub use ends::{stays_ended, stays_ended_at_both};
 pub use memory::{MEMORIES, bits_of, flip, flipped};
-pub use mixed::mixed_elements;
 pub use refusing::Refusing;
 pub use streams::{FailingReader, FailingWriter, OneByteReader};
 pub use texts::{prints, shows};
