@@ -1,1 +1,4 @@
+pub mod DirectionLemmas
+pub mod FewLemmas
 pub mod NeedleLemmas
+pub mod WordLemmas

@@ -1,4 +1,5 @@
 pub mod Cited
+pub mod Direction
 pub mod Pairs
 pub use Rattle.bitvec_combine.specs.words.Front as Front
 pub use Rattle.bitvec_combine.specs.base as base

@@ -11,12 +11,14 @@ mod hi_lo;
 mod lsb0;
 mod msb0;
 mod needles;
+mod order_direction;
 mod reversing;
 mod rotating;
 mod scanning;
 mod shifting;
 mod slice_order;
 mod swapping;
+mod whole_words;
 
 /// What crates above name of `bitvec_base`.
 pub mod base {
@@ -86,9 +88,11 @@ pub use comparing::{bits_eq, compare};
 pub use copying::bits_copy;
 pub use copying_within::bits_copy_within;
 pub use needles::{contains, ends_with, starts_with};
+pub use order_direction::{Direction, direction_of};
 pub use reversing::{bits_reverse, reverse};
 pub use rotating::{rotate_left, rotate_right};
 pub use scanning::{all, any};
 pub use shifting::{shift_end, shift_start};
 pub use slice_order::{ByWords, SliceOrder};
 pub use swapping::bits_swap;
+pub use whole_words::{load_bits, store_bits, store_few};

@@ -4,7 +4,7 @@ use Rattle.std.proofs.Common.{arith, rules, sym, ◌∙◌, ap, subst, ⊎_elim}
 use Rattle.std.proofs.Math.Nat.{mul-le-mul_left}
 use Rattle.std.proofs.lemmas.Bool.{cases_lt}
 use Rattle.std.proofs.lemmas.List.{places, same_lists}
-use Rattle.bitvec_windows.specs.Direction.{Agrees}
+use Rattle.bitvec_engine.specs.Direction.{Agrees}
 use Rattle.bitvec_windows.specs.base.declared.window.Window.{Window}
 use Rattle.bitvec_windows.specs.base.Lists.{combined}
 use Rattle.bitvec_windows.specs.base.ListsLaws.{get-combined, length-combined}
@@ -18,7 +18,7 @@ use Rattle.bitvec_windows.specs.store.WidthLaws.{at_each_width}
 use Rattle.bitvec_windows.specs.words.Field.{padded}
 use Rattle.bitvec_windows.specs.words.MovedLaws.{take-field, take-range}
 use Rattle.bitvec_windows.proofs.DifferenceLemmas.{in_padded, past_padded}
-use Rattle.bitvec_windows.proofs.DirectionLemmas.{list-agrees, memory-agrees}
+use Rattle.bitvec_engine.proofs.DirectionLemmas.{list-agrees, memory-agrees}
 
 -- the first n places of a window
 abbrev pub until : Window → ℕ → Window

@@ -3,7 +3,6 @@ pub mod AskedLaws
 pub mod Candidates
 pub mod Cited
 pub mod Difference
-pub mod Direction
 pub mod OrderLaws
 pub mod Swaps
 pub use Rattle.bitvec_engine.specs.base as base

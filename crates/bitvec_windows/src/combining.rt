@@ -4,14 +4,12 @@ ghost use Rattle.bitvec_engine.specs.base.Lists.{combined};
 ghost use Rattle.bitvec_engine.specs.base.Memory.{HasWindow, Writes, list_in};
 ghost use Rattle.bitvec_engine.specs.words.Operator.{operator};
 
-use crate::direction::{Direction, direction_of};
-use crate::whole_words::{load_bits, store_bits};
 use crate::window_words::{window_word, word_end};
 use bitvec_engine::base::{BitOrder, Lsb0, Msb0, Window};
 use bitvec_engine::cells::{Exclusive, Shared};
 use bitvec_engine::store::BitStore;
 use bitvec_engine::words::WordOrder;
-use bitvec_engine::{BitOp, SliceOrder, bits_op};
+use bitvec_engine::{BitOp, Direction, SliceOrder, bits_op, direction_of, load_bits, store_bits};
 
 /// Replaces each bit of the left window by what the operator makes of it and the one at its index in
 /// the right window, of elements of any type and order, which counts as 0 past that window's end.

@@ -6,13 +6,12 @@ ghost use Rattle.bitvec_engine.specs.base.Lists.{same_bits};
 ghost use Rattle.bitvec_engine.specs.base.Memory.{HasWindow, list_in};
 
 use crate::difference::common_bits;
-use crate::direction::{Direction, direction_of};
 use crate::window_words::few_word;
 use bitvec_engine::base::{BitOrder, Lsb0, Msb0, Window};
 use bitvec_engine::cells::Shared;
 use bitvec_engine::store::BitStore;
 use bitvec_engine::words::{WORD_BITS, WordOrder};
-use bitvec_engine::{SliceOrder, get_bit};
+use bitvec_engine::{Direction, SliceOrder, direction_of, get_bit};
 use std::cmp::Ordering;
 
 /// How many bits [`compare_block_in`] passes at a time where they are equal.

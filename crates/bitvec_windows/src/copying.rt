@@ -2,14 +2,12 @@
 ghost use Rattle.std.specs.Prelude.{◌≡◌, ◌≤◌, map};
 ghost use Rattle.bitvec_engine.specs.base.Memory.{HasWindow, Writes, list_in};
 
-use crate::direction::{Direction, direction_of};
-use crate::whole_words::{store_bits, store_few};
 use crate::window_words::{few_word, window_word, word_end};
 use bitvec_engine::base::{BitOrder, Lsb0, Msb0, Window};
 use bitvec_engine::cells::{Exclusive, Shared};
 use bitvec_engine::store::BitStore;
 use bitvec_engine::words::{WORD_BITS, WordOrder};
-use bitvec_engine::{SliceOrder, bits_copy};
+use bitvec_engine::{Direction, SliceOrder, bits_copy, direction_of, store_bits, store_few};
 
 /// Copies the bits of the right window, of elements of any type and order. Condition: each memory
 /// has at most `MAX_BITS` bits, each window lies in its memory, and the windows are as long.

@@ -2,13 +2,12 @@
 ghost use Rattle.std.specs.Prelude.{◌≡◌, count_by, map};
 ghost use Rattle.bitvec_engine.specs.base.Memory.{HasWindow, list_in};
 
-use crate::direction::{Direction, direction_of};
 use crate::window_words::few_word;
 use bitvec_engine::base::{BitOrder, Lsb0, Msb0, Window};
 use bitvec_engine::cells::Shared;
-use bitvec_engine::count;
 use bitvec_engine::store::BitStore;
 use bitvec_engine::words::WORD_BITS;
+use bitvec_engine::{Direction, count, direction_of};
 
 /// How many bits of a window are 1; at most 64 bits go as a word. Condition: the memory has at most
 /// `MAX_BITS` bits, and the window lies in it.

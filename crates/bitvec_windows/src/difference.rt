@@ -3,11 +3,11 @@ ghost use Rattle.std.specs.Prelude.{◌≤◌, map};
 ghost use Rattle.bitvec_engine.specs.base.Memory.{HasWindow, list_in};
 ghost use Rattle.bitvec_windows.specs.Difference.{DiffersFrom};
 
-use crate::direction::{Direction, direction_of};
 use crate::window_words::window_word;
 use bitvec_engine::base::{BitOrder, Lsb0, Msb0, Window};
 use bitvec_engine::store::BitStore;
 use bitvec_engine::words::{WORD_BITS, WordOrder};
+use bitvec_engine::{Direction, direction_of};
 
 /// How many first bits two windows have in common, of those that both have. Condition: each memory
 /// has at most `MAX_BITS` bits, and each window lies in its memory.

@@ -9,7 +9,6 @@ mod copying;
 mod copying_within;
 mod counting;
 mod difference;
-mod direction;
 mod filling;
 mod needles;
 mod reversing;
@@ -18,7 +17,6 @@ mod scanning;
 mod shifting;
 mod swapping;
 mod swapping_within;
-mod whole_words;
 mod window_words;
 
 /// What crates above name of `bitvec_base`.

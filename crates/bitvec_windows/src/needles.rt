@@ -5,11 +5,11 @@ ghost use Rattle.bitvec_engine.specs.base.Memory.{HasWindow, element_bits, list_
 
 use crate::candidates::candidates;
 use crate::comparing::eq_in;
-use crate::direction::{Direction, direction_of};
 use crate::window_words::word_from;
 use bitvec_engine::base::{BitOrder, Lsb0, Msb0, Window};
 use bitvec_engine::store::BitStore;
 use bitvec_engine::words::{WORD_BITS, WordOrder};
+use bitvec_engine::{Direction, direction_of};
 
 /// Whether the bits of the right window begin those of the left one. Condition: each memory has at
 /// most `MAX_BITS` bits, and each window lies in its memory.

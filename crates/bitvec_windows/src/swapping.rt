@@ -2,14 +2,12 @@
 ghost use Rattle.std.specs.Prelude.{◌≡◌, map};
 ghost use Rattle.bitvec_engine.specs.base.Memory.{HasWindow, Writes, list_in};
 
-use crate::direction::{Direction, direction_of};
-use crate::whole_words::{load_bits, store_bits};
 use crate::window_words::{turned, word_end};
 use bitvec_engine::base::{BitOrder, Lsb0, Msb0, Window};
 use bitvec_engine::cells::Exclusive;
 use bitvec_engine::store::BitStore;
 use bitvec_engine::words::WordOrder;
-use bitvec_engine::{SliceOrder, bits_swap};
+use bitvec_engine::{Direction, SliceOrder, bits_swap, direction_of, load_bits, store_bits};
 
 /// Exchanges the bits of two windows, of elements of any types and orders. Condition: each memory
 /// has at most `MAX_BITS` bits, each window lies in its memory, and the windows are as long.

@@ -5,15 +5,14 @@ ghost use Rattle.bitvec_engine.specs.base.Memory.{HasWindow, element_bits, list_
 ghost use Rattle.bitvec_engine.specs.base.Window.{max_bits};
 ghost use Rattle.bitvec_engine.specs.words.Field.{padded};
 ghost use Rattle.bitvec_windows.specs.Candidates.{HasBitsFrom};
-ghost use Rattle.bitvec_windows.specs.Direction.{Runs};
+ghost use Rattle.bitvec_engine.specs.Direction.{Runs};
 
-use crate::direction::Direction;
 use bitvec_engine::base::{BitOrder, Lsb0, Msb0, Part, Window, first_part};
 use bitvec_engine::cells::{CellsRead, Shared};
 use bitvec_engine::copy::load_elements;
-use bitvec_engine::gathered;
 use bitvec_engine::store::BitStore;
 use bitvec_engine::words::{WORD_BITS, WordOrder, field, joined, load_field, moved, reversed};
+use bitvec_engine::{Direction, gathered};
 
 /// Where the word of 64 bits of the memory ends that has a window's index, or the window where that is
 /// before. Condition: the index is below the window's length, and the window ends in a memory of at

@@ -1,9 +1,9 @@
 use Rattle.std.proofs.Common.{◌-◌, ◌∙◌}
-use Rattle.bitvec_windows.specs.Direction.{Runs}
+use Rattle.bitvec_engine.specs.Direction.{Runs}
 use Rattle.bitvec_windows.specs.base.CompareLaws.{same-unequal}
 use Rattle.bitvec_windows.specs.base.WritesLaws.{length-list}
 use Rattle.bitvec_windows.specs.store.WidthLaws.{width_some}
-use Rattle.bitvec_windows.proofs.DirectionLemmas.{same-agrees}
+use Rattle.bitvec_engine.proofs.DirectionLemmas.{same-agrees}
 use Rattle.bitvec_windows.proofs.comparing.eq_block_in.Goals as goal
 
 pub returns-then-left_window-right_window : goal.returns-then-left_window-right_window

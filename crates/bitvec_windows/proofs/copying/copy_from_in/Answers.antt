@@ -1,5 +1,5 @@
 use Rattle.std.proofs.Common.{◌-◌}
-use Rattle.bitvec_windows.specs.Direction.{Runs}
+use Rattle.bitvec_engine.specs.Direction.{Runs}
 use Rattle.bitvec_windows.specs.store.WidthLaws.{width_some}
 use Rattle.bitvec_windows.proofs.StoreLemmas.{Writes-agrees}
 use Rattle.bitvec_windows.proofs.copying.copy_from_in.Goals as goal

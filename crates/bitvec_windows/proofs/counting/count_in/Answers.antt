@@ -1,9 +1,9 @@
 use Rattle.std.proofs.Common.{◌-◌, ◌∙◌, ap, arith, sym, Bool, List, count_by}
-use Rattle.bitvec_windows.specs.Direction.{Runs}
+use Rattle.bitvec_engine.specs.Direction.{Runs}
 use Rattle.bitvec_windows.specs.base.OrderLaws.{lsb0_permutes, msb0_permutes}
 use Rattle.bitvec_windows.specs.store.WidthLaws.{width_some}
-use Rattle.bitvec_windows.proofs.DirectionLemmas.{list-agrees}
-use Rattle.bitvec_windows.proofs.FewLemmas.{word-ones}
+use Rattle.bitvec_engine.proofs.DirectionLemmas.{list-agrees}
+use Rattle.bitvec_engine.proofs.FewLemmas.{word-ones}
 use Rattle.bitvec_windows.proofs.counting.count_in.Goals as goal
 
 pub returns-in-Up : goal.returns-in-Up

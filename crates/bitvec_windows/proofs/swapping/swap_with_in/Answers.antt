@@ -1,5 +1,5 @@
 use Rattle.std.proofs.Common.{◌-◌}
-use Rattle.bitvec_windows.specs.Direction.{Runs}
+use Rattle.bitvec_engine.specs.Direction.{Runs}
 use Rattle.bitvec_windows.specs.store.WidthLaws.{width_some}
 use Rattle.bitvec_windows.proofs.StoreLemmas.{List-agrees, Writes-agrees}
 use Rattle.bitvec_windows.proofs.swapping.swap_with_in.Goals as goal

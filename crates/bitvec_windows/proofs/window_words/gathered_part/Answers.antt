@@ -4,7 +4,7 @@ use Rattle.bitvec_windows.specs.base.MemoryLaws.{length-element_bits}
 use Rattle.bitvec_windows.specs.base.PartLaws.{element-none}
 use Rattle.bitvec_windows.specs.words.Field.{padded}
 use Rattle.bitvec_windows.specs.words.MovedLaws.{padded-none}
-use Rattle.bitvec_windows.proofs.WordLemmas.{eights-all, eights-next, eights-none, eights-whole}
+use Rattle.bitvec_engine.proofs.WordLemmas.{eights-all, eights-next, eights-none, eights-whole}
 use Rattle.bitvec_windows.proofs.window_words.gathered_part.Goals as goal
 
 pub loop-step-init : goal.loop-step-init

@@ -8,7 +8,7 @@ use Rattle.bitvec_windows.specs.walk.WalkLaws.{Walked-start, Walked-next, first-
 use Rattle.bitvec_windows.specs.words.Field.{padded}
 use Rattle.bitvec_windows.specs.words.FieldWalkLaws.{HasPart-first}
 use Rattle.bitvec_windows.specs.words.MovedLaws.{padded-none}
-use Rattle.bitvec_windows.proofs.WordLemmas.{gathered-next}
+use Rattle.bitvec_engine.proofs.WordLemmas.{gathered-next}
 use Rattle.bitvec_windows.proofs.window_words.gathered_word.Goals as goal
 
 -- the rest's first part lies in an element, and in the rest

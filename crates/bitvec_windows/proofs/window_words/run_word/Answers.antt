@@ -6,7 +6,7 @@ use Rattle.bitvec_windows.specs.base.Window.{window_of}
 use Rattle.bitvec_windows.specs.base.WritesLaws.{length-list}
 use Rattle.bitvec_windows.specs.moves.WordLaws.{padded-all, word_whole}
 use Rattle.bitvec_windows.specs.store.WidthLaws.{width_some}
-use Rattle.bitvec_windows.proofs.WordLemmas.{loaded-whole, next-inside, word-inside, word-joined}
+use Rattle.bitvec_engine.proofs.WordLemmas.{loaded-whole, next-inside, word-inside, word-joined}
 use Rattle.bitvec_windows.proofs.window_words.run_word.Goals as goal
 
 pub load_elements-word-requires-clause-window : goal.load_elements-word-requires-clause-window

@@ -1,4 +1,4 @@
-use Rattle.bitvec_windows.proofs.DirectionLemmas.{element-other_way, element-same_way}
+use Rattle.bitvec_engine.proofs.DirectionLemmas.{element-other_way, element-same_way}
 use Rattle.bitvec_windows.proofs.window_words.turned.Goals as goal
 
 pub returns-then-HIGH : goal.returns-then-HIGH

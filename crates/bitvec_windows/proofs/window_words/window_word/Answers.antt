@@ -1,8 +1,8 @@
 use Rattle.std.proofs.Common.{◌-◌, ap, sym, ◌∙◌}
-use Rattle.bitvec_windows.specs.Direction.{Runs}
+use Rattle.bitvec_engine.specs.Direction.{Runs}
 use Rattle.bitvec_windows.specs.store.WidthLaws.{width_some}
 use Rattle.bitvec_windows.specs.words.Field.{padded}
-use Rattle.bitvec_windows.proofs.DirectionLemmas.{list-agrees}
+use Rattle.bitvec_engine.proofs.DirectionLemmas.{list-agrees}
 use Rattle.bitvec_windows.proofs.window_words.window_word.Goals as goal
 
 pub returns-in-Up : goal.returns-in-Up

@@ -1,0 +1,186 @@
+-- Windows of at most 64 bits as words: of one element or two, and across the elements of a word.
+use Rattle.std.specs.Prelude.{◌≡◌, ◌≢◌, ℕ, ◌+◌, ◌-◌, ◌/◌, ◌%◌, ◌^◌, ◌<◌, ◌≤◌, ◌==◌, Bool, false, cond, List, ◌++◌, length, replicate, slice_index, slice_range, take, bit_or, count_by, count_ones, refl}
+use Rattle.std.proofs.Common.{arith, rules, sym, ◌∙◌, ap, inl, inr, length-append}
+use Rattle.std.proofs.lemmas.Bool.Decides.{Decides-eqb, Decides-like, same_from_decides}
+use Rattle.std.proofs.lemmas.List.{length-replicate, places, same_lists}
+use Rattle.std.proofs.lemmas.List.Folds.{sum_by-replicate}
+use Rattle.std.proofs.lemmas.List.Sums.{sum_by-append}
+use Rattle.std.proofs.lemmas.Nat.{div-add-mod', mod_below}
+use Rattle.bitvec_combine.specs.base.BitsFixMemory.{element_bits-fix}
+use Rattle.bitvec_combine.specs.base.declared.part.Part.{Part}
+use Rattle.bitvec_combine.specs.base.declared.window.Window.{Window}
+use Rattle.bitvec_combine.specs.base.Lists.{same_bits}
+use Rattle.bitvec_combine.specs.base.ListsLaws.{same_bits-decides}
+use Rattle.bitvec_combine.specs.base.Memory.{HasWindow, Writes, element_bits, list_in}
+use Rattle.bitvec_combine.specs.base.MemoryLaws.{length-element_bits}
+use Rattle.bitvec_combine.specs.base.Order.{Permutes}
+use Rattle.bitvec_combine.specs.base.Parts.{first_part_of, part_window}
+use Rattle.bitvec_combine.specs.base.SliceLaws.{range-from_start}
+use Rattle.bitvec_combine.specs.base.Window.{write_at}
+use Rattle.bitvec_combine.specs.base.WriteLaws.{length-slice_range}
+use Rattle.bitvec_combine.specs.base.WritesLaws.{Writes-is, Writes-join}
+use Rattle.bitvec_combine.specs.moves.SettledLaws.{Writes-same}
+use Rattle.bitvec_combine.specs.moves.WordLaws.{Writes-behind, first-values, length-first, padded-all, take-all, word-tail, word_whole}
+use Rattle.bitvec_combine.specs.store.Width.{IsWidth}
+use Rattle.bitvec_combine.specs.store.WidthLaws.{at_each_width, width_some}
+use Rattle.bitvec_combine.specs.walk.Cost.{touched_count}
+use Rattle.bitvec_combine.specs.walk.ElementLaws.{element-count}
+use Rattle.bitvec_combine.specs.walk.WalkLaws.{first-len, first-place}
+use Rattle.bitvec_combine.specs.words.Elements.{elements_window}
+use Rattle.bitvec_combine.specs.words.Field.{padded}
+use Rattle.bitvec_combine.specs.words.FieldLaws.{element_of}
+use Rattle.bitvec_combine.specs.words.MovedLaws.{element-joined, field-there, take-field, take-range}
+use Rattle.bitvec_combine.specs.words.TouchedLaws.{touched-first, touched-from_full, touched-two}
+
+-- values moved to the start
+padded-front : (b : ℕ) (list : List Bool) → length list ≤ b → write_at (replicate b false) 0 list ≡ padded b list
+unfolding write_at padded
+padded-front b list fits = same_lists _ _ (search (rules, places)) (λ k d inside. grind (arith, places))
+
+padded-moved : (b n : ℕ) (list : List Bool) → n ≤ length list → n ≤ b → write_at (replicate b false) 0 (slice_range list 0 (0 + n)) ≡ padded b (take n list)
+padded-moved b n list fits bound =
+    let long = length-first list n fits in
+    ap (write_at (replicate b false) 0) (range-from_start list n (0 + n) (omega arith)) ∙ padded-front b (take n list) (omega arith)
+
+-- the first bits of an element, moved to the start of a word
+pub padded-field : (b : ℕ) (at : ℕ → ℕ → ℕ) (n element word : ℕ) (list : List Bool) → n ≤ b → n ≤ 64 → element_bits 64 at word ≡ write_at (replicate 64 false) 0 (slice_range (element_bits b at element) 0 (0 + n)) → take n (element_bits b at element) ≡ list → element_bits 64 at word ≡ padded 64 list
+padded-field b at n element word list short fits put is =
+    let wide = length-element_bits b at element in
+    put ∙ padded-moved 64 n (element_bits b at element) (omega arith) fits ∙ ap (padded 64) is
+
+-- ---- 64 bits that begin inside an element narrower than a word
+
+module _ (b : ℕ) (window : Window) (width : IsWidth b) (narrow : b < 64) (size : window.len ≡ 64) (inside : window.start % b ≢ 0) where
+  abbrev first : ℕ
+  first = window.start / b
+
+  abbrev skip : ℕ
+  skip = window.start % b
+
+  pub touched-across : touched_count b window.start window.len ≡ 64 / b + 1
+  touched-across =
+      let some = width_some b width in
+      let full = at_each_width (λ n. n < 64 → 64 % n ≡ 0) (λ _. refl) (λ _. refl) (λ _. refl) (λ wide. absurd (omega arith)) (λ wide. absurd (omega arith)) b width narrow in
+      let rest = touched-from_full b window.start 64 some (omega arith) full in
+      let one = touched-first b window.start 64 (omega arith) in
+      rw size (omega arith)
+
+  -- the elements of a word get what the first has before the window, and the word's first bits; the next gets the others
+  pub stored-across : (at : ℕ → ℕ → ℕ) (old mid new : List ℕ) (head kept moved behind word : ℕ) → HasWindow b old window → head ≡ slice_index old first
+      → element_bits 64 at kept ≡ write_at (replicate 64 false) 0 (slice_range (element_bits b at head) 0 (0 + skip))
+      → element_bits 64 at moved ≡ write_at (replicate 64 false) skip (slice_range (element_bits 64 at word) 0 (0 + (64 - skip)))
+      → element_bits b at behind ≡ write_at (replicate b false) 0 (slice_range (element_bits 64 at word) (64 - skip) (64 - skip + skip))
+      → Writes b at old mid (elements_window b first (64 / b)) (element_bits 64 at (bit_or kept moved))
+      → Writes b at mid new (part_window b (record { element = first + 64 / b; from = 0; to = skip })) (slice_range (element_bits b at behind) 0 skip)
+      → Writes b at old new window (take window.len (element_bits 64 at word))
+  stored-across at old mid new head kept moved behind word has loaded low-bits high-bits last-bits before after =
+      let bits = element_bits 64 at word in
+      let some = width_some b width in
+      let whole = word_whole b width (omega arith) in
+      let place = div-add-mod' window.start b in
+      let below = mod_below window.start b some in
+      let low = has.within.start in
+      let high = has.within.len in
+      let wide = length-element_bits 64 at word in
+      let head-wide = length-element_bits b at head in
+      let elements = elements_window b first (64 / b) in
+      let begin : Window = record { start = window.start; len = 64 - skip } in
+      let has-elements : HasWindow b old elements = record { fits = has.fits; within = record { start = omega arith; len = omega arith } } in
+      let here : first < length old = element_of b first skip (length old) (omega arith) in
+      let front = length-first (element_bits b at head) skip (omega arith) in
+      let rest = length-first bits (64 - skip) (omega arith) in
+      let stored : element_bits 64 at (bit_or kept moved) ≡ take skip (list_in b at old elements) ++ take (64 - skip) bits =
+      element-joined 64 at kept moved skip (take skip (element_bits b at head)) (take (64 - skip) bits) (sym front) (omega arith)
+      (low-bits ∙ padded-moved 64 skip (element_bits b at head) (omega arith) (omega arith))
+      (high-bits ∙ ap (write_at (replicate 64 false) skip) (range-from_start bits (64 - skip) (0 + (64 - skip)) (omega arith)))
+      ∙ padded-all 64 _ (omega (arith, length-append {A = Bool}))
+      ∙ ap (λ (v : ℕ). take skip (element_bits b at v) ++ take (64 - skip) bits) loaded
+      ∙ ap (λ (l : List Bool). l ++ take (64 - skip) bits) (sym (first-values b at old first (64 / b) skip some here has-elements below (omega arith))) in
+      Writes-is b at old new window _ _
+      (Writes-join b at old mid new begin (part_window b (record { element = first + 64 / b; from = 0; to = skip })) window _ _ has refl (omega arith) (omega arith)
+      (Writes-behind b at old mid elements begin skip (take (64 - skip) bits) has-elements (sym place) (omega arith) rest (Writes-is b at old mid elements _ _ before stored))
+      after)
+      (ap (λ (l : List Bool). take (64 - skip) bits ++ slice_range l 0 skip) last-bits
+      ∙ word-tail bits b skip wide below narrow
+      ∙ sym (take-all bits window.len (omega arith)))
+
+-- ---- a window no longer than an element: the part of its first element, of t places, and what is left
+
+-- what a part takes of a word
+stored-part : (b from to n e : ℕ) (bits word : List Bool) → bits ≡ write_at (replicate b false) from (slice_range word n e) → from ≤ to → to ≤ b → e ≤ length word → e - n ≡ to - from → slice_range bits from to ≡ slice_range word n e
+stored-part b from to n e bits word put order bound fits size =
+    let long = length-slice_range word n e fits in
+    let zeros = length-replicate b false in
+    ap (λ (l : List Bool). slice_range l from to) put ∙ field-there b from to (replicate b false) (slice_range word n e) zeros bound (omega arith) order
+
+module _ (b : ℕ) (at : ℕ → ℕ → ℕ) (old mid : List ℕ) (window : Window) (t word first : ℕ) (some : 0 < b) (more : 0 < window.len) (bound : window.len ≤ 64) (short : window.len ≤ b) (step : t ≡ (first_part_of b window).to - (first_part_of b window).from) (has : HasWindow b old window)
+    (put : element_bits b at first ≡ write_at (replicate b false) (first_part_of b window).from (slice_range (element_bits 64 at word) 0 (0 + t)))
+    (before : Writes b at old mid (part_window b (first_part_of b window)) (slice_range (element_bits b at first) (first_part_of b window).from (first_part_of b window).to)) where
+  abbrev begin : Window
+  begin = record { start = window.start; len = t }
+
+  stored-first : Writes b at old mid begin (take t (element_bits 64 at word))
+  stored-first =
+      let part = first_part_of b window in
+      let len = first-len b window some more in
+      let wide = length-element_bits 64 at word in
+      Writes-is b at old mid begin _ _
+      (Writes-same (part_window b part) begin (sym (first-place b window)) step before)
+      (stored-part b part.from part.to 0 (0 + t) (element_bits b at first) (element_bits 64 at word) put (omega arith) (omega arith) (omega arith) (omega arith)
+      ∙ range-from_start (element_bits 64 at word) t (0 + t) (omega arith))
+
+  pub stored-one : window.len ≤ t → Writes b at old mid window (take window.len (element_bits 64 at word))
+  stored-one all =
+      let len = first-len b window some more in
+      let same : t ≡ window.len = omega arith in
+      rw same at stored-first
+
+  pub stored-two : (new : List ℕ) (second : ℕ) → t < window.len → element_bits b at second ≡ write_at (replicate b false) 0 (slice_range (element_bits 64 at word) t (t + (window.len - t)))
+      → Writes b at mid new (part_window b (record { element = window.start / b + 1; from = 0; to = window.len - t })) (slice_range (element_bits b at second) 0 (window.len - t))
+      → Writes b at old new window (take window.len (element_bits 64 at word))
+  stored-two new second left rest after =
+      let bits = element_bits 64 at word in
+      let part = first_part_of b window in
+      let tail : Part = record { element = window.start / b + 1; from = 0; to = window.len - t } in
+      let len = first-len b window some more in
+      let place = div-add-mod' window.start b in
+      let below = mod_below window.start b some in
+      let wide = length-element_bits 64 at word in
+      let end : t + (window.len - t) ≡ window.len = omega arith in
+      Writes-is b at old new window _ _
+      (Writes-join b at old mid new begin (part_window b tail) window _ _ has refl (omega arith) (omega arith) stored-first after)
+      (ap (λ (l : List Bool). take t bits ++ l) (stored-part b 0 (window.len - t) t (t + (window.len - t)) (element_bits b at second) bits rest (omega arith) (omega arith) (omega arith) (omega arith))
+      ∙ take-range bits t (t + (window.len - t)) window.len (omega arith) (omega arith) (sym end))
+
+-- the elements that such a window touches
+pub touched-short : (b t : ℕ) (window : Window) → 0 < b → 0 < window.len → window.len ≤ b → t ≡ (first_part_of b window).to - (first_part_of b window).from → t < window.len → touched_count b window.start window.len ≡ 2
+touched-short b t window some more short step left =
+    let len = first-len b window some more in
+    let below = mod_below window.start b some in
+    touched-two b window.start window.len some short (omega arith)
+
+-- ---- words of 64 bits as numbers
+
+word_width : IsWidth 64
+word_width = inr (inr (inr (inl refl)))
+
+-- words are equal where the lists are that they begin with
+pub same-words : (at : ℕ → ℕ → ℕ) → ((b : ℕ) → IsWidth b → Permutes b (at b)) → (v w : ℕ) (xs ys : List Bool) → v < 2 ^ 64 → w < 2 ^ 64 → length xs ≡ length ys → element_bits 64 at v ≡ padded 64 xs → element_bits 64 at w ≡ padded 64 ys → (v == w) ≡ same_bits xs ys
+same-words at permutes v w xs ys small other long left right =
+    same_from_decides _ _ (Decides-eqb v w)
+    (Decides-like (same_bits xs ys)
+    (λ h. element_bits-fix 64 at (permutes 64 word_width) v w small other (left ∙ ap (padded 64) h ∙ sym right))
+    (λ e. sym (take-field 64 (length xs) _ xs left refl) ∙ ap (λ (n : ℕ). take (length xs) (element_bits 64 at n)) e ∙ take-field 64 (length xs) _ ys right long)
+    (same_bits-decides xs ys))
+
+-- zeros behind a list are no ones
+padded-ones : (b : ℕ) (list : List Bool) → count_by (λ (bit : Bool). bit) (padded b list) ≡ count_by (λ (bit : Bool). bit) list
+unfolding padded
+padded-ones b list =
+    let both = sum_by-append (λ (bit : Bool). cond bit 1 0) list (replicate (b - length list) false) in
+    let none = sum_by-replicate (λ (bit : Bool). cond bit 1 0) (b - length list) false in
+    omega arith
+
+pub word-ones : (at : ℕ → ℕ → ℕ) → ((b : ℕ) → IsWidth b → Permutes b (at b)) → (v : ℕ) (list : List Bool) → v < 2 ^ 64 → element_bits 64 at v ≡ padded 64 list → count_ones v ≡ count_by (λ (bit : Bool). bit) list
+word-ones at permutes v list small held =
+    element-count 64 at (permutes 64 word_width) v small ∙ ap (λ (l : List Bool). count_by (λ (bit : Bool). bit) l) held ∙ padded-ones 64 list

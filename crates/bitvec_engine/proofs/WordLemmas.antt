@@ -1,0 +1,138 @@
+-- Words of a window: of two elements side by side, of whole elements, and of one part more.
+use Rattle.std.specs.Prelude.{◌≡◌, ◌≢◌, ℕ, ◌+◌, ◌-◌, ◌*◌, ◌/◌, ◌%◌, ◌<◌, ◌≤◌, Bool, false, List, [], ◌++◌, drop, length, replicate, slice_index, slice_range, take, bit_or, refl}
+use Rattle.std.proofs.Common.{arith, rules, subst, sym, ◌∙◌, ap}
+use Rattle.std.proofs.lemmas.List.{places, same_lists}
+use Rattle.std.proofs.lemmas.Nat.{div-add-mod', mod_below}
+use Rattle.bitvec_combine.specs.base.declared.window.Window.{Window}
+use Rattle.bitvec_combine.specs.base.Memory.{HasWindow, Writes, element_bits, list_in, memory_bits}
+use Rattle.bitvec_combine.specs.base.MemoryLaws.{length-element_bits}
+use Rattle.bitvec_combine.specs.base.Parts.{first_part_of, part_window}
+use Rattle.bitvec_combine.specs.base.Window.{window_after, window_of, write_at}
+use Rattle.bitvec_combine.specs.base.WriteLaws.{length-slice_range}
+use Rattle.bitvec_combine.specs.base.WritesLaws.{Writes-is, length-list}
+use Rattle.bitvec_combine.specs.moves.WordLaws.{length-first, padded-all, take-all, word_whole}
+use Rattle.bitvec_combine.specs.store.Width.{IsWidth}
+use Rattle.bitvec_combine.specs.store.WidthLaws.{at_each_width, width_some}
+use Rattle.bitvec_combine.specs.walk.Cost.{touched_count}
+use Rattle.bitvec_combine.specs.walk.Walk.{Walked, passed}
+use Rattle.bitvec_combine.specs.walk.WalkLaws.{first-len, length-first as length-first_part, length-passed, list-next}
+use Rattle.bitvec_combine.specs.words.Elements.{elements_window}
+use Rattle.bitvec_combine.specs.words.Field.{padded}
+use Rattle.bitvec_combine.specs.words.FieldLaws.{element_of, list-part}
+use Rattle.bitvec_combine.specs.words.FieldWalkLaws.{HasPart-first}
+use Rattle.bitvec_combine.specs.words.MovedLaws.{element-joined, take-range}
+use Rattle.bitvec_combine.specs.words.TouchedLaws.{touched-full}
+
+-- 64 values from the index `skip` of an element on, which is at most as wide as a word
+pub word-joined : (list : List Bool) (a b skip : ℕ) → skip < b → b ≤ 64 → a + 64 + b ≤ length list
+    → drop skip (slice_range list a (a + 64)) ++ take skip (write_at (replicate 64 false) 0 (slice_range (slice_range list (a + 64) (a + 64 + b)) 0 (0 + b))) ≡ slice_range list (a + skip) (a + skip + 64)
+unfolding write_at
+word-joined list a b skip below narrow fits = same_lists _ _ (search (rules, places)) (λ k d inside. grind (arith, places))
+
+-- ---- whole elements of 64 bits
+
+pub touched-whole : (b s : ℕ) → IsWidth b → b ≤ 64 → s % b ≡ 0 → touched_count b s 64 ≡ 64 / b
+touched-whole b s width narrow edge =
+    touched-full b s 64 (width_some b width) edge
+    (at_each_width (λ n. n ≤ 64 → 64 % n ≡ 0) (λ _. refl) (λ _. refl) (λ _. refl) (λ _. refl) (λ few. absurd (omega arith)) b width narrow)
+
+-- the elements that begin with the one of a window's first bit, and hold a word, lie in the memory; so does the next one, where that bit isn't its element's first
+pub word-inside : (b : ℕ) (xs : List ℕ) (window : Window) → IsWidth b → b ≤ 64 → window.len ≡ 64 → HasWindow b xs window → HasWindow b xs (elements_window b (window.start / b) (64 / b))
+word-inside b xs window width narrow size has =
+    let start = has.within.start in
+    let len = has.within.len in
+    let whole = word_whole b width narrow in
+    let place = div-add-mod' window.start b in
+    record { fits = has.fits; within = record { start = omega arith; len = omega arith } }
+
+pub next-inside : (b : ℕ) (xs : List ℕ) (window : Window) → IsWidth b → b ≤ 64 → window.len ≡ 64 → HasWindow b xs window → window.start % b ≢ 0 → window.start / b + 64 / b < length xs
+next-inside b xs window width narrow size has left =
+    let start = has.within.start in
+    let len = has.within.len in
+    let whole = word_whole b width narrow in
+    let place = div-add-mod' window.start b in
+    let below = mod_below window.start b (width_some b width) in
+    let sum : (window.start / b + 64 / b) * b ≡ window.start / b * b + 64 = omega arith in
+    element_of b (window.start / b + 64 / b) (window.start % b - 1) (length xs) (omega arith)
+
+module _ (b : ℕ) (at : ℕ → ℕ → ℕ) (window : Window) (width : IsWidth b) (narrow : b ≤ 64) (size : window.len ≡ 64) (edge : window.start % b ≡ 0) where
+  abbrev elements : Window
+  elements = elements_window b (window.start / b) (64 / b)
+
+  start : elements.start ≡ window.start
+  start = let place = div-add-mod' window.start b in omega arith
+
+  long : elements.len ≡ window.len
+  long = word_whole b width narrow ∙ sym size
+
+  pub loaded-whole : (xs : List ℕ) (w : ℕ) → HasWindow b xs window → element_bits 64 at w ≡ list_in b at xs elements → element_bits 64 at w ≡ padded 64 (list_in b at xs window)
+  unfolding window_of
+  loaded-whole xs w has bits =
+      let all = length-list b at xs window has in
+      bits
+      ∙ ap (λ (s : ℕ). slice_range (memory_bits b at xs) s (s + elements.len)) start
+      ∙ ap (λ (n : ℕ). slice_range (memory_bits b at xs) window.start (window.start + n)) long
+      ∙ sym (padded-all 64 _ (all ∙ size))
+
+  pub stored-whole : (old new : List ℕ) (w : ℕ) → Writes b at old new elements (element_bits 64 at w) → Writes b at old new window (take window.len (element_bits 64 at w))
+  stored-whole old new w writes =
+      let wide = length-element_bits 64 at w in
+      Writes-is b at old new window _ _
+      (subst (λ (n : ℕ). Writes b at old new (record { start = window.start; len = n }) (element_bits 64 at w)) long
+      (subst (λ (s : ℕ). Writes b at old new (record { start = s; len = elements.len }) (element_bits 64 at w)) start writes))
+      (sym (take-all (element_bits 64 at w) window.len (omega arith)))
+
+-- ---- one part after the other
+
+-- a word that has one part more of a window, its bits gathered to the start of another word
+front_of : (list : List Bool) (t : ℕ) → t ≡ length list → slice_range (padded 64 list) 0 (0 + t) ≡ list
+unfolding padded
+front_of list t long = same_lists _ _ (search (rules, places)) (λ k d inside. grind (arith, places))
+
+pub gathered-next : (b : ℕ) (at to : ℕ → ℕ → ℕ) (xs : List ℕ) (window rest : Window) (t n word element first moved : ℕ) → 0 < b → 0 < rest.len → window.len ≤ 64 → t ≡ (first_part_of b rest).to - (first_part_of b rest).from → n ≡ window.len - rest.len → HasWindow b xs window → Walked b window rest
+    → element ≡ slice_index xs (first_part_of b rest).element
+    → element_bits 64 to first ≡ padded 64 (slice_range (element_bits b at element) (first_part_of b rest).from (first_part_of b rest).to)
+    → element_bits 64 to moved ≡ write_at (replicate 64 false) n (slice_range (element_bits 64 to first) 0 (0 + t))
+    → element_bits 64 to word ≡ padded 64 (list_in b at xs (passed window rest))
+    → element_bits 64 to (bit_or word moved) ≡ padded 64 (list_in b at xs (passed window (window_after t rest)))
+gathered-next b at to xs window rest t n word element first moved some more size step count has walk loaded gathered put held =
+    let start = walk.start in
+    let end = walk.end in
+    let part = first_part_of b rest in
+    let len = first-len b rest some more in
+    let before = length-passed b at xs window rest has walk in
+    let next = length-first_part b at xs window rest some more has walk in
+    let holds = list-part b at xs part (HasPart-first b xs window rest some more has walk) in
+    let bits : slice_range (element_bits b at element) part.from part.to ≡ list_in b at xs (part_window b part) =
+    ap (λ (v : ℕ). slice_range (element_bits b at v) part.from part.to) loaded ∙ sym holds in
+    let front : slice_range (element_bits 64 to first) 0 (0 + t) ≡ list_in b at xs (part_window b part) =
+    ap (λ (l : List Bool). slice_range l 0 (0 + t)) (gathered ∙ ap (padded 64) bits) ∙ front_of (list_in b at xs (part_window b part)) t (omega arith) in
+    element-joined 64 to word moved n (list_in b at xs (passed window rest)) (list_in b at xs (part_window b part)) (omega arith) (omega arith) held (put ∙ ap (λ (l : List Bool). write_at (replicate 64 false) n l) front)
+    ∙ ap (padded 64) (list-next b at xs window rest t some more step has walk)
+
+-- ---- eight bits more
+
+pub eights-none : (list : List Bool) → padded 64 [] ≡ padded 64 (take (0 * 8) list)
+eights-none list = refl
+
+pub eights-next : (to : ℕ → ℕ → ℕ) (list : List Bool) (word few moved n : ℕ) → n * 8 + 8 ≤ length list → n * 8 + 8 ≤ 64
+    → element_bits 64 to few ≡ padded 64 (slice_range list (n * 8) (n * 8 + 8))
+    → element_bits 64 to moved ≡ write_at (replicate 64 false) (n * 8) (slice_range (element_bits 64 to few) 0 (0 + 8))
+    → element_bits 64 to word ≡ padded 64 (take (n * 8) list)
+    → element_bits 64 to (bit_or word moved) ≡ padded 64 (take ((n + 1) * 8) list)
+eights-next to list word few moved n inside fits gathered put held =
+    let part = slice_range list (n * 8) (n * 8 + 8) in
+    let long = length-slice_range list (n * 8) (n * 8 + 8) inside in
+    let taken = length-first list (n * 8) (omega arith) in
+    let front : slice_range (element_bits 64 to few) 0 (0 + 8) ≡ part =
+    ap (λ (l : List Bool). slice_range l 0 (0 + 8)) gathered ∙ front_of part 8 (omega arith) in
+    element-joined 64 to word moved (n * 8) (take (n * 8) list) part (omega arith) (omega arith) held (put ∙ ap (λ (l : List Bool). write_at (replicate 64 false) (n * 8) l) front)
+    ∙ ap (padded 64) (take-range list (n * 8) (n * 8 + 8) ((n + 1) * 8) (omega arith) inside (omega arith))
+
+pub eights-whole : (b : ℕ) → IsWidth b → b / 8 * 8 ≡ b
+eights-whole b width = at_each_width (λ n. n / 8 * 8 ≡ n) refl refl refl refl refl b width
+
+pub eights-all : (b n from to : ℕ) (list : List Bool) → IsWidth b → length list ≡ b → from ≤ to → to ≤ b → b ≤ to - from → b / 8 ≤ n → n ≤ b / 8 → take (n * 8) list ≡ slice_range list from to
+eights-all b n from to list width long order bound whole low high =
+    let all = eights-whole b width in
+    same_lists _ _ (search (rules, places)) (λ k d inside. grind (arith, places))

@@ -1,0 +1,15 @@
+-- Which way an order runs through an element.
+use Rattle.std.specs.Prelude.{◌≡◌, ℕ, ◌<◌, ⊤, true, false}
+use Rattle.bitvec_combine.specs.words.OrderEnd.{RunsFrom}
+use Rattle.bitvec_engine.specs.declared.order_direction.Direction.{Direction}
+use Rattle.bitvec_engine.specs.declared.order_direction.Direction.TheVariants.{Up, Down, Other}
+
+-- two orders have the bits of an element of b bits at the same indices
+abbrev pub Agrees : ℕ → (ℕ → ℕ → ℕ) → (ℕ → ℕ → ℕ) → Type 0
+Agrees b at other = (i : ℕ) → i < b → at b i ≡ other b i
+
+-- the order runs through an element of b bits as is said, if anything is
+unfoldable pub Runs : Direction → ℕ → (ℕ → ℕ → ℕ) → Type 0
+Runs Up b at = RunsFrom false b at
+Runs Down b at = RunsFrom true b at
+Runs Other b at = ⊤
