@@ -6,12 +6,12 @@ pub use bitvec_iter::{IterCalls, PieceCallsMut};
 pub use bitvec_ones::OnesCalls;
 pub use bitvec_ones::query::BitQueries;
 pub use bitvec_owned::edit::BitEdits;
-pub use bitvec_owned::edit::base::{BitOrder, BitSpanError, HiLo, Lsb0, Msb0};
-pub use bitvec_owned::edit::engine::SliceOrder;
-pub use bitvec_owned::edit::slice::{
-    BitDomain, BitRef, BitRefMut, BitSlice, BitSliceIndex, BitSliceMut, Domain, DomainMut, View,
-};
-pub use bitvec_owned::edit::store::BitStore;
 pub use bitvec_owned::{BitVec, RepeatError, ToBitVec};
 pub use bitvec_pieces::split::{SplitCalls, SplitCallsMut};
 pub use bitvec_pieces::{EditParts, EditSplits};
+pub use bitvec_slice::{
+    BitDomain, BitRef, BitRefMut, BitSlice, BitSliceIndex, BitSliceMut, Domain, DomainMut, View,
+};
+pub use bitvec_windows::base::{BitOrder, BitSpanError, HiLo, Lsb0, Msb0};
+pub use bitvec_windows::engine::SliceOrder;
+pub use bitvec_windows::store::BitStore;

@@ -10,13 +10,13 @@ pub use bitvec_ones::query::BitQueries;
 pub use bitvec_ones::{IndexWalk, IterOnes, IterZeros, Ones, OnesCalls, Places, Wanted, Zeros};
 pub use bitvec_owned::ToBitVec;
 pub use bitvec_owned::edit::BitEdits;
-pub use bitvec_owned::edit::slice::{
-    BitRefIter, BitSlice, BitSliceIndex, BitSliceMut, BitValIter, Iter, Shows, View, ViewMut,
-    Viewed, ViewedMut, from_mut, from_ref,
-};
 pub use bitvec_pieces::split::{
     Forward, Inclusive, LimitedSplitWalk, RSplit, RSplitMut, RSplitN, RSplitNMut, Reversed, Split,
     SplitCalls, SplitCallsMut, SplitInclusive, SplitInclusiveMut, SplitMut, SplitN, SplitNMut,
     SplitWalk, Splits, SplitsMut, SplitsN, SplitsNMut, Way,
 };
 pub use bitvec_pieces::{EditParts, EditSplits};
+pub use bitvec_slice::{
+    BitRefIter, BitSlice, BitSliceIndex, BitSliceMut, BitValIter, Iter, Shows, View, ViewMut,
+    Viewed, ViewedMut, from_mut, from_ref,
+};

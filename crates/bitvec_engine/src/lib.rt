@@ -47,7 +47,7 @@ pub mod comparisons {
 /// The copies of `bitvec_move`, and words of elements, that crates above name.
 pub mod copy {
     pub use bitvec_combine::moves::{copy, copy_within};
-    pub use bitvec_combine::words::{load_elements, store_elements};
+    pub use bitvec_combine::words::load_elements;
 }
 
 /// The exchanges of `bitvec_move` that crates above name.

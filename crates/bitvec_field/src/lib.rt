@@ -22,19 +22,6 @@ pub mod cells {
     pub use bitvec_slice::cells::{Exclusive, Shared};
 }
 
-/// What crates above name of `bitvec_windows`.
-pub mod windows {
-    pub use bitvec_slice::windows::{
-        combine_block_in, copy_from_block_in, copy_within_in, count_in, eq_block_in, fill_in,
-        first_in, invert_in, reverse_in, rotate_left_in, shift_start_in, swap_with_block_in,
-    };
-}
-
-/// What crates above name of `bitvec_engine`.
-pub mod engine {
-    pub use bitvec_slice::engine::{BitOp, SliceOrder};
-}
-
 /// What crates above name of `bitvec_slice`.
 pub mod slice {
     pub use bitvec_slice::{BitSlice, BitSliceMut};

@@ -36,7 +36,7 @@ pub mod query {
 
 /// What crates above name of `bitvec_slice`.
 pub mod slice {
-    pub use bitvec_query::slice::{BitSlice, BitSliceMut, Shows, View};
+    pub use bitvec_query::slice::{BitSlice, BitSliceMut};
 }
 
 /// What crates above name of `bitvec_store`.

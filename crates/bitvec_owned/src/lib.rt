@@ -15,10 +15,7 @@ mod zeros;
 
 /// What crates above name of `bitvec_edit`.
 pub mod edit {
-    pub use bitvec_edit::{
-        BitEdits, base, cells, combine, comparisons, copy, domain, engine, exchange, reference,
-        slice, store, walk, windows, words,
-    };
+    pub use bitvec_edit::BitEdits;
 }
 
 /// What crates above name of `bitvec_query`.

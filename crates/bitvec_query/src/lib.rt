@@ -23,8 +23,8 @@ pub mod engine {
 /// What crates above name of `bitvec_slice`.
 pub mod slice {
     pub use bitvec_slice::{
-        BitDomain, BitDomainParts, BitRef, BitSlice, BitSliceIndex, BitSliceMut, Domain, DomainMut,
-        Shows, View, Viewed, ViewedMut, from_mut, from_ref,
+        BitDomain, BitRef, BitRefMut, BitSlice, BitSliceIndex, BitSliceMut, Domain, DomainMut,
+        Shows,
     };
 }
 

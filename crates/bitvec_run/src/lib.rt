@@ -14,14 +14,12 @@ mod step;
 
 /// What crates above name of `bitvec_base`.
 pub mod base {
-    pub use bitvec_engine::base::{BitOrder, HiLo, Lsb0, MAX_BITS, Msb0, Window};
+    pub use bitvec_engine::base::{BitOrder, HiLo, Lsb0, Msb0, Window};
 }
 
 /// What crates above name of `bitvec_cells`.
 pub mod cells {
-    pub use bitvec_engine::cells::{
-        Cells, CellsRead, Exclusive, Shared, fits_max_bits, has_window,
-    };
+    pub use bitvec_engine::cells::{Cells, CellsRead, Exclusive, Shared};
 }
 
 /// What crates above name of `bitvec_engine`.

@@ -22,7 +22,7 @@ pub mod base {
 
 /// What crates above name of `bitvec_slice`.
 pub mod slice {
-    pub use bitvec_slice::{BitSliceMut, Inside, Shows, View, ViewMut};
+    pub use bitvec_slice::{BitSliceMut, Inside, View, ViewMut};
 }
 
 /// What crates above name of `bitvec_store`.

@@ -33,21 +33,6 @@ pub mod cells {
     };
 }
 
-/// The operators of `bitvec_combine` that crates above name.
-pub mod combine {
-    pub use bitvec_engine::combine::combine;
-}
-
-/// The comparison of `bitvec_combine` that crates above name.
-pub mod comparisons {
-    pub use bitvec_engine::comparisons::equal;
-}
-
-/// The copies of `bitvec_move` that crates above name.
-pub mod copy {
-    pub use bitvec_engine::copy::{copy, copy_within};
-}
-
 /// What crates above name of `bitvec_engine`.
 pub mod engine {
     pub use bitvec_engine::{
@@ -57,11 +42,6 @@ pub mod engine {
         elements_eq, elements_op, elements_swap, ends_with, fill, get_bit, invert, replace_bit,
         reverse, rotate_left, rotate_right, shift_end, shift_start, starts_with, swap_bits,
     };
-}
-
-/// The exchanges of `bitvec_move` that crates above name.
-pub mod exchange {
-    pub use bitvec_engine::exchange::{reverse, swap};
 }
 
 /// What crates above name of `bitvec_store`.
@@ -77,8 +57,12 @@ pub mod walk {
     };
 }
 
-/// What crates above name of `bitvec_words`.
+/// What crates above name of `bitvec_words`, and of the word kernels over two windows or one.
 pub mod words {
+    pub use bitvec_engine::combine::combine;
+    pub use bitvec_engine::comparisons::equal;
+    pub use bitvec_engine::copy::{copy, copy_within};
+    pub use bitvec_engine::exchange::{reverse, swap};
     pub use bitvec_engine::words::{
         WORD_BITS, WordOrder, field, field_after, joined, load_field, merged, moved, reversed,
         same_between, store_field, store_part, toward_end, toward_start,
