@@ -18,12 +18,13 @@ fn edit_five(bytes: &mut [u8; 1], kind: usize) {
         6 => five.fill(true),
         7 => five.fill_with(|index| index % 2 == 0),
         8 => five.copy_within(1..5, 0),
-        _ => five.shift_end(1),
+        9 => five.shift_end(1),
+        _ => five.swap_within(0..2, 3),
     }
 }
 
 /// The byte before each edit and after it: the last three bits stay.
-const FIVE_EDITED: [(u8, u8); 10] = [
+const FIVE_EDITED: [(u8, u8); 11] = [
     (0xF2, 0xF4),
     (0xF4, 0xF2),
     (0xF2, 0xF2),
@@ -34,6 +35,7 @@ const FIVE_EDITED: [(u8, u8); 10] = [
     (0xFF, 0xF5),
     (0xF5, 0xFA),
     (0xFA, 0xF4),
+    (0xFA, 0xF3),
 ];
 
 #[test]
@@ -45,35 +47,20 @@ fn five_bits_are_edited(rt: HostRuntime) {
     }
 }
 
-/// Exchanges two ranges of the first five bits, and then replaces the second bit, which is given.
-fn swap_and_replace(bytes: &mut [u8; 1]) -> bool {
-    let mut five = BitSliceMut::<u8, Lsb0>::from_slice_mut(bytes).into_part(0..5);
-    five.swap_within(0..2, 3);
-    five.replace(1, false)
-}
-
-// The five are 0, 1, 0, 1, 1; then 1, 1, 0, 0, 1; and 1, 0, 0, 0, 1.
-#[test]
-fn replace_gives_the_old_bit(rt: HostRuntime) {
-    let mut bytes = [0xFAu8];
-    assert!(rt; swap_and_replace(&mut bytes));
-    assert!(rt; bytes == [0xF1]);
-}
-
-/// Edits the first five bits by the unchecked names. The result is the bit that was replaced.
-fn edit_unchecked(bytes: &mut [u8; 1]) -> bool {
+/// Edits the first five bits by the unchecked names. The result is the bits that were replaced.
+fn edit_unchecked(bytes: &mut [u8; 1]) -> (bool, bool) {
     let mut five = BitSliceMut::<u8, Lsb0>::from_slice_mut(bytes).into_part(0..5);
     five.set_unchecked(0, true);
     let old = five.replace_unchecked(1, false);
     five.swap_unchecked(0, 3);
     five.copy_within_unchecked(3..5, 0);
-    old
+    (old, five.replace(4, false))
 }
 
-// The five are 0, 1, 0, 0, 1; then 1, 1, 0, 0, 1; 1, 0, 0, 0, 1; 0, 0, 0, 1, 1; and 1, 1, 0, 1, 1.
+// The five are 0, 1, 0, 0, 1; then 1, 1, 0, 0, 1; 1, 0, 0, 0, 1; 0, 0, 0, 1, 1; 1, 1, 0, 1, 1; and 1, 1, 0, 1, 0.
 #[test]
 fn unchecked_names_are_the_checked_calls(rt: HostRuntime) {
     let mut bytes = [0x12u8];
-    assert!(rt; edit_unchecked(&mut bytes));
-    assert!(rt; bytes == [0x1B]);
+    assert!(rt; edit_unchecked(&mut bytes) == (true, true));
+    assert!(rt; bytes == [0x0B]);
 }

@@ -1,8 +1,8 @@
 use Rattle.std.proofs.Common.{◌≡◌, ◌+◌, ◌≤◌, count_by, sum_by}
-use Rattle.bitvec_query.specs.base.Window.{max_bits}
-use Rattle.bitvec_query.specs.slice.BitParts.{parts_left}
-use Rattle.bitvec_query.specs.slice.Views.{seen_mut}
-use Rattle.bitvec_split_tests.proofs.bit_parts.ones_by_parts_mut.Given as goal
+use Rattle.bitvec_owned.specs.query.base.Window.{max_bits}
+use Rattle.bitvec_owned.specs.query.slice.BitParts.{parts_left}
+use Rattle.bitvec_owned.specs.query.slice.Views.{seen_mut}
+use Rattle.bitvec_view_tests.proofs.bit_parts.ones_by_parts_mut.Given as goal
 
 abbrev pub invariant-loop-part : goal.invariant-loop-part
 invariant-loop-part g l =

@@ -1,7 +1,7 @@
 use Rattle.std.proofs.Common.{arith, ◌∙◌, ap, count_by, sum_by}
-use Rattle.bitvec_query.specs.slice.Views.{seen_mut}
-use Rattle.bitvec_split_tests.proofs.PartCounts.{few_counted, parts_counted}
-use Rattle.bitvec_split_tests.proofs.bit_parts.ones_by_parts_mut.Goals as goal
+use Rattle.bitvec_owned.specs.query.slice.Views.{seen_mut}
+use Rattle.bitvec_view_tests.proofs.PartCounts.{few_counted, parts_counted}
+use Rattle.bitvec_view_tests.proofs.bit_parts.ones_by_parts_mut.Goals as goal
 
 pub loop-part-init : goal.loop-part-init
 loop-part-init g c =

@@ -1,14 +1,11 @@
 //! Views, cut in two.
-use bitvec_query::BitQueries;
-use bitvec_query::base::Lsb0;
-use bitvec_query::engine::SliceOrder;
-use bitvec_query::slice::{BitSlice, BitSliceMut};
-use bitvec_query::store::BitStore;
+
+use bitvec_owned::query::BitQueries;
+use bitvec_owned::query::base::Lsb0;
+use bitvec_owned::query::slice::{BitSlice, BitSliceMut};
 
 /// How many bits two views have each, and how many of these are 1.
-fn counts<T: BitStore, O: SliceOrder>(
-    parts: (BitSlice<'_, T, O>, BitSlice<'_, T, O>),
-) -> [(usize, usize); 2] {
+fn counts(parts: (BitSlice<'_, u8, Lsb0>, BitSlice<'_, u8, Lsb0>)) -> [(usize, usize); 2] {
     let (left, right) = parts;
     [
         (left.len(), left.count_ones()),

@@ -1,46 +1,31 @@
 //! The parts of a view that is cut at the edges of elements: one of them is flipped; then every other bit
 //! of the three bytes is as before, and the view stands where it stood.
 
-use bitvec_edit::BitEdits;
-use bitvec_query::base::{Lsb0, Window};
-use bitvec_query::slice::{BitDomain, BitSliceMut, DomainMut};
+use bitvec_owned::edit::BitEdits;
+use bitvec_owned::query::base::{Lsb0, Window};
+use bitvec_owned::query::slice::{BitDomain, BitSliceMut, DomainMut};
 use bitvec_test_support::{MEMORIES, bits_of, flipped};
 use std::process::Abort;
 
-/// A part of what is cut; a view inside one element is its own only part, whichever is named.
-#[derive(Clone, Copy)]
-enum Piece {
-    Head,
-    Body,
-    Tail,
-}
-
-/// Flips a part of the elements that a view touches.
-fn flip_elements(view: &mut BitSliceMut<'_, u8, Lsb0>, piece: Piece) {
+/// Flips a part of the elements that a view touches: the head, the body or the tail, or the only one.
+fn flip_elements(view: &mut BitSliceMut<'_, u8, Lsb0>, piece: usize) {
     match view.domain_mut() {
         DomainMut::Enclave(mut whole) => whole.invert(),
-        DomainMut::Region { head, body, tail } => match piece {
-            Piece::Head => {
-                if let Some(mut part) = head {
-                    part.invert();
-                }
-            }
-            Piece::Body => {
+        DomainMut::Region { head, body, tail } => {
+            let part = if piece == 0 { head } else { tail };
+            if piece == 1 {
                 for element in body {
                     *element = !*element;
                 }
+            } else if let Some(mut part) = part {
+                part.invert();
             }
-            Piece::Tail => {
-                if let Some(mut part) = tail {
-                    part.invert();
-                }
-            }
-        },
+        }
     }
 }
 
-/// Flips a part of a view.
-fn flip_bits(view: &mut BitSliceMut<'_, u8, Lsb0>, piece: Piece) {
+/// Flips a part of a view: the head, the body or the tail, or the only one.
+fn flip_bits(view: &mut BitSliceMut<'_, u8, Lsb0>, piece: usize) {
     match view.bit_domain_mut() {
         BitDomain::Enclave(mut whole) => whole.invert(),
         BitDomain::Region {
@@ -48,15 +33,15 @@ fn flip_bits(view: &mut BitSliceMut<'_, u8, Lsb0>, piece: Piece) {
             mut body,
             mut tail,
         } => match piece {
-            Piece::Head => head.invert(),
-            Piece::Body => body.invert(),
-            Piece::Tail => tail.invert(),
+            0 => head.invert(),
+            1 => body.invert(),
+            _ => tail.invert(),
         },
     }
 }
 
 /// Flips a part of the bits 3 up to 21, and says where these stand then.
-fn flip_in_many(bytes: &mut [u8; 3], piece: Piece, as_elements: bool) -> Window {
+fn flip_in_many(bytes: &mut [u8; 3], piece: usize, as_elements: bool) -> Window {
     let mut view = BitSliceMut::<u8, Lsb0>::from_slice_mut(bytes).into_part(3..21);
     if as_elements {
         flip_elements(&mut view, piece);
@@ -70,22 +55,17 @@ fn flip_in_many(bytes: &mut [u8; 3], piece: Piece, as_elements: bool) -> Window 
 fn flip_in_one(bytes: &mut [u8; 3], as_elements: bool) -> Window {
     let mut view = BitSliceMut::<u8, Lsb0>::from_slice_mut(bytes).into_part(10..14);
     if as_elements {
-        flip_elements(&mut view, Piece::Head);
+        flip_elements(&mut view, 0);
     } else {
-        flip_bits(&mut view, Piece::Head);
+        flip_bits(&mut view, 0);
     }
     view.window()
 }
 
 /// Asserts that each part is lent, of each of two views, and that all else is left.
 fn lends_each_part<R: Abort>(rt: &R, as_elements: bool) {
-    let pieces = [
-        (Piece::Head, 3, 8),
-        (Piece::Body, 8, 16),
-        (Piece::Tail, 16, 21),
-    ];
     for bytes in MEMORIES {
-        for (piece, from, to) in pieces {
+        for (piece, from, to) in [(0, 3, 8), (1, 8, 16), (2, 16, 21)] {
             let mut after = bytes;
             let window = flip_in_many(&mut after, piece, as_elements);
             assert!(rt; bits_of(after) == flipped(bytes, from, to), "{from}");

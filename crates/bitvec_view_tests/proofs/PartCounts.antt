@@ -2,12 +2,12 @@
 use Rattle.std.specs.Prelude.{◌≡◌, ◌+◌, ◌*◌, ◌++◌, ◌≤◌, ℕ, Bool, List, cond, count_by, length, sum_by}
 use Rattle.std.proofs.Common.{arith}
 use Rattle.std.proofs.lemmas.List.Sums.{count_by-le-length, sum_by-append}
-use Rattle.bitvec_query.specs.base.Window.{max_bits}
-use Rattle.bitvec_edit.specs.slice.Domains.{bits_of_views, parts_of, views_by}
-use Rattle.bitvec_edit.specs.slice.Seen.{Seen, shown}
-use Rattle.bitvec_edit.specs.slice.SeenLaws.{length_bits}
-use Rattle.bitvec_edit.specs.slice.declared.bit_domain.BitDomain.{BitDomain}
-use Rattle.bitvec_edit.specs.slice.declared.bit_domain.BitDomain.TheVariants.{Enclave, Region}
+use Rattle.bitvec_owned.specs.query.base.Window.{max_bits}
+use Rattle.bitvec_owned.specs.edit.slice.Domains.{bits_of_views, parts_of, views_by}
+use Rattle.bitvec_owned.specs.edit.slice.Seen.{Seen, shown}
+use Rattle.bitvec_owned.specs.edit.slice.SeenLaws.{length_bits}
+use Rattle.bitvec_owned.specs.edit.slice.declared.bit_domain.BitDomain.{BitDomain}
+use Rattle.bitvec_owned.specs.edit.slice.declared.bit_domain.BitDomain.TheVariants.{Enclave, Region}
 
 counted-append : (test : Bool → Bool) (xs ys : List Bool) → count_by test (xs ++ ys) ≡ count_by test xs + count_by test ys
 counted-append test xs ys = sum_by-append (λ (bit : Bool). cond (test bit) 1 0) xs ys
