@@ -7,7 +7,7 @@ ghost use Rattle.bitvec_split.specs.Asked.{upward};
 
 use bitvec_owned::edit::BitEdits;
 use bitvec_owned::query::BitQueries;
-use bitvec_owned::query::base::{BitOrder, Lsb0};
+use bitvec_owned::query::base::BitOrder;
 use bitvec_owned::query::engine::SliceOrder;
 use bitvec_owned::query::slice::{BitSlice, BitSliceMut};
 use bitvec_owned::query::store::BitStore;
@@ -64,34 +64,4 @@ pub fn before_one<T: BitStore, O: BitOrder>(view: BitSlice<'_, T, O>) -> usize
         Some(piece) => piece.len(),
         None => view.len(),
     }
-}
-
-/// Whether a flipped copy was made, of so many ones and with these elements.
-fn flips(alloc: Global, view: BitSlice<'_, u8, Lsb0>, wanted: usize, elements: [u8; 2]) -> bool {
-    match flipped(alloc, view) {
-        Ok((copy, ones)) => ones == wanted && copy.as_raw_slice() == elements.as_slice(),
-        Err(_) => false,
-    }
-}
-
-/// Whether a copy in the opposite order was made, with these elements.
-fn reverses(alloc: Global, view: BitSlice<'_, u8, Lsb0>, elements: [u8; 2]) -> bool {
-    match backwards(alloc, view) {
-        Ok(copy) => copy.as_raw_slice() == elements.as_slice(),
-        Err(_) => false,
-    }
-}
-
-#[test]
-fn copies_are_edited(rt: HostRuntime) {
-    let cells = [0x48u8, 0x01];
-    let view = BitSlice::<u8, Lsb0>::from_slice(&cells).into_part(3..9);
-    assert!(rt; flips(rt.alloc(), view, 3, [0xB0, 0x00]));
-    assert!(rt; reverses(rt.alloc(), view, [0x28, 0x01]));
-}
-
-#[test]
-fn bits_before_the_first_one(rt: HostRuntime) {
-    let cells = [0x48u8];
-    assert!(rt; before_one(BitSlice::<u8, Lsb0>::from_slice(&cells)) == 3);
 }

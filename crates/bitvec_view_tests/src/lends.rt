@@ -4,7 +4,7 @@
 use bitvec_owned::edit::BitEdits;
 use bitvec_owned::edit::reference::BitRefMut;
 use bitvec_owned::query::base::{Lsb0, Window};
-use bitvec_owned::query::slice::{BitSliceIndex, BitSliceMut};
+use bitvec_owned::query::slice::BitSliceMut;
 use bitvec_test_support::{MEMORIES, bits_of, flipped};
 use std::process::Abort;
 
@@ -126,38 +126,4 @@ fn get_unchecked_mut_lends_what_is_asked_for(rt: HostRuntime) {
 #[test]
 fn split_apart_mut_lends_both_sides(rt: HostRuntime) {
     lends(&rt, &[(12, 3, 8), (13, 8, 21), (14, 3, 21), (15, 0, 0)]);
-}
-
-/// Flips what a call takes out of the bits 3 up to 21, which are then viewed no more.
-fn flip_taken(bytes: &mut [u8; 3], kind: usize) {
-    let view = BitSliceMut::<u8, Lsb0>::from_slice_mut(bytes).into_part(3..21);
-    match kind {
-        0 => (2..9).index_mut(view).invert(),
-        1 => (7..=13).index_mut(view).invert(),
-        2 => (11..).index_mut(view).invert(),
-        3 => (..4).index_mut(view).invert(),
-        4 => (..=8).index_mut(view).invert(),
-        5 => (..).index_mut(view).invert(),
-        _ => (2..9).get_unchecked_mut(view).invert(),
-    }
-}
-
-#[test]
-fn what_is_taken_out_leaves_the_others(rt: HostRuntime) {
-    let places = [
-        (5, 12),
-        (10, 17),
-        (14, 21),
-        (3, 7),
-        (3, 12),
-        (3, 21),
-        (5, 12),
-    ];
-    for bytes in MEMORIES {
-        for (kind, (from, to)) in places.into_iter().enumerate() {
-            let mut after = bytes;
-            flip_taken(&mut after, kind);
-            assert!(rt; bits_of(after) == flipped(bytes, from, to), "{kind}");
-        }
-    }
 }

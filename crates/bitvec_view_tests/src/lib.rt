@@ -19,15 +19,9 @@ mod laws;
 #[cfg(test)]
 mod lends;
 #[cfg(test)]
-mod lent;
-#[cfg(test)]
 mod lent_domains;
 #[cfg(test)]
 mod lent_splits;
-#[cfg(test)]
-mod moves;
-#[cfg(test)]
-mod order;
 #[cfg(test)]
 mod owned;
 #[cfg(test)]
@@ -40,8 +34,6 @@ mod references;
 mod shown;
 #[cfg(test)]
 mod split_apart;
-#[cfg(test)]
-mod split_at;
 
 #[cfg(test)]
 pub use callers::{backwards, flipped};

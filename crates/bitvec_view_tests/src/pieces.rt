@@ -109,41 +109,31 @@ fn indices_begin_at_0_in_what_is_left(rt: HostRuntime) {
     }
 }
 
-/// Where a piece begins in its element and how many bits it has, as two digits; 99 where none came.
-fn place(piece: Option<BitSlice<'_, u8, Lsb0>>) -> usize {
+/// Where a piece begins in its element and how many bits it has, if one came.
+fn place(piece: Option<BitSlice<'_, u8, Lsb0>>) -> Option<(usize, usize)> {
     match piece {
-        Some(piece) => {
-            let window = piece.window();
-            window.start.wrapping_mul(10).wrapping_add(window.len)
-        }
-        None => 99,
+        Some(piece) => Some((piece.window().start, piece.len())),
+        None => None,
     }
 }
 
-/// The places of the first six pieces of six zeros, from the front, or by turns from the front and the back, where
-/// the predicate says yes at each second asking.
-fn places_of_six(by_turns: bool) -> usize {
-    let mut asked = 0usize;
+// The bits are six zeros, and the predicate is asked through its own states.
+#[test]
+fn each_second_asking(rt: HostRuntime) {
+    let (mut asked, mut again) = (0usize, 0usize);
     let view = BitSlice::<u8, Lsb0>::from_slice(&[0]).into_part(0..6);
-    let mut pieces = view.split(|_index, _bit| {
+    let pieces = view.split(|_index, _bit| {
         asked = asked.wrapping_add(1);
         asked % 2 == 0
     });
-    let mut places = 0usize;
-    for call in 0..6 {
-        let found = if by_turns && call % 2 == 1 {
-            place(pieces.next_back())
-        } else {
-            place(pieces.next())
-        };
-        places = places.wrapping_mul(100).wrapping_add(found);
-    }
-    places
-}
-
-// The predicate is asked through its own states.
-#[test]
-fn each_second_asking(rt: HostRuntime) {
-    assert!(rt; places_of_six(false) == 01_21_41_60_99_99);
-    assert!(rt; places_of_six(true) == 01_51_21_40_99_99);
+    assert!(rt; numbers(pieces) == [0b1_0, 0b1_0, 0b1_0, 0b1]);
+    let mut pieces = view.split(|_index, _bit| {
+        again = again.wrapping_add(1);
+        again % 2 == 0
+    });
+    assert!(rt; place(pieces.next()) == Some((0, 1)));
+    assert!(rt; place(pieces.next_back()) == Some((5, 1)));
+    assert!(rt; place(pieces.next()) == Some((2, 1)));
+    assert!(rt; place(pieces.next_back()) == Some((4, 0)));
+    assert!(rt; pieces.next().is_none() && pieces.next_back().is_none());
 }

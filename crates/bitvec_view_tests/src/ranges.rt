@@ -35,21 +35,13 @@ fn counts_of(kind: usize, first: usize, end: usize) -> Option<(usize, usize)> {
 fn each_kind_of_range_by_get(rt: HostRuntime) {
     for (kind, first, end, found) in [
         (0, 5, 5, Some((0, 0))),
-        (0, 1, 4, Some((3, 1))),
-        (0, 4, 6, None),
         (0, 10, 12, None),
-        (0, 4, 3, None),
-        (1, 1, 4, Some((4, 2))),
         (1, 1, 2, Some((2, 1))),
         (1, 5, 5, None),
         (1, 2, 1, None),
-        (1, 0, usize::MAX, None),
         (2, 2, 0, Some((3, 1))),
-        (2, 6, 0, None),
         (3, 0, 4, Some((4, 1))),
-        (3, 0, 6, None),
         (4, 0, 1, Some((2, 1))),
-        (4, 0, usize::MAX, None),
         (5, 0, 0, Some((5, 2))),
     ] {
         assert!(rt;
@@ -75,32 +67,11 @@ fn a_pair_of_bits(rt: HostRuntime) {
     assert!(rt; pair_of_bits(&rt, five_bits(&[0x12])) == Ok((true, false)));
 }
 
-/// How many bits one range of each kind has, by the calls that ask for it.
-fn len_by_index(kind: usize) -> usize {
-    let cells = [0x12u8];
-    let view = BitSlice::<u8, Lsb0>::from_slice(&cells);
-    match kind {
-        0 => (1..5).index(view).len(),
-        1 => (2..).index(view).len(),
-        2 => (..5).index(view).len(),
-        3 => (1..=3).index(view).len(),
-        4 => (..=1).index(view).len(),
-        5 => (..).index(view).len(),
-        _ => view.get_unchecked(1..=1).len(),
-    }
-}
-
 #[test]
-fn each_kind_of_range_by_index(rt: HostRuntime) {
-    for (kind, len) in [4, 6, 5, 3, 2, 8, 1].into_iter().enumerate() {
-        assert!(rt; len_by_index(kind) == len, "{kind}");
-    }
-}
-
-#[test]
-fn a_bit_by_index(rt: HostRuntime) {
+fn what_is_there_by_index(rt: HostRuntime) {
     let view = five_bits(&[0x12]);
     assert!(rt; *4.index(view) && !*view.get_unchecked(3));
+    assert!(rt; (2..).index(view).len() == 3 && view.get_unchecked(..=1).len() == 2);
     assert!(rt; !BitSliceIndex::<BitSlice<u8, Lsb0>>::fits(&(1..=3), 3));
     assert!(rt; BitSliceIndex::<BitSlice<u8, Lsb0>>::fits(&2, 3));
 }

@@ -1,6 +1,5 @@
 //! References to one bit: what they read, what they write, and what is printed of them.
 
-use bitvec_owned::edit::reference::BitRefMut;
 use bitvec_owned::query::base::Lsb0;
 use bitvec_owned::query::slice::{BitRef, BitSlice, BitSliceMut};
 use bitvec_test_support::{prints, shows};
@@ -48,15 +47,10 @@ fn a_shared_reference_is_copied_and_printed(rt: HostRuntime) {
     assert!(rt; shows(rt.alloc(), &bit, "true"));
 }
 
-/// Whether a reference that writes prints so, by `{}` and by `{:?}`.
-fn bit_prints(alloc: Global, bit: &BitRefMut<'_, u8, Lsb0>, text: &str) -> bool {
-    prints(alloc, bit, text) && shows(alloc, bit, text)
-}
-
-/// Whether a reference that writes the first bit of a byte prints so.
+/// Whether a reference that writes the first bit of a byte prints so, by `{}` and by `{:?}`.
 fn first_prints(alloc: Global, cells: &mut [u8; 1], text: &str) -> bool {
-    let mut view = BitSliceMut::<u8, Lsb0>::from_slice_mut(cells);
-    bit_prints(alloc, &view.bit_mut(0), text)
+    let bit = BitSliceMut::<u8, Lsb0>::from_slice_mut(cells).into_bit(0);
+    prints(alloc, &bit, text) && shows(alloc, &bit, text)
 }
 
 /// Whether references that write the first bits of two bytes are equal.

@@ -58,25 +58,36 @@ fn splits_print_what_is_left(rt: HostRuntime) {
     assert!(rt; shows(rt.alloc(), &limited, "SplitsN([0, 1, 0, 0], 1)"));
 }
 
-/// Whether a split that lends shows so, once its first piece was found.
+/// Whether a split that lends shows so, once its first piece and its last were found, and this was flipped.
 fn split_shows(alloc: Global, bytes: &mut [u8; 1], text: &str) -> bool {
     let mut view = BitSliceMut::<u8, Lsb0>::from_slice_mut(bytes).into_part(0..6);
     let mut split = view.split_mut(|_, bit| *bit);
-    let _some = split.advance();
-    shows(alloc, &split, text)
+    let _found = split.advance() && split.advance_back();
+    {
+        let piece = split.piece_mut();
+        let _flipped = !piece;
+    }
+    shows(alloc, &split, text) && !split.is_finished()
 }
 
-/// Whether a limited split that lends shows so, once its first piece from the end was found.
+/// Whether a limited split that lends shows so, once its first piece from the end was found and flipped.
 fn limited_shows(alloc: Global, bytes: &mut [u8; 1], text: &str) -> bool {
     let mut view = BitSliceMut::<u8, Lsb0>::from_slice_mut(bytes).into_part(0..6);
     let mut limited = view.rsplitn_mut(2, |_, bit| *bit);
-    let _some = limited.advance();
-    shows(alloc, &limited, text)
+    let _found = limited.advance();
+    {
+        let piece = limited.piece_mut();
+        let _flipped = !piece;
+    }
+    shows(alloc, &limited, text) && !limited.is_finished()
 }
 
 #[test]
 fn splits_that_lend_print_what_is_left(rt: HostRuntime) {
     let mut bytes = [0b0001_0010u8];
-    assert!(rt; split_shows(rt.alloc(), &mut bytes, "SplitsMut([0, 0, 1, 0])"));
+    assert!(rt; split_shows(rt.alloc(), &mut bytes, "SplitsMut([0, 0])"));
+    assert!(rt; bytes == [0b0011_0010]);
+    let mut bytes = [0b0001_0010u8];
     assert!(rt; limited_shows(rt.alloc(), &mut bytes, "SplitsNMut([0, 1, 0, 0], 1)"));
+    assert!(rt; bytes == [0b0011_0010]);
 }

@@ -28,19 +28,6 @@ pub fn fill_and_flip<T: BitStore, O: SliceOrder>(
     }
 }
 
-/// The same of the first 8 bits of three bytes and the others.
-fn fill_and_flip_bytes(bytes: &mut [u8; 3]) -> bool {
-    let mut view = BitSliceMut::<u8, Lsb0>::from_slice_mut(bytes);
-    fill_and_flip(&mut view, 8)
-}
-
-#[test]
-fn two_parts_are_written_at_once(rt: HostRuntime) {
-    let mut bytes = [0x0F, 0x0F, 0x0F];
-    assert!(rt; fill_and_flip_bytes(&mut bytes));
-    assert!(rt; bytes == [0xFF, 0xF0, 0xF0]);
-}
-
 /// Fills the bits before `mid` of the bits 3 up to 13, if these come apart there, and says whether it did.
 fn fill_before(bytes: &mut [u8; 2], mid: usize) -> bool
     requires { mid ≤ 10 }
