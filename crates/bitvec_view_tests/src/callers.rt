@@ -1,12 +1,11 @@
 //! Callers of views, of a split and of owned sequences, with contracts of their own.
-ghost use Rattle.std.specs.Prelude.{◌≡◌, ◌<◌, ◌↔◌, IfOk, IfSome, IsSome, count_by, false, find, map, not, reverse, slice_index_or, unwrap_or};
+ghost use Rattle.std.specs.Prelude.{◌≡◌, ◌<◌, ◌↔◌, IfOk, IfSome, IsSome, false, find, map, not, slice_index_or, unwrap_or};
 ghost use Rattle.bitvec_owned.specs.query.slice.Views.{seen, seen_mut};
 ghost use Rattle.bitvec_owned.specs.Copies.{Holds, copy_start};
 ghost use Rattle.bitvec_owned.specs.Owned.{owned};
 ghost use Rattle.bitvec_split.specs.Asked.{upward};
 
 use bitvec_owned::edit::BitEdits;
-use bitvec_owned::query::BitQueries;
 use bitvec_owned::query::base::BitOrder;
 use bitvec_owned::query::engine::SliceOrder;
 use bitvec_owned::query::slice::{BitSlice, BitSliceMut};
@@ -15,30 +14,16 @@ use bitvec_owned::{BitVec, ToBitVec};
 use bitvec_split::SplitCalls;
 use std::alloc::{AllocError, Global};
 
-/// A copy of the bits, each of them flipped, and how many of them were 1.
+/// A copy of the bits, each of them flipped.
 pub fn flipped<T: BitStore, O: SliceOrder>(
     alloc: Global,
     view: BitSlice<'_, T, O>,
-) -> Result<(BitVec<T, O, Global>, usize), AllocError>
-    ensures holds { IfOk result (λ given. Holds T.BITS (map not (seen view.entry).bits)
-        (copy_start T.BITS (seen view.entry).window) (owned given.0)) }
-    ensures ones { IfOk result (λ given. given.1 ≡ count_by (λ bit. bit) (seen view.entry).bits) }
-{
-    let mut copy = view.to_bitvec(alloc)?;
-    let ones = copy.count_ones();
-    copy.invert();
-    Ok((copy, ones))
-}
-
-/// A copy of the bits in the opposite order.
-pub fn backwards<T: BitStore, O: SliceOrder>(
-    alloc: Global,
-    view: BitSlice<'_, T, O>,
 ) -> Result<BitVec<T, O, Global>, AllocError>
-    ensures { IfOk result (λ copy. (owned copy).bits ≡ reverse (seen view.entry).bits) }
+    ensures { IfOk result (λ copy. Holds T.BITS (map not (seen view.entry).bits)
+        (copy_start T.BITS (seen view.entry).window) (owned copy)) }
 {
     let mut copy = view.to_bitvec(alloc)?;
-    copy.reverse();
+    copy.invert();
     Ok(copy)
 }
 

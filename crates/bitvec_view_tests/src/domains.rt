@@ -4,6 +4,9 @@ use bitvec_owned::edit::BitEdits;
 use bitvec_owned::query::base::{Lsb0, Msb0};
 use bitvec_owned::query::slice::{BitSlice, BitSliceMut, Domain};
 
+/// How many bits the one part has, and how many the three of a region.
+type Cut = (Option<usize>, Option<(usize, usize, usize)>);
+
 /// How many bits a view has that touches neither edge of its one element.
 fn enclave_len(view: BitSlice<'_, u32, Msb0>) -> Option<usize> {
     match view.bit_domain().enclave() {
@@ -20,29 +23,10 @@ fn region_lens(view: BitSlice<'_, u32, Msb0>) -> Option<(usize, usize, usize)> {
     }
 }
 
-/// How many whole elements a region has, and whether parts of one before them and of one behind.
-fn region_elements(view: BitSlice<'_, u32, Msb0>) -> Option<(bool, usize, bool)> {
-    match view.domain().region() {
-        Some((head, body, tail)) => Some((head.is_some(), body.len(), tail.is_some())),
-        None => None,
-    }
-}
-
-/// How a view is cut: as bits into one part or three, and as elements.
-type Cut = (
-    Option<usize>,
-    Option<(usize, usize, usize)>,
-    Option<(bool, usize, bool)>,
-);
-
-/// How a range of three elements' bits is cut, if it is there.
+/// How a range of three elements' bits is cut, into one part or into three, if it is there.
 fn cut_of(cells: &[u32; 3], from: usize, to: usize) -> Option<Cut> {
     match BitSlice::<u32, Msb0>::from_slice(cells).get(from..to) {
-        Some(range) => Some((
-            enclave_len(range),
-            region_lens(range),
-            region_elements(range),
-        )),
+        Some(range) => Some((enclave_len(range), region_lens(range))),
         None => None,
     }
 }
@@ -51,13 +35,12 @@ fn cut_of(cells: &[u32; 3], from: usize, to: usize) -> Option<Cut> {
 fn each_case_of_a_cut(rt: HostRuntime) {
     let cells = [0u32; 3];
     for (from, to, cut) in [
-        (2, 94, (None, Some((30, 32, 30)), Some((true, 1, true)))),
-        (34, 62, (Some(28), None, None)),
-        (2, 32, (None, Some((30, 0, 0)), Some((true, 0, false)))),
-        (0, 30, (None, Some((0, 0, 30)), Some((false, 0, true)))),
-        (32, 64, (None, Some((0, 32, 0)), Some((false, 1, false)))),
-        (5, 5, (None, Some((0, 0, 0)), Some((false, 0, false)))),
-        (96, 96, (None, Some((0, 0, 0)), Some((false, 0, false)))),
+        (2, 94, (None, Some((30, 32, 30)))),
+        (34, 62, (Some(28), None)),
+        (2, 32, (None, Some((30, 0, 0)))),
+        (0, 30, (None, Some((0, 0, 30)))),
+        (32, 64, (None, Some((0, 32, 0)))),
+        (5, 5, (None, Some((0, 0, 0)))),
     ] {
         assert!(rt; cut_of(&cells, from, to) == Some(cut), "{from} {to}");
     }
@@ -117,38 +100,37 @@ fn a_writable_view_shows_its_elements(rt: HostRuntime) {
     assert!(rt; view.bit_domain().enclave().is_none());
 }
 
-/// The values of a domain's elements, as the digits of a number.
-fn joined(domain: Domain<'_, u8, Lsb0>) -> u32 {
-    let mut number = 0;
-    for value in domain {
-        number = (number << 8) | u32::from(value);
-    }
-    number
-}
-
 #[test]
 fn domains_give_their_values_in_order(rt: HostRuntime) {
     let cells = [0xFFu8, 0x12, 0x34, 0xFF];
     let view = BitSlice::<u8, Lsb0>::from_slice(&cells).into_part(4..28);
-    assert!(rt; joined(view.domain()) == 0xF012_340F);
-    assert!(rt; view.domain().values().next_back() == Some(0x0F));
+    let mut number = 0;
+    for value in view.domain() {
+        number = (number << 8) | u32::from(value);
+    }
+    assert!(rt; number == 0xF012_340F && view.domain().values().next_back() == Some(0x0F));
 }
 
-/// Fills the last part of the bits 4 up to 20, and then flips the first of those that are left.
-fn fill_some(cells: &mut [u8; 3]) {
+/// Fills the last part of the bits 4 up to 20, flips the first of those that are left, and then each one.
+fn edit_parts(cells: &mut [u8; 3]) {
     let mut view = BitSliceMut::<u8, Lsb0>::from_slice_mut(cells).into_part(4..20);
-    let mut parts = view.bit_domain_mut().parts();
-    if let Some(mut last) = parts.next_back() {
-        last.fill(true);
+    {
+        let mut parts = view.bit_domain_mut().parts();
+        if let Some(mut last) = parts.next_back() {
+            last.fill(true);
+        }
+        if let Some(mut first) = parts.next() {
+            first.invert();
+        }
     }
-    if let Some(mut first) = parts.next() {
-        first.invert();
+    for mut part in view.bit_domain_mut() {
+        part.invert();
     }
 }
 
 #[test]
-fn parts_come_from_both_ends(rt: HostRuntime) {
+fn parts_come_from_both_ends_and_in_a_loop(rt: HostRuntime) {
     let mut cells = [0u8; 3];
-    fill_some(&mut cells);
-    assert!(rt; cells == [0xF0, 0, 0x0F]);
+    edit_parts(&mut cells);
+    assert!(rt; cells == [0, 0xFF, 0]);
 }

@@ -1,4 +1,5 @@
 //! Edits of views: what the user's elements are afterwards, the bits outside the view among them.
+ghost use Rattle.std.specs.Prelude.{◌≤◌};
 
 use bitvec_owned::edit::BitEdits;
 use bitvec_owned::query::BitQueries;
@@ -31,15 +32,6 @@ fn fill_leaves_the_neighbours(rt: HostRuntime) {
     assert!(rt; cells == [0x70, 0, 0]);
 }
 
-/// Fills the bits before an index.
-fn fill_before(cells: &mut [u8; 2], index: usize)
-    requires { index ≤ 16 }
-{
-    let mut view = BitSliceMut::<u8, Lsb0>::from_slice_mut(cells);
-    let mut front = view.part_mut(0..index);
-    front.fill(true);
-}
-
 /// Flips the bits 16 to 79, and of these flips 24 to 39 again.
 fn invert_twice(cells: &mut [u32; 3]) {
     let view = BitSliceMut::<u32, Lsb0>::from_slice_mut(cells).into_part(16..80);
@@ -58,26 +50,35 @@ fn not_twice(rt: HostRuntime) {
     assert!(rt; (view.count_ones(), view.count_zeros()) == (48, 48));
 }
 
-/// Flips the second byte, and then sets its first bit.
-fn invert_and_set(cells: &mut [u8; 2]) {
-    let mut inner = BitSliceMut::<u8, Lsb0>::from_slice_mut(cells).into_part(8..16);
-    inner.invert();
-    inner.as_mut().set(0, true);
+/// Fills the bits before an index, flips the second byte, and then sets its first bit.
+fn edit_parts(cells: &mut [u8; 2], index: usize)
+    requires { index ≤ 16 }
+{
+    let mut view = BitSliceMut::<u8, Lsb0>::from_slice_mut(cells);
+    {
+        let mut front = view.part_mut(0..index);
+        front.fill(true);
+    }
+    if let Some(mut inner) = view.get_mut(8..16) {
+        inner.invert();
+        inner.as_mut().set(0, true);
+    }
 }
 
 #[test]
 fn a_part_for_writing_leaves_the_others(rt: HostRuntime) {
     let mut cells = [0x00u8, 0x80];
-    fill_before(&mut cells, 10);
-    assert!(rt; cells == [0xFF, 0x83]);
-    invert_and_set(&mut cells);
+    edit_parts(&mut cells, 10);
     assert!(rt; cells == [0xFF, 0x7D]);
 }
 
 #[test]
 fn the_constants_are_the_crates(rt: HostRuntime) {
-    assert!(rt; BitSlice::<u8, Lsb0>::MAX_BITS == 0x1FFF_FFFF_FFFF_FFFF);
-    assert!(rt; BitSlice::<u8, Lsb0>::MAX_ELTS == 0x0400_0000_0000_0001);
+    let most = (
+        BitSlice::<u8, Lsb0>::MAX_BITS,
+        BitSlice::<u8, Lsb0>::MAX_ELTS,
+    );
+    assert!(rt; most == (0x1FFF_FFFF_FFFF_FFFF, 0x0400_0000_0000_0001));
 }
 
 /// Edits the first five bits, by one call a number.
@@ -98,24 +99,22 @@ fn edit_five(bytes: &mut [u8; 1], kind: usize) {
     }
 }
 
-/// The byte before each edit and after it: the last three bits stay.
-const FIVE_EDITED: [(u8, u8); 11] = [
-    (0xF2, 0xF4),
-    (0xF4, 0xF2),
-    (0xF2, 0xF2),
-    (0xF2, 0xE3),
-    (0xE3, 0xE9),
-    (0xF2, 0xE0),
-    (0xE0, 0xFF),
-    (0xFF, 0xF5),
-    (0xF5, 0xFA),
-    (0xFA, 0xF4),
-    (0xFA, 0xF3),
-];
-
+// The last three bits stay.
 #[test]
 fn five_bits_are_edited(rt: HostRuntime) {
-    for (kind, (before, after)) in FIVE_EDITED.into_iter().enumerate() {
+    for (kind, before, after) in [
+        (0, 0xF2, 0xF4),
+        (1, 0xF4, 0xF2),
+        (2, 0xF2, 0xF2),
+        (3, 0xF2, 0xE3),
+        (4, 0xE3, 0xE9),
+        (5, 0xF2, 0xE0),
+        (6, 0xE0, 0xFF),
+        (7, 0xFF, 0xF5),
+        (8, 0xF5, 0xFA),
+        (9, 0xFA, 0xF4),
+        (10, 0xFA, 0xF3),
+    ] {
         let mut bytes = [before];
         edit_five(&mut bytes, kind);
         assert!(rt; bytes == [after], "{kind}");

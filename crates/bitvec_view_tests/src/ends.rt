@@ -4,40 +4,35 @@ use bitvec_owned::query::BitQueries;
 use bitvec_owned::query::base::Lsb0;
 use bitvec_owned::query::slice::{BitRef, BitSlice, BitSliceMut};
 
-/// The bit that is referred to, if one is.
-fn read(bit: Option<BitRef<'_, u8, Lsb0>>) -> Option<bool> {
+/// Whether a bit is referred to, and reads so.
+fn reads(bit: Option<BitRef<'_, u8, Lsb0>>, wanted: bool) -> bool {
     match bit {
-        Some(bit) => Some(*bit),
-        None => None,
+        Some(bit) => *bit == wanted,
+        None => false,
     }
 }
 
-/// The bit of a pair, and how many bits its rest has and where that begins.
-fn read_pair(
+/// Whether a bit is split off, and reads so, from a rest of so many bits.
+fn has(
     parts: Option<(BitRef<'_, u8, Lsb0>, BitSlice<'_, u8, Lsb0>)>,
-) -> Option<(bool, usize, usize)> {
+    wanted: bool,
+    len: usize,
+) -> bool {
     match parts {
-        Some((bit, rest)) => Some((*bit, rest.len(), rest.window().start)),
-        None => None,
+        Some((bit, rest)) => *bit == wanted && rest.len() == len,
+        None => false,
     }
 }
 
 #[test]
 fn ends_of_three_bits(rt: HostRuntime) {
-    let cells = [0xF9u8];
-    let view = BitSlice::<u8, Lsb0>::from_slice(&cells).into_part(0..3);
-    assert!(rt; [read(view.first()), read(view.last())] == [Some(true), Some(false)]);
-    assert!(rt; read_pair(view.split_first()) == Some((true, 2, 1)));
-    assert!(rt; read_pair(view.split_last()) == Some((false, 2, 0)));
-}
-
-#[test]
-fn ends_of_a_writable_view(rt: HostRuntime) {
-    let mut cells = [0x01u8, 0x08];
-    let view = BitSliceMut::<u8, Lsb0>::from_slice_mut(&mut cells);
-    assert!(rt; [read(view.first()), read(view.last())] == [Some(true), Some(false)]);
-    assert!(rt; read_pair(view.split_first()) == Some((true, 15, 1)));
-    assert!(rt; read_pair(view.split_last()) == Some((false, 15, 0)));
+    let mut cells = [0xF9u8];
+    let view = BitSliceMut::<u8, Lsb0>::from_slice_mut(&mut cells).into_part(0..3);
+    assert!(rt; reads(view.first(), true) && reads(view.last(), false));
+    assert!(rt; has(view.split_first(), true, 2) && has(view.split_last(), false, 2));
+    let view = view.as_ref();
+    assert!(rt; reads(view.first(), true) && reads(view.last(), false));
+    assert!(rt; has(view.split_first(), true, 2) && has(view.split_last(), false, 2));
 }
 
 /// How many bits two views have each, and how many of these are 1.

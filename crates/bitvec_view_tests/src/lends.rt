@@ -2,14 +2,18 @@
 //! bytes is flipped; then every other bit is as before, and the view stands where it stood.
 
 use bitvec_owned::edit::BitEdits;
-use bitvec_owned::edit::reference::BitRefMut;
 use bitvec_owned::query::base::{Lsb0, Window};
 use bitvec_owned::query::slice::BitSliceMut;
 use bitvec_test_support::{MEMORIES, bits_of, flipped};
 use std::process::Abort;
 
 /// Flips the bit that a call lends, if it does.
-fn flip_bit(bit: Option<BitRefMut<'_, u8, Lsb0>>) {
+fn flip_bit(view: &mut BitSliceMut<'_, u8, Lsb0>, kind: usize) {
+    let bit = match kind {
+        0 => view.first_mut(),
+        1 => view.last_mut(),
+        _ => view.get_mut(9),
+    };
     if let Some(mut bit) = bit {
         let old = *bit;
         bit.set(!old);
@@ -54,10 +58,8 @@ fn flip_unchecked(view: &mut BitSliceMut<'_, u8, Lsb0>, kind: usize) {
 /// Flips what a call lends, by one call a number.
 fn flip_lent(view: &mut BitSliceMut<'_, u8, Lsb0>, kind: usize) {
     match kind {
-        0 => flip_bit(view.first_mut()),
-        1 => flip_bit(view.last_mut()),
-        2 => flip_bit(view.get_mut(9)),
-        3 => flip_bit(view.get_mut(18)),
+        0..=2 => flip_bit(view, kind),
+        3 => flip_part(view.get_mut(19..)),
         4 => flip_part(view.get_mut(2..9)),
         5 => flip_part(view.get_mut(7..=13)),
         6 => flip_part(view.get_mut(11..)),

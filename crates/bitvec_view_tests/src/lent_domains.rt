@@ -3,45 +3,37 @@
 
 use bitvec_owned::edit::BitEdits;
 use bitvec_owned::query::base::{Lsb0, Window};
-use bitvec_owned::query::slice::{BitDomain, BitSliceMut, DomainMut};
+use bitvec_owned::query::slice::BitSliceMut;
 use bitvec_test_support::{MEMORIES, bits_of, flipped};
 use std::process::Abort;
 
-/// Flips a part of the elements that a view touches: the head, the body or the tail, or the only one.
+/// Flips a part of the elements that a view touches: the head, the body or the tail.
 fn flip_elements(view: &mut BitSliceMut<'_, u8, Lsb0>, piece: usize) {
-    match view.domain_mut() {
-        DomainMut::Enclave(mut whole) => whole.invert(),
-        DomainMut::Region { head, body, tail } => {
-            let part = if piece == 0 { head } else { tail };
-            if piece == 1 {
-                for element in body {
-                    *element = !*element;
-                }
-            } else if let Some(mut part) = part {
-                part.invert();
+    if let Some((head, body, tail)) = view.domain_mut().region() {
+        let part = if piece == 0 { head } else { tail };
+        if piece == 1 {
+            for element in body {
+                *element = !*element;
             }
+        } else if let Some(mut part) = part {
+            part.invert();
         }
     }
 }
 
-/// Flips a part of a view: the head, the body or the tail, or the only one.
+/// Flips a part of a view: the head, the body or the tail.
 fn flip_bits(view: &mut BitSliceMut<'_, u8, Lsb0>, piece: usize) {
-    match view.bit_domain_mut() {
-        BitDomain::Enclave(mut whole) => whole.invert(),
-        BitDomain::Region {
-            mut head,
-            mut body,
-            mut tail,
-        } => match piece {
+    if let Some((mut head, mut body, mut tail)) = view.bit_domain_mut().region() {
+        match piece {
             0 => head.invert(),
             1 => body.invert(),
             _ => tail.invert(),
-        },
+        }
     }
 }
 
 /// Flips a part of the bits 3 up to 21, and says where these stand then.
-fn flip_in_many(bytes: &mut [u8; 3], piece: usize, as_elements: bool) -> Window {
+fn flip_in(bytes: &mut [u8; 3], piece: usize, as_elements: bool) -> Window {
     let mut view = BitSliceMut::<u8, Lsb0>::from_slice_mut(bytes).into_part(3..21);
     if as_elements {
         flip_elements(&mut view, piece);
@@ -51,30 +43,15 @@ fn flip_in_many(bytes: &mut [u8; 3], piece: usize, as_elements: bool) -> Window 
     view.window()
 }
 
-/// Flips the bits 10 up to 14, and says where these stand then.
-fn flip_in_one(bytes: &mut [u8; 3], as_elements: bool) -> Window {
-    let mut view = BitSliceMut::<u8, Lsb0>::from_slice_mut(bytes).into_part(10..14);
-    if as_elements {
-        flip_elements(&mut view, 0);
-    } else {
-        flip_bits(&mut view, 0);
-    }
-    view.window()
-}
-
-/// Asserts that each part is lent, of each of two views, and that all else is left.
+/// Asserts that each part is lent, and that all else is left.
 fn lends_each_part<R: Abort>(rt: &R, as_elements: bool) {
     for bytes in MEMORIES {
         for (piece, from, to) in [(0, 3, 8), (1, 8, 16), (2, 16, 21)] {
             let mut after = bytes;
-            let window = flip_in_many(&mut after, piece, as_elements);
+            let window = flip_in(&mut after, piece, as_elements);
             assert!(rt; bits_of(after) == flipped(bytes, from, to), "{from}");
             assert!(rt; window == Window { start: 3, len: 18 });
         }
-        let mut after = bytes;
-        let window = flip_in_one(&mut after, as_elements);
-        assert!(rt; bits_of(after) == flipped(bytes, 10, 14));
-        assert!(rt; window == Window { start: 2, len: 4 });
     }
 }
 

@@ -52,33 +52,23 @@ fn flip_lent(noted: u128, piece: Option<BitSliceMut<'_, u8, Lsb0>>) -> u128 {
     }
 }
 
-/// Flips the first piece of each other kind of split. Gives what came, and how many pieces may come of the last.
-fn flip_first(cells: &mut [u8; 1]) -> (u128, (usize, Option<usize>)) {
+/// Flips the first piece of each other kind of split from the front, and gives what came.
+fn flip_first(cells: &mut [u8; 1]) -> u128 {
     let mut view = BitSliceMut::<u8, Lsb0>::from_slice_mut(cells);
-    let mut noted = 0;
-    {
+    let noted = {
         let mut pieces = view.split_inclusive_mut(|_, bit| *bit);
-        noted = flip_lent(noted, pieces.next_mut());
-    }
-    {
-        let mut pieces = view.rsplit_mut(|_, bit| *bit);
-        noted = flip_lent(noted, pieces.next_mut());
-    }
-    {
-        let mut pieces = view.splitn_mut(2, |_, bit| *bit);
-        noted = flip_lent(noted, pieces.next_mut());
-    }
-    let mut pieces = view.rsplitn_mut(1, |_, bit| *bit);
-    let hint = pieces.size_hint();
-    (flip_lent(noted, pieces.next_mut()), hint)
+        flip_lent(0, pieces.next_mut())
+    };
+    let mut pieces = view.splitn_mut(2, |_, bit| *bit);
+    flip_lent(noted, pieces.next_mut())
 }
 
-// The bits are 0, 1, 0, 0, 1, 0, 1, 0; then 1, 0, 0, 0, 1, 0, 1, 0, whose last is flipped, and then all are.
+// The bits are 0, 1, 0, 0, 1, 0, 1, 0; then 1, 0, 0, 0, 1, 0, 1, 0.
 #[test]
 fn the_first_pieces_are_flipped(rt: HostRuntime) {
     let mut cells = [0x52u8];
-    assert!(rt; flip_first(&mut cells) == (03_02_01_09, (1, Some(1))));
-    assert!(rt; cells == [0x2E]);
+    assert!(rt; flip_first(&mut cells) == 03_01);
+    assert!(rt; cells == [0x51]);
 }
 
 /// Calls a split twelve times, at even and at odd calls from the back or not. Gives what came, and how often the

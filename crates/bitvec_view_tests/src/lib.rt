@@ -3,8 +3,6 @@
 #![tactic(auto)]
 
 #[cfg(test)]
-mod bit_parts;
-#[cfg(test)]
 mod callers;
 #[cfg(test)]
 mod constructors;
@@ -36,4 +34,4 @@ mod shown;
 mod split_apart;
 
 #[cfg(test)]
-pub use callers::{backwards, flipped};
+pub use callers::flipped;

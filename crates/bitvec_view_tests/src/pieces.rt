@@ -4,6 +4,7 @@ ghost use Rattle.std.specs.Iterator.{IsFinite};
 use bitvec_owned::query::base::Lsb0;
 use bitvec_owned::query::slice::{BitSlice, BitSliceMut};
 use bitvec_split::SplitCalls;
+use bitvec_test_support::shows;
 
 /// A view's bits as digits behind a 1, read as a number.
 fn number(piece: BitSlice<'_, u8, Lsb0>) -> u32 {
@@ -80,10 +81,19 @@ fn how_many_pieces_may_come(rt: HostRuntime) {
     let cells = [0x12u8];
     let view = BitSlice::<u8, Lsb0>::from_slice(&cells).into_part(0..5);
     let mut pieces = view.split(is_one);
-    assert!(rt; pieces.size_hint() == (1, Some(6)));
-    assert!(rt; pieces.next().is_some() && pieces.size_hint() == (1, Some(4)));
+    let hint = pieces.size_hint();
+    let _piece = pieces.next();
+    assert!(rt; hint == (1, Some(6)) && pieces.size_hint() == (1, Some(4)));
+    assert!(rt; shows(rt.alloc(), &pieces, "Splits([0, 0, 1])"));
     assert!(rt; view.splitn(2, |_, bit| *bit).size_hint() == (1, Some(2)));
     assert!(rt; view.splitn(0, |_, bit| *bit).size_hint() == (0, Some(0)));
+    assert!(rt;
+        shows(
+            rt.alloc(),
+            &view.rsplitn(1, is_one),
+            "SplitsN([0, 1, 0, 0, 1], 1)"
+        )
+    );
 }
 
 /// The indices about which some pieces from the front ask a predicate that says yes at ones, as digits, each one
@@ -117,23 +127,45 @@ fn place(piece: Option<BitSlice<'_, u8, Lsb0>>) -> Option<(usize, usize)> {
     }
 }
 
-// The bits are six zeros, and the predicate is asked through its own states.
-#[test]
-fn each_second_asking(rt: HostRuntime) {
-    let (mut asked, mut again) = (0usize, 0usize);
+/// The places of the first six pieces of six zeros, from the front, or by turns from the front and the back, where
+/// the predicate says yes at each second asking.
+fn places_of_six(by_turns: bool) -> [Option<(usize, usize)>; 6] {
+    let mut asked = 0usize;
     let view = BitSlice::<u8, Lsb0>::from_slice(&[0]).into_part(0..6);
-    let pieces = view.split(|_index, _bit| {
+    let mut pieces = view.split(|_index, _bit| {
         asked = asked.wrapping_add(1);
         asked % 2 == 0
     });
-    assert!(rt; numbers(pieces) == [0b1_0, 0b1_0, 0b1_0, 0b1]);
-    let mut pieces = view.split(|_index, _bit| {
-        again = again.wrapping_add(1);
-        again % 2 == 0
-    });
-    assert!(rt; place(pieces.next()) == Some((0, 1)));
-    assert!(rt; place(pieces.next_back()) == Some((5, 1)));
-    assert!(rt; place(pieces.next()) == Some((2, 1)));
-    assert!(rt; place(pieces.next_back()) == Some((4, 0)));
-    assert!(rt; pieces.next().is_none() && pieces.next_back().is_none());
+    let mut places = [None; 6];
+    for call in 0..6 {
+        places[call] = if by_turns && call % 2 == 1 {
+            place(pieces.next_back())
+        } else {
+            place(pieces.next())
+        };
+    }
+    places
+}
+
+// The predicate is asked through its own states.
+#[test]
+fn each_second_asking(rt: HostRuntime) {
+    let front = [
+        Some((0, 1)),
+        Some((2, 1)),
+        Some((4, 1)),
+        Some((6, 0)),
+        None,
+        None,
+    ];
+    assert!(rt; places_of_six(false) == front);
+    let turns = [
+        Some((0, 1)),
+        Some((5, 1)),
+        Some((2, 1)),
+        Some((4, 0)),
+        None,
+        None,
+    ];
+    assert!(rt; places_of_six(true) == turns);
 }

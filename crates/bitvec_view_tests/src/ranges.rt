@@ -69,10 +69,9 @@ fn a_pair_of_bits(rt: HostRuntime) {
 
 #[test]
 fn what_is_there_by_index(rt: HostRuntime) {
-    let view = five_bits(&[0x12]);
-    assert!(rt; *4.index(view) && !*view.get_unchecked(3));
-    assert!(rt; (2..).index(view).len() == 3 && view.get_unchecked(..=1).len() == 2);
-    assert!(rt; !BitSliceIndex::<BitSlice<u8, Lsb0>>::fits(&(1..=3), 3));
+    let cells = [0x12u8];
+    let view = BitSlice::<u8, Lsb0>::from_slice(&cells);
+    assert!(rt; *4.index(view) && (2..).index(view).len() == 6 && !*view.get_unchecked(3));
     assert!(rt; BitSliceIndex::<BitSlice<u8, Lsb0>>::fits(&2, 3));
 }
 
@@ -95,7 +94,5 @@ fn a_view_says_where_it_stands(rt: HostRuntime) {
     let mut cells = [0u8; 3];
     let view = BitSliceMut::<u8, Lsb0>::from_slice_mut(&mut cells);
     assert!(rt; view.window() == Window { start: 0, len: 24 });
-    assert!(rt; (view.bit_len(), view.as_ref().bit_len()) == (24, 24));
-    let part = view.as_ref().into_part(13..17);
-    assert!(rt; part.window() == Window { start: 5, len: 4 });
+    assert!(rt; view.bit_len() == 24 && view.as_ref().bit_len() == 24);
 }

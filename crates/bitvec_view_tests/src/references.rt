@@ -3,7 +3,6 @@
 use bitvec_owned::query::base::Lsb0;
 use bitvec_owned::query::slice::{BitRef, BitSlice, BitSliceMut};
 use bitvec_test_support::{prints, shows};
-use std::alloc::Global;
 
 /// Writes the bit 2 to 1, to 0 and to 1 again: gives the bit before the first write, and those after
 /// the first and the second.
@@ -43,26 +42,13 @@ fn a_shared_reference_is_copied_and_printed(rt: HostRuntime) {
     let cells = [0x12u8];
     let bit = BitSlice::<u8, Lsb0>::from_slice(&cells).into_bit(1);
     assert!(rt; reads_alike(&bit));
-    assert!(rt; prints(rt.alloc(), &bit, "true"));
-    assert!(rt; shows(rt.alloc(), &bit, "true"));
-}
-
-/// Whether a reference that writes the first bit of a byte prints so, by `{}` and by `{:?}`.
-fn first_prints(alloc: Global, cells: &mut [u8; 1], text: &str) -> bool {
-    let bit = BitSliceMut::<u8, Lsb0>::from_slice_mut(cells).into_bit(0);
-    prints(alloc, &bit, text) && shows(alloc, &bit, text)
-}
-
-/// Whether references that write the first bits of two bytes are equal.
-fn first_bits_are_equal(cells: &mut [u8; 1], others: &mut [u8; 1]) -> bool {
-    let mut view = BitSliceMut::<u8, Lsb0>::from_slice_mut(cells);
-    let mut other = BitSliceMut::<u8, Lsb0>::from_slice_mut(others);
-    view.bit_mut(0) == other.bit_mut(0)
+    assert!(rt; prints(rt.alloc(), &bit, "true") && shows(rt.alloc(), &bit, "true"));
 }
 
 #[test]
 fn writing_references_print_and_compare(rt: HostRuntime) {
-    assert!(rt; first_prints(rt.alloc(), &mut [1], "true"));
-    assert!(rt; first_bits_are_equal(&mut [1], &mut [3]));
-    assert!(rt; !first_bits_are_equal(&mut [1], &mut [2]));
+    let (mut cells, mut others) = ([0x01u8], [0x03u8]);
+    let bit = BitSliceMut::<u8, Lsb0>::from_slice_mut(&mut cells).into_bit(0);
+    assert!(rt; prints(rt.alloc(), &bit, "true") && shows(rt.alloc(), &bit, "true"));
+    assert!(rt; bit == BitSliceMut::<u8, Lsb0>::from_slice_mut(&mut others).into_bit(1));
 }
