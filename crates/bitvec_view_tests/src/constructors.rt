@@ -25,20 +25,17 @@ fn an_element_is_viewed_in_its_order(rt: HostRuntime) {
     assert!(rt; (view.len(), view.first_one()) == (32, Some(31)));
 }
 
-/// Flips an element's bits, and sets the fifth.
-fn write_through(element: &mut u8) {
-    {
-        let mut view = from_mut::<u8, Lsb0>(element);
-        view.invert();
-    }
-    let mut view = BitSliceMut::<u8, Lsb0>::from_element_mut(element);
-    view.set(4, true);
-}
-
 #[test]
 fn an_element_is_written_through_its_view(rt: HostRuntime) {
     let mut byte = 0xFFu8;
-    write_through(&mut byte);
+    {
+        let mut view = from_mut::<u8, Lsb0>(&mut byte);
+        view.invert();
+    }
+    {
+        let mut view = BitSliceMut::<u8, Lsb0>::from_element_mut(&mut byte);
+        view.set(4, true);
+    }
     assert!(rt; byte == 0x10);
 }
 

@@ -2,31 +2,18 @@
 
 use bitvec_owned::edit::BitEdits;
 use bitvec_owned::query::base::{Lsb0, Msb0};
-use bitvec_owned::query::slice::{BitSlice, BitSliceMut, Domain};
+use bitvec_owned::query::slice::{BitDomain, BitSlice, BitSliceMut, Domain};
 
-/// How many bits the one part has, and how many the three of a region.
-type Cut = (Option<usize>, Option<(usize, usize, usize)>);
-
-/// How many bits a view has that touches neither edge of its one element.
-fn enclave_len(view: BitSlice<'_, u32, Msb0>) -> Option<usize> {
-    match view.bit_domain().enclave() {
-        Some(part) => Some(part.len()),
-        None => None,
-    }
-}
-
-/// How many bits the head, the body and the tail of a region have.
-fn region_lens(view: BitSlice<'_, u32, Msb0>) -> Option<(usize, usize, usize)> {
-    match view.bit_domain().region() {
-        Some((head, body, tail)) => Some((head.len(), body.len(), tail.len())),
-        None => None,
-    }
-}
-
-/// How a range of three elements' bits is cut, into one part or into three, if it is there.
-fn cut_of(cells: &[u32; 3], from: usize, to: usize) -> Option<Cut> {
+/// How many bits the one part has of a range that touches neither edge of its element, or else 0 and how many the
+/// head, the body and the tail have; nothing where there is no such range.
+fn cut_of(cells: &[u32; 3], from: usize, to: usize) -> Option<(usize, usize, usize, usize)> {
     match BitSlice::<u32, Msb0>::from_slice(cells).get(from..to) {
-        Some(range) => Some((enclave_len(range), region_lens(range))),
+        Some(range) => match range.bit_domain() {
+            BitDomain::Enclave(part) => Some((part.len(), 0, 0, 0)),
+            BitDomain::Region { head, body, tail } => {
+                Some((0, head.len(), body.len(), tail.len()))
+            }
+        },
         None => None,
     }
 }
@@ -35,31 +22,20 @@ fn cut_of(cells: &[u32; 3], from: usize, to: usize) -> Option<Cut> {
 fn each_case_of_a_cut(rt: HostRuntime) {
     let cells = [0u32; 3];
     for (from, to, cut) in [
-        (2, 94, (None, Some((30, 32, 30)))),
-        (34, 62, (Some(28), None)),
-        (2, 32, (None, Some((30, 0, 0)))),
-        (0, 30, (None, Some((0, 0, 30)))),
-        (32, 64, (None, Some((0, 32, 0)))),
-        (5, 5, (None, Some((0, 0, 0)))),
+        (2, 94, (0, 30, 32, 30)),
+        (34, 62, (28, 0, 0, 0)),
+        (2, 32, (0, 30, 0, 0)),
+        (0, 30, (0, 0, 0, 30)),
+        (32, 64, (0, 0, 32, 0)),
+        (5, 5, (0, 0, 0, 0)),
     ] {
         assert!(rt; cut_of(&cells, from, to) == Some(cut), "{from} {to}");
     }
 }
 
-/// What the part reads that a range inside one element is: its value, its two indices and its mask.
-type Read = Option<(u8, usize, usize, u8)>;
-
-/// Reads the bits 2 up to 6 of a byte.
-fn read_part(cells: &[u8; 1]) -> Read {
-    let range = BitSlice::<u8, Lsb0>::from_slice(cells).into_part(2..6);
-    match range.domain().enclave() {
-        Some(part) => Some((part.load_value(), part.head(), part.tail(), part.mask())),
-        None => None,
-    }
-}
-
-/// Reads the bits 2 up to 6 of a byte, and then stores a value's, or else flips them.
-fn write_part(cells: &mut [u8; 1], value: Option<u8>) -> Read {
+/// Reads the part that the bits 2 up to 6 of a byte are, its value, its two indices and its mask, and then stores a
+/// value's bits, or else flips them.
+fn write_part(cells: &mut [u8; 1], value: Option<u8>) -> Option<(u8, usize, usize, u8)> {
     let mut range = BitSliceMut::<u8, Lsb0>::from_slice_mut(cells).into_part(2..6);
     match range.domain_mut().enclave() {
         Some(mut part) => {
@@ -75,12 +51,24 @@ fn write_part(cells: &mut [u8; 1], value: Option<u8>) -> Read {
 }
 
 #[test]
-fn an_enclave_has_its_bits_alone(rt: HostRuntime) {
-    assert!(rt; read_part(&[0xB4]) == Some((0x34, 2, 6, 0x3C)));
+fn an_enclave_is_written_alone(rt: HostRuntime) {
     let mut cells = [0xB4u8];
     for (value, read, after) in [(Some(0xFF), 0x34, 0xBC), (None, 0x3C, 0x80)] {
         assert!(rt; write_part(&mut cells, value) == Some((read, 2, 6, 0x3C)));
         assert!(rt; cells == [after]);
+    }
+}
+
+#[test]
+fn an_enclave_has_its_bits_alone(rt: HostRuntime) {
+    let cells = [0xB4u8];
+    let view = BitSlice::<u8, Lsb0>::from_slice(&cells).into_part(2..6);
+    match view.domain().enclave() {
+        Some(part) => {
+            let read = (part.load_value(), part.head(), part.tail(), part.mask());
+            assert!(rt; read == (0x34, 2, 6, 0x3C));
+        }
+        None => assert!(rt; false),
     }
 }
 
@@ -101,36 +89,26 @@ fn a_writable_view_shows_its_elements(rt: HostRuntime) {
 }
 
 #[test]
-fn domains_give_their_values_in_order(rt: HostRuntime) {
-    let cells = [0xFFu8, 0x12, 0x34, 0xFF];
-    let view = BitSlice::<u8, Lsb0>::from_slice(&cells).into_part(4..28);
-    let mut number = 0;
-    for value in view.domain() {
-        number = (number << 8) | u32::from(value);
-    }
-    assert!(rt; number == 0xF012_340F && view.domain().values().next_back() == Some(0x0F));
+fn values_and_parts_come_from_both_ends(rt: HostRuntime) {
+    let cells = [0xFFu8, 0x12, 0xFF];
+    let view = BitSlice::<u8, Lsb0>::from_slice(&cells).into_part(4..20);
+    assert!(rt; view.domain().into_iter().next() == Some(0xF0));
+    assert!(rt; view.domain().values().next_back() == Some(0x0F));
+    let mut parts = view.bit_domain().parts();
+    assert!(rt; parts.next().is_some() && parts.next_back().is_some());
 }
 
-/// Fills the last part of the bits 4 up to 20, flips the first of those that are left, and then each one.
-fn edit_parts(cells: &mut [u8; 3]) {
+/// Flips the parts of the bits 4 up to 20, each in turn.
+fn flip_each_part(cells: &mut [u8; 3]) {
     let mut view = BitSliceMut::<u8, Lsb0>::from_slice_mut(cells).into_part(4..20);
-    {
-        let mut parts = view.bit_domain_mut().parts();
-        if let Some(mut last) = parts.next_back() {
-            last.fill(true);
-        }
-        if let Some(mut first) = parts.next() {
-            first.invert();
-        }
-    }
     for mut part in view.bit_domain_mut() {
         part.invert();
     }
 }
 
 #[test]
-fn parts_come_from_both_ends_and_in_a_loop(rt: HostRuntime) {
+fn parts_are_written_in_a_loop(rt: HostRuntime) {
     let mut cells = [0u8; 3];
-    edit_parts(&mut cells);
-    assert!(rt; cells == [0, 0xFF, 0]);
+    flip_each_part(&mut cells);
+    assert!(rt; cells == [0xF0, 0xFF, 0x0F]);
 }

@@ -95,7 +95,16 @@ fn edit_five(bytes: &mut [u8; 1], kind: usize) {
         7 => five.fill_with(|index| index % 2 == 0),
         8 => five.copy_within(1..5, 0),
         9 => five.shift_end(1),
-        _ => five.swap_within(0..2, 3),
+        10 => five.swap_within(0..2, 3),
+        11 => five.set_unchecked(0, true),
+        12 => five.swap_unchecked(0, 3),
+        13 => five.copy_within_unchecked(3..5, 0),
+        14 => {
+            let _old = five.replace(1, false);
+        }
+        _ => {
+            let _old = five.replace_unchecked(4, false);
+        }
     }
 }
 
@@ -114,27 +123,14 @@ fn five_bits_are_edited(rt: HostRuntime) {
         (8, 0xF5, 0xFA),
         (9, 0xFA, 0xF4),
         (10, 0xFA, 0xF3),
+        (11, 0xF2, 0xF3),
+        (12, 0xF1, 0xF8),
+        (13, 0xF8, 0xFB),
+        (14, 0xFB, 0xF9),
+        (15, 0xF9, 0xE9),
     ] {
         let mut bytes = [before];
         edit_five(&mut bytes, kind);
         assert!(rt; bytes == [after], "{kind}");
     }
-}
-
-/// Edits the first five bits by the unchecked names. The result is the bits that were replaced.
-fn edit_unchecked(bytes: &mut [u8; 1]) -> (bool, bool) {
-    let mut five = BitSliceMut::<u8, Lsb0>::from_slice_mut(bytes).into_part(0..5);
-    five.set_unchecked(0, true);
-    let old = five.replace_unchecked(1, false);
-    five.swap_unchecked(0, 3);
-    five.copy_within_unchecked(3..5, 0);
-    (old, five.replace(4, false))
-}
-
-// The five are 0, 1, 0, 0, 1; then 1, 1, 0, 0, 1; 1, 0, 0, 0, 1; 0, 0, 0, 1, 1; 1, 1, 0, 1, 1; and 1, 1, 0, 1, 0.
-#[test]
-fn unchecked_names_are_the_checked_calls(rt: HostRuntime) {
-    let mut bytes = [0x12u8];
-    assert!(rt; edit_unchecked(&mut bytes) == (true, true));
-    assert!(rt; bytes == [0x0B]);
 }
