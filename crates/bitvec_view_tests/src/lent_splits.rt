@@ -52,22 +52,18 @@ fn flip_lent(noted: u128, piece: Option<BitSliceMut<'_, u8, Lsb0>>) -> u128 {
     }
 }
 
-/// Flips the first piece of each other kind of split from the front, and gives what came.
-fn flip_first(cells: &mut [u8; 1]) -> u128 {
+/// Flips the first piece with the one at its end, and gives how many bits it has, and one more.
+fn flip_inclusive(cells: &mut [u8; 1]) -> u128 {
     let mut view = BitSliceMut::<u8, Lsb0>::from_slice_mut(cells);
-    let noted = {
-        let mut pieces = view.split_inclusive_mut(|_, bit| *bit);
-        flip_lent(0, pieces.next_mut())
-    };
-    let mut pieces = view.splitn_mut(2, |_, bit| *bit);
-    flip_lent(noted, pieces.next_mut())
+    let mut pieces = view.split_inclusive_mut(|_, bit| *bit);
+    flip_lent(0, pieces.next_mut())
 }
 
-// The bits are 0, 1, 0, 0, 1, 0, 1, 0; then 1, 0, 0, 0, 1, 0, 1, 0.
+// The bits are 0, 1, 0, 0, 1, 0, 1, 0.
 #[test]
-fn the_first_pieces_are_flipped(rt: HostRuntime) {
+fn a_piece_is_flipped_with_the_one_at_its_end(rt: HostRuntime) {
     let mut cells = [0x52u8];
-    assert!(rt; flip_first(&mut cells) == 03_01);
+    assert!(rt; flip_inclusive(&mut cells) == 3);
     assert!(rt; cells == [0x51]);
 }
 
@@ -118,31 +114,25 @@ fn pieces_by_turns(rt: HostRuntime) {
     splits(&rt, [false, true], [first, 01_03_01_01_02_02_02_01_01_05]);
 }
 
-/// Calls a split into a number of pieces at most twelve times, and gives the same of it.
-fn split_into(bytes: &mut [u8; 3], count: usize) -> (u128, usize) {
-    let (mut noted, mut asked) = (0, 0usize);
+/// Calls a split into two pieces at most twelve times, and gives what came.
+fn split_in_two(bytes: &mut [u8; 3]) -> u128 {
+    let mut noted = 0;
     let mut view = BitSliceMut::<u8, Lsb0>::from_slice_mut(bytes).into_part(3..21);
-    let mut pieces = view.splitn_mut(count, |_index, bit| {
-        asked = asked.wrapping_add(1);
-        *bit
-    });
+    let mut pieces = view.splitn_mut(2, |_, bit| *bit);
     for _ in 0..12 {
         noted = flip_lent(noted, pieces.next_mut());
     }
-    (noted, asked)
+    noted
 }
 
 #[test]
 fn limited_pieces_by_next_mut(rt: HostRuntime) {
-    for (count, pieces, asked, after) in [
-        (0, 0, 0, [0xA6, 0x3C, 0x59]),
-        (1, 19, 0, [0x5E, 0xC3, 0x46]),
-        (2, 03_16, 3, [0x7E, 0xC3, 0x46]),
-        (5, 03_02_03_01_10, 9, [0xFE, 0xCF, 0x46]),
-        (30, 03_02_03_01_01_01_03_03_01_01, 18, [0xFE, 0xFF, 0x5F]),
+    for (bytes, pieces, after) in [
+        (MEMORIES[0], 03_16, [0x7E, 0xC3, 0x46]),
+        (MEMORIES[1], 01_18, [0xA9, 0x3C, 0xB9]),
     ] {
-        let mut bytes = [0xA6, 0x3C, 0x59];
-        assert!(rt; split_into(&mut bytes, count) == (pieces, asked), "{count}");
-        assert!(rt; bytes == after, "{count}");
+        let mut bytes = bytes;
+        assert!(rt; split_in_two(&mut bytes) == pieces);
+        assert!(rt; bytes == after);
     }
 }

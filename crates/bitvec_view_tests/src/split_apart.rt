@@ -45,10 +45,8 @@ fn fill_before(bytes: &mut [u8; 2], mid: usize) -> bool
 #[test]
 fn a_part_comes_apart_at_an_edge_or_an_end(rt: HostRuntime) {
     let mut bytes = [0x00, 0x00];
-    assert!(rt; fill_before(&mut bytes, 0) && !fill_before(&mut bytes, 4));
-    assert!(rt; bytes == [0x00, 0x00]);
-    assert!(rt; fill_before(&mut bytes, 5));
-    assert!(rt; bytes == [0xF8, 0x00]);
-    assert!(rt; fill_before(&mut bytes, 10));
-    assert!(rt; bytes == [0xF8, 0x1F]);
+    let at_none = fill_before(&mut bytes, 0);
+    let inside = fill_before(&mut bytes, 4);
+    assert!(rt; at_none && !inside && fill_before(&mut bytes, 5) && bytes == [0xF8, 0x00]);
+    assert!(rt; fill_before(&mut bytes, 10) && bytes == [0xF8, 0x1F]);
 }
