@@ -1,58 +1,30 @@
-//! Callers of views and of owned sequences, with contracts of their own.
-ghost use Rattle.std.specs.Prelude.{◌≡◌, ◌<◌, ◌≤◌, ◌↔◌, IfOk, IfSome, IsSome, count_by, false, map, not, reverse, slice_index_or, slice_range};
+//! Callers of views, of a split and of owned sequences, with contracts of their own.
+ghost use Rattle.std.specs.Prelude.{◌≡◌, ◌<◌, ◌↔◌, IfOk, IfSome, IsSome, false, find, map, not, slice_index_or, unwrap_or};
 ghost use Rattle.bitvec_owned.specs.query.slice.Views.{seen, seen_mut};
 ghost use Rattle.bitvec_owned.specs.Copies.{Holds, copy_start};
 ghost use Rattle.bitvec_owned.specs.Owned.{owned};
+ghost use Rattle.bitvec_split.specs.Asked.{upward};
 
 use bitvec_owned::edit::BitEdits;
-use bitvec_owned::query::BitQueries;
 use bitvec_owned::query::base::BitOrder;
 use bitvec_owned::query::engine::SliceOrder;
 use bitvec_owned::query::slice::{BitSlice, BitSliceMut};
 use bitvec_owned::query::store::BitStore;
 use bitvec_owned::{BitVec, ToBitVec};
+use bitvec_split::SplitCalls;
 use std::alloc::{AllocError, Global};
 
-/// A copy of the bits, each of them flipped, and how many of them were 1.
+/// A copy of the bits, each of them flipped.
 pub fn flipped<T: BitStore, O: SliceOrder>(
     alloc: Global,
     view: BitSlice<'_, T, O>,
-) -> Result<(BitVec<T, O, Global>, usize), AllocError>
-    ensures holds { IfOk result (λ given. Holds T.BITS (map not (seen view.entry).bits)
-        (copy_start T.BITS (seen view.entry).window) (owned given.0)) }
-    ensures ones { IfOk result (λ given. given.1 ≡ count_by (λ bit. bit) (seen view.entry).bits) }
-{
-    let mut copy = view.to_bitvec(alloc)?;
-    let ones = copy.count_ones();
-    copy.invert();
-    Ok((copy, ones))
-}
-
-/// A copy of the bits in the opposite order.
-pub fn backwards<T: BitStore, O: SliceOrder>(
-    alloc: Global,
-    view: BitSlice<'_, T, O>,
 ) -> Result<BitVec<T, O, Global>, AllocError>
-    ensures { IfOk result (λ copy. (owned copy).bits ≡ reverse (seen view.entry).bits) }
+    ensures { IfOk result (λ copy. Holds T.BITS (map not (seen view.entry).bits)
+        (copy_start T.BITS (seen view.entry).window) (owned copy)) }
 {
     let mut copy = view.to_bitvec(alloc)?;
-    copy.reverse();
+    copy.invert();
     Ok(copy)
-}
-
-/// How many of the bits before an index are 1, if the view has such.
-pub fn ones_before<T: BitStore, O: SliceOrder>(
-    view: BitSlice<'_, T, O>,
-    index: usize,
-) -> Option<usize>
-    ensures some { IsSome result ↔ index ≤ (seen view.entry).window.len }
-    ensures value { IfSome result
-        (λ count. count ≡ count_by (λ bit. bit) (slice_range (seen view.entry).bits 0 index)) }
-{
-    match view.get(..index) {
-        Some(part) => Some(part.count_ones()),
-        None => None,
-    }
 }
 
 /// The bit at an index of a writable view, read through a reference that could write it.
@@ -69,55 +41,12 @@ pub fn bit_at<T: BitStore, O: BitOrder>(
     }
 }
 
-/// Fills the bits before an index, and gives how many the view has, which stays.
-pub fn fill_before<T: BitStore, O: SliceOrder>(
-    view: &mut BitSliceMut<'_, T, O>,
-    index: usize,
-) -> usize
-    requires { index ≤ (seen_mut view.old).window.len }
-    ensures value { result ≡ (seen_mut view.old).window.len }
-    ensures window { (seen_mut view.new).window ≡ (seen_mut view.old).window }
+/// How many bits stand before the first one: as many as there are, if none is.
+pub fn before_one<T: BitStore, O: BitOrder>(view: BitSlice<'_, T, O>) -> usize
+    ensures { result ≡ unwrap_or (find (λ index. slice_index_or (seen view.entry).bits index false) (upward (seen view.entry).window.len)) (seen view.entry).window.len }
 {
-    {
-        let mut front = view.part_mut(0..index);
-        front.fill(true);
-    }
-    view.len()
-}
-
-#[cfg(test)]
-mod tests {
-    use super::{backwards, flipped};
-    use bitvec_owned::query::base::Lsb0;
-    use bitvec_owned::query::slice::BitSlice;
-    use std::alloc::Global;
-
-    /// Whether a flipped copy was made, of so many ones and with these elements.
-    fn flips(
-        alloc: Global,
-        view: BitSlice<'_, u8, Lsb0>,
-        wanted: usize,
-        elements: [u8; 2],
-    ) -> bool {
-        match flipped(alloc, view) {
-            Ok((copy, ones)) => ones == wanted && copy.as_raw_slice() == elements.as_slice(),
-            Err(_) => false,
-        }
-    }
-
-    /// Whether a copy in the opposite order was made, with these elements.
-    fn reverses(alloc: Global, view: BitSlice<'_, u8, Lsb0>, elements: [u8; 2]) -> bool {
-        match backwards(alloc, view) {
-            Ok(copy) => copy.as_raw_slice() == elements.as_slice(),
-            Err(_) => false,
-        }
-    }
-
-    #[test]
-    fn copies_are_edited(rt: HostRuntime) {
-        let cells = [0x48u8, 0x01];
-        let view = BitSlice::<u8, Lsb0>::from_slice(&cells).into_part(3..9);
-        assert!(rt; flips(rt.alloc(), view, 3, [0xB0, 0x00]));
-        assert!(rt; reverses(rt.alloc(), view, [0x28, 0x01]));
+    match view.split(|_, bit| *bit).next() {
+        Some(piece) => piece.len(),
+        None => view.len(),
     }
 }

@@ -1,57 +1,62 @@
-//! The first and the last bit of a view.
+//! The first and the last bit of a view, and views cut in two.
+
 use bitvec_owned::query::BitQueries;
-use bitvec_owned::query::base::{BitOrder, Lsb0, Msb0};
-use bitvec_owned::query::engine::SliceOrder;
+use bitvec_owned::query::base::Lsb0;
 use bitvec_owned::query::slice::{BitRef, BitSlice, BitSliceMut};
-use bitvec_owned::query::store::BitStore;
 
-/// The bit that is referred to, if one is.
-fn read<T: BitStore, O: BitOrder>(bit: Option<BitRef<'_, T, O>>) -> Option<bool> {
+/// Whether a bit is referred to, and reads so.
+fn reads(bit: Option<BitRef<'_, u8, Lsb0>>, wanted: bool) -> bool {
     match bit {
-        Some(bit) => Some(*bit),
-        None => None,
+        Some(bit) => *bit == wanted,
+        None => false,
     }
 }
 
-/// The bit of a pair, and how many bits its rest has and how many of them are 1.
-fn read_pair<T: BitStore, O: SliceOrder>(
-    parts: Option<(BitRef<'_, T, O>, BitSlice<'_, T, O>)>,
-) -> Option<(bool, usize, usize)> {
+/// Whether a bit is split off, and reads so, from a rest of so many bits.
+fn has(
+    parts: Option<(BitRef<'_, u8, Lsb0>, BitSlice<'_, u8, Lsb0>)>,
+    wanted: bool,
+    len: usize,
+) -> bool {
     match parts {
-        Some((bit, rest)) => Some((*bit, rest.len(), rest.count_ones())),
-        None => None,
+        Some((bit, rest)) => *bit == wanted && rest.len() == len,
+        None => false,
     }
-}
-
-/// The ends of a view, and what is split off at them.
-type Ends = ([Option<bool>; 2], [Option<(bool, usize, usize)>; 2]);
-
-fn ends<T: BitStore, O: SliceOrder>(view: BitSlice<'_, T, O>) -> Ends {
-    (
-        [read(view.first()), read(view.last())],
-        [read_pair(view.split_first()), read_pair(view.split_last())],
-    )
-}
-
-fn ends_of_writable<T: BitStore, O: SliceOrder>(view: &BitSliceMut<'_, T, O>) -> Ends {
-    (
-        [read(view.first()), read(view.last())],
-        [read_pair(view.split_first()), read_pair(view.split_last())],
-    )
 }
 
 #[test]
 fn ends_of_three_bits(rt: HostRuntime) {
-    let cells = [0xF9u8];
-    let view = BitSlice::<u8, Lsb0>::from_slice(&cells).into_part(0..3);
-    let wanted = [Some((true, 2, 0)), Some((false, 2, 1))];
-    assert!(rt; ends(view) == ([Some(true), Some(false)], wanted));
+    let mut cells = [0xF9u8];
+    let view = BitSliceMut::<u8, Lsb0>::from_slice_mut(&mut cells).into_part(0..3);
+    assert!(rt; reads(view.first(), true) && reads(view.last(), false));
+    assert!(rt; has(view.split_first(), true, 2) && has(view.split_last(), false, 2));
+    let view = view.as_ref();
+    assert!(rt; reads(view.first(), true) && reads(view.last(), false));
+    assert!(rt; has(view.split_first(), true, 2) && has(view.split_last(), false, 2));
+}
+
+/// How many bits two views have each, and how many of these are 1.
+fn counts(parts: (BitSlice<'_, u8, Lsb0>, BitSlice<'_, u8, Lsb0>)) -> [(usize, usize); 2] {
+    let (left, right) = parts;
+    [
+        (left.len(), left.count_ones()),
+        (right.len(), right.count_ones()),
+    ]
 }
 
 #[test]
-fn ends_of_a_writable_view(rt: HostRuntime) {
-    let mut cells = [0x80u8, 0x10];
-    let view = BitSliceMut::<u8, Msb0>::from_slice_mut(&mut cells);
-    let wanted = [Some((true, 15, 1)), Some((false, 15, 2))];
-    assert!(rt; ends_of_writable(&view) == ([Some(true), Some(false)], wanted));
+fn halves_of_a_byte(rt: HostRuntime) {
+    let cells = [0xF0u8];
+    let view = BitSlice::<u8, Lsb0>::from_slice(&cells);
+    assert!(rt; counts(view.split_at(4)) == [(4, 0), (4, 4)]);
+    assert!(rt; counts(view.split_at_unchecked(5)) == [(5, 1), (3, 3)]);
+}
+
+#[test]
+fn a_writable_view_is_read_in_two_parts(rt: HostRuntime) {
+    let mut cells = [0xF0u8];
+    let view = BitSliceMut::<u8, Lsb0>::from_slice_mut(&mut cells);
+    let (left, right) = view.split_at(4);
+    assert!(rt; left.not_any() && right.all());
+    assert!(rt; counts(view.split_at_unchecked(5)) == [(5, 1), (3, 3)]);
 }

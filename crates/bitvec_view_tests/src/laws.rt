@@ -1,4 +1,4 @@
-//! Laws of the order and the hash of views, as a caller has them.
+//! Equality, order and hash of views of one type, and their laws, as a caller has them.
 ghost use Rattle.std.specs.Prelude.{◌≡◌, IsTrue, fold};
 ghost use Rattle.std.specs.Cmp.Lexicographic.{slice_cmp};
 ghost use Rattle.std.specs.Hash.DefaultHasher as sip;
@@ -7,37 +7,30 @@ ghost use Rattle.std.proofs.Common.{Less};
 ghost use Rattle.bitvec_owned.specs.query.slice.Views.{seen};
 ghost use Rattle.bitvec_owned.specs.query.traits.Feeding.{bits_fed};
 
+use bitvec_owned::query::base::Lsb0;
 use bitvec_owned::query::engine::SliceOrder;
 use bitvec_owned::query::slice::BitSlice;
 use bitvec_owned::query::store::BitStore;
+use std::alloc::AllocError;
 use std::cmp::Ordering;
 use std::hash::{DefaultHasher, Hash, Hasher};
+use std::process::Abort;
 
-/// How two views compare, both ways: each is the other reversed.
-#[tactic(auto, using(bitvec_owned::specs::Cited::ordered))]
-pub fn compare_both_ways<T: BitStore, O: SliceOrder>(
-    view: BitSlice<'_, T, O>,
-    other: BitSlice<'_, T, O>,
-) -> (Ordering, Ordering)
-    ensures { result.0 ≡ ordering_reverse result.1 }
-{
-    (view.cmp(&other), other.cmp(&view))
-}
-
-/// How a view compares with a third one, where it is less than a second, and that less than the third:
-/// it is less.
+/// How a view compares with a third one, and that with the view, where the view is less than a second one, and
+/// this less than the third: it is less, and each way is the other reversed.
 #[tactic(auto, using(bitvec_owned::specs::Cited::ordered))]
 pub fn compare_across<T: BitStore, O: SliceOrder>(
     view: BitSlice<'_, T, O>,
     second: BitSlice<'_, T, O>,
     third: BitSlice<'_, T, O>,
-) -> Ordering
+) -> (Ordering, Ordering)
     requires below { slice_cmp bool_cmp (seen view).bits (seen second).bits ≡ Less }
     requires above { slice_cmp bool_cmp (seen second).bits (seen third).bits ≡ Less }
-    ensures { result ≡ Less }
+    ensures less { result.0 ≡ Less }
+    ensures reversed { result.0 ≡ ordering_reverse result.1 }
 {
     let _second = second;
-    view.cmp(&third)
+    (view.cmp(&third), third.cmp(&view))
 }
 
 /// Whether equality and order agree on two views: they do.
@@ -69,4 +62,38 @@ pub fn equal_views_hash_alike<T: BitStore, O: SliceOrder>(
     ensures { IsTrue result }
 {
     view != other || hash_of(view) == hash_of(other)
+}
+
+/// Asserts that a view's clone has the same bits, if one was made.
+fn is_cloned<R: Abort>(rt: &R, cells: [u8; 2]) -> Result<(), AllocError> {
+    let view = BitSlice::<u8, Lsb0>::from_slice(&cells).into_part(4..12);
+    let copy = view.clone()?;
+    assert!(rt; view == copy);
+    Ok(())
+}
+
+#[test]
+fn a_clone_has_the_same_bits(rt: HostRuntime) {
+    assert!(rt; is_cloned(&rt, [0x50, 0x0F]).is_ok());
+}
+
+// The bits are 0, 1, 0, 1, 0, 0, 1, 0.
+#[test]
+fn first_bit_that_differs_decides(rt: HostRuntime) {
+    let bits = [0b0100_1010u8];
+    let bits = BitSlice::<u8, Lsb0>::from_slice(&bits);
+    let short = bits.into_part(0..2);
+    let long = bits.into_part(0..3);
+    assert!(rt; short.cmp(&long) == Ordering::Less && short < long);
+}
+
+#[test]
+fn each_bit_is_fed_without_their_number(rt: HostRuntime) {
+    let bits = [0b010u8];
+    let view = BitSlice::<u8, Lsb0>::from_slice(&bits).into_part(0..3);
+    let mut state = DefaultHasher::new();
+    false.hash(&mut state);
+    true.hash(&mut state);
+    false.hash(&mut state);
+    assert!(rt; hash_of(view) == state.finish());
 }

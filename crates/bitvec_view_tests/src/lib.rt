@@ -1,28 +1,29 @@
-//! Views, their edits, order, hash and texts, and owned sequences: callers, and what no clause says.
+//! Views, their parts and edits, order, hash and texts, splits by a predicate and at the edges of elements, what a
+//! writable view lends, and owned sequences: callers, and what no clause says.
 #![tactic(auto)]
 
 #[cfg(test)]
 mod callers;
 #[cfg(test)]
-mod comparing;
-#[cfg(test)]
 mod constructors;
+#[cfg(test)]
+mod domains;
 #[cfg(test)]
 mod edits;
 #[cfg(test)]
 mod ends;
 #[cfg(test)]
-mod equality;
-#[cfg(test)]
-mod hashing;
-#[cfg(test)]
-mod indices;
-#[cfg(test)]
 mod laws;
 #[cfg(test)]
-mod moves;
+mod lends;
+#[cfg(test)]
+mod lent_domains;
+#[cfg(test)]
+mod lent_splits;
 #[cfg(test)]
 mod owned;
+#[cfg(test)]
+mod pieces;
 #[cfg(test)]
 mod ranges;
 #[cfg(test)]
@@ -30,9 +31,7 @@ mod references;
 #[cfg(test)]
 mod shown;
 #[cfg(test)]
-mod two_types;
-#[cfg(test)]
-mod widths;
+mod split_apart;
 
 #[cfg(test)]
-pub use callers::{backwards, flipped};
+pub use callers::flipped;

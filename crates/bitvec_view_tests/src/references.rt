@@ -1,21 +1,14 @@
-//! References to one bit: what they read, and what they write.
-ghost use Rattle.std.specs.Prelude.{◌*◌, ◌≤◌, length};
-ghost use Rattle.bitvec_owned.specs.query.base.Window.{max_bits};
+//! References to one bit: what they read, what they write, and what is printed of them.
 
-use bitvec_owned::query::base::{BitOrder, Lsb0};
+use bitvec_owned::query::base::Lsb0;
 use bitvec_owned::query::slice::{BitRef, BitSlice, BitSliceMut};
-use bitvec_owned::query::store::BitStore;
+use bitvec_test_support::{prints, shows};
 
-/// Writes the bit at an index to 1, to 0 and to 1 again, if the elements have it: gives the bit
-/// before the first write, and those after the first and the second.
-fn write_thrice<T: BitStore, O: BitOrder>(
-    elements: &mut [T],
-    index: usize,
-) -> Option<(bool, bool, bool)>
-    requires { T.BITS * length elements.old ≤ max_bits }
-{
-    let mut view = BitSliceMut::<T, O>::from_slice_mut(elements);
-    match view.get_mut(index) {
+/// Writes the bit 2 to 1, to 0 and to 1 again: gives the bit before the first write, and those after
+/// the first and the second.
+fn write_thrice(cells: &mut [u8; 1]) -> Option<(bool, bool, bool)> {
+    let mut view = BitSliceMut::<u8, Lsb0>::from_slice_mut(cells);
+    match view.get_mut(2) {
         Some(mut bit) => {
             let before = bit.replace(true);
             let first = *bit;
@@ -30,37 +23,32 @@ fn write_thrice<T: BitStore, O: BitOrder>(
 
 #[test]
 fn a_reference_writes_at_once(rt: HostRuntime) {
-    for (byte, index, read, after) in [
-        (0x00, 2, Some((false, true, false)), 0x04),
-        (0x04, 2, Some((true, true, false)), 0x04),
-        (0x04, 8, None, 0x04),
-    ] {
-        let mut cells = [byte];
-        assert!(rt; write_thrice::<u8, Lsb0>(&mut cells, index) == read);
-        assert!(rt; cells == [after]);
-    }
+    let mut cells = [0x00];
+    assert!(rt; write_thrice(&mut cells) == Some((false, true, false)));
+    assert!(rt; cells == [0x04]);
 }
 
-/// A reference's bit, read through a copy.
-fn read_copy<'a, T: BitStore, O: BitOrder>(bit: &BitRef<'a, T, O>) -> bool {
+/// Whether a reference's copy and its clone read as the reference itself.
+fn reads_alike(bit: &BitRef<'_, u8, Lsb0>) -> bool {
     let copy = *bit;
-    *copy
-}
-
-/// Whether a reference's clone and the reference itself read as 1.
-fn reads_one_again(bit: &BitRef<'_, u8, Lsb0>) -> bool {
     match bit.clone() {
-        Ok(again) => **bit && *again,
+        Ok(again) => *copy == *again && again == copy,
         Err(_) => false,
     }
 }
 
 #[test]
-fn a_shared_reference_is_copied(rt: HostRuntime) {
+fn a_shared_reference_is_copied_and_printed(rt: HostRuntime) {
     let cells = [0x12u8];
-    let view = BitSlice::<u8, Lsb0>::from_slice(&cells);
-    match view.get(1) {
-        Some(one) => assert!(rt; *one && read_copy(&one) && reads_one_again(&one)),
-        None => assert!(rt; false),
-    }
+    let bit = BitSlice::<u8, Lsb0>::from_slice(&cells).into_bit(1);
+    assert!(rt; reads_alike(&bit));
+    assert!(rt; prints(rt.alloc(), &bit, "true") && shows(rt.alloc(), &bit, "true"));
+}
+
+#[test]
+fn writing_references_print_and_compare(rt: HostRuntime) {
+    let (mut cells, mut others) = ([0x01u8], [0x03u8]);
+    let bit = BitSliceMut::<u8, Lsb0>::from_slice_mut(&mut cells).into_bit(0);
+    assert!(rt; prints(rt.alloc(), &bit, "true") && shows(rt.alloc(), &bit, "true"));
+    assert!(rt; bit == BitSliceMut::<u8, Lsb0>::from_slice_mut(&mut others).into_bit(1));
 }

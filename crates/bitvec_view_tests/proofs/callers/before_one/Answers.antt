@@ -1,10 +1,10 @@
 use Rattle.std.proofs.Common.{◌≡◌, ◌∙◌, ap, false, find, rules, slice_index_or, subst, unwrap_or}
-use Rattle.bitvec_query.specs.slice.Seen.{Seen}
-use Rattle.bitvec_query.specs.slice.Views.{seen}
+use Rattle.bitvec_owned.specs.edit.slice.Seen.{Seen}
+use Rattle.bitvec_owned.specs.query.slice.Views.{seen}
 use Rattle.bitvec_split.specs.Asked.{upward}
 use Rattle.bitvec_split.specs.SplitLaws.{first-piece}
 use Rattle.bitvec_split.specs.Views.{left_of}
-use Rattle.bitvec_split_tests.proofs.callers.before_one.Goals as goal
+use Rattle.bitvec_view_tests.proofs.callers.before_one.Goals as goal
 
 pub returns-in-Some : goal.returns-in-Some
 returns-in-Some g c =

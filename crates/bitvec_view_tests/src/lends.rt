@@ -1,0 +1,131 @@
+//! Calls that leave open what the view is afterwards: what they lend of the bits 3 up to 21 of three
+//! bytes is flipped; then every other bit is as before, and the view stands where it stood.
+
+use bitvec_owned::edit::BitEdits;
+use bitvec_owned::query::base::{Lsb0, Window};
+use bitvec_owned::query::slice::BitSliceMut;
+use bitvec_test_support::{MEMORIES, bits_of, flipped};
+use std::process::Abort;
+
+/// Flips the bit that a call lends, if it does.
+fn flip_bit(view: &mut BitSliceMut<'_, u8, Lsb0>, kind: usize) {
+    let bit = match kind {
+        0 => view.first_mut(),
+        1 => view.last_mut(),
+        _ => view.get_mut(9),
+    };
+    if let Some(mut bit) = bit {
+        let old = *bit;
+        bit.set(!old);
+    }
+}
+
+/// Flips the part that a call lends, if it does.
+fn flip_part(part: Option<BitSliceMut<'_, u8, Lsb0>>) {
+    if let Some(mut part) = part {
+        part.invert();
+    }
+}
+
+/// Flips a side of a cut, the bits before an index or those from it on, if they share no element.
+fn flip_side(view: &mut BitSliceMut<'_, u8, Lsb0>, mid: usize, is_front: bool) {
+    if mid > view.len() {
+        return;
+    }
+    if let Some((mut front, mut rest)) = view.split_apart_mut(mid) {
+        if is_front {
+            front.invert();
+        } else {
+            rest.invert();
+        }
+    }
+}
+
+/// Flips a bit, or the bits from an index on, by the unchecked call.
+fn flip_unchecked(view: &mut BitSliceMut<'_, u8, Lsb0>, kind: usize) {
+    if view.len() < 12 {
+        return;
+    }
+    if kind == 10 {
+        let mut bit = view.get_unchecked_mut(6);
+        let old = *bit;
+        bit.set(!old);
+    } else {
+        view.get_unchecked_mut(12..).invert();
+    }
+}
+
+/// Flips what a call lends, by one call a number.
+fn flip_lent(view: &mut BitSliceMut<'_, u8, Lsb0>, kind: usize) {
+    match kind {
+        0..=2 => flip_bit(view, kind),
+        3 => flip_part(view.get_mut(19..)),
+        4 => flip_part(view.get_mut(2..9)),
+        5 => flip_part(view.get_mut(7..=13)),
+        6 => flip_part(view.get_mut(11..)),
+        7 => flip_part(view.get_mut(..4)),
+        8 => flip_part(view.get_mut(..=8)),
+        9 => flip_part(view.get_mut(..)),
+        10 | 11 => flip_unchecked(view, kind),
+        12 => flip_side(view, 5, true),
+        13 => flip_side(view, 5, false),
+        14 => flip_side(view, 0, false),
+        _ => flip_side(view, 7, false),
+    }
+}
+
+/// Flips what a call lends of the bits 3 up to 21, and says where the view stands then.
+fn flip_in(bytes: &mut [u8; 3], kind: usize) -> Window {
+    let mut view = BitSliceMut::<u8, Lsb0>::from_slice_mut(bytes).into_part(3..21);
+    flip_lent(&mut view, kind);
+    view.window()
+}
+
+/// Asserts that calls, each with its number, lend the bytes' bits from one place up to another, and leave all else.
+fn lends<R: Abort>(rt: &R, rows: &[(usize, usize, usize)]) {
+    for bytes in MEMORIES {
+        for (kind, from, to) in rows {
+            let mut after = bytes;
+            let window = flip_in(&mut after, *kind);
+            assert!(rt; bits_of(after) == flipped(bytes, *from, *to), "{kind}");
+            assert!(rt; window == Window { start: 3, len: 18 }, "{kind}");
+        }
+    }
+}
+
+#[test]
+fn first_mut_lends_the_first_bit(rt: HostRuntime) {
+    lends(&rt, &[(0, 3, 4)]);
+}
+
+#[test]
+fn last_mut_lends_the_last_bit(rt: HostRuntime) {
+    lends(&rt, &[(1, 20, 21)]);
+}
+
+#[test]
+fn get_mut_lends_a_bit_or_a_range(rt: HostRuntime) {
+    lends(
+        &rt,
+        &[
+            (2, 12, 13),
+            (3, 0, 0),
+            (4, 5, 12),
+            (5, 10, 17),
+            (6, 14, 21),
+            (7, 3, 7),
+            (8, 3, 12),
+            (9, 3, 21),
+        ],
+    );
+}
+
+#[test]
+fn get_unchecked_mut_lends_what_is_asked_for(rt: HostRuntime) {
+    lends(&rt, &[(10, 9, 10), (11, 15, 21)]);
+}
+
+#[test]
+fn split_apart_mut_lends_both_sides(rt: HostRuntime) {
+    lends(&rt, &[(12, 3, 8), (13, 8, 21), (14, 3, 21), (15, 0, 0)]);
+}

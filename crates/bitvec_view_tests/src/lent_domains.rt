@@ -1,0 +1,66 @@
+//! The parts of a view that is cut at the edges of elements: one of them is flipped; then every other bit
+//! of the three bytes is as before, and the view stands where it stood.
+
+use bitvec_owned::edit::BitEdits;
+use bitvec_owned::query::base::{Lsb0, Window};
+use bitvec_owned::query::slice::BitSliceMut;
+use bitvec_test_support::{MEMORIES, bits_of, flipped};
+use std::process::Abort;
+
+/// Flips a part of the elements that a view touches: the head, the body or the tail.
+fn flip_elements(view: &mut BitSliceMut<'_, u8, Lsb0>, piece: usize) {
+    if let Some((head, body, tail)) = view.domain_mut().region() {
+        let part = if piece == 0 { head } else { tail };
+        if piece == 1 {
+            for element in body {
+                *element = !*element;
+            }
+        } else if let Some(mut part) = part {
+            part.invert();
+        }
+    }
+}
+
+/// Flips a part of a view: the head, the body or the tail.
+fn flip_bits(view: &mut BitSliceMut<'_, u8, Lsb0>, piece: usize) {
+    if let Some((mut head, mut body, mut tail)) = view.bit_domain_mut().region() {
+        match piece {
+            0 => head.invert(),
+            1 => body.invert(),
+            _ => tail.invert(),
+        }
+    }
+}
+
+/// Flips a part of the bits 3 up to 21, and says where these stand then.
+fn flip_in(bytes: &mut [u8; 3], piece: usize, as_elements: bool) -> Window {
+    let mut view = BitSliceMut::<u8, Lsb0>::from_slice_mut(bytes).into_part(3..21);
+    if as_elements {
+        flip_elements(&mut view, piece);
+    } else {
+        flip_bits(&mut view, piece);
+    }
+    view.window()
+}
+
+/// Asserts that each part is lent, and that all else is left.
+fn lends_each_part<R: Abort>(rt: &R, as_elements: bool) {
+    for bytes in MEMORIES {
+        for (piece, from, to) in [(0, 3, 8), (1, 8, 16), (2, 16, 21)] {
+            let mut after = bytes;
+            let window = flip_in(&mut after, piece, as_elements);
+            assert!(rt; bits_of(after) == flipped(bytes, from, to), "{from}");
+            assert!(rt; window == Window { start: 3, len: 18 });
+        }
+    }
+}
+
+#[test]
+fn domain_mut_lends_each_part(rt: HostRuntime) {
+    lends_each_part(&rt, true);
+}
+
+#[test]
+fn bit_domain_mut_lends_each_part(rt: HostRuntime) {
+    lends_each_part(&rt, false);
+}
