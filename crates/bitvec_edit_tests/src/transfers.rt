@@ -16,37 +16,20 @@ fn an_exchange_leaves_the_neighbours(rt: HostRuntime) {
     let mut cells = [0xFFu8, 0];
     let mut others = [0u8, 0];
     swap_seven(&mut cells, &mut others);
-    assert!(rt; cells == [0x07, 0]);
-    assert!(rt; others == [0x1F, 0]);
+    assert!(rt; [cells, others] == [[0x07, 0], [0x1F, 0]]);
 }
 
-/// Exchanges the first four bits of the one with those of the other, which has another width and order.
-fn swap_four(bytes: &mut [u8; 1], words: &mut [u16; 1]) {
+/// Exchanges the first four bits of the one with those of the other, which has another order.
+fn swap_four(bytes: &mut [u8; 1], others: &mut [u8; 1]) {
     let mut part = BitSliceMut::<u8, Lsb0>::from_slice_mut(bytes).into_part(0..4);
-    let mut other = BitSliceMut::<u16, Msb0>::from_slice_mut(words).into_part(0..4);
+    let mut other = BitSliceMut::<u8, Msb0>::from_slice_mut(others).into_part(0..4);
     part.swap_with_bits(&mut other);
 }
 
-#[test]
-fn an_exchange_with_another_width_and_order(rt: HostRuntime) {
-    let mut cells = [0xF6u8];
-    let mut others = [0x9001u16];
-    swap_four(&mut cells, &mut others);
-    assert!(rt; cells == [0xF9]);
-    assert!(rt; others == [0x6001]);
-}
-
-/// Copies the first five bits of a word.
-fn copy_five(bytes: &mut [u8; 1], words: &[u16; 1]) {
+/// Copies the first five bits of a byte under another order.
+fn copy_five(bytes: &mut [u8; 1], source: &[u8; 1]) {
     let mut part = BitSliceMut::<u8, Lsb0>::from_slice_mut(bytes).into_part(0..5);
-    part.clone_from_bitslice(BitSlice::<u16, Msb0>::from_slice(words).into_part(0..5));
-}
-
-#[test]
-fn a_copy_from_another_width_and_order(rt: HostRuntime) {
-    let mut cells = [0xE0u8];
-    copy_five(&mut cells, &[0x9FFF]);
-    assert!(rt; cells == [0xF9]);
+    part.clone_from_bitslice(BitSlice::<u8, Msb0>::from_slice(source).into_part(0..5));
 }
 
 /// Copies the first five bits of the one to the bits 2 to 6 of the other.
@@ -58,59 +41,56 @@ fn copy_five_of_one_type(bytes: &mut [u8; 1], source: &[u8; 1]) {
 }
 
 #[test]
-fn a_copy_of_one_type(rt: HostRuntime) {
-    let mut cells = [0x41u8];
-    copy_five_of_one_type(&mut cells, &[0xAF]);
-    assert!(rt; cells == [0x6B]);
+fn exchanges_and_copies_of_other_orders(rt: HostRuntime) {
+    let mut cells = [0xF6u8];
+    let mut others = [0x91u8];
+    swap_four(&mut cells, &mut others);
+    assert!(rt; [cells, others] == [[0xF9], [0x61]]);
+    copy_five(&mut cells, &[0x6F]);
+    copy_five_of_one_type(&mut others, &[0xAF]);
+    assert!(rt; [cells, others] == [[0xF6], [0x6B]]);
 }
 
-/// What becomes of the first five bits under an operator with the first `right` of another.
-fn combine_five(bytes: &mut [u8; 1], source: &[u8; 1], right: usize, operator: u8) {
+/// An operator, or the call of its name.
+#[derive(Clone, Copy)]
+enum Operator {
+    And,
+    Or,
+    Xor,
+    AndBits,
+    OrBits,
+    XorBits,
+}
+
+/// What becomes of the first five bits under an operator with the first two bits of another view, or three bits of
+/// one of another order.
+fn combine_five(bytes: &mut [u8; 1], source: &[u8; 1], operator: Operator) {
     let mut part = BitSliceMut::<u8, Lsb0>::from_slice_mut(bytes).into_part(0..5);
-    if let Some(others) = BitSlice::<u8, Lsb0>::from_slice(source).get(0..right) {
-        match operator {
-            b'&' => part &= others,
-            b'|' => part |= others,
-            _ => part ^= others,
-        }
-    }
-}
-
-/// A byte, another, how many of its bits are on the right, the operator, and the byte that the first becomes.
-const COMBINED: [(u8, u8, usize, u8, u8); 5] = [
-    (0xFF, 0xFD, 2, b'&', 0xE1),
-    (0xE2, 0xFD, 2, b'|', 0xE3),
-    (0x12, 0xFF, 2, b'^', 0x11),
-    (0xFF, 0x0A, 8, b'&', 0xEA),
-    (0xE0, 0xEA, 8, b'|', 0xEA),
-];
-
-#[test]
-fn the_right_side_is_cut_or_extended_by_zeros(rt: HostRuntime) {
-    for (left, source, right, operator, after) in COMBINED {
-        let mut cells = [left];
-        combine_five(&mut cells, &[source], right, operator);
-        assert!(rt; cells == [after], "{source}");
-    }
-}
-
-/// What becomes of the first five bits under a named operator with three bits of another type.
-fn combine_named(bytes: &mut [u8; 1], source: &[u16; 1], operator: u8) {
-    let mut part = BitSliceMut::<u8, Lsb0>::from_slice_mut(bytes).into_part(0..5);
-    let three = BitSlice::<u16, Msb0>::from_slice(source).into_part(0..3);
+    let two = BitSlice::<u8, Lsb0>::from_slice(source).into_part(0..2);
+    let three = BitSlice::<u8, Msb0>::from_slice(source).into_part(0..3);
     match operator {
-        b'&' => part.and_bits(three),
-        b'|' => part.or_bits(three),
-        _ => part.xor_bits(three),
+        Operator::And => part &= two,
+        Operator::Or => part |= two,
+        Operator::Xor => part ^= two,
+        Operator::AndBits => part.and_bits(three),
+        Operator::OrBits => part.or_bits(three),
+        Operator::XorBits => part.xor_bits(three),
     }
 }
 
-// On the right are 1, 0, 1.
+// Of 0xBF the first three bits of the other order are 1, 0, 1.
 #[test]
-fn named_operators_take_another_width_and_order(rt: HostRuntime) {
-    for (left, operator, after) in [(0xFF, b'&', 0xE5), (0x42, b'|', 0x47), (0x9F, b'^', 0x9A)] {
+fn the_right_side_is_extended_by_zeros(rt: HostRuntime) {
+    for (left, source, operator, after) in [
+        (0xFF, 0xFD, Operator::And, 0xE1),
+        (0xE2, 0xFD, Operator::Or, 0xE3),
+        (0x12, 0xFF, Operator::Xor, 0x11),
+        (0xFF, 0xBF, Operator::AndBits, 0xE5),
+        (0x42, 0xBF, Operator::OrBits, 0x47),
+        (0x9F, 0xBF, Operator::XorBits, 0x9A),
+    ] {
         let mut cells = [left];
-        combine_named(&mut cells, &[0xBFFF], operator);
-        assert!(rt; cells == [after]);
+        combine_five(&mut cells, &[source], operator);
+        assert!(rt; cells == [after], "{left} {source}");
     }
 }

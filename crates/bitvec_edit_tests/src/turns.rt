@@ -31,8 +31,7 @@ fn turns_from_both_ends(rt: HostRuntime) {
     let mut out = [None; 5];
     let turns = [Front, Back, Front, Back, Front];
     let loads = walk::<Lsb0>(&[0x21, 0x00, 0x80], window, true, &turns, &mut out);
-    assert!(rt; out == [Some(0), Some(23), Some(5), None, None]);
-    assert!(rt; loads <= 6);
+    assert!(rt; (out, loads <= 6) == ([Some(0), Some(23), Some(5), None, None], true));
 }
 
 #[test]
@@ -40,8 +39,7 @@ fn turns_under_another_order(rt: HostRuntime) {
     let window = Window { start: 0, len: 8 };
     let mut out = [None; 3];
     let loads = walk::<HiLo>(&[0xA5], window, true, &[Back, Front, Front], &mut out);
-    assert!(rt; out == [Some(6), Some(1), Some(3)]);
-    assert!(rt; loads <= 4);
+    assert!(rt; (out, loads <= 4) == ([Some(6), Some(1), Some(3)], true));
 }
 
 #[test]
@@ -49,6 +47,5 @@ fn turns_over_zeros(rt: HostRuntime) {
     let window = Window { start: 2, len: 3 };
     let mut out = [Some(0); 2];
     let loads = walk::<Lsb0>(&[0xF7], window, false, &[Back, Back], &mut out);
-    assert!(rt; out == [Some(1), None]);
-    assert!(rt; loads <= 2);
+    assert!(rt; (out, loads <= 2) == ([Some(1), None], true));
 }

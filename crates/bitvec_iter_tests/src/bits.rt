@@ -1,13 +1,21 @@
 //! Walks over single bits.
 
-use crate::reading::read;
-use crate::{
-    backwards, bit_before, differences, first_bits, joined, mixed_pairs, numbered, ones_by_chunks,
-    ones_by_loop, ones_of_chunks, parity, parity_by_fold,
+use crate::callers::{
+    backwards, joined, mixed_pairs, numbered, ones_by_chunks, ones_of_chunks, parity,
 };
 use bitvec_query::base::Msb0;
 use bitvec_query::slice::{BitRef, BitSlice, BitSliceMut};
 use std::alloc::AllocError;
+
+/// How many bits a piece has, and the number that they write, the first bit highest.
+pub(crate) fn read(piece: Option<BitSlice<'_, u8, Msb0>>) -> Option<(usize, u32)> {
+    let bits = piece?;
+    let mut number = 0u32;
+    for bit in bits.iter().by_vals() {
+        number = number.wrapping_mul(2).wrapping_add(bit as u32);
+    }
+    Some((bits.len(), number))
+}
 
 /// Whether there is a bit, and it is this one.
 fn is_bit(bit: Option<BitRef<'_, u8, Msb0>>, wanted: bool) -> bool {
@@ -80,33 +88,31 @@ fn lists_of_bits(rt: HostRuntime) {
     let cells = [0x17u8];
     let view = BitSlice::<u8, Msb0>::from_slice(&cells);
     assert!(rt; holds(backwards(rt.alloc(), view), &REVERSED));
-    assert!(rt; holds(first_bits(rt.alloc(), view, 3), &[false; 3]));
     assert!(rt; holds(joined(rt.alloc(), view, 3), &BITS));
     assert!(rt; first_of(numbered(rt.alloc(), view)) == Some((0, false)));
     assert!(rt; counts(ones_of_chunks(rt.alloc(), view, 3), &[0, 2, 2]));
+}
+
+/// How many bits are 1, by a loop over the view.
+fn ones_by_loop(bits: BitSlice<'_, u8, Msb0>) -> usize {
+    let mut ones = 0usize;
+    for bit in bits {
+        if *bit {
+            ones = ones.wrapping_add(1);
+        }
+    }
+    ones
 }
 
 #[test]
 fn bits_added_up(rt: HostRuntime) {
     let cells = [0x17u8];
     let view = BitSlice::<u8, Msb0>::from_slice(&cells);
+    let ones = [
+        ones_by_loop(view),
+        ones_by_chunks(view, 3),
+        mixed_pairs(view),
+    ];
+    assert!(rt; ones == [4, 4, 3]);
     assert!(rt; !parity(view));
-    assert!(rt; !parity_by_fold(view));
-    assert!(rt;
-        (
-            ones_by_loop(view),
-            ones_by_chunks(view, 3),
-            mixed_pairs(view)
-        ) == (4, 4, 3)
-    );
-    assert!(rt; bit_before(view, 3) == Some(false));
-}
-
-#[test]
-fn two_views_at_once(rt: HostRuntime) {
-    let cells = [0x17u8];
-    let others = [0x2Fu8, 0xFF];
-    let view = BitSlice::<u8, Msb0>::from_slice(&cells);
-    let longer = BitSlice::<u8, Msb0>::from_slice(&others);
-    assert!(rt; differences(view, longer) == 3);
 }

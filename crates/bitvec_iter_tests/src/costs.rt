@@ -35,9 +35,4 @@ fn a_number_takes_its_elements_once(rt: HostRuntime) {
     let taken = tallies(rt.alloc(), &mut bytes, 2, 14, FieldOp::StoreLe(0xABC));
     assert!(rt; is_within(taken, 2, 2));
     assert!(rt; bytes == [0xF3, 0xEA, 0xFF]);
-    let taken = tallies(rt.alloc(), &mut bytes, 2, 14, FieldOp::LoadBe);
-    assert!(rt; is_within(taken, 2, 0));
-    let taken = tallies(rt.alloc(), &mut bytes, 4, 20, FieldOp::StoreBe(0));
-    assert!(rt; is_within(taken, 2, 3));
-    assert!(rt; bytes == [0x03, 0x00, 0xF0]);
 }

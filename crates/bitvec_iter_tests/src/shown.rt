@@ -15,10 +15,10 @@ fn walks_print_their_pieces(rt: HostRuntime) {
     assert!(rt; shows(rt.alloc(), &chunks, "Pieces([[1, 0], [1]])"));
 }
 
-/// Whether the chunks of two bits from the end show so, but for `skipped` of them.
+/// Whether the chunks of three bits from the end show so, but for `skipped` of them.
 fn chunks_show(alloc: Global, bytes: &mut [u8; 1], skipped: usize, text: &str) -> bool {
-    let mut view = BitSliceMut::<u8, Lsb0>::from_slice_mut(bytes).into_part(0..5);
-    let mut chunks = view.rchunks_mut(2);
+    let mut view = BitSliceMut::<u8, Lsb0>::from_slice_mut(bytes);
+    let mut chunks = view.rchunks_mut(3);
     chunks.pass(skipped);
     shows(alloc, &chunks, text)
 }
@@ -41,7 +41,7 @@ fn halves_show(alloc: Global, bytes: &mut [u8; 1], text: &str) -> bool {
 #[test]
 fn lenders_print_what_is_left(rt: HostRuntime) {
     let mut bytes = [0b1_0110u8];
-    assert!(rt; chunks_show(rt.alloc(), &mut bytes, 1, "PiecesMut([[1, 1], [0]])"));
+    assert!(rt; chunks_show(rt.alloc(), &mut bytes, 1, "PiecesMut([[1, 0, 1], [0, 1]])"));
     assert!(rt; bits_show(rt.alloc(), &mut bytes, 1, "IterMut([1, 1, 0, 1])"));
     assert!(rt; bits_show(rt.alloc(), &mut bytes, 9, "IterMut([])"));
     assert!(rt; halves_show(rt.alloc(), &mut bytes, "HalvesMut([0, 1], [1, 0, 1])"));

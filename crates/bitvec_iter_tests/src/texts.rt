@@ -43,13 +43,3 @@ fn a_wide_element(rt: HostRuntime) {
     );
     assert!(rt; prints(rt.alloc(), &Octal(view), octal));
 }
-
-#[test]
-fn letters(rt: HostRuntime) {
-    let bits = [0xABCDu16, 0x00EF];
-    let view = BitSlice::<u16, Msb0>::from_slice(&bits).into_part(2..32);
-    let lower = LowerHex(view);
-    let upper = UpperHex(view);
-    assert!(rt; prints(rt.alloc(), &lower, "[2bcd, 00ef]"));
-    assert!(rt; prints(rt.alloc(), &upper, "[2BCD, 00EF]"));
-}
