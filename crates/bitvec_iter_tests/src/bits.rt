@@ -9,12 +9,16 @@ use std::alloc::AllocError;
 
 /// How many bits a piece has, and the number that they write, the first bit highest.
 pub(crate) fn read(piece: Option<BitSlice<'_, u8, Msb0>>) -> Option<(usize, u32)> {
-    let bits = piece?;
-    let mut number = 0u32;
-    for bit in bits.iter().by_vals() {
-        number = number.wrapping_mul(2).wrapping_add(bit as u32);
+    match piece {
+        Some(bits) => {
+            let mut number = 0u32;
+            for bit in bits.iter().by_vals() {
+                number = number.wrapping_mul(2).wrapping_add(bit as u32);
+            }
+            Some((bits.len(), number))
+        }
+        None => None,
     }
-    Some((bits.len(), number))
 }
 
 /// Whether there is a bit, and it is this one.
