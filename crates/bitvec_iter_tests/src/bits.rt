@@ -21,30 +21,29 @@ pub(crate) fn read(piece: Option<BitSlice<'_, u8, Msb0>>) -> Option<(usize, u32)
     }
 }
 
-/// Whether there is a bit, and it is this one.
-fn is_bit(bit: Option<BitRef<'_, u8, Msb0>>, wanted: bool) -> bool {
+/// The bit that a walk gives.
+fn value_of(bit: Option<BitRef<'_, u8, Msb0>>) -> Option<bool> {
     match bit {
-        Some(bit) => *bit == wanted,
-        None => false,
+        Some(bit) => Some(*bit),
+        None => None,
     }
 }
 
 #[test]
 fn bits_from_both_ends(rt: HostRuntime) {
-    let cells = [0x17u8];
-    let view = BitSlice::<u8, Msb0>::from_slice(&cells);
+    let view = BitSlice::<u8, Msb0>::from_slice(&[0x17]);
     let mut bits = view.iter();
-    assert!(rt; is_bit(bits.nth(3), true));
-    assert!(rt; is_bit(bits.next_back(), true));
-    assert!(rt; bits.size_hint() == (3, Some(3)));
-    assert!(rt; read(Some(bits.as_bitslice())) == Some((3, 3)));
-    assert!(rt;
-        (read(Some(bits.as_ref())), read(Some(bits.as_slice()))) == (Some((3, 3)), Some((3, 3)))
-    );
+    let given = [value_of(bits.nth(3)), value_of(bits.next_back())];
+    assert!(rt; (given, bits.size_hint()) == ([Some(true); 2], (3, Some(3))));
+    let left = [
+        read(Some(bits.as_bitslice())),
+        read(Some(bits.as_ref())),
+        read(Some(bits.as_slice())),
+    ];
+    assert!(rt; left == [Some((3, 3)); 3]);
     if let Ok(mut copy) = bits.clone() {
-        assert!(rt; is_bit(copy.next(), false));
+        assert!(rt; (value_of(copy.next()), bits.len()) == (Some(false), 3));
     }
-    assert!(rt; bits.len() == 3);
 }
 
 #[test]

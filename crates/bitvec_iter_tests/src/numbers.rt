@@ -52,8 +52,11 @@ fn a_negative_number_comes_back(rt: HostRuntime) {
 
 /// Loads a number from either end and stores it.
 fn load_and_store(bytes: &mut [u8; 2]) {
+    {
+        let mut view = BitSliceMut::<u8, Lsb0>::from_slice_mut(bytes);
+        loaded_then_stored_le::<u8, Lsb0>(&mut view);
+    }
     let mut view = BitSliceMut::<u8, Lsb0>::from_slice_mut(bytes);
-    loaded_then_stored_le::<u8, Lsb0>(&mut view);
     loaded_then_stored_be::<u8, Lsb0>(&mut view);
 }
 

@@ -5,8 +5,11 @@ use bitvec_iter::{Cutting, IterCalls, Pieces};
 use bitvec_query::base::Msb0;
 use bitvec_query::slice::{BitSlice, BitSliceMut};
 
-/// What four calls of `next` give: how many bits a piece has, and the number that they write.
-fn forward<C: Cutting>(mut pieces: Pieces<'_, u8, Msb0, C>) -> [Option<(usize, u32)>; 4] {
+/// How many bits a piece has, and the number that they write.
+type Read = Option<(usize, u32)>;
+
+/// What four calls of `next` give.
+fn forward<C: Cutting>(mut pieces: Pieces<'_, u8, Msb0, C>) -> [Read; 4] {
     let mut given = [None; 4];
     for place in &mut given {
         *place = read(pieces.next());
@@ -14,27 +17,39 @@ fn forward<C: Cutting>(mut pieces: Pieces<'_, u8, Msb0, C>) -> [Option<(usize, u
     given
 }
 
+/// What `nth_back`, `next_back` and `next` give.
+fn backward<C: Cutting>(mut pieces: Pieces<'_, u8, Msb0, C>, skipped: usize) -> [Read; 3] {
+    let given = read(pieces.nth_back(skipped));
+    [given, read(pieces.next_back()), read(pieces.next())]
+}
+
+/// What `nth`, `next_back`, `next` and `next_back` give of three chunks.
+fn by_turns(skipped: usize) -> [Read; 4] {
+    let mut chunks = BitSlice::<u8, Msb0>::from_slice(&[0x17]).chunks(3);
+    let given = read(chunks.nth(skipped));
+    let last = read(chunks.next_back());
+    [given, last, read(chunks.next()), read(chunks.next_back())]
+}
+
 #[test]
 fn pieces_in_order(rt: HostRuntime) {
     let view = BitSlice::<u8, Msb0>::from_slice(&[0x17]);
-    let five = view.into_part(0..5);
     let from_the_end = [Some((3, 7)), Some((3, 2)), Some((2, 0)), None];
     assert!(rt; forward(view.rchunks(3)) == from_the_end);
-    assert!(rt; forward(view.rchunks_exact(3)) == [Some((3, 7)), Some((3, 2)), None, None]);
-    assert!(rt; forward(five.windows(3)) == [Some((3, 0)), Some((3, 1)), Some((3, 2)), None]);
+    let whole = [Some((3, 7)), Some((3, 2)), None, None];
+    assert!(rt; forward(view.rchunks_exact(3)) == whole);
+    let of_five = [Some((3, 0)), Some((3, 1)), Some((3, 2)), None];
+    assert!(rt; forward(view.into_part(0..5).windows(3)) == of_five);
 }
 
 #[test]
 fn pieces_from_both_ends(rt: HostRuntime) {
     let view = BitSlice::<u8, Msb0>::from_slice(&[0x17]);
-    let mut second = view.chunks(3);
-    assert!(rt; (read(second.nth(1)), read(second.next_back())) == (Some((3, 5)), Some((2, 3))));
-    assert!(rt; (read(second.next()), read(second.next_back())) == (None, None));
-    let mut last = view.chunks(3);
-    assert!(rt; (read(last.nth_back(0)), read(last.next_back())) == (Some((2, 3)), Some((3, 5))));
-    let mut whole = view.rchunks_exact(3);
-    assert!(rt; (read(whole.nth_back(1)), read(whole.next())) == (Some((3, 7)), None));
-    assert!(rt; read(view.into_part(0..5).windows(3).nth_back(1)) == Some((3, 1)));
+    assert!(rt; by_turns(1) == [Some((3, 5)), Some((2, 3)), None, None]);
+    assert!(rt; backward(view.chunks(3), 0) == [Some((2, 3)), Some((3, 5)), Some((3, 0))]);
+    assert!(rt; backward(view.rchunks_exact(3), 1) == [Some((3, 7)), None, None]);
+    let five = view.into_part(0..5);
+    assert!(rt; backward(five.windows(3), 1) == [Some((3, 1)), Some((3, 0)), None]);
 }
 
 #[test]
@@ -44,11 +59,10 @@ fn a_clone_walks_alone(rt: HostRuntime) {
     let mut chunks = view.chunks(3);
     assert!(rt; read(chunks.next()) == Some((3, 0)));
     assert!(rt; chunks.size_hint() == (2, Some(2)));
-    match chunks.clone() {
-        Ok(copy) => assert!(rt; forward(copy) == [Some((3, 5)), Some((2, 3)), None, None]),
-        Err(_) => assert!(rt; false),
+    if let Ok(copy) = chunks.clone() {
+        assert!(rt; forward(copy) == [Some((3, 5)), Some((2, 3)), None, None]);
     }
-    assert!(rt; read(chunks.next()) == Some((3, 5)));
+    assert!(rt; forward(chunks) == [Some((3, 5)), Some((2, 3)), None, None]);
 }
 
 #[test]
