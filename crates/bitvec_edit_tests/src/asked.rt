@@ -15,10 +15,16 @@ fn flip_first_of_five(bytes: &mut [u8; 1]) {
 }
 
 #[test]
-fn for_each_gets_the_index_and_the_bit_there(rt: HostRuntime) {
-    let mut cells = [0xF2u8];
-    flip_first_of_five(&mut cells);
-    assert!(rt; cells == [0xF3]);
+fn bits_by_closures(rt: HostRuntime) {
+    let mut five = [0xF2u8];
+    flip_first_of_five(&mut five);
+    let mut even = [0xFFu8];
+    filled_with_even::<u8, Lsb0>(&mut even);
+    let mut filled = [0u8];
+    filled_by::<u8, Lsb0, _>(&mut filled, |index| index >= 3);
+    let mut refilled = [0x0Fu8];
+    refilled_by::<u8, Lsb0, _>(&mut refilled, |index, bit| bit != (index % 2 == 0));
+    assert!(rt; [five, even, filled, refilled] == [[0xF3], [0x55], [0xF8], [0x5A]]);
 }
 
 #[test]
@@ -28,15 +34,4 @@ fn edits_that_undo_one_another(rt: HostRuntime) {
     reversed_twice::<u8, Lsb0>(&mut cells);
     rotated_back::<u8, Lsb0>(&mut cells, 11);
     assert!(rt; cells == [0x34, 0x56]);
-}
-
-#[test]
-fn bits_by_closures(rt: HostRuntime) {
-    let mut even = [0xFFu8];
-    filled_with_even::<u8, Lsb0>(&mut even);
-    let mut filled = [0u8];
-    filled_by::<u8, Lsb0, _>(&mut filled, |index| index >= 3);
-    let mut refilled = [0x0Fu8];
-    refilled_by::<u8, Lsb0, _>(&mut refilled, |index, bit| bit != (index % 2 == 0));
-    assert!(rt; [even, filled, refilled] == [[0x55], [0xF8], [0x5A]]);
 }

@@ -29,15 +29,10 @@ fn set_first_bits(bytes: &mut [u8; 1]) {
 }
 
 #[test]
-fn the_last_exact_chunk_is_given(rt: HostRuntime) {
-    let mut bytes = [0x00];
-    set_second(&mut bytes);
-    assert!(rt; bytes == [0x0F]);
-}
-
-#[test]
-fn each_chunk_is_taken(rt: HostRuntime) {
-    let mut bytes = [0x00];
-    set_first_bits(&mut bytes);
-    assert!(rt; bytes == [0x49]);
+fn chunks_are_given_and_taken(rt: HostRuntime) {
+    let mut second = [0x00];
+    set_second(&mut second);
+    let mut first_bits = [0x00];
+    set_first_bits(&mut first_bits);
+    assert!(rt; [second, first_bits] == [[0x0F], [0x49]]);
 }

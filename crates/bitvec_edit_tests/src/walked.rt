@@ -1,6 +1,7 @@
 //! Writable walks over the bits 3 up to 21 of three bytes, which go past the end: each call gives a piece while as
-//! many are left as it takes, and leaves the others. What is lent is flipped, and the bytes are compared at the end.
+//! many are left as it takes, and leaves the others. What is lent is set, and the bytes are compared at the end.
 
+use bitvec_edit::BitEdits;
 use bitvec_edit::base::Lsb0;
 use bitvec_edit::slice::{BitRefMut, BitSliceMut};
 use bitvec_iter::{ChunksMut, IterMut, PieceCallsMut};
@@ -15,66 +16,58 @@ enum Call {
     NthBack,
 }
 
-/// How many pieces a call takes.
-fn taken(call: Call) -> usize {
-    match call {
-        Call::Next | Call::NextBack => 1,
-        Call::Nth | Call::NthBack => 2,
-    }
-}
-
-/// Flips a chunk, if one came.
-fn flip_lent(chunk: Option<BitSliceMut<'_, u8, Lsb0>>) -> bool {
+/// Sets a chunk, if one came.
+fn set_lent(chunk: Option<BitSliceMut<'_, u8, Lsb0>>) -> bool {
     match chunk {
-        Some(chunk) => {
-            let _flipped = !chunk;
+        Some(mut chunk) => {
+            chunk.fill(true);
             true
         }
         None => false,
     }
 }
 
-/// Calls a walk over chunks, and flips the chunk that comes.
-fn flip_chunk(chunks: &mut ChunksMut<'_, u8, Lsb0>, call: Call) -> bool {
+/// Calls a walk over chunks, and sets the chunk that comes.
+fn set_chunk(chunks: &mut ChunksMut<'_, u8, Lsb0>, call: Call) -> bool {
     match call {
-        Call::Next => flip_lent(chunks.next_mut()),
-        Call::NextBack => flip_lent(chunks.next_back_mut()),
-        Call::Nth => flip_lent(chunks.nth_mut(1)),
-        Call::NthBack => flip_lent(chunks.nth_back_mut(1)),
+        Call::Next => set_lent(chunks.next_mut()),
+        Call::NextBack => set_lent(chunks.next_back_mut()),
+        Call::Nth => set_lent(chunks.nth_mut(1)),
+        Call::NthBack => set_lent(chunks.nth_back_mut(1)),
     }
 }
 
-/// Flips a bit, if one came.
-fn flip_lent_bit(bit: Option<BitRefMut<'_, u8, Lsb0>>) -> bool {
+/// Sets a bit, if one came.
+fn set_lent_bit(bit: Option<BitRefMut<'_, u8, Lsb0>>) -> bool {
     match bit {
         Some(mut bit) => {
-            let old = *bit;
-            bit.set(!old);
+            bit.set(true);
             true
         }
         None => false,
     }
 }
 
-/// Calls a walk over bits, and flips the bit that comes.
-fn flip_bit(bits: &mut IterMut<'_, u8, Lsb0>, call: Call) -> bool {
+/// Calls a walk over bits, and sets the bit that comes.
+fn set_bit(bits: &mut IterMut<'_, u8, Lsb0>, call: Call) -> bool {
     match call {
-        Call::Next => flip_lent_bit(bits.next_mut()),
-        Call::NextBack => flip_lent_bit(bits.next_back_mut()),
-        Call::Nth => flip_lent_bit(bits.nth_mut(1)),
-        Call::NthBack => flip_lent_bit(bits.nth_back_mut(1)),
+        Call::Next => set_lent_bit(bits.next_mut()),
+        Call::NextBack => set_lent_bit(bits.next_back_mut()),
+        Call::Nth => set_lent_bit(bits.nth_mut(1)),
+        Call::NthBack => set_lent_bit(bits.nth_back_mut(1)),
     }
 }
 
-/// Whether each of seven calls gives one of the five chunks of four bits, and leaves as many as it should.
-fn walks_over_chunks(bytes: &mut [u8; 3], call: Call) -> bool {
+/// Whether each of seven calls gives one of the five chunks of four bits while there are as many as it takes,
+/// and leaves the others.
+fn walks_over_chunks(bytes: &mut [u8; 3], call: Call, taken: usize) -> bool {
     let mut view = BitSliceMut::<u8, Lsb0>::from_slice_mut(bytes).into_part(3..21);
     let mut chunks = view.chunks_mut(4);
     let mut left = 5usize;
     for _ in 0..7 {
-        let is_there = left >= taken(call);
-        left = left.saturating_sub(taken(call));
-        if flip_chunk(&mut chunks, call) != is_there || chunks.len() != left {
+        let is_there = left >= taken;
+        left = left.saturating_sub(taken);
+        if set_chunk(&mut chunks, call) != is_there || chunks.len() != left {
             return false;
         }
     }
@@ -82,30 +75,30 @@ fn walks_over_chunks(bytes: &mut [u8; 3], call: Call) -> bool {
 }
 
 /// The same of twenty calls and the eighteen bits.
-fn walks_over_bits(bytes: &mut [u8; 3], call: Call) -> bool {
+fn walks_over_bits(bytes: &mut [u8; 3], call: Call, taken: usize) -> bool {
     let mut view = BitSliceMut::<u8, Lsb0>::from_slice_mut(bytes).into_part(3..21);
     let mut bits = view.iter_mut();
     let mut left = 18usize;
     for _ in 0..20 {
-        let is_there = left >= taken(call);
-        left = left.saturating_sub(taken(call));
-        if flip_bit(&mut bits, call) != is_there || bits.len() != left {
+        let is_there = left >= taken;
+        left = left.saturating_sub(taken);
+        if set_bit(&mut bits, call) != is_there || bits.len() != left {
             return false;
         }
     }
     true
 }
 
-/// Three bytes, each with some of its bits flipped.
-pub(crate) fn flipped([first, second, third]: [u8; 3], [one, two, three]: [u8; 3]) -> [u8; 3] {
-    [first ^ one, second ^ two, third ^ three]
+/// Three bytes with some bits set.
+pub(crate) fn with_ones(bytes: [u8; 3], ones: [u8; 3]) -> [u8; 3] {
+    [bytes[0] | ones[0], bytes[1] | ones[1], bytes[2] | ones[2]]
 }
 
-/// Whether a walk over chunks goes so over both memories, and flips these bits.
-fn flips_chunks(call: Call, wanted: [u8; 3]) -> bool {
+/// Whether a walk over chunks by a call that takes so many goes so over both memories, and sets these bits.
+fn sets_chunks(call: Call, taken: usize, wanted: [u8; 3]) -> bool {
     for bytes in MEMORIES {
         let mut after = bytes;
-        if !walks_over_chunks(&mut after, call) || after != flipped(bytes, wanted) {
+        if !walks_over_chunks(&mut after, call, taken) || after != with_ones(bytes, wanted) {
             return false;
         }
     }
@@ -113,10 +106,10 @@ fn flips_chunks(call: Call, wanted: [u8; 3]) -> bool {
 }
 
 /// The same of a walk over bits.
-fn flips_bits(call: Call, wanted: [u8; 3]) -> bool {
+fn sets_bits(call: Call, taken: usize, wanted: [u8; 3]) -> bool {
     for bytes in MEMORIES {
         let mut after = bytes;
-        if !walks_over_bits(&mut after, call) || after != flipped(bytes, wanted) {
+        if !walks_over_bits(&mut after, call, taken) || after != with_ones(bytes, wanted) {
             return false;
         }
     }
@@ -125,41 +118,41 @@ fn flips_bits(call: Call, wanted: [u8; 3]) -> bool {
 
 #[test]
 fn chunks_by_next_mut(rt: HostRuntime) {
-    assert!(rt; flips_chunks(Call::Next, [0xF8, 0xFF, 0x1F]));
+    assert!(rt; sets_chunks(Call::Next, 1, [0xF8, 0xFF, 0x1F]));
 }
 
 #[test]
 fn chunks_by_next_back_mut(rt: HostRuntime) {
-    assert!(rt; flips_chunks(Call::NextBack, [0xF8, 0xFF, 0x1F]));
+    assert!(rt; sets_chunks(Call::NextBack, 1, [0xF8, 0xFF, 0x1F]));
 }
 
 // The second and the fourth of five chunks.
 #[test]
 fn chunks_by_nth_mut(rt: HostRuntime) {
-    assert!(rt; flips_chunks(Call::Nth, [0x80, 0x87, 0x07]));
+    assert!(rt; sets_chunks(Call::Nth, 2, [0x80, 0x87, 0x07]));
 }
 
 #[test]
 fn chunks_by_nth_back_mut(rt: HostRuntime) {
-    assert!(rt; flips_chunks(Call::NthBack, [0x80, 0x87, 0x07]));
+    assert!(rt; sets_chunks(Call::NthBack, 2, [0x80, 0x87, 0x07]));
 }
 
 #[test]
 fn bits_by_next_mut(rt: HostRuntime) {
-    assert!(rt; flips_bits(Call::Next, [0xF8, 0xFF, 0x1F]));
+    assert!(rt; sets_bits(Call::Next, 1, [0xF8, 0xFF, 0x1F]));
 }
 
 #[test]
 fn bits_by_next_back_mut(rt: HostRuntime) {
-    assert!(rt; flips_bits(Call::NextBack, [0xF8, 0xFF, 0x1F]));
+    assert!(rt; sets_bits(Call::NextBack, 1, [0xF8, 0xFF, 0x1F]));
 }
 
 #[test]
 fn bits_by_nth_mut(rt: HostRuntime) {
-    assert!(rt; flips_bits(Call::Nth, [0x50, 0x55, 0x15]));
+    assert!(rt; sets_bits(Call::Nth, 2, [0x50, 0x55, 0x15]));
 }
 
 #[test]
 fn bits_by_nth_back_mut(rt: HostRuntime) {
-    assert!(rt; flips_bits(Call::NthBack, [0xA8, 0xAA, 0x0A]));
+    assert!(rt; sets_bits(Call::NthBack, 2, [0xA8, 0xAA, 0x0A]));
 }

@@ -1,8 +1,6 @@
 //! Walks over single bits.
 
-use crate::callers::{
-    backwards, joined, mixed_pairs, numbered, ones_by_chunks, ones_of_chunks, parity,
-};
+use crate::callers::{backwards, joined, mixed_pairs, ones_by_chunks, parity};
 use bitvec_query::base::Msb0;
 use bitvec_query::slice::{BitRef, BitSlice, BitSliceMut};
 use std::alloc::AllocError;
@@ -64,22 +62,6 @@ fn holds(list: Result<Vec<bool>, AllocError>, wanted: &[bool]) -> bool {
     }
 }
 
-/// Whether a list of counts was made, and has these.
-fn counts(list: Result<Vec<usize>, AllocError>, wanted: &[usize]) -> bool {
-    match list {
-        Ok(list) => list.as_slice() == wanted,
-        Err(_) => false,
-    }
-}
-
-/// The first of a list, if it was made.
-fn first_of(list: Result<Vec<(usize, bool)>, AllocError>) -> Option<(usize, bool)> {
-    match list {
-        Ok(list) => list.first().copied(),
-        Err(_) => None,
-    }
-}
-
 /// The bits of the byte, the highest first.
 const BITS: [bool; 8] = [false, false, false, true, false, true, true, true];
 
@@ -92,8 +74,6 @@ fn lists_of_bits(rt: HostRuntime) {
     let view = BitSlice::<u8, Msb0>::from_slice(&cells);
     assert!(rt; holds(backwards(rt.alloc(), view), &REVERSED));
     assert!(rt; holds(joined(rt.alloc(), view, 3), &BITS));
-    assert!(rt; first_of(numbered(rt.alloc(), view)) == Some((0, false)));
-    assert!(rt; counts(ones_of_chunks(rt.alloc(), view, 3), &[0, 2, 2]));
 }
 
 /// How many bits are 1, by a loop over the view.

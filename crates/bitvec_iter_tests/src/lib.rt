@@ -5,7 +5,7 @@
 #[cfg(test)]
 mod bits;
 #[cfg(test)]
-mod callers;
+pub mod callers;
 #[cfg(test)]
 mod chunks;
 #[cfg(test)]

@@ -17,18 +17,19 @@ fn load_middle<O: FieldOrder>(bytes: &[u8; 2], le: bool) -> u8 {
 }
 
 #[test]
-fn a_field_over_two_elements_is_read_from_either_end(rt: HostRuntime) {
+fn a_number_is_read_from_either_end(rt: HostRuntime) {
     let cells = [0xB4u8, 0x6E];
     for (le, by_lsb0, by_msb0) in [(true, 0xEB, 0x64), (false, 0xBE, 0x46)] {
-        assert!(rt; load_middle::<Lsb0>(&cells, le) == by_lsb0);
-        assert!(rt; load_middle::<Msb0>(&cells, le) == by_msb0);
+        let found = [
+            load_middle::<Lsb0>(&cells, le),
+            load_middle::<Msb0>(&cells, le),
+        ];
+        assert!(rt; found == [by_lsb0, by_msb0]);
     }
-}
-
-#[test]
-fn a_signed_load_is_extended(rt: HostRuntime) {
-    let part = BitSlice::<u8, Lsb0>::from_slice(&[0x06]).into_part(1..3);
-    assert!(rt; (part.load_le::<u8>(), part.load_le::<i8>()) == (3, -1));
+    let part = BitSlice::<u8, Lsb0>::from_slice(&[0xB4]).into_part(2..6);
+    assert!(rt; same_in_one_element::<u8, Lsb0, u8>(part) == (0xD, 0xD));
+    let two = BitSlice::<u8, Lsb0>::from_slice(&[0x06]).into_part(1..3);
+    assert!(rt; (two.load_le::<u8>(), two.load_le::<i8>()) == (3, -1));
 }
 
 /// Stores a negative number in the bits 6 up to 10, `le` or else `be`, and gives what is loaded then.
@@ -39,15 +40,6 @@ fn store_negative(bytes: &mut [u8; 2], le: bool) -> i8 {
     }
     part.store_be::<i8>(-3);
     part.load_be::<i8>()
-}
-
-#[test]
-fn a_negative_number_comes_back(rt: HostRuntime) {
-    for (le, bytes) in [(true, [0x01, 0xC0]), (false, [0x03, 0x40])] {
-        let mut cells = [0u8, 0];
-        assert!(rt; store_negative(&mut cells, le) == -3);
-        assert!(rt; cells == bytes);
-    }
 }
 
 /// Loads a number from either end and stores it.
@@ -61,16 +53,14 @@ fn load_and_store(bytes: &mut [u8; 2]) {
 }
 
 #[test]
-fn a_number_that_is_loaded_and_stored_leaves_the_bits(rt: HostRuntime) {
+fn a_number_comes_back(rt: HostRuntime) {
+    for (le, bytes) in [(true, [0x01, 0xC0]), (false, [0x03, 0x40])] {
+        let mut cells = [0u8, 0];
+        assert!(rt; (store_negative(&mut cells, le), cells) == (-3, bytes));
+    }
     let mut cells = [0x23, 0x45];
     load_and_store(&mut cells);
     assert!(rt; cells == [0x23, 0x45]);
-}
-
-#[test]
-fn one_element_is_read_alike_from_both_ends(rt: HostRuntime) {
-    let part = BitSlice::<u8, Lsb0>::from_slice(&[0xB4]).into_part(2..6);
-    assert!(rt; same_in_one_element::<u8, Lsb0, u8>(part) == (0xD, 0xD));
 }
 
 #[test]

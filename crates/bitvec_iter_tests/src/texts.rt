@@ -15,15 +15,11 @@ fn one_element(rt: HostRuntime) {
 }
 
 #[test]
-fn two_elements(rt: HostRuntime) {
+fn two_elements_and_none(rt: HostRuntime) {
     let view = BitSlice::<u8, Lsb0>::from_slice(&[0x21, 0x84]).into_part(4..12);
     assert!(rt; prints(rt.alloc(), &UpperHex(view), "[4, 2]"));
     assert!(rt; prints(rt.alloc(), &Binary(view), "[0100, 0010]"));
     assert!(rt; prints(rt.alloc(), &view, "[0, 1, 0, 0, 0, 0, 1, 0]"));
-}
-
-#[test]
-fn no_element(rt: HostRuntime) {
     assert!(rt; prints(rt.alloc(), &LowerHex(BitSlice::<u8, Lsb0>::empty()), "[]"));
 }
 
