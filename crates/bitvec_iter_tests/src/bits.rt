@@ -1,9 +1,9 @@
 //! Walks over single bits.
 
-use crate::callers::{backwards, joined, mixed_pairs, ones_by_chunks, parity};
+use crate::callers::{backwards, mixed_pairs, ones_by_chunks, parity};
 use bitvec_query::base::Msb0;
 use bitvec_query::slice::{BitRef, BitSlice, BitSliceMut};
-use std::alloc::AllocError;
+use std::alloc::Global;
 
 /// How many bits a piece has, and the number that they write, the first bit highest.
 pub(crate) fn read(piece: Option<BitSlice<'_, u8, Msb0>>) -> Option<(usize, u32)> {
@@ -54,28 +54,6 @@ fn bits_as_truth_values(rt: HostRuntime) {
     assert!(rt; (vals.next_back(), vals.next(), vals.len()) == (Some(true), Some(false), 6));
 }
 
-/// Whether a list was made, and has these bits.
-fn holds(list: Result<Vec<bool>, AllocError>, wanted: &[bool]) -> bool {
-    match list {
-        Ok(list) => list.as_slice() == wanted,
-        Err(_) => false,
-    }
-}
-
-/// The bits of the byte, the highest first.
-const BITS: [bool; 8] = [false, false, false, true, false, true, true, true];
-
-/// The same, the lowest first.
-const REVERSED: [bool; 8] = [true, true, true, false, true, false, false, false];
-
-#[test]
-fn lists_of_bits(rt: HostRuntime) {
-    let cells = [0x17u8];
-    let view = BitSlice::<u8, Msb0>::from_slice(&cells);
-    assert!(rt; holds(backwards(rt.alloc(), view), &REVERSED));
-    assert!(rt; holds(joined(rt.alloc(), view, 3), &BITS));
-}
-
 /// How many bits are 1, by a loop over the view.
 fn ones_by_loop(bits: BitSlice<'_, u8, Msb0>) -> usize {
     let mut ones = 0usize;
@@ -87,10 +65,17 @@ fn ones_by_loop(bits: BitSlice<'_, u8, Msb0>) -> usize {
     ones
 }
 
+/// Whether the bits are these from the last on, where their list was made.
+fn is_backwards(alloc: Global, bits: BitSlice<'_, u8, Msb0>, wanted: &[bool]) -> bool {
+    match backwards(alloc, bits) {
+        Ok(list) => list.as_slice() == wanted,
+        Err(_) => false,
+    }
+}
+
 #[test]
-fn bits_added_up(rt: HostRuntime) {
-    let cells = [0x17u8];
-    let view = BitSlice::<u8, Msb0>::from_slice(&cells);
+fn bits_by_callers(rt: HostRuntime) {
+    let view = BitSlice::<u8, Msb0>::from_slice(&[0x17]);
     let ones = [
         ones_by_loop(view),
         ones_by_chunks(view, 3),
@@ -98,4 +83,11 @@ fn bits_added_up(rt: HostRuntime) {
     ];
     assert!(rt; ones == [4, 4, 3]);
     assert!(rt; !parity(view));
+    assert!(rt;
+        is_backwards(
+            rt.alloc(),
+            view.into_part(0..4),
+            &[true, false, false, false]
+        )
+    );
 }

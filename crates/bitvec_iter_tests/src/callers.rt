@@ -71,22 +71,3 @@ pub fn ones_by_chunks<T: BitStore, O: SliceOrder>(bits: BitSlice<'_, T, O>, size
     }
     ones
 }
-
-/// The bits, taken chunk by chunk.
-#[tactic(auto, using(bitvec_iter::specs::JoinLaws::joining))]
-pub fn joined<T: BitStore, O: BitOrder>(
-    alloc: Global,
-    bits: BitSlice<'_, T, O>,
-    size: usize,
-) -> Result<Vec<bool>, AllocError>
-    requires { 0 < size }
-    ensures { IfOk result (λ bools. bools.items ≡ (seen bits.entry).bits) }
-{
-    let mut bools = Vec::new(alloc);
-    for piece in bits.chunks(size) {
-        for bit in piece.iter().by_vals() {
-            bools.push(bit)?;
-        }
-    }
-    Ok(bools)
-}

@@ -58,11 +58,13 @@ fn a_clone_walks_alone(rt: HostRuntime) {
     let view = BitSlice::<u8, Msb0>::from_slice(&cells);
     let mut chunks = view.chunks(3);
     assert!(rt; read(chunks.next()) == Some((3, 0)));
-    assert!(rt; chunks.size_hint() == (2, Some(2)));
-    if let Ok(copy) = chunks.clone() {
-        assert!(rt; forward(copy) == [Some((3, 5)), Some((2, 3)), None, None]);
-    }
-    assert!(rt; forward(chunks) == [Some((3, 5)), Some((2, 3)), None, None]);
+    let hint = chunks.size_hint();
+    let copied = match chunks.clone() {
+        Ok(copy) => forward(copy),
+        Err(_) => [None; 4],
+    };
+    assert!(rt; copied == [Some((3, 5)), Some((2, 3)), None, None]);
+    assert!(rt; (hint, read(chunks.next())) == ((2, Some(2)), Some((3, 5))));
 }
 
 #[test]

@@ -6,7 +6,6 @@ use bitvec_query::base::{Lsb0, Msb0};
 use bitvec_query::engine::SliceOrder;
 use bitvec_query::slice::{BitSlice, BitSliceMut};
 use bitvec_query::store::BitStore;
-use std::cmp::Ordering;
 
 /// The ones before the first zero, the zeros before the first one, and the same behind the last.
 fn runs(view: BitSlice<'_, u8, Lsb0>) -> [usize; 4] {
@@ -138,8 +137,7 @@ fn views_compared(rt: HostRuntime) {
     let zero_one_zero = BitSlice::<u8, Lsb0>::from_slice(&[0x02]).into_part(0..3);
     let zero_one = zero_one_zero.into_part(0..2);
     let one = zero_one_zero.into_part(1..2);
-    let found = [zero_one.cmp_bits(zero_one_zero), one.cmp_bits(zero_one)];
-    assert!(rt; found == [Ordering::Less, Ordering::Greater]);
+    assert!(rt; zero_one.cmp_bits(zero_one_zero).is_lt() && one.cmp_bits(zero_one).is_gt());
     let view = BitSlice::<u8, Lsb0>::from_slice(&[0x21]);
     assert!(rt; view.eq_bits(BitSlice::<u8, Msb0>::from_slice(&[0x84])));
 }
