@@ -9,8 +9,6 @@ pub mod callers;
 #[cfg(test)]
 mod chunks;
 #[cfg(test)]
-mod costs;
-#[cfg(test)]
 mod ends;
 #[cfg(test)]
 mod growth;
