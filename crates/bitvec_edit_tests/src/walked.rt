@@ -3,7 +3,7 @@
 
 use bitvec_edit::BitEdits;
 use bitvec_edit::base::Lsb0;
-use bitvec_edit::slice::{BitRefMut, BitSliceMut};
+use bitvec_edit::slice::BitSliceMut;
 use bitvec_iter::{ChunksMut, IterMut, PieceCallsMut};
 use bitvec_test_support::MEMORIES;
 
@@ -37,24 +37,20 @@ fn set_chunk(chunks: &mut ChunksMut<'_, u8, Lsb0>, call: Call) -> bool {
     }
 }
 
-/// Sets a bit, if one came.
-fn set_lent_bit(bit: Option<BitRefMut<'_, u8, Lsb0>>) -> bool {
+/// Calls a walk over bits, and sets the bit that comes.
+fn set_bit(bits: &mut IterMut<'_, u8, Lsb0>, call: Call) -> bool {
+    let bit = match call {
+        Call::Next => bits.next_mut(),
+        Call::NextBack => bits.next_back_mut(),
+        Call::Nth => bits.nth_mut(1),
+        Call::NthBack => bits.nth_back_mut(1),
+    };
     match bit {
         Some(mut bit) => {
             bit.set(true);
             true
         }
         None => false,
-    }
-}
-
-/// Calls a walk over bits, and sets the bit that comes.
-fn set_bit(bits: &mut IterMut<'_, u8, Lsb0>, call: Call) -> bool {
-    match call {
-        Call::Next => set_lent_bit(bits.next_mut()),
-        Call::NextBack => set_lent_bit(bits.next_back_mut()),
-        Call::Nth => set_lent_bit(bits.nth_mut(1)),
-        Call::NthBack => set_lent_bit(bits.nth_back_mut(1)),
     }
 }
 
