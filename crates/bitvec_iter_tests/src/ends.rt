@@ -1,44 +1,33 @@
 //! Walks over bits and pieces behind their end.
 
-use bitvec_iter::{Cutting, IterCalls, Pieces};
+use bitvec_iter::IterCalls;
 use bitvec_query::base::Msb0;
 use bitvec_query::slice::BitSlice;
+use bitvec_test_support::stays_ended_at_both;
 
-/// Whether walks over bits give nothing behind the greatest number, nor at ten calls more from either end.
-fn bits_stay_ended(view: BitSlice<'_, u8, Msb0>) -> bool {
-    let mut bits = view.iter();
-    let mut refs = view.iter().by_refs();
-    let mut vals = view.iter().by_vals();
-    let mut ended = bits.nth(usize::MAX).is_none()
-        && refs.nth(usize::MAX).is_none()
-        && vals.nth(usize::MAX).is_none();
-    for _ in 0..10 {
-        ended &= bits.next().is_none() && bits.next_back().is_none();
-        ended &= refs.next().is_none() && refs.next_back().is_none();
-        ended &= vals.next().is_none() && vals.next_back().is_none();
-    }
-    ended && bits.len() == 0 && refs.len() == 0 && vals.len() == 0
-}
-
-/// The same of a walk over pieces.
-fn pieces_stay_ended<C: Cutting>(mut pieces: Pieces<'_, u8, Msb0, C>) -> bool {
-    let mut ended = pieces.nth(usize::MAX).is_none();
-    for _ in 0..10 {
-        ended &= pieces.next().is_none() && pieces.next_back().is_none();
-    }
-    ended && pieces.len() == 0
+/// Whether a walk gives nothing behind the greatest number, and it and another nothing at ten calls past their
+/// ends, where the other is called from the back first, and have nothing left.
+fn stay_ended<I: DoubleEndedIterator + ExactSizeIterator>(mut first: I, mut second: I) -> bool
+where
+    I::Item: Drop,
+    requires front { (state : I) → I.can_next state }
+    requires back { (state : I) → I.can_next_back state }
+{
+    first.nth(usize::MAX).is_none()
+        && stays_ended_at_both(&mut first, &mut second)
+        && first.len() == 0
+        && second.len() == 0
 }
 
 #[test]
 fn nothing_comes_behind_the_end(rt: HostRuntime) {
     let view = BitSlice::<u8, Msb0>::from_slice(&[0x17, 0x2C, 0x91]).into_part(3..21);
-    assert!(rt; bits_stay_ended(view));
-    let ended = [
-        pieces_stay_ended(view.chunks(3)),
-        pieces_stay_ended(view.chunks_exact(3)),
-        pieces_stay_ended(view.rchunks(3)),
-        pieces_stay_ended(view.rchunks_exact(3)),
-        pieces_stay_ended(view.windows(3)),
-    ];
-    assert!(rt; ended == [true; 5]);
+    assert!(rt; stay_ended(view.iter(), view.iter()));
+    assert!(rt; stay_ended(view.iter().by_refs(), view.iter().by_refs()));
+    assert!(rt; stay_ended(view.iter().by_vals(), view.iter().by_vals()));
+    assert!(rt; stay_ended(view.chunks(3), view.chunks(3)));
+    assert!(rt; stay_ended(view.chunks_exact(3), view.chunks_exact(3)));
+    assert!(rt; stay_ended(view.rchunks(3), view.rchunks(3)));
+    assert!(rt; stay_ended(view.rchunks_exact(3), view.rchunks_exact(3)));
+    assert!(rt; stay_ended(view.windows(3), view.windows(3)));
 }
