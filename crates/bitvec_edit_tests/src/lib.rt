@@ -21,8 +21,6 @@ mod laws;
 #[cfg(test)]
 mod lent_bits;
 #[cfg(test)]
-mod meetings;
-#[cfg(test)]
 mod old_names;
 #[cfg(test)]
 mod pieces;

@@ -4,41 +4,28 @@ use bitvec_edit::BitEdits;
 use bitvec_edit::base::{Lsb0, Msb0};
 use bitvec_edit::slice::{BitSlice, BitSliceMut};
 
-#[test]
-fn old_shifts(rt: HostRuntime) {
-    let mut bytes = [0x0Bu8];
-    {
-        let mut view = BitSliceMut::<u8, Lsb0>::from_slice_mut(&mut bytes);
-        view.shift_left(1);
-        view.shift_right(3);
-    }
-    assert!(rt; bytes == [0x28]);
+/// Exchanges two bytes.
+fn swap(bytes: &mut [u8; 1], others: &mut [u8; 1]) {
+    let mut view = BitSliceMut::<u8, Lsb0>::from_slice_mut(bytes);
+    let mut other = BitSliceMut::<u8, Lsb0>::from_slice_mut(others);
+    view.swap_with_slice(&mut other);
+}
+
+/// Copies two bytes into one, one after the other, and moves its bits to the front and back.
+fn copy_and_shift(bytes: &mut [u8; 1]) {
+    let mut view = BitSliceMut::<u8, Lsb0>::from_slice_mut(bytes);
+    view.copy_from_slice(BitSlice::from_slice(&[0x3C]));
+    view.clone_from_slice(BitSlice::<u8, Msb0>::from_slice(&[0x0E]));
+    view.shift_left(5);
+    view.shift_right(1);
 }
 
 #[test]
-fn old_copies(rt: HostRuntime) {
-    let mut bytes = [0x00u8];
-    {
-        let mut view = BitSliceMut::<u8, Lsb0>::from_slice_mut(&mut bytes);
-        view.copy_from_slice(BitSlice::from_slice(&[0x3C]));
-    }
-    assert!(rt; bytes == [0x3C]);
-    {
-        let mut view = BitSliceMut::<u8, Lsb0>::from_slice_mut(&mut bytes);
-        view.clone_from_slice(BitSlice::<u8, Msb0>::from_slice(&[0x0E]));
-    }
-    assert!(rt; bytes == [0x70]);
-}
-
-#[test]
-fn old_exchange(rt: HostRuntime) {
+fn old_names_of_edits(rt: HostRuntime) {
     let mut bytes = [0x12u8];
     let mut others = [0x34u8];
-    {
-        let mut view = BitSliceMut::<u8, Lsb0>::from_slice_mut(&mut bytes);
-        let mut other = BitSliceMut::<u8, Lsb0>::from_slice_mut(&mut others);
-        view.swap_with_slice(&mut other);
-    }
-    assert!(rt; bytes == [0x34]);
-    assert!(rt; others == [0x12]);
+    swap(&mut bytes, &mut others);
+    assert!(rt; [bytes, others] == [[0x34], [0x12]]);
+    copy_and_shift(&mut bytes);
+    assert!(rt; bytes == [0x06]);
 }

@@ -1,5 +1,5 @@
 //! Edits of parts of a view by closures: what a caller knows of the view afterwards.
-ghost use Rattle.std.specs.Prelude.{◌≡◌, ℕ, ◌+◌, ◌*◌, ◌<◌, ◌≤◌, ◌++◌, map, not, replicate, reverse, slice_range, slice_set, true};
+ghost use Rattle.std.specs.Prelude.{◌≡◌, ℕ, ◌+◌, ◌*◌, ◌<◌, ◌≤◌, ◌++◌, map, not, replicate, slice_range, true};
 ghost use Rattle.bitvec_edit.specs.base.Lists.{rotated_left};
 ghost use Rattle.bitvec_edit.specs.base.Window.{write_at};
 ghost use Rattle.bitvec_pieces.specs.cutting.Cutting.{back_chunk, chunk_count, cut, whole_chunk, whole_count};
@@ -27,23 +27,6 @@ pub fn rotate_part<T: BitStore, O: SliceOrder>(
     view.edit_with(from..to, |piece| piece.rotate_left(1));
 }
 
-/// Makes bit 2 `bit`, reverses the bits 2 up to 5, and gives how many these are.
-pub fn set_and_reverse<T: BitStore, O: SliceOrder>(
-    view: &mut BitSliceMut<'_, T, O>,
-    bit: bool,
-) -> usize
-    requires { 5 ≤ (seen_mut view.old).window.len }
-    ensures count { result ≡ 3 }
-    ensures bits { WritesBits view.old view.new
-        (write_at (seen_mut view.old).bits 2 (reverse (slice_set (slice_range (seen_mut view.old).bits 2 5) 0 bit))) }
-{
-    view.edit_with(2..5, |piece| {
-        piece.set(0, bit);
-        piece.reverse();
-        piece.len()
-    })
-}
-
 /// Makes the bits before `mid` ones, and flips those from it.
 pub fn fill_then_invert<T: BitStore, O: SliceOrder>(view: &mut BitSliceMut<'_, T, O>, mid: usize)
     requires { mid ≤ (seen_mut view.old).window.len }
@@ -58,14 +41,6 @@ pub fn invert_chunks<T: BitStore, O: SliceOrder>(view: &mut BitSliceMut<'_, T, O
     requires { 0 < size }
     ensures { (k : ℕ) → k * size < (seen_mut view.old).window.len → slice_range (seen_mut view.new).bits (k * size) (k * size + size)
         ≡ map not (slice_range (seen_mut view.old).bits (k * size) (k * size + size)) }
-{
-    view.for_each_chunk_mut(size, |_index, piece| piece.invert());
-}
-
-/// Flips all bits, chunk by chunk.
-pub fn invert_by_chunks<T: BitStore, O: SliceOrder>(view: &mut BitSliceMut<'_, T, O>, size: usize)
-    requires { 0 < size }
-    ensures { WritesBits view.old view.new (map not (seen_mut view.old).bits) }
 {
     view.for_each_chunk_mut(size, |_index, piece| piece.invert());
 }
@@ -106,30 +81,20 @@ pub fn invert_whole_back_chunks<T: BitStore, O: SliceOrder>(
     view.for_each_rchunk_exact_mut(size, |_index, piece| piece.invert());
 }
 
-/// Makes chunks of four of the bits behind the first three ones and zeros by turns.
-fn fill_behind_three(bytes: &mut [u8; 2]) {
-    let mut view = BitSliceMut::<u8, Lsb0>::from_slice_mut(bytes);
-    view.edit_with(3..16, |piece| {
-        piece.for_each_chunk_mut(4, |index, chunk| chunk.fill(index % 2 == 0))
-    });
-}
-
-#[test]
-fn chunks_of_a_part_are_filled_by_turns(rt: HostRuntime) {
-    let mut bytes = [0u8; 2];
-    fill_behind_three(&mut bytes);
-    assert!(rt; bytes == [0x78, 0x78]);
-}
-
-/// Edits the first three bits and those behind them.
-fn edit_two_halves(bytes: &mut [u8; 2]) {
+/// Edits two bytes by all of these, one after the other.
+fn edit_by_all(bytes: &mut [u8; 2]) {
     let mut view = BitSliceMut::<u8, Lsb0>::from_slice_mut(bytes);
     fill_then_invert(&mut view, 3);
+    rotate_part(&mut view, 3, 16);
+    invert_chunks(&mut view, 5);
+    invert_back_chunks(&mut view, 5);
+    invert_whole_chunks(&mut view, 5);
+    invert_whole_back_chunks(&mut view, 5);
 }
 
 #[test]
-fn both_halves_are_edited(rt: HostRuntime) {
+fn parts_are_edited_in_place(rt: HostRuntime) {
     let mut bytes = [0x50u8, 0];
-    edit_two_halves(&mut bytes);
-    assert!(rt; bytes == [0xAF, 0xFF]);
+    edit_by_all(&mut bytes);
+    assert!(rt; bytes == [0xD6, 0x7F]);
 }

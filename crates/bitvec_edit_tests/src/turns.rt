@@ -27,12 +27,15 @@ fn walk<O: SliceOrder>(
 
 #[test]
 fn turns_from_both_ends(rt: HostRuntime) {
-    let window = Window { start: 0, len: 24 };
-    let mut out = [None; 5];
+    let all = Window { start: 0, len: 24 };
+    let mut ones = [None; 5];
     let turns = [Front, Back, Front, Back, Front];
-    let loads = walk::<Lsb0>(&[0x21, 0x00, 0x80], window, true, &turns, &mut out);
-    assert!(rt; out == [Some(0), Some(23), Some(5), None, None]);
-    assert!(rt; loads <= 6);
+    let loads = walk::<Lsb0>(&[0x21, 0x00, 0x80], all, true, &turns, &mut ones);
+    assert!(rt; (ones, loads <= 6) == ([Some(0), Some(23), Some(5), None, None], true));
+    let three = Window { start: 2, len: 3 };
+    let mut zeros = [Some(0); 2];
+    let loads = walk::<Lsb0>(&[0xF7], three, false, &[Back, Back], &mut zeros);
+    assert!(rt; (zeros, loads <= 2) == ([Some(1), None], true));
 }
 
 #[test]
@@ -40,15 +43,5 @@ fn turns_under_another_order(rt: HostRuntime) {
     let window = Window { start: 0, len: 8 };
     let mut out = [None; 3];
     let loads = walk::<HiLo>(&[0xA5], window, true, &[Back, Front, Front], &mut out);
-    assert!(rt; out == [Some(6), Some(1), Some(3)]);
-    assert!(rt; loads <= 4);
-}
-
-#[test]
-fn turns_over_zeros(rt: HostRuntime) {
-    let window = Window { start: 2, len: 3 };
-    let mut out = [Some(0); 2];
-    let loads = walk::<Lsb0>(&[0xF7], window, false, &[Back, Back], &mut out);
-    assert!(rt; out == [Some(1), None]);
-    assert!(rt; loads <= 2);
+    assert!(rt; (out, loads <= 4) == ([Some(6), Some(1), Some(3)], true));
 }

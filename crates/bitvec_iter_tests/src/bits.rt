@@ -1,38 +1,47 @@
 //! Walks over single bits.
 
-use crate::reading::read;
-use crate::{
-    backwards, bit_before, differences, first_bits, joined, mixed_pairs, numbered, ones_by_chunks,
-    ones_by_loop, ones_of_chunks, parity, parity_by_fold,
-};
+use crate::callers::{backwards, mixed_pairs, ones_by_chunks, parity};
 use bitvec_query::base::Msb0;
 use bitvec_query::slice::{BitRef, BitSlice, BitSliceMut};
-use std::alloc::AllocError;
+use std::alloc::Global;
 
-/// Whether there is a bit, and it is this one.
-fn is_bit(bit: Option<BitRef<'_, u8, Msb0>>, wanted: bool) -> bool {
+/// How many bits a piece has, and the number that they write, the first bit highest.
+pub(crate) fn read(piece: Option<BitSlice<'_, u8, Msb0>>) -> Option<(usize, u32)> {
+    match piece {
+        Some(bits) => {
+            let mut number = 0u32;
+            for bit in bits.iter().by_vals() {
+                number = number.wrapping_mul(2).wrapping_add(bit as u32);
+            }
+            Some((bits.len(), number))
+        }
+        None => None,
+    }
+}
+
+/// The bit that a walk gives.
+fn value_of(bit: Option<BitRef<'_, u8, Msb0>>) -> Option<bool> {
     match bit {
-        Some(bit) => *bit == wanted,
-        None => false,
+        Some(bit) => Some(*bit),
+        None => None,
     }
 }
 
 #[test]
 fn bits_from_both_ends(rt: HostRuntime) {
-    let cells = [0x17u8];
-    let view = BitSlice::<u8, Msb0>::from_slice(&cells);
+    let view = BitSlice::<u8, Msb0>::from_slice(&[0x17]);
     let mut bits = view.iter();
-    assert!(rt; is_bit(bits.nth(3), true));
-    assert!(rt; is_bit(bits.next_back(), true));
-    assert!(rt; bits.size_hint() == (3, Some(3)));
-    assert!(rt; read(Some(bits.as_bitslice())) == Some((3, 3)));
-    assert!(rt;
-        (read(Some(bits.as_ref())), read(Some(bits.as_slice()))) == (Some((3, 3)), Some((3, 3)))
-    );
+    let given = [value_of(bits.nth(3)), value_of(bits.next_back())];
+    assert!(rt; (given, bits.size_hint()) == ([Some(true); 2], (3, Some(3))));
+    let left = [
+        read(Some(bits.as_bitslice())),
+        read(Some(bits.as_ref())),
+        read(Some(bits.as_slice())),
+    ];
+    assert!(rt; left == [Some((3, 3)); 3]);
     if let Ok(mut copy) = bits.clone() {
-        assert!(rt; is_bit(copy.next(), false));
+        assert!(rt; (value_of(copy.next()), bits.len()) == (Some(false), 3));
     }
-    assert!(rt; bits.len() == 3);
 }
 
 #[test]
@@ -45,68 +54,40 @@ fn bits_as_truth_values(rt: HostRuntime) {
     assert!(rt; (vals.next_back(), vals.next(), vals.len()) == (Some(true), Some(false), 6));
 }
 
-/// Whether a list was made, and has these bits.
-fn holds(list: Result<Vec<bool>, AllocError>, wanted: &[bool]) -> bool {
-    match list {
+/// How many bits are 1, by a loop over the view.
+fn ones_by_loop(bits: BitSlice<'_, u8, Msb0>) -> usize {
+    let mut ones = 0usize;
+    for bit in bits {
+        if *bit {
+            ones = ones.wrapping_add(1);
+        }
+    }
+    ones
+}
+
+/// Whether the bits are these from the last on, where their list was made.
+fn is_backwards(alloc: Global, bits: BitSlice<'_, u8, Msb0>, wanted: &[bool]) -> bool {
+    match backwards(alloc, bits) {
         Ok(list) => list.as_slice() == wanted,
         Err(_) => false,
     }
 }
 
-/// Whether a list of counts was made, and has these.
-fn counts(list: Result<Vec<usize>, AllocError>, wanted: &[usize]) -> bool {
-    match list {
-        Ok(list) => list.as_slice() == wanted,
-        Err(_) => false,
-    }
-}
-
-/// The first of a list, if it was made.
-fn first_of(list: Result<Vec<(usize, bool)>, AllocError>) -> Option<(usize, bool)> {
-    match list {
-        Ok(list) => list.first().copied(),
-        Err(_) => None,
-    }
-}
-
-/// The bits of the byte, the highest first.
-const BITS: [bool; 8] = [false, false, false, true, false, true, true, true];
-
-/// The same, the lowest first.
-const REVERSED: [bool; 8] = [true, true, true, false, true, false, false, false];
-
 #[test]
-fn lists_of_bits(rt: HostRuntime) {
-    let cells = [0x17u8];
-    let view = BitSlice::<u8, Msb0>::from_slice(&cells);
-    assert!(rt; holds(backwards(rt.alloc(), view), &REVERSED));
-    assert!(rt; holds(first_bits(rt.alloc(), view, 3), &[false; 3]));
-    assert!(rt; holds(joined(rt.alloc(), view, 3), &BITS));
-    assert!(rt; first_of(numbered(rt.alloc(), view)) == Some((0, false)));
-    assert!(rt; counts(ones_of_chunks(rt.alloc(), view, 3), &[0, 2, 2]));
-}
-
-#[test]
-fn bits_added_up(rt: HostRuntime) {
-    let cells = [0x17u8];
-    let view = BitSlice::<u8, Msb0>::from_slice(&cells);
+fn bits_by_callers(rt: HostRuntime) {
+    let view = BitSlice::<u8, Msb0>::from_slice(&[0x17]);
+    let ones = [
+        ones_by_loop(view),
+        ones_by_chunks(view, 3),
+        mixed_pairs(view),
+    ];
+    assert!(rt; ones == [4, 4, 3]);
     assert!(rt; !parity(view));
-    assert!(rt; !parity_by_fold(view));
     assert!(rt;
-        (
-            ones_by_loop(view),
-            ones_by_chunks(view, 3),
-            mixed_pairs(view)
-        ) == (4, 4, 3)
+        is_backwards(
+            rt.alloc(),
+            view.into_part(0..4),
+            &[true, false, false, false]
+        )
     );
-    assert!(rt; bit_before(view, 3) == Some(false));
-}
-
-#[test]
-fn two_views_at_once(rt: HostRuntime) {
-    let cells = [0x17u8];
-    let others = [0x2Fu8, 0xFF];
-    let view = BitSlice::<u8, Msb0>::from_slice(&cells);
-    let longer = BitSlice::<u8, Msb0>::from_slice(&others);
-    assert!(rt; differences(view, longer) == 3);
 }

@@ -3,27 +3,40 @@ use bitvec_field::base::{Lsb0, Window};
 use bitvec_field::cells::{Exclusive, Shared};
 use bitvec_field::store::BitStore;
 use bitvec_run_halves::commands::{FieldOp, FieldStep, Op, Refusal, Reply, run_fields};
+use bitvec_test_support::Counted;
 use std::alloc::Global;
 
 fn step(from: usize, to: usize, op: FieldOp) -> FieldStep {
     FieldStep { from, to, op }
 }
 
-/// Whether a run through the first `len` bits of some elements is made, and answers so.
+/// Whether a run through the first `len` bits of some elements is made, answers so, and takes at most so many loads
+/// and so many stores.
 fn answers<T: BitStore>(
     alloc: Global,
     cells: &mut [T],
     len: usize,
     steps: &[FieldStep],
     wanted: &[Reply],
+    most: u64,
 ) -> bool {
-    let mut memory = Exclusive::new(cells);
+    let mut memory = Counted::new(Exclusive::new(cells));
     let mut right = Shared::new(&[]);
     let window = Window { start: 0, len };
     match run_fields::<Lsb0, _, _, _>(alloc, &mut memory, window, &mut right, steps) {
-        Ok(replies) => replies.as_slice() == wanted,
+        Ok(replies) => {
+            replies.as_slice() == wanted && memory.loads() <= most && memory.stores() <= most
+        }
         Err(_) => false,
     }
+}
+
+#[test]
+fn a_number_takes_its_elements_once(rt: HostRuntime) {
+    let mut cells = [0x03u8, 0xC0, 0xFF];
+    let steps = [step(2, 14, FieldOp::StoreLe(0xABC))];
+    assert!(rt; answers(rt.alloc(), &mut cells, 24, &steps, &[Reply::Done], 2));
+    assert!(rt; cells == [0xF3, 0xEA, 0xFF]);
 }
 
 #[test]
@@ -45,7 +58,7 @@ fn numbers_are_loaded_stored_and_refused(rt: HostRuntime) {
         Reply::Refused(Refusal::Width),
         Reply::Count(3),
     ];
-    assert!(rt; answers(rt.alloc(), &mut cells, 16, &steps, &wanted));
+    assert!(rt; answers(rt.alloc(), &mut cells, 16, &steps, &wanted, 99));
     assert!(rt; cells == [0xB0, 0x6E]);
 }
 
@@ -57,7 +70,7 @@ fn a_field_has_at_most_128_bits(rt: HostRuntime) {
         Reply::Refused(Refusal::Width),
         Reply::Number(0x8000_0000_0000_0000_0000_0000_0000_0001),
     ];
-    assert!(rt; answers(rt.alloc(), &mut cells, 136, &steps, &wanted));
+    assert!(rt; answers(rt.alloc(), &mut cells, 136, &steps, &wanted, 99));
 }
 
 #[test]
@@ -68,6 +81,6 @@ fn a_number_across_two_wide_elements(rt: HostRuntime) {
         step(64, 192, FieldOp::LoadLe),
     ];
     let wanted = [Reply::Done, Reply::Number(18_446_744_073_709_551_616)];
-    assert!(rt; answers(rt.alloc(), &mut cells, 256, &steps, &wanted));
+    assert!(rt; answers(rt.alloc(), &mut cells, 256, &steps, &wanted, 99));
     assert!(rt; cells == [0, 1]);
 }

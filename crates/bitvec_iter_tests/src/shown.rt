@@ -8,41 +8,44 @@ use std::alloc::Global;
 
 #[test]
 fn walks_print_their_pieces(rt: HostRuntime) {
-    let bits = [0b1_0110u8];
-    let view = BitSlice::<u8, Lsb0>::from_slice(&bits).into_part(0..5);
-    let mut chunks = view.chunks(2);
+    let mut chunks = BitSlice::<u8, Lsb0>::from_slice(&[0x16]).chunks(3);
     let _first = chunks.next();
-    assert!(rt; shows(rt.alloc(), &chunks, "Pieces([[1, 0], [1]])"));
+    assert!(rt; shows(rt.alloc(), &chunks, "Pieces([[0, 1, 0], [0, 0]])"));
 }
 
-/// Whether the chunks of two bits from the end show so, but for `skipped` of them.
-fn chunks_show(alloc: Global, bytes: &mut [u8; 1], skipped: usize, text: &str) -> bool {
-    let mut view = BitSliceMut::<u8, Lsb0>::from_slice_mut(bytes).into_part(0..5);
-    let mut chunks = view.rchunks_mut(2);
-    chunks.pass(skipped);
+/// Whether the chunks of three bits from the end show so behind the first.
+fn chunks_show(alloc: Global, bytes: &mut [u8; 1], text: &str) -> bool {
+    let mut view = BitSliceMut::<u8, Lsb0>::from_slice_mut(bytes);
+    let mut chunks = view.rchunks_mut(3);
+    chunks.pass(1);
     shows(alloc, &chunks, text)
 }
 
-/// Whether the bits show so, but for `skipped` of them.
-fn bits_show(alloc: Global, bytes: &mut [u8; 1], skipped: usize, text: &str) -> bool {
-    let mut view = BitSliceMut::<u8, Lsb0>::from_slice_mut(bytes).into_part(0..5);
+/// Whether the bits show so behind the first three.
+fn bits_show(alloc: Global, bytes: &mut [u8; 1], text: &str) -> bool {
+    let mut view = BitSliceMut::<u8, Lsb0>::from_slice_mut(bytes);
     let mut bits = view.iter_mut();
-    bits.pass(skipped);
+    bits.pass(3);
     shows(alloc, &bits, text)
 }
 
 /// Whether the first two bits and the others show so.
 fn halves_show(alloc: Global, bytes: &mut [u8; 1], text: &str) -> bool {
-    let mut view = BitSliceMut::<u8, Lsb0>::from_slice_mut(bytes).into_part(0..5);
+    let mut view = BitSliceMut::<u8, Lsb0>::from_slice_mut(bytes);
     let halves = view.split_at_mut(2);
     shows(alloc, &halves, text)
 }
 
 #[test]
 fn lenders_print_what_is_left(rt: HostRuntime) {
-    let mut bytes = [0b1_0110u8];
-    assert!(rt; chunks_show(rt.alloc(), &mut bytes, 1, "PiecesMut([[1, 1], [0]])"));
-    assert!(rt; bits_show(rt.alloc(), &mut bytes, 1, "IterMut([1, 1, 0, 1])"));
-    assert!(rt; bits_show(rt.alloc(), &mut bytes, 9, "IterMut([])"));
-    assert!(rt; halves_show(rt.alloc(), &mut bytes, "HalvesMut([0, 1], [1, 0, 1])"));
+    let mut bytes = [0x16];
+    assert!(rt; chunks_show(rt.alloc(), &mut bytes, "PiecesMut([[1, 0, 1], [0, 1]])"));
+    assert!(rt; bits_show(rt.alloc(), &mut bytes, "IterMut([0, 1, 0, 0, 0])"));
+    assert!(rt;
+        halves_show(
+            rt.alloc(),
+            &mut bytes,
+            "HalvesMut([0, 1], [1, 0, 1, 0, 0, 0])"
+        )
+    );
 }

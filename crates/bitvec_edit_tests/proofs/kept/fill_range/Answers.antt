@@ -1,7 +1,14 @@
-use Rattle.std.proofs.Common.{lit<}
-use Rattle.bitvec_edit.specs.lends.RefillLaws.{kept-at}
-use Rattle.bitvec_edit.specs.slice.KeptLaws.{untouched}
+use Rattle.std.proofs.Common.{arith, sym}
+use Rattle.bitvec_edit.specs.store.WidthLaws.{width_some}
+use Rattle.bitvec_edit.specs.slice.KeptLaws.{lent_bits-keep}
 use Rattle.bitvec_edit_tests.proofs.kept.fill_range.Goals as goal
 
 pub returns : goal.returns
-returns c e out = kept-at e 0 c.fill_bits.ensures (untouched 32 c.args.range.start c.args.range.end e (lit< tt) out)
+returns g c =
+    let view = c.from_slice_mut-view.ensures.whole in
+    let start = view.start in
+    let len = view.len in
+    let order = c.requires.range.0 in
+    let bound = c.requires.range.1 in
+    rw (c.into_slice.ensures.elements, sym view.elements) (
+    lent_bits-keep c.from_slice_mut-view.result c.args.range.start c.args.range.end _ _ _ (width_some _ g.met.T.BitStore.width_law) order (omega arith) (omega arith) (omega arith))

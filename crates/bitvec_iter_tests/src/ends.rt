@@ -1,17 +1,9 @@
-//! The greatest width, and walks over bits behind their end.
+//! Walks over bits and pieces behind their end.
 
-use crate::reading::read;
 use bitvec_iter::IterCalls;
 use bitvec_query::base::Msb0;
 use bitvec_query::slice::BitSlice;
 use bitvec_test_support::stays_ended_at_both;
-
-#[test]
-fn the_greatest_width(rt: HostRuntime) {
-    let cells = [0x17u8];
-    let view = BitSlice::<u8, Msb0>::from_slice(&cells);
-    assert!(rt; read(view.chunks(usize::MAX).next_back()) == Some((8, 0x17)));
-}
 
 /// Whether a walk gives nothing behind the greatest number, and it and another nothing at ten calls past their
 /// ends, where the other is called from the back first, and have nothing left.
@@ -28,9 +20,14 @@ where
 }
 
 #[test]
-fn no_bit_comes_behind_the_end(rt: HostRuntime) {
+fn nothing_comes_behind_the_end(rt: HostRuntime) {
     let view = BitSlice::<u8, Msb0>::from_slice(&[0x17, 0x2C, 0x91]).into_part(3..21);
     assert!(rt; stay_ended(view.iter(), view.iter()));
     assert!(rt; stay_ended(view.iter().by_refs(), view.iter().by_refs()));
     assert!(rt; stay_ended(view.iter().by_vals(), view.iter().by_vals()));
+    assert!(rt; stay_ended(view.chunks(3), view.chunks(3)));
+    assert!(rt; stay_ended(view.chunks_exact(3), view.chunks_exact(3)));
+    assert!(rt; stay_ended(view.rchunks(3), view.rchunks(3)));
+    assert!(rt; stay_ended(view.rchunks_exact(3), view.rchunks_exact(3)));
+    assert!(rt; stay_ended(view.windows(3), view.windows(3)));
 }
