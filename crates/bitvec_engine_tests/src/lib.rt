@@ -9,8 +9,6 @@ mod costs;
 #[cfg(test)]
 mod elements;
 #[cfg(test)]
-mod fronts;
-#[cfg(test)]
 mod kept;
 #[cfg(test)]
 mod orders;
@@ -18,8 +16,6 @@ mod orders;
 mod searches;
 #[cfg(test)]
 mod sizes;
-#[cfg(test)]
-mod striding;
 #[cfg(test)]
 mod tallied;
 #[cfg(test)]

@@ -1,31 +1,38 @@
-//! Searches of windows of zeros but for one 1: where it is found, and that no element is loaded twice.
+//! Where the first 1 of a window is, and its first bits as a word: no element is loaded twice.
 use bitvec_engine::SliceOrder;
-use bitvec_engine::base::{HiLo, Lsb0, Msb0, Window};
+use bitvec_engine::base::{HiLo, Msb0, Window};
 use bitvec_engine::cells::{Shared, has_window};
-use bitvec_engine::store::BitStore;
 use bitvec_test_support::Counted;
 
-/// Whether the first 1 of the bits 3 up to 703 is at this index of them, and no element is loaded twice.
-fn finds<T: BitStore, O: SliceOrder>(elements: &[T], index: usize) -> bool {
-    let window = Window { start: 3, len: 700 };
-    let mut cells = Counted::new(Shared::new(elements));
+/// Whether the first 1 of bits 3 to 20 is at this index of them, and each of the three bytes is loaded once at most.
+fn finds<O: SliceOrder>(bytes: &[u8; 3], index: usize) -> bool {
+    let window = Window { start: 3, len: 18 };
+    let mut cells = Counted::new(Shared::new(bytes));
     has_window(&cells, window)
-        && O::search_first::<Counted<Shared<T>>>(&mut cells, window, true) == Some(index)
-        && cells.loads() <= elements.len() as u64
+        && O::search_first(&mut cells, window, true) == Some(index)
+        && cells.loads() <= 3
+}
+
+/// Whether those of the first byte are these first bits of a word, and this number with the first one lowest.
+fn begins<O: SliceOrder>(bytes: &[u8; 3], first: u64, lowest: u64) -> bool {
+    let window = Window { start: 3, len: 18 };
+    let mut cells = Counted::new(Shared::new(bytes));
+    if !has_window(&cells, window) {
+        return false;
+    }
+    let (word, count) = O::load_front(&mut cells, window);
+    (word, count, cells.loads()) == (first, 5, 1) && O::lowest_first(word) == lowest
 }
 
 #[test]
 fn a_search_loads_no_element_twice(rt: HostRuntime) {
-    let mut bytes = [0u8; 88];
-    bytes[70] = 0x10;
-    assert!(rt; finds::<u8, Lsb0>(&bytes, 561));
-    let mut halves = [0u16; 44];
-    halves[20] = 0x0001;
-    assert!(rt; finds::<u16, HiLo>(&halves, 321));
-    let mut words = [0u64; 11];
-    words[10] = 1 << 62;
-    assert!(rt; finds::<u64, Msb0>(&words, 638));
-    let mut wide = [0u128; 6];
-    wide[5] = 1;
-    assert!(rt; finds::<u128, Lsb0>(&wide, 637));
+    let bytes = [0x60, 0, 0x10];
+    assert!(rt; finds::<Msb0>(&bytes, 16) && finds::<HiLo>(&bytes, 13));
+}
+
+#[test]
+fn the_first_bits_are_a_word(rt: HostRuntime) {
+    let bytes = [0x16, 0xFF, 0xFF];
+    assert!(rt; begins::<Msb0>(&bytes, 0xB000_0000_0000_0000, 0x0D));
+    assert!(rt; begins::<HiLo>(&bytes, 0xC0, 0x0C));
 }
