@@ -15,8 +15,6 @@ mod memory;
 #[cfg(test)]
 mod own_element;
 #[cfg(test)]
-mod own_wide_element;
-#[cfg(test)]
 mod records;
 #[cfg(test)]
 mod refusals;
