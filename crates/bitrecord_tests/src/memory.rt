@@ -23,12 +23,3 @@ fn each_growth_refused(rt: HostRuntime) {
     }
     assert!(rt; refused);
 }
-
-#[test]
-fn no_fields_take_no_memory(rt: HostRuntime) {
-    let refusing = Refusing::new(rt.alloc(), 0);
-    match Layout::new(&refusing, 16, &[]) {
-        Ok(layout) => assert!(rt; layout.is_empty()),
-        Err(_) => assert!(rt; false),
-    }
-}
