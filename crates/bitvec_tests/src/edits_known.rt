@@ -1,10 +1,10 @@
 //! What a caller knows of the bits after calls that move and exchange them.
-ghost use Rattle.std.specs.Prelude.{◌≡◌, ◌-◌, ◌*◌, ◌<◌, ◌≤◌, length, map, not, reverse, slice_set};
+ghost use Rattle.std.specs.Prelude.{◌≡◌, ◌-◌, ◌*◌, ◌<◌, ◌≤◌, map, not, reverse, slice_set};
 ghost use Rattle.std.specs.List.{swap};
 ghost use Rattle.bitvec.specs.Lists.{copied_within, rotated_left, shifted_end, shifted_start};
 ghost use Rattle.bitvec.specs.Swaps.{swapped_within};
 ghost use Rattle.bitvec.specs.Views.{seen_mut};
-ghost use Rattle.bitvec.specs.Window.{max_bits};
+ghost use Rattle.bitvec.specs.Writes.{WritesBits};
 
 use bitvec::prelude::*;
 
@@ -42,8 +42,7 @@ pub fn turn_and_flip<T: BitStore, O: SliceOrder>(view: &mut BitSliceMut<'_, T, O
 /// Exchanges the first bit and the last.
 pub fn swap_ends<T: BitStore, O: SliceOrder>(view: &mut BitSliceMut<'_, T, O>)
     requires { 0 < (seen_mut view.old).window.len }
-    ensures bits { (seen_mut view.new).bits ≡ swap (seen_mut view.old).bits 0 ((seen_mut view.old).window.len - 1) }
-    ensures window { (seen_mut view.new).window ≡ (seen_mut view.old).window }
+    ensures { WritesBits view.old view.new (swap (seen_mut view.old).bits 0 ((seen_mut view.old).window.len - 1)) }
 {
     let last = view.len() - 1;
     view.swap(0, last);
@@ -52,8 +51,7 @@ pub fn swap_ends<T: BitStore, O: SliceOrder>(view: &mut BitSliceMut<'_, T, O>)
 /// Writes the first `width` bits once more, behind them.
 pub fn double_front<T: BitStore, O: SliceOrder>(view: &mut BitSliceMut<'_, T, O>, width: usize)
     requires { 2 * width ≤ (seen_mut view.old).window.len }
-    ensures bits { (seen_mut view.new).bits ≡ copied_within 0 width width (seen_mut view.old).bits }
-    ensures window { (seen_mut view.new).window ≡ (seen_mut view.old).window }
+    ensures { WritesBits view.old view.new (copied_within 0 width width (seen_mut view.old).bits) }
 {
     view.copy_within(0..width, width);
 }
@@ -61,9 +59,7 @@ pub fn double_front<T: BitStore, O: SliceOrder>(view: &mut BitSliceMut<'_, T, O>
 /// Exchanges the first `width` bits with the last ones.
 pub fn swap_fields<T: BitStore, O: SliceOrder>(view: &mut BitSliceMut<'_, T, O>, width: usize)
     requires { 2 * width ≤ (seen_mut view.old).window.len }
-    ensures bits { (seen_mut view.new).bits
-        ≡ swapped_within 0 width ((seen_mut view.old).window.len - width) (seen_mut view.old).bits }
-    ensures window { (seen_mut view.new).window ≡ (seen_mut view.old).window }
+    ensures { WritesBits view.old view.new (swapped_within 0 width ((seen_mut view.old).window.len - width) (seen_mut view.old).bits) }
 {
     view.swap_within(0..width, view.len() - width);
 }
@@ -106,32 +102,13 @@ fn bits_are_moved(rt: HostRuntime) {
     assert!(rt; cells == [0b1011_1101]);
 }
 
-/// Exchanges the first four bits of the bytes with those of others.
-fn exchange_four(elements: &mut [u8], others: &mut [u8])
-    requires fits { 8 * length elements.old ≤ max_bits }
-    requires others_fit { 8 * length others.old ≤ max_bits }
-{
-    let mut view = BitSliceMut::<u8, Msb0>::from_slice_mut(elements);
-    let mut other_view = BitSliceMut::<u8, Msb0>::from_slice_mut(others);
-    if let Some(mut part) = view.get_mut(0..4) {
-        if let Some(mut other) = other_view.get_mut(0..4) {
-            exchange(&mut part, &mut other);
-        }
-    }
-}
-
-/// The same with words, which have the other order.
-fn exchange_four_of_words(elements: &mut [u8], others: &mut [u16])
-    requires fits { 8 * length elements.old ≤ max_bits }
-    requires others_fit { 16 * length others.old ≤ max_bits }
-{
-    let mut view = BitSliceMut::<u8, Msb0>::from_slice_mut(elements);
-    let mut other_view = BitSliceMut::<u16, Lsb0>::from_slice_mut(others);
-    if let Some(mut part) = view.get_mut(0..4) {
-        if let Some(mut other) = other_view.get_mut(0..4) {
-            exchange_bits(&mut part, &mut other);
-        }
-    }
+/// Exchanges the first four bits of a byte with those of another, and then with those of a word.
+fn exchange_four(byte: &mut [u8; 1], other: &mut [u8; 1], word: &mut [u16; 1]) {
+    let mut part = BitSliceMut::<u8, Msb0>::from_slice_mut(byte).into_part(0..4);
+    let mut other_part = BitSliceMut::<u8, Msb0>::from_slice_mut(other).into_part(0..4);
+    exchange(&mut part, &mut other_part);
+    let mut word_part = BitSliceMut::<u16, Lsb0>::from_slice_mut(word).into_part(0..4);
+    exchange_bits(&mut part, &mut word_part);
 }
 
 #[test]
@@ -139,9 +116,6 @@ fn bits_are_exchanged(rt: HostRuntime) {
     let mut left = [0x0Fu8];
     let mut right = [0xA0u8];
     let mut word = [0x8001u16];
-    exchange_four(&mut left, &mut right);
-    exchange_four_of_words(&mut left, &mut word);
-    assert!(rt; left == [0x8F]);
-    assert!(rt; right == [0x00]);
-    assert!(rt; word == [0x8005]);
+    exchange_four(&mut left, &mut right, &mut word);
+    assert!(rt; left == [0x8F] && right == [0x00] && word == [0x8005]);
 }
