@@ -5,12 +5,11 @@ ghost use Rattle.bitvec_engine.specs.cells.Access.{CostsAtMost, OnlyReadsAtMost}
 ghost use Rattle.bitvec_engine.specs.walk.Cost.{read_loads, write_loads, write_stores};
 
 use bitvec_engine::ByWords;
-use bitvec_engine::base::{Msb0, Window};
-use bitvec_engine::cells::{Cells, CellsRead, Exclusive, Shared};
-use bitvec_test_support::Counted;
+use bitvec_engine::base::Window;
+use bitvec_engine::cells::{Cells, CellsRead};
 
 /// Copies a window, in steps of 64 bits.
-fn copy_in_steps<O: ByWords, C: Cells, D: CellsRead<Elem = C::Elem>>(
+pub fn copy_in_steps<O: ByWords, C: Cells, D: CellsRead<Elem = C::Elem>>(
     left: &mut C,
     to: Window,
     right: &mut D,
@@ -23,21 +22,4 @@ fn copy_in_steps<O: ByWords, C: Cells, D: CellsRead<Elem = C::Elem>>(
     ensures right { OnlyReadsAtMost D.CellsRead right.old right.new (read_loads C.Elem.BITS true to.len) }
 {
     O::block_copy::<C, D>(left, to, right, from);
-}
-
-/// Whether a copy of 130 bits takes three steps at most, of at most nine bytes each.
-fn takes_three_steps<O: ByWords>() -> bool {
-    let mut zeros = [0u8; 18];
-    let ones = [0xFFu8; 18];
-    let mut left = Counted::new(Exclusive::new(&mut zeros));
-    let mut right = Counted::new(Shared::new(&ones));
-    let to = Window { start: 5, len: 130 };
-    let from = Window { start: 3, len: 130 };
-    copy_in_steps::<O, _, _>(&mut left, to, &mut right, from);
-    left.loads() <= 6 && left.stores() <= 27 && right.loads() <= 27
-}
-
-#[test]
-fn a_copy_goes_in_steps(rt: HostRuntime) {
-    assert!(rt; takes_three_steps::<Msb0>());
 }

@@ -3,8 +3,6 @@
 #![tactic(auto)]
 
 #[cfg(test)]
-mod accessors;
-#[cfg(test)]
 mod costs;
 #[cfg(test)]
 mod elements;

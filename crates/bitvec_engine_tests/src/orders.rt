@@ -23,5 +23,5 @@ fn an_index_is_a_bit_and_a_range_a_mask(rt: HostRuntime) {
         stands::<HiLo, u8>(6, 2, 5, 0xC1),
         stands::<HiLo, u16>(2, 6, 13, 0xF10C),
     ];
-    assert!(rt; stand == [true; 6], "{stand:?}");
+    assert!(rt; stand == [true; 6]);
 }

@@ -82,6 +82,7 @@ fn edits_are_composed(rt: HostRuntime) {
     let mut view = BitSliceMut::<u8, Msb0>::from_slice_mut(&mut cells);
     put_number(&mut view, 5, 12, 0xABC);
     set_and_turn(&mut view, 0);
+    assert!(rt; same_number(view.as_ref(), view.as_ref()));
     fill_between(&mut view, 0, 4);
     assert!(rt; cells == [0xF1, 0xEA, 0x21]);
 }
@@ -92,11 +93,4 @@ fn all_bits_are_set(rt: HostRuntime) {
     let mut view = BitSliceMut::<u8, Msb0>::from_slice_mut(&mut cells);
     set_all(&mut view, true);
     assert!(rt; cells == [0xFF, 0xFF]);
-}
-
-#[test]
-fn numbers_are_compared(rt: HostRuntime) {
-    let cells = [0xF1u8, 0xEA];
-    let view = BitSlice::<u8, Msb0>::from_slice(&cells);
-    assert!(rt; same_number(view, view));
 }

@@ -47,7 +47,6 @@ pub fn clear_last_chunk<T: BitStore, O: SliceOrder>(
     requires { 0 < size }
     ensures left { result ≡ chunk_count size (seen_mut view.old).window.len - 1 }
     ensures window { (seen_mut view.new).window ≡ (seen_mut view.old).window }
-    ensures name { name_of view.new ≡ name_of view.old }
 {
     let mut chunks = view.chunks_mut(size);
     if chunks.is_empty() {
@@ -68,7 +67,6 @@ pub fn clear_remainder<T: BitStore, O: SliceOrder>(
     requires { 0 < size }
     ensures left { result ≡ whole_count size (seen_mut view.old).window.len }
     ensures window { (seen_mut view.new).window ≡ (seen_mut view.old).window }
-    ensures name { name_of view.new ≡ name_of view.old }
 {
     let mut chunks = view.chunks_exact_mut(size);
     {
@@ -113,21 +111,17 @@ pub fn flip_first<T: BitStore, O: SliceOrder>(
 }
 
 #[test]
-fn one_bit_is_set(rt: HostRuntime) {
-    let mut cells = [0u8; 3];
+fn a_bit_and_chunks_are_lent(rt: HostRuntime) {
+    let mut cells = [0xFFu8, 0xF7];
     let mut view = BitSliceMut::<u8, Lsb0>::from_slice_mut(&mut cells);
     set_in_place(&mut view, 11);
-    assert!(rt; cells == [0, 8, 0]);
-}
-
-#[test]
-fn chunks_are_taken(rt: HostRuntime) {
-    let mut cells = [0xFFu8; 2];
-    let mut view = BitSliceMut::<u8, Lsb0>::from_slice_mut(&mut cells);
-    assert!(rt; clear_first(&mut view, 3) == 5);
-    assert!(rt; clear_last_chunk(&mut view, 3) == 5);
-    assert!(rt; clear_remainder(&mut view, 6) == 2);
-    assert!(rt; left_between(&mut view, 3, 2, 1) == 3);
-    assert!(rt; flip_first(&mut view, 5) == 5);
+    let counts = [
+        clear_first(&mut view, 3),
+        clear_last_chunk(&mut view, 3),
+        clear_remainder(&mut view, 6),
+        left_between(&mut view, 3, 2, 1),
+        flip_first(&mut view, 5),
+    ];
+    assert!(rt; counts == [5, 5, 2, 3, 5], "{counts:?}");
     assert!(rt; cells == [0xE7, 0x0F]);
 }
