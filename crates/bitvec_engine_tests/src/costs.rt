@@ -1,4 +1,4 @@
-//! What a caller knows of the cost of a copy under any order that works by words.
+//! What a caller knows of the cost of a copy under any order that works by words, and that costs are counted.
 ghost use Rattle.std.specs.Prelude.{◌≡◌, true};
 ghost use Rattle.bitvec_engine.specs.base.Memory.{HasWindow};
 ghost use Rattle.bitvec_engine.specs.cells.Access.{CostsAtMost, OnlyReadsAtMost};
@@ -6,7 +6,8 @@ ghost use Rattle.bitvec_engine.specs.walk.Cost.{read_loads, write_loads, write_s
 
 use bitvec_engine::ByWords;
 use bitvec_engine::base::Window;
-use bitvec_engine::cells::{Cells, CellsRead};
+use bitvec_engine::cells::{Cells, CellsRead, Exclusive};
+use bitvec_test_support::Counted;
 
 /// Copies a window, in steps of 64 bits.
 pub fn copy_in_steps<O: ByWords, C: Cells, D: CellsRead<Elem = C::Elem>>(
@@ -22,4 +23,13 @@ pub fn copy_in_steps<O: ByWords, C: Cells, D: CellsRead<Elem = C::Elem>>(
     ensures right { OnlyReadsAtMost D.CellsRead right.old right.new (read_loads C.Elem.BITS true to.len) }
 {
     O::block_copy::<C, D>(left, to, right, from);
+}
+
+#[test]
+fn a_counted_accessor_tallies_each_call(rt: HostRuntime) {
+    let mut cells = [1u16, 2];
+    let mut accessor = Counted::new(Exclusive::new(&mut cells));
+    let element = accessor.load(0);
+    accessor.store(1, element);
+    assert!(rt; (accessor.loads(), accessor.stores()) == (1, 1));
 }
