@@ -25,11 +25,15 @@ pub fn copy_in_steps<O: ByWords, C: Cells, D: CellsRead<Elem = C::Elem>>(
     O::block_copy::<C, D>(left, to, right, from);
 }
 
+/// How many loads and stores are counted of one each.
+fn counted(bytes: &mut [u8; 3]) -> (u64, u64) {
+    let mut accessor = Counted::new(Exclusive::new(bytes));
+    let byte = accessor.load(0);
+    accessor.store(1, byte);
+    (accessor.loads(), accessor.stores())
+}
+
 #[test]
 fn a_counted_accessor_tallies_each_call(rt: HostRuntime) {
-    let mut cells = [1u16, 2];
-    let mut accessor = Counted::new(Exclusive::new(&mut cells));
-    let element = accessor.load(0);
-    accessor.store(1, element);
-    assert!(rt; (accessor.loads(), accessor.stores()) == (1, 1));
+    assert!(rt; counted(&mut [1, 2, 3]) == (1, 1));
 }
