@@ -75,22 +75,3 @@ pub fn same_number<T: BitStore, O: FieldOrder>(
     let _other_len = other.len();
     view.load_le::<u128>() == other.load_le::<u128>()
 }
-
-#[test]
-fn edits_are_composed(rt: HostRuntime) {
-    let mut cells = [0u8; 3];
-    let mut view = BitSliceMut::<u8, Msb0>::from_slice_mut(&mut cells);
-    put_number(&mut view, 5, 12, 0xABC);
-    set_and_turn(&mut view, 0);
-    assert!(rt; same_number(view.as_ref(), view.as_ref()));
-    fill_between(&mut view, 0, 4);
-    assert!(rt; cells == [0xF1, 0xEA, 0x21]);
-}
-
-#[test]
-fn all_bits_are_set(rt: HostRuntime) {
-    let mut cells = [0u8; 2];
-    let mut view = BitSliceMut::<u8, Msb0>::from_slice_mut(&mut cells);
-    set_all(&mut view, true);
-    assert!(rt; cells == [0xFF, 0xFF]);
-}

@@ -110,7 +110,7 @@ fn lists(list: Result<Vec<usize>, AllocError>, numbers: &[usize]) -> bool {
 }
 
 /// Whether a sequence was made, and has these bytes.
-pub(crate) fn has_bytes<E: Drop>(bits: Result<BitVec<u8, Lsb0, Global>, E>, bytes: &[u8]) -> bool {
+fn has_bytes(bits: Result<BitVec<u8, Lsb0, Global>, AllocError>, bytes: &[u8]) -> bool {
     match bits {
         Ok(bits) => bits.as_raw_slice() == bytes,
         Err(_) => false,

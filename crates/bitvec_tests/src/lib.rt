@@ -5,6 +5,10 @@
 #[cfg(test)]
 mod answers;
 #[cfg(test)]
+mod checked_operations;
+#[cfg(test)]
+mod checked_runs;
+#[cfg(test)]
 mod device;
 #[cfg(test)]
 mod edits_composed;

@@ -39,12 +39,3 @@ impl<'a, T: BitStore, O: SliceOrder> NumberSet<'a, T, O> {
         self.bits.set(number, true);
     }
 }
-
-#[test]
-fn numbers_are_kept(rt: HostRuntime) {
-    let mut cells = [0u16; 2];
-    let mut set = NumberSet::<u16, Lsb0>::new(&mut cells);
-    set.insert(20);
-    assert!(rt; set.has(20));
-    assert!(rt; !set.has(19));
-}

@@ -39,7 +39,9 @@ fn is_third(index: usize, _bit: &bool) -> bool {
 }
 
 /// Flips a piece.
-fn flip(_number: usize, piece: &mut BitSliceMut<'_, u8, Lsb0>) {
+fn flip(_number: usize, piece: &mut BitSliceMut<'_, u8, Lsb0>)
+    ensures { WritesBits piece.old piece.new (map not (seen_mut piece.old).bits) }
+{
     piece.invert();
 }
 

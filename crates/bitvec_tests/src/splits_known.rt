@@ -44,16 +44,3 @@ pub fn clear_two<T: BitStore, O: SliceOrder>(view: &mut BitSliceMut<'_, T, O>) -
     }
     pieces.is_finished()
 }
-
-#[test]
-fn pieces_are_cleared(rt: HostRuntime) {
-    // 0, 1, 1, 0, 1, 1, 0, 1
-    let mut cells = [0xB6u8];
-    let mut view = BitSliceMut::<u8, Lsb0>::from_slice_mut(&mut cells);
-    assert!(rt; !clear_two(&mut view));
-    {
-        let mut pieces = view.split_mut(|index, _| index == 5);
-        assert!(rt; clear_next(&mut pieces));
-    }
-    assert!(rt; cells == [0xA0]);
-}
