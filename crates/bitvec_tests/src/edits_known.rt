@@ -1,5 +1,5 @@
 //! What a caller knows of the bits after calls that move and exchange them.
-ghost use Rattle.std.specs.Prelude.{◌≡◌, ◌-◌, ◌*◌, ◌<◌, ◌≤◌, map, not, reverse, slice_set};
+ghost use Rattle.std.specs.Prelude.{◌≡◌, ◌-◌, ◌*◌, ◌<◌, ◌≤◌, map, not, reverse};
 ghost use Rattle.std.specs.List.{swap};
 ghost use Rattle.bitvec.specs.Lists.{copied_within, rotated_left, shifted_end, shifted_start};
 ghost use Rattle.bitvec.specs.Swaps.{swapped_within};
@@ -8,23 +8,13 @@ ghost use Rattle.bitvec.specs.Writes.{WritesBits};
 
 use bitvec::prelude::*;
 
-/// Moves each bit one place towards the start, and puts a new one at the end.
-pub fn push_at_end<T: BitStore, O: SliceOrder>(view: &mut BitSliceMut<'_, T, O>, bit: bool)
-    requires { 0 < (seen_mut view.old).window.len }
-    ensures { (seen_mut view.new).bits
-        ≡ slice_set (shifted_start 1 (seen_mut view.old).bits) ((seen_mut view.old).window.len - 1) bit }
+/// Moves each bit towards the start, and then back: the first ones are lost.
+pub fn shift_out<T: BitStore, O: SliceOrder>(view: &mut BitSliceMut<'_, T, O>, by: usize)
+    requires { by ≤ (seen_mut view.old).window.len }
+    ensures { (seen_mut view.new).bits ≡ shifted_end by (shifted_start by (seen_mut view.old).bits) }
 {
-    view.shift_start(1);
-    view.set(view.len() - 1, bit);
-}
-
-/// Moves each bit one place towards the end, and puts a new one at the start.
-pub fn push_at_start<T: BitStore, O: SliceOrder>(view: &mut BitSliceMut<'_, T, O>, bit: bool)
-    requires { 0 < (seen_mut view.old).window.len }
-    ensures { (seen_mut view.new).bits ≡ slice_set (shifted_end 1 (seen_mut view.old).bits) 0 bit }
-{
-    view.shift_end(1);
-    view.set(0, bit);
+    view.shift_start(by);
+    view.shift_end(by);
 }
 
 /// Puts the bits in the opposite order, flips them, and rotates them so that the one at `by` comes first.

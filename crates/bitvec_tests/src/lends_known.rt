@@ -1,9 +1,9 @@
 //! What a caller knows of a view and of a walk once a bit or a piece was lent.
-ghost use Rattle.std.specs.Prelude.{◌≡◌, ◌+◌, ◌-◌, ◌<◌, min};
+ghost use Rattle.std.specs.Prelude.{◌≡◌, ◌+◌, ◌-◌, ◌<◌};
 ghost use Rattle.bitvec.specs.Cutting.{chunk_count, whole_count};
 ghost use Rattle.bitvec.specs.Kept.{KeepsOutside};
 ghost use Rattle.bitvec.specs.Touched.{end_touched, first_touched};
-ghost use Rattle.bitvec.specs.Views.{name_of, seen_mut};
+ghost use Rattle.bitvec.specs.Views.{seen_mut};
 
 use bitvec::prelude::*;
 
@@ -26,7 +26,6 @@ pub fn clear_first<T: BitStore, O: SliceOrder>(
     requires { 0 < size }
     ensures left { result ≡ chunk_count size (seen_mut view.old).window.len - 1 }
     ensures window { (seen_mut view.new).window ≡ (seen_mut view.old).window }
-    ensures name { name_of view.new ≡ name_of view.old }
 {
     let mut chunks = view.chunks_mut(size);
     if chunks.is_empty() {
@@ -45,8 +44,7 @@ pub fn clear_last_chunk<T: BitStore, O: SliceOrder>(
     size: usize,
 ) -> usize
     requires { 0 < size }
-    ensures left { result ≡ chunk_count size (seen_mut view.old).window.len - 1 }
-    ensures window { (seen_mut view.new).window ≡ (seen_mut view.old).window }
+    ensures { result ≡ chunk_count size (seen_mut view.old).window.len - 1 }
 {
     let mut chunks = view.chunks_mut(size);
     if chunks.is_empty() {
@@ -65,8 +63,7 @@ pub fn clear_remainder<T: BitStore, O: SliceOrder>(
     size: usize,
 ) -> usize
     requires { 0 < size }
-    ensures left { result ≡ whole_count size (seen_mut view.old).window.len }
-    ensures window { (seen_mut view.new).window ≡ (seen_mut view.old).window }
+    ensures { result ≡ whole_count size (seen_mut view.old).window.len }
 {
     let mut chunks = view.chunks_exact_mut(size);
     {

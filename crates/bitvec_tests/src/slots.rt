@@ -31,14 +31,3 @@ pub fn release<T: BitStore, O: SliceOrder>(slots: &mut BitSliceMut<'_, T, O>, sl
 {
     slots.set(slot, false);
 }
-
-#[test]
-#[tactic(auto, using(bitvec::specs::Laws::filled))]
-fn slots_are_taken_and_given_back(rt: HostRuntime) {
-    let mut cells = [0b1111_0101u8];
-    let mut slots = BitSliceMut::<u8, Lsb0>::from_slice_mut(&mut cells);
-    assert!(rt; allocate(&mut slots) == Some(1));
-    slots.fill(true);
-    release(&mut slots, 2);
-    assert!(rt; allocate(&mut slots) == Some(2));
-}

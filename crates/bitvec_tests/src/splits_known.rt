@@ -29,18 +29,16 @@ pub fn clear_next<T: BitStore, O: SliceOrder, P: FnMut(usize, &bool) -> bool>(
     found
 }
 
-/// Clears the first two pieces between zeros, and says whether nothing is left then: the view stays
-/// where it is.
-pub fn clear_two<T: BitStore, O: SliceOrder>(view: &mut BitSliceMut<'_, T, O>) -> bool
+/// Clears the first piece between zeros, and says whether nothing is left then: the view stays where
+/// it is.
+pub fn clear_first_piece<T: BitStore, O: SliceOrder>(view: &mut BitSliceMut<'_, T, O>) -> bool
     ensures window { (seen_mut view.new).window ≡ (seen_mut view.old).window }
     ensures name { name_of view.new ≡ name_of view.old }
 {
     let mut pieces = view.split_mut(|_, bit| !*bit);
-    for _ in 0..2 {
-        if pieces.advance() {
-            let mut piece = pieces.piece_mut();
-            piece.fill(false);
-        }
+    if pieces.advance() {
+        let mut piece = pieces.piece_mut();
+        piece.fill(false);
     }
     pieces.is_finished()
 }
