@@ -1,21 +1,19 @@
 //! What a caller knows of the answers that it got, by a set of laws a function.
-ghost use Rattle.std.specs.Prelude.{◌≡◌, ◌≢◌, ℕ, ◌<◌, ◌≤◌, ◌↔◌, IfNone, IfSome, IsTrue, None, false, true, slice_index_or};
+ghost use Rattle.std.specs.Prelude.{◌≡◌, ◌≢◌, ℕ, ◌<◌, ◌≤◌, ◌↔◌, IfSome, IsTrue, None, false, true, slice_index_or};
 ghost use Rattle.bitvec.specs.Counts.{ones_of, zeros_of};
 ghost use Rattle.bitvec.specs.Lists.{last_place};
 ghost use Rattle.bitvec.specs.Views.{seen, seen_mut};
 
 use bitvec::prelude::*;
 
-/// Clears the last bit that is 1, and gives its index: every bit after it is 0.
+/// The index of the last bit that is 1: every bit after it is 0.
 #[tactic(auto, using(bitvec::specs::Laws::found))]
-pub fn clear_last<T: BitStore, O: SliceOrder>(view: &mut BitSliceMut<'_, T, O>) -> Option<usize>
-    ensures last { result ≡ last_place true (seen_mut view.old).bits }
-    ensures after { IfSome result (λ index. (k : ℕ) → index < k → k < (seen_mut view.old).window.len
-        → slice_index_or (seen_mut view.old).bits k false ≢ true) }
+pub fn find_last<T: BitStore, O: SliceOrder>(view: BitSlice<'_, T, O>) -> Option<usize>
+    ensures last { result ≡ last_place true (seen view.entry).bits }
+    ensures after { IfSome result (λ index. (k : ℕ) → index < k → k < (seen view.entry).window.len
+        → slice_index_or (seen view.entry).bits k false ≢ true) }
 {
-    let index = view.last_one()?;
-    view.set(index, false);
-    Some(index)
+    view.last_one()
 }
 
 /// Writes a bit, and reads it and another.
@@ -75,13 +73,12 @@ pub fn count_parts<T: BitStore, O: SliceOrder>(view: BitSlice<'_, T, O>, mid: us
 #[tactic(auto, using(bitvec::specs::Laws::filled))]
 pub fn fill_and_ask<T: BitStore, O: SliceOrder>(
     view: &mut BitSliceMut<'_, T, O>,
-) -> (usize, Option<usize>, bool)
+) -> (usize, Option<usize>)
     ensures count { result.0 ≡ (seen_mut view.old).window.len }
     ensures first { result.1 ≡ None }
-    ensures all { result.2 ≡ true }
 {
     view.fill(true);
-    (view.count_ones(), view.first_zero(), view.all())
+    (view.count_ones(), view.first_zero())
 }
 
 /// Whether two views have the same bits, in any element types and orders.
