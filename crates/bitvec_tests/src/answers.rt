@@ -1,19 +1,19 @@
 //! What a caller knows of the answers that it got, by a set of laws a function.
 ghost use Rattle.std.specs.Prelude.{◌≡◌, ◌≢◌, ℕ, ◌<◌, ◌≤◌, ◌↔◌, IfSome, IsTrue, None, false, true, slice_index_or};
 ghost use Rattle.bitvec.specs.Counts.{ones_of, zeros_of};
-ghost use Rattle.bitvec.specs.Lists.{last_place};
 ghost use Rattle.bitvec.specs.Views.{seen, seen_mut};
 
 use bitvec::prelude::*;
 
-/// The index of the last bit that is 1: every bit after it is 0.
+/// Clears the last bit that is 1, and gives its index: every bit after it is 0.
 #[tactic(auto, using(bitvec::specs::Laws::found))]
-pub fn find_last<T: BitStore, O: SliceOrder>(view: BitSlice<'_, T, O>) -> Option<usize>
-    ensures last { result ≡ last_place true (seen view.entry).bits }
-    ensures after { IfSome result (λ index. (k : ℕ) → index < k → k < (seen view.entry).window.len
-        → slice_index_or (seen view.entry).bits k false ≢ true) }
+pub fn clear_last<T: BitStore, O: SliceOrder>(view: &mut BitSliceMut<'_, T, O>) -> Option<usize>
+    ensures { IfSome result (λ index. (k : ℕ) → index < k → k < (seen_mut view.old).window.len
+        → slice_index_or (seen_mut view.old).bits k false ≢ true) }
 {
-    view.last_one()
+    let index = view.last_one()?;
+    view.set(index, false);
+    Some(index)
 }
 
 /// Writes a bit, and reads it and another.
@@ -104,4 +104,13 @@ pub fn there_and_back<T: BitStore, O: SliceOrder>(view: &mut BitSliceMut<'_, T, 
     view.rotate_right(by);
     view.invert();
     view.invert();
+}
+
+#[test]
+fn views_of_two_types_are_compared(rt: HostRuntime) {
+    let mut cells = [0xFFu8, 0xFF];
+    let view = BitSliceMut::<u8, Lsb0>::from_slice_mut(&mut cells);
+    let words = [0xFFFFu16];
+    let other = BitSlice::<u16, Msb0>::from_slice(&words);
+    assert!(rt; same(view.as_ref(), other));
 }

@@ -17,16 +17,6 @@ pub fn set_all<T: BitStore, O: SliceOrder>(view: &mut BitSliceMut<'_, T, O>, bit
     }
 }
 
-/// Makes a bit 1, then reverses all: both as one edit.
-#[tactic(auto, using(bitvec::specs::Laws::composed))]
-pub fn set_and_turn<T: BitStore, O: SliceOrder>(view: &mut BitSliceMut<'_, T, O>, index: usize)
-    requires { index < (seen_mut view.old).window.len }
-    ensures { WritesBits view.old view.new (seen_mut view.new).bits }
-{
-    view.set(index, true);
-    view.reverse();
-}
-
 /// Makes the bits from `from` up to `to` ones: each bit outside the range is as before.
 #[tactic(auto, using(bitvec::specs::Laws::edited))]
 pub fn fill_between<T: BitStore, O: SliceOrder>(

@@ -1,5 +1,5 @@
 //! What a caller knows of the bits after calls that move and exchange them.
-ghost use Rattle.std.specs.Prelude.{◌≡◌, ◌-◌, ◌*◌, ◌<◌, ◌≤◌, map, not, reverse};
+ghost use Rattle.std.specs.Prelude.{◌≡◌, ◌-◌, ◌*◌, ◌<◌, ◌≤◌, map, not, reverse, slice_set};
 ghost use Rattle.std.specs.List.{swap};
 ghost use Rattle.bitvec.specs.Lists.{copied_within, rotated_left, shifted_end, shifted_start};
 ghost use Rattle.bitvec.specs.Swaps.{swapped_within};
@@ -8,13 +8,23 @@ ghost use Rattle.bitvec.specs.Writes.{WritesBits};
 
 use bitvec::prelude::*;
 
-/// Moves each bit towards the start, and then back: the first ones are lost.
-pub fn shift_out<T: BitStore, O: SliceOrder>(view: &mut BitSliceMut<'_, T, O>, by: usize)
-    requires { by ≤ (seen_mut view.old).window.len }
-    ensures { (seen_mut view.new).bits ≡ shifted_end by (shifted_start by (seen_mut view.old).bits) }
+/// Moves each bit one place towards the start, and puts a new one at the end.
+pub fn push_at_end<T: BitStore, O: SliceOrder>(view: &mut BitSliceMut<'_, T, O>, bit: bool)
+    requires { 0 < (seen_mut view.old).window.len }
+    ensures { (seen_mut view.new).bits
+        ≡ slice_set (shifted_start 1 (seen_mut view.old).bits) ((seen_mut view.old).window.len - 1) bit }
 {
-    view.shift_start(by);
-    view.shift_end(by);
+    view.shift_start(1);
+    view.set(view.len() - 1, bit);
+}
+
+/// Moves each bit one place towards the end, and puts a new one at the start.
+pub fn push_at_start<T: BitStore, O: SliceOrder>(view: &mut BitSliceMut<'_, T, O>, bit: bool)
+    requires { 0 < (seen_mut view.old).window.len }
+    ensures { (seen_mut view.new).bits ≡ slice_set (shifted_end 1 (seen_mut view.old).bits) 0 bit }
+{
+    view.shift_end(1);
+    view.set(0, bit);
 }
 
 /// Puts the bits in the opposite order, flips them, and rotates them so that the one at `by` comes first.
@@ -27,51 +37,32 @@ pub fn turn_and_flip<T: BitStore, O: SliceOrder>(view: &mut BitSliceMut<'_, T, O
     view.rotate_left(by);
 }
 
-/// Exchanges the first bit and the last.
-pub fn swap_ends<T: BitStore, O: SliceOrder>(view: &mut BitSliceMut<'_, T, O>)
-    requires { 0 < (seen_mut view.old).window.len }
-    ensures { WritesBits view.old view.new (swap (seen_mut view.old).bits 0 ((seen_mut view.old).window.len - 1)) }
+/// Exchanges the first bit and the last, writes the first `width` bits once more behind them, and exchanges the
+/// first `width` bits with the last ones.
+pub fn rearrange<T: BitStore, O: SliceOrder>(view: &mut BitSliceMut<'_, T, O>, width: usize)
+    requires some { 0 < (seen_mut view.old).window.len }
+    requires bound { 2 * width ≤ (seen_mut view.old).window.len }
+    ensures { let len = (seen_mut view.old).window.len in
+        WritesBits view.old view.new (swapped_within 0 width (len - width) (copied_within 0 width width (swap (seen_mut view.old).bits 0 (len - 1)))) }
 {
     let last = view.len() - 1;
     view.swap(0, last);
-}
-
-/// Writes the first `width` bits once more, behind them.
-pub fn double_front<T: BitStore, O: SliceOrder>(view: &mut BitSliceMut<'_, T, O>, width: usize)
-    requires { 2 * width ≤ (seen_mut view.old).window.len }
-    ensures { WritesBits view.old view.new (copied_within 0 width width (seen_mut view.old).bits) }
-{
     view.copy_within(0..width, width);
-}
-
-/// Exchanges the first `width` bits with the last ones.
-pub fn swap_fields<T: BitStore, O: SliceOrder>(view: &mut BitSliceMut<'_, T, O>, width: usize)
-    requires { 2 * width ≤ (seen_mut view.old).window.len }
-    ensures { WritesBits view.old view.new (swapped_within 0 width ((seen_mut view.old).window.len - width) (seen_mut view.old).bits) }
-{
     view.swap_within(0..width, view.len() - width);
 }
 
-/// Exchanges the bits of two views of one type.
-pub fn exchange<T: BitStore, O: SliceOrder>(
+/// Exchanges the bits of two views of one type, and then those of the first with a third one's, of any type.
+pub fn exchange<T: BitStore, O: SliceOrder, U: BitStore, P: BitOrder>(
     view: &mut BitSliceMut<'_, T, O>,
     other: &mut BitSliceMut<'_, T, O>,
+    third: &mut BitSliceMut<'_, U, P>,
 )
-    requires { (seen_mut view.old).window.len ≡ (seen_mut other.old).window.len }
-    ensures bits { (seen_mut view.new).bits ≡ (seen_mut other.old).bits }
+    requires lengths { (seen_mut view.old).window.len ≡ (seen_mut other.old).window.len }
+    requires third { (seen_mut view.old).window.len ≡ (seen_mut third.old).window.len }
+    ensures bits { (seen_mut view.new).bits ≡ (seen_mut third.old).bits }
     ensures other_bits { (seen_mut other.new).bits ≡ (seen_mut view.old).bits }
+    ensures third_bits { (seen_mut third.new).bits ≡ (seen_mut other.old).bits }
 {
     view.swap_with_bitslice(other);
-}
-
-/// Exchanges the bits of two views of any types.
-pub fn exchange_bits<T: BitStore, O: SliceOrder, U: BitStore, P: BitOrder>(
-    view: &mut BitSliceMut<'_, T, O>,
-    other: &mut BitSliceMut<'_, U, P>,
-)
-    requires { (seen_mut view.old).window.len ≡ (seen_mut other.old).window.len }
-    ensures bits { (seen_mut view.new).bits ≡ (seen_mut other.old).bits }
-    ensures other_bits { (seen_mut other.new).bits ≡ (seen_mut view.old).bits }
-{
-    view.swap_with_bits(other);
+    view.swap_with_bits(third);
 }

@@ -100,3 +100,9 @@ fn seats_are_taken(rt: HostRuntime) {
     }
     assert!(rt; bytes == [0b0000_0111, 0b0000_1111]);
 }
+
+#[test]
+fn a_number_is_read(rt: HostRuntime) {
+    let header = [0x1Au8, 0xBC];
+    assert!(rt; train_number(BitSlice::from_slice(&header)) == 0xABC);
+}

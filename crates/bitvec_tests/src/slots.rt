@@ -31,3 +31,11 @@ pub fn release<T: BitStore, O: SliceOrder>(slots: &mut BitSliceMut<'_, T, O>, sl
 {
     slots.set(slot, false);
 }
+
+#[test]
+fn all_slots_are_taken(rt: HostRuntime) {
+    let mut cells = [0u8];
+    let mut slots = BitSliceMut::<u8, Lsb0>::from_slice_mut(&mut cells);
+    slots.fill(true);
+    assert!(rt; allocate(&mut slots) == None);
+}
