@@ -51,18 +51,26 @@ pub fn rearrange<T: BitStore, O: SliceOrder>(view: &mut BitSliceMut<'_, T, O>, w
     view.swap_within(0..width, view.len() - width);
 }
 
-/// Exchanges the bits of two views of one type, and then those of the first with another one's, of any type.
-pub fn exchange<T: BitStore, O: SliceOrder, U: BitStore, P: BitOrder>(
+/// Exchanges the bits of two views of one type.
+pub fn exchange<T: BitStore, O: SliceOrder>(
     view: &mut BitSliceMut<'_, T, O>,
-    twin: &mut BitSliceMut<'_, T, O>,
+    other: &mut BitSliceMut<'_, T, O>,
+)
+    requires { (seen_mut view.old).window.len ≡ (seen_mut other.old).window.len }
+    ensures bits { (seen_mut view.new).bits ≡ (seen_mut other.old).bits }
+    ensures other_bits { (seen_mut other.new).bits ≡ (seen_mut view.old).bits }
+{
+    view.swap_with_bitslice(other);
+}
+
+/// Exchanges the bits of two views of any types.
+pub fn exchange_bits<T: BitStore, O: SliceOrder, U: BitStore, P: BitOrder>(
+    view: &mut BitSliceMut<'_, T, O>,
     other: &mut BitSliceMut<'_, U, P>,
 )
-    requires lengths { (seen_mut view.old).window.len ≡ (seen_mut twin.old).window.len }
-    requires other { (seen_mut view.old).window.len ≡ (seen_mut other.old).window.len }
+    requires { (seen_mut view.old).window.len ≡ (seen_mut other.old).window.len }
     ensures bits { (seen_mut view.new).bits ≡ (seen_mut other.old).bits }
-    ensures twin_bits { (seen_mut twin.new).bits ≡ (seen_mut view.old).bits }
-    ensures other_bits { (seen_mut other.new).bits ≡ (seen_mut twin.old).bits }
+    ensures other_bits { (seen_mut other.new).bits ≡ (seen_mut view.old).bits }
 {
-    view.swap_with_bitslice(twin);
     view.swap_with_bits(other);
 }
