@@ -78,28 +78,15 @@ fn copies_and_repeats_ask_once(rt: HostRuntime) {
     }
 }
 
-/// Whether a clone was the second request: granted where two are, or refused.
-fn is_second(
-    copy: Result<Refused<'_>, AllocError>,
-    refusing: &Refusing<Global>,
-    granted: u64,
-) -> bool {
-    match copy {
-        Ok(copy) => {
-            granted > 1
-                && copy.as_raw_slice() == COPY.as_slice()
-                && (refusing.granted(), refusing.bytes()) == (2, 2 * 16)
-        }
-        Err(AllocError) => granted == 1 && refusing.refused() == 1,
-    }
-}
-
 /// Whether a copy and its clone ask for memory once each, the first so many requests being granted.
 fn clone_asks_once(refusing: &Refusing<Global>, granted: u64) -> bool {
     let view = BitSlice::<u8, Lsb0>::from_slice(&BYTES).into_part(4..124);
-    let bits: Result<Refused<'_>, AllocError> = view.to_bitvec(refusing);
-    match bits {
-        Ok(bits) => is_second(bits.clone(), refusing, granted),
+    match view.to_bitvec(refusing) {
+        Ok(bits) => {
+            let is_cloned = bits.clone().is_ok();
+            is_cloned == (granted > 1)
+                && (refusing.granted(), refusing.bytes()) == (granted, 16 * granted)
+        }
         Err(AllocError) => granted == 0,
     }
 }
