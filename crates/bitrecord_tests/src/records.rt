@@ -1,8 +1,8 @@
 //! Small records, each refusal, and single fields.
 
-use crate::coded::{decodes, encodes};
+use crate::coded::encodes;
 use bitrecord::bits::{BitSlice, BitSliceMut, Msb0, Window};
-use bitrecord::{EncodeError, Endian, Layout, LayoutError, decode_one, encode, encode_one};
+use bitrecord::{EncodeError, Endian, Layout, LayoutError, decode, decode_one, encode, encode_one};
 use bitvec_test_support::prints;
 use std::alloc::Global;
 
@@ -13,6 +13,27 @@ const THREE: [Window; 3] = [
     Window { start: 10, len: 6 },
 ];
 
+/// Whether three fields with these values are these bytes, and are read again.
+fn codes(
+    alloc: Global,
+    endian: Endian,
+    fields: &[Window; 3],
+    values: [u128; 3],
+    bytes: [u8; 2],
+) -> bool {
+    let mut cells = [0u8; 2];
+    let mut numbers = [0u128; 3];
+    match Layout::new(alloc, 16, fields) {
+        Ok(layout) => {
+            let mut view = BitSliceMut::<u8, Msb0>::from_slice_mut(&mut cells);
+            let is_encoded = encode(&layout, endian, &values, &mut view).is_ok();
+            decode(&layout, endian, view.as_ref(), &mut numbers);
+            is_encoded && cells == bytes && numbers == values
+        }
+        Err(_) => false,
+    }
+}
+
 #[test]
 fn three_fields_from_both_ends(rt: HostRuntime) {
     let [first, second, third] = THREE;
@@ -22,29 +43,8 @@ fn three_fields_from_both_ends(rt: HostRuntime) {
         (Endian::Little, THREE, [5, 85, 33], [0xB5, 0xA1]),
         (Endian::Big, turned, [33, 5, 85], [0xB5, 0x61]),
     ] {
-        let mut numbers = [0u128; 3];
-        let mut cells = [0u8; 2];
-        let mut view = BitSliceMut::<u8, Msb0>::from_slice_mut(&mut cells);
-        assert!(rt; encodes(rt.alloc(), endian, &fields, &values, &mut view));
-        assert!(rt; decodes(rt.alloc(), endian, &fields, view.as_ref(), &mut numbers));
-        assert!(rt; cells == bytes);
-        assert!(rt; numbers == values);
+        assert!(rt; codes(rt.alloc(), endian, &fields, values, bytes));
     }
-}
-
-/// Fourteen bits behind the first, in three fields, of which the last stands first.
-const TURNED: [Window; 3] = [
-    Window { start: 13, len: 1 },
-    Window { start: 1, len: 3 },
-    Window { start: 4, len: 9 },
-];
-
-#[test]
-fn bits_around_a_record_stay(rt: HostRuntime) {
-    let mut bytes = [0xFFu8; 3];
-    let mut view = BitSliceMut::<u8, Msb0>::from_slice_mut(&mut bytes).into_part(5..20);
-    assert!(rt; encodes(rt.alloc(), Endian::Big, &TURNED, &[1, 2, 0], &mut view));
-    assert!(rt; bytes == [0xFD, 0x00, 0x3F]);
 }
 
 #[test]
@@ -97,18 +97,20 @@ fn fields_are_refused_in_order(rt: HostRuntime) {
 
 #[test]
 fn refusals_have_texts(rt: HostRuntime) {
-    let width = LayoutError::Width(1);
-    let outside = LayoutError::Outside(0);
-    let overlap = LayoutError::Overlap(0, 2);
-    let memory = LayoutError::Memory;
-    assert!(rt; prints(rt.alloc(), &width, "field 1 isn't 1 to 128 bits wide"));
-    assert!(rt; prints(rt.alloc(), &outside, "field 0 lies outside the record"));
-    assert!(rt; prints(rt.alloc(), &overlap, "fields 0 and 2 overlap"));
-    assert!(rt; prints(rt.alloc(), &memory, "out of memory"));
-    let count = EncodeError::Count;
-    let range = EncodeError::Range(3);
-    assert!(rt; prints(rt.alloc(), &count, "there isn't one value a field"));
-    assert!(rt; prints(rt.alloc(), &range, "value 3 doesn't fit its field"));
+    for (why, text) in [
+        (LayoutError::Width(1), "field 1 isn't 1 to 128 bits wide"),
+        (LayoutError::Outside(0), "field 0 lies outside the record"),
+        (LayoutError::Overlap(0, 2), "fields 0 and 2 overlap"),
+        (LayoutError::Memory, "out of memory"),
+    ] {
+        assert!(rt; prints(rt.alloc(), &why, text));
+    }
+    for (why, text) in [
+        (EncodeError::Count, "there isn't one value a field"),
+        (EncodeError::Range(3), "value 3 doesn't fit its field"),
+    ] {
+        assert!(rt; prints(rt.alloc(), &why, text));
+    }
 }
 
 /// Reads the second of three fields and writes the third, if the calls on the layout answer as they should.

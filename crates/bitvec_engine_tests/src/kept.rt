@@ -1,12 +1,21 @@
-//! What a caller knows of the elements that a write of bits left out.
-ghost use Rattle.std.specs.Prelude.{◌≡◌, ℕ, ◌<◌, length, map, slice_index};
+//! What a caller knows of its slice after a store through an accessor, and of the elements that a write of bits left out.
+ghost use Rattle.std.specs.Prelude.{◌≡◌, ℕ, ◌<◌, length, map, slice_index, slice_set};
 ghost use Rattle.bitvec_test_support.specs.base.Memory.{memory_bits, element_bits};
 ghost use Rattle.bitvec_test_support.specs.store.Width.{FitWidth};
 ghost use Rattle.bitvec_test_support.specs.base.Window.{write_at};
 
-use crate::accessors::set_first_to;
 use bitvec_test_support::base::{BitOrder, HiLo};
+use bitvec_test_support::cells::{Cells, Exclusive};
 use bitvec_test_support::store::BitStore;
+
+/// Stores an element through an accessor.
+fn set_first_to<T: BitStore>(cells: &mut [T], element: T)
+    requires { 0 < length cells.old }
+    ensures { map T.value cells.new ≡ slice_set (map T.value cells.old) 0 (T.value element) }
+{
+    let mut accessor = Exclusive::new(cells);
+    accessor.store(0, element);
+}
 
 /// Stores an element, and says so by bits alone.
 fn store_first<T: BitStore, O: BitOrder>(cells: &mut [T], element: T)

@@ -3,13 +3,9 @@
 #![tactic(auto)]
 
 #[cfg(test)]
-mod accessors;
-#[cfg(test)]
 mod costs;
 #[cfg(test)]
 mod elements;
-#[cfg(test)]
-mod fronts;
 #[cfg(test)]
 mod kept;
 #[cfg(test)]
@@ -18,8 +14,6 @@ mod orders;
 mod searches;
 #[cfg(test)]
 mod sizes;
-#[cfg(test)]
-mod striding;
 #[cfg(test)]
 mod tallied;
 #[cfg(test)]

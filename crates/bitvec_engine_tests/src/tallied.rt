@@ -81,8 +81,8 @@ fn carry_out<O: SliceOrder, C: Cells, D: Cells + CellsRead<Elem = C::Elem>>(
     true
 }
 
-/// How many operations the stored elements are of, on each side, where a command goes over zeros and ones.
-fn operations_of<O: SliceOrder>(command: Command) -> Option<(u64, u64)> {
+/// Whether a command goes over zeros and ones, and how many operations the elements are of that it stores, on each side.
+fn operations_of<O: SliceOrder>(command: Command) -> (bool, u64, u64) {
     let mut zeros = [Tally::ZERO; 65];
     let mut ones = [Tally::ALL; 65];
     let mut left = Tallied {
@@ -93,22 +93,18 @@ fn operations_of<O: SliceOrder>(command: Command) -> Option<(u64, u64)> {
         inner: Exclusive::new(&mut ones),
         operations: 0,
     };
-    if carry_out::<O, _, _>(command, &mut left, &mut right) {
-        Some((left.operations, right.operations))
-    } else {
-        None
-    }
+    let is_done = carry_out::<O, _, _>(command, &mut left, &mut right);
+    (is_done, left.operations, right.operations)
 }
 
 /// Whether the elements that each command stores are of the operations of words, or of more.
 fn takes_words<O: SliceOrder>(is_by_words: bool) -> bool {
+    let mut agree = true;
     for command in [Command::Copy, Command::Or, Command::Swap] {
-        match operations_of::<O>(command) {
-            Some((left, right)) if (left <= 8000 && right <= 8000) == is_by_words => {}
-            _ => return false,
-        }
+        let (is_done, left, right) = operations_of::<O>(command);
+        agree &= is_done && (left <= 8000 && right <= 8000) == is_by_words;
     }
-    true
+    agree
 }
 
 // Under an order that has no words, bits at different places of elements go one by one.

@@ -1,19 +1,18 @@
 //! What a caller knows of the bits after calls that move and exchange them.
-ghost use Rattle.std.specs.Prelude.{◌≡◌, ◌-◌, ◌*◌, ◌<◌, ◌≤◌, length, map, not, reverse, slice_set};
+ghost use Rattle.std.specs.Prelude.{◌≡◌, ◌-◌, ◌*◌, ◌<◌, ◌≤◌, map, not, reverse, slice_set};
 ghost use Rattle.std.specs.List.{swap};
 ghost use Rattle.bitvec.specs.Lists.{copied_within, rotated_left, shifted_end, shifted_start};
 ghost use Rattle.bitvec.specs.Swaps.{swapped_within};
 ghost use Rattle.bitvec.specs.Views.{seen_mut};
-ghost use Rattle.bitvec.specs.Window.{max_bits};
+ghost use Rattle.bitvec.specs.Writes.{WritesBits};
 
 use bitvec::prelude::*;
 
 /// Moves each bit one place towards the start, and puts a new one at the end.
 pub fn push_at_end<T: BitStore, O: SliceOrder>(view: &mut BitSliceMut<'_, T, O>, bit: bool)
     requires { 0 < (seen_mut view.old).window.len }
-    ensures bits { (seen_mut view.new).bits
+    ensures { (seen_mut view.new).bits
         ≡ slice_set (shifted_start 1 (seen_mut view.old).bits) ((seen_mut view.old).window.len - 1) bit }
-    ensures window { (seen_mut view.new).window ≡ (seen_mut view.old).window }
 {
     view.shift_start(1);
     view.set(view.len() - 1, bit);
@@ -22,8 +21,7 @@ pub fn push_at_end<T: BitStore, O: SliceOrder>(view: &mut BitSliceMut<'_, T, O>,
 /// Moves each bit one place towards the end, and puts a new one at the start.
 pub fn push_at_start<T: BitStore, O: SliceOrder>(view: &mut BitSliceMut<'_, T, O>, bit: bool)
     requires { 0 < (seen_mut view.old).window.len }
-    ensures bits { (seen_mut view.new).bits ≡ slice_set (shifted_end 1 (seen_mut view.old).bits) 0 bit }
-    ensures window { (seen_mut view.new).window ≡ (seen_mut view.old).window }
+    ensures { (seen_mut view.new).bits ≡ slice_set (shifted_end 1 (seen_mut view.old).bits) 0 bit }
 {
     view.shift_end(1);
     view.set(0, bit);
@@ -39,32 +37,17 @@ pub fn turn_and_flip<T: BitStore, O: SliceOrder>(view: &mut BitSliceMut<'_, T, O
     view.rotate_left(by);
 }
 
-/// Exchanges the first bit and the last.
-pub fn swap_ends<T: BitStore, O: SliceOrder>(view: &mut BitSliceMut<'_, T, O>)
-    requires { 0 < (seen_mut view.old).window.len }
-    ensures bits { (seen_mut view.new).bits ≡ swap (seen_mut view.old).bits 0 ((seen_mut view.old).window.len - 1) }
-    ensures window { (seen_mut view.new).window ≡ (seen_mut view.old).window }
+/// Exchanges the first bit and the last, writes the first `width` bits once more behind them, and exchanges the
+/// first `width` bits with the last ones.
+pub fn rearrange<T: BitStore, O: SliceOrder>(view: &mut BitSliceMut<'_, T, O>, width: usize)
+    requires some { 0 < (seen_mut view.old).window.len }
+    requires bound { 2 * width ≤ (seen_mut view.old).window.len }
+    ensures { let len = (seen_mut view.old).window.len in
+        WritesBits view.old view.new (swapped_within 0 width (len - width) (copied_within 0 width width (swap (seen_mut view.old).bits 0 (len - 1)))) }
 {
     let last = view.len() - 1;
     view.swap(0, last);
-}
-
-/// Writes the first `width` bits once more, behind them.
-pub fn double_front<T: BitStore, O: SliceOrder>(view: &mut BitSliceMut<'_, T, O>, width: usize)
-    requires { 2 * width ≤ (seen_mut view.old).window.len }
-    ensures bits { (seen_mut view.new).bits ≡ copied_within 0 width width (seen_mut view.old).bits }
-    ensures window { (seen_mut view.new).window ≡ (seen_mut view.old).window }
-{
     view.copy_within(0..width, width);
-}
-
-/// Exchanges the first `width` bits with the last ones.
-pub fn swap_fields<T: BitStore, O: SliceOrder>(view: &mut BitSliceMut<'_, T, O>, width: usize)
-    requires { 2 * width ≤ (seen_mut view.old).window.len }
-    ensures bits { (seen_mut view.new).bits
-        ≡ swapped_within 0 width ((seen_mut view.old).window.len - width) (seen_mut view.old).bits }
-    ensures window { (seen_mut view.new).window ≡ (seen_mut view.old).window }
-{
     view.swap_within(0..width, view.len() - width);
 }
 
@@ -76,7 +59,6 @@ pub fn exchange<T: BitStore, O: SliceOrder>(
     requires { (seen_mut view.old).window.len ≡ (seen_mut other.old).window.len }
     ensures bits { (seen_mut view.new).bits ≡ (seen_mut other.old).bits }
     ensures other_bits { (seen_mut other.new).bits ≡ (seen_mut view.old).bits }
-    ensures window { (seen_mut view.new).window ≡ (seen_mut view.old).window }
 {
     view.swap_with_bitslice(other);
 }
@@ -91,57 +73,4 @@ pub fn exchange_bits<T: BitStore, O: SliceOrder, U: BitStore, P: BitOrder>(
     ensures other_bits { (seen_mut other.new).bits ≡ (seen_mut view.old).bits }
 {
     view.swap_with_bits(other);
-}
-
-#[test]
-fn bits_are_moved(rt: HostRuntime) {
-    let mut cells = [0b1000_0001u8];
-    let mut view = BitSliceMut::<u8, Lsb0>::from_slice_mut(&mut cells);
-    push_at_end(&mut view, true);
-    push_at_start(&mut view, false);
-    swap_ends(&mut view);
-    double_front(&mut view, 3);
-    swap_fields(&mut view, 4);
-    turn_and_flip(&mut view, 2);
-    assert!(rt; cells == [0b1011_1101]);
-}
-
-/// Exchanges the first four bits of the bytes with those of others.
-fn exchange_four(elements: &mut [u8], others: &mut [u8])
-    requires fits { 8 * length elements.old ≤ max_bits }
-    requires others_fit { 8 * length others.old ≤ max_bits }
-{
-    let mut view = BitSliceMut::<u8, Msb0>::from_slice_mut(elements);
-    let mut other_view = BitSliceMut::<u8, Msb0>::from_slice_mut(others);
-    if let Some(mut part) = view.get_mut(0..4) {
-        if let Some(mut other) = other_view.get_mut(0..4) {
-            exchange(&mut part, &mut other);
-        }
-    }
-}
-
-/// The same with words, which have the other order.
-fn exchange_four_of_words(elements: &mut [u8], others: &mut [u16])
-    requires fits { 8 * length elements.old ≤ max_bits }
-    requires others_fit { 16 * length others.old ≤ max_bits }
-{
-    let mut view = BitSliceMut::<u8, Msb0>::from_slice_mut(elements);
-    let mut other_view = BitSliceMut::<u16, Lsb0>::from_slice_mut(others);
-    if let Some(mut part) = view.get_mut(0..4) {
-        if let Some(mut other) = other_view.get_mut(0..4) {
-            exchange_bits(&mut part, &mut other);
-        }
-    }
-}
-
-#[test]
-fn bits_are_exchanged(rt: HostRuntime) {
-    let mut left = [0x0Fu8];
-    let mut right = [0xA0u8];
-    let mut word = [0x8001u16];
-    exchange_four(&mut left, &mut right);
-    exchange_four_of_words(&mut left, &mut word);
-    assert!(rt; left == [0x8F]);
-    assert!(rt; right == [0x00]);
-    assert!(rt; word == [0x8005]);
 }

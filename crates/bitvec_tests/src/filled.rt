@@ -23,10 +23,3 @@ pub fn fill_all<T: BitStore, O: SliceOrder>(elements: &mut [T], bit: bool)
 {
     let _elements = filled::<T, O>(elements, bit);
 }
-
-#[test]
-fn elements_are_filled(rt: HostRuntime) {
-    let mut cells = [0u16, 7];
-    fill_all::<u16, HiLo>(&mut cells, true);
-    assert!(rt; cells == [0xFFFF, 0xFFFF]);
-}

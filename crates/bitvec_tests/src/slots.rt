@@ -33,19 +33,9 @@ pub fn release<T: BitStore, O: SliceOrder>(slots: &mut BitSliceMut<'_, T, O>, sl
 }
 
 #[test]
-fn slots_are_taken_in_order(rt: HostRuntime) {
-    let mut cells = [0b1111_0101u8];
-    let mut slots = BitSliceMut::<u8, Lsb0>::from_slice_mut(&mut cells);
-    assert!(rt; allocate(&mut slots) == Some(1));
-    assert!(rt; slots.count_ones() == 7);
-}
-
-#[test]
-#[tactic(auto, using(bitvec::specs::Laws::filled))]
-fn a_slot_is_given_back(rt: HostRuntime) {
+fn all_slots_are_taken(rt: HostRuntime) {
     let mut cells = [0u8];
     let mut slots = BitSliceMut::<u8, Lsb0>::from_slice_mut(&mut cells);
     slots.fill(true);
-    release(&mut slots, 2);
-    assert!(rt; allocate(&mut slots) == Some(2));
+    assert!(rt; allocate(&mut slots) == None);
 }

@@ -29,40 +29,16 @@ pub fn clear_next<T: BitStore, O: SliceOrder, P: FnMut(usize, &bool) -> bool>(
     found
 }
 
-/// Clears the first two pieces between zeros, and says whether nothing is left then: the view stays
-/// where it is.
-pub fn clear_two<T: BitStore, O: SliceOrder>(view: &mut BitSliceMut<'_, T, O>) -> bool
+/// Clears the first piece between zeros, and says whether nothing is left then: the view stays where
+/// it is.
+pub fn clear_first_piece<T: BitStore, O: SliceOrder>(view: &mut BitSliceMut<'_, T, O>) -> bool
     ensures window { (seen_mut view.new).window ≡ (seen_mut view.old).window }
     ensures name { name_of view.new ≡ name_of view.old }
 {
     let mut pieces = view.split_mut(|_, bit| !*bit);
-    for _ in 0..2 {
-        if pieces.advance() {
-            let mut piece = pieces.piece_mut();
-            piece.fill(false);
-        }
+    if pieces.advance() {
+        let mut piece = pieces.piece_mut();
+        piece.fill(false);
     }
     pieces.is_finished()
-}
-
-#[test]
-fn the_next_piece_is_cleared(rt: HostRuntime) {
-    // 0, 1, 1, 0, 1, 1, 0, 1
-    let mut cells = [0xB6u8];
-    let mut view = BitSliceMut::<u8, Lsb0>::from_slice_mut(&mut cells);
-    {
-        let mut pieces = view.split_mut(|index, _| index == 2);
-        assert!(rt; clear_next(&mut pieces));
-        assert!(rt; clear_next(&mut pieces));
-    }
-    assert!(rt; cells == [0xA4]);
-}
-
-#[test]
-fn two_pieces_are_cleared(rt: HostRuntime) {
-    // 0, 1, 1, 0, 1, 1, 0, 1
-    let mut cells = [0xB6u8];
-    let mut view = BitSliceMut::<u8, Lsb0>::from_slice_mut(&mut cells);
-    assert!(rt; !clear_two(&mut view));
-    assert!(rt; cells == [0xB0]);
 }

@@ -1,2 +1,0 @@
-pub mod Striding
-pub mod StridingLaws
