@@ -24,7 +24,7 @@ pub mod engine {
 pub mod slice {
     pub use bitvec_slice::{
         BitDomain, BitRef, BitRefMut, BitSlice, BitSliceIndex, BitSliceMut, Domain, DomainMut,
-        Shows,
+        Shows, Viewed, ViewedMut, from_mut, from_ref,
     };
 }
 
