@@ -1,5 +1,5 @@
 //! Calls on chunks by closures go from chunk 0 on: a closure that counts its calls writes as many ones into
-//! each chunk of the bits 3 up to 21 of three bytes.
+//! each whole chunk from the end of the bits 3 up to 21 of three bytes.
 ghost use Rattle.bitvec_edit.specs.slice.Views.{seen_mut};
 ghost use Rattle.bitvec_edit.specs.slice.Writes.{WritesBits};
 
@@ -17,16 +17,16 @@ fn count_chunk(calls: &mut usize, chunk: &mut BitSliceMut<'_, u8, Lsb0>)
     chunk.fill_with(|index| index < number);
 }
 
-/// Writes into each chunk of four bits which call it got.
+/// Writes into each whole chunk of four bits from the end which call it got.
 fn count_chunks(bytes: &mut [u8; 3]) {
     let mut view = BitSliceMut::<u8, Lsb0>::from_slice_mut(bytes).into_part(3..21);
     let mut calls = 0usize;
-    view.for_each_chunk_mut(4, |_index, chunk| count_chunk(&mut calls, chunk));
+    view.for_each_rchunk_exact_mut(4, |_index, chunk| count_chunk(&mut calls, chunk));
 }
 
 #[test]
 fn chunks_in_ascending_order(rt: HostRuntime) {
     let mut bytes = [0xA6, 0x3C, 0x59];
     count_chunks(&mut bytes);
-    assert!(rt; bytes == [0x8E, 0xB9, 0x5F]);
+    assert!(rt; bytes == [0xE6, 0x6F, 0x42]);
 }

@@ -17,7 +17,7 @@ mod kept;
 #[cfg(test)]
 pub mod known;
 #[cfg(test)]
-mod laws;
+pub mod laws;
 #[cfg(test)]
 mod lent_bits;
 #[cfg(test)]

@@ -1,6 +1,6 @@
 //! Walks over bits and pieces behind their end.
 
-use bitvec_iter::IterCalls;
+use bitvec_iter::{Cutting, IterCalls, Pieces};
 use bitvec_query::base::Msb0;
 use bitvec_query::slice::BitSlice;
 use bitvec_test_support::stays_ended_at_both;
@@ -19,15 +19,27 @@ where
         && second.len() == 0
 }
 
+/// The same of a walk over pieces.
+fn pieces_stay_ended<C: Cutting>(mut pieces: Pieces<'_, u8, Msb0, C>) -> bool {
+    let mut ended = pieces.nth(usize::MAX).is_none();
+    for _ in 0..10 {
+        ended &= pieces.next().is_none() && pieces.next_back().is_none();
+    }
+    ended && pieces.len() == 0
+}
+
 #[test]
 fn nothing_comes_behind_the_end(rt: HostRuntime) {
     let view = BitSlice::<u8, Msb0>::from_slice(&[0x17, 0x2C, 0x91]).into_part(3..21);
-    assert!(rt; stay_ended(view.iter(), view.iter()));
-    assert!(rt; stay_ended(view.iter().by_refs(), view.iter().by_refs()));
-    assert!(rt; stay_ended(view.iter().by_vals(), view.iter().by_vals()));
-    assert!(rt; stay_ended(view.chunks(3), view.chunks(3)));
-    assert!(rt; stay_ended(view.chunks_exact(3), view.chunks_exact(3)));
-    assert!(rt; stay_ended(view.rchunks(3), view.rchunks(3)));
-    assert!(rt; stay_ended(view.rchunks_exact(3), view.rchunks_exact(3)));
-    assert!(rt; stay_ended(view.windows(3), view.windows(3)));
+    let ended = [
+        stay_ended(view.iter(), view.iter()),
+        stay_ended(view.iter().by_refs(), view.iter().by_refs()),
+        stay_ended(view.iter().by_vals(), view.iter().by_vals()),
+        pieces_stay_ended(view.chunks(3)),
+        pieces_stay_ended(view.chunks_exact(3)),
+        pieces_stay_ended(view.rchunks(3)),
+        pieces_stay_ended(view.rchunks_exact(3)),
+        pieces_stay_ended(view.windows(3)),
+    ];
+    assert!(rt; ended == [true; 8]);
 }
