@@ -1,5 +1,4 @@
-//! Tests of packed records, of elements of the caller's own and of copies of views, with their want of memory: callers
-//! of `bitrecord` alone.
+//! Tests of packed records and of copies of views, with their want of memory: callers of `bitrecord` alone.
 #![tactic(auto)]
 
 #[cfg(test)]
@@ -12,8 +11,6 @@ mod headers;
 mod laws;
 #[cfg(test)]
 mod memory;
-#[cfg(test)]
-mod own_element;
 #[cfg(test)]
 mod records;
 #[cfg(test)]

@@ -1,8 +1,8 @@
 //! Small records, each refusal, and single fields.
 
-use crate::coded::{decodes, encodes};
+use crate::coded::encodes;
 use bitrecord::bits::{BitSlice, BitSliceMut, Msb0, Window};
-use bitrecord::{EncodeError, Endian, Layout, LayoutError, decode_one, encode, encode_one};
+use bitrecord::{EncodeError, Endian, Layout, LayoutError, decode, decode_one, encode, encode_one};
 use bitvec_test_support::prints;
 use std::alloc::Global;
 
@@ -13,6 +13,27 @@ const THREE: [Window; 3] = [
     Window { start: 10, len: 6 },
 ];
 
+/// Whether three fields with these values are these bytes, and are read again.
+fn codes(
+    alloc: Global,
+    endian: Endian,
+    fields: &[Window; 3],
+    values: [u128; 3],
+    bytes: [u8; 2],
+) -> bool {
+    let mut cells = [0u8; 2];
+    let mut numbers = [0u128; 3];
+    match Layout::new(alloc, 16, fields) {
+        Ok(layout) => {
+            let mut view = BitSliceMut::<u8, Msb0>::from_slice_mut(&mut cells);
+            let is_encoded = encode(&layout, endian, &values, &mut view).is_ok();
+            decode(&layout, endian, view.as_ref(), &mut numbers);
+            is_encoded && cells == bytes && numbers == values
+        }
+        Err(_) => false,
+    }
+}
+
 #[test]
 fn three_fields_from_both_ends(rt: HostRuntime) {
     let [first, second, third] = THREE;
@@ -22,13 +43,7 @@ fn three_fields_from_both_ends(rt: HostRuntime) {
         (Endian::Little, THREE, [5, 85, 33], [0xB5, 0xA1]),
         (Endian::Big, turned, [33, 5, 85], [0xB5, 0x61]),
     ] {
-        let mut numbers = [0u128; 3];
-        let mut cells = [0u8; 2];
-        let mut view = BitSliceMut::<u8, Msb0>::from_slice_mut(&mut cells);
-        assert!(rt; encodes(rt.alloc(), endian, &fields, &values, &mut view));
-        assert!(rt; decodes(rt.alloc(), endian, &fields, view.as_ref(), &mut numbers));
-        assert!(rt; cells == bytes);
-        assert!(rt; numbers == values);
+        assert!(rt; codes(rt.alloc(), endian, &fields, values, bytes));
     }
 }
 
