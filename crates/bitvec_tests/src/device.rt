@@ -92,15 +92,3 @@ impl Device {
         high.fill(false);
     }
 }
-
-#[test]
-fn a_device_starts(rt: HostRuntime) {
-    let mut device = Device::new();
-    device.start();
-    device.word_mut(2).fill(true);
-    device.sign(1).set(true);
-    assert!(rt; device.word(1).count_ones() == 1 && device.control_bit(33) == Some(false));
-    device.flags = [7, 7];
-    device.clear_flags();
-    assert!(rt; device.control == [0xF, 1 << 31, 0xFFFF_FFFF, 0] && device.flags == [0, 0]);
-}

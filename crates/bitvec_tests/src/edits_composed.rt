@@ -17,16 +17,6 @@ pub fn set_all<T: BitStore, O: SliceOrder>(view: &mut BitSliceMut<'_, T, O>, bit
     }
 }
 
-/// Makes a bit 1, then reverses all: both as one edit.
-#[tactic(auto, using(bitvec::specs::Laws::composed))]
-pub fn set_and_turn<T: BitStore, O: SliceOrder>(view: &mut BitSliceMut<'_, T, O>, index: usize)
-    requires { index < (seen_mut view.old).window.len }
-    ensures { WritesBits view.old view.new (seen_mut view.new).bits }
-{
-    view.set(index, true);
-    view.reverse();
-}
-
 /// Makes the bits from `from` up to `to` ones: each bit outside the range is as before.
 #[tactic(auto, using(bitvec::specs::Laws::edited))]
 pub fn fill_between<T: BitStore, O: SliceOrder>(
@@ -74,23 +64,4 @@ pub fn same_number<T: BitStore, O: FieldOrder>(
     let _len = view.len();
     let _other_len = other.len();
     view.load_le::<u128>() == other.load_le::<u128>()
-}
-
-#[test]
-fn edits_are_composed(rt: HostRuntime) {
-    let mut cells = [0u8; 3];
-    let mut view = BitSliceMut::<u8, Msb0>::from_slice_mut(&mut cells);
-    put_number(&mut view, 5, 12, 0xABC);
-    set_and_turn(&mut view, 0);
-    assert!(rt; same_number(view.as_ref(), view.as_ref()));
-    fill_between(&mut view, 0, 4);
-    assert!(rt; cells == [0xF1, 0xEA, 0x21]);
-}
-
-#[test]
-fn all_bits_are_set(rt: HostRuntime) {
-    let mut cells = [0u8; 2];
-    let mut view = BitSliceMut::<u8, Msb0>::from_slice_mut(&mut cells);
-    set_all(&mut view, true);
-    assert!(rt; cells == [0xFF, 0xFF]);
 }

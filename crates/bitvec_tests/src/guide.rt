@@ -101,32 +101,6 @@ fn seats_are_taken(rt: HostRuntime) {
     assert!(rt; bytes == [0b0000_0111, 0b0000_1111]);
 }
 
-/// Whether a list was made, and has these numbers.
-fn lists(list: Result<Vec<usize>, AllocError>, numbers: &[usize]) -> bool {
-    match list {
-        Ok(list) => list.as_slice() == numbers,
-        Err(_) => false,
-    }
-}
-
-/// Whether a sequence was made, and has these bytes.
-pub(crate) fn has_bytes<E: Drop>(bits: Result<BitVec<u8, Lsb0, Global>, E>, bytes: &[u8]) -> bool {
-    match bits {
-        Ok(bits) => bits.as_raw_slice() == bytes,
-        Err(_) => false,
-    }
-}
-
-#[test]
-fn seats_are_counted(rt: HostRuntime) {
-    let bytes = [0b0000_0111u8, 0b0000_1111];
-    let seats = BitSlice::<u8, Lsb0>::from_slice(&bytes);
-    assert!(rt; taken(seats) == 7);
-    assert!(rt; lists(taken_seats(rt.alloc(), seats), &[0, 1, 2, 8, 9, 10, 11]));
-    assert!(rt; lists(taken_by_row(rt.alloc(), seats, 6), &[3, 4, 0]));
-    assert!(rt; has_bytes(snapshot(rt.alloc(), seats), &bytes));
-}
-
 #[test]
 fn a_number_is_read(rt: HostRuntime) {
     let header = [0x1Au8, 0xBC];

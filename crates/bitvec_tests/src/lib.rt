@@ -1,9 +1,13 @@
-//! Callers of `bitvec`, who depend on it alone: the functions of docs/GUIDE.md, and the blocks of
-//! docs/CALLING.md that name no other crate, with what their callers know.
+//! Callers of `bitvec`: the functions of docs/GUIDE.md, and the blocks of docs/CALLING.md that name no other crate,
+//! with what their callers know. And each operation and run that tests its arguments, of `bitvec_checked_run`.
 #![tactic(auto)]
 
 #[cfg(test)]
 mod answers;
+#[cfg(test)]
+mod checked_operations;
+#[cfg(test)]
+mod checked_runs;
 #[cfg(test)]
 mod device;
 #[cfg(test)]
@@ -16,8 +20,6 @@ mod filled;
 mod guide;
 #[cfg(test)]
 mod lends_known;
-#[cfg(test)]
-mod number_set;
 #[cfg(test)]
 mod numbers_known;
 #[cfg(test)]

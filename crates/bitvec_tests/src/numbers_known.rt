@@ -36,14 +36,3 @@ pub fn take_both_ways<T: BitStore, O: FieldOrder, I: Integral>(view: BitSlice<'_
     let _len = view.len();
     (view.load_le::<I>(), view.load_be::<I>())
 }
-
-#[test]
-fn numbers_are_stored_and_loaded(rt: HostRuntime) {
-    let mut cells = [0u8; 3];
-    let view = BitSliceMut::<u8, Lsb0>::from_slice_mut(&mut cells);
-    assert!(rt; put_and_take(view, 5, 12, 0xFABCu16) == 0xABC);
-    assert!(rt; cells == [0x80, 0x57, 0x01]);
-    let byte = [0x5Au8];
-    let view = BitSlice::<u8, Msb0>::from_slice(&byte);
-    assert!(rt; take_both_ways::<u8, Msb0, u16>(view) == (0x5A, 0x5A));
-}

@@ -10,9 +10,8 @@ ghost use Rattle.bitvec.specs.Sides.{halves_of, joined, side_lists, side_reply};
 ghost use Rattle.bitvec.specs.Views.{seen, seen_mut};
 
 use crate::filled::fill_all;
-use crate::guide::has_bytes;
 use bitvec::prelude::*;
-use bitvec::run::{Op, Reply, Side, Step, run_halves};
+use bitvec::run::{Reply, Side, Step, run_halves};
 use std::alloc::{AllocError, Global};
 
 /// Runs steps through the bits before `mid` and those from it on: both are what the steps make of
@@ -41,23 +40,16 @@ pub fn twice<T: BitStore, O: SliceOrder>(
     view.repeat(alloc, 2)
 }
 
-/// Flips a copy of the bits through a view of it, and gives it with how many were 1: of the copy it is known
-/// that it has as many bits as before.
-pub fn flipped_copy<T: BitStore, O: SliceOrder>(
-    alloc: Global,
-    view: BitSlice<'_, T, O>,
-) -> Result<(BitVec<T, O, Global>, usize), AllocError>
-    ensures ones { IfOk result (λ given. given.1 ≡ ones_of (seen view.entry).bits) }
-    ensures len { IfOk result (λ given. (owned given.0).window.len ≡ length (seen view.entry).bits) }
+/// Flips a sequence's bits through a view of them, and gives how many were 1: of the sequence it is known that
+/// it has as many bits as before.
+pub fn flip_lent<T: BitStore, O: SliceOrder>(bits: &mut BitVec<T, O, Global>) -> usize
+    ensures ones { result ≡ ones_of (owned bits.old).bits }
+    ensures window { (owned bits.new).window ≡ (owned bits.old).window }
 {
-    let mut copy = view.to_bitvec(alloc)?;
-    let ones = {
-        let mut bits = copy.as_mut_bitslice();
-        let ones = bits.count_ones();
-        bits.invert();
-        ones
-    };
-    Ok((copy, ones))
+    let mut view = bits.as_mut_bitslice();
+    let ones = view.count_ones();
+    view.invert();
+    ones
 }
 
 /// Fills all bits of a sequence's elements, by a function over a slice: what it leaves in the slice is what the
@@ -68,29 +60,6 @@ pub fn fill_elements<T: BitStore, O: SliceOrder>(bits: &mut BitVec<T, O, Global>
     ensures window { (owned bits.new).window ≡ (owned bits.old).window }
 {
     fill_all::<T, O>(bits.as_raw_mut_slice(), bit);
-}
-
-#[test]
-fn halves_are_run(rt: HostRuntime) {
-    let mut cells = [0b0101_0110u8];
-    let mut out = [Reply::Done; 1];
-    let step = Step {
-        from: 0,
-        to: 3,
-        op: Op::Fill(true),
-    };
-    let mut view = BitSliceMut::<u8, Lsb0>::from_slice_mut(&mut cells);
-    run_apart(&mut view, 3, &[(Side::Left, step)], &mut out);
-    assert!(rt; out == [Reply::Done]);
-    assert!(rt; cells == [0b0101_0111]);
-}
-
-/// Whether a flipped copy was made, of so many ones, and has that byte.
-fn flips(alloc: Global, view: BitSlice<'_, u8, Lsb0>, wanted: usize, byte: u8) -> bool {
-    match flipped_copy(alloc, view) {
-        Ok((copy, ones)) => ones == wanted && copy.as_raw_slice() == [byte].as_slice(),
-        Err(_) => false,
-    }
 }
 
 /// Whether a copy was made, and has that byte once its elements are filled.
@@ -105,10 +74,7 @@ fn fills(copy: Result<BitVec<u8, Lsb0, Global>, AllocError>, byte: u8) -> bool {
 }
 
 #[test]
-fn copies_are_made(rt: HostRuntime) {
-    let cells = [0x31u8];
-    let view = BitSlice::<u8, Lsb0>::from_slice(&cells);
-    assert!(rt; has_bytes(twice(rt.alloc(), view), &[0x31, 0x31]));
-    assert!(rt; flips(rt.alloc(), view, 3, 0xCE));
+fn a_copy_is_filled(rt: HostRuntime) {
+    let view = BitSlice::<u8, Lsb0>::from_slice(&[0x31]);
     assert!(rt; fills(view.to_bitvec(rt.alloc()), 0xFF));
 }

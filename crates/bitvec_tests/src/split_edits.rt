@@ -28,35 +28,24 @@ pub fn invert_between<T: BitStore, O: SliceOrder, P: FnMut(usize, &bool) -> bool
     view.for_each_split_mut(pred, |_number, piece| piece.invert());
 }
 
-/// Whether a bit is 1.
-fn is_one(_index: usize, bit: &bool) -> bool {
-    *bit
-}
-
 /// Whether a bit is the third of those that no piece has yet.
 fn is_third(index: usize, _bit: &bool) -> bool {
     index == 2
 }
 
-/// Flips a piece.
-fn flip(_number: usize, piece: &mut BitSliceMut<'_, u8, Lsb0>) {
-    piece.invert();
-}
-
 /// Edits the pieces of the bits 2 up to 14 of two bytes by each call.
 fn edit_pieces(bytes: &mut [u8; 2]) {
     let mut view = BitSliceMut::<u8, Lsb0>::from_slice_mut(bytes).into_part(2..14);
-    fill_between_ones(&mut view);
     invert_between(&mut view, is_third);
-    view.for_each_split_inclusive_mut(is_one, flip);
-    view.for_each_rsplit_mut(is_third, flip);
-    view.for_each_splitn_mut(2, is_one, flip);
-    view.for_each_rsplitn_mut(2, is_one, flip);
+    view.for_each_rsplit_mut(|_index, bit| *bit, |number, piece| piece.fill(number == 1));
+    view.for_each_split_inclusive_mut(|_index, bit| *bit, |_number, piece| piece.invert());
+    view.for_each_splitn_mut(2, |_index, bit| *bit, |_number, piece| piece.invert());
+    view.for_each_rsplitn_mut(2, |_index, bit| *bit, |_number, piece| piece.invert());
 }
 
 #[test]
 fn pieces_of_each_kind(rt: HostRuntime) {
     let mut bytes = [0b0100_1001, 0b0001_0010];
     edit_pieces(&mut bytes);
-    assert!(rt; bytes == [0b0000_0001, 0b0011_0100]);
+    assert!(rt; bytes == [0b1101_0001, 0b0011_1000]);
 }

@@ -4,7 +4,7 @@ ghost use Rattle.bitvec.specs.Kept.{KeepsOutside};
 ghost use Rattle.bitvec.specs.SplitFoundLaws.{end_of_found, first_of_found};
 ghost use Rattle.bitvec.specs.SplitLent.{MayGoOnIn, SplitNextIn, piece_if};
 ghost use Rattle.bitvec.specs.SplitLentViews.{found_in, left_in};
-ghost use Rattle.bitvec.specs.Views.{name_of, seen_mut};
+ghost use Rattle.bitvec.specs.Views.{seen_mut};
 
 use bitvec::prelude::*;
 use bitvec::slice::SplitMut;
@@ -29,31 +29,15 @@ pub fn clear_next<T: BitStore, O: SliceOrder, P: FnMut(usize, &bool) -> bool>(
     found
 }
 
-/// Clears the first two pieces between zeros, and says whether nothing is left then: the view stays
-/// where it is.
-pub fn clear_two<T: BitStore, O: SliceOrder>(view: &mut BitSliceMut<'_, T, O>) -> bool
-    ensures window { (seen_mut view.new).window ≡ (seen_mut view.old).window }
-    ensures name { name_of view.new ≡ name_of view.old }
+/// Clears the first piece between zeros, and says whether nothing is left then: the view stays where
+/// it is.
+pub fn clear_first_piece<T: BitStore, O: SliceOrder>(view: &mut BitSliceMut<'_, T, O>) -> bool
+    ensures { (seen_mut view.new).window ≡ (seen_mut view.old).window }
 {
     let mut pieces = view.split_mut(|_, bit| !*bit);
-    for _ in 0..2 {
-        if pieces.advance() {
-            let mut piece = pieces.piece_mut();
-            piece.fill(false);
-        }
+    if pieces.advance() {
+        let mut piece = pieces.piece_mut();
+        piece.fill(false);
     }
     pieces.is_finished()
-}
-
-#[test]
-fn pieces_are_cleared(rt: HostRuntime) {
-    // 0, 1, 1, 0, 1, 1, 0, 1
-    let mut cells = [0xB6u8];
-    let mut view = BitSliceMut::<u8, Lsb0>::from_slice_mut(&mut cells);
-    assert!(rt; !clear_two(&mut view));
-    {
-        let mut pieces = view.split_mut(|index, _| index == 5);
-        assert!(rt; clear_next(&mut pieces));
-    }
-    assert!(rt; cells == [0xA0]);
 }

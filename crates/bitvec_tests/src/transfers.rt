@@ -37,13 +37,3 @@ pub fn toggle<T: BitStore, O: SliceOrder, U: BitStore, P: BitOrder>(
 {
     view.xor_bits(mask);
 }
-
-#[test]
-fn bytes_become_words(rt: HostRuntime) {
-    let mut words = [0u32; 2];
-    copy_bytes(&mut words, &[0x80, 0, 0, 1, 0, 0xC0, 0, 0]);
-    assert!(rt; words == [0x8000_0001, 0x0000_0300]);
-    let mut view = BitSliceMut::<u32, Lsb0>::from_slice_mut(&mut words);
-    toggle(&mut view, BitSlice::<u8, Lsb0>::from_slice(&[0xFF]));
-    assert!(rt; words == [0x8000_00FE, 0x0000_0300]);
-}

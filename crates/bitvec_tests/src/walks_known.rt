@@ -22,18 +22,3 @@ pub fn rows_either<T: BitStore, V: IterCalls<T>>(view: V, size: usize) -> V::Chu
 {
     view.chunks(size)
 }
-
-#[test]
-fn walks_leave_their_functions(rt: HostRuntime) {
-    let mut bytes = [0x17u8, 0x80];
-    let mut view = BitSliceMut::<u8, Msb0>::from_slice_mut(&mut bytes);
-    let counts = [
-        rows(view.as_ref()).len(),
-        rows_either(&view, 5).len(),
-        rows_either(view.as_ref(), 3).len(),
-    ];
-    assert!(rt; counts == [2, 4, 6], "{counts:?}");
-    assert!(rt; view.iter_ones().next_back() == Some(8));
-    view.set(0, true);
-    assert!(rt; view[0]);
-}

@@ -51,8 +51,17 @@ fn a_number_of_a_step_has_its_low_half_first(rt: HostRuntime) {
 #[test]
 fn steps_without_operation_or_room_are_refused(rt: HostRuntime) {
     let mut bytes = [0x12u8, 0x34, 0x56];
-    let steps = [step(33, 0, 0, 0)];
-    assert!(rt; run(MSB0, &mut bytes, 3, 18, &[], &steps, &mut [NOTHING]) == OP);
-    let steps = [step(0, 18, 0, 0)];
-    assert!(rt; run(MSB0, &mut bytes, 3, 18, &[], &steps, &mut []) == ROOM);
+    let statuses = [
+        run(
+            MSB0,
+            &mut bytes,
+            3,
+            18,
+            &[],
+            &[step(33, 0, 0, 0)],
+            &mut [NOTHING],
+        ),
+        run(MSB0, &mut bytes, 3, 18, &[], &[step(0, 18, 0, 0)], &mut []),
+    ];
+    assert!(rt; statuses == [OP, ROOM]);
 }
