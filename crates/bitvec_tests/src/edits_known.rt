@@ -4,7 +4,6 @@ ghost use Rattle.std.specs.List.{swap};
 ghost use Rattle.bitvec.specs.Lists.{copied_within, rotated_left, shifted_end, shifted_start};
 ghost use Rattle.bitvec.specs.Swaps.{swapped_within};
 ghost use Rattle.bitvec.specs.Views.{seen_mut};
-ghost use Rattle.bitvec.specs.Writes.{WritesBits};
 
 use bitvec::prelude::*;
 
@@ -37,17 +36,29 @@ pub fn turn_and_flip<T: BitStore, O: SliceOrder>(view: &mut BitSliceMut<'_, T, O
     view.rotate_left(by);
 }
 
-/// Exchanges the first bit and the last, writes the first `width` bits once more behind them, and exchanges the
-/// first `width` bits with the last ones.
-pub fn rearrange<T: BitStore, O: SliceOrder>(view: &mut BitSliceMut<'_, T, O>, width: usize)
-    requires some { 0 < (seen_mut view.old).window.len }
-    requires bound { 2 * width ≤ (seen_mut view.old).window.len }
-    ensures { let len = (seen_mut view.old).window.len in
-        WritesBits view.old view.new (swapped_within 0 width (len - width) (copied_within 0 width width (swap (seen_mut view.old).bits 0 (len - 1)))) }
+/// Exchanges the first bit and the last.
+pub fn swap_ends<T: BitStore, O: SliceOrder>(view: &mut BitSliceMut<'_, T, O>)
+    requires { 0 < (seen_mut view.old).window.len }
+    ensures { (seen_mut view.new).bits ≡ swap (seen_mut view.old).bits 0 ((seen_mut view.old).window.len - 1) }
 {
     let last = view.len() - 1;
     view.swap(0, last);
+}
+
+/// Writes the first `width` bits once more, behind them.
+pub fn double_front<T: BitStore, O: SliceOrder>(view: &mut BitSliceMut<'_, T, O>, width: usize)
+    requires { 2 * width ≤ (seen_mut view.old).window.len }
+    ensures { (seen_mut view.new).bits ≡ copied_within 0 width width (seen_mut view.old).bits }
+{
     view.copy_within(0..width, width);
+}
+
+/// Exchanges the first `width` bits with the last ones.
+pub fn swap_fields<T: BitStore, O: SliceOrder>(view: &mut BitSliceMut<'_, T, O>, width: usize)
+    requires { 2 * width ≤ (seen_mut view.old).window.len }
+    ensures { (seen_mut view.new).bits
+        ≡ swapped_within 0 width ((seen_mut view.old).window.len - width) (seen_mut view.old).bits }
+{
     view.swap_within(0..width, view.len() - width);
 }
 
