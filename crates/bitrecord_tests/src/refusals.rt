@@ -103,3 +103,17 @@ fn makes_nothing(none: &Refusing<Global>) -> [bool; 3] {
 fn no_bits_ask_for_nothing(rt: HostRuntime) {
     assert!(rt; makes_nothing(&Refusing::new(rt.alloc(), 0)) == [true; 3]);
 }
+
+/// Whether so many repeats of one bit ask for memory, once.
+fn bits_ask_once(refusing: &Refusing<Global>, copies: usize) -> bool {
+    let bit = BitSlice::<u8, Lsb0>::from_slice(&BYTES).into_part(4..5);
+    bit.repeat(refusing, copies).err() == Some(RepeatError::Memory) && refusing.refused() == 1
+}
+
+#[test]
+fn the_longest_repeats_are_asked_for(rt: HostRuntime) {
+    let most = BitSlice::<u8, Lsb0>::MAX_BITS;
+    for copies in [most.saturating_sub(7), most] {
+        assert!(rt; bits_ask_once(&Refusing::new(rt.alloc(), 0), copies));
+    }
+}
