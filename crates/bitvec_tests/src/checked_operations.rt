@@ -108,9 +108,19 @@ fn numbers_are_loaded_and_stored(rt: HostRuntime) {
 #[test]
 fn refusals_are_told(rt: HostRuntime) {
     let mut bytes = [0x12u8, 0x34, 0x56];
+    let right = [0xF0u8];
     let statuses = [
         fill(MSB0, &mut bytes, 3, 22, true),
+        fill(MSB0, &mut bytes, usize::MAX, 2, true),
+        set(MSB0, &mut bytes, 3, 18, 18, true),
+        rotate_left(MSB0, &mut bytes, 3, 18, 19),
+        copy_within(MSB0, &mut bytes, 3, 18, 4, 3, 0),
+        copy_within(MSB0, &mut bytes, 3, 18, 0, 9, 10),
+        copy(MSB0, &mut bytes, 3, 18, &right, 1, 18),
+        copy(MSB0, &mut bytes, 3, 18, &right, 1, 7),
+        store_le(MSB0, &mut bytes, 3, 0, 1),
         fill(2, &mut bytes, 3, 18, true),
     ];
-    assert!(rt; statuses == [1, ORDER] && bytes == [0x12, 0x34, 0x56]);
+    assert!(rt; statuses == [1, 1, 2, 3, 4, 5, 6, 7, 8, ORDER]);
+    assert!(rt; bytes == [0x12, 0x34, 0x56]);
 }
