@@ -10,7 +10,7 @@ where
 }
 
 /// Whether a walk of at most thirty items, that was called as often, gives none at ten more calls.
-pub fn stays_ended<I: Iterator>(walk: &mut I) -> bool
+fn stays_ended<I: Iterator>(walk: &mut I) -> bool
 where
     I::Item: Drop,
     requires { (state : I) → I.can_next state }

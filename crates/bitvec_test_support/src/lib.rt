@@ -26,8 +26,8 @@ pub mod store {
 }
 
 pub use counted::Counted;
-pub use ends::{stays_ended, stays_ended_at_both};
-pub use memory::{MEMORIES, bits_of, flip, flipped};
+pub use ends::stays_ended_at_both;
+pub use memory::{MEMORIES, bits_of, flipped};
 pub use refusing::Refusing;
 pub use streams::{FailingReader, FailingWriter, OneByteReader};
 pub use texts::{prints, shows};

@@ -18,7 +18,7 @@ pub fn bits_of(bytes: [u8; 3]) -> [bool; 24] {
 }
 
 /// Flips the bits from one place up to another.
-pub fn flip(bits: &mut [bool; 24], from: usize, to: usize) {
+fn flip(bits: &mut [bool; 24], from: usize, to: usize) {
     if let Some(part) = bits.get_mut(from..to) {
         for bit in part {
             *bit = !*bit;
