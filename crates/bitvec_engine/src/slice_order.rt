@@ -116,13 +116,14 @@ pub trait SliceOrder: BitOrder {
     }
 
     /// The same as [`SliceOrder::scan_first`], in the order of loads that is the fastest: it loads
-    /// each element that the window touches at most once, perhaps some behind the bit.
+    /// each element that the window touches at most once, perhaps some behind the bit. An order that
+    /// says nothing of it searches by its own `scan_first`.
     fn search_first<C: CellsRead>(cells: &mut C, window: Window, want: bool) -> Option<usize>
         requires { HasWindow C.Elem.BITS (C.numbers cells.old) window }
         ensures value { result ≡ first_place want (list_in C.Elem.BITS Self.at (C.numbers cells.old) window) }
         ensures reads { OnlyReadsAtMost C.CellsRead cells.old cells.new (touched_count C.Elem.BITS window.start window.len) }
     {
-        bits_scan_first::<Self, C>(cells, window, want)
+        Self::scan_first::<C>(cells, window, want)
     }
 
     /// The index of a window's last bit that is `want`, if there is one. It loads each element at
