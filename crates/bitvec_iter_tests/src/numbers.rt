@@ -1,10 +1,12 @@
 //! Numbers in views: worked rows, and what a load and a store come to together.
+ghost use Rattle.std.specs.Prelude.{◌≤◌};
+
 use crate::laws::{
     loaded_then_stored_be, loaded_then_stored_le, same_in_one_element, stored_then_loaded_le,
 };
 use bitvec_field::base::{Lsb0, Msb0};
 use bitvec_field::slice::{BitSlice, BitSliceMut};
-use bitvec_field::{BitField, BitFieldMut, FieldOrder};
+use bitvec_field::{BitField, BitFieldMut, FieldOrder, Integral};
 
 /// The number of the bits 4 up to 12, `le` or else `be`.
 fn load_middle<O: FieldOrder>(bytes: &[u8; 2], le: bool) -> u8 {
@@ -70,4 +72,23 @@ fn load_and_store_are_the_lower_end_first(rt: HostRuntime) {
     view.store::<u32>(0x0123_4567);
     assert!(rt; view.load::<u32>() == 0x0123_4567);
     assert!(rt; cells == [0x4567, 0x0123]);
+}
+
+/// Stores an integer in seven bits, the first of them the last of an element, and loads it.
+fn through_seven_bits<I: Integral>(value: I) -> I
+    requires { 7 ≤ I.BITS }
+{
+    let mut cells = [0u8; 2];
+    let mut part = BitSliceMut::<u8, Lsb0>::from_slice_mut(&mut cells).into_part(7..14);
+    stored_then_loaded_le::<u8, Lsb0, I>(&mut part, value)
+}
+
+#[test]
+fn integers_of_each_type_keep_their_lowest_bits(rt: HostRuntime) {
+    assert!(rt; through_seven_bits::<u8>(200) == 72 && through_seven_bits::<u16>(200) == 72);
+    assert!(rt; through_seven_bits::<u32>(200) == 72 && through_seven_bits::<u64>(200) == 72);
+    assert!(rt; through_seven_bits::<u128>(200) == 72 && through_seven_bits::<usize>(200) == 72);
+    assert!(rt; through_seven_bits::<i8>(-50) == -50 && through_seven_bits::<i16>(-50) == -50);
+    assert!(rt; through_seven_bits::<i32>(-50) == -50 && through_seven_bits::<i64>(-50) == -50);
+    assert!(rt; through_seven_bits::<i128>(-50) == -50 && through_seven_bits::<isize>(-50) == -50);
 }
