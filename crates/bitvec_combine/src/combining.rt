@@ -1,6 +1,6 @@
 //! Each bit of a window with the one at its index in another, elements at a time. All down to the loops is
 //! inlined into the function that makes the accessors, so that each operator has loops of its own.
-ghost use Rattle.std.specs.Prelude.{◌≡◌, ℕ, ◌-◌, ◌*◌, ◌/◌, ◌%◌, ◌<◌, true};
+ghost use Rattle.std.specs.Prelude.{◌≡◌, ◌-◌, ◌*◌, ◌/◌, ◌%◌, ◌<◌, true};
 ghost use Rattle.bitvec_move.specs.base.Lists.{combined};
 ghost use Rattle.bitvec_move.specs.base.Memory.{HasWindow, Writes, list_in};
 ghost use Rattle.bitvec_move.specs.cells.Access.{CostsAtMost, OnlyReads, OnlyReadsAtMost};

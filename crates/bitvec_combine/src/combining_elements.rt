@@ -1,5 +1,5 @@
 //! Elements with the bits of others: a part of one, many whole ones, and zeros.
-ghost use Rattle.std.specs.Prelude.{◌≡◌, ℕ, ◌+◌, ◌-◌, ◌*◌, ◌/◌, ◌%◌, ◌<◌, ◌≤◌, [], false, ◌++◌, replicate, slice_index, slice_range, take};
+ghost use Rattle.std.specs.Prelude.{◌≡◌, ◌+◌, ◌-◌, ◌*◌, ◌/◌, ◌%◌, ◌<◌, ◌≤◌, [], false, ◌++◌, replicate, slice_index, slice_range, take};
 ghost use Rattle.bitvec_move.specs.base.Lists.{combined};
 ghost use Rattle.bitvec_move.specs.base.Memory.{HasWindow, Writes, element_bits, list_in};
 ghost use Rattle.bitvec_move.specs.base.Parts.{HasPart, part_window};
@@ -18,7 +18,7 @@ use bitvec_move::store::BitStore;
 use bitvec_move::words::{
     BitOp, Carried, Lanes, Whole, WordOrder, field, fill, merged, toward_end,
 };
-use bitvec_move::{MANY_BYTES, at_known_skip};
+use bitvec_move::{MANY_BITS, at_known_skip};
 
 /// Replaces the bits of a part by what the operator makes of them and the bits of an element at the
 /// same indices.
@@ -155,9 +155,9 @@ pub(crate) fn combine_joined<O: WordOrder, C: Cells, D: CellsRead<Elem = C::Elem
     if C::Elem::BITS == u128::BITS {
         return combine_pairs::<O, C, D>(left, first, right, source, carry, skip, count, op);
     }
-    if C::Elem::BITS == u8::BITS && count >= MANY_BYTES {
+    if C::Elem::BITS <= u16::BITS && count >= MANY_BITS / C::Elem::BITS as usize {
         return at_known_skip!(
-            skip,
+            u16: skip,
             combine_carried::<O, C, D, Whole<C::Elem>>(
                 left, first, right, source, carry, skip, count, op
             )

@@ -1,5 +1,5 @@
 //! Windows combined that begin at the same index of an element: elements as they are.
-ghost use Rattle.std.specs.Prelude.{◌≡◌, ℕ, ◌%◌, ◌<◌, length};
+ghost use Rattle.std.specs.Prelude.{◌≡◌, ◌%◌, ◌<◌, length};
 ghost use Rattle.bitvec_move.specs.base.Lists.{combined};
 ghost use Rattle.bitvec_move.specs.base.Memory.{Writes, list_in};
 ghost use Rattle.bitvec_move.specs.base.Parts.{HasPart, part_window};

@@ -1,5 +1,5 @@
 //! Windows compared that begin at the same index of an element: elements as they are.
-ghost use Rattle.std.specs.Prelude.{◌≡◌, ℕ, ◌*◌, ◌/◌, ◌%◌, ◌<◌, ◌==◌, length};
+ghost use Rattle.std.specs.Prelude.{◌≡◌, ◌*◌, ◌/◌, ◌%◌, ◌<◌, ◌==◌, length};
 ghost use Rattle.bitvec_move.specs.base.Lists.{same_bits};
 ghost use Rattle.bitvec_move.specs.base.Memory.{list_in};
 ghost use Rattle.bitvec_move.specs.base.Parts.{HasPart, part_window};

@@ -1,6 +1,6 @@
 //! Windows compared that begin at different indices of an element: each element on the left with
 //! one that is joined of two on the right.
-ghost use Rattle.std.specs.Prelude.{◌≡◌, ◌≢◌, ℕ, ◌+◌, ◌-◌, ◌*◌, ◌/◌, ◌%◌, ◌<◌, ◌==◌, slice_index};
+ghost use Rattle.std.specs.Prelude.{◌≡◌, ◌≢◌, ◌+◌, ◌-◌, ◌*◌, ◌/◌, ◌%◌, ◌<◌, ◌==◌, slice_index};
 ghost use Rattle.bitvec_move.specs.base.Parts.{part_window};
 ghost use Rattle.bitvec_move.specs.base.Spans.{HasSpan};
 ghost use Rattle.bitvec_move.specs.cells.Access.{OnlyReads, OnlyReadsAtMost};
@@ -231,7 +231,7 @@ fn tested_differences<O: WordOrder, C: CellsRead, D: CellsRead<Elem = C::Elem>>(
 {
     if C::Elem::BITS == u8::BITS {
         return at_known_skip!(
-            skip,
+            u8: skip,
             carried_differences::<O, C, D, Whole<C::Elem>>(
                 left, first, right, source, carry, skip, count
             )

@@ -8,7 +8,7 @@ ghost use Rattle.bitvec_words.specs.walk.Cost.{part_loads, touched_count};
 ghost use Rattle.bitvec_words.specs.Spans.{HasShiftedElements, HasShiftedSpan};
 ghost use Rattle.bitvec_move.specs.Moves.{Copies, CopiesElements, HasPartSpan};
 
-use crate::{MANY_BYTES, at_known_skip};
+use crate::{MANY_BITS, at_known_skip};
 use bitvec_words::base::{BitOrder, Part, Window, first_part, tail_part, whole_elements};
 use bitvec_words::cells::{Cells, CellsRead};
 use bitvec_words::store::BitStore;
@@ -131,9 +131,9 @@ fn shift_whole<O: WordOrder, C: Cells, D: CellsRead<Elem = C::Elem>>(
     if C::Elem::BITS == u128::BITS {
         return shift_carried::<O, C, D, Lanes>(left, first, right, source, carry, skip, count);
     }
-    if C::Elem::BITS == u8::BITS && count >= MANY_BYTES {
+    if C::Elem::BITS <= u16::BITS && count >= MANY_BITS / C::Elem::BITS as usize {
         return at_known_skip!(
-            skip,
+            u16: skip,
             shift_carried::<O, C, D, Whole<C::Elem>>(left, first, right, source, carry, skip, count)
         );
     }

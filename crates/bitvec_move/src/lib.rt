@@ -2,29 +2,25 @@
 //! put in the opposite order.
 #![tactic(auto)]
 
-/// From how many bytes on a loop for just their shift is worth the choice.
-pub const MANY_BYTES: usize = 64;
+/// From how many bits on a loop for just the shift of narrow elements is worth the choice.
+pub const MANY_BITS: usize = 512;
 
-/// A call with its `skip`, of bytes (1 to 7), as a number that the compiler knows, so that there is a
-/// loop for each: it shifts many bytes at once by masks, which it makes anew in each turn of a loop
-/// where it doesn't know by how much.
+/// A call in a branch of its own for each `skip` of bytes (1 to 7) or of elements of at most 16 bits (1 to
+/// 15), so that the compiler, which knows the number there, makes a loop for each: where it doesn't know by
+/// how much is shifted, a loop makes the masks for bytes, and the vector of shifts for both, anew in each
+/// turn.
 #[macro_export]
 macro_rules! at_known_skip {
-    ($skip:ident, $call:expr) => {
-        $crate::at_known_skip!($skip, $call, 1 2 3 4 5 6)
+    (u8: $skip:ident, $call:expr) => {
+        $crate::at_known_skip!($skip, $call, 1 2 3 4 5 6 7)
+    };
+    (u16: $skip:ident, $call:expr) => {
+        $crate::at_known_skip!($skip, $call, 1 2 3 4 5 6 7 8 9 10 11 12 13 14 15)
     };
     ($skip:ident, $call:expr, $($known:literal)*) => {
         match $skip {
-            $(
-                $known => {
-                    let $skip = $known;
-                    $call
-                }
-            )*
-            _ => {
-                let $skip = 7;
-                $call
-            }
+            $($known => $call,)*
+            _ => $call,
         }
     };
 }

@@ -8,7 +8,7 @@ ghost use Rattle.bitvec_words.specs.Elements.{elements_window, elements_window_f
 ghost use Rattle.bitvec_move.specs.Moves.{Copies, CopiesElements, HasSkippedElements};
 
 use crate::moving_edge::move_edge;
-use crate::{MANY_BYTES, at_known_skip};
+use crate::{MANY_BITS, at_known_skip};
 use bitvec_words::base::{BitOrder, Window, first_part, whole_elements};
 use bitvec_words::cells::Cells;
 use bitvec_words::store::BitStore;
@@ -111,9 +111,9 @@ fn shift_whole_to_end<O: WordOrder, C: Cells>(
 {
     if C::Elem::BITS == u128::BITS {
         shift_carried_to_end::<O, C, Lanes>(cells, first, source, skip, count);
-    } else if C::Elem::BITS == u8::BITS && count >= MANY_BYTES {
+    } else if C::Elem::BITS <= u16::BITS && count >= MANY_BITS / C::Elem::BITS as usize {
         at_known_skip!(
-            skip,
+            u16: skip,
             shift_carried_to_end::<O, C, Whole<C::Elem>>(cells, first, source, skip, count)
         );
     } else {

@@ -7,7 +7,7 @@ ghost use Rattle.bitvec_words.specs.cells.Access.{Costs};
 ghost use Rattle.bitvec_words.specs.walk.Cost.{touched_count};
 ghost use Rattle.bitvec_move.specs.Moves.{HasPartSpan, HasSkippedElements, HasSkippedSpan, Swaps, SwapsElements};
 
-use crate::{MANY_BYTES, at_known_skip};
+use crate::{MANY_BITS, at_known_skip};
 use bitvec_words::base::{BitOrder, Part, Window, first_part, tail_part, whole_elements};
 use bitvec_words::cells::{Cells, CellsRead};
 use bitvec_words::store::BitStore;
@@ -94,9 +94,9 @@ fn swap_across<O: WordOrder, C: Cells, D: Cells + CellsRead<Elem = C::Elem>>(
     ensures cost { Costs C.CellsRead left.old left.new count count }
     ensures right_cost { Costs D.CellsRead right.old right.new count count }
 {
-    if C::Elem::BITS == u8::BITS && count >= MANY_BYTES {
+    if C::Elem::BITS <= u16::BITS && count >= MANY_BITS / C::Elem::BITS as usize {
         return at_known_skip!(
-            skip,
+            u16: skip,
             swap_each::<O, C, D>(left, first, right, source, waiting, skip, count)
         );
     }

@@ -1,5 +1,5 @@
 //! Words of 64 bits of a memory.
-ghost use Rattle.std.specs.Prelude.{◌≡◌, ℕ, ◌<◌, true};
+ghost use Rattle.std.specs.Prelude.{◌≡◌, ◌<◌, true};
 ghost use Rattle.bitvec_words.specs.base.Memory.{HasWindow, Writes, element_bits, list_in};
 ghost use Rattle.bitvec_words.specs.cells.Access.{CostsAtMost, OnlyReadsAtMost};
 ghost use Rattle.bitvec_words.specs.walk.Cost.{step_span};

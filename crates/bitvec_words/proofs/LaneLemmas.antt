@@ -14,7 +14,7 @@ use Rattle.bitvec_words.specs.ElementLaws.{element-or}
 use Rattle.bitvec_words.specs.Lanes.{AreJoined, AreWords, IsJoined, number_of_words, words_between}
 use Rattle.bitvec_words.specs.OrderEnd.{RunsFrom}
 use Rattle.bitvec_words.specs.OrderEndLaws.{shl-high, shl-low, shr-high, shr-low}
-use Rattle.bitvec_words.specs.ShiftedLaws.{shifted-joined}
+use Rattle.bitvec_words.specs.ShiftedLaws.{shifted-joined_twice}
 
 -- ---- one word joined of two
 
@@ -26,7 +26,7 @@ or_of at k x y v w bound first second =
     element-or 64 at v w
     ∙ ap (λ (l : List Bool). combined ◌||◌ l (element_bits 64 at w)) first
     ∙ ap (combined ◌||◌ (shifted_start k (element_bits 64 at x))) second
-    ∙ shifted-joined 64 64 k _ _ (length-element_bits 64 at x) (length-element_bits 64 at y) refl bound
+    ∙ shifted-joined_twice 64 k _ _ (length-element_bits 64 at x) (length-element_bits 64 at y) bound
 
 joined-low : (high : Bool) (at : ℕ → ℕ → ℕ) → RunsFrom high 64 at → high ≡ false → (k x y : ℕ) → k < 64 → x < 2 ^ 64
     → IsJoined at k x y (bit_or (x / 2 ^ k) (y * 2 ^ 1 % 2 ^ 64 * 2 ^ (63 - k) % 2 ^ 64))

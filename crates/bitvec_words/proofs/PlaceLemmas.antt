@@ -5,7 +5,7 @@ use Rattle.std.proofs.Math.Nat.{mul-le-mul_left}
 use Rattle.std.proofs.lemmas.Nat.{div-add-mod', div-mul-add, mod_below}
 use Rattle.bitvec_cells.specs.base.declared.part.Part.{Part}
 use Rattle.bitvec_cells.specs.base.declared.window.Window.{Window}
-use Rattle.bitvec_cells.specs.base.Memory.{HasWindow, list_in}
+use Rattle.bitvec_cells.specs.base.Memory.{HasWindow}
 use Rattle.bitvec_cells.specs.base.Parts.{HasPart, first_part_of, tail_part_of}
 use Rattle.bitvec_cells.specs.base.Window.{window_after}
 use Rattle.bitvec_cells.specs.Cost.{touched_count}
@@ -13,14 +13,13 @@ use Rattle.bitvec_cells.specs.store.Width.{IsWidth}
 use Rattle.bitvec_cells.specs.store.WidthLaws.{width_some}
 use Rattle.bitvec_cells.specs.Walk.{Walked}
 use Rattle.bitvec_cells.specs.WalkLaws.{Walked-start, first-len, first-place}
-use Rattle.bitvec_words.specs.Elements.{elements_window, whole_of}
+use Rattle.bitvec_words.specs.Elements.{elements_window}
 use Rattle.bitvec_words.specs.FieldLaws.{element_of, first_part-long}
 use Rattle.bitvec_words.specs.FieldWalkLaws.{HasPart-first}
 use Rattle.bitvec_words.specs.Front.{front_window}
 use Rattle.bitvec_words.specs.TouchedLaws.{head_edge, touched-head, touched-rest}
 use Rattle.bitvec_words.specs.WholeLaws.{HasWindow-part}
 use Rattle.bitvec_words.specs.WordLaws.{word_whole}
-use Rattle.bitvec_words.proofs.FrontLemmas.{list-same}
 use Rattle.bitvec_words.proofs.ScanLemmas.{HasWindow-after}
 
 -- the width as a word, an index, and a window's end
@@ -95,9 +94,6 @@ module _ (b w : ℕ) (window : Window) (part : Part) (width : IsWidth b) (is : w
 
 pub whole-all : (b n : ℕ) → n % b ≡ 0 → n / b * b ≡ n
 whole-all b n full = let all = div-add-mod' n b in omega arith
-
-pub list-all : (b : ℕ) (at : ℕ → ℕ → ℕ) (xs : List ℕ) (window : Window) → window.start % b ≡ 0 → window.len % b ≡ 0 → list_in b at xs (whole_of b window) ≡ list_in b at xs window
-list-all b at xs window edge full = list-same b at xs (whole_of b window) window (whole-all b window.start edge) (whole-all b window.len full)
 
 pub HasPart-tail : (b : ℕ) (xs : List ℕ) (window : Window) → IsWidth b → HasWindow b xs window → window.start % b ≡ 0 → window.len % b ≢ 0 → HasPart b xs (tail_part_of b window)
 HasPart-tail b xs window width has edge left =

@@ -1,10 +1,10 @@
 -- Lists of bits that are moved toward their start or end: their places, and two of them side by side.
-use Rattle.std.specs.Prelude.{◌≡◌, ℕ, ◌+◌, ◌-◌, ◌<◌, ◌≤◌, Bool, false, ◌||◌, List, ◌++◌, length, take, drop, slice_index_or, refl}
+use Rattle.std.specs.Prelude.{◌≡◌, ℕ, ◌+◌, ◌-◌, ◌<◌, ◌≤◌, Bool, true, false, ◌||◌, List, ◌++◌, length, take, drop, slice_index_or, refl}
 use Rattle.std.proofs.Common.{arith, rules, sym, ◌∙◌, ap, ⊎_elim, length-append, length-take, length-drop}
 use Rattle.std.proofs.Math.Bool.{or-false}
 use Rattle.std.proofs.lemmas.Bool.{cases_lt}
 use Rattle.std.proofs.lemmas.List.{same_lists, places}
-use Rattle.bitvec_cells.specs.base.Lists.{combined, shifted_start, shifted_end}
+use Rattle.bitvec_cells.specs.base.Lists.{combined, differs, shifted_start, shifted_end}
 use Rattle.bitvec_cells.specs.base.LengthLaws.{length-shifted_start}
 use Rattle.bitvec_cells.specs.base.ListsLaws.{combined-is}
 
@@ -39,27 +39,41 @@ get-across_first k first second i h = grind (arith, places)
 get-across_second : (k : ℕ) (first second : List Bool) (i : ℕ) → k ≤ length first → length first ≤ i + k → i < length first → slice_index_or (drop k first ++ take k second) i false ≡ slice_index_or second (i - (length first - k)) false
 get-across_second k first second i fits past h = grind (arith, places)
 
--- the first list moved out and the second one moved in behind it
-pub shifted-across : (k : ℕ) (first second : List Bool) → length second ≡ length first → k ≤ length first → combined ◌||◌ (shifted_start k first) (shifted_end (length first - k) second) ≡ drop k first ++ take k second
-shifted-across k first second long fits =
+-- the first list moved out and the second one moved in behind it, put together by what keeps the one beside a 0
+pub shifted-across : (f : Bool → Bool → Bool) → ((x : Bool) → f x false ≡ x) → ((x : Bool) → f false x ≡ x) → (k : ℕ) (first second : List Bool) → length second ≡ length first → k ≤ length first → combined f (shifted_start k first) (shifted_end (length first - k) second) ≡ drop k first ++ take k second
+shifted-across f left_kept right_kept k first second long fits =
     let left = shifted_start k first in
     let right = shifted_end (length first - k) second in
     let whole = length-shifted_start k first fits in
     let across : length (drop k first ++ take k second) ≡ length left = omega (arith, length-append (drop k first) (take k second), length-drop k first, length-take k second) in
-    sym (combined-is ◌||◌ left right (drop k first ++ take k second) across (λ i inside. ⊎_elim
+    sym (combined-is f left right (drop k first ++ take k second) across (λ i inside. ⊎_elim
     (λ (short : i + k < length first).
     let moved = get-shifted_start k first i false short in
     let none = get-shifted_end_left (length first - k) second i false (omega arith) in
-    get-across_first k first second i short ∙ rw (moved, none, or-false) refl)
+    get-across_first k first second i short ∙ rw (moved, none) (sym (left_kept _)))
     (λ (past : length first ≤ i + k).
     let none = get-shifted_start_left k first i false fits (omega arith) past in
     let moved = get-shifted_end (length first - k) second i false (omega arith) (omega arith) in
-    get-across_second k first second i fits past (omega arith) ∙ rw (none, moved) refl)
+    get-across_second k first second i fits past (omega arith) ∙ rw (none, moved) (sym (right_kept _)))
     (cases_lt (i + k) (length first))))
 
--- the same, where the second list is moved by one place first
-pub shifted-joined : (b bits k : ℕ) (first second : List Bool) → length first ≡ b → length second ≡ b → bits ≡ b → k < b → combined ◌||◌ (shifted_start k first) (shifted_end (bits - 1 - k) (shifted_end 1 second)) ≡ drop k first ++ take k second
+differs-false : (x : Bool) → differs x false ≡ x
+differs-false true = refl
+differs-false false = refl
+
+false-differs : (x : Bool) → differs false x ≡ x
+false-differs true = refl
+false-differs false = refl
+
+pub shifted-joined : (b bits k : ℕ) (first second : List Bool) → length first ≡ b → length second ≡ b → bits ≡ b → k < b → combined differs (shifted_start k first) (shifted_end (bits - k) second) ≡ drop k first ++ take k second
 shifted-joined b bits k first second long other same h =
-    let sum : 1 + (bits - 1 - k) ≡ length first - k = omega arith in
-    ap (λ (l : List Bool). combined ◌||◌ (shifted_start k first) l) (shifted_end-twice 1 (bits - 1 - k) second (omega arith) ∙ ap (λ (n : ℕ). shifted_end n second) sum)
-    ∙ shifted-across k first second (omega arith) (omega arith)
+    let sum : bits - k ≡ length first - k = omega arith in
+    ap (λ (n : ℕ). combined differs (shifted_start k first) (shifted_end n second)) sum
+    ∙ shifted-across differs differs-false false-differs k first second (omega arith) (omega arith)
+
+-- the same by `or`, where the second list is moved by one place first
+pub shifted-joined_twice : (b k : ℕ) (first second : List Bool) → length first ≡ b → length second ≡ b → k < b → combined ◌||◌ (shifted_start k first) (shifted_end (b - 1 - k) (shifted_end 1 second)) ≡ drop k first ++ take k second
+shifted-joined_twice b k first second long other h =
+    let sum : 1 + (b - 1 - k) ≡ length first - k = omega arith in
+    ap (λ (l : List Bool). combined ◌||◌ (shifted_start k first) l) (shifted_end-twice 1 (b - 1 - k) second (omega arith) ∙ ap (λ (n : ℕ). shifted_end n second) sum)
+    ∙ shifted-across ◌||◌ or-false (λ x. refl) k first second (omega arith) (omega arith)

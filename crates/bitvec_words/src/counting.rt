@@ -1,5 +1,5 @@
 //! How many bits of a window are 1, or 0.
-ghost use Rattle.std.specs.Prelude.{◌≡◌, ℕ, ◌+◌, ◌*◌, ◌/◌, ◌%◌, ◌<◌, ◌≤◌, not, count_by};
+ghost use Rattle.std.specs.Prelude.{◌≡◌, ◌+◌, ◌*◌, ◌/◌, ◌%◌, ◌<◌, ◌≤◌, not, count_by};
 ghost use Rattle.bitvec_cells.specs.base.Memory.{HasWindow, list_in};
 ghost use Rattle.bitvec_cells.specs.Access.{OnlyReads};
 ghost use Rattle.bitvec_cells.specs.Cost.{touched_count};

@@ -39,7 +39,7 @@ pub fn toward_end<O: WordOrder, T: BitStore>(element: T, by: usize) -> T
 
 /// The element that stands `skip` bits into two elements side by side: the bits of `first` from
 /// index `skip` on, and then the first `skip` bits of `second`. Condition: `skip` is above 0 and
-/// below the width. Cost: three shifts.
+/// below the width. Cost: two shifts.
 pub fn joined<O: WordOrder, T: BitStore>(first: T, second: T, skip: usize) -> T
     requires some { 0 < skip }
     requires bound { skip < T.BITS }
@@ -47,10 +47,9 @@ pub fn joined<O: WordOrder, T: BitStore>(first: T, second: T, skip: usize) -> T
         ≡ drop skip (element_bits T.BITS O.at (T.value first))
         ++ take skip (element_bits T.BITS O.at (T.value second)) }
 {
-    // in two shifts: one by `BITS - skip` is compiled to a slow double shift
-    let moved = toward_end::<O, T>(second, 1);
-    let carried = toward_end::<O, T>(moved, T::BITS as usize - 1 - skip);
-    toward_start::<O, T>(first, skip).or(carried)
+    // by `xor`: an `or` of such shifts is compiled to a slow double shift
+    let carried = toward_end::<O, T>(second, T::BITS as usize - skip);
+    toward_start::<O, T>(first, skip).xor(carried)
 }
 
 /// The old element with the bits at the indices from `from` up to, without, `to` taken from the

@@ -1,6 +1,6 @@
 //! The first bits of a window as a word.
 ghost use Rattle.std.specs.Prelude.{◌≡◌, ◌+◌, ◌<◌, ◌≤◌, slice_range};
-ghost use Rattle.bitvec_cells.specs.base.Memory.{HasWindow, element_bits, list_in};
+ghost use Rattle.bitvec_cells.specs.base.Memory.{HasWindow, element_bits};
 ghost use Rattle.bitvec_cells.specs.Access.{OnlyReads};
 ghost use Rattle.bitvec_words.specs.Front.{IsFront, front_window};
 ghost use Rattle.bitvec_cells.specs.Cost.{touched_count};

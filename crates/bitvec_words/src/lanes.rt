@@ -101,7 +101,7 @@ fn joined_words<O: WordOrder>(first: u64x2, second: u64x2, skip: u64) -> u64x2
     ensures words { AreWords result }
     ensures joined { AreJoined O.at skip first second result }
 {
-    // in two shifts, as `crate::joined`, since none may be by the whole width
+    // in two shifts, since none may be by the whole width
     let (one, rest) = (u64x2::splat(1), u64x2::splat(63 - skip));
     if O::HIGH {
         return (first << u64x2::splat(skip)) | ((second >> one) >> rest);

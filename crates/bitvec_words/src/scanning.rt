@@ -1,5 +1,5 @@
 //! Searches of a window for a bit.
-ghost use Rattle.std.specs.Prelude.{◌≡◌, ℕ, ◌+◌, ◌-◌, ◌*◌, ◌/◌, ◌%◌, ◌<◌, ◌≤◌};
+ghost use Rattle.std.specs.Prelude.{◌≡◌, ◌+◌, ◌-◌, ◌*◌, ◌%◌, ◌<◌};
 ghost use Rattle.bitvec_cells.specs.base.Lists.{first_place, last_place};
 ghost use Rattle.bitvec_cells.specs.base.Memory.{HasWindow, list_in};
 ghost use Rattle.bitvec_cells.specs.Access.{OnlyReadsAtMost};

@@ -1,5 +1,5 @@
 use Rattle.bitvec_cells.specs.base.MemoryLaws.{length-element_bits}
-use Rattle.bitvec_words.specs.ElementLaws.{element-or}
+use Rattle.bitvec_words.specs.ElementLaws.{element-xor}
 use Rattle.bitvec_words.specs.ShiftedLaws.{shifted-joined}
 use Rattle.bitvec_words.proofs.element.joined.Goals as goal
 
@@ -7,5 +7,5 @@ pub returns : goal.returns
 returns g c =
     let b = g.T.BitStore.BITS in
     let at = g.O.BitOrder.at in
-    rw (c.or.ensures, element-or, c.toward_start.ensures, c.toward_end-carried.ensures, c.toward_end-moved.ensures)
+    rw (c.xor.ensures, element-xor, c.toward_start.ensures, c.toward_end-carried.ensures)
     (shifted-joined b c.BITS.result c.args.skip _ _ (length-element_bits b at _) (length-element_bits b at _) c.BITS.ensures c.requires.bound)
