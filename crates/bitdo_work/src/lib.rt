@@ -30,9 +30,7 @@ pub mod commands {
 
 /// What crates above name of `bitvec_engine`.
 pub mod engine {
-    pub use bitvec_run::engine::{
-        BitOp, SliceOrder, bits_copy, bits_copy_within, bits_eq, bits_op, bits_reverse, bits_swap,
-    };
+    pub use bitvec_run::engine::{BitOp, ByWords, SliceOrder};
 }
 
 /// What crates above name of `bitvec_store`.

@@ -94,11 +94,6 @@ pub trait BitEdits<T: BitStore, O: SliceOrder>: ViewMut<T, O> {
     }
 
     /// Puts the bits in the opposite order.
-    ///
-    /// ```
-    /// part.reverse();
-    /// assert!(rt; cells == [0xC7, 0x18]);
-    /// ```
     final fn reverse(&mut self)
         ensures { Self.writes self.old self.new (reverse (Self.shows self.old).bits) }
     {

@@ -1,5 +1,5 @@
 //! Edits of the pieces of a split by closures.
-ghost use Rattle.std.specs.Prelude.{◌≡◌, ◌-◌, ◌<◌, ◌≤◌, IfSome, false, true};
+ghost use Rattle.std.specs.Prelude.{◌-◌, ◌<◌, IfSome, false, true};
 ghost use Rattle.bitvec_cutting.specs.Cutting.{cut};
 ghost use Rattle.bitvec_split.specs.slice.Indices.{HasRange};
 ghost use Rattle.bitvec_split.specs.Asked.{Asked, MayAsk};
@@ -171,7 +171,7 @@ pub trait EditSplits<T: BitStore, O: BitOrder>: EditParts<T, O> {
     /// follows a yes at the last bit, and the empty view has no piece.
     ///
     /// ```
-    /// view.for_each_split_inclusive_mut(|_index, bit| *bit, |_number, piece| piece.invert());
+    /// view.for_each_split_inclusive_mut(is_one, |_number, piece| piece.invert());
     /// ```
     final fn for_each_split_inclusive_mut<
         P: FnMut(usize, &bool) -> bool,
@@ -188,7 +188,7 @@ pub trait EditSplits<T: BitStore, O: BitOrder>: EditParts<T, O> {
     /// asked about the last bits first, and the last piece has number 0.
     ///
     /// ```
-    /// view.for_each_rsplit_mut(|_index, bit| *bit, |number, piece| piece.fill(number == 1));
+    /// view.for_each_rsplit_mut(is_one, |number, piece| piece.fill(number == 1));
     /// ```
     final fn for_each_rsplit_mut<P: FnMut(usize, &bool) -> bool, F: FnMut(usize, &mut Self)>(
         &mut self,
@@ -206,7 +206,7 @@ pub trait EditSplits<T: BitStore, O: BitOrder>: EditParts<T, O> {
     /// many is all that is left, without asking; with `count` 0 there is none.
     ///
     /// ```
-    /// view.for_each_splitn_mut(2, |_index, bit| *bit, |_number, piece| piece.invert());
+    /// view.for_each_splitn_mut(2, is_one, |_number, piece| piece.invert());
     /// ```
     final fn for_each_splitn_mut<P: FnMut(usize, &bool) -> bool, F: FnMut(usize, &mut Self)>(
         &mut self,
@@ -225,7 +225,7 @@ pub trait EditSplits<T: BitStore, O: BitOrder>: EditParts<T, O> {
     /// The first pieces of `for_each_rsplit_mut`, `count` at most, as for `for_each_splitn_mut`.
     ///
     /// ```
-    /// view.for_each_rsplitn_mut(2, |_index, bit| *bit, |_number, piece| piece.invert());
+    /// view.for_each_rsplitn_mut(2, is_one, |_number, piece| piece.invert());
     /// ```
     final fn for_each_rsplitn_mut<P: FnMut(usize, &bool) -> bool, F: FnMut(usize, &mut Self)>(
         &mut self,

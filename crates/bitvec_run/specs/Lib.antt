@@ -1,4 +1,3 @@
-pub mod Cited
 pub mod Commands
 pub mod CommandsLaws
 pub mod Costs

@@ -24,9 +24,7 @@ pub mod cells {
 
 /// What crates above name of `bitvec_engine`.
 pub mod engine {
-    pub use bitvec_engine::{
-        BitOp, SliceOrder, bits_copy, bits_copy_within, bits_eq, bits_op, bits_reverse, bits_swap,
-    };
+    pub use bitvec_engine::{BitOp, ByWords, SliceOrder};
 }
 
 /// What crates above name of `bitvec_segments`.

@@ -1,5 +1,5 @@
-//! Runs on worked rows, the program on streams and memory that fail, and what no clause of either says. The commands
-//! themselves are compared with a model in `runs/`.
+//! Elements, orders, accessors and searches, runs on worked rows, the program on streams and memory that fail, and what
+//! no clause of these says. The commands themselves are compared with a model in `runs/`.
 #![tactic(auto)]
 
 /// The steps of a table of rows: from, up to, and the command.
@@ -11,7 +11,11 @@ macro_rules! steps {
 }
 
 #[cfg(test)]
+mod copy_costs;
+#[cfg(test)]
 mod cost;
+#[cfg(test)]
+mod elements;
 #[cfg(test)]
 mod errors;
 #[cfg(test)]
@@ -19,7 +23,9 @@ mod field_rows;
 #[cfg(test)]
 mod growth;
 #[cfg(test)]
-mod own_order;
+mod kept;
+#[cfg(test)]
+mod orders;
 #[cfg(test)]
 mod program;
 #[cfg(test)]
@@ -27,9 +33,17 @@ mod refusing;
 #[cfg(test)]
 mod rows;
 #[cfg(test)]
+mod searches;
+#[cfg(test)]
+mod sizes;
+#[cfg(test)]
 mod slices;
 #[cfg(test)]
 mod streams;
+#[cfg(test)]
+mod tallied;
+#[cfg(test)]
+mod tally;
 #[cfg(test)]
 mod want_of_memory;
 #[cfg(test)]

@@ -1,5 +1,4 @@
 //! Worked rows: what a run replies, and the memory that it leaves.
-use crate::own_order::Scattered;
 use crate::slices::{FOUR_NIBBLES_REPLIES, answer, four_nibbles};
 use bitdo_work::base::{HiLo, Lsb0};
 use bitdo_work::commands::{Op, Refusal, Reply, RunError, Step, Window};
@@ -121,17 +120,4 @@ fn a_memory_may_be_empty_and_a_window_may_lie_at_its_end(rt: HostRuntime) {
         after: &[0x5A, 0xC3],
     };
     check::<Lsb0, _>(&rt, &mut [0x5A, 0xC3], &end);
-}
-
-// Indices 0, 1 and 2 of a byte are bits 3, 0 and 5.
-#[test]
-fn an_own_order_is_followed(rt: HostRuntime) {
-    let row = Row {
-        window: Window { start: 0, len: 8 },
-        right: &[],
-        steps: &steps!([(0, 3, Op::Fill(true)), (2, 5, Op::CountOnes)]),
-        replies: &[Reply::Done, Reply::Count(1)],
-        after: &[0x29],
-    };
-    check::<Scattered, _>(&rt, &mut [0x00], &row);
 }

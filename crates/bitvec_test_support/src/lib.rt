@@ -17,7 +17,7 @@ pub mod base {
 
 /// What crates above name of `bitvec_cells`.
 pub mod cells {
-    pub use bitvec_cells::{Cells, CellsRead, Exclusive, Shared};
+    pub use bitvec_cells::{Cells, CellsRead, Exclusive, Shared, has_window};
 }
 
 /// What crates above name of `bitvec_store`.

@@ -1,2 +1,2 @@
-pub mod Rotated
+pub mod Scattered
 pub mod Slots

@@ -33,14 +33,19 @@ fn is_third(index: usize, _bit: &bool) -> bool {
     index == 2
 }
 
+/// Whether a bit is 1.
+fn is_one(_index: usize, bit: &bool) -> bool {
+    *bit
+}
+
 /// Edits the pieces of the bits 2 up to 14 of two bytes by each call.
 fn edit_pieces(bytes: &mut [u8; 2]) {
     let mut view = BitSliceMut::<u8, Lsb0>::from_slice_mut(bytes).into_part(2..14);
     invert_between(&mut view, is_third);
-    view.for_each_rsplit_mut(|_index, bit| *bit, |number, piece| piece.fill(number == 1));
-    view.for_each_split_inclusive_mut(|_index, bit| *bit, |_number, piece| piece.invert());
-    view.for_each_splitn_mut(2, |_index, bit| *bit, |_number, piece| piece.invert());
-    view.for_each_rsplitn_mut(2, |_index, bit| *bit, |_number, piece| piece.invert());
+    view.for_each_rsplit_mut(is_one, |number, piece| piece.fill(number == 1));
+    view.for_each_split_inclusive_mut(is_one, |_number, piece| piece.invert());
+    view.for_each_splitn_mut(2, is_one, |_number, piece| piece.invert());
+    view.for_each_rsplitn_mut(2, is_one, |_number, piece| piece.invert());
 }
 
 #[test]

@@ -1,5 +1,5 @@
 //! What a caller knows of a writable split once its pieces were found and lent.
-ghost use Rattle.std.specs.Prelude.{◌≡◌, ◌+◌, false};
+ghost use Rattle.std.specs.Prelude.{◌≡◌, false};
 ghost use Rattle.bitvec.specs.Kept.{KeepsOutside};
 ghost use Rattle.bitvec.specs.SplitFoundLaws.{end_of_found, first_of_found};
 ghost use Rattle.bitvec.specs.SplitLent.{MayGoOnIn, SplitNextIn, piece_if};

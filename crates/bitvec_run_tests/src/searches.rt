@@ -1,8 +1,9 @@
 //! Where the first 0 of a window is, and its first bits as a word: no element is loaded twice.
-use bitvec_engine::SliceOrder;
-use bitvec_engine::base::{HiLo, Msb0, Window};
-use bitvec_engine::cells::{Shared, has_window};
+use bitdo_work::base::{HiLo, Msb0};
+use bitdo_work::commands::Window;
+use bitdo_work::engine::SliceOrder;
 use bitvec_test_support::Counted;
+use bitvec_test_support::cells::{Shared, has_window};
 
 /// Whether the first 0 of bits 3 to 20 is at this index of them, found by three loads at most, and those of the
 /// first byte are five ones, found by one load.

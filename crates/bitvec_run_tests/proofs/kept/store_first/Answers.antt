@@ -4,7 +4,7 @@ use Rattle.bitvec_test_support.specs.base.Memory.{memory_bits, element_bits}
 use Rattle.bitvec_test_support.specs.base.MemoryLaws.{set-element}
 use Rattle.bitvec_test_support.specs.store.WidthLaws.{width_some}
 use Rattle.bitvec_test_support.specs.base.Window.{write_at}
-use Rattle.bitvec_engine_tests.proofs.kept.store_first.Goals as goal
+use Rattle.bitvec_run_tests.proofs.kept.store_first.Goals as goal
 
 pub returns : goal.returns
 returns g c =

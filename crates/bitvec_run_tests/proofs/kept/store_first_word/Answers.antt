@@ -3,7 +3,7 @@ use Rattle.std.proofs.lemmas.List.{map-id}
 use Rattle.bitvec_test_support.specs.base.BitsFixMemory.{write_at-keeps}
 use Rattle.bitvec_test_support.specs.base.HiLoLaws.{hilo_permutes}
 use Rattle.bitvec_test_support.specs.base.MemoryLaws.{length-element_bits}
-use Rattle.bitvec_engine_tests.proofs.kept.store_first_word.Goals as goal
+use Rattle.bitvec_run_tests.proofs.kept.store_first_word.Goals as goal
 
 pub returns : goal.returns
 returns c e h =

@@ -1,11 +1,11 @@
 //! What the elements that a command stores are made of.
-ghost use Rattle.std.specs.Prelude.{◌≡◌};
 
 use crate::tally::Tally;
-use bitvec_engine::base::{HiLo, Lsb0, Msb0, Window};
-use bitvec_engine::cells::{Cells, CellsRead, Exclusive, has_window};
-use bitvec_engine::store::BitStore;
-use bitvec_engine::{BitOp, SliceOrder};
+use bitdo_work::base::{HiLo, Lsb0, Msb0};
+use bitdo_work::commands::Window;
+use bitdo_work::engine::{BitOp, SliceOrder};
+use bitvec_test_support::cells::{Cells, CellsRead, Exclusive, has_window};
+use bitvec_test_support::store::BitStore;
 
 /// An accessor whose elements are of no operation when they are loaded, and which adds up the
 /// operations of those that are stored; at most `u64::MAX`.

@@ -2,7 +2,7 @@
 ghost use Rattle.std.specs.Prelude.{◌≡◌, ◌-◌, ◌^◌, refl};
 ghost use Rattle.std.proofs.Common.{rules};
 
-use bitvec_engine::store::BitStore;
+use bitvec_test_support::store::BitStore;
 
 /// A number of 64 bits, with a count of the operations that it came from: none of a constant, one
 /// of a number, and of each other operation one more than those of its operands; at most

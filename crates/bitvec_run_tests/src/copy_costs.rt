@@ -1,13 +1,13 @@
 //! What a caller knows of the cost of a copy under any order that works by words, and that costs are counted.
 ghost use Rattle.std.specs.Prelude.{◌≡◌, true};
-ghost use Rattle.bitvec_engine.specs.base.Memory.{HasWindow};
-ghost use Rattle.bitvec_engine.specs.cells.Access.{CostsAtMost, OnlyReadsAtMost};
-ghost use Rattle.bitvec_engine.specs.walk.Cost.{read_loads, write_loads, write_stores};
+ghost use Rattle.bitdo_work.specs.base.Memory.{HasWindow};
+ghost use Rattle.bitdo_work.specs.cells.Access.{CostsAtMost, OnlyReadsAtMost};
+ghost use Rattle.bitdo_work.specs.walk.Cost.{read_loads, write_loads, write_stores};
 
-use bitvec_engine::ByWords;
-use bitvec_engine::base::Window;
-use bitvec_engine::cells::{Cells, CellsRead, Exclusive};
+use bitdo_work::commands::Window;
+use bitdo_work::engine::ByWords;
 use bitvec_test_support::Counted;
+use bitvec_test_support::cells::{Cells, CellsRead, Exclusive};
 
 /// Copies a window, in steps of 64 bits.
 pub fn copy_in_steps<O: ByWords, C: Cells, D: CellsRead<Elem = C::Elem>>(

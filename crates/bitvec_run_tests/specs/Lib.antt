@@ -1,2 +1,0 @@
-pub mod Scattered
-pub mod ScatteredLaws
