@@ -1,6 +1,6 @@
 -- Runs of fields: how one grows, and what lies in one.
-use Rattle.std.specs.Prelude.{◌≡◌, ℕ, ◌+◌, ◌-◌, ◌<◌, ◌≤◌, ◌⊎◌, List, length, refl}
-use Rattle.std.proofs.Common.{arith, inl, inr, suc, sym, zero, ⊎_elim}
+use Rattle.std.specs.Prelude.{◌≡◌, ℕ, ◌+◌, ◌-◌, ◌<◌, ◌≤◌, ◌⊎◌, List, refl}
+use Rattle.std.proofs.Common.{arith, inl, inr, suc, zero, ⊎_elim}
 use Rattle.bitvec.specs.Types.{Window}
 use Rattle.bitrecord.specs.Layouts.{AreApart, EachField, HasWidth, IsLayout, field_at}
 use Rattle.bitrecord.specs.RecordLaws.{beside-or-in}
@@ -9,39 +9,6 @@ use Rattle.bitrecord.specs.Runs.{IsRun, across, end_of}
 
 earlier_or_last : (k n : ℕ) → k ≤ n → (k < n) ⊎ (k ≡ n)
 earlier_or_last k n low = grind arith
-
--- a field alone
-pub run-alone : (fields : List Window) (n : ℕ) → EachField HasWidth fields → n < length fields → IsRun fields n n
-run-alone fields n widths below =
-    let some = (widths n below).some in
-    record {
-      order = omega arith;
-      below = below;
-      next = λ k from low. absurd (omega arith);
-      front = λ k from low. let is : k ≡ n = omega arith in rw is (omega arith);
-      behind = λ k from low. let is : k ≡ n = omega arith in rw is (omega arith);
-      few = omega arith;
-      bound = λ more. absurd (omega arith);
-    }
-
--- the field behind the last one
-pub run-next : (fields : List Window) (first last next : ℕ) → EachField HasWidth fields → IsRun fields first last → next ≡ last + 1 → next < length fields → (field_at fields next).start ≡ end_of fields last
-    → end_of fields next ≤ (field_at fields first).start + 64 → IsRun fields first next
-run-next fields first last next widths run is below start bound =
-    let some = (widths next below).some in
-    let order = run.order in
-    let few = run.few in
-    let front = run.front last order (omega arith) in
-    let old = (widths last run.below).some in
-    record {
-      order = omega arith;
-      below = below;
-      next = λ k from low. ⊎_elim (λ (earlier : k < last). run.next k from earlier) (λ (this : k ≡ last). rw (this, ← is) (sym start)) (earlier_or_last k last (omega arith));
-      front = λ k from low. ⊎_elim (λ (earlier : k < next). run.front k from (omega arith)) (λ (this : k ≡ next). rw this (omega arith)) (earlier_or_last k next low);
-      behind = λ k from low. ⊎_elim (λ (earlier : k < next). let most = run.behind k from (omega arith) in omega arith) (λ (this : k ≡ next). rw this (omega arith)) (earlier_or_last k next low);
-      few = omega arith;
-      bound = λ more. bound;
-    }
 
 -- each of several fields is narrower than a word
 pub run-narrow : (fields : List Window) (first last k : ℕ) → EachField HasWidth fields → IsRun fields first last → first < last → first ≤ k → k ≤ last → (field_at fields k).len < 64

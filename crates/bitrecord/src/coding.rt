@@ -1,5 +1,5 @@
 //! One field of a record written into a view, and read from it.
-ghost use Rattle.std.specs.Prelude.{◌≡◌, ℕ, ◌+◌, ◌<◌, ◌≤◌, ◌↔◌, IfErr, OnErr, OnOk, IsOk, length, slice_range};
+ghost use Rattle.std.specs.Prelude.{◌≡◌, ◌+◌, ◌<◌, ◌≤◌, ◌↔◌, IfErr, OnErr, OnOk, IsOk, length, slice_range};
 ghost use Rattle.bitvec.specs.Views.{seen, seen_mut};
 ghost use Rattle.bitvec.specs.Integers.{remainder_of};
 ghost use Rattle.bitvec.specs.Segments.{stored_be, stored_le};

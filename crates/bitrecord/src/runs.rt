@@ -1,5 +1,5 @@
 //! Runs: fields that follow one another, of at most 64 bits together.
-ghost use Rattle.std.specs.Prelude.{ℕ, ◌≡◌, ◌+◌, ◌<◌, ◌≤◌, length};
+ghost use Rattle.std.specs.Prelude.{◌+◌, ◌<◌, length};
 ghost use Rattle.bitvec.specs.Window.{IsWithin};
 ghost use Rattle.bitrecord.specs.Layouts.{EachField, HasWidth};
 ghost use Rattle.bitrecord.specs.Runs.{AreRuns, IsRun};

@@ -1,7 +1,7 @@
 //! Tests of a list of fields.
-ghost use Rattle.std.specs.Prelude.{◌≡◌, ℕ, ◌+◌, ◌^◌, ◌<◌, ◌≤◌, ◌↔◌, IfNone, IfSome, IsTrue, IsFalse, length};
+ghost use Rattle.std.specs.Prelude.{◌+◌, ◌^◌, ◌<◌, ◌↔◌, IfNone, IfSome, IsTrue, length};
 ghost use Rattle.bitvec.specs.Window.{IsWithin};
-ghost use Rattle.bitrecord.specs.Layouts.{AreApart, AreApartBefore, EachField, HasWidth, IsApartFrom, IsFirstOverlap, IsFirstWithout, Overlap, field_at};
+ghost use Rattle.bitrecord.specs.Layouts.{AreApartBefore, EachField, HasWidth, IsApartFrom, IsFirstOverlap, IsFirstWithout, Overlap, field_at};
 
 use bitvec::index::Window;
 

@@ -5,7 +5,7 @@ use Rattle.std.specs.Cmp.{nat_cmp_is}
 use Rattle.std.specs.Cmp.Lexicographic.{slice_cmp, unequal}
 use Rattle.std.specs.Ordering.{bool_cmp, nat_cmp, ordering_then}
 use Rattle.std.proofs.Common.{arith, sym, ◌∙◌, ap, ⊎_elim, subst, Ordering, Less, Greater}
-use Rattle.std.proofs.lemmas.Bool.{false_from_ne_true, cases_eq, cases_lt}
+use Rattle.std.proofs.lemmas.Bool.{false_from_ne_true, cases_lt}
 use Rattle.std.proofs.lemmas.Bool.Decides.{nat_tests}
 use Rattle.std.proofs.lemmas.List.{same_lists, get_or_default}
 use Rattle.bitvec_base.specs.Lists.{same_bits, differs}
@@ -15,13 +15,6 @@ use Rattle.bitvec_base.specs.WriteLaws.{get-slice_range}
 -- two lists agree below an index
 abbrev pub SameBelow : List Bool → List Bool → ℕ → Type 0
 SameBelow a b n = (k : ℕ) → k < n → slice_index_or a k false ≡ slice_index_or b k false
-
-pub same-none : (a b : List Bool) → SameBelow a b 0
-same-none a b k h = absurd (omega arith)
-
-pub same-more : (a b : List Bool) (n : ℕ) → SameBelow a b n → slice_index_or a n false ≡ slice_index_or b n false → SameBelow a b (n + 1)
-same-more a b n before here k h =
-    ⊎_elim (λ e. subst (λ i. slice_index_or a i false ≡ slice_index_or b i false) (sym e) here) (λ other. before k (omega arith)) (cases_eq k n)
 
 -- an equal stretch more
 pub same-stretch : (a b : List Bool) (n m : ℕ) → SameBelow a b n → same_bits (slice_range a n m) (slice_range b n m) ≡ true → SameBelow a b m

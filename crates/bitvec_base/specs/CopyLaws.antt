@@ -1,20 +1,12 @@
 -- A part of a list copied over another part of it, a place at a time, and the shifts that are made so.
-use Rattle.std.specs.Prelude.{◌≡◌, ℕ, ◌+◌, ◌-◌, ◌<◌, ◌≤◌, Bool, false, List, [], ◌∷◌, ◌++◌, length, take, drop, replicate, slice_range, slice_set, slice_index_or}
-use Rattle.std.specs.List.{copy_within}
-use Rattle.std.proofs.Common.{arith, rules, sym, ◌∙◌, ap, subst, append_assoc}
+use Rattle.std.specs.Prelude.{◌≡◌, ℕ, ◌+◌, ◌-◌, ◌<◌, ◌≤◌, Bool, false, List, [], ◌∷◌, ◌++◌, length, replicate, slice_range, slice_set, slice_index_or}
+use Rattle.std.proofs.Common.{arith, rules, ◌∙◌, ap, subst}
 use Rattle.std.proofs.lemmas.List.{same_lists, places}
 use Rattle.bitvec_base.specs.LengthLaws.{length-copied_within}
 use Rattle.bitvec_base.specs.Lists.{copied_within, shifted_start, shifted_end}
 use Rattle.bitvec_base.specs.SliceLaws.{range-push, range-front}
 use Rattle.bitvec_base.specs.Window.{write_at}
 use Rattle.bitvec_base.specs.WriteLaws.{length-slice_range, get-write_at_below, get-write_at_above, set-is_write, write_at-next, write_at-before}
-
--- std's word for the same
-pub copied_within-copy_within : {X : Type 0} (from to dest : ℕ) (list : List X) → to ≤ length list → copied_within from to dest list ≡ copy_within list from to dest
-unfolding copied_within write_at
-copied_within-copy_within from to dest list within =
-    let long = length-slice_range list from to within in
-    rw long (sym (append_assoc (take dest list) (take (to - from) (drop from list)) (drop (dest + (to - from)) list)))
 
 pub copied_within-none : {X : Type 0} (from to dest : ℕ) (list : List X) → to ≤ from → dest ≤ length list → copied_within from to dest list ≡ list
 unfolding copied_within write_at

@@ -1,10 +1,8 @@
 -- How many bits of a list are 1, and how many 0.
 use Rattle.std.specs.Prelude.{◌≡◌, ℕ, ◌+◌, ◌-◌, ◌≤◌, Bool, true, false, not, cond, List, [], ◌∷◌, length, count_by, slice_range, refl}
 use Rattle.std.proofs.Common.{arith, sym, ◌∙◌, ap}
-use Rattle.std.proofs.Math.Nat.{sub_self}
-use Rattle.std.proofs.lemmas.List.Sums.{sum_by-append, sum_by-cons, count_by-le-length}
+use Rattle.std.proofs.lemmas.List.Sums.{sum_by-append, sum_by-cons}
 use Rattle.bitvec_base.specs.SliceLaws.{range-join}
-use Rattle.bitvec_base.specs.WriteLaws.{length-slice_range}
 
 -- the ones and the zeros make up the length
 pub ones_and_zeros : (list : List Bool) → count_by (λ (bit : Bool). bit) list + count_by not list ≡ length list
@@ -32,12 +30,3 @@ pub count-join : (list : List Bool) (a m e : ℕ) → a ≤ m → m ≤ e → e 
 count-join list a m e low high within =
     sym (sum_by-append (λ (bit : Bool). cond bit 1 0) (slice_range list a m) (slice_range list m e))
     ∙ ap (λ (l : List Bool). count_by (λ (bit : Bool). bit) l) (range-join list a m e low high within)
-
-pub count-range : (list : List Bool) (a e : ℕ) → e ≤ length list → count_by (λ (bit : Bool). bit) (slice_range list a e) ≤ e - a
-count-range list a e within =
-    let long = length-slice_range list a e within in
-    let most = count_by-le-length (λ (bit : Bool). bit) (slice_range list a e) in
-    omega arith
-
-pub count-none : (list : List Bool) (a : ℕ) → count_by (λ (bit : Bool). bit) (slice_range list a a) ≡ 0
-count-none list a = rw (sub_self a) refl

@@ -7,7 +7,7 @@ use Rattle.std.proofs.lemmas.Bool.{cases_lt, cases_order}
 use Rattle.std.proofs.lemmas.List.{same_lists, get_or-set_same, get_or-set_other, length-set, length-replicate, get_or-replicate, length-map, get_or-map}
 use Rattle.std.proofs.lemmas.Nat.Bits.{bit_at_and, bit_at_or, bit_at_xor, bit_at-lt, and_pow}
 use Rattle.std.proofs.lemmas.List.FromFn.{length-map-range_with_len, get_or-map-range_with_len}
-use Rattle.std.proofs.lemmas.Nat.{div_below, mod_below, div-mul-add, mod-mul-add, mul-add-lt, row_fits, div-add-mod', and-not, pow_below, pow_pos}
+use Rattle.std.proofs.lemmas.Nat.{div_below, mod_below, div-mul-add, mod-mul-add, row_fits, div-add-mod', and-not, pow_below, pow_pos}
 use Rattle.bitvec_base.specs.Memory.{place_bit, memory_bits, element_bits}
 use Rattle.bitvec_base.specs.Order.{Permutes, mask_of}
 use Rattle.bitvec_base.specs.MaskLaws.{mask_of-lacks, mask_of-has, mask_of-below}
@@ -30,10 +30,6 @@ length-element_bits b at v = length-map-range_with_len (λ i. bit_at v (at b i) 
 pub get-element_bits : (b : ℕ) (at : ℕ → ℕ → ℕ) (v i : ℕ) (d : Bool) → i < b → slice_index_or (element_bits b at v) i d ≡ (bit_at v (at b i) == 1)
 unfolding element_bits
 get-element_bits b at v i d h = get_or-map-range_with_len (λ i. bit_at v (at b i) == 1) 0 b i i d h (omega arith)
-
--- element e has its places from e * b on
-pub place_inside : (b e i n : ℕ) → e < n → i < b → e * b + i < b * n
-place_inside b e i n h k = mul-add-lt e b i n h k
 
 pub place_bit-element : (b : ℕ) (at : ℕ → ℕ → ℕ) (xs : List ℕ) (e i : ℕ) → i < b → place_bit b at xs (e * b + i) ≡ (bit_at (slice_index xs e) (at b i) == 1)
 unfolding place_bit
@@ -232,7 +228,3 @@ element-xor_mask b at p v from to le fits =
 -- a window of a memory is one of its bits
 pub within-bits : (b : ℕ) (at : ℕ → ℕ → ℕ) (xs : List ℕ) (window : Window) → IsWithin window (b * length xs) → IsWithin window (length (memory_bits b at xs))
 within-bits b at xs window within = subst (IsWithin window) (sym (length-memory_bits b at xs)) within
-
--- the same of elements that are seen by their numbers
-pub within-elements : {T : Type 0} (b : ℕ) (at : ℕ → ℕ → ℕ) (value : T → ℕ) (xs : List T) (window : Window) → IsWithin window (b * length xs) → IsWithin window (length (memory_bits b at (map value xs)))
-within-elements b at value xs window within = within-bits b at (map value xs) window (subst (λ (n : ℕ). IsWithin window (b * n)) (sym (length-map xs value)) within)

@@ -52,12 +52,6 @@ window-rewritten bits window old new within old-long new-long =
     let len = within.len in
     write_at-over bits window.start old new (omega arith) (omega arith)
 
-pub length-written : {X : Type 0} (bits : List X) (window : Window) (new : List X) → IsWithin window (length bits) → length new ≡ window.len → length (write_window bits window new) ≡ length bits
-length-written bits window new within long =
-    let start = within.start in
-    let len = within.len in
-    length-write_at bits window.start new (omega arith)
-
 -- a part of a window is a window
 pub part-of_window : {X : Type 0} (bits : List X) (window part : Window) (from : ℕ) → IsWithin window (length bits) → part.start ≡ window.start + from → from + part.len ≤ window.len → window_of bits part ≡ slice_range (window_of bits window) from (from + part.len)
 unfolding window_of
@@ -90,26 +84,6 @@ pub window-past : {X : Type 0} (bits : List X) (window : Window) (i : ℕ) (d : 
 window-past bits window i d within h =
     let long = length-window bits window within in
     get_or-eq_default (window_of bits window) d (omega arith)
-
--- the window holds a list, and the list is edited
-pub edit-next : {X : Type 0} (before now after : List X) (window : Window) (list : List X) (edit : List X → List X) → IsWithin window (length before) → length list ≡ window.len → length (edit list) ≡ window.len → now ≡ write_window before window list → after ≡ write_window now window (edit (window_of now window)) → after ≡ write_window before window (edit list)
-edit-next before now after window list edit within old-long new-long held edited =
-    let holds : window_of now window ≡ list = ap (λ l. window_of l window) held ∙ window-written before window list within old-long in
-    edited
-    ∙ ap (λ l. write_window now window (edit l)) holds
-    ∙ ap (λ l. write_window l window (edit list)) held
-    ∙ window-rewritten before window list (edit list) within old-long new-long
-
--- an edit of the values from..to of a window is an edit of the window's list
-pub part-edit : {X : Type 0} (before after : List X) (window part : Window) (from to : ℕ) (edit : List X → List X) → IsWithin window (length before) → part.start ≡ window.start + from → part.len ≡ to - from → from ≤ to → to ≤ window.len → length (edit (slice_range (window_of before window) from to)) ≡ to - from → after ≡ write_window before part (edit (window_of before part)) → after ≡ write_window before window (write_at (window_of before window) from (edit (slice_range (window_of before window) from to)))
-part-edit before after window part from to edit within place long order bound kept edited =
-    let end : from + part.len ≡ to = omega arith in
-    let holds : window_of before part ≡ slice_range (window_of before window) from to =
-    part-of_window before window part from within place (omega arith)
-    ∙ ap (λ (e : ℕ). slice_range (window_of before window) from e) end in
-    edited
-    ∙ ap (λ l. write_window before part (edit l)) holds
-    ∙ part-written before window part from (edit (slice_range (window_of before window) from to)) within place (omega arith)
 
 -- an exchange of two values, as two writes
 pub swap-writes : {X : Type 0} (bits : List X) (window : Window) (i j : ℕ) (d : X) → IsWithin window (length bits) → i < window.len → j < window.len

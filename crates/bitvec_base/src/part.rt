@@ -1,5 +1,5 @@
 //! Where a window is cut at the edges of elements: the one place that decides it.
-ghost use Rattle.std.specs.Prelude.{◌≡◌, ℕ, ◌+◌, ◌-◌, ◌/◌, ◌^◌, ◌<◌, ◌≤◌};
+ghost use Rattle.std.specs.Prelude.{◌≡◌, ◌+◌, ◌-◌, ◌/◌, ◌^◌, ◌<◌, ◌≤◌};
 ghost use Rattle.bitvec_base.specs.Parts.{first_part_of, last_part_of, tail_part_of};
 
 use crate::Window;

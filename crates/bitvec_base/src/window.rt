@@ -1,5 +1,5 @@
 //! A window: the bits of a memory that a call works on.
-ghost use Rattle.std.specs.Prelude.{◌≡◌, ℕ, ◌+◌, ◌-◌, ◌≤◌, ◌<◌, ◌^◌, ◌↔◌, IsTrue};
+ghost use Rattle.std.specs.Prelude.{◌≡◌, ◌+◌, ◌-◌, ◌≤◌, ◌<◌, ◌^◌, ◌↔◌, IsTrue};
 
 /// The most bits that a memory may have: `bitvec`'s `BitSlice::MAX_BITS`.
 pub const MAX_BITS: usize = usize::MAX / 8;

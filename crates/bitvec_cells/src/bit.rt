@@ -1,5 +1,5 @@
 //! One bit of a window, read or replaced.
-ghost use Rattle.std.specs.Prelude.{◌≡◌, ℕ, ◌+◌, ◌-◌, ◌*◌, ◌/◌, ◌%◌, ◌<◌, ◌≤◌, List, length, slice_index_or, slice_set, false};
+ghost use Rattle.std.specs.Prelude.{◌≡◌, ◌+◌, ◌-◌, ◌/◌, ◌%◌, ◌<◌, slice_index_or, slice_set, false};
 ghost use Rattle.bitvec_cells.specs.base.Memory.{Edits, HasWindow, list_in};
 ghost use Rattle.bitvec_cells.specs.Access.{Costs, OnlyReads};
 

@@ -1,5 +1,5 @@
 //! Counted access to the elements of a memory: the only way in which bit work reaches one.
-ghost use Rattle.std.specs.Prelude.{◌≡◌, ℕ, ◌+◌, ◌*◌, ◌^◌, ◌<◌, ◌≤◌, ◌↔◌, List, length, slice_index, slice_set, IsTrue};
+ghost use Rattle.std.specs.Prelude.{◌≡◌, ℕ, ◌+◌, ◌*◌, ◌^◌, ◌<◌, ◌↔◌, List, length, slice_index, slice_set, IsTrue};
 ghost use Rattle.bitvec_base.specs.Memory.{FitsMaxBits, HasWindow};
 
 use bitvec_base::store::BitStore;

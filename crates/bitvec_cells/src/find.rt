@@ -1,5 +1,5 @@
 //! Where a bit stands in a part of one element.
-ghost use Rattle.std.specs.Prelude.{◌≡◌, ℕ, ◌+◌, ◌-◌, ◌*◌, ◌≤◌, Bool, List, length, slice_range};
+ghost use Rattle.std.specs.Prelude.{◌≡◌, ◌-◌, ◌≤◌, slice_range};
 ghost use Rattle.bitvec_cells.specs.base.Lists.{first_place, last_place};
 ghost use Rattle.bitvec_cells.specs.base.Memory.{element_bits, list_in};
 ghost use Rattle.bitvec_cells.specs.base.Parts.{HasPart, part_window};

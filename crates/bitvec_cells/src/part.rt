@@ -1,5 +1,5 @@
 //! Parts of one element: counted, filled, flipped.
-ghost use Rattle.std.specs.Prelude.{◌≡◌, ℕ, ◌+◌, ◌-◌, ◌*◌, ◌^◌, ◌<◌, ◌≤◌, ◌==◌, if◌then◌else◌, Bool, true, false, not, length, map, replicate, count_by, bit_and, bit_xor};
+ghost use Rattle.std.specs.Prelude.{◌≡◌, ◌-◌, ◌^◌, ◌<◌, ◌≤◌, ◌==◌, if◌then◌else◌, not, map, replicate, count_by, bit_and, bit_xor};
 ghost use Rattle.bitvec_cells.specs.base.Memory.{Writes, list_in};
 ghost use Rattle.bitvec_cells.specs.base.Order.{mask_of};
 ghost use Rattle.bitvec_cells.specs.base.Parts.{HasPart, part_window};

@@ -1,7 +1,6 @@
 //! Runs of whole lists of steps.
-ghost use Rattle.std.specs.Prelude.{◌≡◌, ◌++◌, ◌≤◌, drop, length, map, true};
+ghost use Rattle.std.specs.Prelude.{◌≡◌, ◌++◌, drop, length, map};
 ghost use Rattle.bitvec_checked.specs.commands.base.Memory.{FitsMaxBits, HasWindow, Writes, list_in, memory_bits};
-ghost use Rattle.bitvec_checked.specs.commands.Runs.{whole_window};
 ghost use Rattle.bitvec_checked_run.specs.Runs.{FitRoom, Runs, are_steps, list_after_steps, raw_replies, steps_status};
 ghost use Rattle.bitvec_checked.specs.Statuses.{bits_from};
 

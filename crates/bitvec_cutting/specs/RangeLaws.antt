@@ -1,10 +1,9 @@
 -- Chunks as the ranges from their first index on.
-use Rattle.std.specs.Prelude.{◌≡◌, ℕ, ◌+◌, ◌*◌, ◌/◌, ◌%◌, ◌<◌, List, length, slice_index_or, slice_range}
-use Rattle.std.proofs.Common.{arith, ◌∙◌, ap, sym}
+use Rattle.std.specs.Prelude.{◌≡◌, ℕ, ◌+◌, ◌*◌, ◌<◌, List, length, slice_range}
+use Rattle.std.proofs.Common.{arith}
 use Rattle.std.proofs.Math.Nat.{add-mul, lt_of_mul-lt-mul_right}
 use Rattle.std.proofs.lemmas.Grind.{div_ceil_times}
 use Rattle.std.proofs.lemmas.List.{places, same_lists}
-use Rattle.std.proofs.lemmas.Nat.{div-add-mod', mod_below}
 use Rattle.bitvec_cutting.specs.Cutting.{chunk, chunk_count, cut}
 
 -- a chunk's range may end behind the list
@@ -18,15 +17,3 @@ pub chunk-counted : {len : ℕ} (size k : ℕ) → 0 < size → k * size < len �
 chunk-counted {len} size k some begins =
     let ends = div_ceil_times len size some in
     lt_of_mul-lt-mul_right size (omega arith)
-
--- lists of which all chunks are the same are the same
-pub same_by_chunks : {X : Type 0} (xs ys : List X) (size : ℕ) → 0 < size → length xs ≡ length ys
-    → ((k : ℕ) → k * size < length xs → slice_range xs (k * size) (k * size + size) ≡ slice_range ys (k * size) (k * size + size)) → xs ≡ ys
-same_by_chunks {X} xs ys size some long same = same_lists xs ys long (λ i d inside.
-    let k = i / size in
-    let rest = i % size in
-    let place = div-add-mod' i size in
-    let small = mod_below i size some in
-    let at : (l : List X) → slice_index_or (slice_range l (k * size) (k * size + size)) rest d ≡ slice_index_or l i d =
-    λ l. grind (arith, places) in
-    sym (at xs) ∙ ap (λ (l : List X). slice_index_or l rest d) (same k (omega arith)) ∙ at ys)

@@ -1,5 +1,5 @@
 //! The bits of a window copied to another place of it.
-ghost use Rattle.std.specs.Prelude.{◌≡◌, ℕ, ◌-◌, ◌*◌, ◌<◌, ◌≤◌, false, slice_set, slice_index_or};
+ghost use Rattle.std.specs.Prelude.{◌-◌, ◌*◌, ◌<◌, ◌≤◌, false, slice_set, slice_index_or};
 ghost use Rattle.bitvec_combine.specs.base.Lists.{FitsWithin, copied_within};
 ghost use Rattle.bitvec_combine.specs.base.Memory.{Edits, HasWindow, Writes, list_in};
 ghost use Rattle.bitvec_combine.specs.cells.Access.{Costs};

@@ -1,5 +1,5 @@
 //! The bits of a window rotated, by reversals.
-ghost use Rattle.std.specs.Prelude.{◌≡◌, ℕ, ◌-◌, ◌≤◌, reverse as reversed, slice_range};
+ghost use Rattle.std.specs.Prelude.{◌-◌, ◌≤◌, reverse as reversed, slice_range};
 ghost use Rattle.bitvec_combine.specs.base.Lists.{rotated_left, rotated_right};
 ghost use Rattle.bitvec_combine.specs.base.Memory.{Edits, HasWindow, Writes, list_in};
 ghost use Rattle.bitvec_combine.specs.base.Window.{write_at};

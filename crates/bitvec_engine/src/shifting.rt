@@ -1,5 +1,5 @@
 //! The bits of a window shifted towards one of its ends.
-ghost use Rattle.std.specs.Prelude.{◌≡◌, ℕ, ◌+◌, ◌-◌, ◌≤◌};
+ghost use Rattle.std.specs.Prelude.{◌+◌, ◌-◌, ◌≤◌};
 ghost use Rattle.bitvec_combine.specs.base.Lists.{shifted_end, shifted_start};
 ghost use Rattle.bitvec_combine.specs.base.Memory.{Edits, HasWindow};
 ghost use Rattle.bitvec_combine.specs.cells.Access.{CostsAtMost};

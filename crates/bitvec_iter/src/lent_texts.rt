@@ -1,5 +1,5 @@
 //! The texts of lenders.
-ghost use Rattle.std.specs.Prelude.{◌≡◌, ◌++◌, ◌<◌, Some, codes, slice_range};
+ghost use Rattle.std.specs.Prelude.{◌++◌, ◌<◌, Some, codes, slice_range};
 ghost use Rattle.std.specs.Fmt.{WritesOnOk, debug_variant};
 ghost use Rattle.std.specs.List.{join_by};
 ghost use Rattle.bitvec_slice.specs.traits.Listing.{bits_text, comma, listed};

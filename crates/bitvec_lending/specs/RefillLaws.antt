@@ -1,8 +1,8 @@
 -- A list of which a range was lent keeps the others.
-use Rattle.std.specs.Prelude.{◌≡◌, ℕ, ◌+◌, ◌-◌, ◌<◌, ◌≤◌, ◌⊎◌, List, ◌++◌, drop, length, slice_index_or, slice_range, take, refl}
+use Rattle.std.specs.Prelude.{◌≡◌, ℕ, ◌+◌, ◌-◌, ◌≤◌, List, ◌++◌, drop, length, slice_range, take, refl}
 use Rattle.std.specs.List.{refill, length_refill}
-use Rattle.std.proofs.Common.{arith, rules, sym, subst, ◌∙◌, ap, ⊎_elim, length-drop, length-take}
-use Rattle.std.proofs.lemmas.List.{get_or-drop, get_or-take, places, same_lists, take_at}
+use Rattle.std.proofs.Common.{arith, rules, sym, subst, ◌∙◌, length-drop, length-take}
+use Rattle.std.proofs.lemmas.List.{places, same_lists, take_at}
 use Rattle.bitvec_lending.specs.Kept.{KeepsOutside}
 use Rattle.bitvec_lending.specs.Refill.{with_range}
 
@@ -23,12 +23,3 @@ pub refilled-keeps : {X : Type 0} (xs ws : List X) (start end : ℕ) → start �
 refilled-keeps {X} xs ws start end order bound =
     let kept = with_range-keeps xs ws start end order bound in
     subst (λ (ys : List X). KeepsOutside start end xs ys) (sym (take_at (with_range xs start end ws) (drop (length (with_range xs start end ws)) xs) (length xs) kept.length)) kept
-
--- a value outside is as before
-pub kept-at : {X : Type 0} {start end : ℕ} {old new : List X} (i : ℕ) (d : X) → KeepsOutside start end old new → (i < start) ⊎ (end ≤ i) → slice_index_or new i d ≡ slice_index_or old i d
-kept-at {X} {start} {end} {old} {new} i d kept outside = ⊎_elim
-    (λ (below : i < start). sym (get_or-take start new i d below) ∙ ap (λ (l : List X). slice_index_or l i d) kept.before ∙ get_or-take start old i d below)
-    (λ (past : end ≤ i).
-    let place : end + (i - end) ≡ i = omega arith in
-    ap (λ (j : ℕ). slice_index_or new j d) (sym place) ∙ sym (get_or-drop end new (i - end) d) ∙ ap (λ (l : List X). slice_index_or l (i - end) d) kept.behind
-    ∙ get_or-drop end old (i - end) d ∙ ap (λ (j : ℕ). slice_index_or old j d) place) outside

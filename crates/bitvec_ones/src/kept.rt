@@ -1,6 +1,6 @@
 //! What a walk from the front keeps of the elements that it loaded last: all down to the load is
 //! inlined into `next`, so that a loop over a walk keeps it in registers.
-ghost use Rattle.std.specs.Prelude.{◌≡◌, ◌<◌, ◌≤◌, map, true};
+ghost use Rattle.std.specs.Prelude.{◌<◌, ◌≤◌, map};
 ghost use Rattle.std.specs.Iterator.{YieldsFirst};
 ghost use Rattle.bitvec_query.specs.base.Memory.{HasWindow, list_in};
 ghost use Rattle.bitvec_query.specs.walk.Sought.{Shows};

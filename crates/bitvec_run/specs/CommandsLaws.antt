@@ -1,6 +1,6 @@
 -- A command that isn't refused meets its conditions.
 use Rattle.std.specs.Prelude.{◌≡◌, ℕ, ◌+◌, ◌-◌, ◌<◌, ◌≤◌, Bool, true, false, nat_lt, nat_le, Option, Some, None, List, length, refl}
-use Rattle.std.proofs.lemmas.Bool.{leb-true, ltb-true, le-leb, eqb-true, and_parts, and_from}
+use Rattle.std.proofs.lemmas.Bool.{leb-true, ltb-true, eqb-true, and_parts}
 use Rattle.bitvec_engine.specs.base.declared.window.Window.{Window}
 use Rattle.bitvec_engine.specs.base.Window.{IsWithin}
 use Rattle.bitvec_run.specs.declared.command.Op.{Op}
@@ -17,9 +17,6 @@ pub lies_in-within : (window : Window) (n : ℕ) → lies_in window n ≡ true �
 lies_in-within window n test =
     let parts = and_parts (nat_le window.start n) (nat_le window.len (n - window.start)) test in
     record { start = leb-true window.start n parts.0; len = leb-true window.len (n - window.start) parts.1 }
-
-pub within-lies_in : (window : Window) (n : ℕ) → IsWithin window n → lies_in window n ≡ true
-within-lies_in window n within = and_from _ _ (le-leb _ _ within.start) (le-leb _ _ within.len)
 
 -- likewise a range
 pub range_lies-order : (n from to : ℕ) → range_lies n from to ≡ true → (from ≤ to) × (to ≤ n)

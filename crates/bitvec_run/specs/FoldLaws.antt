@@ -1,6 +1,6 @@
 -- Steps made one after the other, a step at a time, whatever a step is.
 use Rattle.std.specs.Prelude.{◌≡◌, ℕ, ◌+◌, ◌<◌, ◌≤◌, List, [], ◌∷◌, ◌++◌, length, take, slice_index_or, refl, suc}
-use Rattle.std.proofs.Common.{arith, sym, ◌∙◌, ap}
+use Rattle.std.proofs.Common.{arith, ◌∙◌, ap}
 use Rattle.std.proofs.lemmas.List.Sums.{sum_by_more}
 use Rattle.std.proofs.lemmas.List.{take_all, take_more}
 use Rattle.bitvec_engine.specs.cells.declared.cells.CellsRead.{Ghosts as Access}
@@ -73,7 +73,3 @@ module _ {E C S : Type 0} (access : Access C E) (cost : S → Cost) where
         loads = omega (arith, before.loads, did.loads);
         stores = did.stores ∙ before.stores;
       }
-
--- the cost of all of them
-pub cost-all : {S : Type 0} (cost : S → Cost) (steps : List S) (i : ℕ) → length steps ≤ i → cost_of cost (take i steps) ≡ cost_of cost steps
-cost-all cost steps i over = ap (cost_of cost) (take_all i steps over)

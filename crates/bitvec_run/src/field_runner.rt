@@ -1,6 +1,6 @@
 //! Runs of whole lists of commands, those with numbers among them.
-ghost use Rattle.std.specs.Prelude.{◌≡◌, ℕ, ◌*◌, ◌<◌, ◌≤◌, length, IfErr, IfOk, OnErr, OnOk};
-ghost use Rattle.bitvec_engine.specs.base.Memory.{FitsMaxBits, memory_bits};
+ghost use Rattle.std.specs.Prelude.{◌*◌, ◌<◌, length, IfErr, IfOk, OnErr, OnOk};
+ghost use Rattle.bitvec_engine.specs.base.Memory.{memory_bits};
 ghost use Rattle.bitvec_engine.specs.cells.Access.{OnlyReads};
 ghost use Rattle.bitvec_run.specs.Runs.{CanRun, FailsRun, RunsBy};
 ghost use Rattle.bitvec_run.specs.FieldRows.{field_outcome};

@@ -1,5 +1,5 @@
 //! Why a step is refused.
-ghost use Rattle.std.specs.Prelude.{◌≡◌, ℕ, ◌-◌, Bool, List, length, IfNone};
+ghost use Rattle.std.specs.Prelude.{◌≡◌, ◌-◌, Bool, List, length, IfNone};
 ghost use Rattle.bitvec_run.specs.Commands.{op_refusal};
 ghost use Rattle.bitvec_run.specs.Rows.{unless};
 ghost use Rattle.bitvec_run.specs.Runs.{StepFits, step_row};

@@ -1,5 +1,5 @@
 //! Runs of whole lists of commands.
-ghost use Rattle.std.specs.Prelude.{◌≡◌, ℕ, ◌*◌, ◌<◌, ◌≤◌, length, IfErr, IfOk, OnErr, OnOk};
+ghost use Rattle.std.specs.Prelude.{◌≡◌, ◌*◌, ◌<◌, length, IfErr, IfOk, OnErr, OnOk};
 ghost use Rattle.bitvec_engine.specs.base.Memory.{FitsMaxBits, memory_bits};
 ghost use Rattle.bitvec_engine.specs.cells.Access.{OnlyReads};
 ghost use Rattle.bitvec_run.specs.Runs.{CanRun, FailsRun, RunsBy, step_outcome, whole_window};

@@ -1,5 +1,5 @@
 //! One step of a run.
-ghost use Rattle.std.specs.Prelude.{◌≡◌, ◌-◌};
+ghost use Rattle.std.specs.Prelude.{◌-◌};
 ghost use Rattle.bitvec_engine.specs.base.Memory.{HasWindow, list_in};
 ghost use Rattle.bitvec_run.specs.Commands.{op_row};
 ghost use Rattle.bitvec_run.specs.Follows.{FollowsBoth};

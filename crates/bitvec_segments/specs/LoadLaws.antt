@@ -124,20 +124,6 @@ loaded_le-below = loaded-below false
 pub loaded_be-below : (high : Bool) (b s : ℕ) (list : List Bool) → loaded_be high b s list < 2 ^ length list
 loaded_be-below = loaded-below true
 
-pub loaded_le-none : (high : Bool) (b s : ℕ) → loaded_le high b s [] ≡ 0
-loaded_le-none = loaded-none false
-
-pub loaded_be-none : (high : Bool) (b s : ℕ) → loaded_be high b s [] ≡ 0
-loaded_be-none = loaded-none true
-
-pub loaded_le-first : (high : Bool) (b s : ℕ) (list : List Bool) (k : ℕ) → 0 < b → 0 < length list → k ≡ first_len b s (length list)
-    → loaded_le high b s list ≡ loaded_le high b (s + k) (drop k list) * 2 ^ k + segment_number high (take k list)
-loaded_le-first high b s list k some more is = loaded-first false high b s list k some more is ∙ omega arith
-
-pub loaded_be-first : (high : Bool) (b s : ℕ) (list : List Bool) (k : ℕ) → 0 < b → 0 < length list → k ≡ first_len b s (length list)
-    → loaded_be high b s list ≡ segment_number high (take k list) * 2 ^ (length list - k) + loaded_be high b (s + k) (drop k list)
-loaded_be-first high b s list k some more is = loaded-first true high b s list k some more is ∙ omega arith
-
 pub loaded_le-phase : (high : Bool) (b s t : ℕ) (list : List Bool) → s % b ≡ t % b → loaded_le high b s list ≡ loaded_le high b t list
 loaded_le-phase = loaded-phase false
 

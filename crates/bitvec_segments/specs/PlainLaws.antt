@@ -1,14 +1,12 @@
 -- Numbers whose segments join without a seam: where the first bit counts as the first segment does, a list's number is as of one segment.
-use Rattle.std.specs.Prelude.{◌≡◌, ℕ, ◌+◌, ◌*◌, ◌%◌, ◌^◌, ◌<◌, ◌==◌, if◌then◌else◌, Bool, true, false, List, [], ◌∷◌, ◌++◌, length, refl, suc}
+use Rattle.std.specs.Prelude.{◌≡◌, ℕ, ◌+◌, ◌*◌, ◌%◌, ◌^◌, ◌==◌, if◌then◌else◌, Bool, true, false, List, [], ◌∷◌, ◌++◌, length, refl, suc}
 use Rattle.std.specs.List.{sum_by}
 use Rattle.std.proofs.Common.{arith, sym, ◌∙◌, ap, ⊎_elim, length-append}
 use Rattle.std.proofs.lemmas.Bool.{cases_Bool, cond-true, cond-false}
 use Rattle.std.proofs.lemmas.List.Sums.{sum_by-cons}
 use Rattle.std.proofs.lemmas.Nat.{pow-add}
 use Rattle.bitvec_segments.specs.LoadLaws.{end_number-first, lower_bits, segments-total}
-use Rattle.bitvec_segments.specs.NumberLaws.{segment-told, segment_bits-mod}
-use Rattle.bitvec_segments.specs.Segments.{end_number, in_first, loaded, loaded_be, loaded_le, segment_bits, segment_number, segments, stored, stored_be, stored_le}
-use Rattle.bitvec_segments.specs.StoreLaws.{length-stored, stored-loads}
+use Rattle.bitvec_segments.specs.Segments.{end_number, in_first, loaded, loaded_be, loaded_le, segment_number, segments}
 
 lower_bit : (x v c p q : ℕ) → q ≡ p * 2 → x * q + (v * 2 + c) ≡ (x * p + v) * 2 + c
 lower_bit x v c p q is = rw is (omega arith)
@@ -73,18 +71,6 @@ append-highest (bit ∷ first) second =
     ∙ sym (higher_bit (if bit then 1 else 0) (segment_number true first) (segment_number true second) (2 ^ length first) (2 ^ length second) (2 ^ length (first ++ second))
     (ap (λ (n : ℕ). 2 ^ n) long ∙ power))
 
--- ---- so a store leaves the bits of one segment
-
-seamless : (high : Bool) (v : ℕ) (list new : List Bool) → length new ≡ length list → segment_number high new ≡ v % 2 ^ length list → new ≡ segment_bits high (length list) v
-seamless high v list new long is =
-    let told = rw long at (segment-told high new) in
-    sym told ∙ ap (segment_bits high (length list)) is ∙ segment_bits-mod high (length list) v
-
-pub stored-plain : (big high : Bool) (b s v : ℕ) (list : List Bool) → 0 < b → big ≡ high → stored big high b s v list ≡ segment_bits high (length list) v
-stored-plain big high b s v list some is =
-    seamless high v list (stored big high b s v list) (length-stored big high b s v list)
-    (sym (loaded-plain big high b s (stored big high b s v list) is) ∙ stored-loads big high b s v list some)
-
 -- ---- from either end
 
 pub loaded_le-plain : (high : Bool) (b s : ℕ) (list : List Bool) → high ≡ false → loaded_le high b s list ≡ segment_number high list
@@ -92,9 +78,3 @@ loaded_le-plain high b s list is = loaded-plain false high b s list (sym is)
 
 pub loaded_be-plain : (high : Bool) (b s : ℕ) (list : List Bool) → high ≡ true → loaded_be high b s list ≡ segment_number high list
 loaded_be-plain high b s list is = loaded-plain true high b s list (sym is)
-
-pub stored_le-plain : (high : Bool) (b s v : ℕ) (list : List Bool) → 0 < b → high ≡ false → stored_le high b s v list ≡ segment_bits high (length list) v
-stored_le-plain high b s v list some is = stored-plain false high b s v list some (sym is)
-
-pub stored_be-plain : (high : Bool) (b s v : ℕ) (list : List Bool) → 0 < b → high ≡ true → stored_be high b s v list ≡ segment_bits high (length list) v
-stored_be-plain high b s v list some is = stored-plain true high b s v list some (sym is)

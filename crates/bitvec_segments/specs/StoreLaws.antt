@@ -218,22 +218,6 @@ length-stored_le = length-stored false
 pub length-stored_be : (high : Bool) (b s v : ℕ) (list : List Bool) → length (stored_be high b s v list) ≡ length list
 length-stored_be = length-stored true
 
-pub stored_le-none : (high : Bool) (b s v : ℕ) → stored_le high b s v [] ≡ []
-stored_le-none = stored-none false
-
-pub stored_be-none : (high : Bool) (b s v : ℕ) → stored_be high b s v [] ≡ []
-stored_be-none = stored-none true
-
-pub stored_le-first : (high : Bool) (b s v : ℕ) (list : List Bool) (k : ℕ) → 0 < b → 0 < length list → k ≡ first_len b s (length list)
-    → stored_le high b s v list ≡ segment_bits high k v ++ stored_le high b (s + k) (v / 2 ^ k) (drop k list)
-stored_le-first high b s v list k some more is =
-    stored-first false high b s v list k some more is ∙ ap (λ (w : ℕ). segment_bits high k w ++ stored_le high b (s + k) (v / 2 ^ k) (drop k list)) (unmoved v)
-
-pub stored_be-first : (high : Bool) (b s v : ℕ) (list : List Bool) (k : ℕ) → 0 < b → 0 < length list → k ≡ first_len b s (length list)
-    → stored_be high b s v list ≡ segment_bits high k (v / 2 ^ (length list - k)) ++ stored_be high b (s + k) v (drop k list)
-stored_be-first high b s v list k some more is =
-    stored-first true high b s v list k some more is ∙ ap (λ (w : ℕ). segment_bits high k (v / 2 ^ (length list - k)) ++ stored_be high b (s + k) w (drop k list)) (unmoved v)
-
 pub stored_le-loads : (high : Bool) (b s v : ℕ) (list : List Bool) → 0 < b → loaded_le high b s (stored_le high b s v list) ≡ v % 2 ^ length list
 stored_le-loads = stored-loads false
 

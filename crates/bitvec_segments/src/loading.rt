@@ -1,5 +1,5 @@
 //! The number of the bits of a window.
-ghost use Rattle.std.specs.Prelude.{◌≡◌, ◌<◌, ◌≤◌};
+ghost use Rattle.std.specs.Prelude.{◌≡◌, ◌<◌};
 ghost use Rattle.bitvec_words.specs.cells.Access.{OnlyReads};
 ghost use Rattle.bitvec_segments.specs.Windows.{HasNumber, loaded_in};
 ghost use Rattle.bitvec_words.specs.walk.Cost.{touched_count};

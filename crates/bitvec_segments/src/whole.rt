@@ -1,5 +1,5 @@
 //! A number put into whole elements.
-ghost use Rattle.std.specs.Prelude.{◌≡◌, ◌%◌, ◌≤◌};
+ghost use Rattle.std.specs.Prelude.{◌≡◌, ◌%◌};
 ghost use Rattle.bitvec_words.specs.cells.Access.{CostsAtMost};
 ghost use Rattle.bitvec_segments.specs.Windows.{HasNumber, StoresIn};
 ghost use Rattle.bitvec_words.specs.walk.Cost.{fill_loads, touched_count};

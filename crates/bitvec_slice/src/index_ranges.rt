@@ -1,5 +1,5 @@
 //! Ranges of indices of a view.
-ghost use Rattle.std.specs.Prelude.{◌≡◌, ◌+◌, ◌<◌, ◌≤◌, ⊤};
+ghost use Rattle.std.specs.Prelude.{◌+◌, ◌<◌, ◌≤◌, ⊤};
 ghost use Rattle.std.specs.Range.{range_inclusive_start, range_inclusive_end};
 
 use crate::{BitSlice, BitSliceIndex, BitSliceMut};

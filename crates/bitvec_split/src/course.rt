@@ -1,5 +1,5 @@
 //! How far a split that lends its pieces has come, and its steps.
-ghost use Rattle.std.specs.Prelude.{◌≡◌, ◌+◌, ◌-◌, ◌<◌, ◌≤◌, ◌*◌, ◌^◌, Some, length};
+ghost use Rattle.std.specs.Prelude.{◌≡◌, ◌+◌, ◌-◌, ◌<◌, ◌≤◌, ◌*◌, Some, length};
 ghost use Rattle.bitvec_slice.specs.Seen.{shown};
 ghost use Rattle.bitvec_slice.specs.Views.{seen};
 ghost use Rattle.bitvec_slice.specs.base.Window.{max_bits};

@@ -1,5 +1,5 @@
 //! The table of the splits: what a call asks about, and what it gives and keeps.
-ghost use Rattle.std.specs.Prelude.{◌<◌, ◌^◌, IfSome};
+ghost use Rattle.std.specs.Prelude.{◌<◌, IfSome};
 ghost use Rattle.bitvec_slice.specs.Views.{seen};
 ghost use Rattle.bitvec_split.specs.Asked.{Asked, MayAsk};
 ghost use Rattle.bitvec_split.specs.Splits.{IsCutBy, LieBeside, asked_of, row_of};

@@ -1,5 +1,5 @@
 //! Where some bits may stand among others, 64 indices at a time.
-ghost use Rattle.std.specs.Prelude.{◌≡◌, ℕ, ◌+◌, ◌<◌, ◌≤◌, false, slice_index_or, true};
+ghost use Rattle.std.specs.Prelude.{◌≡◌, ℕ, ◌<◌, ◌≤◌, false, slice_index_or, true};
 ghost use Rattle.bitvec_engine.specs.base.Memory.{element_bits};
 ghost use Rattle.bitvec_windows.specs.Candidates.{HasStarts};
 

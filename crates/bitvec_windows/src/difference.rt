@@ -1,5 +1,5 @@
 //! How many first bits two windows of slices of elements have in common.
-ghost use Rattle.std.specs.Prelude.{◌≤◌, map};
+ghost use Rattle.std.specs.Prelude.{map};
 ghost use Rattle.bitvec_engine.specs.base.Memory.{HasWindow, list_in};
 ghost use Rattle.bitvec_windows.specs.Difference.{DiffersFrom};
 

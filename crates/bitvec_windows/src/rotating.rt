@@ -1,5 +1,5 @@
 //! The bits of a window of a slice of elements rotated: by exchanges of blocks, down to few bits that are held aside.
-ghost use Rattle.std.specs.Prelude.{ℕ, ◌*◌, ◌-◌, ◌≤◌, length, map};
+ghost use Rattle.std.specs.Prelude.{◌*◌, ◌-◌, ◌≤◌, length, map};
 ghost use Rattle.bitvec_engine.specs.base.Lists.{rotated_left, rotated_right};
 ghost use Rattle.bitvec_engine.specs.base.Memory.{Edits, HasWindow};
 

@@ -1,12 +1,10 @@
 -- How the work ends.
-use Rattle.std.proofs.Common.{◌≡◌, ℕ, ◌<◌, ◌≤◌, ◌⊎◌, List, length, Option, inl, inr, ⊎_elim, ap, subst, sym, arith}
-use Rattle.std.specs.Io.KnownBytes.{Appends}
-use Rattle.packet.specs.Faults.{fault_text, status_of}
+use Rattle.std.proofs.Common.{◌≡◌, ℕ, ◌≤◌, ◌⊎◌, List, length, Option, inl, inr, ⊎_elim, subst, arith}
+use Rattle.packet.specs.Faults.{status_of}
 use Rattle.packet.specs.Arguments.{AreAssignments, Named}
 use Rattle.packet.specs.Packets.{Place, packet_fields}
-use Rattle.packet.specs.Program.{Ends, GivesPacket, HasFault, PacketFault, PrintsAsked, PrintsFields, PrintsPacket, ReadFault}
+use Rattle.packet.specs.Program.{Ends, GivesPacket, HasFault, PacketFault, PrintsAsked, PrintsFields, ReadFault}
 use Rattle.packet.specs.Resolved.{ChangesFault}
-use Rattle.packet.specs.Texts.{line_of}
 use Rattle.packet.specs.declared.fault.Fault.{Fault}
 use Rattle.packet.specs.declared.fault.Fault.TheVariants.{Arguments, Input, Digit, Odd, Long, Truncated, Version, HeaderLength, Unknown, Fixed, Range, Memory}
 
@@ -38,19 +36,8 @@ status-most (Unknown number) = omega arith
 status-most (Fixed number) = omega arith
 status-most (Range number) = omega arith
 
-pub ends-printed : {prints : Type 0} (comes : Fault → Type 0) (before after : Option (List ℕ)) → prints → Ends prints comes before after 0
-ends-printed comes before after shown = record { known = omega arith; printed = λ zero. shown; fault = λ some. absurd (omega arith) }
-
 pub ends-failed : {prints : Type 0} (comes : Fault → Type 0) (before after : Option (List ℕ)) → Ends prints comes before after 1
 ends-failed comes before after = record { known = omega arith; printed = λ zero. absurd (omega arith); fault = λ some. absurd (omega arith) }
-
-pub ends-reported : {prints : Type 0} (comes : Fault → Type 0) (before after : Option (List ℕ)) (status : ℕ) (fault : Fault) → comes fault
-    → (status ≡ 1) ⊎ ((status ≡ status_of fault) × Appends before after (line_of (fault_text fault))) → Ends prints comes before after status
-ends-reported {prints} comes before after status fault came told =
-    ⊎_elim (λ (failed : status ≡ 1). subst (λ (n : ℕ). Ends prints comes before after n) (sym failed) (ends-failed comes before after))
-    (λ (said : (status ≡ status_of fault) × Appends before after (line_of (fault_text fault))).
-    let is = said.0 in let least = status-least fault in let most = status-most fault in
-    record { known = omega arith; printed = λ zero. absurd (omega arith); fault = λ some. record { fault = fault; came = came; status_is = said.0; printed = said.1 } }) told
 
 -- a packet whose assignments are no changes
 pub changes-fault : (list : List Named) (old new : Option (List ℕ)) (fault : Fault) (bytes : List ℕ) (places : List Place) → GivesPacket old new bytes → places ≡ packet_fields bytes
@@ -74,18 +61,3 @@ ends-fields words list old new before after status are none =
     ends-as (ReadFault old new) (HasFault words old new) before after status
     (λ shown. record { list = list; asked = are; fields = λ empty. shown; packet = λ some. absurd (omega arith) })
     (λ fault came. inr (inr (list, are, inl came)))
-
-pub ends-packet : (words : List (List ℕ)) (list : List Named) (old new before after : Option (List ℕ)) (status : ℕ) → AreAssignments words list → 0 < length list
-    → Ends (PrintsPacket list old new before after) (PacketFault list old new) before after status → Ends (PrintsAsked words old new before after) (HasFault words old new) before after status
-ends-packet words list old new before after status are some =
-    ends-as (PacketFault list old new) (HasFault words old new) before after status
-    (λ shown. record { list = list; asked = are; fields = λ empty. let none = ap (λ (l : List Named). length l) empty in absurd (omega arith); packet = λ more. shown })
-    (λ fault came. inr (inr (list, are, came)))
-
-pub ends-unread : (words : List (List ℕ)) (old new before after : Option (List ℕ)) (status : ℕ) (fault : Fault)
-    → (fault ≡ Memory) ⊎ ((fault ≡ Arguments) × ((list : List Named) → AreAssignments words list → ⊥))
-    → (status ≡ 1) ⊎ ((status ≡ status_of fault) × Appends before after (line_of (fault_text fault)))
-    → Ends (PrintsAsked words old new before after) (HasFault words old new) before after status
-ends-unread words old new before after status fault why told =
-    ends-reported (HasFault words old new) before after status fault
-    (⊎_elim (λ (memory : fault ≡ Memory). inl memory) (λ (bad : (fault ≡ Arguments) × ((list : List Named) → AreAssignments words list → ⊥)). inr (inl bad)) why) told

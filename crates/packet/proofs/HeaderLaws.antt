@@ -1,12 +1,12 @@
 -- The fields and the words of a header.
-use Rattle.std.proofs.Common.{◌≡◌, ℕ, ◌+◌, ◌*◌, ◌<◌, ◌≤◌, ◌⊎◌, List, [], ◌++◌, get_or, length, take, refl, sym, ap, ⊎_elim, ◌∙◌, arith}
-use Rattle.std.proofs.lemmas.List.{flat_map_more, get_or-map, length-append, length-map, take_more}
+use Rattle.std.proofs.Common.{◌≡◌, ℕ, ◌+◌, ◌*◌, ◌<◌, ◌≤◌, ◌⊎◌, List, [], ◌++◌, get_or, length, take, sym, ap, ⊎_elim, ◌∙◌, arith}
+use Rattle.std.proofs.lemmas.List.{flat_map_more, get_or-map, length-map, take_more}
 use Rattle.std.specs.List.{flat_map}
 use Rattle.std.proofs.lemmas.List.FromFn.{get_or-map-range_with_len, length-map-range_with_len}
 use Rattle.bitrecord.specs.Layouts.{IsLayout, field_at, no_field}
 use Rattle.bitrecord.specs.bits.{Window}
 use Rattle.packet.specs.Checksums.{checksum_word, sum_words}
-use Rattle.packet.specs.Packets.{AreFields, AreWords, HasHeaders, HeaderFault, IsHeader, Place, fields_by, header_length, header_windows, internet_fields, number_at, numbers_at, packet_fields, place, placed_all, places_of, protocol_rows, windows_of, word_window, word_windows}
+use Rattle.packet.specs.Packets.{AreWords, HasHeaders, HeaderFault, IsHeader, Place, header_length, header_windows, number_at, numbers_at, packet_fields, place, places_of, windows_of, word_window, word_windows}
 use Rattle.packet.specs.Texts.{field_line, field_text, fields_text, verdict_text}
 use Rattle.packet.proofs.PlaceLaws.{window-at}
 use Rattle.packet.specs.declared.fault.Fault.{Fault}
@@ -25,13 +25,6 @@ words-are count some most =
 
 pub header-words : {A : Type 0} (bytes : List ℕ) (header : Header A) → IsHeader bytes header → AreWords (header_windows bytes)
 header-words bytes header is = let least = is.least in let most = is.most in words-are (2 * header_length bytes) (omega arith) (omega arith)
-
-pub fields-are : (long protocol : ℕ) → AreFields (windows_of (fields_by long protocol))
-fields-are long protocol =
-    let first : length internet_fields ≡ 13 = refl in
-    let all = length-map (fields_by long protocol) (λ (field : Place). field.window) in
-    let parts = length-append internet_fields (placed_all (32 * long) (protocol_rows protocol)) in
-    record { checksum = refl; some = omega arith }
 
 -- a field that is read, and its line
 line-of : (bytes : List ℕ) (items : List Field) (n value : ℕ) (item : Field) → n < length items → item ≡ get_or items n item

@@ -1,12 +1,10 @@
 -- Places of fields.
-use Rattle.std.proofs.Common.{◌≡◌, ℕ, ◌+◌, ◌<◌, Bool, true, cond, not, List, [], ◌∷◌, ◌++◌, get_or, length, map, Some, refl, sym, ap, subst, ◌∙◌, arith, below_more}
-use Rattle.std.specs.Prelude.{All, nat_lt, position}
-use Rattle.std.specs.List.{list_all, position_or_len}
+use Rattle.std.proofs.Common.{◌≡◌, ℕ, ◌+◌, ◌<◌, Bool, cond, not, List, [], ◌∷◌, ◌++◌, get_or, length, map, Some, refl, sym, ap, subst, ◌∙◌, arith, below_more}
+use Rattle.std.specs.Prelude.{All, position}
+use Rattle.std.specs.List.{position_or_len}
 use Rattle.std.specs.Str.{bytes_eq}
-use Rattle.std.proofs.lemmas.Bool.Decides.{nat_tests}
 use Rattle.std.proofs.lemmas.List.{get_or-map, get_or_append_left, get_or_default, get_or_push, length-map}
 use Rattle.std.proofs.lemmas.List.Quantifiers.{position-Some}
-use Rattle.std.proofs.lemmas.List.Sums.{AllPass-from_list_all}
 use Rattle.bitrecord.specs.Layouts.{field_at, no_field}
 use Rattle.bitrecord.specs.bits.{Window}
 use Rattle.packet.specs.Packets.{Place, place, places_of, windows_of}
@@ -15,13 +13,6 @@ use Rattle.packet.specs.Changes.{CanChange}
 use Rattle.packet.specs.Resolved.{AreChanges, IsChange, asked_at, place_of}
 use Rattle.packet.specs.declared.changes.Change.{Change}
 use Rattle.packet.specs.declared.field.Field.{Field}
-
-below-true : (m n : ℕ) → nat_lt m n ≡ true → m < n
-below-true m n h = grind (arith, nat_tests)
-
--- rows whose places pass the test
-pub small-rows : {X : Type 0} (from : X → ℕ) (rows : List X) → list_all (λ (row : X). nat_lt (from row) 1024) rows ≡ true → All (λ (row : X). from row < 1024) rows
-small-rows {X} from rows h = λ k d low. below-true _ _ (AllPass-from_list_all (λ (row : X). nat_lt (from row) 1024) rows h k d low)
 
 -- the first place of what is made of a list
 position_or_len-map : {X Y : Type 0} (p : Y → Bool) (f : X → Y) (xs : List X) → position_or_len p (map f xs) ≡ position_or_len (λ (x : X). p (f x)) xs

@@ -1,5 +1,5 @@
 //! What is printed of the bits of the primes.
-ghost use Rattle.std.specs.Prelude.{◌≡◌, ◌<◌, ◌++◌, ◌∷◌, OnOk, codes, count_by, true};
+ghost use Rattle.std.specs.Prelude.{◌≡◌, ◌<◌, OnOk, count_by, true};
 ghost use Rattle.std.specs.Fmt.{decimal};
 ghost use Rattle.std.specs.Io.KnownBytes.{Appends};
 ghost use Rattle.std.specs.List.{flat_map};

@@ -2,7 +2,7 @@
 use Rattle.std.proofs.Common.{◌≡◌, ◌≢◌, ℕ, ◌+◌, ◌-◌, ◌<◌, ◌≤◌, Bool, true, false, List, [], ◌∷◌, ◌++◌, length, Option, Some, None, sym, ap, subst, ◌∙◌, arith, append-nil, append_assoc}
 use Rattle.std.specs.Prelude.{slice_index_or, slice_range}
 use Rattle.std.specs.Io.KnownBytes.{Appends}
-use Rattle.std.proofs.KnownBytes.{Appends-nil, Appends-trans}
+use Rattle.std.proofs.KnownBytes.{Appends-trans}
 use Rattle.std.proofs.Math.ListN.{get_or-eq_default}
 use Rattle.std.specs.List.{flat_map}
 use Rattle.std.specs.declared.ops.Range.{Range}
@@ -100,9 +100,6 @@ pub record HasShown (map : List Bool) (from : ℕ) (before now : Option (List �
   pub runs : List (Range ℕ)
   pub goes_on : (rest : List (Range ℕ)) → AreRuns map from rest → AreRuns map 0 (runs ++ rest)
   pub printed : Appends before now (flat_map range_text runs)
-
-pub HasShown-none : (map : List Bool) (before : Option (List ℕ)) → HasShown map 0 before before
-HasShown-none map before = record { runs = []; goes_on = λ rest all. all; printed = Appends-nil before }
 
 pub HasShown-next : (map : List Bool) (from : ℕ) (run : Range ℕ) (before now after : Option (List ℕ)) → HasShown map from before now → IsNextRun map from run
     → Appends now after (range_text run) → HasShown map run.end before after

@@ -1,5 +1,5 @@
 //! The places that are taken, as runs.
-ghost use Rattle.std.specs.Prelude.{◌≡◌, ◌-◌, ◌≤◌, IfSome, IfNone, OnOk, length};
+ghost use Rattle.std.specs.Prelude.{◌-◌, ◌≤◌, IfSome, IfNone, OnOk, length};
 ghost use Rattle.std.specs.Io.KnownBytes.{Appends};
 ghost use Rattle.bitvec.specs.Views.{seen};
 ghost use Rattle.bitvec.specs.Pieces.{range_of};

@@ -1,5 +1,5 @@
 //! `u8` as an element, by its own operators.
-ghost use Rattle.std.specs.Prelude.{◌≡◌, ◌-◌, ◌^◌, refl};
+ghost use Rattle.std.specs.Prelude.{◌-◌, ◌^◌, refl};
 ghost use Rattle.std.proofs.Common.{rules};
 
 use crate::BitStore;
