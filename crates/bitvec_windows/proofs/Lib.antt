@@ -1,6 +1,7 @@
 pub mod Answered
 mod CandidateLemmas
 mod DifferenceLemmas
+mod ElementLemmas
 pub mod Edges
 pub mod Rotated
 mod StandingLemmas

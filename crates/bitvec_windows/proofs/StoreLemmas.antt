@@ -9,6 +9,7 @@ use Rattle.bitvec_windows.specs.base.declared.window.Window.{Window}
 use Rattle.bitvec_windows.specs.base.Lists.{combined}
 use Rattle.bitvec_windows.specs.base.ListsLaws.{get-combined, length-combined}
 use Rattle.bitvec_windows.specs.base.Memory.{Edits, HasWindow, Writes, element_bits, list_in}
+use Rattle.bitvec_windows.specs.base.Spans.{HasSpan}
 use Rattle.bitvec_windows.specs.base.Window.{window_range, write_window}
 use Rattle.bitvec_windows.specs.base.WriteLaws.{get-slice_range, length-slice_range}
 use Rattle.bitvec_windows.specs.base.WritesLaws.{HasWindow-kept, HasWindow-range, Writes-empty, Writes-is, Writes-join, length-list, list-behind, list-range}
@@ -86,6 +87,22 @@ stretch-next b at old mid new window list part from to has order bound long same
 pub stretch-all : (b : ℕ) (at : ℕ → ℕ → ℕ) (old new : List ℕ) (window : Window) (list : List Bool) (n : ℕ) → n ≡ window.len → length list ≡ window.len → Writes b at old new (until window n) (take n list) → Writes b at old new window list
 stretch-all b at old new window list n all long writes =
     Writes-is b at old new window _ _ (subst (λ (k : ℕ). Writes b at old new (until window k) (take k list)) all writes) (take-all list window.len (omega arith))
+
+-- three stretches of a window of another memory
+pub stretches-copied : (b : ℕ) (at : ℕ → ℕ → ℕ) (old mid next new ys : List ℕ) (to from head source body right tail rest : Window) (f l : ℕ) → HasSpan b old ys to from → f ≤ l → l ≤ to.len
+    → head ≡ window_range to 0 f → source ≡ window_range from 0 f → Writes b at old mid head (list_in b at ys source)
+    → body ≡ window_range to f l → right ≡ window_range from f l → Writes b at mid next body (list_in b at ys right)
+    → tail ≡ window_range to l to.len → rest ≡ window_range from l to.len → Writes b at next new tail (list_in b at ys rest)
+    → Writes b at old new to (list_in b at ys from)
+stretches-copied b at old mid next new ys to from head source body right tail rest f l span order bound head-is source-is first body-is right-is second tail-is rest-is third =
+    let lengths = span.lengths in
+    let list = list_in b at ys from in
+    let long = length-list b at ys from span.beside ∙ sym lengths in
+    let part = λ (a e : ℕ) (up : a ≤ e) (fits : e ≤ to.len). list-range b at ys from a e span.beside up (omega arith) in
+    let one = stretch-next b at old old mid to list _ 0 f span.window (omega arith) (omega arith) long (part 0 f (omega arith) (omega arith)) (stretch-none b at old old to list span.window refl) (rw (head-is, source-is) at first) in
+    let two = stretch-next b at old mid next to list _ f l span.window order bound long (part f l order bound) one (rw (body-is, right-is) at second) in
+    let three = stretch-next b at old next new to list _ l to.len span.window bound (omega arith) long (part l to.len bound (omega arith)) two (rw (tail-is, rest-is) at third) in
+    stretch-all b at old new to list to.len refl long three
 
 -- ---- what is stored
 

@@ -2,6 +2,7 @@
 ghost use Rattle.std.specs.Prelude.{◌≡◌, ◌≤◌, map};
 ghost use Rattle.bitvec_engine.specs.base.Memory.{HasWindow, Writes, list_in};
 
+use crate::copying_elements::{MANY_BITS, copy_elements_in};
 use crate::window_words::{few_word, window_word, word_end};
 use bitvec_engine::base::{BitOrder, Lsb0, Msb0, Window};
 use bitvec_engine::cells::{Exclusive, Shared};
@@ -84,8 +85,9 @@ pub fn copy_from_block_in<T: BitStore, O: SliceOrder>(
     copy_blocks_in::<T, O>(left, left_window, right, right_window);
 }
 
-/// [`copy_from_block_in`] by the order's block function at any length: the shorter way to few bits where
-/// their number isn't known when the machine code is made. Condition: as of [`copy_from_in`].
+/// [`copy_from_block_in`] with no test for few bits: the shorter way to these where their number isn't known
+/// when the machine code is made. Many bits that begin at the same index of an element are copied by whole
+/// elements at once, others by the order's block function. Condition: as of [`copy_from_in`].
 pub fn copy_blocks_in<T: BitStore, O: SliceOrder>(
     left: &mut [T],
     left_window: Window,
@@ -98,6 +100,11 @@ pub fn copy_blocks_in<T: BitStore, O: SliceOrder>(
     ensures writes { Writes T.BITS O.at (map T.value left.old) (map T.value left.new) left_window
         (list_in T.BITS O.at (map T.value right.now) right_window) }
 {
+    let bits = T::BITS as usize;
+    if left_window.len >= MANY_BITS && left_window.start % bits == right_window.start % bits {
+        copy_elements_in::<T, O>(left, left_window, right, right_window);
+        return;
+    }
     let mut left = Exclusive::new(left);
     let mut right = Shared::new(right);
     O::block_copy::<Exclusive<T>, Shared<T>>(&mut left, left_window, &mut right, right_window);

@@ -6,6 +6,7 @@ mod candidates;
 mod combining;
 mod comparing;
 mod copying;
+mod copying_elements;
 mod copying_within;
 mod counting;
 mod difference;

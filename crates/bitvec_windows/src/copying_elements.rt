@@ -1,0 +1,68 @@
+//! Windows that begin at the same index of an element, copied by whole elements at once.
+ghost use Rattle.std.specs.Prelude.{◌≡◌, ◌+◌, ◌%◌, ◌<◌, ◌≤◌, map};
+ghost use Rattle.bitvec_engine.specs.base.Memory.{Writes, list_in};
+ghost use Rattle.bitvec_engine.specs.base.Spans.{HasSpan};
+
+use bitvec_engine::base::{BitOrder, Window, first_part};
+use bitvec_engine::cells::Exclusive;
+use bitvec_engine::store::BitStore;
+use bitvec_engine::words::store_part;
+
+/// From how many bits on whole elements are copied at once.
+pub(crate) const MANY_BITS: usize = 256;
+
+/// Copies the bits of the right window, which begins at the same index of an element, under any order.
+/// Conditions: as of [`crate::copy_from_in`], and the windows have at least as many bits as an element.
+pub(crate) fn copy_elements_in<T: BitStore, O: BitOrder>(
+    left: &mut [T],
+    to: Window,
+    right: &[T],
+    from: Window,
+)
+    requires span { HasSpan T.BITS (map T.value left.old) (map T.value right.now) to from }
+    requires phases { to.start % T.BITS ≡ from.start % T.BITS }
+    requires some { T.BITS ≤ to.len }
+    ensures writes { Writes T.BITS O.at (map T.value left.old) (map T.value left.new) to (list_in T.BITS O.at (map T.value right.now) from) }
+{
+    let bits = T::BITS as usize;
+    let first = (bits - to.start % bits) % bits;
+    let last = to.len - (to.len - first) % bits;
+    copy_part_in::<T, O>(left, to.range(0, first), right, from.range(0, first));
+    copy_whole_in::<T, O>(left, to.range(first, last), right, from.range(first, last));
+    copy_part_in::<T, O>(
+        left,
+        to.range(last, to.len),
+        right,
+        from.range(last, to.len),
+    );
+}
+
+/// Copies whole elements.
+fn copy_whole_in<T: BitStore, O: BitOrder>(left: &mut [T], to: Window, right: &[T], from: Window)
+    requires span { HasSpan T.BITS (map T.value left.old) (map T.value right.now) to from }
+    requires edge { to.start % T.BITS ≡ 0 }
+    requires right_edge { from.start % T.BITS ≡ 0 }
+    requires whole { to.len % T.BITS ≡ 0 }
+    ensures writes { Writes T.BITS O.at (map T.value left.old) (map T.value left.new) to (list_in T.BITS O.at (map T.value right.now) from) }
+{
+    let bits = T::BITS as usize;
+    let (first, source, count) = (to.start / bits, from.start / bits, to.len / bits);
+    left[first..first + count].copy_from_slice(&right[source..source + count]);
+}
+
+/// Copies bits of one element, which may be none, to the same indices of another.
+fn copy_part_in<T: BitStore, O: BitOrder>(left: &mut [T], to: Window, right: &[T], from: Window)
+    requires span { HasSpan T.BITS (map T.value left.old) (map T.value right.now) to from }
+    requires phases { to.start % T.BITS ≡ from.start % T.BITS }
+    requires part { to.start % T.BITS + to.len ≤ T.BITS }
+    ensures writes { Writes T.BITS O.at (map T.value left.old) (map T.value left.new) to (list_in T.BITS O.at (map T.value right.now) from) }
+{
+    if to.len == 0 {
+        return;
+    }
+    let bits = T::BITS as usize;
+    let part = first_part(bits, to);
+    let element = right[from.start / bits];
+    let mut cells = Exclusive::new(left);
+    store_part::<O, Exclusive<T>>(&mut cells, part, element);
+}
