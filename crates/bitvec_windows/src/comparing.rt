@@ -15,7 +15,7 @@ use bitvec_engine::{Direction, SliceOrder, direction_of, get_bit};
 use std::cmp::Ordering;
 
 /// How many bits [`compare_block_in`] passes at a time where they are equal.
-const STRETCH: usize = 512;
+const STRETCH: usize = 4096;
 
 /// Whether two windows have the same bits. Condition: each memory has at most `MAX_BITS` bits, and
 /// each window lies in its memory.

@@ -2,7 +2,7 @@
 ghost use Rattle.std.specs.Prelude.{◌≡◌, ◌≤◌, map};
 ghost use Rattle.bitvec_engine.specs.base.Memory.{HasWindow, Writes, list_in};
 
-use crate::copying_elements::{MANY_BITS, copy_elements_in};
+use crate::copying_elements::{AT_ONCE_BITS, copy_elements_in};
 use crate::window_words::{few_word, window_word, word_end};
 use bitvec_engine::base::{BitOrder, Lsb0, Msb0, Window};
 use bitvec_engine::cells::{Exclusive, Shared};
@@ -101,7 +101,7 @@ pub fn copy_blocks_in<T: BitStore, O: SliceOrder>(
         (list_in T.BITS O.at (map T.value right.now) right_window) }
 {
     let bits = T::BITS as usize;
-    if left_window.len >= MANY_BITS && left_window.start % bits == right_window.start % bits {
+    if left_window.len >= AT_ONCE_BITS && left_window.start % bits == right_window.start % bits {
         copy_elements_in::<T, O>(left, left_window, right, right_window);
         return;
     }

@@ -9,7 +9,7 @@ use bitvec_engine::store::BitStore;
 use bitvec_engine::words::store_part;
 
 /// From how many bits on whole elements are copied at once.
-pub(crate) const MANY_BITS: usize = 256;
+pub(crate) const AT_ONCE_BITS: usize = 256;
 
 /// Copies the bits of the right window, which begins at the same index of an element, under any order.
 /// Conditions: as of [`crate::copy_from_in`], and the windows have at least as many bits as an element.
