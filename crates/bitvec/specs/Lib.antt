@@ -14,12 +14,12 @@ pub use Rattle.bitvec_owned.specs.edit.base.WindowLaws
 pub use Rattle.bitvec_owned.specs.edit.base.WriteLaws
 pub use Rattle.bitvec_pieces.specs.cutting.Cutting
 pub use Rattle.bitvec_pieces.specs.cutting.Walks as PieceWalks
+pub use Rattle.bitvec_owned.specs.edit.domain.Asked
 pub use Rattle.bitvec_owned.specs.edit.domain.Cuts
 pub use Rattle.bitvec_owned.specs.edit.domain.Parts
 pub use Rattle.bitvec_owned.specs.edit.domain.Values as DomainValues
 pub use Rattle.bitvec_owned.specs.edit.windows.Swaps
 pub use Rattle.bitvec_owned.specs.edit.UndoLaws
-pub use Rattle.bitvec_owned.specs.edit.windows.Asked
 pub use Rattle.bitvec_field.specs.Fields
 pub use Rattle.bitvec_field.specs.Integers
 pub use Rattle.bitvec_field.specs.IntegersLaws

@@ -1,3 +1,5 @@
+pub mod Asked
+pub mod AskedLaws
 pub mod CutLaws
 pub mod Cuts
 pub mod Domains

@@ -2,6 +2,7 @@
 //! parts; single bits of a window, references to one; and what views' hash and texts stand on.
 #![tactic(auto)]
 
+mod answering;
 mod bits;
 mod cut;
 mod domain;
@@ -16,6 +17,7 @@ mod reference_mut;
 mod reference_texts;
 mod values;
 
+pub use answering::{fill_with_in, for_each_in};
 pub use bits::{bit_in, replace_in, set_in, swap_in};
 pub use cut::Cut;
 pub use domain::{Domain, Region, domain_of};

@@ -1,4 +1,6 @@
 -- What crates above name of `bitvec_domain`.
+pub use Rattle.bitvec_slice.specs.domain.Asked
+pub use Rattle.bitvec_slice.specs.domain.AskedLaws
 pub use Rattle.bitvec_slice.specs.domain.Cuts
 pub use Rattle.bitvec_slice.specs.domain.Domains
 pub use Rattle.bitvec_slice.specs.domain.Parts

@@ -2,7 +2,7 @@
 ghost use Rattle.std.specs.Prelude.{◌≡◌, ◌<◌, ◌≤◌, false, length, map, not, replicate, reverse, slice_index_or, slice_set};
 ghost use Rattle.std.specs.List.{swap};
 ghost use Rattle.bitvec_slice.specs.base.Lists.{FitsWithin, combined, copied_within, rotated_left, rotated_right, shifted_end, shifted_start};
-ghost use Rattle.bitvec_slice.specs.windows.Asked.{CallableBelow, CallableOnBits, FillsWith, RefillsWith};
+ghost use Rattle.bitvec_slice.specs.domain.Asked.{CallableBelow, CallableOnBits, FillsWith, RefillsWith};
 ghost use Rattle.bitvec_slice.specs.words.Operator.{operator};
 ghost use Rattle.bitvec_slice.specs.words.declared.operator.BitOp.TheVariants.{And, Or, Xor};
 ghost use Rattle.bitvec_slice.specs.Views.{seen, seen_mut};

@@ -2,7 +2,7 @@
 ghost use Rattle.std.specs.Prelude.{◌≡◌, ◌≤◌, length};
 ghost use Rattle.bitvec_edit.specs.slice.Views.{name_of, seen_mut};
 ghost use Rattle.bitvec_iter.specs.LentBits.{WritesLeft, bit_walk_of, bits_in_place, bits_to_come, past_bits};
-ghost use Rattle.bitvec_edit.specs.windows.Asked.{RefillsWith};
+ghost use Rattle.bitvec_edit.specs.domain.Asked.{RefillsWith};
 
 use bitvec_edit::BitEdits;
 use bitvec_edit::base::BitOrder;

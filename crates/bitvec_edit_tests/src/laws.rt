@@ -2,7 +2,7 @@
 ghost use Rattle.std.specs.Prelude.{◌≡◌, ◌*◌, ◌≤◌, length, map};
 ghost use Rattle.bitvec_edit.specs.base.Memory.{memory_bits};
 ghost use Rattle.bitvec_edit.specs.base.Window.{max_bits};
-ghost use Rattle.bitvec_edit.specs.windows.Asked.{FillsWith, RefillsWith};
+ghost use Rattle.bitvec_edit.specs.domain.Asked.{FillsWith, RefillsWith};
 
 use bitvec_edit::BitEdits;
 use bitvec_edit::engine::SliceOrder;

@@ -35,7 +35,7 @@ impl<'a, T: BitStore, O: BitOrder> IterMut<'a, T, O> {
     ghost use Rattle.bitvec_slice.specs.Views.{name_of, seen, seen_mut};
     ghost use Rattle.bitvec_iter.specs.BitsLending.{lends_bits, lends_first, lends_last, lends_part};
     ghost use Rattle.bitvec_iter.specs.LentBits.{IsAllOf, WritesLeft, bit_walk_of, bits_in_place, bits_to_come, name_of_bits, past_back_bits, past_bits, start_of};
-    ghost use Rattle.bitvec_slice.specs.windows.Asked.{CallableOnBits, RefillsWith};
+    ghost use Rattle.bitvec_slice.specs.domain.Asked.{CallableOnBits, RefillsWith};
 
     /// The bits of a view. `bitvec` has no such call: `iter_mut` is made of it.
     #[doc(hidden)]

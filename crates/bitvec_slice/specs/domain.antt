@@ -1,4 +1,6 @@
 -- What crates above name of `bitvec_domain`.
+pub use Rattle.bitvec_domain.specs.Asked
+pub use Rattle.bitvec_domain.specs.AskedLaws
 pub use Rattle.bitvec_domain.specs.Cuts
 pub use Rattle.bitvec_domain.specs.Domains
 pub use Rattle.bitvec_domain.specs.Parts

@@ -1,4 +1,2 @@
 -- What crates above name of `bitvec_windows`.
-pub use Rattle.bitvec_windows.specs.Asked
-pub use Rattle.bitvec_windows.specs.AskedLaws
 pub use Rattle.bitvec_windows.specs.Swaps

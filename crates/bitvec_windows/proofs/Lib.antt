@@ -1,4 +1,3 @@
-pub mod Answered
 mod CandidateLemmas
 mod DifferenceLemmas
 mod ElementLemmas

@@ -1,5 +1,3 @@
-pub mod Asked
-pub mod AskedLaws
 pub mod Candidates
 pub mod Cited
 pub mod Difference

@@ -4,6 +4,7 @@ ghost use Rattle.std.specs.Cmp.Lexicographic.{slice_cmp};
 ghost use Rattle.std.specs.Ordering.{bool_cmp};
 ghost use Rattle.bitvec_engine.specs.base.Lists.{same_bits};
 ghost use Rattle.bitvec_engine.specs.base.Memory.{HasWindow, list_in};
+ghost use Rattle.bitvec_engine.specs.base.Spans.{HasSpan};
 
 use crate::difference::common_bits;
 use crate::window_words::few_word;
@@ -89,9 +90,7 @@ fn eq_few<W: WordOrder, T: BitStore>(
     right: &[T],
     right_window: Window,
 ) -> bool
-    requires window { HasWindow T.BITS (map T.value left.now) left_window }
-    requires right_window { HasWindow T.BITS (map T.value right.now) right_window }
-    requires lengths { left_window.len ≡ right_window.len }
+    requires span { HasSpan T.BITS (map T.value left.now) (map T.value right.now) left_window right_window }
     requires bound { left_window.len ≤ 64 }
     ensures { result ≡ same_bits (list_in T.BITS W.at (map T.value left.now) left_window)
         (list_in T.BITS W.at (map T.value right.now) right_window) }

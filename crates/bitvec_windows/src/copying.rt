@@ -1,6 +1,8 @@
 //! Bits copied from a window of one slice of elements to a window of another.
 ghost use Rattle.std.specs.Prelude.{◌≡◌, ◌≤◌, map};
+ghost use Rattle.bitvec_engine.specs.Pairs.{HasPair};
 ghost use Rattle.bitvec_engine.specs.base.Memory.{HasWindow, Writes, list_in};
+ghost use Rattle.bitvec_engine.specs.base.Spans.{HasSpan};
 
 use crate::copying_elements::{AT_ONCE_BITS, copy_elements_in};
 use crate::window_words::{few_word, window_word, word_end};
@@ -43,9 +45,7 @@ fn copy_words<W: WordOrder, T: BitStore, U: BitStore, P: BitOrder>(
     right: &[U],
     right_window: Window,
 )
-    requires window { HasWindow T.BITS (map T.value left.old) left_window }
-    requires right_window { HasWindow U.BITS (map U.value right.now) right_window }
-    requires lengths { left_window.len ≡ right_window.len }
+    requires { HasPair T.BITS (map T.value left.old) left_window U.BITS (map U.value right.now) right_window }
     ensures writes { Writes T.BITS W.at (map T.value left.old) (map T.value left.new) left_window
         (list_in U.BITS P.at (map U.value right.now) right_window) }
 {
@@ -118,9 +118,7 @@ fn copy_few<W: WordOrder, T: BitStore>(
     right: &[T],
     right_window: Window,
 )
-    requires window { HasWindow T.BITS (map T.value left.old) left_window }
-    requires right_window { HasWindow T.BITS (map T.value right.now) right_window }
-    requires lengths { left_window.len ≡ right_window.len }
+    requires span { HasSpan T.BITS (map T.value left.old) (map T.value right.now) left_window right_window }
     requires bound { left_window.len ≤ 64 }
     ensures writes { Writes T.BITS W.at (map T.value left.old) (map T.value left.new) left_window
         (list_in T.BITS W.at (map T.value right.now) right_window) }

@@ -1,7 +1,7 @@
 //! Windows that begin at the same index of an element, copied by whole elements at once.
-ghost use Rattle.std.specs.Prelude.{◌≡◌, ◌+◌, ◌%◌, ◌<◌, ◌≤◌, map};
-ghost use Rattle.bitvec_engine.specs.base.Memory.{Writes, list_in};
+ghost use Rattle.std.specs.Prelude.{◌≡◌, ◌+◌, ◌%◌, ◌≤◌, map};
 ghost use Rattle.bitvec_engine.specs.base.Spans.{HasSpan};
+ghost use Rattle.bitvec_engine.specs.moves.Moves.{Copies};
 
 use bitvec_engine::base::{BitOrder, Window, first_part};
 use bitvec_engine::cells::Exclusive;
@@ -22,19 +22,15 @@ pub(crate) fn copy_elements_in<T: BitStore, O: BitOrder>(
     requires span { HasSpan T.BITS (map T.value left.old) (map T.value right.now) to from }
     requires phases { to.start % T.BITS ≡ from.start % T.BITS }
     requires some { T.BITS ≤ to.len }
-    ensures writes { Writes T.BITS O.at (map T.value left.old) (map T.value left.new) to (list_in T.BITS O.at (map T.value right.now) from) }
+    ensures writes { Copies T.BITS O.at (map T.value left.old) (map T.value left.new) to (map T.value right.now) from }
 {
     let bits = T::BITS as usize;
     let first = (bits - to.start % bits) % bits;
     let last = to.len - (to.len - first) % bits;
     copy_part_in::<T, O>(left, to.range(0, first), right, from.range(0, first));
     copy_whole_in::<T, O>(left, to.range(first, last), right, from.range(first, last));
-    copy_part_in::<T, O>(
-        left,
-        to.range(last, to.len),
-        right,
-        from.range(last, to.len),
-    );
+    let (place, source) = (to.range(last, to.len), from.range(last, to.len));
+    copy_part_in::<T, O>(left, place, right, source);
 }
 
 /// Copies whole elements.
@@ -43,7 +39,7 @@ fn copy_whole_in<T: BitStore, O: BitOrder>(left: &mut [T], to: Window, right: &[
     requires edge { to.start % T.BITS ≡ 0 }
     requires right_edge { from.start % T.BITS ≡ 0 }
     requires whole { to.len % T.BITS ≡ 0 }
-    ensures writes { Writes T.BITS O.at (map T.value left.old) (map T.value left.new) to (list_in T.BITS O.at (map T.value right.now) from) }
+    ensures writes { Copies T.BITS O.at (map T.value left.old) (map T.value left.new) to (map T.value right.now) from }
 {
     let bits = T::BITS as usize;
     let (first, source, count) = (to.start / bits, from.start / bits, to.len / bits);
@@ -55,7 +51,7 @@ fn copy_part_in<T: BitStore, O: BitOrder>(left: &mut [T], to: Window, right: &[T
     requires span { HasSpan T.BITS (map T.value left.old) (map T.value right.now) to from }
     requires phases { to.start % T.BITS ≡ from.start % T.BITS }
     requires part { to.start % T.BITS + to.len ≤ T.BITS }
-    ensures writes { Writes T.BITS O.at (map T.value left.old) (map T.value left.new) to (list_in T.BITS O.at (map T.value right.now) from) }
+    ensures writes { Copies T.BITS O.at (map T.value left.old) (map T.value left.new) to (map T.value right.now) from }
 {
     if to.len == 0 {
         return;

@@ -1,7 +1,6 @@
 //! The bit operations on windows of borrowed slices of elements, without counts: what views call.
 #![tactic(auto)]
 
-mod answering;
 mod candidates;
 mod combining;
 mod comparing;
@@ -70,7 +69,6 @@ pub mod words {
     };
 }
 
-pub use answering::{fill_with_in, for_each_in};
 pub use combining::{combine_block_in, combine_in};
 pub use comparing::{compare_block_in, compare_in, eq_block_in, eq_blocks_in, eq_in};
 pub use copying::{copy_blocks_in, copy_from_block_in, copy_from_in};

@@ -1,5 +1,6 @@
 //! The bits of two windows of slices of elements, exchanged.
 ghost use Rattle.std.specs.Prelude.{◌≡◌, map};
+ghost use Rattle.bitvec_engine.specs.Pairs.{HasPair};
 ghost use Rattle.bitvec_engine.specs.base.Memory.{HasWindow, Writes, list_in};
 
 use crate::window_words::{turned, word_end};
@@ -43,9 +44,7 @@ fn swap_with_any<W: WordOrder, T: BitStore, U: BitStore, P: BitOrder>(
     right: &mut [U],
     right_window: Window,
 )
-    requires window { HasWindow T.BITS (map T.value left.old) left_window }
-    requires right_window { HasWindow U.BITS (map U.value right.old) right_window }
-    requires lengths { left_window.len ≡ right_window.len }
+    requires { HasPair T.BITS (map T.value left.old) left_window U.BITS (map U.value right.old) right_window }
     ensures writes { Writes T.BITS W.at (map T.value left.old) (map T.value left.new) left_window
         (list_in U.BITS P.at (map U.value right.old) right_window) }
     ensures right_writes { Writes U.BITS P.at (map U.value right.old) (map U.value right.new) right_window
@@ -69,9 +68,7 @@ fn swap_words<W: WordOrder, V: WordOrder, T: BitStore, U: BitStore>(
     right: &mut [U],
     right_window: Window,
 )
-    requires window { HasWindow T.BITS (map T.value left.old) left_window }
-    requires right_window { HasWindow U.BITS (map U.value right.old) right_window }
-    requires lengths { left_window.len ≡ right_window.len }
+    requires { HasPair T.BITS (map T.value left.old) left_window U.BITS (map U.value right.old) right_window }
     ensures writes { Writes T.BITS W.at (map T.value left.old) (map T.value left.new) left_window
         (list_in U.BITS V.at (map U.value right.old) right_window) }
     ensures right_writes { Writes U.BITS V.at (map U.value right.old) (map U.value right.new) right_window

@@ -77,10 +77,8 @@ fn swap_sides<T: BitStore, O: SliceOrder>(
     let bits = T::BITS as usize;
     let place = window.start + second;
     let near = window.range(first, first + len);
-    let far = Window {
-        start: place % bits,
-        len,
-    };
+    let start = place % bits;
+    let far = Window { start, len };
     let (front, rest) = cells.split_at_mut(place / bits);
     swap_with_block_in::<T, O>(front, near, rest, far);
 }
@@ -106,12 +104,8 @@ fn swap_stretch<T: BitStore, O: SliceOrder>(
         start: 0,
         len: count,
     };
-    copy_blocks_in::<T, O>(
-        &mut held,
-        aside,
-        &*cells,
-        window.range(first, first + count),
-    );
+    let near = window.range(first, first + count);
+    copy_blocks_in::<T, O>(&mut held, aside, &*cells, near);
     copy_within_in::<T, O>(cells, window, second..second + count, first);
     copy_blocks_in::<T, O>(cells, window.range(second, second + count), &held, aside);
 }

@@ -1,7 +1,7 @@
 use Rattle.std.proofs.Common.{sym, subst, ap, ◌∙◌}
 use Rattle.std.specs.Prelude.{length}
-use Rattle.bitvec_edit.specs.windows.Asked.{RefillsWith}
-use Rattle.bitvec_edit.specs.windows.AskedLaws.{callable-always}
+use Rattle.bitvec_edit.specs.domain.Asked.{RefillsWith}
+use Rattle.bitvec_edit.specs.domain.AskedLaws.{callable-always}
 use Rattle.bitvec_edit.specs.slice.WriteLaws.{whole-written}
 use Rattle.bitvec_edit_tests.proofs.laws.refilled_by.Goals as goal
 

@@ -5,6 +5,6 @@ use Rattle.bitvec_windows.proofs.comparing.eq_few.Goals as goal
 
 pub returns : goal.returns
 returns g c =
-    let left = length-list _ g.W.BitOrder.at _ _ c.requires.window in
-    let right = length-list _ g.W.BitOrder.at _ _ c.requires.right_window in
-    same-words g.W.BitOrder.at g.met.W.BitOrder.permutes _ _ _ _ (omega arith) (omega arith) (left ∙ c.requires.lengths ∙ sym right) c.few_word.ensures c.few_word-2.ensures
+    let left = length-list _ g.W.BitOrder.at _ _ c.requires.span.window in
+    let right = length-list _ g.W.BitOrder.at _ _ c.requires.span.beside in
+    same-words g.W.BitOrder.at g.met.W.BitOrder.permutes _ _ _ _ (omega arith) (omega arith) (left ∙ c.requires.span.lengths ∙ sym right) c.few_word.ensures c.few_word-2.ensures

@@ -15,7 +15,7 @@ pub word_end-to-requires-clause-fits : goal.word_end-to-requires-clause-fits
 word_end-to-requires-clause-fits g c = omega arith
 
 pub window_word-word-requires-clause-window : goal.window_word-word-requires-clause-window
-window_word-word-requires-clause-window g c = range-inside _ _ c.args.right_window _ _ _ c.requires.right_window c.range.ensures (omega arith) (omega arith)
+window_word-word-requires-clause-window g c = range-inside _ _ c.args.right_window _ _ _ c.requires.beside c.range.ensures (omega arith) (omega arith)
 
 pub store_bits-requires-clause-window : goal.store_bits-requires-clause-window
 store_bits-requires-clause-window g c = range-kept _ _ _ c.args.left_window _ _ _ c.requires.window c.loop-from.invariant.writes.elements c.range-in-loop-from.ensures (omega arith) c.word_end-to.ensures.bound
@@ -28,12 +28,12 @@ loop-from-preserved g c =
     let further = c.word_end-to.ensures.further in
     let bound = c.word_end-to.ensures.bound in
     let lengths = c.requires.lengths in
-    let right = length-list _ g.P.BitOrder.at _ _ c.requires.right_window in
+    let right = length-list _ g.P.BitOrder.at _ _ c.requires.beside in
     let word = rw c.range.ensures at c.window_word-word.ensures in
     record {
       fits = bound;
       writes = stretch-stored _ _ _ _ _ _ c.args.left_window _ _ _ from to c.requires.window (omega arith) bound (right ∙ sym lengths) c.range-in-loop-from.ensures refl
-          (copied-stretch g.W.BitOrder.at _ g.P.BitOrder.at _ c.args.right_window from to _ _ c.requires.right_window (omega arith) (omega arith) refl word)
+          (copied-stretch g.W.BitOrder.at _ g.P.BitOrder.at _ c.args.right_window from to _ _ c.requires.beside (omega arith) (omega arith) refl word)
           inv.writes c.store_bits.ensures.writes;
       borrow = search rules;
     }
@@ -41,6 +41,6 @@ loop-from-preserved g c =
 pub returns : goal.returns
 returns g c =
     let inv = c.loop-from.invariant in
-    let right = length-list _ g.P.BitOrder.at _ _ c.requires.right_window in
+    let right = length-list _ g.P.BitOrder.at _ _ c.requires.beside in
     let done = stretch-all _ g.W.BitOrder.at _ _ c.args.left_window _ c.loop-from.from (omega arith) (right ∙ sym c.requires.lengths) inv.writes in
     record { writes = record { bits = search (rules, done.bits); long = done.long; elements = search (rules, done.elements) } }

@@ -15,5 +15,5 @@ returns g c =
     let l = c.args.to.len - (c.args.to.len - f) % c.BITS-bits.result in
     record {
       writes = stretches-copied _ _ _ _ _ _ _ c.args.to c.args.from _ _ _ _ _ _ f l c.requires.span (omega arith) (omega arith)
-          c.range.ensures c.range-2.ensures c.copy_part_in.ensures.writes c.range-3.ensures c.range-4.ensures c.copy_whole_in.ensures.writes c.range-5.ensures c.range-6.ensures c.copy_part_in-2.ensures.writes;
+          c.range.ensures c.range-2.ensures c.copy_part_in.ensures.writes c.range-3.ensures c.range-4.ensures c.copy_whole_in.ensures.writes c.range-place.ensures c.range-source.ensures c.copy_part_in-2.ensures.writes;
     }

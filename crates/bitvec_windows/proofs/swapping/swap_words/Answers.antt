@@ -11,7 +11,7 @@ loop-from-init g c =
     record {
       fits = omega arith;
       writes = stretch-none _ _ _ _ c.args.left_window right_list c.requires.window c.new-cells.ensures.numbers;
-      right_writes = stretch-none _ _ _ _ c.args.right_window list c.requires.right_window c.new-others.ensures.numbers;
+      right_writes = stretch-none _ _ _ _ c.args.right_window list c.requires.beside c.new-others.ensures.numbers;
       borrow = search rules;
       right_borrow = search rules;
     }
@@ -25,7 +25,7 @@ load_bits-word-requires-clause-window g c =
 
 pub load_bits-right_word-requires-clause-window : goal.load_bits-right_word-requires-clause-window
 load_bits-right_word-requires-clause-window g c =
-    range-kept _ _ _ c.args.right_window _ _ _ c.requires.right_window c.loop-from.invariant.right_writes.elements c.range-other.ensures (omega arith) (omega arith)
+    range-kept _ _ _ c.args.right_window _ _ _ c.requires.beside c.loop-from.invariant.right_writes.elements c.range-other.ensures (omega arith) (omega arith)
 
 pub store_bits-requires-clause-window : goal.store_bits-requires-clause-window
 store_bits-requires-clause-window g c =
@@ -33,7 +33,7 @@ store_bits-requires-clause-window g c =
 
 pub store_bits-requires-in-loop-from-clause-window : goal.store_bits-requires-in-loop-from-clause-window
 store_bits-requires-in-loop-from-clause-window g c =
-    rw c.load_bits-right_word.ensures.reads.numbers (range-kept _ _ _ c.args.right_window _ _ _ c.requires.right_window c.loop-from.invariant.right_writes.elements c.range-other.ensures (omega arith) (omega arith))
+    rw c.load_bits-right_word.ensures.reads.numbers (range-kept _ _ _ c.args.right_window _ _ _ c.requires.beside c.loop-from.invariant.right_writes.elements c.range-other.ensures (omega arith) (omega arith))
 
 pub loop-from-preserved : goal.loop-from-preserved
 loop-from-preserved g c =
@@ -48,13 +48,13 @@ loop-from-preserved g c =
     let bound = c.word_end-to.ensures.bound in
     let lengths = c.requires.lengths in
     let long = length-list _ at _ _ c.requires.window in
-    let right_long = length-list _ right_at _ _ c.requires.right_window in
+    let right_long = length-list _ right_at _ _ c.requires.beside in
     let word = stretch-loaded _ at _ _ window _ _ from to _ c.requires.window (omega arith) bound c.range-part.ensures inv.writes c.load_bits-word.ensures.value in
-    let right_word = stretch-loaded _ right_at _ _ right_window _ _ from to _ c.requires.right_window (omega arith) (omega arith) c.range-other.ensures inv.right_writes c.load_bits-right_word.ensures.value in
+    let right_word = stretch-loaded _ right_at _ _ right_window _ _ from to _ c.requires.beside (omega arith) (omega arith) c.range-other.ensures inv.right_writes c.load_bits-right_word.ensures.value in
     record {
       fits = bound;
       writes = stretch-turned _ at right_at _ _ _ _ window _ _ from to _ _ c.requires.window (omega arith) bound (right_long ∙ sym lengths) c.range-part.ensures c.load_bits-word.ensures.reads.numbers right_word c.turned.ensures inv.writes c.store_bits.ensures.writes;
-      right_writes = stretch-turned _ right_at at _ _ _ _ right_window _ _ from to _ _ c.requires.right_window (omega arith) (omega arith) (long ∙ lengths) c.range-other.ensures c.load_bits-right_word.ensures.reads.numbers word c.turned-in-loop-from.ensures inv.right_writes c.store_bits-in-loop-from.ensures.writes;
+      right_writes = stretch-turned _ right_at at _ _ _ _ right_window _ _ from to _ _ c.requires.beside (omega arith) (omega arith) (long ∙ lengths) c.range-other.ensures c.load_bits-right_word.ensures.reads.numbers word c.turned-in-loop-from.ensures inv.right_writes c.store_bits-in-loop-from.ensures.writes;
       borrow = search rules;
       right_borrow = search rules;
     }
@@ -63,7 +63,7 @@ pub returns : goal.returns
 returns g c =
     let inv = c.loop-from.invariant in
     let long = length-list _ g.W.BitOrder.at _ _ c.requires.window in
-    let right_long = length-list _ g.V.BitOrder.at _ _ c.requires.right_window in
+    let right_long = length-list _ g.V.BitOrder.at _ _ c.requires.beside in
     let lengths = c.requires.lengths in
     let done = stretch-all _ g.W.BitOrder.at _ _ c.args.left_window _ c.loop-from.from (omega arith) (right_long ∙ sym lengths) inv.writes in
     let right_done = stretch-all _ g.V.BitOrder.at _ _ c.args.right_window _ c.loop-from.from (omega arith) (long ∙ lengths) inv.right_writes in

@@ -4,13 +4,13 @@ use Rattle.bitvec_windows.proofs.Swapped.{stretch-swapped}
 use Rattle.bitvec_windows.proofs.swapping_within.swap_stretch.Goals as goal
 
 pub copy_blocks_in-requires-clause-right_window : goal.copy_blocks_in-requires-clause-right_window
-copy_blocks_in-requires-clause-right_window g c = range-inside _ _ c.args.window _ _ _ c.requires.window c.range.ensures (omega arith) c.requires.first
+copy_blocks_in-requires-clause-right_window g c = range-inside _ _ c.args.window _ _ _ c.requires.window c.range-near.ensures (omega arith) c.requires.first
 
 pub copy_within_in-requires-clause-fits : goal.copy_within_in-requires-clause-fits
 copy_within_in-requires-clause-fits g c = record { order = omega arith; source = omega arith; room = omega arith }
 
 pub copy_blocks_in-requires-2-clause-window : goal.copy_blocks_in-requires-2-clause-window
-copy_blocks_in-requires-2-clause-window g c = range-kept _ _ _ c.args.window _ _ _ c.requires.window c.copy_within_in.ensures.writes.elements c.range-2.ensures (omega arith) c.requires.second
+copy_blocks_in-requires-2-clause-window g c = range-kept _ _ _ c.args.window _ _ _ c.requires.window c.copy_within_in.ensures.writes.elements c.range.ensures (omega arith) c.requires.second
 
 pub copy_blocks_in-requires-clause-window : goal.copy_blocks_in-requires-clause-window
 copy_blocks_in-requires-clause-window g c = held-inside _ _ 1 _ g.met.T.BitStore.width_law refl (omega arith) (omega arith)
@@ -21,5 +21,5 @@ copy_blocks_in-requires-2-clause-right_window g c = held-inside _ _ 1 _ g.met.T.
 pub returns : goal.returns
 returns g c = record {
   writes = stretch-swapped _ _ _ _ _ _ _ c.args.window _ c.args.first c.args.second c.args.count c.requires.window (search rules) c.requires.first c.requires.second
-      (rw c.range.ensures at c.copy_blocks_in.ensures.writes) c.copy_within_in.ensures.writes (rw c.range-2.ensures at c.copy_blocks_in-2.ensures.writes);
+      (rw c.range-near.ensures at c.copy_blocks_in.ensures.writes) c.copy_within_in.ensures.writes (rw c.range.ensures at c.copy_blocks_in-2.ensures.writes);
 }

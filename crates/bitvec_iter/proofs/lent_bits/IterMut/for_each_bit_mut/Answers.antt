@@ -8,7 +8,7 @@ use Rattle.bitvec_slice.specs.base.Window.{max_bits, window_range, write_at}
 use Rattle.bitvec_slice.specs.base.WriteLaws.{range-write_at}
 use Rattle.bitvec_slice.specs.base.WritesLaws.{Writes-holds, Writes-range, length-list, list-range}
 use Rattle.bitvec_slice.specs.base.declared.window.Window.{Window}
-use Rattle.bitvec_slice.specs.windows.Asked.{CallableOnBits, RefillsWith}
+use Rattle.bitvec_slice.specs.domain.Asked.{CallableOnBits, RefillsWith}
 use Rattle.bitvec_iter.specs.LentBits.{BitsLeft, WritesLeft, bits_in_place, bits_to_come, start_of}
 use Rattle.bitvec_iter.proofs.lent_bits.IterMut.for_each_bit_mut.Goals as goal
 

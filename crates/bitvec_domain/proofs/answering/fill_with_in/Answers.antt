@@ -1,6 +1,6 @@
 use Rattle.std.proofs.Common.{rules, arith}
-use Rattle.bitvec_windows.proofs.Answered.{answered-next, answered-none, answered-window, may-now, may-next}
-use Rattle.bitvec_windows.proofs.answering.fill_with_in.Goals as goal
+use Rattle.bitvec_domain.proofs.Answered.{answered-next, answered-none, answered-window, may-now, may-next}
+use Rattle.bitvec_domain.proofs.answering.fill_with_in.Goals as goal
 
 pub loop-index-init : goal.loop-index-init
 loop-index-init g c = record {

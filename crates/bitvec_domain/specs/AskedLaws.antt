@@ -6,7 +6,7 @@ use Rattle.std.specs.Iterator.{Yields}
 use Rattle.std.specs.List.{FoldsTo, range_with_len}
 use Rattle.std.proofs.Common.{arith, sym, ◌∙◌, ap, subst}
 use Rattle.std.proofs.lemmas.List.{append-nil, append_assoc, length-append}
-use Rattle.bitvec_windows.specs.Asked.{AnswersTo, CallableTo}
+use Rattle.bitvec_domain.specs.Asked.{AnswersTo, CallableTo}
 
 module _ {F A : Type 0} (g : Mut F A Bool) (asked : ℕ → A) where
   abbrev R : F → ℕ → Bool → F → Type 0

@@ -1,12 +1,11 @@
 //! Edits of a window of a slice of elements whose bits a closure answers.
 ghost use Rattle.std.specs.Prelude.{Bool, List, map};
-ghost use Rattle.bitvec_engine.specs.base.Memory.{HasWindow, Writes, list_in};
-ghost use Rattle.bitvec_windows.specs.Asked.{CallableBelow, CallableOnBits, FillsWith, RefillsWith};
+ghost use Rattle.bitvec_cells.specs.base.Memory.{HasWindow, Writes, list_in};
+ghost use Rattle.bitvec_domain.specs.Asked.{CallableBelow, CallableOnBits, FillsWith, RefillsWith};
 
-use bitvec_engine::base::{BitOrder, Window};
-use bitvec_engine::cells::Exclusive;
-use bitvec_engine::store::BitStore;
-use bitvec_engine::{get_bit, replace_bit};
+use bitvec_cells::base::{BitOrder, Window};
+use bitvec_cells::store::BitStore;
+use bitvec_cells::{Exclusive, get_bit, replace_bit};
 
 /// Makes each bit of a window what `f` answers for its index, from the first one on. Condition: the
 /// memory has at most `MAX_BITS` bits, and the window lies in it.

@@ -1,8 +1,8 @@
 use Rattle.std.proofs.Common.{◌≡◌, map}
 use Rattle.std.specs.Fn.{Called, Takes}
-use Rattle.bitvec_engine.specs.cells.Accessors.{exclusive_borrow, exclusive_numbers}
-use Rattle.bitvec_windows.proofs.Answered.{Answered, MayGoOn}
-use Rattle.bitvec_windows.proofs.answering.fill_with_in.Given as goal
+use Rattle.bitvec_cells.specs.Accessors.{exclusive_borrow, exclusive_numbers}
+use Rattle.bitvec_domain.proofs.Answered.{Answered, MayGoOn}
+use Rattle.bitvec_domain.proofs.answering.fill_with_in.Given as goal
 
 abbrev pub invariant-loop-index : goal.invariant-loop-index
 invariant-loop-index g l = record {
