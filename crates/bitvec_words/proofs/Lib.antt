@@ -2,6 +2,7 @@ pub mod CostLemmas
 pub mod CountLemmas
 pub mod FrontLemmas
 pub mod LaneLemmas
+pub mod OrderedLemmas
 pub mod PlaceLemmas
 pub mod ScanLemmas
 pub mod TurnLemmas

@@ -75,7 +75,7 @@ other_bit true false apart = refl
 other_bit false true apart = refl
 other_bit false false apart = absurd (apart refl)
 
-lacks_filled : (b : ℕ) (list : List Bool) (want : Bool) → length list ≡ b → ((k : ℕ) → k < length list → slice_index_or list k false ≢ want) → list ≡ replicate b (not want)
+pub lacks_filled : (b : ℕ) (list : List Bool) (want : Bool) → length list ≡ b → ((k : ℕ) → k < length list → slice_index_or list k false ≢ want) → list ≡ replicate b (not want)
 lacks_filled b list want long absent =
     let other = length-replicate b (not want) in
     same_lists _ _ (omega arith) (λ k d inside.

@@ -1,19 +1,19 @@
 //! Searches of a window by blocks of words.
-ghost use Rattle.std.specs.Prelude.{◌≡◌, ◌+◌, ◌*◌, ◌/◌, ◌%◌, ◌<◌, ◌≤◌, ◌++◌};
+ghost use Rattle.std.specs.Prelude.{◌≡◌, ℕ, ◌+◌, ◌*◌, ◌/◌, ◌%◌, ◌<◌, ◌≤◌, true, List, ◌++◌, None};
 ghost use Rattle.bitvec_cells.specs.base.Lists.{first_place};
-ghost use Rattle.bitvec_cells.specs.base.Memory.{HasWindow, element_bits, list_in};
+ghost use Rattle.bitvec_cells.specs.base.Memory.{HasWindow, element_bits, list_in, memory_bits};
 ghost use Rattle.bitvec_cells.specs.base.Window.{window_range};
 ghost use Rattle.bitvec_cells.specs.Access.{OnlyReads, OnlyReadsAtMost};
 ghost use Rattle.bitvec_cells.specs.Cost.{touched_count};
-ghost use Rattle.bitvec_words.specs.Elements.{elements_window};
+ghost use Rattle.bitvec_words.specs.Elements.{HasElements, elements_window};
 ghost use Rattle.bitvec_words.specs.Front.{EndsAtEdge};
 
 use crate::fields::WORD_BITS;
 use crate::fronts::words_load_front;
 use crate::scanning::bits_scan_first;
-use crate::word_elements::load_elements;
+use crate::word_elements::{load_elements, ordered};
 use crate::word_order::WordOrder;
-use bitvec_cells::base::{BitOrder, Part, Window};
+use bitvec_cells::base::{BitOrder, Lsb0, Part, Window};
 use bitvec_cells::store::BitStore;
 use bitvec_cells::{CellsRead, filled, first_in_element};
 
@@ -126,7 +126,8 @@ fn first_in_block<O: WordOrder, C: CellsRead>(
     first_in_pair::<O, C::Elem>(one, two, want)
 }
 
-/// The first of the elements of a block. Condition: they are not wider than a word.
+/// The first of the elements of a block, which the machine loads as words from the least significant bit
+/// on: they are put in the order only where the block has the bit. Condition: they are not wider than a word.
 #[inline(always)]
 fn first_in_narrow_block<O: WordOrder, C: CellsRead>(
     cells: &mut C,
@@ -140,10 +141,43 @@ fn first_in_narrow_block<O: WordOrder, C: CellsRead>(
     ensures reads { OnlyReads C.CellsRead cells.old cells.new (256 / C.Elem.BITS) }
 {
     let elements = WORD_BITS / C::Elem::BITS as usize;
-    let one = load_elements::<O, C>(cells, first);
-    let two = load_elements::<O, C>(cells, first + elements);
-    let three = load_elements::<O, C>(cells, first + 2 * elements);
-    let four = load_elements::<O, C>(cells, first + 3 * elements);
+    let one = load_elements::<Lsb0, C>(cells, first);
+    let two = load_elements::<Lsb0, C>(cells, first + elements);
+    let three = load_elements::<Lsb0, C>(cells, first + 2 * elements);
+    let four = load_elements::<Lsb0, C>(cells, first + 3 * elements);
+    if lack::<Lsb0>(one, two, three, four, want) {
+        return None;
+    }
+    first_in_ordered::<O, C::Elem>(one, two, three, four, want)
+}
+
+/// Whether four words lack the bit.
+#[inline(always)]
+fn lack<O: BitOrder>(one: u64, two: u64, three: u64, four: u64, want: bool) -> bool
+    ensures { result ≡ true → None ≡ first_place want
+        ((element_bits 64 O.at one ++ element_bits 64 O.at two) ++ (element_bits 64 O.at three ++ element_bits 64 O.at four)) }
+{
+    let lacking = filled::<u64>(!want);
+    (one ^ lacking) | (two ^ lacking) | (three ^ lacking) | (four ^ lacking) == 0
+}
+
+/// The first of the elements that four words have from their least significant bits on. Condition: they
+/// are not wider than a word. It isn't inlined, so that the loads that a word is gathered of have no other
+/// use, and the compiler makes one of them.
+#[inline(never)]
+fn first_in_ordered<O: WordOrder, T: BitStore>(
+    one: u64,
+    two: u64,
+    three: u64,
+    four: u64,
+    want: bool,
+) -> Option<usize>
+    requires { T.BITS ≤ 64 }
+    ensures { (ws xs ys zs : List ℕ) → HasElements T.BITS one ws → HasElements T.BITS two xs → HasElements T.BITS three ys → HasElements T.BITS four zs
+        → result ≡ first_place want ((memory_bits T.BITS O.at ws ++ memory_bits T.BITS O.at xs) ++ (memory_bits T.BITS O.at ys ++ memory_bits T.BITS O.at zs)) }
+{
+    let (one, two) = (ordered::<O, T>(one), ordered::<O, T>(two));
+    let (three, four) = (ordered::<O, T>(three), ordered::<O, T>(four));
     first_in_words::<O>(one, two, three, four, want)
 }
 
@@ -159,7 +193,7 @@ fn first_in_pair<O: BitOrder, T: BitStore>(one: T, two: T, want: bool) -> Option
     first_of_two::<O, T>(one, two, want)
 }
 
-/// The first of four words, which are passed by one comparison if they lack the bit.
+/// The first of four words.
 #[inline(always)]
 fn first_in_words<O: BitOrder>(
     one: u64,
@@ -171,10 +205,6 @@ fn first_in_words<O: BitOrder>(
     ensures { result ≡ first_place want
         ((element_bits 64 O.at one ++ element_bits 64 O.at two) ++ (element_bits 64 O.at three ++ element_bits 64 O.at four)) }
 {
-    let lacking = filled::<u64>(!want);
-    if (one ^ lacking) | (two ^ lacking) | (three ^ lacking) | (four ^ lacking) == 0 {
-        return None;
-    }
     if let Some(found) = first_of_two::<O, u64>(one, two, want) {
         return Some(found);
     }

@@ -2,10 +2,11 @@
 ghost use Rattle.std.specs.Prelude.{◌≡◌, ◌/◌, ◌≤◌};
 ghost use Rattle.bitvec_cells.specs.base.Memory.{HasWindow, Writes, element_bits, list_in};
 ghost use Rattle.bitvec_cells.specs.Access.{Costs, OnlyReads};
-ghost use Rattle.bitvec_words.specs.Elements.{elements_window};
+ghost use Rattle.bitvec_words.specs.Elements.{SameElements, elements_window};
 
 use crate::fields::{WORD_BITS, moved};
 use crate::word_order::WordOrder;
+use bitvec_cells::base::Lsb0;
 use bitvec_cells::store::BitStore;
 use bitvec_cells::{Cells, CellsRead};
 
@@ -43,4 +44,20 @@ pub fn store_elements<O: WordOrder, C: Cells>(cells: &mut C, first: usize, word:
         let element = moved::<O, u64, C::Elem>(word, step * bits, bits, 0);
         cells.store(first + step, element);
     }
+}
+
+/// The word that has under the order the elements that `word` has from its least significant bit on.
+/// Condition: they are not wider than a word.
+#[inline(always)]
+pub(crate) fn ordered<O: WordOrder, T: BitStore>(word: u64) -> u64
+    requires { T.BITS ≤ 64 }
+    ensures { SameElements T.BITS O.at word result }
+{
+    let bits = T::BITS as usize;
+    let mut ordered = 0;
+    for step in 0..WORD_BITS / bits {
+        let element = moved::<Lsb0, u64, T>(word, step * bits, bits, 0);
+        ordered |= moved::<O, T, u64>(element, 0, bits, step * bits);
+    }
+    ordered
 }

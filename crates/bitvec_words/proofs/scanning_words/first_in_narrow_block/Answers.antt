@@ -1,21 +1,36 @@
-use Rattle.std.proofs.Common.{◌+◌, ◌*◌, ◌/◌, arith, ap, ◌∙◌}
-use Rattle.bitvec_cells.specs.base.Lists.{first_place}
+use Rattle.std.proofs.Common.{◌+◌, ◌*◌, ◌/◌, arith, ◌∙◌}
 use Rattle.bitvec_cells.specs.store.WidthLaws.{width_some}
-use Rattle.bitvec_words.proofs.WordScanLemmas.{HasWindow-elements, block_words, elements-bound, list-block}
+use Rattle.bitvec_words.proofs.OrderedLemmas.{block-found, block-lacks}
+use Rattle.bitvec_words.proofs.WordScanLemmas.{HasWindow-elements, block_words, elements-bound}
 use Rattle.bitvec_words.proofs.PlaceLemmas.{bits-some}
 use Rattle.std.proofs.Math.Nat.{div-le_self}
 use Rattle.bitvec_words.proofs.scanning_words.first_in_narrow_block.Goals as goal
+
+pub returns-then-lack-clause-value : goal.returns-then-lack-clause-value
+returns-then-lack-clause-value g c =
+    let first = c.load_elements-one.ensures.reads.numbers in
+    let second = c.load_elements-two.ensures.reads.numbers ∙ first in
+    let b = g.C.Elem.BitStore.BITS in
+    let width = g.met.C.Elem.BitStore.width_law in
+    block-lacks b g.O.BitOrder.at (g.met.O.BitOrder.permutes b width) _ c.args.first width c.requires.narrow c.requires.window c.args.want _ _ _ _
+    c.load_elements-one.ensures.value
+    (rw (c.BITS.ensures, first) at c.load_elements-two.ensures.value)
+    (rw (c.BITS.ensures, second) at c.load_elements-three.ensures.value)
+    (rw (c.BITS.ensures, c.load_elements-three.ensures.reads.numbers ∙ second) at c.load_elements-four.ensures.value)
+    (c.lack.ensures c.if-lack.true)
 
 pub returns-clause-value : goal.returns-clause-value
 returns-clause-value g c =
     let first = c.load_elements-one.ensures.reads.numbers in
     let second = c.load_elements-two.ensures.reads.numbers ∙ first in
-    let one = c.load_elements-one.ensures.value in
-    let two = rw (c.BITS.ensures, first) at c.load_elements-two.ensures.value in
-    let three = rw (c.BITS.ensures, second) at c.load_elements-three.ensures.value in
-    let four = rw (c.BITS.ensures, c.load_elements-three.ensures.reads.numbers ∙ second) at c.load_elements-four.ensures.value in
-    (rw (one, two, three, four) at c.first_in_words.ensures)
-    ∙ ap (first_place c.args.want) (list-block g.C.Elem.BitStore.BITS g.O.BitOrder.at _ c.args.first g.met.C.Elem.BitStore.width_law c.requires.narrow c.requires.window)
+    let b = g.C.Elem.BitStore.BITS in
+    let width = g.met.C.Elem.BitStore.width_law in
+    block-found b g.O.BitOrder.at (g.met.O.BitOrder.permutes b width) _ c.args.first width c.requires.narrow c.requires.window c.args.want _ _ _ _
+    c.load_elements-one.ensures.value
+    (rw (c.BITS.ensures, first) at c.load_elements-two.ensures.value)
+    (rw (c.BITS.ensures, second) at c.load_elements-three.ensures.value)
+    (rw (c.BITS.ensures, c.load_elements-three.ensures.reads.numbers ∙ second) at c.load_elements-four.ensures.value)
+    _ c.first_in_ordered.ensures
 
 pub load_elements-one-requires : goal.load_elements-one-requires
 load_elements-one-requires g c =
@@ -73,6 +88,20 @@ overflow_mul-elements-2 g c = let few = div-le_self 64 c.BITS.result in omega ar
 
 pub returns-clause-reads : goal.returns-clause-reads
 returns-clause-reads g c =
+    let one = c.load_elements-one.ensures.reads in
+    let two = c.load_elements-two.ensures.reads in
+    let three = c.load_elements-three.ensures.reads in
+    let four = c.load_elements-four.ensures.reads in
+    let words = block_words g.C.Elem.BitStore.BITS g.met.C.Elem.BitStore.width_law c.requires.narrow in
+    record {
+      numbers = four.numbers ∙ three.numbers ∙ two.numbers ∙ one.numbers;
+      borrow = four.borrow ∙ three.borrow ∙ two.borrow ∙ one.borrow;
+      loads = omega arith;
+      stores = four.stores ∙ three.stores ∙ two.stores ∙ one.stores;
+    }
+
+pub returns-then-lack-clause-reads : goal.returns-then-lack-clause-reads
+returns-then-lack-clause-reads g c =
     let one = c.load_elements-one.ensures.reads in
     let two = c.load_elements-two.ensures.reads in
     let three = c.load_elements-three.ensures.reads in

@@ -1,11 +1,8 @@
-use Rattle.std.proofs.Common.{arith, rules, refl, sym}
+use Rattle.std.proofs.Common.{arith, refl, sym}
 use Rattle.bitvec_cells.specs.base.PlacesLaws.{first_place-below}
 use Rattle.bitvec_words.proofs.ScanLemmas.{first-behind, first-front, first-lacks}
-use Rattle.bitvec_words.proofs.WordScanLemmas.{length-two, none-of_four}
+use Rattle.bitvec_words.proofs.WordScanLemmas.{length-two}
 use Rattle.bitvec_words.proofs.scanning_words.first_in_words.Goals as goal
-
-pub returns-then-one-lacking-eq0 : goal.returns-then-one-lacking-eq0
-returns-then-one-lacking-eq0 g c = none-of_four 64 g.O.BitOrder.at (g.met.O.BitOrder.permutes 64 (search rules)) _ c.args.want c.filled-lacking.ensures _ _ _ _ c.if-one-lacking-eq0.true
 
 pub returns-in-Some : goal.returns-in-Some
 returns-in-Some g c = first-front c.args.want _ _ _ _ c.in-Some.ensures refl

@@ -1,0 +1,50 @@
+use Rattle.std.proofs.Common.{◌≡◌, ◌/◌, arith, ap, sym, ◌∙◌}
+use Rattle.bitvec_cells.specs.base.PartLaws.{element-none}
+use Rattle.bitvec_words.specs.Field.{padded}
+use Rattle.bitvec_words.specs.MovedLaws.{padded-none}
+use Rattle.bitvec_words.specs.WordLaws.{list-no_element, width-some, word-place}
+use Rattle.bitvec_words.proofs.OrderedLemmas.{word-all, word-next}
+use Rattle.bitvec_words.proofs.word_elements.ordered.Goals as goal
+
+pub nonzero_div-step-end : goal.nonzero_div-step-end
+nonzero_div-step-end g c = let some = width-some _ _ g.met.T.BitStore.width_law c.BITS-bits.ensures in omega arith
+
+pub overflow_mul-step : goal.overflow_mul-step
+overflow_mul-step g c =
+    let place = word-place _ _ _ g.met.T.BitStore.width_law c.BITS-bits.ensures c.requires c.loop-step-test.true in
+    omega arith
+
+pub moved-element-requires-clause-source : goal.moved-element-requires-clause-source
+moved-element-requires-clause-source g c =
+    let place = word-place _ _ _ g.met.T.BitStore.width_law c.BITS-bits.ensures c.requires c.loop-step-test.true in
+    omega arith
+
+pub moved-ordered-requires-clause-target : goal.moved-ordered-requires-clause-target
+moved-ordered-requires-clause-target g c =
+    let place = word-place _ _ _ g.met.T.BitStore.width_law c.BITS-bits.ensures c.requires c.loop-step-test.true in
+    omega arith
+
+pub loop-step-init : goal.loop-step-init
+loop-step-init g c = record {
+  value = λ xs elements. element-none 64 g.O.BitOrder.at ∙ padded-none 64 ∙ ap (padded 64) (sym (list-no_element g.T.BitStore.BITS g.O.BitOrder.at xs 0));
+}
+
+pub loop-step-preserved : goal.loop-step-preserved
+loop-step-preserved g c =
+    let b = g.T.BitStore.BITS in
+    let width = g.met.T.BitStore.width_law in
+    let more = rw c.BITS-bits.ensures at c.loop-step-test.true in
+    let taken = rw c.BITS-bits.ensures at c.moved-element.ensures in
+    let moved = rw c.BITS-bits.ensures at c.moved-ordered.ensures in
+    record {
+      value = λ xs elements. word-next b g.O.BitOrder.at (g.met.O.BitOrder.permutes b width) width c.requires c.args.word xs elements _ _ _ c.loop-step.step more (c.loop-step.invariant.value xs elements) taken moved;
+    }
+
+pub returns : goal.returns
+returns g c = λ xs elements.
+    let b = g.T.BitStore.BITS in
+    let width = g.met.T.BitStore.width_law in
+    let end = rw c.BITS-bits.ensures at c.loop-step-test.false in
+    let most = rw c.BITS-bits.ensures at c.loop-step.auto.step-end in
+    let all : c.loop-step.step ≡ 64 / b = omega arith in
+    c.loop-step.invariant.value xs elements ∙ word-all b g.O.BitOrder.at (g.met.O.BitOrder.permutes b width) width c.requires c.args.word xs elements c.loop-step.step all
