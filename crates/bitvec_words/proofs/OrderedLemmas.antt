@@ -120,8 +120,8 @@ module _ (b : ℕ) (at : ℕ → ℕ → ℕ) (p : Permutes b (at b)) (width : I
       let wide = length-element_bits b at (slice_index xs step) in
       let passed = length-elements b at xs (0 * b) (64 / b) step has more in
       let placed = moved
-          ∙ ap (λ (l : List Bool). write_at (replicate 64 false) (step * b) (slice_range l 0 (0 + b))) (taken v step here is)
-          ∙ ap (write_at (replicate 64 false) (step * b)) (range-all (element_bits b at (slice_index xs step)) (0 + b) (omega arith)) in
+      ∙ ap (λ (l : List Bool). write_at (replicate 64 false) (step * b) (slice_range l 0 (0 + b))) (taken v step here is)
+      ∙ ap (write_at (replicate 64 false) (step * b)) (range-all (element_bits b at (slice_index xs step)) (0 + b) (omega arith)) in
       let first : slice_index xs step ≡ slice_index xs (0 + step) = ap (slice_index xs) (let same : step ≡ 0 + step = omega arith in same) in
       element-joined 64 at ordered part (step * b) (list_in b at xs (elements_window b 0 step)) (element_bits b at (slice_index xs step)) (sym passed) (omega arith) before placed
       ∙ ap (λ (n : ℕ). padded 64 (list_in b at xs (elements_window b 0 step) ++ element_bits b at n)) first
