@@ -1,8 +1,9 @@
 // Times runs of `bitvec_times`, which is given as the first argument, and prints tables in Markdown: records beside a
 // struct of bit fields, elements of 128 bits beside those of 64, views of two types, walks over ones, single bits and few
-// bits beside loops by hand, and windows of 1024 bits.
+// bits beside loops by hand, and windows of 1024 bits beside peers.
 #include "bits.hpp"
 #include "header.hpp"
+#include "peers.hpp"
 #include <algorithm>
 #include <chrono>
 #include <cstdio>
@@ -22,10 +23,11 @@ static double seconds_since(Clock::time_point begin) {
     return std::chrono::duration<double>(Clock::now() - begin).count();
 }
 
-// What the program is asked for: an operation, and numbers.
+// What the program is asked for: an operation, numbers, and other words.
 struct Task {
     std::string operation;
     std::vector<size_t> numbers;
+    std::vector<std::string> others = {};
 };
 
 // Runs the program so many times through, and gives the seconds that it took and what it printed.
@@ -33,6 +35,7 @@ static std::pair<double, std::string> run(const char *program, const Task &task,
     std::vector<std::string> words = {program, task.operation};
     for (const size_t number : task.numbers)
         words.push_back(std::to_string(number));
+    words.insert(words.end(), task.others.begin(), task.others.end());
     words.push_back(std::to_string(times));
     std::vector<char *> arguments;
     for (std::string &word : words)
@@ -238,27 +241,53 @@ static void bits(const char *program) {
     fews<uint8_t, 64>(program);
 }
 
-// Windows of 1024 bits that begin at these places of an element.
-static void window(const char *program, const char *operation, size_t left, size_t right, const std::string &phase) {
+constexpr size_t window_bits = 1024;
+
+// Operations on windows that begin at these places of an element, and the fastest of the peers. The time of a peer is of
+// rounds as long as a run of the program.
+static void window(const char *program, const char *operation, size_t left, size_t right, const std::string &phase,
+                   const Best &best) {
     std::printf("| %s | %s |", operation, phase.c_str());
-    for (size_t width : {8, 16, 64})
-        std::printf(" %.3g |", 1024 / time_runs(program, {operation, {width, right, left, 1024}}, 4'000'000));
-    std::printf("\n");
+    double least = std::numeric_limits<double>::infinity();
+    for (size_t order : {0, 1})
+        for (size_t width : {8, 16, 64}) {
+            const char *name = order ? "msb0" : "lsb0";
+            const double taken =
+                time_runs(program, {operation, {width}, {name, std::to_string(right), std::to_string(left), "1024"}}, 4'000'000);
+            std::printf(" %.3g |", window_bits / taken);
+            least = std::min(least, best.nanoseconds / taken);
+        }
+    std::printf(" %.3g | %s | %.3g |\n", window_bits / best.nanoseconds, best.name.c_str(), least);
 }
 
 static void windows(const char *program) {
+    rounds = {7, 20e6, 1e9};
     std::printf("\n### Windows of 1024 bits of views, in bits per ns\n\n"
-                "| operation | phase | u8 | u16 | u64 |\n|---|---|---|---|---|\n");
-    for (const char *operation : {"copy", "or", "equality", "swap", "compare"}) {
-        window(program, operation, 0, 0, "0, 0");
-        window(program, operation, 0, 29, "0, 29");
-        if (std::string("copy or equality").find(operation) != std::string::npos)
-            window(program, operation, 29, 29, "29, 29");
+                "| operation | phase | u8 Lsb0 | u16 Lsb0 | u64 Lsb0 | u8 Msb0 | u16 Msb0 | u64 Msb0 | peer | which | "
+                "slowest / peer |\n|---|---|---|---|---|---|---|---|---|---|---|\n");
+    for (auto [left, right] : {std::pair<size_t, size_t>{0, 0}, {0, 29}, {29, 29}}) {
+        Peers peers(window_bits, right, left > 0);
+        const std::string phase = std::to_string(left) + ", " + std::to_string(right);
+        window(program, "copy", left, right, phase, peers.copy());
+        window(program, "or", left, right, phase, peers.combine());
+        window(program, "swap", left, right, phase, peers.swap());
+        window(program, "equality", left, right, phase, peers.equal());
+        if (left == 0)
+            window(program, "compare", left, right, phase, peers.compare());
     }
-    for (const char *operation :
-         {"fill", "invert", "count_ones", "first_one", "reverse", "rotate_left", "copy_within", "shift_start"})
-        for (size_t phase : {0, 29})
-            window(program, operation, phase, phase, std::to_string(phase));
+    for (size_t start : {0, 29}) {
+        Peers peers(window_bits, start, false);
+        const std::string phase = std::to_string(start);
+        window(program, "fill", start, start, phase, peers.fill());
+        window(program, "invert", start, start, phase, peers.invert());
+        window(program, "count_ones", start, start, phase, peers.count_ones());
+        window(program, "first_one", start, start, phase, peers.first_one());
+        window(program, "reverse", start, start, phase, peers.reverse());
+    }
+    Peers peers(window_bits, 0, false);
+    window(program, "copy_within", 0, 0, "by 1", peers.copy_within(1));
+    window(program, "shift_start", 0, 0, "by 29", peers.shift_start(29));
+    window(program, "rotate_left", 0, 0, "by 525", peers.rotate_left(525));
 }
 
 int main(int, char **words) {

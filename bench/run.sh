@@ -39,7 +39,7 @@ rust peers staticlib peers.rs --edition 2021 \
 # gcc takes the lists of checks.hpp for ones that could be as long as the memory
 g++ -std=c++17 -O3 "-march=$processor" -Wall -Wextra -Wno-stringop-overflow driver.cpp \
     ../crates/bitvec_c/out/libbitvec_c.a out/libpeers.a -lpthread -ldl -o out/driver
-g++ -std=c++17 -O3 "-march=$processor" -Wall -Wextra programs.cpp -o out/programs
+g++ -std=c++17 -O3 "-march=$processor" -Wall -Wextra programs.cpp out/libpeers.a -lpthread -ldl -o out/programs
 g++ -std=c++17 -O3 "-march=$processor" -Wall -Wextra sieve.cpp -o out/sieve
 
 echo "- machine: $(lscpu | sed -n 's/^Model name: *//p'), $(nproc) processors"

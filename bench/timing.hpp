@@ -11,9 +11,12 @@ inline void keep(const Value &value) {
     asm volatile("" : : "g"(value) : "memory");
 }
 
-inline constexpr int rounds = 31;
-inline constexpr double round_nanoseconds = 50'000;
-inline constexpr double most_nanoseconds = 1e9;
+// How many rounds a call is timed in, of how many nanoseconds at least, and of how many in all.
+struct Rounds {
+    int count;
+    double nanoseconds, most;
+};
+inline Rounds rounds{31, 50'000, 1e9};
 
 // The time of so many calls, in nanoseconds.
 template <class Call>
@@ -26,16 +29,16 @@ double time_calls(Call &call, size_t calls) {
     return std::chrono::duration<double, std::nano>(std::chrono::steady_clock::now() - begin).count();
 }
 
-// The time of one call, in nanoseconds: the best of 31 rounds, each of as many calls as take 50
-// microseconds; of fewer rounds where these take longer than a second in all.
+// The time of one call, in nanoseconds: of the best of these rounds, each of as many calls as take so long; of fewer
+// where they take longer in all.
 template <class Call>
 double time_call(Call call) {
     size_t calls = 1;
-    while (time_calls(call, calls) < round_nanoseconds)
+    while (time_calls(call, calls) < rounds.nanoseconds)
         calls *= 2;
     double best = std::numeric_limits<double>::infinity();
     double total = 0;
-    for (int round = 0; round < rounds && total < most_nanoseconds; ++round) {
+    for (int round = 0; round < rounds.count && total < rounds.most; ++round) {
         double taken = time_calls(call, calls);
         best = std::min(best, taken / double(calls));
         total += taken;

@@ -46,9 +46,33 @@ pub fn combine<O: WordOrder, C: Cells, D: CellsRead<Elem = C::Elem>>(
     combine_met::<O, C, D>(left, to, right, from.until(from.len - met), op);
 }
 
-/// The same, where the other window isn't empty and no longer.
+/// The same, where the other window isn't empty and no longer. No element is taken for itself before the others
+/// where both windows begin with one, so that a loop has all of them.
 #[inline(always)]
 fn combine_met<O: WordOrder, C: Cells, D: CellsRead<Elem = C::Elem>>(
+    left: &mut C,
+    to: Window,
+    right: &mut D,
+    from: Window,
+    op: BitOp,
+)
+    requires span { HasShorter C.Elem.BITS (C.numbers left.old) (D.numbers right.old) to from }
+    requires some { 0 < from.len }
+    ensures writes { Combines C.Elem.BITS O.at op (C.numbers left.old) (C.numbers left.new) (D.numbers right.old) to from }
+    ensures cost { let each = touched_count C.Elem.BITS to.start to.len in CostsAtMost C.CellsRead left.old left.new each each }
+    ensures right { OnlyReads D.CellsRead right.old right.new (touched_count C.Elem.BITS from.start from.len) }
+{
+    let bits = C::Elem::BITS as usize;
+    if to.len > bits && to.start % bits == 0 && from.start % bits == 0 {
+        combine_aligned::<O, C, D>(left, to, right, from, op);
+        return;
+    }
+    combine_behind_part::<O, C, D>(left, to, right, from, op);
+}
+
+/// The same, a part of one element first.
+#[inline(always)]
+fn combine_behind_part<O: WordOrder, C: Cells, D: CellsRead<Elem = C::Elem>>(
     left: &mut C,
     to: Window,
     right: &mut D,

@@ -16,15 +16,18 @@ use bitvec_move::words::{WORD_BITS, same_between};
 
 /// How many bits are compared before each test. A test after each single element would keep the loop
 /// from vector instructions; a loop over more of the widest elements isn't written out, and so has none.
-const BITS_PER_TEST: usize = 2048;
+pub(crate) const BITS_PER_TEST: usize = 2048;
 
-/// How many elements of `bits` bits are compared before each test.
+/// The same in windows that are shorter than that.
+const BITS_PER_SHORT_TEST: usize = 1024;
+
+/// How many elements of `bits` bits are compared before each test of `TESTED` bits, or of one element.
 #[inline(always)]
-pub(crate) fn elements_per_test(bits: usize) -> usize
+pub(crate) fn elements_per_test<const TESTED: usize>(bits: usize) -> usize
     requires some { 0 < bits }
     ensures { 0 < result }
 {
-    (BITS_PER_TEST / bits).max(1)
+    (TESTED / bits).max(1)
 }
 
 /// Whether an element is 0, by its halves: a test of 128 bits as one number would keep a loop over
@@ -42,6 +45,7 @@ pub(crate) fn is_zero<T: BitStore>(element: T) -> bool
 /// Whether a window has the bits of one whose first bit has the same index in its element, under any
 /// order. Condition: as of [`crate::equal`], the windows are as long, and aren't empty. It loads each
 /// element that a window touches at most once.
+#[inline(always)]
 pub fn equal_unshifted<O: BitOrder, C: CellsRead, D: CellsRead<Elem = C::Elem>>(
     left: &mut C,
     left_window: Window,
@@ -77,7 +81,34 @@ pub fn equal_unshifted<O: BitOrder, C: CellsRead, D: CellsRead<Elem = C::Elem>>(
 }
 
 /// Whether a window that begins where an element does has the bits of another that does.
+#[inline(always)]
 fn equal_aligned<O: BitOrder, C: CellsRead, D: CellsRead<Elem = C::Elem>>(
+    left: &mut C,
+    left_window: Window,
+    right: &mut D,
+    right_window: Window,
+) -> bool
+    requires span { HasSpan C.Elem.BITS (C.numbers left.old) (D.numbers right.old) left_window right_window }
+    requires edge { left_window.start % C.Elem.BITS ≡ 0 }
+    requires right_edge { right_window.start % C.Elem.BITS ≡ 0 }
+    ensures value { result ≡ same_sides C.Elem.BITS O.at (C.numbers left.old) (D.numbers right.old) left_window right_window }
+    ensures reads { OnlyReadsAtMost C.CellsRead left.old left.new (touched_count C.Elem.BITS left_window.start left_window.len) }
+    ensures right { OnlyReadsAtMost D.CellsRead right.old right.new (touched_count C.Elem.BITS right_window.start right_window.len) }
+{
+    if left_window.len < BITS_PER_TEST {
+        return equal_in_steps::<O, C, D, BITS_PER_SHORT_TEST>(
+            left,
+            left_window,
+            right,
+            right_window,
+        );
+    }
+    equal_in_steps::<O, C, D, BITS_PER_TEST>(left, left_window, right, right_window)
+}
+
+/// The same, with a test after so many bits each.
+#[inline(always)]
+fn equal_in_steps<O: BitOrder, C: CellsRead, D: CellsRead<Elem = C::Elem>, const TESTED: usize>(
     left: &mut C,
     left_window: Window,
     right: &mut D,
@@ -93,7 +124,7 @@ fn equal_aligned<O: BitOrder, C: CellsRead, D: CellsRead<Elem = C::Elem>>(
     let bits = C::Elem::BITS as usize;
     let (first, count) = whole_elements(bits, left_window);
     let source = right_window.start / bits;
-    let span = elements_per_test(bits);
+    let span = elements_per_test::<TESTED>(bits);
     let tests = count / span;
     for test in 0..tests {
         let passed = test * span;
@@ -112,6 +143,7 @@ fn equal_aligned<O: BitOrder, C: CellsRead, D: CellsRead<Elem = C::Elem>>(
 }
 
 /// The same, with one test after all whole elements.
+#[inline(always)]
 fn equal_aligned_rest<O: BitOrder, C: CellsRead, D: CellsRead<Elem = C::Elem>>(
     left: &mut C,
     left_window: Window,
@@ -165,6 +197,7 @@ fn differences<O: BitOrder, C: CellsRead, D: CellsRead<Elem = C::Elem>>(
 }
 
 /// Whether a part has the bits of an element at the same indices.
+#[inline(always)]
 fn equal_part<O: BitOrder, C: CellsRead, D: CellsRead<Elem = C::Elem>>(
     left: &mut C,
     part: Part,

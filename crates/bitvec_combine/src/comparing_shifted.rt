@@ -10,7 +10,7 @@ ghost use Rattle.bitvec_move.specs.words.Spans.{HasShiftedElements, HasShiftedSp
 ghost use Rattle.bitvec_combine.specs.Sides.{same_sides};
 ghost use Rattle.bitvec_combine.specs.Spans.{HasPartBeside};
 
-use crate::comparing_equal::{elements_per_test, is_zero};
+use crate::comparing_equal::{BITS_PER_TEST, elements_per_test, is_zero};
 use bitvec_move::at_known_skip;
 use bitvec_move::base::{BitOrder, Part, Window, first_part, tail_part, whole_elements};
 use bitvec_move::cells::CellsRead;
@@ -100,7 +100,7 @@ fn equal_carried<O: WordOrder, C: CellsRead, D: CellsRead<Elem = C::Elem>>(
     let bits = C::Elem::BITS as usize;
     let (first, count) = whole_elements(bits, left_window);
     let (source, skip) = (right_window.start / bits, right_window.start % bits);
-    let span = elements_per_test(bits);
+    let span = elements_per_test::<BITS_PER_TEST>(bits);
     let tests = count / span;
     let mut last = carry;
     for test in 0..tests {

@@ -1,4 +1,5 @@
 //! Edits of a view by another: what the user's elements are afterwards.
+ghost use Rattle.std.specs.Prelude.{◌≤◌};
 
 use bitvec_edit::BitEdits;
 use bitvec_edit::base::{Lsb0, Msb0};
@@ -67,4 +68,40 @@ fn the_right_side_is_extended_by_zeros(rt: HostRuntime) {
     let mut others = [0xFF];
     combine_by_name(&mut others);
     assert!(rt; [bytes, others] == [[0xE1], [0xE1]]);
+}
+
+/// Copies the bits 16 to `16 + len` of the one to those from 8 on of the other, and tells whether they are the same then.
+fn copy_behind(bytes: &mut [u8; 12], others: &[u8; 12], len: usize) -> bool
+    requires { len ≤ 80 }
+{
+    let mut part = BitSliceMut::<u8, Msb0>::from_slice_mut(bytes).into_part(8..8 + len);
+    let from = BitSlice::<u8, Msb0>::from_slice(others).into_part(16..16 + len);
+    part.copy_from_bitslice(from);
+    part.as_ref() == from
+}
+
+/// Adds the ones of ten elements to those of ten others, and moves these by two elements towards the first.
+fn join_and_shift(bytes: &mut [u8; 12], others: &[u8; 12]) {
+    let mut part = BitSliceMut::<u8, Msb0>::from_slice_mut(bytes).into_part(8..88);
+    part |= BitSlice::<u8, Msb0>::from_slice(others).into_part(16..96);
+    part.shift_start(16);
+}
+
+#[test]
+fn whole_elements_go_as_they_are(rt: HostRuntime) {
+    let others = [0, 1, 2, 3, 4, 5, 6, 7, 8, 9, 10, 11];
+    let mut whole = [0xFF; 12];
+    assert!(rt; copy_behind(&mut whole, &others, 80));
+    assert!(rt; whole == [0xFF, 2, 3, 4, 5, 6, 7, 8, 9, 10, 11, 0xFF]);
+    let mut parted = [0xFF; 12];
+    assert!(rt; copy_behind(&mut parted, &others, 76));
+    assert!(rt; parted == [0xFF, 2, 3, 4, 5, 6, 7, 8, 9, 10, 0x0F, 0xFF]);
+    let mut joined = [0x40; 12];
+    join_and_shift(&mut joined, &others);
+    assert!(rt;
+        joined
+            == [
+                0x40, 0x44, 0x45, 0x46, 0x47, 0x48, 0x49, 0x4A, 0x4B, 0, 0, 0x40
+            ]
+    );
 }

@@ -99,6 +99,7 @@ pub fn elements_op<O: BitOrder, C: Cells, D: CellsRead<Elem = C::Elem>>(
 /// Whether two windows of the same elements have the same bits: `block_eq` of an order without
 /// `WORDS`. Conditions and cost are those of `block_eq`.
 #[tactic(auto, using(bitvec_combine::specs::Cited::in_steps, bitvec_combine::specs::Cited::enough, bitvec_combine::specs::Cited::width_some))]
+#[inline(always)]
 pub fn elements_eq<O: BitOrder, C: CellsRead, D: CellsRead<Elem = C::Elem>>(
     left: &mut C,
     left_window: Window,

@@ -1,5 +1,5 @@
 //! Operations on few bits, at places that change from round to round.
-use crate::operation::zeros_and_one;
+use crate::bits::zeros_and_one;
 use bitrecord::bits::{BitEdits, BitQueries, BitSlice, BitSliceMut, BitStore, BitVec, Lsb0};
 use std::alloc::Allocator;
 

@@ -4,8 +4,8 @@
 //! OPERATION is `copy`, `or`, `swap`, `equality`, `compare`, `copy_within`, `shift_start`,
 //! `rotate_left`, `reverse`, `fill`, `invert`, `count_ones` or `first_one`, of 2^20 bits in elements of
 //! WIDTH bits, under `Lsb0`; the right side begins PHASE bits into an element. By
-//! `OPERATION WIDTH PHASE LEFT BITS TIMES` it is of so many bits, and the left side begins LEFT bits into
-//! an element. Or it is `eq_bits`, `cmp_bits`, `or_bits` or `clone_from_bitslice`, whose right side has
+//! `OPERATION WIDTH ORDER PHASE LEFT BITS TIMES` it is under the order `lsb0` or `msb0` and of so many bits,
+//! and the left side begins LEFT bits into an element. Or it is `eq_bits`, `cmp_bits`, `or_bits` or `clone_from_bitslice`, whose right side has
 //! elements of 16 bits. Or it is `walk`, over the ones of as many bits, of which one in PHASE is 1. Or it
 //! is `encode` or `decode`, of the header of a packet, in bytes.
 //!
@@ -15,6 +15,8 @@
 //! changes.
 #![tactic(auto)]
 
+mod acts;
+mod bits;
 mod few;
 mod mixed;
 mod operation;
@@ -22,10 +24,11 @@ mod record;
 mod single;
 mod walk;
 
-use bitrecord::bits::{Lsb0, Msb0};
+use bitrecord::bits::{Lsb0, Msb0, SliceOrder};
+use bits::{BITS, Place};
 use few::{Few, few_times};
 use mixed::{Mixed, carry_out_mixed};
-use operation::{BITS, Operation, Place, carry_out_times};
+use operation::operation_times;
 use record::{decode_times, encode_times};
 use single::{Single, single_times};
 use std::alloc::Allocator;
@@ -43,7 +46,7 @@ fn number(word: &String) -> Option<usize> {
 fn numbers(words: &[String]) -> Option<(Place, usize)> {
     let (phase, left, bits, times) = match words {
         [_, _, phase, times] => (phase, 0, BITS, times),
-        [_, _, phase, left, bits, times] => (phase, number(left)?, number(bits)?, times),
+        [_, _, _, phase, left, bits, times] => (phase, number(left)?, number(bits)?, times),
         _ => return None,
     };
     let right = number(phase)?;
@@ -59,29 +62,46 @@ fn sum<A: Allocator + Copy>(alloc: A, words: &[String]) -> Option<u128> {
         "decode" => return decode_times(alloc, times),
         _ => {}
     }
-    let sum = match (name, Mixed::of(name), Operation::of(name)) {
+    let sum = match (name, Mixed::of(name), words.get(2)?.as_str()) {
         ("walk", _, _) => sum_of_walk(alloc, width, place.right, times)?,
         (_, Some(mixed), _) => sum_of_mixed(alloc, mixed, width, times)?,
-        (_, _, Some(operation)) => sum_of_operation(alloc, operation, width, place, times)?,
-        _ => sum_of_bits(alloc, name, width, place.right, times)?,
+        (_, _, "msb0") => sum_of_operation::<Msb0, A>(alloc, name, width, place, times)?,
+        (_, _, "lsb0") => sum_of_operation::<Lsb0, A>(alloc, name, width, place, times)?,
+        _ => sum_of_plain(alloc, name, width, place, times)?,
     };
     Some(sum as u128)
 }
 
-/// The sum of an operation on elements of a width. None where no such width is timed.
-fn sum_of_operation<A: Allocator + Copy>(
+/// The sum of an operation under an order on elements of a width. None where no such one is timed.
+fn sum_of_operation<O: SliceOrder, A: Allocator + Copy>(
     alloc: A,
-    operation: Operation,
+    name: &str,
     width: &str,
     place: Place,
     times: usize,
 ) -> Option<usize> {
     match width {
-        "8" => carry_out_times::<u8, A>(alloc, operation, place, times),
-        "16" => carry_out_times::<u16, A>(alloc, operation, place, times),
-        "64" => carry_out_times::<u64, A>(alloc, operation, place, times),
-        "128" => carry_out_times::<u128, A>(alloc, operation, place, times),
+        "8" => operation_times::<u8, O, A>(alloc, name, place, times),
+        "16" => operation_times::<u16, O, A>(alloc, name, place, times),
+        "64" => operation_times::<u64, O, A>(alloc, name, place, times),
         _ => None,
+    }
+}
+
+/// As `sum_of_operation`, under `Lsb0` and of elements of 128 bits too, or of single or few bits.
+fn sum_of_plain<A: Allocator + Copy>(
+    alloc: A,
+    name: &str,
+    width: &str,
+    place: Place,
+    times: usize,
+) -> Option<usize> {
+    if Single::of(name).is_some() || Few::of(name).is_some() {
+        return sum_of_bits(alloc, name, width, place.right, times);
+    }
+    match width {
+        "128" => operation_times::<u128, Lsb0, A>(alloc, name, place, times),
+        _ => sum_of_operation::<Lsb0, A>(alloc, name, width, place, times),
     }
 }
 

@@ -1,5 +1,5 @@
 //! The operations that are timed on the bits of two views of different types.
-use crate::operation::{BITS, zeros_and_one};
+use crate::bits::{BITS, zeros_and_one};
 use bitrecord::bits::{BitEdits, BitQueries, BitSlice, BitSliceMut, BitStore, Lsb0};
 use std::alloc::Allocator;
 

@@ -1,112 +1,44 @@
-//! The operations that are timed on the bits of two views.
-use bitrecord::bits::{
-    BitEdits, BitQueries, BitSlice, BitSliceMut, BitStore, BitVec, Lsb0, SliceOrder, ToBitVec,
+//! Operations on the bits of two views in loops, each in one of its own.
+use crate::acts::{
+    Act, Compared, Copied, CopiedWithin, Counted, Equal, Filled, Found, Inverted, Joined, Reversed,
+    Rotated, Shifted, Swapped,
 };
+use crate::bits::{BITS, Place, zeros_and_one};
+use bitrecord::bits::{BitEdits, BitQueries, BitSliceMut, BitStore, SliceOrder};
 use std::alloc::Allocator;
 
-/// How many bits an operation goes over, if no other number is given.
-pub(crate) const BITS: usize = 1 << 20;
-
 /// How many bits stand before the first view: whole elements of each width.
-const SPARE: usize = 128;
+const SPARE: usize = 512;
 
-/// An operation on the bits of one or two views.
-#[derive(Clone, Copy)]
-pub(crate) enum Operation {
-    Compare,
-    Copy,
-    CopyWithin,
-    Count,
-    Equality,
-    Fill,
-    Invert,
-    Or,
-    Reverse,
-    Rotate,
-    Search,
-    Shift,
-    Swap,
-}
-
-/// Which bits it goes over: where the views begin in an element, and how many bits they have.
-#[derive(Clone, Copy)]
-pub(crate) struct Place {
-    pub(crate) left: usize,
-    pub(crate) right: usize,
-    pub(crate) bits: usize,
-}
-
-impl Operation {
-    /// The operation of a name.
-    pub(crate) fn of(name: &str) -> Option<Operation> {
-        match name {
-            "compare" => Some(Operation::Compare),
-            "copy" => Some(Operation::Copy),
-            "copy_within" => Some(Operation::CopyWithin),
-            "count_ones" => Some(Operation::Count),
-            "equality" => Some(Operation::Equality),
-            "fill" => Some(Operation::Fill),
-            "first_one" => Some(Operation::Search),
-            "invert" => Some(Operation::Invert),
-            "or" => Some(Operation::Or),
-            "reverse" => Some(Operation::Reverse),
-            "rotate_left" => Some(Operation::Rotate),
-            "shift_start" => Some(Operation::Shift),
-            "swap" => Some(Operation::Swap),
-            _ => None,
-        }
-    }
-
-    /// Carries the operation out once, and gives a number that depends on what it read or left.
-    fn carry_out<T: BitStore>(
-        self,
-        left: &mut BitSliceMut<'_, T, Lsb0>,
-        right: &mut BitSliceMut<'_, T, Lsb0>,
-    ) -> usize {
-        let len = left.len();
-        match self {
-            Operation::Copy if len == right.len() => left.copy_from_bitslice(right.as_ref()),
-            Operation::Or if len == right.len() => *left |= right.as_ref(),
-            Operation::Swap if len == right.len() => left.swap_with_bitslice(right),
-            Operation::CopyWithin if len > 0 => left.copy_within(0..len - 1, 1),
-            Operation::Fill => left.fill(true),
-            Operation::Invert => left.invert(),
-            Operation::Reverse => left.reverse(),
-            Operation::Rotate if len >= 525 => left.rotate_left(525),
-            Operation::Shift if len >= 29 => left.shift_start(29),
-            Operation::Compare => return usize::from(left.as_ref().cmp(&right.as_ref()).is_eq()),
-            Operation::Count => return left.count_ones(),
-            Operation::Equality => return usize::from(left.as_ref() == right.as_ref()),
-            Operation::Search => return left.first_one().unwrap_or(0),
-            _ => return 0,
-        }
-        usize::from(left.len() > 0 && left.as_ref()[0])
-    }
-}
-
-/// A sequence of zeros and a last one.
-pub(crate) fn zeros_and_one<T: BitStore, O: SliceOrder, A: Allocator>(
+/// Carries the operation of a name out so many times on two views, and gives the sum of what it gives.
+/// None where no operation has the name, memory was refused, or the views are longer than 2^20 bits.
+pub(crate) fn operation_times<T: BitStore, O: SliceOrder, A: Allocator + Copy>(
     alloc: A,
-    len: usize,
-) -> Option<BitVec<T, O, A>> {
-    T::fits_in_memory();
-    let zero = [T::ZERO];
-    let mut bits = BitSlice::<T, O>::from_slice(&zero)
-        .into_part(0..1)
-        .repeat(alloc, len)
-        .ok()?;
-    let end = bits.len();
-    if end > 0 {
-        bits.set(end - 1, true);
+    name: &str,
+    place: Place,
+    times: usize,
+) -> Option<usize> {
+    match name {
+        "compare" => act_times::<Compared, T, O, A>(alloc, place, times),
+        "copy" => act_times::<Copied, T, O, A>(alloc, place, times),
+        "copy_within" => act_times::<CopiedWithin, T, O, A>(alloc, place, times),
+        "count_ones" => act_times::<Counted, T, O, A>(alloc, place, times),
+        "equality" => act_times::<Equal, T, O, A>(alloc, place, times),
+        "fill" => act_times::<Filled, T, O, A>(alloc, place, times),
+        "first_one" => act_times::<Found, T, O, A>(alloc, place, times),
+        "invert" => act_times::<Inverted, T, O, A>(alloc, place, times),
+        "or" => act_times::<Joined, T, O, A>(alloc, place, times),
+        "reverse" => act_times::<Reversed, T, O, A>(alloc, place, times),
+        "rotate_left" => act_times::<Rotated, T, O, A>(alloc, place, times),
+        "shift_start" => act_times::<Shifted, T, O, A>(alloc, place, times),
+        "swap" => act_times::<Swapped, T, O, A>(alloc, place, times),
+        _ => None,
     }
-    Some(bits)
 }
 
-/// Carries an operation out so many times on two views, and gives the sum of what it gives. None where
-/// memory was refused, or they are longer than 2^20 bits.
-pub(crate) fn carry_out_times<T: BitStore, A: Allocator + Copy>(
+/// Acts so many times on what begins so many bits into two memories, behind the spare bits of the first.
+fn act_times<F: Act, T: BitStore, O: SliceOrder, A: Allocator + Copy>(
     alloc: A,
-    operation: Operation,
     place: Place,
     times: usize,
 ) -> Option<usize> {
@@ -114,41 +46,49 @@ pub(crate) fn carry_out_times<T: BitStore, A: Allocator + Copy>(
     if bits > BITS {
         return None;
     }
-    let mut left = zeros_and_one::<T, Lsb0, A>(alloc, SPARE + from + bits)?;
-    let mut right = zeros_and_one::<T, Lsb0, A>(alloc, other + bits)?;
+    let mut left = zeros_and_one::<T, O, A>(alloc, SPARE + from + bits)?;
+    let mut right = zeros_and_one::<T, O, A>(alloc, other + bits)?;
     let mut left = left.as_mut_bitslice();
     let mut right = right.as_mut_bitslice();
-    rounds(operation, &mut left, from, &mut right, other, times)
+    act_behind::<F, T, O>(&mut left, from, &mut right, other, times)
 }
 
-/// Carries an operation out so many times on what begins so many bits into two memories, behind the
-/// spare bits of the first. Between two times one of these is set, so that none is done once for all.
-fn rounds<T: BitStore>(
-    operation: Operation,
-    left: &mut BitSliceMut<'_, T, Lsb0>,
+/// The same in two views.
+fn act_behind<F: Act, T: BitStore, O: SliceOrder>(
+    left: &mut BitSliceMut<'_, T, O>,
     from: usize,
-    right: &mut BitSliceMut<'_, T, Lsb0>,
+    right: &mut BitSliceMut<'_, T, O>,
     other: usize,
     times: usize,
 ) -> Option<usize> {
-    let (first, second) = (left.len(), right.len());
-    if first < SPARE || second < other {
+    let second = right.len();
+    if left.len() < SPARE || second < other {
         return None;
     }
-    let (mut spare, left) = left.split_apart_mut(SPARE)?;
+    let (spare, left) = left.split_apart_mut(SPARE)?;
     let rest = left.len();
     if rest < from {
         return None;
     }
-    let mut left = left.into_part(from..rest);
-    let mut right = right.part_mut(other..second);
+    let left = left.into_part(from..rest);
+    let right = right.part_mut(other..second);
+    Some(rounds::<F, T, O>(spare, left, right, times))
+}
+
+/// The rounds of an act. Now and then a bit outside is set, so that none is done once for all.
+#[inline(never)]
+fn rounds<F: Act, T: BitStore, O: SliceOrder>(
+    mut spare: BitSliceMut<'_, T, O>,
+    mut left: BitSliceMut<'_, T, O>,
+    mut right: BitSliceMut<'_, T, O>,
+    times: usize,
+) -> usize {
     let mut sum = 0usize;
     for round in 0..times {
-        let index = round % 64;
-        if index < spare.len() {
-            spare.set(index, true);
+        if round % 64 == 0 && spare.len() > 0 {
+            spare.set(0, round % 128 == 0);
         }
-        sum = sum.wrapping_add(operation.carry_out(&mut left, &mut right));
+        sum = sum.wrapping_add(F::act(&mut left, &mut right));
     }
-    Some(sum)
+    sum
 }

@@ -1,5 +1,5 @@
 //! Single bits of a view, which are read and written in loops.
-use crate::operation::{BITS, zeros_and_one};
+use crate::bits::{BITS, zeros_and_one};
 use bitrecord::bits::{BitEdits, BitQueries, BitSlice, BitSliceMut, BitStore, SliceOrder};
 use std::alloc::Allocator;
 

@@ -1,5 +1,5 @@
 //! The walk over the ones of a view, which is timed.
-use crate::operation::{BITS, zeros_and_one};
+use crate::bits::{BITS, zeros_and_one};
 use bitrecord::bits::{BitEdits, BitSlice, BitStore, Lsb0, OnesCalls};
 use std::alloc::Allocator;
 

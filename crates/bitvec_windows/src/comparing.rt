@@ -12,11 +12,14 @@ use bitvec_engine::base::{BitOrder, Lsb0, Msb0, Window};
 use bitvec_engine::cells::Shared;
 use bitvec_engine::store::BitStore;
 use bitvec_engine::words::{WORD_BITS, WordOrder};
-use bitvec_engine::{Direction, SliceOrder, direction_of, get_bit};
+use bitvec_engine::{Direction, SliceOrder, direction_of, elements_eq, get_bit};
 use std::cmp::Ordering;
 
 /// How many bits [`compare_block_in`] passes at a time where they are equal.
 const STRETCH: usize = 4096;
+
+/// Below how many bits a window is a short one to [`eq_blocks_in`].
+const SHORT_BITS: usize = 2048;
 
 /// Whether two windows have the same bits. Condition: each memory has at most `MAX_BITS` bits, and
 /// each window lies in its memory.
@@ -64,8 +67,9 @@ pub fn eq_block_in<T: BitStore, O: SliceOrder>(
     eq_blocks_in::<T, O>(left, left_window, right, right_window)
 }
 
-/// [`eq_block_in`] by the order's block function at any length: the shorter way to few bits where their
-/// number isn't known when the machine code is made. Condition: as of [`eq_in`].
+/// [`eq_block_in`] by elements at any length: the shorter way to few bits where their number isn't known
+/// when the machine code is made. Whole elements of a short window are compared in the caller. Condition: as of [`eq_in`].
+#[inline(always)]
 pub fn eq_blocks_in<T: BitStore, O: SliceOrder>(
     left: &[T],
     left_window: Window,
@@ -77,8 +81,18 @@ pub fn eq_blocks_in<T: BitStore, O: SliceOrder>(
     ensures { result ≡ same_bits (list_in T.BITS O.at (map T.value left.now) left_window)
         (list_in T.BITS O.at (map T.value right.now) right_window) }
 {
+    let bits = T::BITS as usize;
+    let has_edges = left_window.start % bits == 0 && right_window.start % bits == 0;
     let mut left = Shared::new(left);
     let mut right = Shared::new(right);
+    if has_edges && left_window.len % bits == 0 && left_window.len < SHORT_BITS {
+        return elements_eq::<O, Shared<T>, Shared<T>>(
+            &mut left,
+            left_window,
+            &mut right,
+            right_window,
+        );
+    }
     O::block_eq::<Shared<T>, Shared<T>>(&mut left, left_window, &mut right, right_window)
 }
 

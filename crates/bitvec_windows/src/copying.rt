@@ -3,8 +3,9 @@ ghost use Rattle.std.specs.Prelude.{◌≡◌, ◌≤◌, map};
 ghost use Rattle.bitvec_engine.specs.Pairs.{HasPair};
 ghost use Rattle.bitvec_engine.specs.base.Memory.{HasWindow, Writes, list_in};
 ghost use Rattle.bitvec_engine.specs.base.Spans.{HasSpan};
+ghost use Rattle.bitvec_engine.specs.moves.Moves.{Copies};
 
-use crate::copying_elements::{AT_ONCE_BITS, copy_elements_in};
+use crate::copying_elements::{AT_ONCE_BITS, copy_elements_in, copy_whole_in};
 use crate::window_words::{few_word, window_word, word_end};
 use bitvec_engine::base::{BitOrder, Lsb0, Msb0, Window};
 use bitvec_engine::cells::{Exclusive, Shared};
@@ -86,8 +87,8 @@ pub fn copy_from_block_in<T: BitStore, O: SliceOrder>(
 }
 
 /// [`copy_from_block_in`] with no test for few bits: the shorter way to these where their number isn't known
-/// when the machine code is made. Many bits that begin at the same index of an element are copied by whole
-/// elements at once, others by the order's block function. Condition: as of [`copy_from_in`].
+/// when the machine code is made. Whole elements are copied at once. Condition: as of [`copy_from_in`].
+#[inline(always)]
 pub fn copy_blocks_in<T: BitStore, O: SliceOrder>(
     left: &mut [T],
     left_window: Window,
@@ -101,13 +102,28 @@ pub fn copy_blocks_in<T: BitStore, O: SliceOrder>(
         (list_in T.BITS O.at (map T.value right.now) right_window) }
 {
     let bits = T::BITS as usize;
-    if left_window.len >= AT_ONCE_BITS && left_window.start % bits == right_window.start % bits {
-        copy_elements_in::<T, O>(left, left_window, right, right_window);
+    let has_edges = left_window.start % bits == 0 && right_window.start % bits == 0;
+    if has_edges && left_window.len % bits == 0 {
+        copy_whole_in::<T, O>(left, left_window, right, right_window);
+        return;
+    }
+    copy_parted_in::<T, O>(left, left_window, right, right_window);
+}
+
+/// The same. Many bits that begin at the same index of an element are copied by whole elements at once, others
+/// by the order's block function. Condition: as of [`copy_from_in`].
+fn copy_parted_in<T: BitStore, O: SliceOrder>(left: &mut [T], to: Window, right: &[T], from: Window)
+    requires { HasSpan T.BITS (map T.value left.old) (map T.value right.now) to from }
+    ensures { Copies T.BITS O.at (map T.value left.old) (map T.value left.new) to (map T.value right.now) from }
+{
+    let bits = T::BITS as usize;
+    if to.len >= AT_ONCE_BITS && to.start % bits == from.start % bits {
+        copy_elements_in::<T, O>(left, to, right, from);
         return;
     }
     let mut left = Exclusive::new(left);
     let mut right = Shared::new(right);
-    O::block_copy::<Exclusive<T>, Shared<T>>(&mut left, left_window, &mut right, right_window);
+    O::block_copy::<Exclusive<T>, Shared<T>>(&mut left, to, &mut right, from);
 }
 
 /// [`copy_from_block_in`] of windows of at most 64 bits, as a word.

@@ -34,7 +34,13 @@ pub(crate) fn copy_elements_in<T: BitStore, O: BitOrder>(
 }
 
 /// Copies whole elements.
-fn copy_whole_in<T: BitStore, O: BitOrder>(left: &mut [T], to: Window, right: &[T], from: Window)
+#[inline(always)]
+pub(crate) fn copy_whole_in<T: BitStore, O: BitOrder>(
+    left: &mut [T],
+    to: Window,
+    right: &[T],
+    from: Window,
+)
     requires span { HasSpan T.BITS (map T.value left.old) (map T.value right.now) to from }
     requires edge { to.start % T.BITS ≡ 0 }
     requires right_edge { from.start % T.BITS ≡ 0 }

@@ -2,7 +2,7 @@
 use Rattle.std.specs.Prelude.{◌≡◌, ℕ, ◌+◌, ◌-◌, ◌*◌, ◌/◌, ◌%◌, ◌^◌, ◌<◌, ◌≤◌, ◌==◌, zero, suc, Bool, cond, List, ◌++◌, count_by, count_ones, slice_index, refl}
 use Rattle.std.specs.Int.{bit_at}
 use Rattle.std.proofs.Common.{arith, sym, ◌∙◌, ap}
-use Rattle.std.proofs.Math.Nat.{mod-lt, mul-le-mul_left}
+use Rattle.std.proofs.Math.Nat.{add-mul, mod-lt, mul-le-mul_left, mul_assoc}
 use Rattle.std.proofs.lemmas.List.{same_lists}
 use Rattle.std.proofs.lemmas.List.Sums.{sum_by-append}
 use Rattle.std.proofs.lemmas.Nat.{div-add-mod', pow_pos}
@@ -104,6 +104,29 @@ count-word b xs first count step v m n has more is small before ones =
     (list-elements_join b (λ c i. i) xs first (count * (64 / b)) has first (first + step * (64 / b)) (step * (64 / b)) (64 / b) ((step + 1) * (64 / b)) (omega arith) (omega arith) refl (omega arith))
     before
     (ones ∙ element-count 64 (λ c i. i) (itself 64) v small ∙ ap (λ (l : List Bool). count_by (λ (bit : Bool). bit) l) is)
+
+-- a number of elements more
+pub count-block : (b : ℕ) (xs : List ℕ) (first count step size m n : ℕ) → 0 < b → HasWindow b xs (elements_window b first (count * size)) → step < count
+    → m ≡ count_by (λ (bit : Bool). bit) (list_in b (λ c i. i) xs (elements_window b first (step * size))) → n ≡ count_by (λ (bit : Bool). bit) (list_in b (λ c i. i) xs (elements_window b (first + step * size) size))
+    → m + n ≡ count_by (λ (bit : Bool). bit) (list_in b (λ c i. i) xs (elements_window b first ((step + 1) * size)))
+count-block b xs first count step size m n some has more before block =
+    let order = mul-le-mul_left size more in
+    count-parts (list_in b (λ c i. i) xs (elements_window b first (step * size))) (list_in b (λ c i. i) xs (elements_window b (first + step * size) size)) _ m n
+    (list-elements_join b (λ c i. i) xs first (count * size) has first (first + step * size) (step * size) size ((step + 1) * size) (omega arith) (omega arith) refl (omega arith))
+    before block
+
+-- words by four, and those that are left
+pub count-fours : (b : ℕ) (xs : List ℕ) (first count m n : ℕ) → HasWindow b xs (elements_window b first (count * (64 / b)))
+    → m ≡ count_by (λ (bit : Bool). bit) (list_in b (λ c i. i) xs (elements_window b first (count / 4 * (4 * (64 / b))))) → n ≡ count_by (λ (bit : Bool). bit) (list_in b (λ c i. i) xs (elements_window b (first + count / 4 * (4 * (64 / b))) (count % 4 * (64 / b))))
+    → m + n ≡ count_by (λ (bit : Bool). bit) (list_in b (λ c i. i) xs (elements_window b first (count * (64 / b))))
+count-fours b xs first count m n has fours left =
+    let size = 64 / b in
+    let passed = count / 4 * (4 * size) in
+    let sum : count * size ≡ passed + count % 4 * size =
+    ap (λ (k : ℕ). k * size) (sym (div-add-mod' count 4)) ∙ add-mul (count / 4 * 4) (count % 4) size ∙ ap (λ (k : ℕ). k + count % 4 * size) (mul_assoc (count / 4) 4 size) in
+    count-parts (list_in b (λ c i. i) xs (elements_window b first passed)) (list_in b (λ c i. i) xs (elements_window b (first + passed) (count % 4 * size))) _ m n
+    (list-elements_join b (λ c i. i) xs first (count * size) has first (first + passed) passed (count % 4 * size) (count * size) (omega arith) (omega arith) refl sum)
+    fours left
 
 -- the words of whole elements, and the elements that are left
 pub count-left : (b : ℕ) (at : ℕ → ℕ → ℕ) → Permutes b (at b) → (xs : List ℕ) (first count passed m n : ℕ) → 0 < b → HasWindow b xs (elements_window b first count) → passed ≤ count

@@ -11,6 +11,9 @@ use bitvec_cells::base::{BitOrder, Lsb0, Window, first_part, tail_part, whole_el
 use bitvec_cells::store::BitStore;
 use bitvec_cells::{CellsRead, count_part};
 
+/// The words of a block.
+const BLOCK_WORDS: usize = 4;
+
 /// How many bits of a window are 1. Condition: the memory has at most `MAX_BITS` bits, and the
 /// window lies in it. It loads each element that the window touches once.
 pub fn count<O: BitOrder, C: CellsRead>(cells: &mut C, window: Window) -> usize
@@ -73,7 +76,41 @@ fn count_whole<O: BitOrder, C: CellsRead>(cells: &mut C, first: usize, count: us
 /// How many bits of the elements of `count` words are 1: as many as the words have, which are gathered
 /// in one order, since a whole element has as many in each. Condition: the elements are narrower than a
 /// word. It loads each element once.
+#[inline(always)]
 fn count_words<C: CellsRead>(cells: &mut C, first: usize, count: usize) -> usize
+    requires window { HasWindow C.Elem.BITS (C.numbers cells.old) (elements_window C.Elem.BITS first (count * (64 / C.Elem.BITS))) }
+    requires narrow { C.Elem.BITS ≤ 64 }
+    ensures value { result
+        ≡ count_by (λ bit. bit) (list_in C.Elem.BITS (λ b i. i) (C.numbers cells.old) (elements_window C.Elem.BITS first (count * (64 / C.Elem.BITS)))) }
+    ensures reads { OnlyReads C.CellsRead cells.old cells.new (count * (64 / C.Elem.BITS)) }
+{
+    let elements = WORD_BITS / C::Elem::BITS as usize;
+    let blocks = count / BLOCK_WORDS;
+    let passed = blocks * (BLOCK_WORDS * elements);
+    let ones = count_blocks::<C>(cells, first, blocks);
+    ones + count_some_words::<C>(cells, first + passed, count % BLOCK_WORDS)
+}
+
+/// The same of `count` blocks, whose words the compiler writes out.
+#[inline(always)]
+fn count_blocks<C: CellsRead>(cells: &mut C, first: usize, count: usize) -> usize
+    requires window { HasWindow C.Elem.BITS (C.numbers cells.old) (elements_window C.Elem.BITS first (count * (4 * (64 / C.Elem.BITS)))) }
+    requires narrow { C.Elem.BITS ≤ 64 }
+    ensures value { result
+        ≡ count_by (λ bit. bit) (list_in C.Elem.BITS (λ b i. i) (C.numbers cells.old) (elements_window C.Elem.BITS first (count * (4 * (64 / C.Elem.BITS))))) }
+    ensures reads { OnlyReads C.CellsRead cells.old cells.new (count * (4 * (64 / C.Elem.BITS))) }
+{
+    let elements = BLOCK_WORDS * (WORD_BITS / C::Elem::BITS as usize);
+    let mut ones = 0;
+    for step in 0..count {
+        ones += count_some_words::<C>(cells, first + step * elements, BLOCK_WORDS);
+    }
+    ones
+}
+
+/// The same of some words, one after the other.
+#[inline(always)]
+fn count_some_words<C: CellsRead>(cells: &mut C, first: usize, count: usize) -> usize
     requires window { HasWindow C.Elem.BITS (C.numbers cells.old) (elements_window C.Elem.BITS first (count * (64 / C.Elem.BITS))) }
     requires narrow { C.Elem.BITS ≤ 64 }
     ensures value { result

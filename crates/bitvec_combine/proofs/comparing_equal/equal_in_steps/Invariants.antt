@@ -3,7 +3,7 @@ use Rattle.bitvec_move.specs.base.Lists.{same_bits}
 use Rattle.bitvec_move.specs.base.Memory.{list_in}
 use Rattle.bitvec_move.specs.base.Window.{window_after}
 use Rattle.bitvec_move.specs.cells.Access.{OnlyReads}
-use Rattle.bitvec_combine.proofs.comparing_equal.equal_aligned.Given as goal
+use Rattle.bitvec_combine.proofs.comparing_equal.equal_in_steps.Given as goal
 
 abbrev pub invariant-loop-test : goal.invariant-loop-test
 invariant-loop-test g l =

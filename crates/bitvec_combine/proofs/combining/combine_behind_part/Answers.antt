@@ -12,7 +12,7 @@ use Rattle.bitvec_move.specs.words.TouchedLaws.{inside_element, touched-edge, to
 use Rattle.bitvec_move.specs.PlaceLaws.{behind-edge, head-part, width-some}
 use Rattle.bitvec_combine.proofs.SpanLemmas.{after-shorter, window-same}
 use Rattle.bitvec_combine.specs.Sides.{Combines}
-use Rattle.bitvec_combine.proofs.combining.combine_met.Goals as goal
+use Rattle.bitvec_combine.proofs.combining.combine_behind_part.Goals as goal
 
 pub nonzero_rem-behind : goal.nonzero_rem-behind
 nonzero_rem-behind g c = let some = width-some _ _ g.met.C.Elem.BitStore.width_law c.BITS-bits.ensures in omega arith

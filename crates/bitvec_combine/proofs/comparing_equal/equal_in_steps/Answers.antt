@@ -6,7 +6,7 @@ use Rattle.bitvec_move.specs.words.TouchedLaws.{touched-after}
 use Rattle.bitvec_move.specs.words.WholeLaws.{list-elements, long-elements, behind-mod}
 use Rattle.bitvec_move.specs.PlaceLaws.{width-some}
 use Rattle.bitvec_combine.proofs.SpanLemmas.{few, group-fits, group-word, groups-fit, after-span, some-span}
-use Rattle.bitvec_combine.proofs.comparing_equal.equal_aligned.Goals as goal
+use Rattle.bitvec_combine.proofs.comparing_equal.equal_in_steps.Goals as goal
 
 pub whole_elements-first-requires : goal.whole_elements-first-requires
 whole_elements-first-requires g c = width-some _ _ g.met.C.Elem.BitStore.width_law c.BITS-bits.ensures
