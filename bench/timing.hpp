@@ -29,8 +29,8 @@ double time_calls(Call &call, size_t calls) {
     return std::chrono::duration<double, std::nano>(std::chrono::steady_clock::now() - begin).count();
 }
 
-// The time of one call, in nanoseconds: of the best of these rounds, each of as many calls as take so long; of fewer
-// where they take longer in all.
+// The time of one call, in nanoseconds: the best of so many rounds, each of as many calls as take so long; of fewer rounds
+// where these take longer in all.
 template <class Call>
 double time_call(Call call) {
     size_t calls = 1;
