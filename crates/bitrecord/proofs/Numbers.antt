@@ -9,13 +9,10 @@ use Rattle.bitvec.specs.Window.{IsWithin}
 use Rattle.bitrecord.proofs.Digits.{last-number, number-joined, plain-below, seamless-number, split-joined}
 use Rattle.bitrecord.specs.FieldLaws.{number-below}
 use Rattle.bitrecord.specs.Layouts.{IsLayout, field_at}
-use Rattle.bitrecord.specs.RecordLaws.{number-of-record, record-encodable}
+use Rattle.bitrecord.specs.RecordLaws.{earlier_or_this, number-of-record, record-encodable}
 use Rattle.bitrecord.specs.Records.{AreEncodable, Fits, number_in, record_in}
 use Rattle.bitrecord.specs.Runs.{IsRun, IsSeamless, SplitsOff, across, aligned, end_of, plain_number}
 use Rattle.bitrecord.specs.declared.endian.Endian.{Endian}
-
-pub earlier_or_this : (k n : ℕ) → k < n + 1 → (k < n) ⊎ (k ≡ n)
-earlier_or_this k n low = grind arith
 
 pub earlier_or_not : (k n : ℕ) → (k < n) ⊎ (n ≤ k)
 earlier_or_not k n = grind arith

@@ -15,10 +15,11 @@ use Rattle.bitvec.specs.WriteLaws.{get-write_at_above, get-write_at_below, lengt
 use Rattle.bitvec.specs.Writes.{WritesBits}
 use Rattle.bitvec.specs.WritesLaws.{written-then}
 use Rattle.bitrecord.proofs.Digits.{number-joined, seamless-number}
-use Rattle.bitrecord.proofs.Numbers.{earlier_or_not, earlier_or_this}
+use Rattle.bitrecord.proofs.Numbers.{earlier_or_not}
 use Rattle.bitrecord.proofs.RunLaws.{run-apart, run-beside}
 use Rattle.bitrecord.specs.FieldLaws.{window-kept}
 use Rattle.bitrecord.specs.Layouts.{AreApart, IsLayout, field_at}
+use Rattle.bitrecord.specs.RecordLaws.{earlier_or_this}
 use Rattle.bitrecord.specs.Records.{Fits, WritesField, WritesFields, number_in, number_of}
 use Rattle.bitrecord.specs.RunWrites.{WritesRun}
 use Rattle.bitrecord.specs.Runs.{IsRun, IsSeamless, across, end_of, plain_number}

@@ -45,7 +45,7 @@ beside-or-in {P} field place beside inside =
     let ends : (place < field.start + field.len) ⊎ (field.start + field.len ≤ place) = grind arith in
     ⊎_elim (λ front. beside (inl front)) (λ from. ⊎_elim (λ below. inside from below) (λ behind. beside (inr behind)) ends) sides
 
-earlier_or_this : (k n : ℕ) → k < n + 1 → (k < n) ⊎ (k ≡ n)
+pub earlier_or_this : (k n : ℕ) → k < n + 1 → (k < n) ⊎ (k ≡ n)
 earlier_or_this k n low = grind arith
 
 pub outside-or-in : {P : Type 0} (fields : List Window) (place n : ℕ) → (((k : ℕ) → k < n → IsBeside (field_at fields k) place) → P)

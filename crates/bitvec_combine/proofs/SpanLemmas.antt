@@ -48,10 +48,6 @@ group-word b xs window m width has fits =
 
 -- ---- windows
 
-pub window-same : (window other : Window) → window.start ≡ other.start → window.len ≡ other.len → window ≡ other
-window-same window other start len =
-    ap (λ (s : ℕ). (let w : Window = record { start = s; len = window.len } in w)) start ∙ ap (λ (n : ℕ). (let w : Window = record { start = other.start; len = n } in w)) len
-
 -- what is behind t bits, where the first memory may have changed
 pub after-span : (b : ℕ) (xs now ys : List ℕ) (left right : Window) (t : ℕ) → HasSpan b xs ys left right → length now ≡ length xs → t ≤ left.len
     → HasSpan b now ys (window_after t left) (window_after t right)

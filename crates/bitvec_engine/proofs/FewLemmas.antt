@@ -1,8 +1,8 @@
 -- Windows of at most 64 bits as words: of one element or two, and across the elements of a word.
 use Rattle.std.specs.Prelude.{◌≡◌, ◌≢◌, ℕ, ◌+◌, ◌-◌, ◌/◌, ◌%◌, ◌^◌, ◌<◌, ◌≤◌, ◌==◌, Bool, false, cond, List, ◌++◌, length, replicate, slice_index, slice_range, take, bit_or, count_by, count_ones, refl}
-use Rattle.std.proofs.Common.{arith, rules, sym, ◌∙◌, ap, inl, inr, length-append}
+use Rattle.std.proofs.Common.{arith, sym, ◌∙◌, ap, inl, inr, length-append}
 use Rattle.std.proofs.lemmas.Bool.Decides.{Decides-eqb, Decides-like, same_from_decides}
-use Rattle.std.proofs.lemmas.List.{length-replicate, places, same_lists}
+use Rattle.std.proofs.lemmas.List.{length-replicate}
 use Rattle.std.proofs.lemmas.List.Folds.{sum_by-replicate}
 use Rattle.std.proofs.lemmas.List.Sums.{sum_by-append}
 use Rattle.std.proofs.lemmas.Nat.{div-add-mod', mod_below}
@@ -29,18 +29,14 @@ use Rattle.bitvec_combine.specs.walk.WalkLaws.{first-len, first-place}
 use Rattle.bitvec_combine.specs.words.Elements.{elements_window}
 use Rattle.bitvec_combine.specs.words.Field.{padded}
 use Rattle.bitvec_combine.specs.words.FieldLaws.{element_of}
-use Rattle.bitvec_combine.specs.words.MovedLaws.{element-joined, field-there, take-field, take-range}
+use Rattle.bitvec_combine.specs.words.MovedLaws.{element-joined, field-there, take-field, take-range, written-padded}
 use Rattle.bitvec_combine.specs.words.TouchedLaws.{touched-first, touched-from_full, touched-two}
 
 -- values moved to the start
-padded-front : (b : ℕ) (list : List Bool) → length list ≤ b → write_at (replicate b false) 0 list ≡ padded b list
-unfolding write_at padded
-padded-front b list fits = same_lists _ _ (search (rules, places)) (λ k d inside. grind (arith, places))
-
 padded-moved : (b n : ℕ) (list : List Bool) → n ≤ length list → n ≤ b → write_at (replicate b false) 0 (slice_range list 0 (0 + n)) ≡ padded b (take n list)
 padded-moved b n list fits bound =
     let long = length-first list n fits in
-    ap (write_at (replicate b false) 0) (range-from_start list n (0 + n) (omega arith)) ∙ padded-front b (take n list) (omega arith)
+    ap (write_at (replicate b false) 0) (range-from_start list n (0 + n) (omega arith)) ∙ written-padded b (take n list) (omega arith)
 
 -- the first bits of an element, moved to the start of a word
 pub padded-field : (b : ℕ) (at : ℕ → ℕ → ℕ) (n element word : ℕ) (list : List Bool) → n ≤ b → n ≤ 64 → element_bits 64 at word ≡ write_at (replicate 64 false) 0 (slice_range (element_bits b at element) 0 (0 + n)) → take n (element_bits b at element) ≡ list → element_bits 64 at word ≡ padded 64 list

@@ -13,7 +13,6 @@ use Rattle.bitvec_combine.specs.base.WritesLaws.{Writes-is, length-list}
 use Rattle.bitvec_combine.specs.moves.WordLaws.{length-first, padded-all, take-all, word_whole}
 use Rattle.bitvec_combine.specs.store.Width.{IsWidth}
 use Rattle.bitvec_combine.specs.store.WidthLaws.{at_each_width, width_some}
-use Rattle.bitvec_combine.specs.walk.Cost.{touched_count}
 use Rattle.bitvec_combine.specs.walk.Walk.{Walked, passed}
 use Rattle.bitvec_combine.specs.walk.WalkLaws.{first-len, length-first as length-first_part, length-passed, list-next}
 use Rattle.bitvec_combine.specs.words.Elements.{elements_window}
@@ -21,7 +20,6 @@ use Rattle.bitvec_combine.specs.words.Field.{padded}
 use Rattle.bitvec_combine.specs.words.FieldLaws.{element_of, list-part}
 use Rattle.bitvec_combine.specs.words.FieldWalkLaws.{HasPart-first}
 use Rattle.bitvec_combine.specs.words.MovedLaws.{element-joined, take-range}
-use Rattle.bitvec_combine.specs.words.TouchedLaws.{touched-full}
 
 -- 64 values from the index `skip` of an element on, which is at most as wide as a word
 pub word-joined : (list : List Bool) (a b skip : ℕ) → skip < b → b ≤ 64 → a + 64 + b ≤ length list
@@ -30,11 +28,6 @@ unfolding write_at
 word-joined list a b skip below narrow fits = same_lists _ _ (search (rules, places)) (λ k d inside. grind (arith, places))
 
 -- ---- whole elements of 64 bits
-
-pub touched-whole : (b s : ℕ) → IsWidth b → b ≤ 64 → s % b ≡ 0 → touched_count b s 64 ≡ 64 / b
-touched-whole b s width narrow edge =
-    touched-full b s 64 (width_some b width) edge
-    (at_each_width (λ n. n ≤ 64 → 64 % n ≡ 0) (λ _. refl) (λ _. refl) (λ _. refl) (λ _. refl) (λ few. absurd (omega arith)) b width narrow)
 
 -- the elements that begin with the one of a window's first bit, and hold a word, lie in the memory; so does the next one, where that bit isn't its element's first
 pub word-inside : (b : ℕ) (xs : List ℕ) (window : Window) → IsWidth b → b ≤ 64 → window.len ≡ 64 → HasWindow b xs window → HasWindow b xs (elements_window b (window.start / b) (64 / b))

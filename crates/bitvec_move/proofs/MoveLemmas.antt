@@ -23,13 +23,6 @@ use Rattle.bitvec_move.specs.WordLaws.{word_whole}
 
 -- ---- numbers
 
--- a window's end is a `usize`
-pub end-word : (b : ℕ) (xs : List ℕ) (window : Window) → HasWindow b xs window → window.start + window.len < 2 ^ 64
-end-word b xs window has =
-    let fits = has.fits in
-    let len = has.within.len in
-    omega arith
-
 -- the element of a place in a window, where the memory may have changed
 pub place-element : (b w : ℕ) (xs ys : List ℕ) (window : Window) (e : ℕ) → IsWidth b → w ≡ b → HasWindow b xs window → e < window.start + window.len → length ys ≡ length xs → e / w < length ys
 place-element b w xs ys window e width is has below kept =

@@ -13,6 +13,7 @@ use Rattle.bitvec_words.specs.base.Window.{write_at}
 use Rattle.bitvec_words.specs.base.WritesLaws.{HasWindow-kept, Writes-is, Writes-join}
 use Rattle.bitvec_words.specs.Elements.{elements_window, elements_window_from}
 use Rattle.bitvec_words.specs.FieldLaws.{Writes-none, element_of, list-across, list-both, list-front, list-whole}
+use Rattle.bitvec_words.specs.TouchedLaws.{last-first, last-next, next-inside}
 use Rattle.bitvec_move.specs.SwapLaws.{Writes-exchanged, Writes-set, beside-element, beside-element_from, first_elements, next_element}
 use Rattle.bitvec_words.specs.WholeLaws.{HasWindow-part}
 
@@ -64,42 +65,20 @@ range-carried list b k long below = same_lists _ _ (search (rules, places)) (λ 
 
 -- ---- places
 
--- the element of a window's last bit
-pub last-same : (b s n : ℕ) → 0 < b → 0 < n → s % b + n ≤ b → (s + n - 1) / b ≡ s / b
-last-same b s n some more fits =
-    let place = div-add-mod' s b in
-    let last : s + n - 1 ≡ s / b * b + (s % b + n - 1) = omega arith in
-    ap (λ (m : ℕ). m / b) last ∙ div-mul-add (s / b) b (s % b + n - 1) (omega arith)
-
-pub last-next : (b s n : ℕ) → 0 < b → n ≤ b → b < s % b + n → (s + n - 1) / b ≡ s / b + 1
-last-next b s n some fits over =
-    let place = div-add-mod' s b in
-    let head = mod_below s b some in
-    let last : s + n - 1 ≡ (s / b + 1) * b + (s % b + n - b - 1) = omega arith in
-    ap (λ (m : ℕ). m / b) last ∙ div-mul-add (s / b + 1) b (s % b + n - b - 1) (omega arith)
-
--- and of a window's first bit behind whole elements
+-- the element of a window's first bit behind whole elements
 pub behind-element : (b s count : ℕ) → 0 < b → (s + count * b) / b ≡ s / b + count
 behind-element b s count some =
     let place = div-add-mod' s b in
     let same : s + count * b ≡ (s / b + count) * b + s % b = omega arith in
     ap (λ (m : ℕ). m / b) same ∙ div-mul-add (s / b + count) b (s % b) (mod_below s b some)
 
--- a window's first element, and the next one
+-- a window's first element
 pub first-inside : (b : ℕ) (xs : List ℕ) (window : Window) → HasWindow b xs window → 0 < window.len → window.start / b < length xs
 first-inside b xs window has more =
     let start = has.within.start in
     let len = has.within.len in
     let place = div-add-mod' window.start b in
     element_of b (window.start / b) (window.start % b) (length xs) (omega arith)
-
-pub next-inside : (b : ℕ) (xs : List ℕ) (window : Window) → HasWindow b xs window → b < window.start % b + window.len
-    → window.start / b + 1 < length xs
-next-inside b xs window has over =
-    let start = has.within.start in
-    let len = has.within.len in
-    let place = div-add-mod' window.start b in
-    element_of b (window.start / b + 1) (window.start % b + window.len - b - 1) (length xs) (omega arith)
 
 -- a memory with another element has the same windows
 pub HasWindow-set : (b : ℕ) (xs : List ℕ) (e v : ℕ) (window : Window) → HasWindow b xs window → HasWindow b (slice_set xs e v) window
@@ -163,7 +142,7 @@ pub waiting-inside : (b : ℕ) (at : ℕ → ℕ → ℕ) (xs : List ℕ) (windo
     (slice_range (element_bits b at v) (window.start % b) end)
 waiting-inside b at xs window end p v w some has more is fits wrote =
     let place = div-add-mod' window.start b in
-    rw (last-same b window.start window.len some more (omega arith))
+    rw (last-first b window.start window.len some more (omega arith))
     (same_window b at _ _ (record { start = window.start / b * b + window.start % b; len = end - window.start % b }) window _ place (omega arith)
     (waiting-one b at xs (window.start / b) (window.start % b) end p w _ some (first-inside b xs window has more) (omega arith) fits
     (length-part b at v (window.start % b) end fits) wrote))

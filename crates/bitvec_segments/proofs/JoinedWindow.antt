@@ -20,11 +20,11 @@ use Rattle.bitvec_words.specs.walk.WalkLaws.{touched-until}
 use Rattle.bitvec_words.specs.Elements.{elements_window}
 use Rattle.bitvec_words.specs.Field.{lowest_bit}
 use Rattle.bitvec_words.specs.FieldLaws.{element_of, list-element, list-part}
+use Rattle.bitvec_words.specs.WholeLaws.{list-empty}
 use Rattle.bitvec_segments.specs.LoadLaws.{joined_below}
 use Rattle.bitvec_segments.specs.NumberLaws.{segment_number-below}
 use Rattle.bitvec_segments.specs.PlainLaws.{append-highest, append-lowest}
 use Rattle.bitvec_segments.specs.Segments.{segment_number}
-use Rattle.bitvec_segments.proofs.WalkLemmas.{list-empty}
 
 -- the part that is a whole element
 pub list-whole : (b : ℕ) (at : ℕ → ℕ → ℕ) (xs : List ℕ) (e w : ℕ) → w ≡ b → e < length xs → list_in b at xs (part_window b (record { element = e; from = 0; to = w })) ≡ element_bits b at (slice_index xs e)

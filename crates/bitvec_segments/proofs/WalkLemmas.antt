@@ -1,5 +1,5 @@
 -- A walk over a window that loads or stores a number, a part of one element at a time.
-use Rattle.std.specs.Prelude.{◌≡◌, ℕ, ◌+◌, ◌-◌, ◌*◌, ◌/◌, ◌%◌, ◌^◌, ◌<◌, ◌≤◌, ◌==◌, ◌⊎◌, if◌then◌else◌, Bool, true, false, zero, suc, List, ◌++◌, [], length, take, drop, min, refl}
+use Rattle.std.specs.Prelude.{◌≡◌, ℕ, ◌+◌, ◌-◌, ◌*◌, ◌/◌, ◌%◌, ◌^◌, ◌<◌, ◌≤◌, ◌⊎◌, Bool, true, false, zero, suc, List, ◌++◌, length, take, drop, min, refl}
 use Rattle.std.proofs.Common.{arith, sym, ◌∙◌, ap, ⊎_elim, eqb}
 use Rattle.std.proofs.lemmas.Bool.{cases_lt, cond-false, cond-true, eq-eqb, ne_eqb}
 use Rattle.std.proofs.lemmas.Nat.{div-add-mod', div-mul-add, mod-mul-add, mod_below, pow-add, shr-shr}
@@ -9,27 +9,19 @@ use Rattle.std.proofs.Math.Pow.{pow_mono}
 use Rattle.std.proofs.Math.Seq.{take-add}
 use Rattle.bitvec_words.specs.base.declared.part.Part.{Part}
 use Rattle.bitvec_words.specs.base.declared.window.Window.{Window}
-use Rattle.bitvec_words.specs.base.Memory.{Edits, HasWindow, Writes, list_in, memory_bits}
+use Rattle.bitvec_words.specs.base.Memory.{Edits, HasWindow, Writes, list_in}
 use Rattle.bitvec_words.specs.base.Parts.{first_part_of, part_window}
-use Rattle.bitvec_words.specs.base.SliceLaws.{range-none}
-use Rattle.bitvec_words.specs.base.Window.{window_after, window_of}
+use Rattle.bitvec_words.specs.base.Window.{window_after}
 use Rattle.bitvec_words.specs.base.WritesLaws.{Writes-is, Writes-join, length-list, list-behind, list-join}
 use Rattle.bitvec_words.specs.walk.Cost.{fill_loads, part_loads, touched_count}
 use Rattle.bitvec_words.specs.walk.Walk.{Walked, passed}
 use Rattle.bitvec_words.specs.walk.WalkLaws.{Walked-next, Walked-start, Writes-next_part, Writes-none_passed, div-order, first-len, first-place, touched-none, touched-until}
+use Rattle.bitvec_words.specs.FieldWalkLaws.{HasWindow-rest}
+use Rattle.bitvec_words.specs.WholeLaws.{list-empty}
 use Rattle.bitvec_segments.specs.LoadLaws.{alone, loaded-below, loaded-first, loaded-none, lower_bits}
 use Rattle.bitvec_segments.specs.Segments.{loaded, segment_bits, segment_number, stored}
 use Rattle.bitvec_segments.specs.SegmentsLaws.{first_len}
 use Rattle.bitvec_segments.specs.StoreLaws.{front-dropped, front-taken, length-segment_bits, length-stored, stored-first}
-
--- what is left of a window is one of the memory
-pub HasWindow-rest : (b : ℕ) (xs : List ℕ) (window rest : Window) → HasWindow b xs window → Walked b window rest → HasWindow b xs rest
-HasWindow-rest b xs window rest has walk =
-    let start = walk.start in
-    let end = walk.end in
-    let low = has.within.start in
-    let high = has.within.len in
-    record { fits = has.fits; within = record { start = omega arith; len = omega arith } }
 
 -- the next part of t bits
 module _ (big high : Bool) (b : ℕ) (at : ℕ → ℕ → ℕ) (xs : List ℕ) (rest : Window) (t : ℕ) (some : 0 < b) (more : 0 < rest.len)
@@ -73,10 +65,6 @@ module _ (big high : Bool) (b : ℕ) (at : ℕ → ℕ → ℕ) (xs : List ℕ) 
       ∙ rw (dropped-part, length-list b at xs rest has) refl
 
 -- ---- loads
-
-pub list-empty : (b : ℕ) (at : ℕ → ℕ → ℕ) (xs : List ℕ) (window : Window) → window.len ≡ 0 → list_in b at xs window ≡ []
-unfolding window_of
-list-empty b at xs window none = range-none (memory_bits b at xs) window.start (window.start + window.len) (omega arith)
 
 -- a number with the parts so far, to which the rest adds what is left of the whole; and with one part more
 abbrev pub Loaded : Bool → Bool → ℕ → (ℕ → ℕ → ℕ) → List ℕ → Window → Window → ℕ → Type 0
@@ -248,13 +236,6 @@ Writes-all b at old new window rest target none long walk before =
     Writes-is b at old new window _ _ (rw all at before) (take_all window.len target (omega arith))
 
 -- ---- stores in one step, or in two
-
-part_loads-most : (whole : Bool) → (if whole then 0 else 1) ≤ 1
-part_loads-most true = omega arith
-part_loads-most false = omega arith
-
-pub edge-most : (b : ℕ) (part : Part) → part_loads b part ≤ 1
-edge-most b part = part_loads-most (part.to - part.from == b)
 
 -- a whole element takes no load
 pub whole-none : (b : ℕ) (part : Part) → part.to - part.from ≡ b → part_loads b part ≡ 0

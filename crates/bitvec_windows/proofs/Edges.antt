@@ -8,6 +8,7 @@ use Rattle.bitvec_engine.specs.base.SliceLaws.{range-all, range-join}
 use Rattle.bitvec_engine.specs.base.Window.{window_of, window_range, write_at}
 use Rattle.bitvec_engine.specs.base.WritesLaws.{HasWindow-kept, Writes-next, Writes-range, list-range}
 use Rattle.bitvec_engine.specs.base.declared.window.Window.{Window}
+use Rattle.bitvec_engine.specs.words.WholeLaws.{window-same}
 use Rattle.bitvec_windows.specs.Swaps.{swapped_within}
 
 module _ {X : Type 0} (front rest : List X) where
@@ -32,10 +33,6 @@ module _ {X : Type 0} (front rest : List X) where
   write_at-in_rest : (s : ℕ) (new : List X) → s + length new ≤ length rest → write_at (front ++ rest) (length front + s) new ≡ front ++ write_at rest s new
   unfolding write_at
   write_at-in_rest s new fits = same_lists _ _ (search (rules, places)) (λ k d inside. grind (arith, places))
-
--- windows are what their start and their length are
-same_window : (w v : Window) → w.start ≡ v.start → w.len ≡ v.len → w ≡ v
-same_window w v start len = ap (λ (n : ℕ). record { start = n; len = w.len }) start ∙ ap (λ (n : ℕ). record { start = v.start; len = n }) len
 
 module _ (b : ℕ) (at : ℕ → ℕ → ℕ) (some : 0 < b) where
   -- the bits of two lists of elements, one after the other
@@ -120,9 +117,9 @@ module _ (b : ℕ) (at : ℕ → ℕ → ℕ) (some : 0 < b) where
       let old = front ++ rest in
       let mid = left ++ rest in
       let list = list_in b at old window in
-      let near-is : near ≡ window_range window f (f + n) = same_window _ _ near-start (omega arith) in
-      let far-is : behind front rest far ≡ window_range window s (s + n) = same_window _ _ far-start (omega arith) in
-      let moved : behind left rest far ≡ window_range window s (s + n) = same_window _ _ (ap (λ (m : ℕ). b * m + far.start) first.elements ∙ far-start) (omega arith) in
+      let near-is : near ≡ window_range window f (f + n) = window-same _ _ near-start (omega arith) in
+      let far-is : behind front rest far ≡ window_range window s (s + n) = window-same _ _ far-start (omega arith) in
+      let moved : behind left rest far ≡ window_range window s (s + n) = window-same _ _ (ap (λ (m : ℕ). b * m + far.start) first.elements ∙ far-start) (omega arith) in
       let near-list : list_in b at front near ≡ slice_range list f (f + n) =
       sym (list-in_front front rest near near-has) ∙ ap (list_in b at old) near-is ∙ list-range b at old window f (f + n) has (omega arith) source in
       let far-list : list_in b at rest far ≡ slice_range list s (s + n) = sym (list-in_rest front rest far) ∙ ap (list_in b at old) far-is ∙ list-range b at old window s (s + n) has (omega arith) dest in

@@ -1,6 +1,6 @@
 -- Windows written a stretch at a time.
 use Rattle.std.specs.Prelude.{◌≡◌, ℕ, ◌+◌, ◌-◌, ◌*◌, ◌<◌, ◌≤◌, min, Bool, false, List, length, slice_index_or, slice_range, take, refl}
-use Rattle.std.proofs.Common.{arith, rules, sym, ◌∙◌, ap, subst, ⊎_elim}
+use Rattle.std.proofs.Common.{arith, sym, ◌∙◌, ap, subst, ⊎_elim}
 use Rattle.std.proofs.Math.Nat.{mul-le-mul_left}
 use Rattle.std.proofs.lemmas.Bool.{cases_lt}
 use Rattle.std.proofs.lemmas.List.{places, same_lists}
@@ -17,7 +17,7 @@ use Rattle.bitvec_windows.specs.moves.WordLaws.{take-all}
 use Rattle.bitvec_windows.specs.store.Width.{IsWidth}
 use Rattle.bitvec_windows.specs.store.WidthLaws.{at_each_width}
 use Rattle.bitvec_windows.specs.words.Field.{padded}
-use Rattle.bitvec_windows.specs.words.MovedLaws.{take-field, take-range}
+use Rattle.bitvec_windows.specs.words.MovedLaws.{length-padded, take-field, take-range}
 use Rattle.bitvec_windows.proofs.DifferenceLemmas.{in_padded, past_padded}
 use Rattle.bitvec_engine.proofs.DirectionLemmas.{list-agrees, memory-agrees}
 
@@ -123,10 +123,6 @@ stored-stretch at to_at list from to n word made order bound size loaded same =
 
 -- ---- what an operator makes of a stretch
 
-long_padded : (b : ℕ) (list : List Bool) → length list ≤ b → length (padded b list) ≡ b
-unfolding padded
-long_padded b list fits = search (rules, places)
-
 in_taken : (list : List Bool) (n k : ℕ) (d : Bool) → k < n → slice_index_or (take n list) k d ≡ slice_index_or list k d
 in_taken list n k d inside = grind (arith, places)
 
@@ -155,7 +151,7 @@ module _ (f : Bool → Bool → Bool) (xs ys : List Bool) (from to r : ℕ) (lon
   pub combined-stretch : (a b made : List Bool) → a ≡ padded 64 (slice_range xs from to) → b ≡ padded 64 other → made ≡ combined f a b → take (to - from) made ≡ slice_range (combined f xs ys) from to
   combined-stretch a b made left right is =
       let wide = length-slice_range xs from to bound in
-      let word = ap length left ∙ long_padded 64 (slice_range xs from to) (omega arith) in
+      let word = ap length left ∙ length-padded 64 (slice_range xs from to) (omega arith) in
       let all : length made ≡ 64 = ap length is ∙ length-combined f a b ∙ word in
       let whole = length-combined f xs ys in
       let part = length-slice_range (combined f xs ys) from to (omega arith) in

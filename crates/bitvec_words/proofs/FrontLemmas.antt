@@ -15,7 +15,7 @@ use Rattle.bitvec_cells.specs.ElementLaws.{single_mask}
 use Rattle.bitvec_cells.specs.base.Parts.{first_part_of, part_window}
 use Rattle.bitvec_cells.specs.base.Window.{window_of, window_range, write_at}
 use Rattle.bitvec_cells.specs.store.Width.{IsWidth}
-use Rattle.bitvec_cells.specs.store.WidthLaws.{at_each_width, width_some}
+use Rattle.bitvec_cells.specs.store.WidthLaws.{width_some}
 use Rattle.bitvec_cells.specs.base.WritesLaws.{length-list}
 use Rattle.bitvec_words.specs.WordLaws.{padded-all, word_whole}
 use Rattle.bitvec_cells.specs.WalkLaws.{Walked-start, first-len, first-place}
@@ -23,7 +23,7 @@ use Rattle.bitvec_words.specs.Elements.{elements_window}
 use Rattle.bitvec_words.specs.Field.{padded}
 use Rattle.bitvec_words.specs.FieldLaws.{list-part}
 use Rattle.bitvec_words.specs.FieldWalkLaws.{HasPart-first}
-use Rattle.bitvec_words.specs.TouchedLaws.{head_edge, touched-full, touched-head}
+use Rattle.bitvec_words.specs.TouchedLaws.{head_edge, touched-head}
 use Rattle.bitvec_words.specs.WholeLaws.{HasWindow-part, behind-mod}
 use Rattle.bitvec_cells.specs.Cost.{touched_count}
 use Rattle.bitvec_words.specs.Front.{IsFront, front_window}
@@ -32,11 +32,6 @@ use Rattle.bitvec_words.specs.Front.{IsFront, front_window}
 pub list-same : (b : ℕ) (at : ℕ → ℕ → ℕ) (xs : List ℕ) (window other : Window) → window.start ≡ other.start → window.len ≡ other.len → list_in b at xs window ≡ list_in b at xs other
 unfolding window_of
 list-same b at xs window other start len = rw (start, len) refl
-
-pub touched-word : (b s : ℕ) → IsWidth b → b ≤ 64 → s % b ≡ 0 → touched_count b s 64 ≡ 64 / b
-touched-word b s width narrow edge =
-    touched-full b s 64 (width_some b width) edge
-    (at_each_width (λ n. n ≤ 64 → 64 % n ≡ 0) (λ _. refl) (λ _. refl) (λ _. refl) (λ _. refl) (λ few. absurd (omega arith)) b width narrow)
 
 pub touched-part : (b : ℕ) (window : Window) → IsWidth b → 0 < window.len → touched_count b window.start ((first_part_of b window).to - (first_part_of b window).from) ≡ 1
 touched-part b window width some =
@@ -81,11 +76,6 @@ module _ (b : ℕ) (at : ℕ → ℕ → ℕ) (xs : List ℕ) (window : Window) 
         edge = λ narrow more. head_edge b window.start (part.to - part.from) window.len wide (omega arith) (omega arith);
         bits = bits ∙ ap (λ (n : ℕ). padded 64 (slice_range (element_bits b at n) part.from part.to)) loaded ∙ ap (padded 64) (sym holds ∙ same);
       }
-
--- a list moved to the start of zeros
-pub written-padded : (b : ℕ) (list : List Bool) → length list ≤ b → write_at (replicate b false) 0 list ≡ padded b list
-unfolding write_at padded
-written-padded b list fits = same_lists _ _ (search (rules, places)) (λ k d inside. grind (arith, places))
 
 -- ---- one bit more, n being what an element has of it
 

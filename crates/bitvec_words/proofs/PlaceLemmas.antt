@@ -2,7 +2,7 @@
 use Rattle.std.specs.Prelude.{◌≡◌, ◌≢◌, ℕ, ◌+◌, ◌-◌, ◌*◌, ◌/◌, ◌%◌, ◌^◌, ◌<◌, ◌≤◌, List, length}
 use Rattle.std.proofs.Common.{arith, ◌∙◌, ap}
 use Rattle.std.proofs.Math.Nat.{mul-le-mul_left}
-use Rattle.std.proofs.lemmas.Nat.{div-add-mod', div-mul-add, mod_below}
+use Rattle.std.proofs.lemmas.Nat.{div-add-mod', mod_below}
 use Rattle.bitvec_cells.specs.base.declared.part.Part.{Part}
 use Rattle.bitvec_cells.specs.base.declared.window.Window.{Window}
 use Rattle.bitvec_cells.specs.base.Memory.{HasWindow}
@@ -11,7 +11,6 @@ use Rattle.bitvec_cells.specs.base.Window.{window_after}
 use Rattle.bitvec_cells.specs.Cost.{touched_count}
 use Rattle.bitvec_cells.specs.store.Width.{IsWidth}
 use Rattle.bitvec_cells.specs.store.WidthLaws.{width_some}
-use Rattle.bitvec_cells.specs.Walk.{Walked}
 use Rattle.bitvec_cells.specs.WalkLaws.{Walked-start, first-len, first-place}
 use Rattle.bitvec_words.specs.Elements.{elements_window}
 use Rattle.bitvec_words.specs.FieldLaws.{element_of, first_part-long}
@@ -22,7 +21,7 @@ use Rattle.bitvec_words.specs.WholeLaws.{HasWindow-part}
 use Rattle.bitvec_words.specs.WordLaws.{word_whole}
 use Rattle.bitvec_words.proofs.ScanLemmas.{HasWindow-after}
 
--- the width as a word, an index, and a window's end
+-- the width as a word, and an index
 pub bits-some : (b w : ℕ) → IsWidth b → w ≡ b → 0 < w
 bits-some b w width is = rw is (width_some b width)
 
@@ -31,13 +30,6 @@ index-within b w s width is = let below = mod_below s w (bits-some b w width is)
 
 pub index-below : (b w s : ℕ) → IsWidth b → w ≡ b → s % w < b
 index-below b w s width is = rw is (mod_below s b (width_some b width))
-
-pub window-end : (b : ℕ) (xs : List ℕ) (window : Window) → HasWindow b xs window → window.start + window.len < 2 ^ 64
-window-end b xs window has =
-    let fits = has.fits in
-    let start = has.within.start in
-    let len = has.within.len in
-    omega arith
 
 -- ---- the first part, of t places
 
@@ -104,10 +96,7 @@ HasPart-tail b xs window width has edge left =
     let below = mod_below window.len b (width_some b width) in
     record { element = element_of b (window.start / b + window.len / b) 0 (length xs) (omega arith); order = omega arith; bound = omega arith }
 
--- ---- what a walk has left, a front, and the elements of a word
-
-pub HasWindow-rest : (b : ℕ) (xs : List ℕ) (window rest : Window) → HasWindow b xs window → Walked b window rest → HasWindow b xs rest
-HasWindow-rest b xs window rest has walk = let end = walk.end in HasWindow-part b xs window rest has walk.start (omega arith)
+-- ---- a front, and the elements of a word
 
 pub HasWindow-front : (b : ℕ) (xs : List ℕ) (window front : Window) → front ≡ front_window window → HasWindow b xs window → HasWindow b xs front
 HasWindow-front b xs window front is has = rw is (HasWindow-part b xs window (front_window window) has (omega arith) (omega arith))
@@ -117,28 +106,6 @@ HasWindow-word b xs window width narrow long edge has =
     let whole = word_whole b width narrow in
     let start = whole-all b window.start edge in
     HasWindow-part b xs window (elements_window b (window.start / b) (64 / b)) has (omega arith) (omega arith)
-
--- ---- the last element that a window touches: the first, or the next
-
-pub last-first : (b s n : ℕ) → 0 < b → 0 < n → s % b + n ≤ b → (s + n - 1) / b ≡ s / b
-last-first b s n some more fits =
-    let place = div-add-mod' s b in
-    let last : s + n - 1 ≡ s / b * b + (s % b + n - 1) = omega arith in
-    ap (λ (m : ℕ). m / b) last ∙ div-mul-add (s / b) b (s % b + n - 1) (omega arith)
-
-pub last-next : (b s n : ℕ) → 0 < b → n ≤ b → b < s % b + n → (s + n - 1) / b ≡ s / b + 1
-last-next b s n some fits over =
-    let place = div-add-mod' s b in
-    let index = mod_below s b some in
-    let last : s + n - 1 ≡ (s / b + 1) * b + (s % b + n - 1 - b) = omega arith in
-    ap (λ (m : ℕ). m / b) last ∙ div-mul-add (s / b + 1) b (s % b + n - 1 - b) (omega arith)
-
-pub next-inside : (b : ℕ) (xs : List ℕ) (window : Window) → HasWindow b xs window → b < window.start % b + window.len → window.start / b + 1 < length xs
-next-inside b xs window has over =
-    let start = has.within.start in
-    let len = has.within.len in
-    let place = div-add-mod' window.start b in
-    element_of b (window.start / b + 1) 0 (length xs) (omega arith)
 
 -- ---- an element of some, its number, and the bits before it
 

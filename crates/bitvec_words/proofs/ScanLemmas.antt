@@ -16,9 +16,9 @@ use Rattle.bitvec_cells.specs.base.PlacesLaws.{first_place-absent, first_place-a
 use Rattle.bitvec_cells.specs.base.SliceLaws.{range-all}
 use Rattle.bitvec_cells.specs.base.Window.{window_after}
 use Rattle.bitvec_cells.specs.base.WritesLaws.{length-list, list-join}
-use Rattle.bitvec_cells.specs.Cost.{last_loads, touched_count}
+use Rattle.bitvec_cells.specs.Cost.{first_loads, last_loads, touched_count}
 use Rattle.bitvec_cells.specs.ElementLaws.{element-filled}
-use Rattle.bitvec_cells.specs.WalkLaws.{first-len, first-place}
+use Rattle.bitvec_cells.specs.WalkLaws.{first-len, first-place, first_loads-most}
 use Rattle.bitvec_words.specs.Elements.{elements_window, whole_of}
 use Rattle.bitvec_words.specs.FieldLaws.{element_of, list-element, list-whole}
 use Rattle.bitvec_words.specs.SameLaws.{xor_none}
@@ -132,6 +132,14 @@ touched-behind_head b s t n i some more part left =
     let sum : t + (i + 1) ≡ t + i + 1 = omega arith in
     let both = rw sum at (touched-edge b s t (i + 1) some (head_edge b s t n some part left)) in
     omega arith
+
+-- of whole elements a search loads no more than there are
+pub first_loads-elements : (b : ℕ) (at : ℕ → ℕ → ℕ) (xs : List ℕ) (first count : ℕ) (want : Bool) (found : Option ℕ) → 0 < b → HasWindow b xs (elements_window b first count) → found ≡ first_place want (list_in b at xs (elements_window b first count))
+    → first_loads b (elements_window b first count) found ≤ count
+first_loads-elements b at xs first count want found some has is =
+    let most = first_loads-most b at xs (elements_window b first count) want some has in
+    let whole = touched-whole b first count some in
+    rw is (omega arith)
 
 -- from a place before m whole elements
 pub touched-until_elements : (b s n e m all : ℕ) → 0 < b → 0 < n → s + n ≡ e * b → n + m * b ≡ all → m + 1 ≤ touched_count b s all
@@ -252,6 +260,20 @@ front_long b at xs first count step has order =
     let len = has.within.len in
     let fewer = mul-le-mul_left b order in
     sym (length-list b at xs (elements_window b first step) (HasWindow-part b xs (elements_window b first count) (elements_window b first step) has (omega arith) (omega arith)))
+
+-- some of them have the bit; or lack it, and the others have it, or lack it too
+pub first-elements_front : (b : ℕ) (at : ℕ → ℕ → ℕ) (xs : List ℕ) (first count step i : ℕ) (want : Bool) → HasWindow b xs (elements_window b first count) → step ≤ count
+    → Some i ≡ first_place want (list_in b at xs (elements_window b first step)) → Some i ≡ first_place want (list_in b at xs (elements_window b first count))
+first-elements_front b at xs first count step i want has order here = first-front want _ _ _ i here (list-elements_before b at xs first count step has order)
+
+pub first-elements_behind : (b : ℕ) (at : ℕ → ℕ → ℕ) (xs : List ℕ) (first count step bits i : ℕ) (want : Bool) → HasWindow b xs (elements_window b first count) → step ≤ count → step * b ≡ bits
+    → None ≡ first_place want (list_in b at xs (elements_window b first step)) → Some i ≡ first_place want (list_in b at xs (elements_window b (first + step) (count - step))) → Some (bits + i) ≡ first_place want (list_in b at xs (elements_window b first count))
+first-elements_behind b at xs first count step bits i want has order long none here =
+    first-behind want _ _ _ bits i none here (sym long ∙ front_long b at xs first count step has order) (list-elements_before b at xs first count step has order)
+
+pub first-elements_lacks : (b : ℕ) (at : ℕ → ℕ → ℕ) (xs : List ℕ) (first count step : ℕ) (want : Bool) → HasWindow b xs (elements_window b first count) → step ≤ count
+    → None ≡ first_place want (list_in b at xs (elements_window b first step)) → None ≡ first_place want (list_in b at xs (elements_window b (first + step) (count - step))) → None ≡ first_place want (list_in b at xs (elements_window b first count))
+first-elements_lacks b at xs first count step want has order none here = first-lacks want _ _ _ none here (list-elements_before b at xs first count step has order)
 
 -- ---- one element more
 

@@ -1,68 +1,40 @@
--- A search of a window from its front, and of elements some at a time.
-use Rattle.std.specs.Prelude.{◌≡◌, ℕ, ◌+◌, ◌-◌, ◌*◌, ◌/◌, ◌%◌, ◌^◌, ◌<◌, ◌≤◌, if◌then◌else◌, Bool, not, List, ◌++◌, length, min, slice_index, slice_range, bit_or, bit_xor, Some, None, refl}
+-- A search of elements some at a time, and of the elements that a window touches.
+use Rattle.std.specs.Prelude.{◌≡◌, ℕ, ◌+◌, ◌-◌, ◌*◌, ◌/◌, ◌%◌, ◌^◌, ◌<◌, ◌≤◌, if◌then◌else◌, Bool, true, not, nat_eq, nat_lt, List, ◌++◌, length, slice_index, bit_or, bit_xor, Option, Some, None, is_none, option_map, refl}
+use Rattle.std.specs.Bool.{then_some}
+use Rattle.std.specs.Int.{div_ceil}
+use Rattle.std.specs.Option.{option_or}
 use Rattle.std.proofs.Common.{arith, lit≤, sym, ◌∙◌, ap, ⊎_elim, length-append}
-use Rattle.std.proofs.Math.Nat.{add-mul, div-mul-le_self, mul-le-mul_left, mul_assoc}
-use Rattle.std.proofs.lemmas.Bool.{cases_lt}
-use Rattle.std.proofs.lemmas.Nat.{div-add-mod', mod_below}
+use Rattle.std.proofs.Math.Nat.{add-mul, lt_of_mul-lt-mul_right, mul-le-mul_left, mul_assoc}
+use Rattle.std.proofs.lemmas.Bool.{cases_eq, cases_lt, eq-eqb, le-ltb, lt-ltb, ne_eqb}
+use Rattle.std.proofs.lemmas.Grind.{div_ceil_times}
+use Rattle.std.proofs.lemmas.Nat.{div-add-mod'}
 use Rattle.bitvec_cells.specs.store.Width.{IsWidth}
-use Rattle.bitvec_cells.specs.store.WidthLaws.{at_each_width, width_some}
+use Rattle.bitvec_cells.specs.store.WidthLaws.{at_each_width}
 use Rattle.bitvec_cells.specs.base.Lists.{first_place}
 use Rattle.bitvec_cells.specs.base.Memory.{HasWindow, element_bits, list_in}
 use Rattle.bitvec_cells.specs.base.MemoryLaws.{length-element_bits}
 use Rattle.bitvec_cells.specs.base.Order.{Permutes}
 use Rattle.bitvec_cells.specs.base.declared.window.Window.{Window}
-use Rattle.bitvec_cells.specs.base.Window.{window_after, window_range}
-use Rattle.bitvec_cells.specs.base.SliceLaws.{range-from_start}
-use Rattle.bitvec_cells.specs.base.WritesLaws.{HasWindow-range, length-list, list-join}
+use Rattle.bitvec_cells.specs.base.PlacesLaws.{first_place-append, first_place-below}
+use Rattle.bitvec_cells.specs.base.WritesLaws.{length-list, list-join}
 use Rattle.bitvec_cells.specs.Cost.{touched_count}
-use Rattle.bitvec_cells.specs.Walk.{passed}
 use Rattle.bitvec_cells.specs.WalkLaws.{touched-none}
 use Rattle.bitvec_words.specs.Elements.{elements_window}
 use Rattle.bitvec_words.specs.FieldLaws.{element_of, list-whole}
-use Rattle.bitvec_words.specs.MovedLaws.{take-field}
 use Rattle.bitvec_words.specs.SameLaws.{or_none, or_none_right}
-use Rattle.bitvec_words.specs.TouchedLaws.{head_edge, touched-edge, touched-whole}
-use Rattle.bitvec_words.specs.WholeLaws.{HasWindow-part, behind-mod}
-use Rattle.bitvec_words.specs.Front.{EndsAtEdge, IsFront}
+use Rattle.bitvec_words.specs.TouchedLaws.{touched-full, touched-more}
+use Rattle.bitvec_words.specs.WholeLaws.{HasWindow-part, list-empty}
 use Rattle.bitvec_words.proofs.FrontLemmas.{list-same}
-use Rattle.bitvec_words.proofs.ScanLemmas.{first-behind, first-front, first-lacks, first-passed}
-
--- ---- what a search has passed of a window, and what is left
-
--- the loads of some of its first places, and of those left
-pub touched-cut : (b s t n : ℕ) → 0 < b → t ≤ n → (t < n → (s + t) % b ≡ 0) → touched_count b s n ≡ touched_count b s t + touched_count b (s + t) (n - t)
-touched-cut b s t n some fits edge =
-    ⊎_elim
-    (λ (less : t < n). let all : t + (n - t) ≡ n = omega arith in let both = rw all at (touched-edge b s t (n - t) some (edge less)) in omega arith)
-    (λ (most : n ≤ t).
-    let same : t ≡ n = omega arith in
-    let none : n - t ≡ 0 = omega arith in
-    let nothing = touched-none b (s + t) in
-    rw (none, same) (rw same at (let whole : touched_count b s t ≡ touched_count b s t + touched_count b (s + t) 0 = omega arith in whole)))
-    (cases_lt t n)
-
-module _ (b : ℕ) (at : ℕ → ℕ → ℕ) (xs : List ℕ) (window rest : Window) (want : Bool) (has : HasWindow b xs window) (start : window.start ≤ rest.start) (end : rest.start + rest.len ≡ window.start + window.len) where
-  pub HasWindow-left : HasWindow b xs rest
-  HasWindow-left = HasWindow-part b xs window rest has start (omega arith)
-
-  module _ (t : ℕ) (fits : t ≤ rest.len) (none : None ≡ first_place want (list_in b at xs (passed window rest))) where
-    pub first-left : (i : ℕ) → Some i ≡ first_place want (list_in b at xs (window_range rest 0 t)) → Some (rest.start - window.start + i) ≡ first_place want (list_in b at xs window)
-    first-left i here =
-        first-behind want _ _ _ (rest.start - window.start) i none
-        (first-front want _ (list_in b at xs (window_after t rest)) _ i here (list-join b at xs (window_range rest 0 t) (window_after t rest) rest HasWindow-left (omega arith) (omega arith) (omega arith)))
-        (sym (length-list b at xs (passed window rest) (HasWindow-part b xs window (passed window rest) has (omega arith) (omega arith))))
-        (list-join b at xs (passed window rest) rest window has refl (omega arith) (omega arith))
-
-    pub none-left : None ≡ first_place want (list_in b at xs (window_range rest 0 t)) → None ≡ first_place want (list_in b at xs (passed window (window_after t rest)))
-    none-left here =
-        first-lacks want _ _ _ none here
-        (list-join b at xs (passed window rest) (window_range rest 0 t) (passed window (window_after t rest))
-        (HasWindow-part b xs window (passed window (window_after t rest)) has (omega arith) (omega arith)) refl (omega arith) (omega arith))
+use Rattle.bitvec_words.proofs.ScanLemmas.{first-behind, first-elements_front, first-lacks, first-must, first-passed}
 
 -- ---- elements, some at a time
 
 pub width-most : (b : ℕ) → IsWidth b → b ≤ 128
 width-most b w = at_each_width (λ n. n ≤ 128) (lit≤ tt) (lit≤ tt) (lit≤ tt) (lit≤ tt) (lit≤ tt) b w
+
+-- n blocks of `size` elements have so many bits
+pub blocks-bits : (n size b bits : ℕ) → size * b ≡ bits → n * size * b ≡ n * bits
+blocks-bits n size b bits whole = mul_assoc n size b ∙ ap (λ (k : ℕ). n * k) whole
 
 module _ (b : ℕ) (at : ℕ → ℕ → ℕ) (xs : List ℕ) (first n : ℕ) (has : HasWindow b xs (elements_window b first n)) where
   pub HasWindow-elements : (place m : ℕ) → first ≤ place → place + m ≤ first + n → HasWindow b xs (elements_window b place m)
@@ -86,6 +58,32 @@ module _ (b : ℕ) (at : ℕ → ℕ → ℕ) (xs : List ℕ) (first n : ℕ) (h
       list-join b at xs (elements_window b place k) (elements_window b next m) (elements_window b place all) (HasWindow-elements place all low high)
       refl (ap (λ (i : ℕ). i * b) behind ∙ add-mul place k b) (ap (λ (i : ℕ). i * b) sum ∙ add-mul k m b)
 
+-- ---- what two lists lack together, each of them lacks
+
+none_front : (front behind : Option ℕ) (n : ℕ) → None ≡ option_or front (option_map (λ j. n + j) behind) → None ≡ front
+none_front (Some j) behind n is = absurd cc
+none_front None behind n is = refl
+
+none_behind : (front behind : Option ℕ) (n : ℕ) → None ≡ option_or front (option_map (λ j. n + j) behind) → None ≡ behind
+none_behind (Some j) behind n is = absurd cc
+none_behind None (Some j) n is = absurd cc
+none_behind None None n is = refl
+
+front-lacks : (want : Bool) (front rest : List Bool) → None ≡ first_place want (front ++ rest) → None ≡ first_place want front
+front-lacks want front rest none = none_front (first_place want front) (first_place want rest) (length front) (none ∙ first_place-append want front rest)
+
+rest-lacks : (want : Bool) (front rest : List Bool) → None ≡ first_place want (front ++ rest) → None ≡ first_place want rest
+rest-lacks want front rest none = none_behind (first_place want front) (first_place want rest) (length front) (none ∙ first_place-append want front rest)
+
+-- a number that is zero just where there is none
+zero_none : (n : ℕ) (found : Option ℕ) → (n ≡ 0 → None ≡ found) → (None ≡ found → n ≡ 0) → nat_eq n 0 ≡ is_none found
+zero_none n None passed must = eq-eqb n 0 (must refl)
+zero_none n (Some i) passed must = ne_eqb n 0 (λ zero. let none = passed zero in absurd cc)
+
+pub none_from : (found : Option ℕ) → true ≡ is_none found → None ≡ found
+none_from None is = refl
+none_from (Some i) is = absurd cc
+
 -- ---- two elements, or four, which are passed by together
 
 module _ (b : ℕ) (at : ℕ → ℕ → ℕ) (p : Permutes b (at b)) (lacking : ℕ) (want : Bool) (filled : lacking ≡ (if not want then 2 ^ b - 1 else 0)) where
@@ -95,7 +93,7 @@ module _ (b : ℕ) (at : ℕ → ℕ → ℕ) (p : Permutes b (at b)) (lacking :
   pub none-of_two : (v w : ℕ) → bit_or (bit_xor v lacking) (bit_xor w lacking) ≡ 0 → None ≡ first_place want (element_bits b at v ++ element_bits b at w)
   none-of_two v w none = first-lacks want _ _ _ (lacks v (or_none _ _ none)) (lacks w (or_none_right _ _ none)) refl
 
-  pub none-of_four : (u v w x : ℕ) → bit_or (bit_or (bit_or (bit_xor u lacking) (bit_xor v lacking)) (bit_xor w lacking)) (bit_xor x lacking) ≡ 0
+  none-of_four : (u v w x : ℕ) → bit_or (bit_or (bit_or (bit_xor u lacking) (bit_xor v lacking)) (bit_xor w lacking)) (bit_xor x lacking) ≡ 0
       → None ≡ first_place want ((element_bits b at u ++ element_bits b at v) ++ (element_bits b at w ++ element_bits b at x))
   none-of_four u v w x none =
       let three = or_none _ _ none in
@@ -104,6 +102,26 @@ module _ (b : ℕ) (at : ℕ → ℕ → ℕ) (p : Permutes b (at b)) (lacking :
       (first-lacks want _ _ _ (lacks u (or_none _ _ two)) (lacks v (or_none_right _ _ two)) refl)
       (first-lacks want _ _ _ (lacks w (or_none_right _ _ three)) (lacks x (or_none_right _ _ none)) refl)
       refl
+
+  must_lack : (v : ℕ) → v < 2 ^ b → None ≡ first_place want (element_bits b at v) → bit_xor v lacking ≡ 0
+  must_lack v small none =
+      ⊎_elim
+      (λ (zero : bit_xor v lacking ≡ 0). zero)
+      (λ (apart : bit_xor v lacking ≡ 0 → ⊥). absurd (first-must b at p v lacking _ want refl apart small filled none))
+      (cases_eq (bit_xor v lacking) 0)
+
+  pub four-lack : (u v w x : ℕ) → u < 2 ^ b → v < 2 ^ b → w < 2 ^ b → x < 2 ^ b
+      → nat_eq (bit_or (bit_or (bit_or (bit_xor u lacking) (bit_xor v lacking)) (bit_xor w lacking)) (bit_xor x lacking)) 0
+      ≡ is_none (first_place want ((element_bits b at u ++ element_bits b at v) ++ (element_bits b at w ++ element_bits b at x)))
+  four-lack u v w x below_u below_v below_w below_x =
+      zero_none _ _ (none-of_four u v w x) (λ none.
+      let front = front-lacks want (element_bits b at u ++ element_bits b at v) (element_bits b at w ++ element_bits b at x) none in
+      let rest = rest-lacks want (element_bits b at u ++ element_bits b at v) (element_bits b at w ++ element_bits b at x) none in
+      let one = must_lack u below_u (front-lacks want (element_bits b at u) (element_bits b at v) front) in
+      let two = must_lack v below_v (rest-lacks want (element_bits b at u) (element_bits b at v) front) in
+      let three = must_lack w below_w (front-lacks want (element_bits b at w) (element_bits b at x) rest) in
+      let four = must_lack x below_x (rest-lacks want (element_bits b at w) (element_bits b at x) rest) in
+      rw (one, two, three, four) refl)
 
 pub length-two : (at : ℕ → ℕ → ℕ) (v w : ℕ) → 128 ≡ length (element_bits 64 at v ++ element_bits 64 at w)
 length-two at v w =
@@ -149,82 +167,123 @@ list-block b at xs first width narrow has =
     rw (join first (first + e) e e (2 * e) (omega arith) (omega arith) refl (omega arith), join high (first + 3 * e) e e (2 * e) (omega arith) (omega arith) (omega arith) (omega arith))
     (join first high (2 * e) (2 * e) (256 / b) (omega arith) (omega arith) refl (omega arith))
 
--- ---- blocks
+-- ---- blocks of `size` elements, which have `bits` bits
 
-module _ (b : ℕ) (at : ℕ → ℕ → ℕ) (xs : List ℕ) (first count step : ℕ) (width : IsWidth b) (has : HasWindow b xs (elements_window b first (count * (256 / b)))) (want : Bool) (more : step < count)
-    (none : None ≡ first_place want (list_in b at xs (elements_window b first (step * (256 / b))))) where
-  below : (step + 1) * (256 / b) ≤ count * (256 / b)
-  below = let order = mul-le-mul_left (256 / b) more in omega arith
+module _ (b : ℕ) (at : ℕ → ℕ → ℕ) (xs : List ℕ) (first count step size bits : ℕ) (whole : size * b ≡ bits) (has : HasWindow b xs (elements_window b first (count * size))) (more : step < count) where
+  below : (step + 1) * size ≤ count * size
+  below = let order = mul-le-mul_left size more in omega arith
 
-  next : list_in b at xs (elements_window b first (step * (256 / b))) ++ list_in b at xs (elements_window b (first + step * (256 / b)) (256 / b)) ≡ list_in b at xs (elements_window b first ((step + 1) * (256 / b)))
-  next = let bound = below in list-elements_join b at xs first (count * (256 / b)) has first (first + step * (256 / b)) (step * (256 / b)) (256 / b) ((step + 1) * (256 / b)) (omega arith) (omega arith) refl (omega arith)
+  before : step * size * b ≡ step * bits
+  before = blocks-bits step size b bits whole
 
-  pub first-block_lacks : None ≡ first_place want (list_in b at xs (elements_window b (first + step * (256 / b)) (256 / b))) → None ≡ first_place want (list_in b at xs (elements_window b first ((step + 1) * (256 / b))))
-  first-block_lacks here = first-lacks want _ _ _ none here next
+  -- fewer than a number may be
+  pub blocks-few : step * bits < 2 ^ 64
+  blocks-few =
+      let passed = before in
+      let order = mul-le-mul_left b below in
+      let fits = has.fits in
+      let len = has.within.len in
+      omega arith
 
-  pub first-block_has : (i : ℕ) → Some i ≡ first_place want (list_in b at xs (elements_window b (first + step * (256 / b)) (256 / b))) → Some (step * 256 + i) ≡ first_place want (list_in b at xs (elements_window b first (count * (256 / b))))
-  first-block_has i here =
-      let e : ℕ = 256 / b in
-      let bound = below in
-      let whole = block_whole b width in
-      let long = length-list b at xs (elements_window b first (step * e)) (HasWindow-elements b at xs first (count * e) has first (step * e) (omega arith) (omega arith)) in
-      first-front want _ _ _ (step * 256 + i)
-      (first-behind want _ _ _ (step * 256) i none here (sym (long ∙ mul_assoc step e b ∙ ap (λ (n : ℕ). step * n) whole)) next)
-      (list-elements_join b at xs first (count * e) has first (first + (step + 1) * e) ((step + 1) * e) (count * e - (step + 1) * e) (count * e) (omega arith) (omega arith) refl (omega arith))
+  module _ (want : Bool) (none : None ≡ first_place want (list_in b at xs (elements_window b first (step * size)))) where
+    next : list_in b at xs (elements_window b first (step * size)) ++ list_in b at xs (elements_window b (first + step * size) size) ≡ list_in b at xs (elements_window b first ((step + 1) * size))
+    next = let bound = below in list-elements_join b at xs first (count * size) has first (first + step * size) (step * size) size ((step + 1) * size) (omega arith) (omega arith) refl (omega arith)
 
--- what they load, and the bits of a front
-pub touched-blocks : (b s count : ℕ) → IsWidth b → s % b ≡ 0 → touched_count b s (count * 256) ≡ count * (256 / b)
-touched-blocks b s count width edge =
-    let place = div-add-mod' s b in
-    let start : s / b * b ≡ s = omega arith in
-    let bits : count * (256 / b) * b ≡ count * 256 = mul_assoc count (256 / b) b ∙ ap (λ (n : ℕ). count * n) (block_whole b width) in
-    rw (start, bits) at (touched-whole b (s / b) (count * (256 / b)) (width_some b width))
+    pub first-block_lacks : None ≡ first_place want (list_in b at xs (elements_window b (first + step * size) size)) → None ≡ first_place want (list_in b at xs (elements_window b first ((step + 1) * size)))
+    first-block_lacks here = first-lacks want _ _ _ none here next
 
-pub front-bits : (b : ℕ) (at : ℕ → ℕ → ℕ) (xs : List ℕ) (window : Window) (word count : ℕ) → HasWindow b xs window → IsFront b at xs window word count → slice_range (element_bits 64 at word) 0 count ≡ list_in b at xs (window_range window 0 count)
-front-bits b at xs window word count has front =
-    let long = length-list b at xs (window_range window 0 count) (HasWindow-range b xs window 0 count has (omega arith) front.within) in
-    range-from_start (element_bits 64 at word) count count refl ∙ take-field 64 count _ _ front.bits (omega arith)
+    pub first-block_has : (i : ℕ) → Some i ≡ first_place want (list_in b at xs (elements_window b (first + step * size) size)) → Some (step * bits + i) ≡ first_place want (list_in b at xs (elements_window b first (count * size)))
+    first-block_has i here =
+        let bound = below in
+        let long = length-list b at xs (elements_window b first (step * size)) (HasWindow-elements b at xs first (count * size) has first (step * size) (omega arith) (omega arith)) in
+        first-elements_front b at xs first (count * size) ((step + 1) * size) (step * bits + i) want has bound
+        (first-behind want _ _ _ (step * bits) i none here (sym (long ∙ before)) next)
 
--- ---- where a front ends: at the end of the first element, or of the window; or behind its blocks
+-- ---- the elements that a window touches, where it is empty or begins at one
 
-pub ends-head : (b : ℕ) (window : Window) (t : ℕ) → 0 < b → 0 < window.len → t ≡ min window.len (b - window.start % b) → EndsAtEdge b window t
-ends-head b window t some more part =
-    let index = mod_below window.start b some in
-    record { some = omega arith; within = omega arith; edge = λ left. head_edge b window.start t window.len some part (omega arith) }
+-- what is found in a longer list is in its front, or behind it
+found_front : (front behind : Option ℕ) (n i : ℕ) → ((j : ℕ) → front ≡ Some j → j < n) → Some i ≡ option_or front (option_map (λ j. n + j) behind) → then_some (nat_lt i n) i ≡ front
+found_front (Some j) behind n i below is =
+    let same : i ≡ j = cc in
+    let less = below j refl in
+    ap (λ (here : Bool). then_some here i) (lt-ltb i n (omega arith)) ∙ is
+found_front None (Some k) n i below is =
+    let same : i ≡ n + k = cc in
+    ap (λ (here : Bool). then_some here i) (le-ltb i n (omega arith))
+found_front None None n i below is = absurd cc
 
-pub ends-all : (b : ℕ) (window : Window) (t : ℕ) → 0 < window.len → t ≡ window.len → EndsAtEdge b window t
-ends-all b window t more all = record { some = omega arith; within = omega arith; edge = λ left. absurd (omega arith) }
+pub touched-ceil : (b s n : ℕ) → 0 < b → (0 < n → s % b ≡ 0) → touched_count b s n ≡ div_ceil n b
+touched-ceil b s n some edge =
+    ⊎_elim
+    (λ (more : 0 < n).
+    ⊎_elim
+    (λ (left : 0 < n % b). let all = touched-more b s n some (edge more) left in omega arith)
+    (λ (full : n % b ≤ 0). let all = touched-full b s n some (edge more) (omega arith) in omega arith)
+    (cases_lt 0 (n % b)))
+    (λ (empty : n ≤ 0).
+    let none : n ≡ 0 = omega arith in
+    let rounded = div_ceil_times 0 b some in
+    let few : div_ceil 0 b < 1 = lt_of_mul-lt-mul_right b (omega arith) in
+    let nothing = touched-none b s in
+    rw none (omega arith))
+    (cases_lt 0 n)
 
-module _ (b : ℕ) (window : Window) (width : IsWidth b) (edge : window.start % b ≡ 0) where
-  long : window.len / 256 * (256 / b) * b ≡ window.len / 256 * 256
-  long = mul_assoc (window.len / 256) (256 / b) b ∙ ap (λ (n : ℕ). window.len / 256 * n) (block_whole b width)
-
-  pub HasWindow-blocks : (xs : List ℕ) → HasWindow b xs window → HasWindow b xs (elements_window b (window.start / b) (window.len / 256 * (256 / b)))
-  HasWindow-blocks xs has =
+module _ (b : ℕ) (at : ℕ → ℕ → ℕ) (xs : List ℕ) (window : Window) (want : Bool) (some : 0 < b) (has : HasWindow b xs window) (edge : 0 < window.len → window.start % b ≡ 0) where
+  HasWindow-touched : HasWindow b xs (elements_window b (window.start / b) (div_ceil window.len b))
+  HasWindow-touched =
       let place = div-add-mod' window.start b in
-      let bits = long in
-      let fits = div-mul-le_self window.len 256 in
-      HasWindow-part b xs window (elements_window b (window.start / b) (window.len / 256 * (256 / b))) has (omega arith) (omega arith)
+      let rounded = div_ceil_times window.len b some in
+      let start = has.within.start in
+      let len = has.within.len in
+      ⊎_elim
+      (λ (more : 0 < window.len).
+      let first = edge more in
+      let order : window.start / b + div_ceil window.len b < length xs + 1 = lt_of_mul-lt-mul_right b (omega arith) in
+      let most = mul-le-mul_left b (let h : window.start / b + div_ceil window.len b ≤ length xs = omega arith in h) in
+      record { fits = has.fits; within = record { start = omega arith; len = omega arith } })
+      (λ (empty : window.len ≤ 0).
+      let few : div_ceil window.len b < 1 = lt_of_mul-lt-mul_right b (omega arith) in
+      let none : div_ceil window.len b ≡ 0 = omega arith in
+      rw none (record { fits = has.fits; within = record { start = omega arith; len = omega arith } }))
+      (cases_lt 0 window.len)
 
-  pub list-blocks : (at : ℕ → ℕ → ℕ) (xs : List ℕ) → list_in b at xs (elements_window b (window.start / b) (window.len / 256 * (256 / b))) ≡ list_in b at xs (window_range window 0 (window.len / 256 * 256))
-  list-blocks at xs =
+  -- from the place where they begin
+  abbrev from_edge : Window
+  from_edge = record { start = window.start / b * b; len = window.len }
+
+  same_from_edge : list_in b at xs window ≡ list_in b at xs from_edge
+  same_from_edge =
+      ⊎_elim
+      (λ (more : 0 < window.len).
+      let first = edge more in
       let place = div-add-mod' window.start b in
-      let bits = long in
-      list-same b at xs (elements_window b (window.start / b) (window.len / 256 * (256 / b))) (window_range window 0 (window.len / 256 * 256)) (omega arith) (omega arith)
+      list-same b at xs window from_edge (omega arith) refl)
+      (λ (empty : window.len ≤ 0). list-empty b at xs window (omega arith) ∙ sym (list-empty b at xs from_edge (omega arith)))
+      (cases_lt 0 window.len)
 
-  pub ends-blocks : 0 < window.len / 256 → EndsAtEdge b window (window.len / 256 * 256)
-  ends-blocks more =
-      let fits = div-mul-le_self window.len 256 in
-      record {
-        some = omega arith;
-        within = fits;
-        edge = λ left. ap (λ (n : ℕ). (window.start + n) % b) (sym long) ∙ behind-mod b window.start (window.len / 256 * (256 / b)) (width_some b width) ∙ edge;
-      }
+  -- what they have behind it
+  abbrev rest : Window
+  rest = record { start = window.start / b * b + window.len; len = div_ceil window.len b * b - window.len }
 
--- the bits of some blocks are fewer than a number may be
-pub blocks-few : (b : ℕ) (xs : List ℕ) (first count step : ℕ) → IsWidth b → HasWindow b xs (elements_window b first (count * (256 / b))) → step < count → step * 256 < 2 ^ 64
-blocks-few b xs first count step width has more =
-    let bits : count * (256 / b) * b ≡ count * 256 = mul_assoc count (256 / b) b ∙ ap (λ (n : ℕ). count * n) (block_whole b width) in
-    let fits = has.fits in
-    let len = has.within.len in
-    omega arith
+  abbrev behind : List Bool
+  behind = list_in b at xs rest
+
+  list-touched : list_in b at xs window ++ behind ≡ list_in b at xs (elements_window b (window.start / b) (div_ceil window.len b))
+  list-touched =
+      let rounded = div_ceil_times window.len b some in
+      ap (λ (l : List Bool). l ++ behind) same_from_edge
+      ∙ list-join b at xs from_edge rest (elements_window b (window.start / b) (div_ceil window.len b)) HasWindow-touched refl refl (omega arith)
+
+  -- what is found in them is in the window, or behind it
+  pub first-touched : (i : ℕ) → Some i ≡ first_place want (list_in b at xs (elements_window b (window.start / b) (div_ceil window.len b))) → then_some (nat_lt i window.len) i ≡ first_place want (list_in b at xs window)
+  first-touched i here =
+      let long = length-list b at xs window has in
+      let parts = here ∙ ap (first_place want) (sym list-touched) ∙ first_place-append want (list_in b at xs window) behind in
+      found_front (first_place want (list_in b at xs window)) (first_place want behind) window.len i
+      (λ j found. let below = first_place-below want (list_in b at xs window) j found in omega arith)
+      (rw long at parts)
+
+  pub first-touched_lacks : None ≡ first_place want (list_in b at xs (elements_window b (window.start / b) (div_ceil window.len b))) → None ≡ first_place want (list_in b at xs window)
+  first-touched_lacks none =
+      none_front (first_place want (list_in b at xs window)) (first_place want behind) (length (list_in b at xs window))
+      (none ∙ ap (first_place want) (sym list-touched) ∙ first_place-append want (list_in b at xs window) behind)

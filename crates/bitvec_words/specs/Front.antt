@@ -13,12 +13,6 @@ pub record IsFront (b : ℕ) (at : ℕ → ℕ → ℕ) (xs : List ℕ) (window 
   pub edge : b ≤ 64 → count < window.len → (window.start + count) % b ≡ 0
   pub bits : element_bits 64 at word ≡ padded 64 (list_in b at xs (window_range window 0 count))
 
--- so many first bits of the window, at least one: where more are left, an element of b bits begins behind them
-pub record EndsAtEdge (b : ℕ) (window : Window) (count : ℕ) : Type 0 where
-  pub some : 0 < count
-  pub within : count ≤ window.len
-  pub edge : count < window.len → (window.start + count) % b ≡ 0
-
 -- the first bits of a window, up to 64 of them
 abbrev pub front_window : Window → Window
 front_window window = record { start = window.start; len = min window.len 64 }

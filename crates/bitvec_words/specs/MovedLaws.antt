@@ -131,9 +131,14 @@ take-padded b n list long = same_lists _ _ (search (rules, places)) (λ k d insi
 pub take-field : (b n : ℕ) (bits list : List Bool) → bits ≡ padded b list → n ≡ length list → take n bits ≡ list
 take-field b n bits list field long = ap (take n) field ∙ take-padded b n list long
 
-length-padded : (b : ℕ) (list : List Bool) → length list ≤ b → length (padded b list) ≡ b
+pub length-padded : (b : ℕ) (list : List Bool) → length list ≤ b → length (padded b list) ≡ b
 unfolding padded
 length-padded b list fits = search (rules, places)
+
+-- a list moved to the start of zeros
+pub written-padded : (b : ℕ) (list : List Bool) → length list ≤ b → write_at (replicate b false) 0 list ≡ padded b list
+unfolding write_at padded
+written-padded b list fits = same_lists _ _ (search (rules, places)) (λ k d inside. grind (arith, places))
 
 padded-inside : (b : ℕ) (list : List Bool) (k : ℕ) (d : Bool) → k < length list → slice_index_or (padded b list) k d ≡ slice_index_or list k d
 unfolding padded

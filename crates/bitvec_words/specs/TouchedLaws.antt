@@ -1,11 +1,16 @@
 -- The elements that windows side by side touch.
-use Rattle.std.specs.Prelude.{◌≡◌, ◌≢◌, ℕ, min, ◌+◌, ◌-◌, ◌*◌, ◌/◌, ◌%◌, ◌<◌, ◌≤◌, ◌==◌, if◌then◌else◌, Bool, true, false, zero, suc}
+use Rattle.std.specs.Prelude.{◌≡◌, ◌≢◌, ℕ, min, ◌+◌, ◌-◌, ◌*◌, ◌/◌, ◌%◌, ◌<◌, ◌≤◌, ◌==◌, if◌then◌else◌, Bool, true, false, zero, suc, List, length, refl}
 use Rattle.std.proofs.Common.{arith, ◌∙◌, ap, ⊎_elim}
 use Rattle.std.proofs.lemmas.Bool.{cases_eq, cases_lt}
 use Rattle.std.proofs.lemmas.Nat.{div-mul-add, div-add-mod', mod_below, mod-mul-add}
 use Rattle.bitvec_cells.specs.base.declared.part.Part.{Part}
 use Rattle.bitvec_cells.specs.Cost.{part_loads, touched_count}
 use Rattle.bitvec_cells.specs.WalkLaws.{div-order, touched-none, touched-some}
+use Rattle.bitvec_cells.specs.base.Memory.{HasWindow}
+use Rattle.bitvec_cells.specs.base.declared.window.Window.{Window}
+use Rattle.bitvec_cells.specs.store.Width.{IsWidth}
+use Rattle.bitvec_cells.specs.store.WidthLaws.{at_each_width, width_some}
+use Rattle.bitvec_words.specs.FieldLaws.{element_of}
 
 -- a window touches an element
 pub touched-first : (b s n : ℕ) → 0 < n → touched_count b s n ≡ 1 + (touched_count b s n - 1)
@@ -155,6 +160,12 @@ touched-more b s n some edge left =
     let both = rw all at (touched-edge b s (n / b * b) (n % b) some behind) in
     omega arith
 
+-- the elements of a word
+pub touched-word : (b s : ℕ) → IsWidth b → b ≤ 64 → s % b ≡ 0 → touched_count b s 64 ≡ 64 / b
+touched-word b s width narrow edge =
+    touched-full b s 64 (width_some b width) edge
+    (at_each_width (λ n. n ≤ 64 → 64 % n ≡ 0) (λ _. refl) (λ _. refl) (λ _. refl) (λ _. refl) (λ few. absurd (omega arith)) b width narrow)
+
 inside_place : (b s n : ℕ) → 0 < b → (s + n / b * b) % b ≡ s % b
 inside_place b s n some =
     let place = div-add-mod' s b in
@@ -250,3 +261,25 @@ apart_edge b s other t n some part left apart =
     let same : other + t ≡ other / b * b + (other % b + t) = omega arith in
     rw (same, mod-mul-add (other / b) b (other % b + t) (omega arith)) (omega arith))
     (cases_lt (s % b) (other % b))
+
+-- ---- the last element that a window touches: the first, or the next
+
+pub last-first : (b s n : ℕ) → 0 < b → 0 < n → s % b + n ≤ b → (s + n - 1) / b ≡ s / b
+last-first b s n some more fits =
+    let place = div-add-mod' s b in
+    let last : s + n - 1 ≡ s / b * b + (s % b + n - 1) = omega arith in
+    ap (λ (m : ℕ). m / b) last ∙ div-mul-add (s / b) b (s % b + n - 1) (omega arith)
+
+pub last-next : (b s n : ℕ) → 0 < b → n ≤ b → b < s % b + n → (s + n - 1) / b ≡ s / b + 1
+last-next b s n some fits over =
+    let place = div-add-mod' s b in
+    let index = mod_below s b some in
+    let last : s + n - 1 ≡ (s / b + 1) * b + (s % b + n - 1 - b) = omega arith in
+    ap (λ (m : ℕ). m / b) last ∙ div-mul-add (s / b + 1) b (s % b + n - 1 - b) (omega arith)
+
+pub next-inside : (b : ℕ) (xs : List ℕ) (window : Window) → HasWindow b xs window → b < window.start % b + window.len → window.start / b + 1 < length xs
+next-inside b xs window has over =
+    let start = has.within.start in
+    let len = has.within.len in
+    let place = div-add-mod' window.start b in
+    element_of b (window.start / b + 1) 0 (length xs) (omega arith)

@@ -1,5 +1,5 @@
 -- Whole elements of a window, from its first bit on, and what is behind them.
-use Rattle.std.specs.Prelude.{◌≡◌, ℕ, ◌+◌, ◌-◌, ◌*◌, ◌/◌, ◌%◌, ◌<◌, ◌≤◌, true, List, [], ◌++◌, length, refl}
+use Rattle.std.specs.Prelude.{◌≡◌, ℕ, ◌+◌, ◌-◌, ◌*◌, ◌/◌, ◌%◌, ◌^◌, ◌<◌, ◌≤◌, true, List, [], ◌++◌, length, refl}
 use Rattle.std.proofs.Common.{arith, sym, ◌∙◌, ap, ⊎_elim}
 use Rattle.std.proofs.lemmas.Bool.{cases_lt}
 use Rattle.std.proofs.lemmas.Nat.{div-add-mod', mod_below, mod-mul-add}
@@ -61,6 +61,19 @@ touched-behind_from b s n m some inside fits =
     (cases_lt 0 (n - m * b))
 
 -- ---- windows
+
+-- windows are what their start and their length are
+pub window-same : (window other : Window) → window.start ≡ other.start → window.len ≡ other.len → window ≡ other
+window-same window other start len =
+    ap (λ (s : ℕ). (let w : Window = record { start = s; len = window.len } in w)) start ∙ ap (λ (n : ℕ). (let w : Window = record { start = other.start; len = n } in w)) len
+
+-- a window's end is a `usize`
+pub window-end : (b : ℕ) (xs : List ℕ) (window : Window) → HasWindow b xs window → window.start + window.len < 2 ^ 64
+window-end b xs window has =
+    let fits = has.fits in
+    let start = has.within.start in
+    let len = has.within.len in
+    omega arith
 
 -- no bits
 pub list-empty : (b : ℕ) (at : ℕ → ℕ → ℕ) (xs : List ℕ) (window : Window) → window.len ≡ 0 → list_in b at xs window ≡ []

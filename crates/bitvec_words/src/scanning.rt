@@ -69,7 +69,7 @@ fn first_aligned<O: BitOrder, C: CellsRead>(
 
 /// The first of `count` whole elements, each of which is passed by one comparison if it lacks the
 /// bit.
-fn first_whole<O: BitOrder, C: CellsRead>(
+pub(crate) fn first_whole<O: BitOrder, C: CellsRead>(
     cells: &mut C,
     first: usize,
     count: usize,

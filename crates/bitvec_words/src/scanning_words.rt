@@ -1,21 +1,18 @@
 //! Searches of a window by blocks of words.
-ghost use Rattle.std.specs.Prelude.{◌≡◌, ℕ, ◌+◌, ◌*◌, ◌/◌, ◌%◌, ◌<◌, ◌≤◌, true, List, ◌++◌, None};
+ghost use Rattle.std.specs.Prelude.{◌≡◌, ℕ, ◌*◌, ◌/◌, ◌%◌, ◌<◌, ◌≤◌, List, ◌++◌, is_none};
 ghost use Rattle.bitvec_cells.specs.base.Lists.{first_place};
 ghost use Rattle.bitvec_cells.specs.base.Memory.{HasWindow, element_bits, list_in, memory_bits};
-ghost use Rattle.bitvec_cells.specs.base.Window.{window_range};
 ghost use Rattle.bitvec_cells.specs.Access.{OnlyReads, OnlyReadsAtMost};
 ghost use Rattle.bitvec_cells.specs.Cost.{touched_count};
 ghost use Rattle.bitvec_words.specs.Elements.{HasElements, elements_window};
-ghost use Rattle.bitvec_words.specs.Front.{EndsAtEdge};
 
 use crate::fields::WORD_BITS;
-use crate::fronts::words_load_front;
-use crate::scanning::bits_scan_first;
+use crate::scanning::first_whole;
 use crate::word_elements::{load_elements, ordered};
 use crate::word_order::WordOrder;
-use bitvec_cells::base::{BitOrder, Lsb0, Part, Window};
+use bitvec_cells::base::{BitOrder, Lsb0, Part, Window, first_part};
 use bitvec_cells::store::BitStore;
-use bitvec_cells::{CellsRead, filled, first_in_element};
+use bitvec_cells::{CellsRead, filled, first_in_element, first_in_part};
 
 /// The bits of a block, which is four words.
 const BLOCK_BITS: usize = 4 * WORD_BITS;
@@ -33,55 +30,115 @@ pub fn words_scan_first<O: WordOrder, C: CellsRead>(
     ensures value { result ≡ first_place want (list_in C.Elem.BITS O.at (C.numbers cells.old) window) }
     ensures reads { OnlyReadsAtMost C.CellsRead cells.old cells.new (touched_count C.Elem.BITS window.start window.len) }
 {
-    let mut rest = window;
-    while rest.len > 0 {
-        let (found, count) = first_in_front::<O, C>(cells, rest, want);
-        if let Some(place) = found {
-            return Some(rest.start - window.start + place);
-        }
-        rest = rest.after(count);
+    let bits = C::Elem::BITS as usize;
+    if window.len == 0 || window.start % bits == 0 {
+        return first_from_edge::<O, C>(cells, window, want);
     }
-    None
+    let head = first_part(bits, window);
+    if let Some(found) = first_in_part::<O, C>(cells, head, want) {
+        return Some(found);
+    }
+    let passed = head.len();
+    let found = first_from_edge::<O, C>(cells, window.after(passed), want)?;
+    Some(passed + found)
 }
 
-/// The first of the first bits of a window, and how many these are: where it begins inside an
-/// element, those of that; else those of all blocks, of one word of narrower elements, or all.
-/// Condition: the window isn't empty.
+/// The first of a window that is empty or begins where an element does: of all elements that it
+/// touches, where it isn't behind the window's end.
 #[inline(always)]
-fn first_in_front<O: WordOrder, C: CellsRead>(
+fn first_from_edge<O: WordOrder, C: CellsRead>(
     cells: &mut C,
     window: Window,
     want: bool,
-) -> (Option<usize>, usize)
+) -> Option<usize>
     requires window { HasWindow C.Elem.BITS (C.numbers cells.old) window }
-    requires some { 0 < window.len }
-    ensures value { result.0 ≡ first_place want (list_in C.Elem.BITS O.at (C.numbers cells.old) (window_range window 0 result.1)) }
-    ensures ends { EndsAtEdge C.Elem.BITS window result.1 }
-    ensures reads { OnlyReadsAtMost C.CellsRead cells.old cells.new (touched_count C.Elem.BITS window.start result.1) }
+    requires edge { 0 < window.len → window.start % C.Elem.BITS ≡ 0 }
+    ensures value { result ≡ first_place want (list_in C.Elem.BITS O.at (C.numbers cells.old) window) }
+    ensures reads { OnlyReadsAtMost C.CellsRead cells.old cells.new (touched_count C.Elem.BITS window.start window.len) }
 {
     let bits = C::Elem::BITS as usize;
-    let inside = window.start % bits;
-    let blocks = window.len / BLOCK_BITS;
-    if inside > 0 || window.len < WORD_BITS || bits >= WORD_BITS && blocks == 0 {
-        let count = if inside > 0 {
-            window.len.min(bits - inside)
-        } else {
-            window.len
-        };
-        let found = bits_scan_first::<O, C>(cells, window.range(0, count), want);
-        return (found, count);
+    let count = window.len.div_ceil(bits);
+    let found = first_in_elements::<O, C>(cells, window.start / bits, count, want)?;
+    (found < window.len).then_some(found)
+}
+
+/// The first of `count` elements: of blocks, and then of fewer elements.
+#[inline(always)]
+fn first_in_elements<O: WordOrder, C: CellsRead>(
+    cells: &mut C,
+    first: usize,
+    count: usize,
+    want: bool,
+) -> Option<usize>
+    requires { HasWindow C.Elem.BITS (C.numbers cells.old) (elements_window C.Elem.BITS first count) }
+    ensures value { result
+        ≡ first_place want (list_in C.Elem.BITS O.at (C.numbers cells.old) (elements_window C.Elem.BITS first count)) }
+    ensures reads { OnlyReadsAtMost C.CellsRead cells.old cells.new count }
+{
+    let elements = BLOCK_BITS / C::Elem::BITS as usize;
+    let blocks = count / elements;
+    if let Some(found) = first_in_blocks::<O, C>(cells, first, blocks, want) {
+        return Some(found);
     }
-    if blocks > 0 {
-        let found = first_in_blocks::<O, C>(cells, window.start / bits, blocks, want);
-        return (found, blocks * BLOCK_BITS);
+    let passed = blocks * elements;
+    let found = first_in_rest::<O, C>(cells, first + passed, count - passed, want)?;
+    Some(blocks * BLOCK_BITS + found)
+}
+
+/// The first of `count` elements: of words, where they are narrower, and then of single ones.
+#[inline(always)]
+fn first_in_rest<O: WordOrder, C: CellsRead>(
+    cells: &mut C,
+    first: usize,
+    count: usize,
+    want: bool,
+) -> Option<usize>
+    requires { HasWindow C.Elem.BITS (C.numbers cells.old) (elements_window C.Elem.BITS first count) }
+    ensures value { result
+        ≡ first_place want (list_in C.Elem.BITS O.at (C.numbers cells.old) (elements_window C.Elem.BITS first count)) }
+    ensures reads { OnlyReadsAtMost C.CellsRead cells.old cells.new count }
+{
+    let bits = C::Elem::BITS as usize;
+    if bits >= WORD_BITS {
+        return first_whole::<O, C>(cells, first, count, want);
     }
-    let (word, count) = words_load_front::<O, C>(cells, window);
-    let part = Part {
+    let elements = WORD_BITS / bits;
+    let words = count / elements;
+    if let Some(found) = first_in_some_words::<O, C>(cells, first, words, want) {
+        return Some(found);
+    }
+    let passed = words * elements;
+    let found = first_whole::<O, C>(cells, first + passed, count - passed, want)?;
+    Some(words * WORD_BITS + found)
+}
+
+/// The first of the elements of `count` words. Condition: they are narrower than a word.
+#[inline(always)]
+fn first_in_some_words<O: WordOrder, C: CellsRead>(
+    cells: &mut C,
+    first: usize,
+    count: usize,
+    want: bool,
+) -> Option<usize>
+    requires window { HasWindow C.Elem.BITS (C.numbers cells.old) (elements_window C.Elem.BITS first (count * (64 / C.Elem.BITS))) }
+    requires narrow { C.Elem.BITS < 64 }
+    ensures value { result ≡ first_place want
+        (list_in C.Elem.BITS O.at (C.numbers cells.old) (elements_window C.Elem.BITS first (count * (64 / C.Elem.BITS)))) }
+    ensures reads { OnlyReadsAtMost C.CellsRead cells.old cells.new (count * (64 / C.Elem.BITS)) }
+{
+    let elements = WORD_BITS / C::Elem::BITS as usize;
+    let whole = Part {
         element: 0,
         from: 0,
-        to: count,
+        to: WORD_BITS,
     };
-    (first_in_element::<O, u64>(word, part, want), count)
+    for step in 0..count {
+        let word = load_elements::<O, C>(cells, first + step * elements);
+        if let Some(found) = first_in_element::<O, u64>(word, whole, want) {
+            return Some(step * WORD_BITS + found);
+        }
+    }
+    None
 }
 
 /// The first of the elements of `count` blocks.
@@ -154,8 +211,8 @@ fn first_in_narrow_block<O: WordOrder, C: CellsRead>(
 /// Whether four words lack the bit.
 #[inline(always)]
 fn lack<O: BitOrder>(one: u64, two: u64, three: u64, four: u64, want: bool) -> bool
-    ensures { result ≡ true → None ≡ first_place want
-        ((element_bits 64 O.at one ++ element_bits 64 O.at two) ++ (element_bits 64 O.at three ++ element_bits 64 O.at four)) }
+    ensures { result ≡ is_none (first_place want
+        ((element_bits 64 O.at one ++ element_bits 64 O.at two) ++ (element_bits 64 O.at three ++ element_bits 64 O.at four))) }
 {
     let lacking = filled::<u64>(!want);
     (one ^ lacking) | (two ^ lacking) | (three ^ lacking) | (four ^ lacking) == 0

@@ -2,8 +2,9 @@ use Rattle.std.specs.Prelude.{◌≡◌, ℕ, ◌<◌}
 use Rattle.std.proofs.Common.{arith, refl, ap, ◌∙◌, ⊎_elim}
 use Rattle.std.proofs.lemmas.List.{get_or-set_other, get_or-set_same}
 use Rattle.bitrecord.specs.Runs.{across, aligned}
+use Rattle.bitrecord.specs.RecordLaws.{earlier_or_this}
 use Rattle.bitrecord.proofs.Exponents.{fits-word}
-use Rattle.bitrecord.proofs.Numbers.{earlier_or_this, run-number, run-split}
+use Rattle.bitrecord.proofs.Numbers.{run-number, run-split}
 use Rattle.bitrecord.proofs.RunLaws.{run-narrow}
 use Rattle.bitrecord.proofs.decoding.decode_run.Goals as goal
 

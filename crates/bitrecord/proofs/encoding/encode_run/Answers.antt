@@ -1,8 +1,8 @@
 use Rattle.std.specs.Prelude.{◌≡◌, ℕ, ◌+◌, ◌<◌}
 use Rattle.std.proofs.Common.{arith, refl, ⊎_elim}
 use Rattle.bitrecord.specs.Layouts.{field_at}
+use Rattle.bitrecord.specs.RecordLaws.{earlier_or_this}
 use Rattle.bitrecord.proofs.Digits.{joined-below, parts-told}
-use Rattle.bitrecord.proofs.Numbers.{earlier_or_this}
 use Rattle.bitrecord.proofs.Puts.{run-written}
 use Rattle.bitrecord.proofs.encoding.encode_run.Goals as goal
 

@@ -10,7 +10,8 @@ use Rattle.bitvec_move.specs.words.FieldLaws.{first_part-long}
 use Rattle.bitvec_move.specs.words.Operator.{operator}
 use Rattle.bitvec_move.specs.words.TouchedLaws.{inside_element, touched-edge, touched-inside, touched-parts}
 use Rattle.bitvec_move.specs.PlaceLaws.{behind-edge, head-part, width-some}
-use Rattle.bitvec_combine.proofs.SpanLemmas.{after-shorter, window-same}
+use Rattle.bitvec_move.specs.words.WholeLaws.{window-same}
+use Rattle.bitvec_combine.proofs.SpanLemmas.{after-shorter}
 use Rattle.bitvec_combine.specs.Sides.{Combines}
 use Rattle.bitvec_combine.proofs.combining.combine_behind_part.Goals as goal
 

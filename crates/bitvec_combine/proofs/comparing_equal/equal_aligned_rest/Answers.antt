@@ -6,9 +6,9 @@ use Rattle.bitvec_move.specs.words.Elements.{elements_window}
 use Rattle.bitvec_move.specs.words.FieldLaws.{list-tail}
 use Rattle.bitvec_move.specs.words.SameLaws.{same-apart, same-then}
 use Rattle.bitvec_move.specs.words.TouchedLaws.{touched-after, touched-more}
-use Rattle.bitvec_move.specs.words.WholeLaws.{long-whole, whole_fits}
+use Rattle.bitvec_move.specs.words.WholeLaws.{long-whole, whole_fits, window-same}
 use Rattle.bitvec_move.specs.PlaceLaws.{tail-inside, tail-part, tail-word, width-some}
-use Rattle.bitvec_combine.proofs.SpanLemmas.{whole-span, window-same}
+use Rattle.bitvec_combine.proofs.SpanLemmas.{whole-span}
 use Rattle.bitvec_combine.specs.Sides.{same_sides}
 use Rattle.bitvec_combine.proofs.comparing_equal.equal_aligned_rest.Goals as goal
 

@@ -7,9 +7,9 @@ use Rattle.bitvec_move.specs.words.Elements.{elements_window, elements_window_fr
 use Rattle.bitvec_move.specs.words.FieldLaws.{list-rest, list-tail}
 use Rattle.bitvec_move.specs.words.SameLaws.{same-apart, same-then}
 use Rattle.bitvec_move.specs.words.TouchedLaws.{touched-after, touched-from_more, touched-more}
-use Rattle.bitvec_move.specs.words.WholeLaws.{long-whole_from, touched-behind_from, whole_fits}
+use Rattle.bitvec_move.specs.words.WholeLaws.{long-whole_from, touched-behind_from, whole_fits, window-same}
 use Rattle.bitvec_move.specs.PlaceLaws.{width-some}
-use Rattle.bitvec_combine.proofs.SpanLemmas.{tail-beside, whole-shifted, window-same}
+use Rattle.bitvec_combine.proofs.SpanLemmas.{tail-beside, whole-shifted}
 use Rattle.bitvec_combine.specs.Sides.{same_sides}
 use Rattle.bitvec_combine.proofs.comparing_shifted.equal_carried_rest.Goals as goal
 

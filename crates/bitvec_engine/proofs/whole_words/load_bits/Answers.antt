@@ -1,4 +1,5 @@
-use Rattle.bitvec_engine.proofs.WordLemmas.{loaded-whole, touched-whole, word-inside}
+use Rattle.bitvec_combine.specs.words.TouchedLaws.{touched-word}
+use Rattle.bitvec_engine.proofs.WordLemmas.{loaded-whole, word-inside}
 use Rattle.bitvec_engine.proofs.whole_words.load_bits.Goals as goal
 
 pub load_elements-requires-clause-window : goal.load_elements-requires-clause-window
@@ -12,5 +13,5 @@ returns-then-window-bits-eq0-clause-value g c =
 
 pub returns-then-window-bits-eq0-clause-reads : goal.returns-then-window-bits-eq0-clause-reads
 returns-then-window-bits-eq0-clause-reads g c =
-    rw (c.if-window-eq-WORD_BITS.true, touched-whole g.C.Elem.BitStore.BITS c.args.window.start g.met.C.Elem.BitStore.width_law (rw c.BITS-bits.ensures at c.if-bits-le-WORD_BITS.true) (rw c.BITS-bits.ensures at c.if-window-bits-eq0.true))
+    rw (c.if-window-eq-WORD_BITS.true, touched-word g.C.Elem.BitStore.BITS c.args.window.start g.met.C.Elem.BitStore.width_law (rw c.BITS-bits.ensures at c.if-bits-le-WORD_BITS.true) (rw c.BITS-bits.ensures at c.if-window-bits-eq0.true))
     c.load_elements.ensures.reads

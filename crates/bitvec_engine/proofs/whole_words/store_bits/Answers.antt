@@ -1,5 +1,6 @@
 use Rattle.std.proofs.Common.{arith}
-use Rattle.bitvec_engine.proofs.WordLemmas.{stored-whole, touched-whole, word-inside}
+use Rattle.bitvec_combine.specs.words.TouchedLaws.{touched-word}
+use Rattle.bitvec_engine.proofs.WordLemmas.{stored-whole, word-inside}
 use Rattle.bitvec_engine.proofs.whole_words.store_bits.Goals as goal
 
 pub store_elements-requires-clause-window : goal.store_elements-requires-clause-window
@@ -15,5 +16,5 @@ returns-then-window-bits-eq0 g c =
     let cost = c.store_elements.ensures.cost in
     record {
       writes = stored-whole g.C.Elem.BitStore.BITS g.W.BitOrder.at c.args.window g.met.C.Elem.BitStore.width_law narrow size edge _ _ _ wrote;
-      cost = rw (size, touched-whole g.C.Elem.BitStore.BITS c.args.window.start g.met.C.Elem.BitStore.width_law narrow edge) (record { borrow = cost.borrow; loads = omega arith; stores = omega arith });
+      cost = rw (size, touched-word g.C.Elem.BitStore.BITS c.args.window.start g.met.C.Elem.BitStore.width_law narrow edge) (record { borrow = cost.borrow; loads = omega arith; stores = omega arith });
     }

@@ -3,8 +3,9 @@ use Rattle.bitvec_words.specs.store.WidthLaws.{width_some}
 use Rattle.bitvec_words.specs.base.WritesLaws.{Writes-is}
 use Rattle.bitvec_words.specs.FieldLaws.{Writes-tail, list-tail}
 use Rattle.bitvec_words.specs.TouchedLaws.{part_loads-most, touched-full, touched-more}
+use Rattle.bitvec_words.specs.WholeLaws.{window-end}
 use Rattle.bitvec_move.specs.PlaceLaws.{tail-inside, tail-part, tail-word, whole-span, width-some}
-use Rattle.bitvec_move.proofs.MoveLemmas.{Copies-same, end-word}
+use Rattle.bitvec_move.proofs.MoveLemmas.{Copies-same}
 use Rattle.std.proofs.lemmas.Nat.{div-add-mod'}
 use Rattle.bitvec_move.proofs.copying_equal.copy_aligned.Goals as goal
 
@@ -71,7 +72,7 @@ pub tail_part-tail-requires-clause-bits : goal.tail_part-tail-requires-clause-bi
 tail_part-tail-requires-clause-bits g c = width-some _ _ g.met.C.Elem.BitStore.width_law c.BITS-bits.ensures
 
 pub tail_part-tail-requires-clause-end : goal.tail_part-tail-requires-clause-end
-tail_part-tail-requires-clause-end g c = end-word _ _ c.args.to c.requires.span.window
+tail_part-tail-requires-clause-end g c = window-end _ _ c.args.to c.requires.span.window
 
 pub returns-then-tail-eq0-clause-writes : goal.returns-then-tail-eq0-clause-writes
 returns-then-tail-eq0-clause-writes g c =

@@ -6,8 +6,9 @@ use Rattle.bitvec_words.specs.store.WidthLaws.{width_some}
 use Rattle.bitvec_words.specs.walk.Cost.{touched_count}
 use Rattle.bitvec_words.specs.FieldLaws.{Writes-head, first_part-long, list-head}
 use Rattle.bitvec_words.specs.TouchedLaws.{part_loads-most, touched-head, touched-rest}
+use Rattle.bitvec_words.specs.WholeLaws.{window-end}
 use Rattle.bitvec_move.specs.PlaceLaws.{behind-edge, head-element, head-part, width-some}
-use Rattle.bitvec_move.proofs.MoveLemmas.{Copies-same, after-span, end-word, head-fits, head-order}
+use Rattle.bitvec_move.proofs.MoveLemmas.{Copies-same, after-span, head-fits, head-order}
 use Rattle.std.proofs.lemmas.Nat.{div-add-mod', mod_below}
 use Rattle.bitvec_move.proofs.copying_equal.copy_equal.Goals as goal
 
@@ -112,7 +113,7 @@ pub after-requires-clause-bound : goal.after-requires-clause-bound
 after-requires-clause-bound g c = head-fits _ _ c.args.to _ c.len-passed.ensures c.first_part-head.ensures
 
 pub after-requires-clause-end : goal.after-requires-clause-end
-after-requires-clause-end g c = end-word _ _ c.args.to c.requires.span.window
+after-requires-clause-end g c = window-end _ _ c.args.to c.requires.span.window
 
 pub after-requires-2-clause-bound : goal.after-requires-2-clause-bound
 after-requires-2-clause-bound g c =
@@ -121,7 +122,7 @@ after-requires-2-clause-bound g c =
     omega arith
 
 pub after-requires-2-clause-end : goal.after-requires-2-clause-end
-after-requires-2-clause-end g c = end-word _ _ c.args.from c.requires.span.beside
+after-requires-2-clause-end g c = window-end _ _ c.args.from c.requires.span.beside
 
 pub copy_aligned-requires-2-clause-span : goal.copy_aligned-requires-2-clause-span
 copy_aligned-requires-2-clause-span g c =

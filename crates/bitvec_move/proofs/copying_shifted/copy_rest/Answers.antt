@@ -5,9 +5,9 @@ use Rattle.bitvec_words.specs.base.WritesLaws.{Writes-is}
 use Rattle.bitvec_words.specs.store.WidthLaws.{width_some}
 use Rattle.bitvec_words.specs.FieldLaws.{Writes-tail, list-rest}
 use Rattle.bitvec_words.specs.TouchedLaws.{touched-from_full, touched-from_more, touched-full, touched-more}
-use Rattle.bitvec_words.specs.WholeLaws.{whole_fits}
+use Rattle.bitvec_words.specs.WholeLaws.{whole_fits, window-end}
 use Rattle.bitvec_move.specs.PlaceLaws.{tail-span, whole-span_from, width-some}
-use Rattle.bitvec_move.proofs.MoveLemmas.{Copies-same, end-word}
+use Rattle.bitvec_move.proofs.MoveLemmas.{Copies-same}
 use Rattle.bitvec_move.proofs.copying_shifted.copy_rest.Goals as goal
 
 pub nonzero_div-source : goal.nonzero_div-source
@@ -92,7 +92,7 @@ pub tail_part-tail-requires-clause-bits : goal.tail_part-tail-requires-clause-bi
 tail_part-tail-requires-clause-bits g c = width-some _ _ g.met.C.Elem.BitStore.width_law c.BITS-bits.ensures
 
 pub tail_part-tail-requires-clause-end : goal.tail_part-tail-requires-clause-end
-tail_part-tail-requires-clause-end g c = end-word _ _ c.args.to c.requires.shifted.span.window
+tail_part-tail-requires-clause-end g c = window-end _ _ c.args.to c.requires.shifted.span.window
 
 pub returns-then-tail-eq0-clause-writes : goal.returns-then-tail-eq0-clause-writes
 returns-then-tail-eq0-clause-writes g c =
@@ -118,7 +118,7 @@ after-requires-clause-bound g c =
     rw (c.whole_elements-first.ensures, c.BITS-bits.ensures) (omega arith)
 
 pub after-requires-clause-end : goal.after-requires-clause-end
-after-requires-clause-end g c = end-word _ _ c.args.from c.requires.shifted.span.beside
+after-requires-clause-end g c = window-end _ _ c.args.from c.requires.shifted.span.beside
 
 pub shift_tail-requires-clause-edge : goal.shift_tail-requires-clause-edge
 shift_tail-requires-clause-edge g c = rw c.tail_part-tail.ensures refl

@@ -7,8 +7,9 @@ use Rattle.bitvec_words.specs.store.WidthLaws.{width_some}
 use Rattle.bitvec_words.specs.walk.Cost.{touched_count}
 use Rattle.bitvec_words.specs.FieldLaws.{Writes-head, first_part-long, list-parted}
 use Rattle.bitvec_words.specs.TouchedLaws.{apart_edge, inside_element, part_loads-most, touched-first, touched-head, touched-inside, touched-rest}
+use Rattle.bitvec_words.specs.WholeLaws.{window-end}
 use Rattle.bitvec_move.specs.PlaceLaws.{behind-edge, head-element, head-part, width-some}
-use Rattle.bitvec_move.proofs.MoveLemmas.{end-word, head-fits, head-order}
+use Rattle.bitvec_move.proofs.MoveLemmas.{head-fits, head-order}
 use Rattle.bitvec_move.specs.WithinLaws.{part-first}
 use Rattle.bitvec_move.proofs.copying_shifted.copy_shifted.Goals as goal
 
@@ -162,7 +163,7 @@ pub after-requires-clause-bound : goal.after-requires-clause-bound
 after-requires-clause-bound g c = head-fits _ _ c.args.to _ c.len-passed.ensures c.first_part-head.ensures
 
 pub after-requires-clause-end : goal.after-requires-clause-end
-after-requires-clause-end g c = end-word _ _ c.args.to c.requires.span.window
+after-requires-clause-end g c = window-end _ _ c.args.to c.requires.span.window
 
 pub after-requires-2-clause-bound : goal.after-requires-2-clause-bound
 after-requires-2-clause-bound g c =
@@ -171,7 +172,7 @@ after-requires-2-clause-bound g c =
     omega arith
 
 pub after-requires-2-clause-end : goal.after-requires-2-clause-end
-after-requires-2-clause-end g c = end-word _ _ c.args.from c.requires.span.beside
+after-requires-2-clause-end g c = window-end _ _ c.args.from c.requires.span.beside
 
 pub copy_rest-requires-2-clause-some : goal.copy_rest-requires-2-clause-some
 copy_rest-requires-2-clause-some g c =

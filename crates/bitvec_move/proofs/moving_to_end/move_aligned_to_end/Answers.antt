@@ -1,13 +1,13 @@
 use Rattle.std.proofs.Common.{◌≤◌, ◌*◌, ◌/◌, arith, rules, refl}
 use Rattle.bitvec_words.specs.base.WritesLaws.{HasWindow-kept}
-use Rattle.bitvec_words.specs.WholeLaws.{behind-mod, whole_fits}
+use Rattle.bitvec_words.specs.WholeLaws.{behind-mod, whole_fits, window-end}
 use Rattle.bitvec_words.specs.walk.WalkLaws.{div-order}
 use Rattle.std.proofs.lemmas.Nat.{div-add-mod', mod_below}
 use Rattle.bitvec_words.specs.store.WidthLaws.{width_some}
 use Rattle.bitvec_words.specs.TouchedLaws.{touched-after}
 use Rattle.bitvec_move.specs.WithinLaws.{Writes-move_back, touched-split_whole}
 use Rattle.bitvec_move.specs.PlaceLaws.{whole-span_from, width-some}
-use Rattle.bitvec_move.proofs.MoveLemmas.{after-span, end-word}
+use Rattle.bitvec_move.proofs.MoveLemmas.{after-span}
 use Rattle.bitvec_move.proofs.moving_to_end.move_aligned_to_end.Goals as goal
 
 pub nonzero_div-source : goal.nonzero_div-source
@@ -86,7 +86,7 @@ pub after-requires-clause-bound : goal.after-requires-clause-bound
 after-requires-clause-bound g c = rw (c.whole_elements-first.ensures, c.BITS-bits.ensures) (whole_fits g.C.Elem.BitStore.BITS c.args.to.len (c.args.to.len / g.C.Elem.BitStore.BITS) (omega arith))
 
 pub after-requires-clause-end : goal.after-requires-clause-end
-after-requires-clause-end g c = end-word _ _ c.args.to c.requires.span.window
+after-requires-clause-end g c = window-end _ _ c.args.to c.requires.span.window
 
 pub after-requires-2-clause-bound : goal.after-requires-2-clause-bound
 after-requires-2-clause-bound g c =
@@ -95,7 +95,7 @@ after-requires-2-clause-bound g c =
     rw (c.whole_elements-first.ensures, c.BITS-bits.ensures) (omega arith)
 
 pub after-requires-2-clause-end : goal.after-requires-2-clause-end
-after-requires-2-clause-end g c = end-word _ _ c.args.from c.requires.span.beside
+after-requires-2-clause-end g c = window-end _ _ c.args.from c.requires.span.beside
 
 pub move_edge-requires-clause-span : goal.move_edge-requires-clause-span
 move_edge-requires-clause-span g c =

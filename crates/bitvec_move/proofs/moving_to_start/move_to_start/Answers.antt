@@ -2,10 +2,11 @@ use Rattle.std.proofs.Common.{◌≡◌, ◌-◌, arith, rules, refl}
 use Rattle.bitvec_words.specs.store.WidthLaws.{width_some}
 use Rattle.bitvec_words.specs.FieldLaws.{first_part-long}
 use Rattle.bitvec_words.specs.TouchedLaws.{touched-head, touched-parts}
+use Rattle.bitvec_words.specs.WholeLaws.{window-end}
 use Rattle.bitvec_move.specs.WithinLaws.{Writes-move_next, touched-split}
 use Rattle.bitvec_move.specs.PlaceLaws.{behind-edge, width-some}
 use Rattle.std.proofs.lemmas.Nat.{mod_below}
-use Rattle.bitvec_move.proofs.MoveLemmas.{Copies-same, after-span, end-word, head-fits, head-order, until-span}
+use Rattle.bitvec_move.proofs.MoveLemmas.{Copies-same, after-span, head-fits, head-order, until-span}
 use Rattle.bitvec_move.proofs.moving_to_start.move_to_start.Goals as goal
 
 pub returns-then-rest-gt0-clause-writes : goal.returns-then-rest-gt0-clause-writes
@@ -58,7 +59,7 @@ pub after-requires-clause-bound : goal.after-requires-clause-bound
 after-requires-clause-bound g c = head-fits _ _ c.args.to _ c.len-passed.ensures c.first_part.ensures
 
 pub after-requires-clause-end : goal.after-requires-clause-end
-after-requires-clause-end g c = end-word _ _ c.args.to c.requires.span.window
+after-requires-clause-end g c = window-end _ _ c.args.to c.requires.span.window
 
 pub after-requires-then-rest-gt0-clause-bound : goal.after-requires-then-rest-gt0-clause-bound
 after-requires-then-rest-gt0-clause-bound g c =
@@ -67,7 +68,7 @@ after-requires-then-rest-gt0-clause-bound g c =
     omega arith
 
 pub after-requires-then-rest-gt0-clause-end : goal.after-requires-then-rest-gt0-clause-end
-after-requires-then-rest-gt0-clause-end g c = end-word _ _ c.args.from c.requires.span.beside
+after-requires-then-rest-gt0-clause-end g c = window-end _ _ c.args.from c.requires.span.beside
 
 pub move_aligned_to_start-requires-clause-span : goal.move_aligned_to_start-requires-clause-span
 move_aligned_to_start-requires-clause-span g c =

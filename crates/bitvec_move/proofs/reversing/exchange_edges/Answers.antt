@@ -8,10 +8,11 @@ use Rattle.bitvec_words.specs.base.Parts.{HasPart, part_window}
 use Rattle.bitvec_words.specs.base.Window.{window_range}
 use Rattle.bitvec_words.specs.base.WritesLaws.{list-range, HasWindow-range}
 use Rattle.bitvec_words.specs.FieldLaws.{list-part, part-stored}
+use Rattle.bitvec_words.specs.WholeLaws.{window-end}
 use Rattle.bitvec_move.specs.ReversalLaws.{Writes-ends, touched-most, turned-front, turned-part}
 use Rattle.bitvec_move.specs.SettledLaws.{Writes-same, list-same}
 use Rattle.bitvec_move.specs.PlaceLaws.{width-some}
-use Rattle.bitvec_move.proofs.MoveLemmas.{end-word, place-element}
+use Rattle.bitvec_move.proofs.MoveLemmas.{place-element}
 use Rattle.bitvec_move.proofs.reversing.exchange_edges.Goals as goal
 
 pub returns-clause-writes : goal.returns-clause-writes
@@ -86,7 +87,7 @@ pub nonzero_rem-from : goal.nonzero_rem-from
 nonzero_rem-from g c = let some = width-some _ _ g.met.C.Elem.BitStore.width_law c.BITS-bits.ensures in omega arith
 
 pub range-back-requires-clause-end : goal.range-back-requires-clause-end
-range-back-requires-clause-end g c = end-word _ _ c.args.window c.requires.window
+range-back-requires-clause-end g c = window-end _ _ c.args.window c.requires.window
 
 pub field-last-requires : goal.field-last-requires
 field-last-requires g c =

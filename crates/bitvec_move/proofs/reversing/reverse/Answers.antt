@@ -7,9 +7,9 @@ use Rattle.bitvec_words.specs.base.WritesLaws.{Writes-is, Writes-start, length-l
 use Rattle.bitvec_words.specs.walk.WalkLaws.{touched-less}
 use Rattle.bitvec_move.specs.ReversalLaws.{Edits-middle, mirror-edges, reverse-edges, reverse-enough, reverse-short}
 use Rattle.bitvec_words.specs.TouchedLaws.{touched-parts, head_edge}
+use Rattle.bitvec_words.specs.WholeLaws.{window-end}
 use Rattle.bitvec_move.specs.WordLaws.{words-enough}
 use Rattle.bitvec_move.specs.PlaceLaws.{width-some}
-use Rattle.bitvec_move.proofs.MoveLemmas.{end-word}
 use Rattle.bitvec_move.proofs.reversing.reverse.Goals as goal
 
 pub returns-then-window-lt2-clause-writes : goal.returns-then-window-lt2-clause-writes
@@ -129,7 +129,7 @@ range-rest-requires-clause-order g c =
     omega arith
 
 pub range-rest-requires-clause-end : goal.range-rest-requires-clause-end
-range-rest-requires-clause-end g c = end-word _ _ c.args.window c.requires
+range-rest-requires-clause-end g c = window-end _ _ c.args.window c.requires
 
 pub reverse_words-requires-clause-window : goal.reverse_words-requires-clause-window
 reverse_words-requires-clause-window g c =

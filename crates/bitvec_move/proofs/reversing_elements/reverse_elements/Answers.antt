@@ -4,7 +4,8 @@ use Rattle.bitvec_words.specs.store.WidthLaws.{width_some}
 use Rattle.bitvec_words.specs.Elements.{elements_window}
 use Rattle.bitvec_move.specs.SettledLaws.{Writes-front_reversed}
 use Rattle.bitvec_words.specs.TouchedLaws.{touched-full, touched-more}
-use Rattle.bitvec_move.proofs.MoveLemmas.{Edits-same, HasWindow-touched, count-word, end-word, whole-some}
+use Rattle.bitvec_words.specs.WholeLaws.{window-end}
+use Rattle.bitvec_move.proofs.MoveLemmas.{Edits-same, HasWindow-touched, count-word, whole-some}
 use Rattle.bitvec_move.specs.PlaceLaws.{whole-window, width-some}
 use Rattle.bitvec_move.proofs.reversing_elements.reverse_elements.Goals as goal
 
@@ -45,7 +46,7 @@ pub tail_part-tail-requires-clause-bits : goal.tail_part-tail-requires-clause-bi
 tail_part-tail-requires-clause-bits g c = width-some _ _ g.met.C.Elem.BitStore.width_law c.BITS-bits.ensures
 
 pub tail_part-tail-requires-clause-end : goal.tail_part-tail-requires-clause-end
-tail_part-tail-requires-clause-end g c = end-word _ _ c.args.window c.requires.window
+tail_part-tail-requires-clause-end g c = window-end _ _ c.args.window c.requires.window
 
 pub reverse_whole-requires-clause-window : goal.reverse_whole-requires-clause-window
 reverse_whole-requires-clause-window g c = rw c.whole_elements-first.ensures (whole-window _ _ _ c.args.window _ g.met.C.Elem.BitStore.width_law c.BITS-bits.ensures c.requires.window c.requires.edge (omega arith))

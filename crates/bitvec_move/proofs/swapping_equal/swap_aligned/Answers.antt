@@ -2,8 +2,9 @@ use Rattle.std.proofs.Common.{arith, rules, refl}
 use Rattle.bitvec_words.specs.store.WidthLaws.{width_some}
 use Rattle.bitvec_move.specs.SwapLaws.{Swaps-joined, beside-tail}
 use Rattle.bitvec_words.specs.TouchedLaws.{touched-full, touched-more}
+use Rattle.bitvec_words.specs.WholeLaws.{window-end}
 use Rattle.bitvec_move.specs.PlaceLaws.{tail-inside, tail-part, tail-word, whole-span, width-some}
-use Rattle.bitvec_move.proofs.MoveLemmas.{Swaps-same, end-word}
+use Rattle.bitvec_move.proofs.MoveLemmas.{Swaps-same}
 use Rattle.std.proofs.lemmas.Nat.{div-add-mod'}
 use Rattle.bitvec_move.proofs.swapping_equal.swap_aligned.Goals as goal
 
@@ -73,7 +74,7 @@ pub tail_part-tail-requires-clause-bits : goal.tail_part-tail-requires-clause-bi
 tail_part-tail-requires-clause-bits g c = width-some _ _ g.met.C.Elem.BitStore.width_law c.BITS-bits.ensures
 
 pub tail_part-tail-requires-clause-end : goal.tail_part-tail-requires-clause-end
-tail_part-tail-requires-clause-end g c = end-word _ _ c.args.left_window c.requires.span.window
+tail_part-tail-requires-clause-end g c = window-end _ _ c.args.left_window c.requires.span.window
 
 pub returns-then-tail-eq0-clause-swaps : goal.returns-then-tail-eq0-clause-swaps
 returns-then-tail-eq0-clause-swaps g c =

@@ -6,8 +6,9 @@ use Rattle.bitvec_words.specs.walk.Cost.{touched_count}
 use Rattle.bitvec_words.specs.FieldLaws.{first_part-long}
 use Rattle.bitvec_move.specs.SwapLaws.{Swaps-joined, beside-head}
 use Rattle.bitvec_words.specs.TouchedLaws.{touched-head, touched-rest}
+use Rattle.bitvec_words.specs.WholeLaws.{window-end}
 use Rattle.bitvec_move.specs.PlaceLaws.{behind-edge, head-element, head-part, width-some}
-use Rattle.bitvec_move.proofs.MoveLemmas.{after-span, end-word, head-fits, head-order}
+use Rattle.bitvec_move.proofs.MoveLemmas.{after-span, head-fits, head-order}
 use Rattle.bitvec_move.proofs.swapping_equal.swap_equal.Goals as goal
 
 pub nonzero_div-right_window : goal.nonzero_div-right_window
@@ -98,7 +99,7 @@ pub after-rest-requires-clause-bound : goal.after-rest-requires-clause-bound
 after-rest-requires-clause-bound g c = head-fits _ _ c.args.left_window _ c.len-passed.ensures c.first_part-head.ensures
 
 pub after-rest-requires-clause-end : goal.after-rest-requires-clause-end
-after-rest-requires-clause-end g c = end-word _ _ c.args.left_window c.requires.span.window
+after-rest-requires-clause-end g c = window-end _ _ c.args.left_window c.requires.span.window
 
 pub after-behind-requires-clause-bound : goal.after-behind-requires-clause-bound
 after-behind-requires-clause-bound g c =
@@ -107,7 +108,7 @@ after-behind-requires-clause-bound g c =
     omega arith
 
 pub after-behind-requires-clause-end : goal.after-behind-requires-clause-end
-after-behind-requires-clause-end g c = end-word _ _ c.args.right_window c.requires.span.beside
+after-behind-requires-clause-end g c = window-end _ _ c.args.right_window c.requires.span.beside
 
 pub swap_aligned-requires-2-clause-span : goal.swap_aligned-requires-2-clause-span
 swap_aligned-requires-2-clause-span g c =

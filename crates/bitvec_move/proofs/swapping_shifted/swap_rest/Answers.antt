@@ -7,8 +7,8 @@ use Rattle.bitvec_move.specs.SwapLaws.{Swaps-joined, beside-after, beside-tail}
 use Rattle.bitvec_words.specs.TouchedLaws.{touched-first, touched-from_full, touched-from_more, touched-full, touched-more}
 use Rattle.bitvec_move.specs.WaitingLaws.{HasWindow-set, behind-element}
 use Rattle.bitvec_move.specs.PlaceLaws.{from-inside, from-word, tail-span, whole-span_from, whole-window_from, width-some}
-use Rattle.bitvec_move.proofs.MoveLemmas.{Swaps-same, end-word, place-element}
-use Rattle.bitvec_words.specs.WholeLaws.{whole_fits}
+use Rattle.bitvec_move.proofs.MoveLemmas.{Swaps-same, place-element}
+use Rattle.bitvec_words.specs.WholeLaws.{whole_fits, window-end}
 use Rattle.bitvec_move.proofs.swapping_shifted.swap_rest.Goals as goal
 
 pub nonzero_div-source : goal.nonzero_div-source
@@ -119,7 +119,7 @@ pub tail_part-tail-requires-clause-bits : goal.tail_part-tail-requires-clause-bi
 tail_part-tail-requires-clause-bits g c = width-some _ _ g.met.C.Elem.BitStore.width_law c.BITS-bits.ensures
 
 pub tail_part-tail-requires-clause-end : goal.tail_part-tail-requires-clause-end
-tail_part-tail-requires-clause-end g c = end-word _ _ c.args.left_window c.requires.skipped.span.window
+tail_part-tail-requires-clause-end g c = window-end _ _ c.args.left_window c.requires.skipped.span.window
 
 pub returns-then-tail-eq0-clause-swaps : goal.returns-then-tail-eq0-clause-swaps
 returns-then-tail-eq0-clause-swaps g c =
@@ -146,11 +146,11 @@ after-behind-requires-clause-bound g c =
     rw (c.whole_elements-first.ensures, c.BITS-bits.ensures) (omega arith)
 
 pub after-behind-requires-clause-end : goal.after-behind-requires-clause-end
-after-behind-requires-clause-end g c = end-word _ _ c.args.right_window c.requires.skipped.span.beside
+after-behind-requires-clause-end g c = window-end _ _ c.args.right_window c.requires.skipped.span.beside
 
 pub overflow_add-behind : goal.overflow_add-behind
 overflow_add-behind g c =
-    let end = end-word _ _ c.args.right_window c.requires.skipped.span.beside in
+    let end = window-end _ _ c.args.right_window c.requires.skipped.span.beside in
     let lengths = c.requires.skipped.span.lengths in
     let fits = whole_fits g.C.Elem.BitStore.BITS c.args.left_window.len (c.args.left_window.len / g.C.Elem.BitStore.BITS) (omega arith) in
     rw (c.after-behind.ensures, c.whole_elements-first.ensures, c.BITS-bits.ensures) (omega arith)

@@ -8,9 +8,10 @@ use Rattle.bitvec_words.specs.walk.Cost.{touched_count}
 use Rattle.bitvec_words.specs.FieldLaws.{first_part-long}
 use Rattle.bitvec_move.specs.SwapLaws.{Swaps-joined, beside-head, beside-parted}
 use Rattle.bitvec_words.specs.TouchedLaws.{apart_edge, inside_element, touched-first, touched-head, touched-inside, touched-rest}
+use Rattle.bitvec_words.specs.WholeLaws.{window-end}
 use Rattle.bitvec_move.specs.WithinLaws.{part-first}
 use Rattle.bitvec_move.specs.PlaceLaws.{behind-edge, head-element, head-part, width-some}
-use Rattle.bitvec_move.proofs.MoveLemmas.{end-word, head-fits, head-order, place-element}
+use Rattle.bitvec_move.proofs.MoveLemmas.{head-fits, head-order, place-element}
 use Rattle.bitvec_move.proofs.swapping_shifted.swap_shifted.Goals as goal
 
 pub nonzero_div-right_window : goal.nonzero_div-right_window
@@ -140,7 +141,7 @@ overflow_sub-right_window g c =
 
 pub overflow_add-met : goal.overflow_add-met
 overflow_add-met g c =
-    let end = end-word _ _ c.args.right_window c.requires.span.beside in
+    let end = window-end _ _ c.args.right_window c.requires.span.beside in
     rw c.until-met.ensures (omega arith)
 
 pub overflow_sub-met : goal.overflow_sub-met
@@ -154,7 +155,7 @@ pub after-rest-requires-clause-bound : goal.after-rest-requires-clause-bound
 after-rest-requires-clause-bound g c = head-fits _ _ c.args.left_window _ c.len-passed.ensures c.first_part-head.ensures
 
 pub after-rest-requires-clause-end : goal.after-rest-requires-clause-end
-after-rest-requires-clause-end g c = end-word _ _ c.args.left_window c.requires.span.window
+after-rest-requires-clause-end g c = window-end _ _ c.args.left_window c.requires.span.window
 
 pub after-behind-requires-clause-bound : goal.after-behind-requires-clause-bound
 after-behind-requires-clause-bound g c =
@@ -163,7 +164,7 @@ after-behind-requires-clause-bound g c =
     omega arith
 
 pub after-behind-requires-clause-end : goal.after-behind-requires-clause-end
-after-behind-requires-clause-end g c = end-word _ _ c.args.right_window c.requires.span.beside
+after-behind-requires-clause-end g c = window-end _ _ c.args.right_window c.requires.span.beside
 
 pub swap_rest-requires-clause-some : goal.swap_rest-requires-clause-some
 swap_rest-requires-clause-some g c =

@@ -1,11 +1,12 @@
 use Rattle.std.proofs.Common.{◌≡◌, ◌<◌, ℕ, ◌+◌, ◌-◌, arith, ap, sym, refl, ◌∙◌}
+use Rattle.bitvec_words.specs.WholeLaws.{list-empty}
 use Rattle.bitvec_words.specs.base.declared.part.Part.{Part}
 use Rattle.bitvec_words.specs.base.Parts.{first_part_of}
 use Rattle.bitvec_words.specs.store.WidthLaws.{width_some}
 use Rattle.bitvec_words.specs.walk.WalkLaws.{touched-none}
 use Rattle.bitvec_segments.specs.LoadLaws.{loaded-none}
 use Rattle.bitvec_segments.specs.Segments.{loaded}
-use Rattle.bitvec_segments.proofs.WalkLemmas.{list-empty, loaded-fits, number-joined, number-only, parts_kept, touched-first}
+use Rattle.bitvec_segments.proofs.WalkLemmas.{loaded-fits, number-joined, number-only, parts_kept, touched-first}
 use Rattle.bitvec_segments.proofs.loading.load_parts.Goals as goal
 
 pub returns-then-window-eq0-clause-value : goal.returns-then-window-eq0-clause-value

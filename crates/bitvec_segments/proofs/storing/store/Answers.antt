@@ -1,11 +1,13 @@
 use Rattle.std.proofs.Common.{◌≡◌, ◌<◌, ℕ, ◌-◌, arith, ap, sym, refl, ◌∙◌}
+use Rattle.bitvec_words.specs.TouchedLaws.{part_loads-most}
+use Rattle.bitvec_words.specs.WholeLaws.{list-empty}
 use Rattle.bitvec_words.specs.base.Parts.{first_part_of}
 use Rattle.bitvec_words.specs.base.WritesLaws.{Writes-empty, Writes-is}
 use Rattle.bitvec_words.specs.store.WidthLaws.{width_some}
 use Rattle.bitvec_words.specs.walk.WalkLaws.{first-len}
 use Rattle.bitvec_segments.specs.Segments.{stored}
 use Rattle.bitvec_segments.specs.StoreLaws.{stored-none}
-use Rattle.bitvec_segments.proofs.WalkLemmas.{edge-most, fill-two, list-empty, stored-one, touched-first}
+use Rattle.bitvec_segments.proofs.WalkLemmas.{fill-two, stored-one, touched-first}
 use Rattle.bitvec_segments.proofs.storing.store.Goals as goal
 
 pub returns-then-window-eq0-clause-writes : goal.returns-then-window-eq0-clause-writes
@@ -34,7 +36,7 @@ returns-then-window-head-clause-cost g c =
     let more : 0 < window.len = let filled = c.if-window-eq0.false in omega arith in
     let each = touched-first b window _ some more refl in
     let filled = fill-two window.len more in
-    let edge = edge-most b c.only_part.result in
+    let edge = part_loads-most b c.only_part.result in
     let cost = c.store_part_number.ensures.cost in
     let loads = cost.loads in
     let stores = cost.stores in

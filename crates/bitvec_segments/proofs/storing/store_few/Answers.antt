@@ -1,11 +1,12 @@
 use Rattle.std.proofs.Common.{◌≡◌, ℕ, ◌+◌, ◌-◌, arith, ap, sym, ◌∙◌, min}
+use Rattle.bitvec_words.specs.TouchedLaws.{part_loads-most}
 use Rattle.bitvec_words.specs.base.declared.part.Part.{Part}
 use Rattle.bitvec_words.specs.base.Memory.{HasWindow}
 use Rattle.bitvec_words.specs.base.Parts.{first_part_of}
 use Rattle.bitvec_words.specs.base.Window.{window_after}
 use Rattle.bitvec_words.specs.base.WritesLaws.{HasWindow-kept}
 use Rattle.bitvec_words.specs.store.WidthLaws.{width_some}
-use Rattle.bitvec_segments.proofs.WalkLemmas.{edge-len, edge-most, stored-joined, stored-one, touched-first, whole-none}
+use Rattle.bitvec_segments.proofs.WalkLemmas.{edge-len, stored-joined, stored-one, touched-first, whole-none}
 use Rattle.bitvec_segments.proofs.storing.store_few.Goals as goal
 
 pub returns-then-window-bits-clause-writes : goal.returns-then-window-bits-clause-writes
@@ -24,7 +25,7 @@ returns-then-window-bits-clause-cost g c =
     let b = g.C.Elem.BitStore.BITS in
     let some = width_some _ g.met.C.Elem.BitStore.width_law in
     let each = touched-first b window (min window.len b) some c.requires.some (edge-len b c.args.element window some c.requires.edge) in
-    let edge = edge-most b c.edge_part.result in
+    let edge = part_loads-most b c.edge_part.result in
     let cost = c.store_part_number.ensures.cost in
     let loads = cost.loads in
     let stores = cost.stores in
@@ -68,7 +69,7 @@ returns-clause-cost g c =
     let each = touched-first b window b some c.requires.some step in
     let last = touched-first b rest (min rest.len b) some (omega arith) left in
     let none = whole-none b c.whole_part.result (ap (λ (p : Part). p.to - p.from) part ∙ sym step) in
-    let most = edge-most b c.edge_part-2.result in
+    let most = part_loads-most b c.edge_part-2.result in
     let first = c.store_part_number-2.ensures.cost in
     let second = c.store_part_number-3.ensures.cost in
     let first_loads = first.loads in

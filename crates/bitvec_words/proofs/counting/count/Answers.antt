@@ -6,9 +6,9 @@ use Rattle.bitvec_cells.specs.Cost.{touched_count}
 use Rattle.bitvec_cells.specs.WalkLaws.{touched-none}
 use Rattle.bitvec_words.specs.FieldLaws.{first_part-long}
 use Rattle.bitvec_words.specs.TouchedLaws.{touched-head, touched-rest}
-use Rattle.bitvec_words.specs.WholeLaws.{list-empty}
+use Rattle.bitvec_words.specs.WholeLaws.{list-empty, window-end}
 use Rattle.bitvec_words.proofs.CountLemmas.{count-head, count-within}
-use Rattle.bitvec_words.proofs.PlaceLemmas.{HasPart-head, HasWindow-behind, bits-some, head-behind, head-order, head-start, head-within, window-end}
+use Rattle.bitvec_words.proofs.PlaceLemmas.{HasPart-head, HasWindow-behind, bits-some, head-behind, head-order, head-start, head-within}
 use Rattle.bitvec_words.proofs.counting.count.Goals as goal
 
 pub returns-then-window-eq0 : goal.returns-then-window-eq0

@@ -1,8 +1,9 @@
 use Rattle.std.proofs.Common.{◌%◌, ◌<◌, arith, rules}
 use Rattle.bitvec_cells.specs.store.WidthLaws.{width_some}
 use Rattle.bitvec_words.specs.TouchedLaws.{touched-full, touched-more}
+use Rattle.bitvec_words.specs.WholeLaws.{window-end}
 use Rattle.bitvec_words.proofs.CountLemmas.{count-tail, count-within}
-use Rattle.bitvec_words.proofs.PlaceLemmas.{HasPart-tail, bits-some, whole-all, window-end}
+use Rattle.bitvec_words.proofs.PlaceLemmas.{HasPart-tail, bits-some, whole-all}
 use Rattle.bitvec_words.proofs.ScanLemmas.{HasWindow-whole}
 use Rattle.bitvec_words.proofs.counting.count_aligned.Goals as goal
 

@@ -6,8 +6,9 @@ use Rattle.bitvec_cells.specs.store.WidthLaws.{width_some}
 use Rattle.bitvec_cells.specs.WalkLaws.{Walked-start, Walked-next, first-len, passed-none, touched-next, touched-none}
 use Rattle.bitvec_words.specs.Field.{padded}
 use Rattle.bitvec_words.specs.MovedLaws.{padded-none}
-use Rattle.bitvec_words.specs.FieldWalkLaws.{field-next}
-use Rattle.bitvec_words.proofs.PlaceLemmas.{HasPart-head, HasWindow-rest, bits-some, head-inside, head-order, head-some, head-within, window-end}
+use Rattle.bitvec_words.specs.FieldWalkLaws.{HasWindow-rest, field-next}
+use Rattle.bitvec_words.specs.WholeLaws.{window-end}
+use Rattle.bitvec_words.proofs.PlaceLemmas.{HasPart-head, bits-some, head-inside, head-order, head-some, head-within}
 use Rattle.bitvec_words.proofs.fields.load_field.Goals as goal
 
 pub loop-rest-init : goal.loop-rest-init

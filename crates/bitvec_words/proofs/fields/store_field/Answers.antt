@@ -5,8 +5,9 @@ use Rattle.bitvec_cells.specs.base.Parts.{first_part_of}
 use Rattle.bitvec_cells.specs.base.WritesLaws.{HasWindow-kept, Writes-is}
 use Rattle.bitvec_cells.specs.store.WidthLaws.{width_some}
 use Rattle.bitvec_cells.specs.WalkLaws.{Walked-start, Walked-next, Writes-none_passed, edge_loads-next, first-len, touched-next, touched-none}
-use Rattle.bitvec_words.specs.FieldWalkLaws.{Writes-next_field}
-use Rattle.bitvec_words.proofs.PlaceLemmas.{HasPart-head, HasWindow-rest, bits-some, head-inside, head-order, head-some, head-within, window-end}
+use Rattle.bitvec_words.specs.FieldWalkLaws.{HasWindow-rest, Writes-next_field}
+use Rattle.bitvec_words.specs.WholeLaws.{window-end}
+use Rattle.bitvec_words.proofs.PlaceLemmas.{HasPart-head, bits-some, head-inside, head-order, head-some, head-within}
 use Rattle.bitvec_words.proofs.fields.store_field.Goals as goal
 
 pub loop-rest-init : goal.loop-rest-init

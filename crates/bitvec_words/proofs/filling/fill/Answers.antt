@@ -7,7 +7,8 @@ use Rattle.bitvec_cells.specs.WalkLaws.{touched-none}
 use Rattle.bitvec_words.specs.FieldLaws.{Writes-head}
 use Rattle.bitvec_words.specs.FillingLaws.{fill_loads-some, replicate-is, replicate-parts}
 use Rattle.bitvec_words.specs.TouchedLaws.{part_loads-most}
-use Rattle.bitvec_words.proofs.PlaceLemmas.{HasPart-head, HasWindow-behind, bits-some, head-all, head-behind, head-order, head-parts, head-rest, head-start, head-within, window-end}
+use Rattle.bitvec_words.specs.WholeLaws.{window-end}
+use Rattle.bitvec_words.proofs.PlaceLemmas.{HasPart-head, HasWindow-behind, bits-some, head-all, head-behind, head-order, head-parts, head-rest, head-start, head-within}
 use Rattle.bitvec_words.proofs.CostLemmas.{fill-head, fill-part, loads-head, loads-part, stores-sum}
 use Rattle.bitvec_words.proofs.filling.fill.Goals as goal
 

@@ -5,7 +5,8 @@ use Rattle.bitvec_cells.specs.base.WritesLaws.{HasWindow-kept, Writes-is}
 use Rattle.bitvec_words.specs.FieldLaws.{Writes-tail}
 use Rattle.bitvec_words.specs.FillingLaws.{replicate-parts}
 use Rattle.bitvec_words.specs.TouchedLaws.{part_loads-most, touched-full, touched-more}
-use Rattle.bitvec_words.proofs.PlaceLemmas.{HasPart-tail, bits-some, whole-all, window-end}
+use Rattle.bitvec_words.specs.WholeLaws.{window-end}
+use Rattle.bitvec_words.proofs.PlaceLemmas.{HasPart-tail, bits-some, whole-all}
 use Rattle.bitvec_words.proofs.ScanLemmas.{HasWindow-whole}
 use Rattle.bitvec_words.proofs.CostLemmas.{fill-tail, fill-whole, loads-tail, stores-sum}
 use Rattle.bitvec_words.proofs.filling.fill_aligned.Goals as goal

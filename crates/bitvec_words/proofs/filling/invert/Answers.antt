@@ -5,8 +5,8 @@ use Rattle.bitvec_cells.specs.base.WritesLaws.{HasWindow-kept, Writes-empty, Wri
 use Rattle.bitvec_cells.specs.store.WidthLaws.{width_some}
 use Rattle.bitvec_cells.specs.WalkLaws.{touched-none}
 use Rattle.bitvec_words.specs.FillingLaws.{Writes-flipped_head}
-use Rattle.bitvec_words.specs.WholeLaws.{list-empty}
-use Rattle.bitvec_words.proofs.PlaceLemmas.{HasPart-head, HasWindow-behind, bits-some, head-all, head-behind, head-order, head-rest, head-start, head-within, window-end}
+use Rattle.bitvec_words.specs.WholeLaws.{list-empty, window-end}
+use Rattle.bitvec_words.proofs.PlaceLemmas.{HasPart-head, HasWindow-behind, bits-some, head-all, head-behind, head-order, head-rest, head-start, head-within}
 use Rattle.bitvec_words.proofs.CostLemmas.{stores-sum}
 use Rattle.bitvec_words.proofs.filling.invert.Goals as goal
 

@@ -5,7 +5,9 @@ use Rattle.bitvec_cells.specs.base.Parts.{first_part_of}
 use Rattle.bitvec_cells.specs.store.WidthLaws.{width_some}
 use Rattle.bitvec_cells.specs.WalkLaws.{first-len}
 use Rattle.bitvec_words.specs.Front.{front_window}
-use Rattle.bitvec_words.proofs.FrontLemmas.{part-front, touched-part, touched-word, word-front, written-padded}
+use Rattle.bitvec_words.specs.MovedLaws.{written-padded}
+use Rattle.bitvec_words.specs.TouchedLaws.{touched-word}
+use Rattle.bitvec_words.proofs.FrontLemmas.{part-front, touched-part, word-front}
 use Rattle.bitvec_words.proofs.PlaceLemmas.{HasPart-head, HasWindow-front, HasWindow-word, bits-some, head-inside, head-order, head-within}
 use Rattle.bitvec_words.proofs.fronts.words_load_front.Goals as goal
 

@@ -2,8 +2,8 @@ use Rattle.std.proofs.Common.{arith, rules, refl}
 use Rattle.std.proofs.lemmas.Nat.{mod_below}
 use Rattle.bitvec_cells.specs.store.WidthLaws.{width_some}
 use Rattle.bitvec_words.specs.FieldLaws.{list-across, list-front}
-use Rattle.bitvec_words.specs.TouchedLaws.{touched-one, touched-two}
-use Rattle.bitvec_words.proofs.PlaceLemmas.{bits-some, index-below, index-within, last-first, last-next, next-inside}
+use Rattle.bitvec_words.specs.TouchedLaws.{last-first, last-next, next-inside, touched-one, touched-two}
+use Rattle.bitvec_words.proofs.PlaceLemmas.{bits-some, index-below, index-within}
 use Rattle.std.proofs.Math.Nat.{div-le_self}
 use Rattle.bitvec_words.proofs.part.field_after.Goals as goal
 

@@ -8,9 +8,9 @@ use Rattle.bitvec_cells.specs.store.WidthLaws.{width_some}
 use Rattle.bitvec_cells.specs.WalkLaws.{first-len}
 use Rattle.bitvec_words.specs.FieldLaws.{first_part-long, list-head}
 use Rattle.bitvec_words.specs.TouchedLaws.{touched-first, touched-rest}
-use Rattle.bitvec_words.specs.WholeLaws.{list-empty}
+use Rattle.bitvec_words.specs.WholeLaws.{list-empty, window-end}
 use Rattle.bitvec_words.proofs.ScanLemmas.{HasWindow-after, HasWindow-head, first-behind, first-front, first-inside, first-lacks, touched-behind_head}
-use Rattle.bitvec_words.proofs.PlaceLemmas.{HasPart-head, HasWindow-behind, bits-some, head-behind, head-order, head-start, head-within, window-end}
+use Rattle.bitvec_words.proofs.PlaceLemmas.{HasPart-head, HasWindow-behind, bits-some, head-behind, head-order, head-start, head-within}
 use Rattle.bitvec_words.proofs.CostLemmas.{reads-head}
 use Rattle.bitvec_words.proofs.scanning.bits_scan_first.Goals as goal
 

@@ -7,9 +7,9 @@ use Rattle.bitvec_cells.specs.base.WritesLaws.{length-list}
 use Rattle.bitvec_cells.specs.store.WidthLaws.{width_some}
 use Rattle.bitvec_cells.specs.WalkLaws.{first-len}
 use Rattle.bitvec_words.specs.FieldLaws.{first_part-long, list-head}
-use Rattle.bitvec_words.specs.WholeLaws.{list-empty}
+use Rattle.bitvec_words.specs.WholeLaws.{list-empty, window-end}
 use Rattle.bitvec_words.proofs.ScanLemmas.{HasWindow-after, HasWindow-head, last-behind, last-front, last-inside, last_loads-head, last_loads-some}
-use Rattle.bitvec_words.proofs.PlaceLemmas.{HasPart-head, HasWindow-behind, bits-some, head-behind, head-order, head-start, head-within, window-end}
+use Rattle.bitvec_words.proofs.PlaceLemmas.{HasPart-head, HasWindow-behind, bits-some, head-behind, head-order, head-start, head-within}
 use Rattle.bitvec_words.proofs.scanning.bits_scan_last.Goals as goal
 
 pub returns-then-window-eq0-clause-value : goal.returns-then-window-eq0-clause-value

@@ -5,8 +5,9 @@ use Rattle.bitvec_cells.specs.store.WidthLaws.{width_some}
 use Rattle.bitvec_cells.specs.base.WritesLaws.{length-list}
 use Rattle.bitvec_words.specs.FieldLaws.{list-tail}
 use Rattle.bitvec_words.specs.TouchedLaws.{touched-more, touched-whole}
+use Rattle.bitvec_words.specs.WholeLaws.{window-end}
 use Rattle.bitvec_words.proofs.ScanLemmas.{HasWindow-tail, HasWindow-whole, first-behind, first-front, first-inside, first-lacks, touched-behind_whole}
-use Rattle.bitvec_words.proofs.PlaceLemmas.{HasPart-tail, bits-some, whole-all, window-end}
+use Rattle.bitvec_words.proofs.PlaceLemmas.{HasPart-tail, bits-some, whole-all}
 use Rattle.bitvec_words.proofs.scanning.first_aligned.Goals as goal
 
 pub returns-in-Some-clause-value : goal.returns-in-Some-clause-value

@@ -5,8 +5,9 @@ use Rattle.bitvec_cells.specs.store.WidthLaws.{width_some}
 use Rattle.bitvec_cells.specs.base.WritesLaws.{length-list}
 use Rattle.bitvec_words.specs.FieldLaws.{list-tail}
 use Rattle.bitvec_words.specs.TouchedLaws.{touched-first}
+use Rattle.bitvec_words.specs.WholeLaws.{window-end}
 use Rattle.bitvec_words.proofs.ScanLemmas.{HasWindow-tail, HasWindow-whole, last-behind, last-front, last-inside, last_loads-tail}
-use Rattle.bitvec_words.proofs.PlaceLemmas.{HasPart-tail, bits-some, whole-all, window-end}
+use Rattle.bitvec_words.proofs.PlaceLemmas.{HasPart-tail, bits-some, whole-all}
 use Rattle.bitvec_words.proofs.scanning.last_aligned.Goals as goal
 
 pub overflow_add-result : goal.overflow_add-result

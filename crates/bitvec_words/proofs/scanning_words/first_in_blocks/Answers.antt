@@ -6,7 +6,7 @@ use Rattle.bitvec_cells.specs.base.PlacesLaws.{first_place-nil}
 use Rattle.bitvec_words.specs.Elements.{elements_window}
 use Rattle.bitvec_words.specs.WholeLaws.{list-empty}
 use Rattle.bitvec_words.proofs.ScanLemmas.{first-inside}
-use Rattle.bitvec_words.proofs.WordScanLemmas.{HasWindow-elements, blocks-few, elements-bound, first-block_has, first-block_lacks}
+use Rattle.bitvec_words.proofs.WordScanLemmas.{HasWindow-elements, block_whole, blocks-few, elements-bound, first-block_has, first-block_lacks}
 use Rattle.bitvec_words.proofs.PlaceLemmas.{bits-some}
 use Rattle.bitvec_words.proofs.scanning_words.first_in_blocks.Goals as goal
 
@@ -18,25 +18,27 @@ loop-step-init g c = record {
 
 pub loop-step-preserved : goal.loop-step-preserved
 loop-step-preserved g c =
+    let b = g.C.Elem.BitStore.BITS in
     let inv = c.loop-step.invariant in
     let here = rw (c.BITS.ensures, inv.reads.numbers) at c.in_default.ensures.value in
     record {
-      none = first-block_lacks g.C.Elem.BitStore.BITS g.O.BitOrder.at _ c.args.first c.args.count _ g.met.C.Elem.BitStore.width_law c.requires c.args.want c.loop-step-test.true inv.none here;
+      none = first-block_lacks b g.O.BitOrder.at _ c.args.first c.args.count _ (256 / b) 256 (block_whole b g.met.C.Elem.BitStore.width_law) c.requires c.loop-step-test.true c.args.want inv.none here;
       reads = search rules;
     }
 
 pub returns-in-Some-clause-value : goal.returns-in-Some-clause-value
 returns-in-Some-clause-value g c =
+    let b = g.C.Elem.BitStore.BITS in
     let inv = c.loop-step.invariant in
     let here = rw (c.BITS.ensures, inv.reads.numbers) at c.in-Some.ensures.value in
-    first-block_has g.C.Elem.BitStore.BITS g.O.BitOrder.at _ c.args.first c.args.count _ g.met.C.Elem.BitStore.width_law c.requires c.args.want c.loop-step-test.true inv.none _ here
+    first-block_has b g.O.BitOrder.at _ c.args.first c.args.count _ (256 / b) 256 (block_whole b g.met.C.Elem.BitStore.width_law) c.requires c.loop-step-test.true c.args.want inv.none _ here
 
 pub overflow_add-result : goal.overflow_add-result
 overflow_add-result g c =
     let b = g.C.Elem.BitStore.BITS in
     let inv = c.loop-step.invariant in
     let here = rw (c.BITS.ensures, inv.reads.numbers) at c.in-Some.ensures.value in
-    let found = first-block_has b g.O.BitOrder.at _ c.args.first c.args.count _ g.met.C.Elem.BitStore.width_law c.requires c.args.want c.loop-step-test.true inv.none _ here in
+    let found = first-block_has b g.O.BitOrder.at _ c.args.first c.args.count _ (256 / b) 256 (block_whole b g.met.C.Elem.BitStore.width_law) c.requires c.loop-step-test.true c.args.want inv.none _ here in
     let below = first-inside b g.O.BitOrder.at _ (elements_window b c.args.first (c.args.count * (256 / b))) c.args.want _ c.requires found in
     let fits = c.requires.fits in
     let bound = c.requires.within.len in
@@ -66,7 +68,10 @@ pub nonzero_div-elements : goal.nonzero_div-elements
 nonzero_div-elements g c = bits-some _ _ g.met.C.Elem.BitStore.width_law c.BITS.ensures
 
 pub overflow_mul-result : goal.overflow_mul-result
-overflow_mul-result g c = let few = blocks-few _ _ _ _ _ g.met.C.Elem.BitStore.width_law c.requires c.loop-step-test.true in omega arith
+overflow_mul-result g c =
+    let b = g.C.Elem.BitStore.BITS in
+    let few = blocks-few b g.O.BitOrder.at _ c.args.first c.args.count _ (256 / b) 256 (block_whole b g.met.C.Elem.BitStore.width_law) c.requires c.loop-step-test.true in
+    omega arith
 
 pub returns-in-Some-clause-reads : goal.returns-in-Some-clause-reads
 returns-in-Some-clause-reads g c =

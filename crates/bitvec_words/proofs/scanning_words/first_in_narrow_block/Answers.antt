@@ -1,7 +1,7 @@
-use Rattle.std.proofs.Common.{◌+◌, ◌*◌, ◌/◌, arith, ◌∙◌}
+use Rattle.std.proofs.Common.{◌+◌, ◌*◌, ◌/◌, arith, sym, ◌∙◌}
 use Rattle.bitvec_cells.specs.store.WidthLaws.{width_some}
 use Rattle.bitvec_words.proofs.OrderedLemmas.{block-found, block-lacks}
-use Rattle.bitvec_words.proofs.WordScanLemmas.{HasWindow-elements, block_words, elements-bound}
+use Rattle.bitvec_words.proofs.WordScanLemmas.{HasWindow-elements, block_words, elements-bound, none_from}
 use Rattle.bitvec_words.proofs.PlaceLemmas.{bits-some}
 use Rattle.std.proofs.Math.Nat.{div-le_self}
 use Rattle.bitvec_words.proofs.scanning_words.first_in_narrow_block.Goals as goal
@@ -17,7 +17,7 @@ returns-then-lack-clause-value g c =
     (rw (c.BITS.ensures, first) at c.load_elements-two.ensures.value)
     (rw (c.BITS.ensures, second) at c.load_elements-three.ensures.value)
     (rw (c.BITS.ensures, c.load_elements-three.ensures.reads.numbers ∙ second) at c.load_elements-four.ensures.value)
-    (c.lack.ensures c.if-lack.true)
+    (none_from _ (sym c.if-lack.true ∙ c.lack.ensures))
 
 pub returns-clause-value : goal.returns-clause-value
 returns-clause-value g c =
