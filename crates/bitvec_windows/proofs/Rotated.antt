@@ -1,13 +1,16 @@
 -- Rotations by exchanges of blocks, and by values that are held aside.
-use Rattle.std.specs.Prelude.{◌≡◌, ℕ, ◌+◌, ◌-◌, ◌≤◌, Bool, List, ◌++◌, take, drop, length, slice_range}
+use Rattle.std.specs.Prelude.{◌≡◌, ℕ, ◌+◌, ◌-◌, ◌≤◌, Bool, false, List, ◌++◌, bit_or, take, drop, length, replicate, slice_range}
 use Rattle.std.proofs.Common.{arith, rules, ap, sym, ◌∙◌, length-take}
 use Rattle.std.proofs.lemmas.List.{places, same_lists}
 use Rattle.bitvec_engine.specs.base.Lists.{copied_within, rotated_left}
-use Rattle.bitvec_engine.specs.base.Memory.{Edits, HasWindow, Writes, list_in}
+use Rattle.bitvec_engine.specs.base.MemoryLaws.{length-element_bits}
+use Rattle.bitvec_engine.specs.base.Memory.{Edits, HasWindow, Writes, element_bits, list_in}
 use Rattle.bitvec_engine.specs.base.Window.{window_after, window_range, write_at}
 use Rattle.bitvec_engine.specs.base.WriteLaws.{length-slice_range}
 use Rattle.bitvec_engine.specs.base.WritesLaws.{HasWindow-kept, Writes-holds, Writes-is, Writes-next, Writes-range, Writes-then, list-after, list-range}
 use Rattle.bitvec_engine.specs.base.declared.window.Window.{Window}
+use Rattle.bitvec_engine.specs.words.Field.{padded}
+use Rattle.bitvec_engine.specs.words.MovedLaws.{element-joined, written-padded}
 use Rattle.bitvec_windows.specs.Swaps.{swapped_within}
 use Rattle.bitvec_windows.proofs.Swapped.{swapped-by}
 
@@ -94,3 +97,18 @@ Writes-behind b at old mid new window d k list has inside before turned same =
     let kept = HasWindow-kept b old mid window has before.elements in
     let part = rw (list-after b at mid window d kept inside) at turned in
     Writes-is b at old new window _ list (Writes-then b at old mid new window _ _ has before (Writes-range b at mid new window d window.len _ kept inside (omega arith) part)) same
+
+-- a word that has the first n bits of another from the k-th on, and one that has those before it behind as many, make one with these bits rotated
+pub rotated-word : (at : ℕ → ℕ → ℕ) (word first last n k : ℕ) → k ≤ n → n ≤ 64
+    → element_bits 64 at first ≡ write_at (replicate 64 false) 0 (slice_range (element_bits 64 at word) k (k + (n - k)))
+    → element_bits 64 at last ≡ write_at (replicate 64 false) (n - k) (slice_range (element_bits 64 at word) 0 (0 + k))
+    → element_bits 64 at (bit_or first last) ≡ padded 64 (rotated_left k (take n (element_bits 64 at word)))
+unfolding rotated_left
+rotated-word at word first last n k order bound begin end =
+    let bits = element_bits 64 at word in
+    let all = length-element_bits 64 at word in
+    let front = length-slice_range bits k (k + (n - k)) (omega arith) in
+    let back = length-slice_range bits 0 (0 + k) (omega arith) in
+    element-joined 64 at first last (n - k) (slice_range bits k (k + (n - k))) (slice_range bits 0 (0 + k)) (omega arith) (omega arith)
+    (begin ∙ written-padded 64 (slice_range bits k (k + (n - k))) (omega arith)) end
+    ∙ ap (padded 64) (same_lists _ _ (search (rules, places)) (λ i e inside. grind (arith, places)))

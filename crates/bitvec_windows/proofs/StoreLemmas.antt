@@ -59,7 +59,7 @@ pub loaded-range : (b : ℕ) (at way : ℕ → ℕ → ℕ) (xs : List ℕ) (win
 loaded-range b at way xs window part from to word is loaded = rw is at loaded
 
 -- the first bits of the few elements that are held aside
-pub held-inside : (b : ℕ) (xs : List ℕ) (n count : ℕ) → IsWidth b → length xs ≡ n → n ≤ 16 → count ≤ b * n → HasWindow b xs (record { start = 0; len = count })
+pub held-inside : (b : ℕ) (xs : List ℕ) (n count : ℕ) → IsWidth b → length xs ≡ n → n ≤ 128 → count ≤ b * n → HasWindow b xs (record { start = 0; len = count })
 held-inside b xs n count width long few fits =
     let most : b ≤ 128 = at_each_width (λ m. m ≤ 128) (omega arith) (omega arith) (omega arith) (omega arith) (omega arith) b width in
     let room = mul-le-mul_left b few in

@@ -1,5 +1,4 @@
 use Rattle.std.proofs.Common.{◌≡◌, ◌+◌, ◌≤◌, length, map, arith, rules, sym, ◌∙◌, refl}
-use Rattle.std.proofs.lemmas.List.{length-map}
 use Rattle.bitvec_engine.specs.base.Memory.{list_in}
 use Rattle.bitvec_engine.specs.base.WritesLaws.{HasWindow-kept, HasWindow-range, Writes-holds, Writes-is, Writes-nothing, Writes-then, length-list}
 use Rattle.bitvec_windows.specs.Swaps.{swapped_within}
@@ -15,7 +14,6 @@ loop-count-init g c =
     record {
       within = let fits = c.requires.bound in omega arith;
       shorter = let count = c.min-count.ensures in omega arith;
-      many = c.requires.many;
       writes = Writes-nothing b at now now c.args.window c.requires.window refl;
       rotated = behind-none (list_in b at now c.args.window) c.args.by;
     }
@@ -93,7 +91,6 @@ loop-count-preserved g c =
     record {
       within = rest;
       shorter = c.min-count-in-loop-count.ensures;
-      many = let long = inv.many in let kept : length new ≡ length now = swapped.elements in let first = length-map c.swap_ranges.new.cells value in let second = length-map c.loop-count.cells value in omega arith;
       writes = Writes-is b at before new window _ _ (Writes-then b at before now new window _ _ c.requires.window inv.writes swapped) (sym holds);
       rotated = rw holds (same ∙ inv.rotated);
     }
@@ -119,13 +116,18 @@ rotate_back-requires-clause-window g c =
 pub rotate_back-requires-clause-bound : goal.rotate_back-requires-clause-bound
 rotate_back-requires-clause-bound g c = let within = c.loop-count.invariant.within in rw c.after-rest.ensures (omega arith)
 
-pub rotate_back-requires-clause-few : goal.rotate_back-requires-clause-few
-rotate_back-requires-clause-few g c =
+pub rotate_back-requires-clause-room : goal.rotate_back-requires-clause-room
+rotate_back-requires-clause-room g c =
     let shorter = c.loop-count.invariant.shorter in
-    let few = c.loop-count-test.false in
+    let few = rw c.BITS.ensures at c.loop-count-test.false in
     let other = c.if-count-left-2.false in
-    let is = c.BITS.ensures in
     rw c.after-rest.ensures (omega arith)
+
+pub rotate_front-requires-clause-room : goal.rotate_front-requires-clause-room
+rotate_front-requires-clause-room g c =
+    let few = rw c.BITS.ensures at c.loop-count-test.false in
+    let is = c.if-count-left-2.true in
+    omega arith
 
 pub returns-then-count-left-2 : goal.returns-then-count-left-2
 returns-then-count-left-2 g c =

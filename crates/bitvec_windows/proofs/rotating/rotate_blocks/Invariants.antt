@@ -1,4 +1,4 @@
-use Rattle.std.proofs.Common.{◌≡◌, ◌+◌, ◌-◌, ◌≤◌, length, map, min}
+use Rattle.std.proofs.Common.{◌≡◌, ◌+◌, ◌-◌, ◌≤◌, map, min}
 use Rattle.bitvec_engine.specs.base.Lists.{rotated_left}
 use Rattle.bitvec_engine.specs.base.Memory.{Writes, list_in}
 use Rattle.bitvec_windows.proofs.Rotated.{rotated_behind}
@@ -13,7 +13,6 @@ invariant-loop-count g l =
     record {
       within : l.done + l.left ≤ l.window.len;
       shorter : l.count ≡ min l.left (l.window.len - l.done - l.left);
-      many : 16 ≤ length l.cells;
       writes : Writes b at before now l.window (list_in b at now l.window);
       rotated : rotated_behind l.done l.left (list_in b at now l.window) ≡ rotated_left l.by (list_in b at before l.window);
     }

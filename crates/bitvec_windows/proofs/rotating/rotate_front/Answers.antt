@@ -1,4 +1,5 @@
-use Rattle.std.proofs.Common.{◌-◌, arith, refl, rules, sym, map}
+use Rattle.std.proofs.Common.{◌-◌, ◌∙◌, arith, sym, map}
+use Rattle.std.proofs.lemmas.List.{length-map}
 use Rattle.bitvec_engine.specs.base.Memory.{list_in}
 use Rattle.bitvec_engine.specs.base.WritesLaws.{Writes-start, length-list}
 use Rattle.bitvec_windows.proofs.Rotated.{Writes-aside, front-held, rotated-none}
@@ -9,7 +10,7 @@ pub returns-then-by-eq0 : goal.returns-then-by-eq0
 returns-then-by-eq0 g c = record { writes = Writes-start c.requires.window (rw c.if-by-eq0.true (rotated-none _)) }
 
 pub copy_blocks_in-requires-clause-window : goal.copy_blocks_in-requires-clause-window
-copy_blocks_in-requires-clause-window g c = held-inside _ _ 16 _ g.met.T.BitStore.width_law refl (omega arith) (omega arith)
+copy_blocks_in-requires-clause-window g c = held-inside _ _ _ _ g.met.T.BitStore.width_law (length-map c.args.held.now g.T.BitStore.value) (omega arith) (omega arith)
 
 pub copy_blocks_in-requires-clause-right_window : goal.copy_blocks_in-requires-clause-right_window
 copy_blocks_in-requires-clause-right_window g c = range-inside _ _ c.args.window _ _ _ c.requires.window c.range.ensures (omega arith) (omega arith)
@@ -21,7 +22,8 @@ pub copy_blocks_in-requires-2-clause-window : goal.copy_blocks_in-requires-2-cla
 copy_blocks_in-requires-2-clause-window g c = range-kept _ _ _ c.args.window _ _ _ c.requires.window c.copy_within_in.ensures.writes.elements c.range-behind.ensures (omega arith) (omega arith)
 
 pub copy_blocks_in-requires-2-clause-right_window : goal.copy_blocks_in-requires-2-clause-right_window
-copy_blocks_in-requires-2-clause-right_window g c = held-inside _ _ 16 _ g.met.T.BitStore.width_law c.copy_blocks_in.ensures.writes.elements (omega arith) (omega arith)
+copy_blocks_in-requires-2-clause-right_window g c = let long = length-map c.args.held.now g.T.BitStore.value in
+    held-inside _ _ _ _ g.met.T.BitStore.width_law (c.copy_blocks_in.ensures.writes.elements ∙ long) (omega arith) (omega arith)
 
 pub returns : goal.returns
 returns g c =
@@ -31,7 +33,7 @@ returns g c =
     let by = c.args.by in
     let fits = c.requires.bound in
     record {
-      writes = Writes-aside _ _ _ _ _ _ _ c.args.window _ 0 by (len - by) len _ _ c.requires.window (search rules) (omega arith) fits (omega arith) (omega arith)
+      writes = Writes-aside _ _ _ _ _ _ _ c.args.window _ 0 by (len - by) len _ _ c.requires.window (held-inside _ _ _ _ g.met.T.BitStore.width_law (length-map c.args.held.now g.T.BitStore.value) (omega arith) (omega arith)) (omega arith) fits (omega arith) (omega arith)
           (rw c.range.ensures at c.copy_blocks_in.ensures.writes) c.copy_within_in.ensures.writes (rw c.range-behind.ensures at c.copy_blocks_in-2.ensures.writes)
           (front-held list by len (sym long) fits);
     }

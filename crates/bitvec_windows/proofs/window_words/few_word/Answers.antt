@@ -1,4 +1,3 @@
-use Rattle.std.proofs.Common.{arith}
 use Rattle.bitvec_engine.proofs.FewLemmas.{padded-field}
 use Rattle.bitvec_windows.proofs.window_words.few_word.Goals as goal
 

@@ -1,0 +1,8 @@
+use Rattle.std.proofs.Common.{◌∙◌, ap, arith, rules, sym}
+use Rattle.bitvec_windows.specs.base.Memory.{element_bits}
+use Rattle.bitvec_windows.specs.words.Field.{padded}
+use Rattle.bitvec_windows.proofs.Rotated.{rotated-word}
+use Rattle.bitvec_windows.proofs.rotating.rotated_word.Goals as goal
+
+pub returns : goal.returns
+returns g c = rotated-word g.W.BitOrder.at c.args.word _ _ c.args.len c.args.by (omega arith) (omega arith) c.moved-first.ensures c.moved-last.ensures
