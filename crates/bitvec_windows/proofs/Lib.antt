@@ -1,6 +1,7 @@
 mod CandidateLemmas
 mod DifferenceLemmas
 mod ElementLemmas
+mod FewLemmas
 pub mod Edges
 pub mod Rotated
 mod StandingLemmas

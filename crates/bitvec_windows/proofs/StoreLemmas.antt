@@ -190,3 +190,13 @@ pub stretch-turned : (b : ℕ) (at other : ℕ → ℕ → ℕ) (old mid now new
     → Writes b at old mid (until window from) (take from list) → Writes b at now new part (take part.len (element_bits 64 at made)) → Writes b at old new (until window to) (take to list)
 stretch-turned b at other old mid now new window part list from to word made has order bound long is same loaded turned before after =
     stretch-stored b at old mid now new window part list (element_bits 64 at made) from to has order bound long is same (stored-stretch other at list from to (to - from) word made order (omega arith) refl loaded turned) before after
+
+-- a window of at most 64 bits gets an edit of its list, as the first bits of a word
+pub few-edited : (b : ℕ) (at : ℕ → ℕ → ℕ) (old new : List ℕ) (window : Window) (edit : List Bool → List Bool) (bits turned : List Bool) → HasWindow b old window
+    → bits ≡ padded 64 (list_in b at old window) → turned ≡ padded 64 (edit (take window.len bits)) → length (edit (list_in b at old window)) ≡ window.len
+    → Writes b at old new window (take window.len turned) → Edits b at old new window edit
+few-edited b at old new window edit bits turned has word edited long writes =
+    let list = list_in b at old window in
+    let whole = length-list b at old window has in
+    let same = take-field 64 window.len bits list word (sym whole) in
+    Writes-is b at old new window _ (edit list) writes (take-field 64 window.len turned (edit list) (edited ∙ ap (λ (l : List Bool). padded 64 (edit l)) same) (sym long))

@@ -1,18 +1,41 @@
 //! The bits of a window of a slice of elements in the opposite order.
-ghost use Rattle.std.specs.Prelude.{map, reverse as reversed};
+ghost use Rattle.std.specs.Prelude.{◌≤◌, map, reverse as reversal};
 ghost use Rattle.bitvec_engine.specs.base.Memory.{Edits, HasWindow};
 
-use bitvec_engine::base::Window;
+use crate::window_words::few_word;
+use bitvec_engine::base::{Lsb0, Msb0, Window};
 use bitvec_engine::cells::Exclusive;
 use bitvec_engine::store::BitStore;
-use bitvec_engine::{SliceOrder, reverse};
+use bitvec_engine::words::{WORD_BITS, WordOrder, moved, reversed};
+use bitvec_engine::{Direction, SliceOrder, direction_of, reverse, store_few};
 
 /// Reverses the bits of a window, as the order does it. Condition: the memory has at most
-/// `MAX_BITS` bits, and the window lies in it.
+/// `MAX_BITS` bits, and the window lies in it. At most 64 bits are reversed as a word, under an order that
+/// runs from one end of an element to the other.
 pub fn reverse_in<T: BitStore, O: SliceOrder>(cells: &mut [T], window: Window)
     requires window { HasWindow T.BITS (map T.value cells.old) window }
-    ensures writes { Edits T.BITS O.at (map T.value cells.old) (map T.value cells.new) window reversed }
+    ensures writes { Edits T.BITS O.at (map T.value cells.old) (map T.value cells.new) window reversal }
 {
+    if window.len <= WORD_BITS {
+        match direction_of::<O, T>() {
+            Direction::Up => return reverse_few::<Lsb0, T>(cells, window),
+            Direction::Down => return reverse_few::<Msb0, T>(cells, window),
+            Direction::Other => {}
+        }
+    }
     let mut accessor = Exclusive::new(cells);
     reverse::<O, Exclusive<T>>(&mut accessor, window);
+}
+
+/// [`reverse_in`] of at most 64 bits, as a word.
+fn reverse_few<W: WordOrder, T: BitStore>(cells: &mut [T], window: Window)
+    requires window { HasWindow T.BITS (map T.value cells.old) window }
+    requires few { window.len ≤ 64 }
+    ensures writes { Edits T.BITS W.at (map T.value cells.old) (map T.value cells.new) window reversal }
+{
+    let word = reversed::<W, u64>(few_word::<W, T>(&*cells, window));
+    // the bits of the window are the last ones now
+    let turned = moved::<W, u64, u64>(word, WORD_BITS - window.len, window.len, 0);
+    let mut accessor = Exclusive::new(cells);
+    store_few::<W, Exclusive<T>>(&mut accessor, window, turned);
 }

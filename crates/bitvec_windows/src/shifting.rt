@@ -3,19 +3,29 @@ ghost use Rattle.std.specs.Prelude.{◌≤◌, map};
 ghost use Rattle.bitvec_engine.specs.base.Lists.{shifted_end, shifted_start};
 ghost use Rattle.bitvec_engine.specs.base.Memory.{Edits, HasWindow};
 
-use bitvec_engine::base::Window;
+use crate::window_words::few_word;
+use bitvec_engine::base::{Lsb0, Msb0, Window};
 use bitvec_engine::cells::Exclusive;
 use bitvec_engine::store::BitStore;
-use bitvec_engine::{SliceOrder, shift_end, shift_start};
+use bitvec_engine::words::{WORD_BITS, WordOrder, moved};
+use bitvec_engine::{Direction, SliceOrder, direction_of, shift_end, shift_start, store_few};
 
 /// Shifts the bits of a window towards its start: as many zeros as were lost follow the others.
 /// Condition: the memory has at most `MAX_BITS` bits, the window lies in it, and `by` is at most
-/// the window's length.
+/// the window's length. At most 64 bits are shifted as a word, under an order that runs from one end of an
+/// element to the other.
 pub fn shift_start_in<T: BitStore, O: SliceOrder>(cells: &mut [T], window: Window, by: usize)
     requires window { HasWindow T.BITS (map T.value cells.old) window }
     requires bound { by ≤ window.len }
     ensures writes { Edits T.BITS O.at (map T.value cells.old) (map T.value cells.new) window (shifted_start by) }
 {
+    if window.len <= WORD_BITS {
+        match direction_of::<O, T>() {
+            Direction::Up => return shift_start_few::<Lsb0, T>(cells, window, by),
+            Direction::Down => return shift_start_few::<Msb0, T>(cells, window, by),
+            Direction::Other => {}
+        }
+    }
     let mut accessor = Exclusive::new(cells);
     shift_start::<O, Exclusive<T>>(&mut accessor, window, by);
 }
@@ -27,6 +37,39 @@ pub fn shift_end_in<T: BitStore, O: SliceOrder>(cells: &mut [T], window: Window,
     requires bound { by ≤ window.len }
     ensures writes { Edits T.BITS O.at (map T.value cells.old) (map T.value cells.new) window (shifted_end by) }
 {
+    if window.len <= WORD_BITS {
+        match direction_of::<O, T>() {
+            Direction::Up => return shift_end_few::<Lsb0, T>(cells, window, by),
+            Direction::Down => return shift_end_few::<Msb0, T>(cells, window, by),
+            Direction::Other => {}
+        }
+    }
     let mut accessor = Exclusive::new(cells);
     shift_end::<O, Exclusive<T>>(&mut accessor, window, by);
+}
+
+/// [`shift_start_in`] of at most 64 bits, as a word.
+fn shift_start_few<W: WordOrder, T: BitStore>(cells: &mut [T], window: Window, by: usize)
+    requires window { HasWindow T.BITS (map T.value cells.old) window }
+    requires bound { by ≤ window.len }
+    requires few { window.len ≤ 64 }
+    ensures writes { Edits T.BITS W.at (map T.value cells.old) (map T.value cells.new) window (shifted_start by) }
+{
+    let word = few_word::<W, T>(&*cells, window);
+    let shifted = moved::<W, u64, u64>(word, by, window.len - by, 0);
+    let mut accessor = Exclusive::new(cells);
+    store_few::<W, Exclusive<T>>(&mut accessor, window, shifted);
+}
+
+/// [`shift_end_in`] of at most 64 bits, as a word.
+fn shift_end_few<W: WordOrder, T: BitStore>(cells: &mut [T], window: Window, by: usize)
+    requires window { HasWindow T.BITS (map T.value cells.old) window }
+    requires bound { by ≤ window.len }
+    requires few { window.len ≤ 64 }
+    ensures writes { Edits T.BITS W.at (map T.value cells.old) (map T.value cells.new) window (shifted_end by) }
+{
+    let word = few_word::<W, T>(&*cells, window);
+    let shifted = moved::<W, u64, u64>(word, 0, window.len - by, by);
+    let mut accessor = Exclusive::new(cells);
+    store_few::<W, Exclusive<T>>(&mut accessor, window, shifted);
 }
