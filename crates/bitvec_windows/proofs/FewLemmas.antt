@@ -1,6 +1,6 @@
 -- Edits of a list as the first bits of a word.
 use Rattle.std.specs.Prelude.{◌≡◌, ℕ, ◌+◌, ◌-◌, ◌≤◌, Bool, false, List, take, length, replicate, reverse, slice_range}
-use Rattle.std.proofs.Common.{arith, rules, ap, ◌∙◌}
+use Rattle.std.proofs.Common.{arith, rules}
 use Rattle.std.proofs.lemmas.List.{places, same_lists}
 use Rattle.bitvec_engine.specs.base.Lists.{shifted_end, shifted_start}
 use Rattle.bitvec_engine.specs.base.Window.{write_at}

@@ -1,5 +1,5 @@
-use Rattle.std.proofs.Common.{◌∙◌, ap, arith, map, refl, rules}
-use Rattle.std.specs.Prelude.{false, replicate, reverse, slice_range}
+use Rattle.std.proofs.Common.{◌∙◌, map, refl, rules}
+use Rattle.std.specs.Prelude.{reverse}
 use Rattle.std.proofs.lemmas.List.{length-reverse}
 use Rattle.bitvec_windows.specs.base.Memory.{list_in}
 use Rattle.bitvec_windows.specs.base.MemoryLaws.{length-element_bits}

@@ -1,6 +1,4 @@
-use Rattle.std.proofs.Common.{◌∙◌, ap, arith, rules, sym}
-use Rattle.bitvec_windows.specs.base.Memory.{element_bits}
-use Rattle.bitvec_windows.specs.words.Field.{padded}
+use Rattle.std.proofs.Common.{arith}
 use Rattle.bitvec_windows.proofs.Rotated.{rotated-word}
 use Rattle.bitvec_windows.proofs.rotating.rotated_word.Goals as goal
 
