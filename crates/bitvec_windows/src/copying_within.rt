@@ -3,18 +3,18 @@ ghost use Rattle.std.specs.Prelude.{◌-◌, ◌≤◌, map};
 ghost use Rattle.bitvec_engine.specs.base.Lists.{FitsWithin, copied_within};
 ghost use Rattle.bitvec_engine.specs.base.Memory.{Edits, HasWindow};
 
-use crate::window_words::few_word;
+use crate::window_words::{few_word, is_few};
 use bitvec_engine::base::{Lsb0, Msb0, Window};
 use bitvec_engine::cells::Exclusive;
 use bitvec_engine::store::BitStore;
-use bitvec_engine::words::{WORD_BITS, WordOrder};
+use bitvec_engine::words::WordOrder;
 use bitvec_engine::{Direction, SliceOrder, direction_of, store_few};
 use std::ops::Range;
 
 /// Copies the bits of a range of a window to `dest` on, also where they overlap. Condition: the
 /// memory has at most `MAX_BITS` bits, the window lies in it, and both the bits read and those
-/// written lie in the window. At most 64 bits are copied as a word, under an order that runs from one end
-/// of an element to the other.
+/// written lie in the window. The bits of an element, or 64, are copied as a word, under an order
+/// that runs from one end of an element to the other.
 pub fn copy_within_in<T: BitStore, O: SliceOrder>(
     cells: &mut [T],
     window: Window,
@@ -25,7 +25,7 @@ pub fn copy_within_in<T: BitStore, O: SliceOrder>(
     requires fits { FitsWithin src.start src.end dest window.len }
     ensures writes { Edits T.BITS O.at (map T.value cells.old) (map T.value cells.new) window (copied_within src.start src.end dest) }
 {
-    if src.end - src.start <= WORD_BITS {
+    if is_few::<T>(src.end - src.start) {
         match direction_of::<O, T>() {
             Direction::Up => return copy_within_few::<Lsb0, T>(cells, window, src, dest),
             Direction::Down => return copy_within_few::<Msb0, T>(cells, window, src, dest),
@@ -36,7 +36,7 @@ pub fn copy_within_in<T: BitStore, O: SliceOrder>(
     O::block_copy_within::<Exclusive<T>>(&mut accessor, window, src.start, src.end, dest);
 }
 
-/// [`copy_within_in`] of at most 64 bits, as a word.
+/// [`copy_within_in`] of few bits, as a word.
 fn copy_within_few<W: WordOrder, T: BitStore>(
     cells: &mut [T],
     window: Window,

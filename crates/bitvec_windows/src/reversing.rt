@@ -2,7 +2,7 @@
 ghost use Rattle.std.specs.Prelude.{◌≤◌, map, reverse as reversal};
 ghost use Rattle.bitvec_engine.specs.base.Memory.{Edits, HasWindow};
 
-use crate::window_words::few_word;
+use crate::window_words::{few_word, is_few};
 use bitvec_engine::base::{Lsb0, Msb0, Window};
 use bitvec_engine::cells::Exclusive;
 use bitvec_engine::store::BitStore;
@@ -10,13 +10,13 @@ use bitvec_engine::words::{WORD_BITS, WordOrder, moved, reversed};
 use bitvec_engine::{Direction, SliceOrder, direction_of, reverse, store_few};
 
 /// Reverses the bits of a window, as the order does it. Condition: the memory has at most
-/// `MAX_BITS` bits, and the window lies in it. At most 64 bits are reversed as a word, under an order that
-/// runs from one end of an element to the other.
+/// `MAX_BITS` bits, and the window lies in it. The bits of an element, or 64, are reversed as a word,
+/// under an order that runs from one end of an element to the other.
 pub fn reverse_in<T: BitStore, O: SliceOrder>(cells: &mut [T], window: Window)
     requires window { HasWindow T.BITS (map T.value cells.old) window }
     ensures writes { Edits T.BITS O.at (map T.value cells.old) (map T.value cells.new) window reversal }
 {
-    if window.len <= WORD_BITS {
+    if is_few::<T>(window.len) {
         match direction_of::<O, T>() {
             Direction::Up => return reverse_few::<Lsb0, T>(cells, window),
             Direction::Down => return reverse_few::<Msb0, T>(cells, window),
@@ -27,7 +27,7 @@ pub fn reverse_in<T: BitStore, O: SliceOrder>(cells: &mut [T], window: Window)
     reverse::<O, Exclusive<T>>(&mut accessor, window);
 }
 
-/// [`reverse_in`] of at most 64 bits, as a word.
+/// [`reverse_in`] of few bits, as a word.
 fn reverse_few<W: WordOrder, T: BitStore>(cells: &mut [T], window: Window)
     requires window { HasWindow T.BITS (map T.value cells.old) window }
     requires few { window.len ≤ 64 }

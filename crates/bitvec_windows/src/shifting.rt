@@ -3,23 +3,23 @@ ghost use Rattle.std.specs.Prelude.{◌≤◌, map};
 ghost use Rattle.bitvec_engine.specs.base.Lists.{shifted_end, shifted_start};
 ghost use Rattle.bitvec_engine.specs.base.Memory.{Edits, HasWindow};
 
-use crate::window_words::few_word;
+use crate::window_words::{few_word, is_few};
 use bitvec_engine::base::{Lsb0, Msb0, Window};
 use bitvec_engine::cells::Exclusive;
 use bitvec_engine::store::BitStore;
-use bitvec_engine::words::{WORD_BITS, WordOrder, moved};
+use bitvec_engine::words::{WordOrder, moved};
 use bitvec_engine::{Direction, SliceOrder, direction_of, shift_end, shift_start, store_few};
 
 /// Shifts the bits of a window towards its start: as many zeros as were lost follow the others.
 /// Condition: the memory has at most `MAX_BITS` bits, the window lies in it, and `by` is at most
-/// the window's length. At most 64 bits are shifted as a word, under an order that runs from one end of an
-/// element to the other.
+/// the window's length. The bits of an element, or 64, are shifted as a word, under an order that runs from
+/// one end of an element to the other.
 pub fn shift_start_in<T: BitStore, O: SliceOrder>(cells: &mut [T], window: Window, by: usize)
     requires window { HasWindow T.BITS (map T.value cells.old) window }
     requires bound { by ≤ window.len }
     ensures writes { Edits T.BITS O.at (map T.value cells.old) (map T.value cells.new) window (shifted_start by) }
 {
-    if window.len <= WORD_BITS {
+    if is_few::<T>(window.len) {
         match direction_of::<O, T>() {
             Direction::Up => return shift_start_few::<Lsb0, T>(cells, window, by),
             Direction::Down => return shift_start_few::<Msb0, T>(cells, window, by),
@@ -37,7 +37,7 @@ pub fn shift_end_in<T: BitStore, O: SliceOrder>(cells: &mut [T], window: Window,
     requires bound { by ≤ window.len }
     ensures writes { Edits T.BITS O.at (map T.value cells.old) (map T.value cells.new) window (shifted_end by) }
 {
-    if window.len <= WORD_BITS {
+    if is_few::<T>(window.len) {
         match direction_of::<O, T>() {
             Direction::Up => return shift_end_few::<Lsb0, T>(cells, window, by),
             Direction::Down => return shift_end_few::<Msb0, T>(cells, window, by),
@@ -48,7 +48,7 @@ pub fn shift_end_in<T: BitStore, O: SliceOrder>(cells: &mut [T], window: Window,
     shift_end::<O, Exclusive<T>>(&mut accessor, window, by);
 }
 
-/// [`shift_start_in`] of at most 64 bits, as a word.
+/// [`shift_start_in`] of few bits, as a word.
 fn shift_start_few<W: WordOrder, T: BitStore>(cells: &mut [T], window: Window, by: usize)
     requires window { HasWindow T.BITS (map T.value cells.old) window }
     requires bound { by ≤ window.len }
@@ -61,7 +61,7 @@ fn shift_start_few<W: WordOrder, T: BitStore>(cells: &mut [T], window: Window, b
     store_few::<W, Exclusive<T>>(&mut accessor, window, shifted);
 }
 
-/// [`shift_end_in`] of at most 64 bits, as a word.
+/// [`shift_end_in`] of few bits, as a word.
 fn shift_end_few<W: WordOrder, T: BitStore>(cells: &mut [T], window: Window, by: usize)
     requires window { HasWindow T.BITS (map T.value cells.old) window }
     requires bound { by ≤ window.len }

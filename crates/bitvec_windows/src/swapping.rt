@@ -1,16 +1,14 @@
 //! The bits of two windows of slices of elements, exchanged.
-ghost use Rattle.std.specs.Prelude.{◌≡◌, ◌≤◌, map};
+ghost use Rattle.std.specs.Prelude.{◌≡◌, map};
 ghost use Rattle.bitvec_engine.specs.Pairs.{HasPair};
 ghost use Rattle.bitvec_engine.specs.base.Memory.{HasWindow, Writes, list_in};
 
-use crate::window_words::{few_word, turned, word_end};
+use crate::window_words::{turned, word_end};
 use bitvec_engine::base::{BitOrder, Lsb0, Msb0, Window};
 use bitvec_engine::cells::Exclusive;
 use bitvec_engine::store::BitStore;
-use bitvec_engine::words::{WORD_BITS, WordOrder};
-use bitvec_engine::{
-    Direction, SliceOrder, bits_swap, direction_of, load_bits, store_bits, store_few,
-};
+use bitvec_engine::words::WordOrder;
+use bitvec_engine::{Direction, SliceOrder, bits_swap, direction_of, load_bits, store_bits};
 
 /// Exchanges the bits of two windows, of elements of any types and orders. Condition: each memory
 /// has at most `MAX_BITS` bits, each window lies in its memory, and the windows are as long.
@@ -92,7 +90,7 @@ fn swap_words<W: WordOrder, V: WordOrder, T: BitStore, U: BitStore>(
 }
 
 /// Exchanges the bits of two windows, of elements of one type and order, as the order does it.
-/// At most 64 bits are exchanged as words. Condition: as of [`swap_with_in`].
+/// Condition: as of [`swap_with_in`].
 pub fn swap_with_block_in<T: BitStore, O: SliceOrder>(
     left: &mut [T],
     left_window: Window,
@@ -107,36 +105,7 @@ pub fn swap_with_block_in<T: BitStore, O: SliceOrder>(
     ensures right_writes { Writes T.BITS O.at (map T.value right.old) (map T.value right.new) right_window
         (list_in T.BITS O.at (map T.value left.old) left_window) }
 {
-    if left_window.len <= WORD_BITS {
-        match direction_of::<O, T>() {
-            Direction::Up => return swap_few::<Lsb0, T>(left, left_window, right, right_window),
-            Direction::Down => return swap_few::<Msb0, T>(left, left_window, right, right_window),
-            Direction::Other => {}
-        }
-    }
     let mut left = Exclusive::new(left);
     let mut right = Exclusive::new(right);
     O::block_swap::<Exclusive<T>, Exclusive<T>>(&mut left, left_window, &mut right, right_window);
-}
-
-/// [`swap_with_block_in`] of windows of at most 64 bits, as words.
-fn swap_few<W: WordOrder, T: BitStore>(
-    left: &mut [T],
-    left_window: Window,
-    right: &mut [T],
-    right_window: Window,
-)
-    requires pair { HasPair T.BITS (map T.value left.old) left_window T.BITS (map T.value right.old) right_window }
-    requires few { left_window.len ≤ 64 }
-    ensures writes { Writes T.BITS W.at (map T.value left.old) (map T.value left.new) left_window
-        (list_in T.BITS W.at (map T.value right.old) right_window) }
-    ensures right_writes { Writes T.BITS W.at (map T.value right.old) (map T.value right.new) right_window
-        (list_in T.BITS W.at (map T.value left.old) left_window) }
-{
-    let word = few_word::<W, T>(&*left, left_window);
-    let other = few_word::<W, T>(&*right, right_window);
-    let mut cells = Exclusive::new(left);
-    store_few::<W, Exclusive<T>>(&mut cells, left_window, other);
-    let mut others = Exclusive::new(right);
-    store_few::<W, Exclusive<T>>(&mut others, right_window, word);
 }

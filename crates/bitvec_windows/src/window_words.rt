@@ -1,6 +1,6 @@
 //! The bits of a window of a slice, up to 64 of them, as the first bits of a word under an order that
 //! runs from one end of it to the other.
-ghost use Rattle.std.specs.Prelude.{◌≡◌, ◌+◌, ◌<◌, ◌≤◌, map, slice_range};
+ghost use Rattle.std.specs.Prelude.{◌≡◌, ◌+◌, ◌<◌, ◌≤◌, map, slice_range, true};
 ghost use Rattle.bitvec_engine.specs.base.Memory.{HasWindow, element_bits, list_in};
 ghost use Rattle.bitvec_engine.specs.base.Window.{max_bits};
 ghost use Rattle.bitvec_engine.specs.words.Field.{padded};
@@ -120,6 +120,15 @@ pub(crate) fn few_word<W: WordOrder, T: BitStore>(elements: &[T], window: Window
     let mut cells = Shared::new(elements);
     let (front, _) = field::<W, Shared<T>>(&mut cells, window);
     moved::<W, T, u64>(front, 0, window.len, 0)
+}
+
+/// Whether so many bits are loaded and stored as a word with no loop: those of a window that is no longer
+/// than an element, or 64.
+#[inline(always)]
+pub(crate) fn is_few<T: BitStore>(len: usize) -> bool
+    ensures { result ≡ true → len ≤ 64 }
+{
+    len == WORD_BITS || len <= WORD_BITS.min(T::BITS as usize)
 }
 
 /// [`window_word`] of any order: each element is loaded once, and its bits are gathered one by one.
