@@ -12,8 +12,8 @@ pub use bitvec_owned::ToBitVec;
 pub use bitvec_owned::edit::BitEdits;
 pub use bitvec_pieces::split::{
     Forward, Inclusive, LimitedSplitWalk, RSplit, RSplitMut, RSplitN, RSplitNMut, Reversed, Split,
-    SplitCalls, SplitCallsMut, SplitInclusive, SplitInclusiveMut, SplitMut, SplitN, SplitNMut,
-    SplitWalk, Splits, SplitsMut, SplitsN, SplitsNMut, Way,
+    SplitCalls, SplitCallsMut, SplitInclusive, SplitInclusiveMut, SplitKind, SplitMut, SplitN,
+    SplitNMut, SplitWalk, Splits, SplitsMut, SplitsN, SplitsNMut,
 };
 pub use bitvec_pieces::{EditParts, EditSplits};
 pub use bitvec_slice::{

@@ -17,7 +17,7 @@ use bitvec_slice::windows::{
     replace_in, reverse_in, rotate_left_in, rotate_right_in, set_in, shift_end_in, shift_start_in,
     swap_in, swap_with_in, swap_within_in,
 };
-use bitvec_slice::{BitSlice, BitSliceMut, Inside, View, ViewMut};
+use bitvec_slice::{BitSlice, BitSliceMut, Sealed, View, ViewMut};
 use std::ops::Range;
 
 /// `bitvec`'s edits of a `&mut BitSlice`: those of single bits and of all, those that move its bits,
@@ -37,7 +37,7 @@ pub trait BitEdits<T: BitStore, O: SliceOrder>: ViewMut<T, O> {
         ensures { Self.writes self.old self.new (slice_set (Self.shows self.old).bits index bit) }
     {
         let window = self.window();
-        set_in::<T, O>(self.elements_mut(Inside), window, index, bit);
+        set_in::<T, O>(self.elements_mut(Sealed), window, index, bit);
     }
 
     /// Makes the bit at an index `bit`, and gives the old one. Condition: the index is below `len`.
@@ -47,7 +47,7 @@ pub trait BitEdits<T: BitStore, O: SliceOrder>: ViewMut<T, O> {
         ensures bits { Self.writes self.old self.new (slice_set (Self.shows self.old).bits index bit) }
     {
         let window = self.window();
-        replace_in::<T, O>(self.elements_mut(Inside), window, index, bit)
+        replace_in::<T, O>(self.elements_mut(Sealed), window, index, bit)
     }
 
     /// Exchanges the bits at two indices, which may be one. Condition: both are below `len`.
@@ -62,7 +62,7 @@ pub trait BitEdits<T: BitStore, O: SliceOrder>: ViewMut<T, O> {
         ensures { Self.writes self.old self.new (swap (Self.shows self.old).bits first second) }
     {
         let window = self.window();
-        swap_in::<T, O>(self.elements_mut(Inside), window, first, second);
+        swap_in::<T, O>(self.elements_mut(Sealed), window, first, second);
     }
 
     /// Makes each bit `bit`.
@@ -76,7 +76,7 @@ pub trait BitEdits<T: BitStore, O: SliceOrder>: ViewMut<T, O> {
         ensures { Self.writes self.old self.new (replicate (Self.shows self.old).window.len bit) }
     {
         let window = self.window();
-        fill_in::<T, O>(self.elements_mut(Inside), window, bit);
+        fill_in::<T, O>(self.elements_mut(Sealed), window, bit);
     }
 
     /// Flips each bit: `!` of `bitvec`.
@@ -90,7 +90,7 @@ pub trait BitEdits<T: BitStore, O: SliceOrder>: ViewMut<T, O> {
         ensures { Self.writes self.old self.new (map not (Self.shows self.old).bits) }
     {
         let window = self.window();
-        invert_in::<T, O>(self.elements_mut(Inside), window);
+        invert_in::<T, O>(self.elements_mut(Sealed), window);
     }
 
     /// Puts the bits in the opposite order.
@@ -98,7 +98,7 @@ pub trait BitEdits<T: BitStore, O: SliceOrder>: ViewMut<T, O> {
         ensures { Self.writes self.old self.new (reverse (Self.shows self.old).bits) }
     {
         let window = self.window();
-        reverse_in::<T, O>(self.elements_mut(Inside), window);
+        reverse_in::<T, O>(self.elements_mut(Sealed), window);
     }
 
     /// Rotates the bits so that the one at `by` comes first. Condition: `by` is at most `len`.
@@ -113,7 +113,7 @@ pub trait BitEdits<T: BitStore, O: SliceOrder>: ViewMut<T, O> {
         ensures { Self.writes self.old self.new (rotated_left by (Self.shows self.old).bits) }
     {
         let window = self.window();
-        rotate_left_in::<T, O>(self.elements_mut(Inside), window, by);
+        rotate_left_in::<T, O>(self.elements_mut(Sealed), window, by);
     }
 
     /// Rotates the bits so that the last `by` come first. Condition: `by` is at most `len`.
@@ -128,7 +128,7 @@ pub trait BitEdits<T: BitStore, O: SliceOrder>: ViewMut<T, O> {
         ensures { Self.writes self.old self.new (rotated_right by (Self.shows self.old).bits) }
     {
         let window = self.window();
-        rotate_right_in::<T, O>(self.elements_mut(Inside), window, by);
+        rotate_right_in::<T, O>(self.elements_mut(Sealed), window, by);
     }
 
     /// Shifts the bits by `by` places towards the start: the first `by` are lost, and as many zeros
@@ -143,7 +143,7 @@ pub trait BitEdits<T: BitStore, O: SliceOrder>: ViewMut<T, O> {
         ensures { Self.writes self.old self.new (shifted_start by (Self.shows self.old).bits) }
     {
         let window = self.window();
-        shift_start_in::<T, O>(self.elements_mut(Inside), window, by);
+        shift_start_in::<T, O>(self.elements_mut(Sealed), window, by);
     }
 
     /// Shifts the bits by `by` places towards the end: the last `by` are lost, and as many zeros
@@ -158,7 +158,7 @@ pub trait BitEdits<T: BitStore, O: SliceOrder>: ViewMut<T, O> {
         ensures { Self.writes self.old self.new (shifted_end by (Self.shows self.old).bits) }
     {
         let window = self.window();
-        shift_end_in::<T, O>(self.elements_mut(Inside), window, by);
+        shift_end_in::<T, O>(self.elements_mut(Sealed), window, by);
     }
 
     /// Copies the bits of a range to `dest` on, also where they overlap. Condition:
@@ -172,7 +172,7 @@ pub trait BitEdits<T: BitStore, O: SliceOrder>: ViewMut<T, O> {
         ensures { Self.writes self.old self.new (copied_within src.start src.end dest (Self.shows self.old).bits) }
     {
         let window = self.window();
-        copy_within_in::<T, O>(self.elements_mut(Inside), window, src, dest);
+        copy_within_in::<T, O>(self.elements_mut(Sealed), window, src, dest);
     }
 
     /// Exchanges the bits of a range with as many from `dest` on. Condition: `start <= end <= len`,
@@ -188,7 +188,7 @@ pub trait BitEdits<T: BitStore, O: SliceOrder>: ViewMut<T, O> {
         ensures { Self.writes self.old self.new (swapped_within src.start src.end dest (Self.shows self.old).bits) }
     {
         let window = self.window();
-        swap_within_in::<T, O>(self.elements_mut(Inside), window, src, dest);
+        swap_within_in::<T, O>(self.elements_mut(Sealed), window, src, dest);
     }
 
     /// The same as [`BitEdits::set`], under the same condition.
@@ -264,7 +264,7 @@ pub trait BitEdits<T: BitStore, O: SliceOrder>: ViewMut<T, O> {
     {
         let window = self.window();
         let from = src.window();
-        copy_from_in::<T, O, U, P>(self.elements_mut(Inside), window, src.elements(), from);
+        copy_from_in::<T, O, U, P>(self.elements_mut(Sealed), window, src.elements(), from);
     }
 
     /// Makes each bit 1 if it and the one at its index in `src`, which counts as 0 past its end,
@@ -309,9 +309,9 @@ pub trait BitEdits<T: BitStore, O: SliceOrder>: ViewMut<T, O> {
         let window = self.window();
         let other_window = other.window();
         swap_with_in::<T, O, U, P>(
-            self.elements_mut(Inside),
+            self.elements_mut(Sealed),
             window,
-            other.elements_mut(Inside),
+            other.elements_mut(Sealed),
             other_window,
         );
     }
@@ -332,7 +332,7 @@ pub trait BitEdits<T: BitStore, O: SliceOrder>: ViewMut<T, O> {
         ensures len { length (Self.shows self.new).bits ≡ (Self.shows self.old).window.len }
     {
         let window = self.window();
-        fill_with_in::<T, O, F>(self.elements_mut(Inside), window, f);
+        fill_with_in::<T, O, F>(self.elements_mut(Sealed), window, f);
     }
 
     /// Makes each bit what `f` answers for its index and the bit that stands there: `f` is called
@@ -350,7 +350,7 @@ pub trait BitEdits<T: BitStore, O: SliceOrder>: ViewMut<T, O> {
         ensures len { length (Self.shows self.new).bits ≡ (Self.shows self.old).window.len }
     {
         let window = self.window();
-        for_each_in::<T, O, F>(self.elements_mut(Inside), window, f);
+        for_each_in::<T, O, F>(self.elements_mut(Sealed), window, f);
     }
 
     /// Makes each bit what `op` makes of it and the one at its index in `src`, which counts as 0 past its end.
@@ -360,6 +360,6 @@ pub trait BitEdits<T: BitStore, O: SliceOrder>: ViewMut<T, O> {
     {
         let window = self.window();
         let from = src.window();
-        combine_in::<T, O, U, P>(self.elements_mut(Inside), window, src.elements(), from, op);
+        combine_in::<T, O, U, P>(self.elements_mut(Sealed), window, src.elements(), from, op);
     }
 }

@@ -21,7 +21,7 @@ pub mod engine {
 
 /// What crates above name of `bitvec_slice`.
 pub mod slice {
-    pub use bitvec_slice::{BitRef, BitSlice, BitSliceMut, Inside, Iter, Shows, View, ViewMut};
+    pub use bitvec_slice::{BitRef, BitSlice, BitSliceMut, Iter, Sealed, Shows, View, ViewMut};
 }
 
 /// What crates above name of `bitvec_store`.

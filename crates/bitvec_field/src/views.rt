@@ -6,7 +6,7 @@ use crate::slices::{load_be_in, load_le_in, store_be_in, store_le_in};
 use crate::{BitField, BitFieldMut, Integral};
 use bitvec_segments::FieldOrder;
 use bitvec_slice::store::BitStore;
-use bitvec_slice::{BitSlice, BitSliceMut, Inside, ViewMut};
+use bitvec_slice::{BitSlice, BitSliceMut, Sealed, ViewMut};
 
 impl<'a, T: BitStore, O: FieldOrder> BitField for BitSlice<'a, T, O> {
     ghost len = { λ view. (seen view).window.len };
@@ -47,11 +47,11 @@ impl<'a, T: BitStore, O: FieldOrder> BitFieldMut for BitSliceMut<'a, T, O> {
 
     fn store_le<I: Integral>(&mut self, value: I) {
         let window = self.window();
-        store_le_in::<T, O, I>(self.elements_mut(Inside), window, value);
+        store_le_in::<T, O, I>(self.elements_mut(Sealed), window, value);
     }
 
     fn store_be<I: Integral>(&mut self, value: I) {
         let window = self.window();
-        store_be_in::<T, O, I>(self.elements_mut(Inside), window, value);
+        store_be_in::<T, O, I>(self.elements_mut(Sealed), window, value);
     }
 }

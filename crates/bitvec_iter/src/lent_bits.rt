@@ -5,7 +5,7 @@ ghost use Rattle.bitvec_slice.specs.base.Window.{max_bits};
 use bitvec_slice::base::{BitOrder, Window};
 use bitvec_slice::store::BitStore;
 use bitvec_slice::windows::for_each_in;
-use bitvec_slice::{BitRefMut, BitSlice, BitSliceMut, Inside, ViewMut, touched_range};
+use bitvec_slice::{BitRefMut, BitSlice, BitSliceMut, Sealed, ViewMut, touched_range};
 use std::marker::PhantomData;
 
 /// The bits of a writable view, which are lent one at a time, from both ends: `iter_mut` makes it.
@@ -44,7 +44,7 @@ impl<'a, T: BitStore, O: BitOrder> IterMut<'a, T, O> {
         ensures walk { IsAllOf (seen_mut bits.old) (bit_walk_of result) }
     {
         let window = bits.window();
-        IterMut::from_parts(bits.elements_mut(Inside), window)
+        IterMut::from_parts(bits.elements_mut(Sealed), window)
     }
 
     fn from_parts(elements: &'a mut [T], window: Window) -> Self

@@ -4,7 +4,7 @@ ghost use Rattle.bitvec_slice.specs.base.Window.{max_bits};
 
 use bitvec_slice::base::{BitOrder, Window};
 use bitvec_slice::store::BitStore;
-use bitvec_slice::{BitSliceMut, Inside, ViewMut, touched_range};
+use bitvec_slice::{BitSliceMut, Sealed, ViewMut, touched_range};
 use std::marker::PhantomData;
 
 /// A writable view's bits, cut in two: it stands for the pair that `bitvec`'s `split_at_mut` gives,
@@ -43,7 +43,7 @@ impl<'a, T: BitStore, O: BitOrder> HalvesMut<'a, T, O> {
         ensures halves { IsCutOf (seen_mut bits.old) mid result }
     {
         let window = bits.window();
-        HalvesMut::from_parts(bits.elements_mut(Inside), window, mid)
+        HalvesMut::from_parts(bits.elements_mut(Sealed), window, mid)
     }
 
     fn from_parts(elements: &'a mut [T], window: Window, mid: usize) -> Self

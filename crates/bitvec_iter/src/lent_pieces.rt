@@ -5,7 +5,7 @@ ghost use Rattle.bitvec_slice.specs.base.Window.{max_bits};
 use bitvec_cutting::{Cutting, InChunks, InChunksFromEnd, InExactChunks, InExactChunksFromEnd};
 use bitvec_slice::base::{BitOrder, Window};
 use bitvec_slice::store::BitStore;
-use bitvec_slice::{BitSliceMut, Inside, ViewMut, touched_range};
+use bitvec_slice::{BitSliceMut, Sealed, ViewMut, touched_range};
 use std::marker::PhantomData;
 
 /// The pieces of a writable view, cut as `C` says, which are lent one at a time, from both ends.
@@ -62,7 +62,7 @@ impl<'a, T: BitStore, O: BitOrder, C: Cutting> PiecesMut<'a, T, O, C> {
         ensures cutting { (walk_of result).cutting ≡ cutting }
     {
         let window = bits.window();
-        PiecesMut::from_parts(bits.elements_mut(Inside), window, cutting)
+        PiecesMut::from_parts(bits.elements_mut(Sealed), window, cutting)
     }
 
     fn from_parts(elements: &'a mut [T], window: Window, cutting: C) -> Self

@@ -9,7 +9,7 @@ use crate::BitVec;
 use bitvec_edit::BitEdits;
 use bitvec_edit::base::BitOrder;
 use bitvec_edit::engine::SliceOrder;
-use bitvec_edit::slice::{BitSlice, Inside, Shows, View, ViewMut};
+use bitvec_edit::slice::{BitSlice, Sealed, Shows, View, ViewMut};
 use bitvec_edit::store::BitStore;
 use bitvec_query::BitQueries;
 use std::alloc::Allocator;
@@ -35,7 +35,7 @@ impl<T: BitStore, O: BitOrder, A: Allocator> ViewMut<T, O> for BitVec<T, O, A> {
 
     ghost has_written = { has_written };
 
-    fn elements_mut(&mut self, _by: Inside) -> &mut [T] {
+    fn elements_mut(&mut self, _by: Sealed) -> &mut [T] {
         self.as_raw_mut_slice()
     }
 }

@@ -8,7 +8,7 @@ ghost use Rattle.bitvec_pieces.specs.Pieces.{EditsHalves, EditsPiece, EditsPiece
 
 use bitvec_cutting::{Cutting, InChunks, InChunksFromEnd, InExactChunks, InExactChunksFromEnd};
 use bitvec_split::base::{BitOrder, Window};
-use bitvec_split::slice::{Inside, View, ViewMut};
+use bitvec_split::slice::{Sealed, View, ViewMut};
 use bitvec_split::store::BitStore;
 use std::ops::Range;
 
@@ -26,9 +26,9 @@ pub trait EditParts<T: BitStore, O: BitOrder>: ViewMut<T, O> + Sized {
     ghost named: { Self → GName };
 
     /// Moves the view to another window of its elements, which it owes to leave. Condition: these
-    /// have the window. Only crates that the library is made of have an `Inside` to call it with.
+    /// have the window. Only crates that the library is made of have a `Sealed` to call it with.
     #[doc(hidden)]
-    fn stand_at(&mut self, window: Window, by: Inside)
+    fn stand_at(&mut self, window: Window, by: Sealed)
         requires { IsWithin window (length (Self.shows self.old).memory) }
         ensures { StandsAt Self.shows named self.old window self.new };
 
@@ -48,7 +48,7 @@ pub trait EditParts<T: BitStore, O: BitOrder>: ViewMut<T, O> + Sized {
                 start: window.start + range.start,
                 len: range.end - range.start,
             },
-            Inside,
+            Sealed,
         );
         window
     }
@@ -63,7 +63,7 @@ pub trait EditParts<T: BitStore, O: BitOrder>: ViewMut<T, O> + Sized {
     {
         let window = self.narrow(range);
         let result = edit(self);
-        self.stand_at(window, Inside);
+        self.stand_at(window, Sealed);
         result
     }
 
@@ -114,7 +114,7 @@ pub trait EditParts<T: BitStore, O: BitOrder>: ViewMut<T, O> + Sized {
         for number in 0..cutting.count(len) {
             let window = self.narrow(cutting.piece(len, number));
             edit(number, self);
-            self.stand_at(window, Inside);
+            self.stand_at(window, Sealed);
         }
     }
 

@@ -10,9 +10,9 @@ ghost use Rattle.bitvec_pieces.specs.SplitEdits.{EditsGiven, MayEditGiven};
 
 use crate::{EditParts, ToSplit};
 use bitvec_split::base::BitOrder;
-use bitvec_split::slice::{Inside, View};
+use bitvec_split::slice::{Sealed, View};
 use bitvec_split::store::BitStore;
-use bitvec_split::{Forward, Inclusive, Reversed, Way, ask_row, cut_row};
+use bitvec_split::{Forward, Inclusive, Reversed, SplitKind, ask_row, cut_row};
 use std::ops::Range;
 
 /// Edits of the pieces of a writable view that a predicate splits, by closures, which take the view
@@ -31,7 +31,7 @@ pub trait EditSplits<T: BitStore, O: BitOrder>: EditParts<T, O> {
     /// The index among the bits of a range about which `pred` says yes first, asked as a call of a split
     /// asks. Conditions: the view has the range; `pred` may be asked about its bits.
     #[doc(hidden)]
-    final fn ask<W: Way, P: FnMut(usize, &bool) -> bool>(
+    final fn ask<W: SplitKind, P: FnMut(usize, &bool) -> bool>(
         &self,
         range: Range<usize>,
         pred: &mut P,
@@ -49,7 +49,7 @@ pub trait EditSplits<T: BitStore, O: BitOrder>: EditParts<T, O> {
     /// about its bits.
     #[doc(hidden)]
     #[tactic(auto, using(bitvec_split::specs::AskedLaws::may_ask_of_fewer, bitvec_split::specs::AskedLaws::may_ask_either))]
-    final fn step<W: Way, P: FnMut(usize, &bool) -> bool>(
+    final fn step<W: SplitKind, P: FnMut(usize, &bool) -> bool>(
         &self,
         left: &mut ToSplit,
         pred: &mut P,
@@ -81,7 +81,7 @@ pub trait EditSplits<T: BitStore, O: BitOrder>: EditParts<T, O> {
     /// leaves it in its place.
     #[doc(hidden)]
     final fn for_each_piece_between<
-        W: Way,
+        W: SplitKind,
         P: FnMut(usize, &bool) -> bool,
         F: FnMut(usize, &mut Self),
     >(&mut self, mut pred: P, mut edit: F)
@@ -95,7 +95,7 @@ pub trait EditSplits<T: BitStore, O: BitOrder>: EditParts<T, O> {
         while let Some(range) = self.step::<W, P>(&mut left, &mut pred) {
             let window = self.narrow(range);
             edit(number, self);
-            self.stand_at(window, Inside);
+            self.stand_at(window, Sealed);
             number += 1;
         }
     }
@@ -103,7 +103,7 @@ pub trait EditSplits<T: BitStore, O: BitOrder>: EditParts<T, O> {
     /// The range of the next piece of a limited split. Conditions: as of `step`.
     #[doc(hidden)]
     #[tactic(auto, using(bitvec_split::specs::AskedLaws::may_ask_of_fewer, bitvec_split::specs::AskedLaws::may_ask_either))]
-    final fn limited_step<W: Way, P: FnMut(usize, &bool) -> bool>(
+    final fn limited_step<W: SplitKind, P: FnMut(usize, &bool) -> bool>(
         &self,
         left: &mut ToSplit,
         count: &mut usize,
@@ -128,7 +128,7 @@ pub trait EditSplits<T: BitStore, O: BitOrder>: EditParts<T, O> {
     /// `for_each_piece_between`.
     #[doc(hidden)]
     final fn for_each_limited_piece<
-        W: Way,
+        W: SplitKind,
         P: FnMut(usize, &bool) -> bool,
         F: FnMut(usize, &mut Self),
     >(&mut self, mut count: usize, mut pred: P, mut edit: F)
@@ -143,7 +143,7 @@ pub trait EditSplits<T: BitStore, O: BitOrder>: EditParts<T, O> {
         while let Some(range) = self.limited_step::<W, P>(&mut left, &mut count, &mut pred) {
             let window = self.narrow(range);
             edit(number, self);
-            self.stand_at(window, Inside);
+            self.stand_at(window, Sealed);
             number += 1;
         }
     }

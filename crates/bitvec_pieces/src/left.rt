@@ -2,7 +2,7 @@
 ghost use Rattle.std.specs.Prelude.{◌≡◌, ◌≤◌, ◌==◌, ◌&&◌};
 ghost use Rattle.bitvec_pieces.specs.ToSplit.{TakesRest};
 
-use bitvec_split::Way;
+use bitvec_split::SplitKind;
 use std::ops::Range;
 
 /// The indices `from` up to `to` of the bits that no piece has yet, and whether the last piece came.
@@ -15,7 +15,7 @@ pub struct ToSplit {
 
 impl ToSplit {
     /// All of so many bits.
-    pub(crate) fn all<W: Way>(len: usize) -> ToSplit
+    pub(crate) fn all<W: SplitKind>(len: usize) -> ToSplit
         ensures { result ≡ record { from = 0; to = len; finished = W.INCLUSIVE && (len == 0) } }
     {
         ToSplit {

@@ -11,8 +11,8 @@ mod views;
 pub mod split {
     pub use bitvec_split::{
         Forward, Inclusive, LimitedSplitWalk, RSplit, RSplitMut, RSplitN, RSplitNMut, Reversed,
-        Split, SplitCalls, SplitCallsMut, SplitInclusive, SplitInclusiveMut, SplitMut, SplitN,
-        SplitNMut, SplitWalk, Splits, SplitsMut, SplitsN, SplitsNMut, Way,
+        Split, SplitCalls, SplitCallsMut, SplitInclusive, SplitInclusiveMut, SplitKind, SplitMut,
+        SplitN, SplitNMut, SplitWalk, Splits, SplitsMut, SplitsN, SplitsNMut,
     };
 }
 

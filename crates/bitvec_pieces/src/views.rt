@@ -4,7 +4,7 @@ ghost use Rattle.bitvec_pieces.specs.ViewInPlace.{written_so};
 
 use crate::{EditParts, EditSplits};
 use bitvec_split::base::{BitOrder, Window};
-use bitvec_split::slice::{BitSliceMut, Inside};
+use bitvec_split::slice::{BitSliceMut, Sealed};
 use bitvec_split::store::BitStore;
 
 impl<'a, T: BitStore, O: BitOrder> EditParts<T, O> for BitSliceMut<'a, T, O> {
@@ -12,7 +12,7 @@ impl<'a, T: BitStore, O: BitOrder> EditParts<T, O> for BitSliceMut<'a, T, O> {
 
     ghost written_so = { written_so };
 
-    fn stand_at(&mut self, window: Window, by: Inside) {
+    fn stand_at(&mut self, window: Window, by: Sealed) {
         BitSliceMut::stand_at(self, window, by);
     }
 }

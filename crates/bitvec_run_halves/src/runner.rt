@@ -13,7 +13,7 @@ use bitvec_slice::base::Window;
 use bitvec_slice::cells::{Cells, CellsRead, Exclusive, Shared};
 use bitvec_slice::engine::SliceOrder;
 use bitvec_slice::store::BitStore;
-use bitvec_slice::{BitSlice, BitSliceMut, Inside, ViewMut};
+use bitvec_slice::{BitSlice, BitSliceMut, Sealed, ViewMut};
 
 /// Runs commands through the two halves of a view, which meet at the index `mid`, in the order given.
 ///
@@ -39,7 +39,7 @@ pub fn run_halves<T: BitStore, O: SliceOrder>(
     let source = right.window();
     let elements = right.elements();
     run_in::<T, O>(
-        bits.elements_mut(Inside),
+        bits.elements_mut(Sealed),
         window,
         mid,
         elements,

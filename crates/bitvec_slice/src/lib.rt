@@ -13,10 +13,10 @@ mod hashing;
 mod index;
 mod index_ranges;
 mod indices;
-mod inside;
 mod iter;
 mod iterating;
 mod operators;
+mod sealed;
 mod showing;
 mod split_apart;
 mod splits;
@@ -84,9 +84,9 @@ pub use bitvec_domain::{
 pub use bitvec_windows::base::{BitSpanError, Window};
 pub use conversions::{from_mut, from_ref};
 pub use index::{BitSliceIndex, Viewed, ViewedMut};
-#[doc(hidden)]
-pub use inside::Inside;
 pub use iter::Iter;
+#[doc(hidden)]
+pub use sealed::Sealed;
 pub use showing::{Shows, View};
 #[doc(hidden)]
 pub use touching::touched_range;

@@ -4,7 +4,7 @@ ghost use Rattle.bitvec_windows.specs.base.Window.{max_bits};
 
 use crate::bit_domain::bit_domain_mut_of;
 use crate::touching::touched_range;
-use crate::{BitDomain, BitSlice, Domain, DomainMut, Inside};
+use crate::{BitDomain, BitSlice, Domain, DomainMut, Sealed};
 use bitvec_domain::domain_mut_of;
 use bitvec_windows::base::{BitOrder, Window};
 use bitvec_windows::store::BitStore;
@@ -31,7 +31,7 @@ use std::ops::Range;
 /// outside the part: what an edit leaves says `WritesBits` of a view, `WritesBit` of a reference,
 /// `WritesPart` of a part of an element. Whole elements are given out by `domain_mut`, which covers
 /// them, and by `into_slice`, which asks for a view of all their bits. The other bits of the elements
-/// are reached by calls that ask for an `Inside` alone, which only the crates that the library is made of
+/// are reached by calls that ask for a `Sealed` alone, which only the crates that the library is made of
 /// can make.
 #[derive(Drop)]
 pub struct BitSliceMut<'a, T: BitStore, O: BitOrder> {
@@ -255,7 +255,7 @@ impl<'a, T: BitStore, O: BitOrder> BitSliceMut<'a, T, O> {
     /// Moves the view to a window of the elements that it keeps, for an edit of a part of it, which owes
     /// that the view comes back. Condition: the elements have the window.
     #[doc(hidden)]
-    pub fn stand_at(&mut self, window: Window, _by: Inside)
+    pub fn stand_at(&mut self, window: Window, _by: Sealed)
         requires { IsWithin window (T.BITS * length (seen_mut self.old).elements) }
         ensures window { (seen_mut self.new).window ≡ window }
         ensures elements { (seen_mut self.new).elements ≡ (seen_mut self.old).elements }

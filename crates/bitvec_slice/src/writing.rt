@@ -7,7 +7,7 @@ ghost use Rattle.bitvec_slice.specs.Lending.{with_elements};
 ghost use Rattle.bitvec_slice.specs.WriteLaws.{has_written, written};
 ghost use Rattle.bitvec_slice.specs.Writes.{WritesBits};
 
-use crate::{BitSliceMut, Inside, View};
+use crate::{BitSliceMut, Sealed, View};
 use bitvec_windows::base::BitOrder;
 use bitvec_windows::store::BitStore;
 
@@ -20,10 +20,10 @@ pub trait ViewMut<T: BitStore, O: BitOrder>: View<T, O> {
     ghost with_elements: { Self → List T → Self };
 
     /// The elements, also their bits outside these, for the crates that the library is made of, which alone
-    /// have an `Inside` to call it with: whoever calls it owes that those bits stay, which `writes` says of
+    /// have a `Sealed` to call it with: whoever calls it owes that those bits stay, which `writes` says of
     /// an edit. Once the slice has ended, the elements are what was left in it.
     #[doc(hidden)]
-    fn elements_mut(&mut self, by: Inside) -> &mut [T]
+    fn elements_mut(&mut self, by: Sealed) -> &mut [T]
         ensures* writes_back { sem 𝓛 (follows Self.row (Array T.row 0) self.entry.ghost_name result.ghost_name (with_elements self.old)) }
         ensures elements { result.now ≡ (Self.shows self.old).elements };
 
@@ -44,7 +44,7 @@ impl<'a, T: BitStore, O: BitOrder> ViewMut<T, O> for BitSliceMut<'a, T, O> {
 
     ghost has_written = { has_written };
 
-    fn elements_mut(&mut self, _by: Inside) -> &mut [T] {
+    fn elements_mut(&mut self, _by: Sealed) -> &mut [T] {
         BitSliceMut::elements_mut(self)
     }
 }

@@ -4,8 +4,8 @@ pub mod store
 pub mod AnyLender
 pub mod Asked
 pub mod AskedLaws
-pub mod CourseLaws
-pub mod Courses
+pub mod SplitStateLaws
+pub mod SplitStates
 pub mod FoundLaws
 pub mod Lent
 pub mod LentLaws

@@ -2,11 +2,11 @@
 ghost use Rattle.std.specs.Prelude.{◌≡◌, ◌+◌, ◌*◌, ◌≤◌, Some, length, option_map, slice_range};
 ghost use Rattle.bitvec_slice.specs.base.Window.{max_bits};
 
-use crate::course::{Course, look};
-use crate::{Forward, Inclusive, Reversed, Way};
+use crate::split_state::{SplitState, look};
+use crate::{Forward, Inclusive, Reversed, SplitKind};
 use bitvec_slice::base::{BitOrder, Window};
 use bitvec_slice::store::BitStore;
-use bitvec_slice::{BitSlice, BitSliceMut, Inside, ViewMut, touched_range};
+use bitvec_slice::{BitSlice, BitSliceMut, Sealed, ViewMut, touched_range};
 use std::marker::PhantomData;
 use std::ops::Range;
 
@@ -21,7 +21,7 @@ pub struct SplitsMut<'a, T: BitStore, O: BitOrder, P, W> {
     pub(crate) elements: &'a mut [T],
     pub(crate) head: usize,
     pub(crate) len: usize,
-    pub(crate) course: Course<P, W>,
+    pub(crate) state: SplitState<P, W>,
     found: Range<usize>,
     mark: PhantomData<(O, &'a mut T)>,
     ghost inside: { head + len ≤ T.BITS * length elements.now },
@@ -39,7 +39,7 @@ pub type SplitInclusiveMut<'a, T, O, P> = SplitsMut<'a, T, O, P, Inclusive>;
 /// The pieces of `SplitMut`, from the last to the first: `rsplit_mut` makes them.
 pub type RSplitMut<'a, T, O, P> = SplitsMut<'a, T, O, P, Reversed>;
 
-impl<'a, T: BitStore, O: BitOrder, P: FnMut(usize, &bool) -> bool, W: Way> SplitsMut<
+impl<'a, T: BitStore, O: BitOrder, P: FnMut(usize, &bool) -> bool, W: SplitKind> SplitsMut<
     'a,
     T,
     O,
@@ -62,7 +62,7 @@ impl<'a, T: BitStore, O: BitOrder, P: FnMut(usize, &bool) -> bool, W: Way> Split
         ensures left { left_in result ≡ unsplit_in W.INCLUSIVE (seen_mut bits.old) pred }
     {
         let window = bits.window();
-        SplitsMut::from_parts(bits.elements_mut(Inside), window, pred)
+        SplitsMut::from_parts(bits.elements_mut(Sealed), window, pred)
     }
 
     fn from_parts(elements: &'a mut [T], window: Window, pred: P) -> Self
@@ -72,12 +72,12 @@ impl<'a, T: BitStore, O: BitOrder, P: FnMut(usize, &bool) -> bool, W: Way> Split
         ensures name { name_of_splits result ≡ elements.entry.ghost_name }
     {
         let bits = BitSlice::<T, O>::from_parts(elements, window.start, window.len);
-        let course = Course::of(bits, pred);
+        let state = SplitState::of(bits, pred);
         SplitsMut {
             elements,
             head: window.start,
             len: window.len,
-            course,
+            state,
             found: 0..0,
             mark: PhantomData,
         }
@@ -87,7 +87,7 @@ impl<'a, T: BitStore, O: BitOrder, P: FnMut(usize, &bool) -> bool, W: Way> Split
     pub fn is_finished(&self) -> bool
         ensures { result ≡ (left_in self.now).finished }
     {
-        self.course.finished
+        self.state.finished
     }
 
     /// Finds the next piece, and says whether there is one. Condition: the predicate may always be
@@ -100,7 +100,7 @@ impl<'a, T: BitStore, O: BitOrder, P: FnMut(usize, &bool) -> bool, W: Way> Split
         ensures name { name_of_splits self.new ≡ name_of_splits self.old }
     {
         let bits = look::<T, O>(&self.elements, self.head, self.len);
-        let Some(range) = self.course.step(bits) else {
+        let Some(range) = self.state.step(bits) else {
             return false;
         };
         self.found = range;
@@ -115,7 +115,7 @@ impl<'a, T: BitStore, O: BitOrder, P: FnMut(usize, &bool) -> bool, W: Way> Split
         ensures name { name_of_splits self.new ≡ name_of_splits self.old }
     {
         let bits = look::<T, O>(&self.elements, self.head, self.len);
-        let Some(range) = self.course.step_behind(bits) else {
+        let Some(range) = self.state.step_behind(bits) else {
             return false;
         };
         self.found = range;
@@ -163,7 +163,7 @@ impl<'a, T: BitStore, O: BitOrder, P: FnMut(usize, &bool) -> bool, W: Way> Split
         ensures { result ≡ (least_in (left_in self.now), Some (most_in (left_in self.now))) }
     {
         let bits = look::<T, O>(&self.elements, self.head, self.len);
-        let (least, most) = self.course.bounds(bits);
+        let (least, most) = self.state.bounds(bits);
         (least, Some(most))
     }
 }

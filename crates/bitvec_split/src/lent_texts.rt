@@ -4,7 +4,7 @@ ghost use Rattle.std.specs.Fmt.{debug_variant, decimal};
 ghost use Rattle.bitvec_slice.specs.traits.Listing.{bits_text, comma};
 ghost use Rattle.bitvec_split.specs.Lent.{uncut_in};
 
-use crate::course::look;
+use crate::split_state::look;
 use crate::texts::write_limited;
 use crate::{SplitsMut, SplitsNMut};
 use bitvec_slice::base::BitOrder;
@@ -20,7 +20,7 @@ impl<'a, T: BitStore, O: BitOrder, P, W> fmt::Debug for SplitsMut<'a, T, O, P, W
 
     fn fmt<V: fmt::Write>(&self, f: &mut fmt::Formatter<V>) -> fmt::Result {
         let bits = look::<T, O>(&self.elements, self.head, self.len);
-        write_named("SplitsMut", self.course.uncut(bits), f)
+        write_named("SplitsMut", self.state.uncut(bits), f)
     }
 }
 
@@ -32,6 +32,6 @@ impl<'a, T: BitStore, O: BitOrder, P, W> fmt::Debug for SplitsNMut<'a, T, O, P, 
 
     fn fmt<V: fmt::Write>(&self, f: &mut fmt::Formatter<V>) -> fmt::Result {
         let bits = look::<T, O>(&self.elements, self.head, self.len);
-        write_limited("SplitsNMut", self.course.uncut(bits), self.count, f)
+        write_limited("SplitsNMut", self.state.uncut(bits), self.count, f)
     }
 }

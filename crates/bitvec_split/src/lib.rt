@@ -4,16 +4,16 @@
 mod asking;
 mod calls;
 mod calls_mut;
-mod course;
+mod kinds;
 mod lending;
 mod lent_texts;
 mod limited_lending;
 mod limiting;
 mod rows;
+mod split_state;
 mod splitting;
 mod texts;
 mod walks;
-mod ways;
 
 /// What crates above name of `bitvec_base`.
 pub mod base {
@@ -22,7 +22,7 @@ pub mod base {
 
 /// What crates above name of `bitvec_slice`.
 pub mod slice {
-    pub use bitvec_slice::{BitSliceMut, Inside, View, ViewMut};
+    pub use bitvec_slice::{BitSliceMut, Sealed, View, ViewMut};
 }
 
 /// What crates above name of `bitvec_store`.
@@ -32,6 +32,7 @@ pub mod store {
 
 pub use calls::SplitCalls;
 pub use calls_mut::SplitCallsMut;
+pub use kinds::{Forward, Inclusive, Reversed, SplitKind};
 pub use lending::{RSplitMut, SplitInclusiveMut, SplitMut, SplitsMut};
 pub use limited_lending::{RSplitNMut, SplitNMut, SplitsNMut};
 pub use limiting::{RSplitN, SplitN, SplitsN};
@@ -39,4 +40,3 @@ pub use limiting::{RSplitN, SplitN, SplitsN};
 pub use rows::{ask_row, cut_row};
 pub use splitting::{RSplit, Split, SplitInclusive, Splits};
 pub use walks::{LimitedSplitWalk, SplitWalk};
-pub use ways::{Forward, Inclusive, Reversed, Way};

@@ -2,11 +2,11 @@
 ghost use Rattle.std.specs.Prelude.{◌≡◌, ◌+◌, ◌*◌, ◌≤◌, ◌==◌, ◌||◌, Some, length, min, option_map, slice_range};
 ghost use Rattle.bitvec_slice.specs.base.Window.{max_bits};
 
-use crate::course::{Course, look};
-use crate::{Forward, Reversed, Way};
+use crate::split_state::{SplitState, look};
+use crate::{Forward, Reversed, SplitKind};
 use bitvec_slice::base::{BitOrder, Window};
 use bitvec_slice::store::BitStore;
-use bitvec_slice::{BitSlice, BitSliceMut, Inside, ViewMut, touched_range};
+use bitvec_slice::{BitSlice, BitSliceMut, Sealed, ViewMut, touched_range};
 use std::marker::PhantomData;
 use std::ops::Range;
 
@@ -16,7 +16,7 @@ pub struct SplitsNMut<'a, T: BitStore, O: BitOrder, P, W> {
     pub(crate) elements: &'a mut [T],
     pub(crate) head: usize,
     pub(crate) len: usize,
-    pub(crate) course: Course<P, W>,
+    pub(crate) state: SplitState<P, W>,
     pub(crate) count: usize,
     found: Range<usize>,
     mark: PhantomData<(O, &'a mut T)>,
@@ -32,7 +32,7 @@ pub type SplitNMut<'a, T, O, P> = SplitsNMut<'a, T, O, P, Forward>;
 /// The pieces of `RSplitMut`, up to a number of them: `rsplitn_mut` makes them.
 pub type RSplitNMut<'a, T, O, P> = SplitsNMut<'a, T, O, P, Reversed>;
 
-impl<'a, T: BitStore, O: BitOrder, P: FnMut(usize, &bool) -> bool, W: Way> SplitsNMut<
+impl<'a, T: BitStore, O: BitOrder, P: FnMut(usize, &bool) -> bool, W: SplitKind> SplitsNMut<
     'a,
     T,
     O,
@@ -59,7 +59,7 @@ impl<'a, T: BitStore, O: BitOrder, P: FnMut(usize, &bool) -> bool, W: Way> Split
         ensures left { limited_in result ≡ record { left = unsplit_in W.INCLUSIVE (seen_mut bits.old) pred; count = count } }
     {
         let window = bits.window();
-        SplitsNMut::from_parts(bits.elements_mut(Inside), window, count, pred)
+        SplitsNMut::from_parts(bits.elements_mut(Sealed), window, count, pred)
     }
 
     fn from_parts(elements: &'a mut [T], window: Window, count: usize, pred: P) -> Self
@@ -69,12 +69,12 @@ impl<'a, T: BitStore, O: BitOrder, P: FnMut(usize, &bool) -> bool, W: Way> Split
         ensures name { name_of_limited result ≡ elements.entry.ghost_name }
     {
         let bits = BitSlice::<T, O>::from_parts(elements, window.start, window.len);
-        let course = Course::of(bits, pred);
+        let state = SplitState::of(bits, pred);
         SplitsNMut {
             elements,
             head: window.start,
             len: window.len,
-            course,
+            state,
             count,
             found: 0..0,
             mark: PhantomData,
@@ -85,7 +85,7 @@ impl<'a, T: BitStore, O: BitOrder, P: FnMut(usize, &bool) -> bool, W: Way> Split
     pub fn is_finished(&self) -> bool
         ensures { result ≡ ((limited_in self.now).count == 0) || (limited_in self.now).left.finished }
     {
-        self.count == 0 || self.course.finished
+        self.count == 0 || self.state.finished
     }
 
     /// Finds the next piece, and says whether there is one, as [`crate::SplitsMut::advance`] does.
@@ -96,7 +96,7 @@ impl<'a, T: BitStore, O: BitOrder, P: FnMut(usize, &bool) -> bool, W: Way> Split
         ensures name { name_of_limited self.new ≡ name_of_limited self.old }
     {
         let bits = look::<T, O>(&self.elements, self.head, self.len);
-        let Some(range) = self.course.step_limited(bits, self.count) else {
+        let Some(range) = self.state.step_limited(bits, self.count) else {
             return false;
         };
         self.found = range;
@@ -131,7 +131,7 @@ impl<'a, T: BitStore, O: BitOrder, P: FnMut(usize, &bool) -> bool, W: Way> Split
         ensures { result ≡ (min (least_in (limited_in self.now).left) (limited_in self.now).count, Some (limited_most_in (limited_in self.now))) }
     {
         let bits = look::<T, O>(&self.elements, self.head, self.len);
-        let (least, most) = self.course.bounds(bits);
+        let (least, most) = self.state.bounds(bits);
         (least.min(self.count), Some(most.min(self.count)))
     }
 }

@@ -3,7 +3,7 @@ ghost use Rattle.std.specs.Prelude.{◌≡◌, IfSome, Some, min, option_map};
 ghost use Rattle.std.specs.Iterator.{UpTo, at_most};
 ghost use Rattle.std.specs.Iterator.SizeHint.{IsWithinCount};
 
-use crate::{Forward, Reversed, Splits, Way};
+use crate::{Forward, Reversed, SplitKind, Splits};
 use bitvec_slice::BitSlice;
 use bitvec_slice::base::BitOrder;
 use bitvec_slice::store::BitStore;
@@ -22,7 +22,13 @@ pub type SplitN<'a, T, O, P> = SplitsN<'a, T, O, P, Forward>;
 /// The pieces of `RSplit`, up to a number of them.
 pub type RSplitN<'a, T, O, P> = SplitsN<'a, T, O, P, Reversed>;
 
-impl<'a, T: BitStore, O: BitOrder, P: FnMut(usize, &bool) -> bool, W: Way> SplitsN<'a, T, O, P, W> {
+impl<'a, T: BitStore, O: BitOrder, P: FnMut(usize, &bool) -> bool, W: SplitKind> SplitsN<
+    'a,
+    T,
+    O,
+    P,
+    W,
+> {
     ghost use Rattle.bitvec_slice.specs.Views.{seen};
     ghost use Rattle.bitvec_split.specs.Splits.{MayGoOn, unsplit};
     ghost use Rattle.bitvec_split.specs.Views.{limited_of};
@@ -38,7 +44,7 @@ impl<'a, T: BitStore, O: BitOrder, P: FnMut(usize, &bool) -> bool, W: Way> Split
     }
 }
 
-impl<'a, T: BitStore, O: BitOrder, P: FnMut(usize, &bool) -> bool, W: Way> Iterator
+impl<'a, T: BitStore, O: BitOrder, P: FnMut(usize, &bool) -> bool, W: SplitKind> Iterator
     for SplitsN<'a, T, O, P, W> {
     ghost use Rattle.bitvec_slice.specs.Views.{seen};
     ghost use Rattle.bitvec_split.specs.Splits.{LimitedNext, MayGoOn, least, limited_most};

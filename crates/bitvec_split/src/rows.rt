@@ -4,9 +4,9 @@ ghost use Rattle.bitvec_slice.specs.Views.{seen};
 ghost use Rattle.bitvec_split.specs.Asked.{Asked, MayAsk};
 ghost use Rattle.bitvec_split.specs.Splits.{IsCutBy, LieBeside, asked_of, row_of};
 
-use crate::Way;
+use crate::SplitKind;
 use crate::asking::{ask_down, ask_up};
-use crate::ways::{asked_behind, end_of};
+use crate::kinds::{asked_behind, end_of};
 use bitvec_slice::BitSlice;
 use bitvec_slice::base::BitOrder;
 use bitvec_slice::store::BitStore;
@@ -15,7 +15,7 @@ use std::ops::Range;
 /// The index at which `pred` says yes first, asked as a call from the front of these bits asks, or as one
 /// from the `back`. `bitvec` has no such call.
 #[doc(hidden)]
-pub fn ask_row<W: Way, T: BitStore, O: BitOrder, P: FnMut(usize, &bool) -> bool>(
+pub fn ask_row<W: SplitKind, T: BitStore, O: BitOrder, P: FnMut(usize, &bool) -> bool>(
     bits: BitSlice<'_, T, O>,
     back: bool,
     pred: &mut P,
@@ -35,7 +35,7 @@ pub fn ask_row<W: Way, T: BitStore, O: BitOrder, P: FnMut(usize, &bool) -> bool>
 /// The piece that such a call gives of `len` bits, where the yes was at `index`, and what is left. Condition:
 /// the call may ask about that index. `bitvec` has no such call.
 #[doc(hidden)]
-pub fn cut_row<W: Way>(len: usize, back: bool, index: usize) -> (Range<usize>, Range<usize>)
+pub fn cut_row<W: SplitKind>(len: usize, back: bool, index: usize) -> (Range<usize>, Range<usize>)
     requires { index < asked_of W.INCLUSIVE back len }
     ensures row { IsCutBy (row_of W.INCLUSIVE back len) index result.0 result.1 }
     ensures beside { LieBeside len result.0 result.1 }

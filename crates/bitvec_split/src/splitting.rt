@@ -4,7 +4,7 @@ ghost use Rattle.std.specs.Iterator.{UpTo, at_most};
 ghost use Rattle.std.specs.Iterator.SizeHint.{IsWithinCount};
 
 use crate::rows::{ask_row, cut_row};
-use crate::{Forward, Inclusive, Reversed, Way};
+use crate::{Forward, Inclusive, Reversed, SplitKind};
 use bitvec_slice::BitSlice;
 use bitvec_slice::base::BitOrder;
 use bitvec_slice::store::BitStore;
@@ -33,7 +33,13 @@ pub type SplitInclusive<'a, T, O, P> = Splits<'a, T, O, P, Inclusive>;
 /// The pieces of `Split`, from the last to the first.
 pub type RSplit<'a, T, O, P> = Splits<'a, T, O, P, Reversed>;
 
-impl<'a, T: BitStore, O: BitOrder, P: FnMut(usize, &bool) -> bool, W: Way> Splits<'a, T, O, P, W> {
+impl<'a, T: BitStore, O: BitOrder, P: FnMut(usize, &bool) -> bool, W: SplitKind> Splits<
+    'a,
+    T,
+    O,
+    P,
+    W,
+> {
     ghost use Rattle.bitvec_slice.specs.Views.{seen};
     ghost use Rattle.bitvec_split.specs.Splits.{MayGoOn, SplitRest, SplitStep, least, most, row_of, unsplit};
     ghost use Rattle.bitvec_split.specs.Views.{left_of};
@@ -95,7 +101,7 @@ impl<'a, T: BitStore, O: BitOrder, P: FnMut(usize, &bool) -> bool, W: Way> Split
     }
 }
 
-impl<'a, T: BitStore, O: BitOrder, P: FnMut(usize, &bool) -> bool, W: Way> Iterator
+impl<'a, T: BitStore, O: BitOrder, P: FnMut(usize, &bool) -> bool, W: SplitKind> Iterator
     for Splits<'a, T, O, P, W> {
     ghost use Rattle.bitvec_slice.specs.Views.{seen};
     ghost use Rattle.bitvec_split.specs.Splits.{MayGoOn, SplitNext, least, most};
@@ -123,7 +129,7 @@ impl<'a, T: BitStore, O: BitOrder, P: FnMut(usize, &bool) -> bool, W: Way> Itera
     }
 }
 
-impl<'a, T: BitStore, O: BitOrder, P: FnMut(usize, &bool) -> bool, W: Way> DoubleEndedIterator
+impl<'a, T: BitStore, O: BitOrder, P: FnMut(usize, &bool) -> bool, W: SplitKind> DoubleEndedIterator
     for Splits<'a, T, O, P, W> {
     ghost use Rattle.bitvec_slice.specs.Views.{seen};
     ghost use Rattle.bitvec_split.specs.Splits.{MayGoOn, SplitNextBack};

@@ -25,7 +25,7 @@ loop-range-preserved g c =
     let is = given-piece sound far takes narrowed in
     let kept = (c.requires.edit _ _).in_place _ _ _ is (_, c.edit.ensures) in
     let left = c.loop-range.left in
-    let gave = limited-on g.P.FnMut g.W.Way.INCLUSIVE g.W.Way.REVERSED _ (g.Self.Shows.shows c.args.self.now) left c.limited_step.new.left c.loop-range.pred c.limited_step.new.pred c.loop-range.count c.limited_step.new.count (Some c.in-Some.range) far.rest c.in-Some.ensures.piece in
+    let gave = limited-on g.P.FnMut g.W.SplitKind.INCLUSIVE g.W.SplitKind.REVERSED _ (g.Self.Shows.shows c.args.self.now) left c.limited_step.new.left c.loop-range.pred c.limited_step.new.pred c.loop-range.count c.limited_step.new.count (Some c.in-Some.range) far.rest c.in-Some.ensures.piece in
     record {
       turns = turns-next sound far takes gave (piece-given sound far takes narrowed) c.edit.ensures kept (returned sound (piece-lies sound far takes) narrowed kept c.stand_at.ensures);
       callable = c.in-Some.ensures.callable;

@@ -8,8 +8,8 @@ invariant-loop-range g l =
     let shows = g.Self.Shows.shows in
     let view = shows l.fn.self in
     record {
-      turns : TurnsSoFar shows g.Self.EditParts.named (goal.F-step g) l.fn.self (LimitedNextIn g.P.FnMut g.W.Way.INCLUSIVE g.W.Way.REVERSED)
-          (record { left = unsplit_in g.W.Way.INCLUSIVE view l.fn.pred; count = l.fn.count }) l.fn.edit (limited_at view l.left l.count l.pred) l.left l.self l.edit l.number;
+      turns : TurnsSoFar shows g.Self.EditParts.named (goal.F-step g) l.fn.self (LimitedNextIn g.P.FnMut g.W.SplitKind.INCLUSIVE g.W.SplitKind.REVERSED)
+          (record { left = unsplit_in g.W.SplitKind.INCLUSIVE view l.fn.pred; count = l.fn.count }) l.fn.edit (limited_at view l.left l.count l.pred) l.left l.self l.edit l.number;
       callable : MayGoOnIn g.P.FnMut (left_at view l.left l.pred);
     }
 

@@ -8,7 +8,7 @@ invariant-loop-range g l =
     let shows = g.Self.Shows.shows in
     let view = shows l.fn.self in
     record {
-      turns : TurnsSoFar shows g.Self.EditParts.named (goal.F-step g) l.fn.self (SplitNextIn g.P.FnMut g.W.Way.INCLUSIVE g.W.Way.REVERSED) (unsplit_in g.W.Way.INCLUSIVE view l.fn.pred) l.fn.edit
+      turns : TurnsSoFar shows g.Self.EditParts.named (goal.F-step g) l.fn.self (SplitNextIn g.P.FnMut g.W.SplitKind.INCLUSIVE g.W.SplitKind.REVERSED) (unsplit_in g.W.SplitKind.INCLUSIVE view l.fn.pred) l.fn.edit
           (left_at view l.left l.pred) l.left l.self l.edit l.number;
       callable : MayGoOnIn g.P.FnMut (left_at view l.left l.pred);
     }

@@ -1,19 +1,19 @@
 use Rattle.std.specs.Prelude.{Some, None}
-use Rattle.bitvec_split.specs.CourseLaws.{step_on}
+use Rattle.bitvec_split.specs.SplitStateLaws.{step_on}
 use Rattle.bitvec_split.specs.Lent.{SplitNextBackIn, StaysIn}
 use Rattle.bitvec_split.proofs.lending.SplitsMut.advance_back.Goals as goal
 
 pub returns-in_default-clause-stays : goal.returns-in_default-clause-stays
-returns-in_default-clause-stays g c = step_on StaysIn c.look-bits.ensures c.args.self.now.course c.step_behind.new.self None c.in_default.ensures.stays
+returns-in_default-clause-stays g c = step_on StaysIn c.look-bits.ensures c.args.self.now.state c.step_behind.new.self None c.in_default.ensures.stays
 
 pub returns-in_default-clause-piece : goal.returns-in_default-clause-piece
 returns-in_default-clause-piece g c =
-    step_on (SplitNextBackIn g.P.FnMut g.W.Way.INCLUSIVE g.W.Way.REVERSED) c.look-bits.ensures c.args.self.now.course c.step_behind.new.self None c.in_default.ensures.piece
+    step_on (SplitNextBackIn g.P.FnMut g.W.SplitKind.INCLUSIVE g.W.SplitKind.REVERSED) c.look-bits.ensures c.args.self.now.state c.step_behind.new.self None c.in_default.ensures.piece
 
 pub returns-clause-stays : goal.returns-clause-stays
-returns-clause-stays g c = step_on StaysIn c.look-bits.ensures c.args.self.now.course c.step_behind.new.self (Some c.in-Some.range) c.in-Some.ensures.stays
+returns-clause-stays g c = step_on StaysIn c.look-bits.ensures c.args.self.now.state c.step_behind.new.self (Some c.in-Some.range) c.in-Some.ensures.stays
 
 pub returns-clause-piece : goal.returns-clause-piece
 returns-clause-piece g c =
-    step_on (SplitNextBackIn g.P.FnMut g.W.Way.INCLUSIVE g.W.Way.REVERSED) c.look-bits.ensures c.args.self.now.course c.step_behind.new.self (Some c.in-Some.range)
+    step_on (SplitNextBackIn g.P.FnMut g.W.SplitKind.INCLUSIVE g.W.SplitKind.REVERSED) c.look-bits.ensures c.args.self.now.state c.step_behind.new.self (Some c.in-Some.range)
     c.in-Some.ensures.piece

@@ -5,5 +5,5 @@ use Rattle.bitvec_split.proofs.lending.SplitsMut.next_back_mut.Goals as goal
 
 pub returns-then-advance_back : goal.returns-then-advance_back
 returns-then-advance_back g c =
-    lends_so (SplitNextBackIn g.P.FnMut g.W.Way.INCLUSIVE g.W.Way.REVERSED (left_in c.args.self.now)) (found_in c.advance_back.new.self) _ (left_in c.advance_back.new.self)
+    lends_so (SplitNextBackIn g.P.FnMut g.W.SplitKind.INCLUSIVE g.W.SplitKind.REVERSED (left_in c.args.self.now)) (found_in c.advance_back.new.self) _ (left_in c.advance_back.new.self)
     c.if-advance_back.ensures.piece c.if-advance_back.ensures.stays.view c.piece_mut.ensures.piece

@@ -5,5 +5,5 @@ use Rattle.bitvec_split.proofs.lending.SplitsMut.next_mut.Goals as goal
 
 pub returns-then-advance : goal.returns-then-advance
 returns-then-advance g c =
-    lends_so (SplitNextIn g.P.FnMut g.W.Way.INCLUSIVE g.W.Way.REVERSED (left_in c.args.self.now)) (found_in c.advance.new.self) _ (left_in c.advance.new.self)
+    lends_so (SplitNextIn g.P.FnMut g.W.SplitKind.INCLUSIVE g.W.SplitKind.REVERSED (left_in c.args.self.now)) (found_in c.advance.new.self) _ (left_in c.advance.new.self)
     c.if-advance.ensures.piece c.if-advance.ensures.stays.view c.piece_mut.ensures.piece

@@ -3,11 +3,11 @@ ghost use Rattle.std.specs.Prelude.{◌≡◌, ◌+◌, ◌-◌, ◌<◌, ◌≤
 ghost use Rattle.bitvec_slice.specs.Seen.{shown};
 ghost use Rattle.bitvec_slice.specs.Views.{seen};
 ghost use Rattle.bitvec_slice.specs.base.Window.{max_bits};
-ghost use Rattle.bitvec_split.specs.Courses.{left_on};
+ghost use Rattle.bitvec_split.specs.SplitStates.{left_on};
 ghost use Rattle.bitvec_split.specs.Lent.{LimitedStepIn, MayGoOnIn, SplitNextBackIn, SplitNextIn, SplitRestIn, SplitStepIn, StaysIn, least_in, most_in, uncut_in, unsplit_in};
 ghost use Rattle.bitvec_split.specs.Splits.{row_of};
 
-use crate::Way;
+use crate::SplitKind;
 use crate::rows::{ask_row, cut_row};
 use bitvec_slice::BitSlice;
 use bitvec_slice::base::BitOrder;
@@ -17,7 +17,7 @@ use std::ops::Range;
 
 /// Which bits of a view no piece has yet, whether the last piece was lent, and the predicate.
 #[derive(Drop)]
-pub(crate) struct Course<P, W> {
+pub(crate) struct SplitState<P, W> {
     pub(crate) from: usize,
     pub(crate) to: usize,
     pub(crate) finished: bool,
@@ -25,7 +25,7 @@ pub(crate) struct Course<P, W> {
     pub(crate) way: PhantomData<W>,
 }
 
-impl<P, W> Course<P, W> {
+impl<P, W> SplitState<P, W> {
     // The range of the view that no piece has yet.
     fn range<T: BitStore, O: BitOrder>(&self, bits: BitSlice<'_, T, O>) -> Range<usize>
         ensures start { result.start ≡ (left_on (seen bits.entry) self.now).from }
@@ -51,13 +51,13 @@ impl<P, W> Course<P, W> {
     }
 }
 
-impl<P: FnMut(usize, &bool) -> bool, W: Way> Course<P, W> {
+impl<P: FnMut(usize, &bool) -> bool, W: SplitKind> SplitState<P, W> {
     /// All bits of a view are left.
     pub(crate) fn of<T: BitStore, O: BitOrder>(bits: BitSlice<'_, T, O>, pred: P) -> Self
         ensures { left_on (seen bits.entry) result ≡ unsplit_in W.INCLUSIVE (seen bits.entry) pred }
     {
         let to = bits.len();
-        Course {
+        SplitState {
             from: 0,
             to,
             finished: W::INCLUSIVE && to == 0,

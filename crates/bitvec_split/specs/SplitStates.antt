@@ -2,10 +2,10 @@
 use Rattle.std.specs.Prelude.{min}
 use Rattle.bitvec_slice.specs.Seen.{Seen}
 use Rattle.bitvec_split.specs.Lent.{LeftIn}
-use Rattle.bitvec_split.specs.declared.course.Course.{Course}
+use Rattle.bitvec_split.specs.declared.split_state.SplitState.{SplitState}
 
 -- what is left of the view; an index behind its end stands for its end
-abbrev pub left_on : {T P W : Type 0} → Seen T → Course P W → LeftIn T P
+abbrev pub left_on : {T P W : Type 0} → Seen T → SplitState P W → LeftIn T P
 left_on view c =
     let to = min c.to view.window.len in
     record { view = view; from = min c.from to; to = to; finished = c.finished; pred = c.pred }

@@ -3,7 +3,7 @@ ghost use Rattle.std.specs.Prelude.{◌≡◌, ◌+◌, ◌<◌, ◌^◌, Bool, 
 ghost use Rattle.bitvec_split.specs.Splits.{asked_behind, end_of};
 
 /// How a split goes. `bitvec` has a type for each way.
-pub trait Way {
+pub trait SplitKind {
     /// Whether a piece keeps the bit at which the predicate said yes.
     const INCLUSIVE: bool;
 
@@ -24,7 +24,7 @@ pub struct Inclusive;
 /// The way of `rsplit` and `rsplitn`.
 pub struct Reversed;
 
-impl Way for Forward {
+impl SplitKind for Forward {
     const INCLUSIVE: bool = false;
 
     const REVERSED: bool = false;
@@ -34,7 +34,7 @@ impl Way for Forward {
     ghost REVERSED = { false };
 }
 
-impl Way for Inclusive {
+impl SplitKind for Inclusive {
     const INCLUSIVE: bool = true;
 
     const REVERSED: bool = false;
@@ -44,7 +44,7 @@ impl Way for Inclusive {
     ghost REVERSED = { false };
 }
 
-impl Way for Reversed {
+impl SplitKind for Reversed {
     const INCLUSIVE: bool = false;
 
     const REVERSED: bool = true;
@@ -56,7 +56,7 @@ impl Way for Reversed {
 
 /// The index behind a piece that the yes at an index ends. `bitvec` has no such call.
 #[doc(hidden)]
-pub fn end_of<W: Way>(index: usize) -> usize
+pub fn end_of<W: SplitKind>(index: usize) -> usize
     requires { index + 1 < 2 ^ 64 }
     ensures { result ≡ end_of W.INCLUSIVE index }
 {
@@ -65,7 +65,7 @@ pub fn end_of<W: Way>(index: usize) -> usize
 
 /// How many of the last bits a call from the back of so many asks about. `bitvec` has no such call.
 #[doc(hidden)]
-pub fn asked_behind<W: Way>(len: usize) -> usize
+pub fn asked_behind<W: SplitKind>(len: usize) -> usize
     ensures { result ≡ asked_behind W.INCLUSIVE len }
 {
     if W::INCLUSIVE {
