@@ -1,6 +1,6 @@
-// The library by element type and order: the functions of face/fehimbary.h, called so that none refuses.
+// The library by element type and order: the functions of bindings/fehimbary.h, called so that none refuses.
 #pragma once
-#include "../face/fehimbary.hpp"
+#include "../bindings/fehimbary.hpp"
 #include <cstddef>
 #include <cstdint>
 #include <type_traits>

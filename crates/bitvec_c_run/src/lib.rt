@@ -1,6 +1,6 @@
 //! Runs of steps as C functions, an element type each.
 //!
-//! They stand apart from the other exports, in an archive of their own that `face/` joins to that of
+//! They stand apart from the other exports, in an archive of their own that `bindings/` joins to that of
 //! `bitvec_c`: a library is compiled as one, and a kernel that a run calls beside an operation of its
 //! own is no longer compiled into that. Conditions are as of `bitvec_c`.
 #![tactic(auto)]

@@ -1,5 +1,5 @@
 //! Elements, orders, accessors and searches, runs on worked rows, the program on streams and memory that fail, and what
-//! no clause of these says. The commands themselves are compared with a model in `runs/`.
+//! no clause of these says. The commands themselves are compared with a model in `golden/`.
 #![tactic(auto)]
 
 /// The steps of a table of rows: from, up to, and the command.

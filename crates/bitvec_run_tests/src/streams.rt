@@ -1,5 +1,5 @@
 //! The program on readers and writers that give or take little, or fail. What it makes of its own streams shows
-//! `runs/bitdo.txt`.
+//! `golden/bitdo.txt`.
 use crate::program::{expect_read, status, words};
 use bitvec_test_support::{FailingReader, FailingWriter, OneByteReader};
 use std::alloc::Global;

@@ -1,5 +1,5 @@
 #!/usr/bin/env bash
-# The library from C, C++ and Python, as it is installed: `face/check.sh [LIBRARY..]`, by hand. Without archives that were built
+# The library from C, C++ and Python, as it is installed: `bindings/check.sh [LIBRARY..]`, by hand. Without archives that were built
 # before it is proved and built first. Clients compare every function with loops over single bits (10,000 windows from C for each
 # element type, with the sanitizers, and fewer under valgrind, from C++ and from Python), the names of the header are those of
 # the archive, and the examples of docs/C.md are compiled as it says, and print what it says.

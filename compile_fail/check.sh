@@ -3,7 +3,7 @@
 # is the error that its function, named as the file, has to be refused by: `CALL-requires` by the prover, since what CALL
 # requires isn't given, any other by the compiler, which looks at borrows once names and types are well. All modules of a
 # kind are one crate, which is checked over the libraries as sources: nothing has to be proved before, and nothing is
-# left behind. `refused/check.sh` takes the compiler's, and has it read the prover's, in seconds; `refused/check.sh all` has
+# left behind. `compile_fail/check.sh` takes the compiler's, and has it read the prover's, in seconds; `compile_fail/check.sh all` has
 # the prover refuse these, in minutes, since it proves what those functions call.
 set -euo pipefail
 cd "$(dirname "$0")/.."
@@ -43,7 +43,7 @@ check() {
 
 mkdir -p "$room"/{types,borrows,prover}/src
 asked=()
-for file in refused/*.txt; do
+for file in compile_fail/*.txt; do
   read -r want < "$file"
   name=$(basename "$file" .txt)
   case $want in
@@ -65,7 +65,7 @@ if [ -z "$all" ]; then asked=('no function'); fi
 # those for the prover are in order for the compiler
 failed=0
 if grep -q -e '^src/[a-z_]*\.rt:[0-9:]* error\[' "$room/prover/said"; then failed=1; fi
-for file in refused/*.txt; do
+for file in compile_fail/*.txt; do
   read -r want < "$file"
   name=$(basename "$file" .txt)
   case $want in

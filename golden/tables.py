@@ -177,4 +177,4 @@ def read(path):
                 yield from block.runs()
                 block = None
         except (KeyError, ValueError) as error:
-            raise SystemExit(f"runs/{path.name}:{number}: no such line in a table, or no such block: {error}") from None
+            raise SystemExit(f"golden/{path.name}:{number}: no such line in a table, or no such block: {error}") from None
