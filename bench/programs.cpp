@@ -133,7 +133,8 @@ static void records(const char *program) {
 static void widths(const char *program) {
     std::printf("\n### 1048576 bits in elements of 64 and of 128 bits, in bits per ns\n\n"
                 "| operation | phase | u8 | u64 | u128 | u128 / u64 |\n|---|---|---|---|---|---|\n");
-    for (const char *operation : {"copy", "or", "equality", "count_ones", "first_one", "reverse"})
+    for (const char *operation :
+         {"copy", "or", "equality", "starts_with", "ends_with", "count_ones", "first_one", "reverse"})
         for (size_t phase : {0, 29}) {
             if (phase && std::string("count_ones first_one reverse").find(operation) != std::string::npos)
                 continue;
@@ -290,6 +291,27 @@ static void windows(const char *program) {
     window(program, "rotate_left", 0, 0, "by 525", peers.rotate_left(525));
 }
 
+// One range of a view or-ed into another one of it, beside `|=` with another memory, of as many bits: apart, with so many
+// bits between the places in an element, and all but the last bit one place on.
+static void within(const char *program) {
+    std::printf("\n### One range of a view or-ed into another, under `Lsb0`, in bits per ns\n\n"
+                "| bits | elements | phase | `\\|=` with another memory | apart | overlapping | apart / `\\|=` | overlapping / `\\|=` |\n"
+                "|---|---|---|---|---|---|---|---|\n");
+    for (size_t bits : {1024, 524288})
+        for (size_t width : {8, 64})
+            for (size_t phase : {0, 29}) {
+                const auto speed = [&](const char *operation, size_t right, size_t len) {
+                    const Task task{operation, {width}, {"lsb0", std::to_string(right), "0", std::to_string(len)}};
+                    return bits / time_runs(program, task, 4'000'000'000 / bits / 100);
+                };
+                const double other = speed("or", phase, bits);
+                const double apart = speed("or_within", 0, 2 * (bits + phase));
+                const double overlapping = speed("or_overlapping", 0, bits);
+                std::printf("| %zu | u%zu | %zu | %.3g | %.3g | %.3g | %.3g | %.3g |\n", bits, width, phase, other, apart, overlapping,
+                            apart / other, overlapping / other);
+            }
+}
+
 int main(int, char **words) {
     records(words[1]);
     widths(words[1]);
@@ -297,4 +319,5 @@ int main(int, char **words) {
     walks(words[1]);
     bits(words[1]);
     windows(words[1]);
+    within(words[1]);
 }

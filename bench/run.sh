@@ -1,6 +1,7 @@
 #!/bin/sh
-# Builds the library, its peers and the driver, prints the tables that README.md explains, and draws speeds.svg.
-# What it builds goes to bench/out and to out/ of crates/bitvec_c, crates/bitvec_times and crates/sieve.
+# Builds the library, its peers and the driver, writes RESULTS.md, which README.md explains, and draws speeds.svg.
+# What it builds goes to bench/out and to out/ of face, crates/bitvec_c, crates/bitvec_c_run,
+# crates/bitvec_times and crates/sieve.
 set -eu
 cd "$(dirname "$0")"
 
@@ -8,7 +9,7 @@ processor=x86-64-v2
 registry=/usr/share/cargo/registry
 
 missing=
-for package in g++ python3 libboost-dev librust-fixedbitset-dev librust-bit-vec-dev; do
+for package in g++ make python3 python3-bitarray libboost-dev librust-fixedbitset-dev librust-bit-vec-dev; do
     dpkg-query -W -f '${Status}' "$package" 2>/dev/null | grep -q ' installed' || missing="$missing $package"
 done
 command -v rustc >/dev/null || missing="$missing rustc"
@@ -23,6 +24,8 @@ mkdir -p out
 (cd ../crates/bitvec_c && rt lib) >&2
 (cd ../crates/bitvec_times && rt run -- encode 8 0 0) >/dev/null
 (cd ../crates/sieve && rt run -- count 0) >/dev/null
+make -s -C ../bindings wheel >&2
+/usr/bin/python3 -m zipfile -e ../bindings/out/fehimbary-*.whl out/python
 
 # rust NAME KIND SOURCE FLAGS..: compiles one crate of the peers
 rust() {
@@ -42,12 +45,21 @@ g++ -std=c++17 -O3 "-march=$processor" -Wall -Wextra -Wno-stringop-overflow driv
 g++ -std=c++17 -O3 "-march=$processor" -Wall -Wextra programs.cpp out/libpeers.a -lpthread -ldl -o out/programs
 g++ -std=c++17 -O3 "-march=$processor" -Wall -Wextra sieve.cpp -o out/sieve
 
-echo "- machine: $(lscpu | sed -n 's/^Model name: *//p'), $(nproc) processors"
-echo "- kit: $(rt version)"
-echo "- compilers: $(g++ --version | head -n 1), -O3 -march=$processor; $(rustc --version), -C opt-level=3 -C target-cpu=$processor"
-echo "- load at the start: $(cut -d ' ' -f 1 /proc/loadavg)"
-echo
-out/driver
 out/driver plot | python3 plot.py > speeds.svg
-out/programs ../crates/bitvec_times/out/bitvec_times
-exec out/sieve ../crates/sieve/out/sieve
+{
+    echo "# Results"
+    echo
+    echo "What \`bench/run.sh\` wrote on the machine named below. README.md says what each table measures. A ratio above 1 means that the library is faster."
+    echo
+    echo "- machine: $(lscpu | sed -n 's/^Model name: *//p'), $(nproc) processors"
+    echo "- kit: $(rt version)"
+    echo "- compilers: $(g++ --version | head -n 1), -O3 -march=$processor; $(rustc --version), -C opt-level=3 -C target-cpu=$processor"
+    echo "- load at the start: $(cut -d ' ' -f 1 /proc/loadavg)"
+    echo
+    out/driver
+    out/programs ../crates/bitvec_times/out/bitvec_times
+    out/sieve ../crates/sieve/out/sieve
+    echo
+    PYTHONPATH=out/python /usr/bin/python3 beside_bitarray.py
+} > out/results.md
+mv out/results.md RESULTS.md

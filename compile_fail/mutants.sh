@@ -6,7 +6,7 @@
 # breaks. With names as arguments these patches alone are tried, each in a run of its own.
 set -euo pipefail
 cd "$(dirname "$0")/.."
-slips=$PWD/compile_fail/mutants
+mutants=$PWD/compile_fail/mutants
 copy=$(mktemp -d)
 trap 'rm -rf "$copy"' EXIT
 tar --exclude=out --exclude=.git -cf - . | tar -xf - -C "$copy"
@@ -35,12 +35,12 @@ try() {
 
 if [ $# -gt 0 ]; then
   for name in "$@"; do
-    patch=$slips/$name.patch
+    patch=$mutants/$name.patch
     try "$(head -1 "$patch" | cut -d' ' -f1)" "$patch"
   done
 else
-  for crate in $(head -qn1 "$slips"/*.patch | cut -d' ' -f1 | sort -u); do
-    mapfile -t patches < <(grep -l "^$crate " "$slips"/*.patch)
+  for crate in $(head -qn1 "$mutants"/*.patch | cut -d' ' -f1 | sort -u); do
+    mapfile -t patches < <(grep -l "^$crate " "$mutants"/*.patch)
     try "$crate" "${patches[@]}"
   done
 fi

@@ -246,7 +246,7 @@ class Checks {
             "swap", wanted, [&](View view) { view.swap(right.view()); }, [&](List &l) { std::swap(l, right_list); });
         expect(right.memory == swapped.memory, "the right memory after swap");
         edit(
-            "copy", wanted, [&](View view) { view.copy(right.view()); }, [&](List &l) { l = right_list; });
+            "copy", wanted, [&](View view) { view.copy_from(right.view()); }, [&](List &l) { l = right_list; });
         expect(right.memory == swapped.memory, "the right memory after copy");
     }
 
@@ -284,8 +284,8 @@ class Checks {
         const Seen view = left.view(), other = right.view();
         const bool is_short = right_list.size() <= list.size();
         const size_t rest = is_short ? list.size() - right_list.size() : 0;
-        expect(view.equal(other) == (list == right_list), "equal");
-        expect(view.equal(view) && view.compare(view) == 0 && view.contains(view), "a view beside itself");
+        expect((view == other) == (list == right_list) && (view != other) == (list != right_list), "==");
+        expect(view == view && view.compare(view) == 0 && view.contains(view), "a view beside itself");
         expect(view.compare(other) == (list < right_list ? -1 : list == right_list ? 0 : 1), "compare");
         expect(view.starts_with(other) == (is_short && std::equal(right_list.begin(), right_list.end(), list.begin())),
                "starts_with");

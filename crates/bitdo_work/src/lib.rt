@@ -11,29 +11,29 @@ mod print;
 mod program;
 mod words;
 
-/// What crates above name of `bitvec_base`.
+/// Items of `bitvec_base` that crates above use.
 pub mod base {
     pub use bitvec_run::base::{BitOrder, HiLo, Lsb0, Msb0};
 }
 
-/// What crates above name of `bitvec_cells`.
+/// Items of `bitvec_cells` that crates above use.
 pub mod cells {
     pub use bitvec_run::cells::{Cells, CellsRead, Exclusive, Shared};
 }
 
-/// What crates above name of `bitvec_run`.
+/// Items of `bitvec_run` that crates above use.
 pub mod commands {
     pub use bitvec_run::{
         FieldOp, FieldStep, Op, Refusal, Reply, RunError, Step, Window, run, run_fields,
     };
 }
 
-/// What crates above name of `bitvec_engine`.
+/// Items of `bitvec_engine` that crates above use.
 pub mod engine {
     pub use bitvec_run::engine::{BitOp, ByWords, SliceOrder};
 }
 
-/// What crates above name of `bitvec_store`.
+/// Items of `bitvec_store` that crates above use.
 pub mod store {
     pub use bitvec_run::store::BitStore;
 }

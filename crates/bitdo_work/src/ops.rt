@@ -47,7 +47,7 @@ pub(crate) fn parse_op(word: &str, arguments: Words<'_>) -> Option<Op>
     }
 }
 
-/// The same of the commands with a right window.
+/// Parses a command with a right window.
 #[tactic(auto, unfolding(crate::specs::Ops::right_op_of))]
 fn parse_right_op(word: &str, arguments: Words<'_>) -> Option<Op>
     ensures { result ≡ right_op_of word.now (words_left arguments.entry) }
@@ -66,7 +66,7 @@ fn parse_right_op(word: &str, arguments: Words<'_>) -> Option<Op>
     }
 }
 
-/// The same of the commands that ask without an argument.
+/// Parses a question without an argument.
 #[tactic(auto, unfolding(crate::specs::Ops::query_of))]
 fn parse_query(word: &str, arguments: Words<'_>) -> Option<Op>
     ensures { result ≡ query_of word.now (words_left arguments.entry) }

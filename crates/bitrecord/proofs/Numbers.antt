@@ -2,7 +2,7 @@
 use Rattle.std.specs.Prelude.{◌≡◌, ℕ, ◌+◌, ◌-◌, ◌/◌, ◌%◌, ◌^◌, ◌<◌, ◌≤◌, ◌⊎◌, if◌then◌else◌, Bool, List, length, slice_index, slice_set, refl}
 use Rattle.std.proofs.Common.{arith, sym, ◌∙◌, ap, ⊎_elim}
 use Rattle.std.proofs.lemmas.List.{get_or-set_other, get_or-set_same, get_or_default, length-map, same_lists}
-use Rattle.bitvec.specs.SeenLaws.{length_bits}
+use Rattle.bitvec.specs.ShowingLaws.{length-seen}
 use Rattle.bitvec.specs.Types.{BitSlice, Order, Store, Window}
 use Rattle.bitvec.specs.Views.{seen}
 use Rattle.bitvec.specs.Window.{IsWithin}
@@ -32,23 +32,20 @@ read-all endian high b s list fields out many told =
     get_or_default out k d 0 low ∙ told k (omega arith) ∙ sym (number-of-record endian high b s list fields k d (omega arith)))
 
 module _ {T O : Type 0} {t : Store T} {o : Order O} (high : Bool) (view : BitSlice T O t o) where
-  long : length (seen view).bits ≡ (seen view).window.len
-  long = length_bits t.BITS o.at t.value view.elements.now view.head view.len view.inside
-
   -- the numbers of a record fit their fields
   pub view-encodable : (endian : Endian) (bits : ℕ) (fields : List Window) → IsLayout bits fields → (seen view).window.len ≡ bits → AreEncodable fields (record_in endian high t.BITS (seen view).window.start (seen view).bits fields)
   view-encodable endian bits fields layout many =
-      record-encodable endian high t.BITS (seen view).window.start (seen view).bits fields (λ k low. rw (long ∙ many) (layout.inside k low))
+      record-encodable endian high t.BITS (seen view).window.start (seen view).bits fields (λ k low. rw (length-seen view ∙ many) (layout.inside k low))
 
   pub view-fits : (endian : Endian) (bits n : ℕ) (fields : List Window) → IsLayout bits fields → (seen view).window.len ≡ bits → n < length fields → Fits (field_at fields n) (number_in endian high t.BITS (seen view).window.start (seen view).bits (field_at fields n))
-  view-fits endian bits n fields layout many below = number-below endian high t.BITS (seen view).window.start bits n fields (seen view).bits layout (long ∙ many) below
+  view-fits endian bits n fields layout many below = number-below endian high t.BITS (seen view).window.start bits n fields (seen view).bits layout (length-seen view ∙ many) below
 
   -- the number of a run, of which the first and the last field are these
   pub run-number : (endian : Endian) (bits first last number : ℕ) (fields : List Window) (from to : Window) → IsSeamless endian high → IsLayout bits fields → (seen view).window.len ≡ bits → IsRun fields first last
       → from ≡ field_at fields first → to ≡ field_at fields last → number ≡ number_in endian high t.BITS (seen view).window.start (seen view).bits (record { start = from.start; len = to.start + to.len - from.start })
       → (number ≡ plain_number high (seen view).bits (across fields first last)) × (number < 2 ^ (across fields first last).len)
   run-number endian bits first last number fields from to seam layout many run from-is to-is told =
-      let all = long ∙ many in
+      let all = length-seen view ∙ many in
       let inside = layout.inside last run.below in
       let start = inside.start in
       let len = inside.len in
@@ -61,7 +58,7 @@ module _ {T O : Type 0} {t : Store T} {o : Order O} (high : Bool) (view : BitSli
       → word ≡ aligned high (plain_number high (seen view).bits (across fields n last)) (across fields n last).len → SplitsOff high word (field_at fields n).len number left
       → (number ≡ number_in endian high t.BITS (seen view).window.start (seen view).bits (field_at fields n)) × (n + 1 ≤ last → left ≡ aligned high (plain_number high (seen view).bits (across fields (n + 1) last)) (across fields (n + 1) last).len)
   run-split endian bits first last n word number left fields seam layout many run several least low is split =
-      let all = long ∙ many in
+      let all = length-seen view ∙ many in
       let inside = layout.inside last run.below in
       let start = inside.start in
       let len = inside.len in
@@ -82,7 +79,7 @@ module _ {T O : Type 0} {t : Store T} {o : Order O} (high : Bool) (view : BitSli
       → word ≡ number_in endian high t.BITS (seen view).window.start (seen view).bits (record { start = field.start + field.len - 64; len = 64 })
       → (word < 2 ^ 64) × ((if high then word % 2 ^ field.len else word / 2 ^ (64 - field.len)) ≡ number_in endian high t.BITS (seen view).window.start (seen view).bits field)
   word-before endian field word seam inside wide narrow told =
-      let all = long in
+      let all = length-seen view in
       let start = inside.start in
       let len = inside.len in
       let around : Window = record { start = field.start + field.len - 64; len = 64 } in

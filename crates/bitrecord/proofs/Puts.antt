@@ -5,7 +5,7 @@ use Rattle.std.proofs.Math.Nat.{mod-eq_of_lt, mod-mod}
 use Rattle.std.proofs.Math.Pow.{pow_mono}
 use Rattle.bitvec.specs.LoadLaws.{loaded_be-phase, loaded_le-phase}
 use Rattle.bitvec.specs.Segments.{loaded_be, loaded_le, stored_be, stored_le}
-use Rattle.bitvec.specs.SeenLaws.{length_bits}
+use Rattle.bitvec.specs.ShowingLaws.{length-seen_mut}
 use Rattle.bitvec.specs.StoreLaws.{length-stored_be, length-stored_le, stored_be-loads, stored_le-loads}
 use Rattle.bitvec.specs.Types.{BitSliceMut, Order, Store, Window}
 use Rattle.bitvec.specs.Views.{seen_mut}
@@ -53,15 +53,12 @@ take-be high b s start list part field is place =
     ∙ ap (loaded_be high b (s + field.start)) (is ∙ sym (field-slice list field))
 
 module _ {T O : Type 0} {t : Store T} {o : Order O} (high : Bool) (before after : BitSliceMut T O t o) where
-  long : (v : BitSliceMut T O t o) → length (seen_mut v).bits ≡ (seen_mut v).window.len
-  long v = length_bits t.BITS o.at t.value v.elements.now v.head v.len v.inside
-
   -- a list with the number, written into the field
   pub put-field : (endian : Endian) (field : Window) (value : ℕ) (new : List Bool) → IsWithin field (seen_mut before).window.len → length new ≡ field.len
       → number_of endian high t.BITS ((seen_mut before).window.start + field.start) new ≡ value
       → WritesBits before after (write_at (seen_mut before).bits field.start new) → WritesField endian high field value before after
   put-field endian field value new inside many is wrote =
-      let all = long before in
+      let all = length-seen_mut before in
       let start = inside.start in
       let len = inside.len in
       let within : IsWithin field (length (seen_mut before).bits) = record { start = omega arith; len = omega arith } in
@@ -79,7 +76,7 @@ module _ {T O : Type 0} {t : Store T} {o : Order O} (high : Bool) (before after 
       → WritesBits before after (write_at (seen_mut before).bits field.start (stored_le high t.BITS ((seen_mut before).window.start + field.start) value (slice_range (seen_mut before).bits field.start (field.start + field.len))))
       → WritesField little high field value before after
   put-le field value inside fits some wrote =
-      let all = long before in
+      let all = length-seen_mut before in
       let start = inside.start in
       let len = inside.len in
       let list = slice_range (seen_mut before).bits field.start (field.start + field.len) in
@@ -91,7 +88,7 @@ module _ {T O : Type 0} {t : Store T} {o : Order O} (high : Bool) (before after 
       → WritesBits before after (write_at (seen_mut before).bits field.start (stored_be high t.BITS ((seen_mut before).window.start + field.start) value (slice_range (seen_mut before).bits field.start (field.start + field.len))))
       → WritesField big high field value before after
   put-be field value inside fits some wrote =
-      let all = long before in
+      let all = length-seen_mut before in
       let start = inside.start in
       let len = inside.len in
       let list = slice_range (seen_mut before).bits field.start (field.start + field.len) in
@@ -103,8 +100,8 @@ module _ {T O : Type 0} {t : Store T} {o : Order O} (high : Bool) (before after 
   pub other-field : (endian : Endian) (field other : Window) (value : ℕ) → AreApart other field → IsWithin other (seen_mut before).window.len → WritesField endian high field value before after
       → number_in endian high t.BITS (seen_mut after).window.start (seen_mut after).bits other ≡ number_in endian high t.BITS (seen_mut before).window.start (seen_mut before).bits other
   other-field endian field other value apart inside wrote =
-      let all = long before in
-      let now = long after ∙ ap (λ (w : Window). w.len) wrote.written.window in
+      let all = length-seen_mut before in
+      let now = length-seen_mut after ∙ ap (λ (w : Window). w.len) wrote.written.window in
       let start = inside.start in
       let len = inside.len in
       ap (λ (w : Window). number_of endian high t.BITS (w.start + other.start) (window_of (seen_mut after).bits other)) wrote.written.window
@@ -117,7 +114,7 @@ module _ {T O : Type 0} {t : Store T} {o : Order O} (high : Bool) (before after 
       → ((list : List Bool) → run.start + run.len ≤ length list → plain_number high list run ≡ word → (k : ℕ) → first ≤ k → k ≤ last → plain_number high list (field_at fields k) ≡ slice_index values k)
       → WritesField endian high run word before after → WritesRun endian high fields values first last before after
   run-written endian bits fields values first last word run seam layout many is start end told wrote =
-      let now = long after ∙ ap (λ (w : Window). w.len) wrote.written.window in
+      let now = length-seen_mut after ∙ ap (λ (w : Window). w.len) wrote.written.window in
       let inside = layout.inside last is.below in
       let from = inside.start in
       let most = inside.len in
@@ -168,7 +165,7 @@ module _ {T O : Type 0} {t : Store T} {o : Order O} (high : Bool) (first now aft
       let from = inside.start in
       let most = inside.len in
       let width = ap (λ (w : Window). w.len) one.written.window in
-      let long = long high now after after ∙ ap (λ (w : Window). w.len) two.written.window ∙ width in
+      let long = length-seen_mut after ∙ ap (λ (w : Window). w.len) two.written.window ∙ width in
       let plain = seamless-number endian high t.BITS (seen_mut after).window.start (seen_mut after).bits in
       let left = sym (plain x seam) ∙ other-field high now after endian y x w (λ over. let before = over.first in let beyond = over.second in omega arith) (record { start = omega arith; len = omega arith }) two ∙ one.number in
       let right = sym (plain y seam) ∙ two.number in

@@ -9,7 +9,7 @@ use Rattle.std.specs.List.{Contains}
 use Rattle.std.specs.declared.result.Result.{Result}
 use Rattle.bitvec.specs.LoadLaws.{loaded_be-below, loaded_le-below}
 use Rattle.bitvec.specs.Seen.{Seen}
-use Rattle.bitvec.specs.SeenLaws.{length_bits}
+use Rattle.bitvec.specs.ShowingLaws.{length-seen_mut}
 use Rattle.bitvec.specs.StoreLaws.{loaded_be-determines, loaded_le-determines}
 use Rattle.bitvec.specs.Types.{BitSliceMut, Order, Store, Window}
 use Rattle.bitvec.specs.Views.{seen_mut}
@@ -137,9 +137,6 @@ stands-among {P} fields values others numbers many also order k low then =
     then j few (ap (λ (p : Window × ℕ). p.0) at-j) (ap (λ (p : Window × ℕ). p.1) at-j)
 
 module _ {T O : Type 0} {t : Store T} {o : Order O} (endian : Endian) (high : Bool) where
-  long : (v : BitSliceMut T O t o) → length (seen_mut v).bits ≡ (seen_mut v).window.len
-  long v = length_bits t.BITS o.at t.value v.elements.now v.head v.len v.inside
-
   -- views that have the same bits in no field, and into which the same values were written: they have the same bits
   pub writes-determine : (fields : List Window) (values : List ℕ) (first one second other : BitSliceMut T O t o) → 0 < t.BITS → EachField (λ field. IsWithin field (seen_mut first).window.len) fields
       → (seen_mut second).window ≡ (seen_mut first).window → AgreeOutside fields (seen_mut first).bits (seen_mut second).bits
@@ -147,8 +144,8 @@ module _ {T O : Type 0} {t : Store T} {o : Order O} (endian : Endian) (high : Bo
   writes-determine fields values first one second other some inside window agree wrote also =
       let place = wrote.written.window in
       let there = also.written.window ∙ window in
-      let many : length (seen_mut one).bits ≡ (seen_mut first).window.len = long one ∙ ap (λ (w : Window). w.len) place in
-      let more : length (seen_mut other).bits ≡ (seen_mut first).window.len = long other ∙ ap (λ (w : Window). w.len) there in
+      let many : length (seen_mut one).bits ≡ (seen_mut first).window.len = length-seen_mut one ∙ ap (λ (w : Window). w.len) place in
+      let more : length (seen_mut other).bits ≡ (seen_mut first).window.len = length-seen_mut other ∙ ap (λ (w : Window). w.len) there in
       fields-determine endian high t.BITS (seen_mut first).window.start fields (seen_mut one).bits (seen_mut other).bits some (many ∙ sym more) (λ k low. rw many (inside k low))
       (λ k low. ap (λ (w : Window). number_in endian high t.BITS w.start (seen_mut one).bits (field_at fields k)) (sym place) ∙ wrote.numbers k low
       ∙ sym (also.numbers k low) ∙ ap (λ (w : Window). number_in endian high t.BITS w.start (seen_mut other).bits (field_at fields k)) there)
@@ -159,9 +156,9 @@ module _ {T O : Type 0} {t : Store T} {o : Order O} (endian : Endian) (high : Bo
       → WritesRecord endian high fields (record_in endian high t.BITS (seen_mut before).window.start (seen_mut before).bits fields) before after → WritesBits before after (seen_mut before).bits
   written-back fields before after some inside wrote =
       let place = wrote.written.window in
-      let many : length (seen_mut after).bits ≡ (seen_mut before).window.len = long after ∙ ap (λ (w : Window). w.len) place in
+      let many : length (seen_mut after).bits ≡ (seen_mut before).window.len = length-seen_mut after ∙ ap (λ (w : Window). w.len) place in
       let same : (seen_mut after).bits ≡ (seen_mut before).bits =
-      fields-determine endian high t.BITS (seen_mut before).window.start fields (seen_mut after).bits (seen_mut before).bits some (many ∙ sym (long before)) (λ k low. rw many (inside k low))
+      fields-determine endian high t.BITS (seen_mut before).window.start fields (seen_mut after).bits (seen_mut before).bits some (many ∙ sym (length-seen_mut before)) (λ k low. rw many (inside k low))
       (λ k low. ap (λ (w : Window). number_in endian high t.BITS w.start (seen_mut after).bits (field_at fields k)) (sym place) ∙ wrote.numbers k low
       ∙ number-of-record endian high t.BITS (seen_mut before).window.start (seen_mut before).bits fields k 0 low)
       wrote.others in
@@ -182,7 +179,7 @@ module _ {T O : Type 0} {t : Store T} {o : Order O} (endian : Endian) (high : Bo
   pub encodable-back : (fields : List Window) (values : List ℕ) (before : BitSliceMut T O t o) → EachField (λ field. IsWithin field (seen_mut before).window.len) fields
       → values ≡ record_in endian high t.BITS (seen_mut before).window.start (seen_mut before).bits fields → AreEncodable fields values
   encodable-back fields values before inside told =
-      subst (AreEncodable fields) (sym told) (record-encodable endian high t.BITS (seen_mut before).window.start (seen_mut before).bits fields (λ k low. rw (long before) (inside k low)))
+      subst (AreEncodable fields) (sym told) (record-encodable endian high t.BITS (seen_mut before).window.start (seen_mut before).bits fields (λ k low. rw (length-seen_mut before) (inside k low)))
 
   pub encoded-back : {X : Type 0} (fields : List Window) (values : List ℕ) (before after : BitSliceMut T O t o) (r : Result X EncodeError) → 0 < t.BITS → EachField (λ field. IsWithin field (seen_mut before).window.len) fields
       → values ≡ record_in endian high t.BITS (seen_mut before).window.start (seen_mut before).bits fields → IfErr r (IsRefusal fields values) → OnOk r (WritesRecord endian high fields values before after)

@@ -39,7 +39,7 @@ abbrev pub IsSeamless : Endian → Bool → Type 0
 IsSeamless end.Little high = high ≡ false
 IsSeamless end.Big high = high ≡ true
 
--- the number of a window of a list, as of one segment
+-- the number of a window of a list, taken as one segment
 abbrev pub plain_number : Bool → List Bool → Window → ℕ
 plain_number high list window = segment_number high (window_of list window)
 

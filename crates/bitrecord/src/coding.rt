@@ -34,7 +34,7 @@ fn put_le<I: Integral, T: BitStore, O: FieldOrder>(
     });
 }
 
-/// Writes an integer into a field, the first segment highest. Conditions: as of `put_le`.
+/// Writes an integer into a field, the first segment highest. Conditions: as for `put_le`.
 fn put_be<I: Integral, T: BitStore, O: FieldOrder>(
     field: Window,
     value: I,

@@ -1,5 +1,4 @@
 //! Why values weren't encoded.
-use std::fmt::{self, Display, Formatter};
 
 /// Why values weren't encoded, in the order in which it is tested. Nothing was written then.
 #[derive(Clone, Copy, PartialEq, Eq, Debug)]
@@ -8,13 +7,4 @@ pub enum EncodeError {
     Count,
     /// The value of this number, the first such one, has more bits than its field.
     Range(usize),
-}
-
-impl Display for EncodeError {
-    fn fmt<W: fmt::Write>(&self, formatter: &mut Formatter<W>) -> fmt::Result {
-        match self {
-            EncodeError::Count => formatter.write_str("there isn't one value a field"),
-            EncodeError::Range(value) => write!(formatter, "value {value} doesn't fit its field"),
-        }
-    }
 }

@@ -17,7 +17,7 @@ use bitvec::index::Window;
 use bitvec::prelude::*;
 use std::alloc::Allocator;
 
-/// Writes values into the fields of a run, of which there are several, as one word. Conditions: as of
+/// Writes values into the fields of a run, of which there are several, as one word. Conditions: as for
 /// `encode`, each value fits its field, and the run is one of the layout, whose numbers are made of one
 /// another.
 fn encode_run<T: BitStore, O: FieldOrder, A: Allocator>(
@@ -46,7 +46,7 @@ fn encode_run<T: BitStore, O: FieldOrder, A: Allocator>(
     put_word(endian, Window { start, len }, word, out);
 }
 
-/// Writes a value into a field that is in no run of several. Conditions: as of `put`, and numbers are
+/// Writes a value into a field that is in no run of several. Conditions: as for `put`, and numbers are
 /// made of one another.
 fn put_alone<T: BitStore, O: FieldOrder>(
     endian: Endian,

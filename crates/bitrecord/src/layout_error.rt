@@ -1,5 +1,4 @@
 //! Why a list of fields is no layout.
-use std::fmt::{self, Display, Formatter};
 
 /// Why there is no layout, in the order in which it is tested. Fields go by their numbers, from 0.
 #[derive(Clone, Copy, PartialEq, Eq, Debug)]
@@ -13,23 +12,4 @@ pub enum LayoutError {
     Overlap(usize, usize),
     /// There was no memory for the fields.
     Memory,
-}
-
-impl Display for LayoutError {
-    fn fmt<W: fmt::Write>(&self, formatter: &mut Formatter<W>) -> fmt::Result {
-        match self {
-            LayoutError::Width(field) => write!(
-                formatter,
-                "field {field} isn't 1 to 128 bits wide"
-            ),
-            LayoutError::Outside(field) => write!(
-                formatter,
-                "field {field} lies outside the record"
-            ),
-            LayoutError::Overlap(field, other) => {
-                write!(formatter, "fields {field} and {other} overlap")
-            }
-            LayoutError::Memory => formatter.write_str("out of memory"),
-        }
-    }
 }

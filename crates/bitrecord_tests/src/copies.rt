@@ -27,7 +27,7 @@ fn middle<O: SliceOrder>(
         .to_bitvec(alloc)
 }
 
-/// The same by the old name of a copy, of a writable view.
+/// The middle bits of a writable view, by the old name of a copy.
 fn middle_of_writable(alloc: Global, bytes: &mut [u8; 2]) -> Copied<Lsb0> {
     BitSliceMut::<u8, Lsb0>::from_slice_mut(bytes)
         .into_part(4..12)

@@ -1,4 +1,4 @@
-//! Tests of packed records and of copies of views, with their want of memory: callers of `bitrecord` alone.
+//! Tests of packed records and of copies of views, also where memory runs out: callers of `bitrecord` alone.
 #![tactic(auto)]
 
 #[cfg(test)]

@@ -3,7 +3,6 @@
 use crate::coded::encodes;
 use bitrecord::bits::{BitSlice, BitSliceMut, Msb0, Window};
 use bitrecord::{EncodeError, Endian, Layout, LayoutError, decode, decode_one, encode, encode_one};
-use bitvec_test_support::prints;
 use std::alloc::Global;
 
 /// Three bits, seven and six.
@@ -92,24 +91,6 @@ fn fields_are_refused_in_order(rt: HostRuntime) {
         (touching.as_slice(), LayoutError::Overlap(0, 1)),
     ] {
         assert!(rt; Layout::new(rt.alloc(), 16, fields).err() == Some(why));
-    }
-}
-
-#[test]
-fn refusals_have_texts(rt: HostRuntime) {
-    for (why, text) in [
-        (LayoutError::Width(1), "field 1 isn't 1 to 128 bits wide"),
-        (LayoutError::Outside(0), "field 0 lies outside the record"),
-        (LayoutError::Overlap(0, 2), "fields 0 and 2 overlap"),
-        (LayoutError::Memory, "out of memory"),
-    ] {
-        assert!(rt; prints(rt.alloc(), &why, text));
-    }
-    for (why, text) in [
-        (EncodeError::Count, "there isn't one value a field"),
-        (EncodeError::Range(3), "value 3 doesn't fit its field"),
-    ] {
-        assert!(rt; prints(rt.alloc(), &why, text));
     }
 }
 

@@ -42,7 +42,7 @@ fn copy_asks_once(refusing: &Refusing<Global>) -> bool {
     asks_once(view.to_bitvec(refusing), refusing, &COPY, &AllocError)
 }
 
-/// The same of a writable view, by the old name of a copy.
+/// As above, for a writable view, by the old name of a copy.
 fn old_copy_asks_once(refusing: &Refusing<Global>) -> bool {
     let mut bytes = BYTES;
     let view = BitSliceMut::<u8, Lsb0>::from_slice_mut(&mut bytes).into_part(4..124);
@@ -89,13 +89,21 @@ fn a_clone_asks_once(rt: HostRuntime) {
     }
 }
 
-/// Whether a copy of no bits, and repeats of them, are made.
+/// Whether a sequence was made, and has no bits and no elements.
+fn is_empty<E: Drop>(made: Result<Refused<'_>, E>) -> bool {
+    match made {
+        Ok(bits) => bits.is_empty() && bits.as_raw_slice().is_empty(),
+        Err(_) => false,
+    }
+}
+
+/// Whether a copy of no bits, and repeats of them, are made, and are empty.
 fn makes_nothing(none: &Refusing<Global>) -> [bool; 3] {
     let empty = BitSlice::<u8, Lsb0>::empty();
     [
-        empty.to_bitvec(none).is_ok(),
-        empty.repeat(none, 3).is_ok(),
-        empty.repeat(none, usize::MAX).is_ok(),
+        is_empty(empty.to_bitvec(none)),
+        is_empty(empty.repeat(none, 3)),
+        is_empty(empty.repeat(none, usize::MAX)),
     ]
 }
 

@@ -1,6 +1,7 @@
 -- What callers name by `using`: a set of laws for each kind of call.
 use Rattle.std.proofs.lemmas.Grind.{get_or-set_at}
 use Rattle.std.proofs.lemmas.List.{get_or-replicate, get_or-set_other, length-set, reverse-reverse}
+use Rattle.bitvec_owned.specs.edit.CombinedLaws.{get-combined_within_above, get-combined_within_below, get-combined_within_inside, length-combined_within, range-combined_within, range-combined_within_after, range-combined_within_before}
 use Rattle.bitvec_owned.specs.edit.base.CountLaws.{ones_and_zeros}
 use Rattle.bitvec_owned.specs.edit.base.CountedLaws.{ones-all, ones-fewer, ones-flipped, ones-front, ones-more, ones-none, ones-rest, ones-reversed, ones-rotated_left, ones-rotated_right, ones-whole, zeros-all, zeros-fewer, zeros-flipped, zeros-more, zeros-none, zeros-reversed, zeros-rotated_left, zeros-rotated_right}
 use Rattle.bitvec_owned.specs.edit.base.FillLaws.{flip-undoes}
@@ -10,11 +11,13 @@ use Rattle.bitvec_owned.specs.edit.base.RotationLaws.{rotated_left-undoes, rotat
 use Rattle.bitvec_owned.specs.edit.base.WindowLaws.{get-window, length-window}
 use Rattle.bitvec_owned.specs.edit.base.WriteLaws.{get-slice_range, get-write_at_above, get-write_at_below, get-write_at_inside, length-slice_range, length-write_at, range-write_at, range-write_at_after, range-write_at_before}
 use Rattle.bitvec_owned.specs.edit.walk.CostLaws.{enough}
-use Rattle.bitvec_field.specs.IntegersLaws.{remainder-narrow}
+use Rattle.bitvec_in_place.specs.field.IntegersLaws.{remainder-narrow}
+use Rattle.bitvec_in_place.specs.Laws.{lengths as kept_lengths, listed, numbers, ranged}
+use Rattle.bitvec_in_place.specs.RangesLaws.{worded as words}
 use Rattle.bitvec_iter.specs.JoinLaws.{joining as chunks}
 use Rattle.bitvec_iter.specs.Laws.{walked as walks}
-use Rattle.bitvec_field.specs.segments.LoadLaws.{loaded-one, loaded_be-phase, loaded_le-phase}
-use Rattle.bitvec_field.specs.segments.StoreLaws.{loaded_be-determines, loaded_be-stores, loaded_le-determines, loaded_le-stores, stored_be-loads, stored_le-loads}
+use Rattle.bitvec_in_place.specs.field.segments.LoadLaws.{loaded-one, loaded_be-phase, loaded_le-phase}
+use Rattle.bitvec_in_place.specs.field.segments.StoreLaws.{loaded_be-determines, loaded_be-stores, loaded_le-determines, loaded_le-stores, stored_be-loads, stored_le-loads}
 use Rattle.bitvec_pieces.specs.WritesLaws.{written-around, written-none, written-then}
 use Rattle.bitvec_owned.specs.edit.slice.SeenLaws.{length_bits}
 use Rattle.bitvec_owned.specs.edit.store.WidthLaws.{width_some}
@@ -33,6 +36,9 @@ pub ruleset written = (lengths, get_or-set_at, get_or-set_other, length-set)
 
 -- after `edit_with`: what stands before the part, in it and behind it
 pub ruleset edited = (lengths, get-window, get-slice_range, get-write_at_below, get-write_at_inside, get-write_at_above, length-slice_range, length-window, length-write_at, range-write_at, range-write_at_before, range-write_at_after)
+
+-- after `and_within`, `or_within`, `xor_within`: each bit and range, those that were written and those beside them
+pub ruleset combined = (lengths, get-combined_within_below, get-combined_within_inside, get-combined_within_above, length-combined_within, range-combined_within, range-combined_within_before, range-combined_within_after)
 
 -- edits of one view, one after the other, as one edit
 pub ruleset composed = (written-none, written-then, written-around)
@@ -75,3 +81,12 @@ pub ruleset zeroed = (bits-zeros)
 
 -- a `SliceOrder` of a user's own, whose functions call `bits_..` of `engine`
 pub ruleset own_order = (enough)
+
+-- each bit, and the length, after edits of whole lists and of ranges, on views and in place
+pub ruleset bitwise = (lengths, kept_lengths, listed, ranged)
+
+-- the number of a range: stored there it is what was stored, as far as it fits; beside an edit it stays; and its bound
+pub ruleset fields = (lengths, kept_lengths, numbers, width_some)
+
+-- the words on edits of ranges in place of writes: for a contract of a view that says `filled`, `flipped` and their kin
+pub ruleset worded = (words)

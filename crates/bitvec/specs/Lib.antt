@@ -19,10 +19,18 @@ pub use Rattle.bitvec_owned.specs.edit.domain.Cuts
 pub use Rattle.bitvec_owned.specs.edit.domain.Parts
 pub use Rattle.bitvec_owned.specs.edit.domain.Values as DomainValues
 pub use Rattle.bitvec_owned.specs.edit.windows.Swaps
+pub use Rattle.bitvec_owned.specs.edit.Combined
+pub use Rattle.bitvec_owned.specs.edit.CombinedLaws
 pub use Rattle.bitvec_owned.specs.edit.UndoLaws
-pub use Rattle.bitvec_field.specs.Fields
-pub use Rattle.bitvec_field.specs.Integers
-pub use Rattle.bitvec_field.specs.IntegersLaws
+pub use Rattle.bitvec_in_place.specs.field.Fields
+pub use Rattle.bitvec_in_place.specs.field.Integers
+pub use Rattle.bitvec_in_place.specs.field.IntegersLaws
+pub use Rattle.bitvec_in_place.specs.MovedLaws
+pub use Rattle.bitvec_in_place.specs.NumbersLaws
+pub use Rattle.bitvec_in_place.specs.Ranges
+pub use Rattle.bitvec_in_place.specs.RangesLaws
+pub use Rattle.bitvec_in_place.specs.field.base.ListsLaws
+pub use Rattle.bitvec_in_place.specs.field.base.MemoryLaws
 pub use Rattle.bitvec_iter.specs.Left
 pub use Rattle.bitvec_iter.specs.Parts as PieceParts
 pub use Rattle.bitvec_owned.specs.edit.lends.Kept
@@ -35,10 +43,13 @@ pub use Rattle.bitvec_ones.specs.Indices as OnesLeft
 pub use Rattle.bitvec_ones.specs.Loads
 pub use Rattle.bitvec_ones.specs.Places
 pub use Rattle.bitvec_ones.specs.Turns
+pub use Rattle.bitvec_owned.specs.ArrayWrites
+pub use Rattle.bitvec_owned.specs.Arrays as BitArrays
 pub use Rattle.bitvec_owned.specs.Copies
 pub use Rattle.bitvec_owned.specs.Owned
 pub use Rattle.bitvec_owned.specs.Writes as OwnedWrites
 pub use Rattle.bitvec_pieces.specs.CoversLaws as SplitCoversLaws
+pub use Rattle.bitvec_pieces.specs.Elements
 pub use Rattle.bitvec_pieces.specs.InPlace
 pub use Rattle.bitvec_pieces.specs.LeftLaws
 pub use Rattle.bitvec_pieces.specs.Pieces
@@ -49,14 +60,15 @@ pub use Rattle.bitvec_owned.specs.edit.reference.References
 pub use Rattle.bitvec_run_halves.specs.commands.Fold
 pub use Rattle.bitvec_run_halves.specs.commands.Runs
 pub use Rattle.bitvec_run_halves.specs.Sides
-pub use Rattle.bitvec_field.specs.segments.LoadLaws
-pub use Rattle.bitvec_field.specs.segments.PlainLaws
-pub use Rattle.bitvec_field.specs.segments.Segments
-pub use Rattle.bitvec_field.specs.segments.StoreLaws
+pub use Rattle.bitvec_in_place.specs.field.segments.LoadLaws
+pub use Rattle.bitvec_in_place.specs.field.segments.PlainLaws
+pub use Rattle.bitvec_in_place.specs.field.segments.Segments
+pub use Rattle.bitvec_in_place.specs.field.segments.StoreLaws
 pub use Rattle.bitvec_owned.specs.edit.slice.Indices
 pub use Rattle.bitvec_owned.specs.edit.slice.KeptLaws
 pub use Rattle.bitvec_owned.specs.edit.slice.Seen
 pub use Rattle.bitvec_owned.specs.edit.slice.SeenLaws
+pub use Rattle.bitvec_owned.specs.edit.slice.ShowingLaws
 pub use Rattle.bitvec_owned.specs.edit.slice.Touched
 pub use Rattle.bitvec_owned.specs.edit.slice.Views
 pub use Rattle.bitvec_owned.specs.edit.slice.Walks as BitWalks
@@ -71,7 +83,7 @@ pub use Rattle.bitvec_pieces.specs.split.Splits
 pub use Rattle.bitvec_pieces.specs.split.Views as SplitViews
 pub use Rattle.bitvec_owned.specs.edit.store.Width
 pub use Rattle.bitvec_owned.specs.edit.store.WidthLaws
-pub use Rattle.bitvec_field.specs.Radix
+pub use Rattle.bitvec_in_place.specs.field.Radix
 pub use Rattle.bitvec_owned.specs.edit.traits.Feeding
 pub use Rattle.bitvec_owned.specs.edit.traits.Listing
 pub use Rattle.bitvec_owned.specs.edit.walk.Sought

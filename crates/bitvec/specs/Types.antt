@@ -6,4 +6,5 @@ pub use Rattle.bitvec_owned.specs.edit.reference.declared.reference.BitRef.{BitR
 pub use Rattle.bitvec_owned.specs.edit.reference.declared.reference_mut.BitRefMut.{BitRefMut}
 pub use Rattle.bitvec_owned.specs.edit.slice.declared.view.BitSlice.{BitSlice}
 pub use Rattle.bitvec_owned.specs.edit.slice.declared.view_mut.BitSliceMut.{BitSliceMut}
+pub use Rattle.bitvec_owned.specs.declared.array.BitArray.{BitArray}
 pub use Rattle.bitvec_owned.specs.declared.bit_vec.BitVec.{BitVec}

@@ -3,4 +3,4 @@ pub use bitvec_domain::{
     Cut, Domain, DomainMut, DomainValues, PartialElement, PartialElementMut, Region, RegionMut,
     domain_mut_of, domain_of,
 };
-pub use bitvec_slice::{BitDomain, BitDomainParts};
+pub use bitvec_slice::{BitDomain, BitDomainMut, BitDomainParts};

@@ -3,10 +3,12 @@
 //! A path is that of the Rust crate where that has the item. `prelude` has what most programs use.
 #![tactic(auto)]
 
+pub mod array;
 pub mod cells;
 pub mod domain;
 pub mod engine;
 pub mod field;
+pub mod in_place;
 pub mod index;
 pub mod order;
 pub mod prelude;

@@ -1,16 +1,17 @@
 //! What most programs use.
-pub use bitvec_field::{
+pub use bitvec_in_place::field::{
     Binary, BitField, BitFieldMut, FieldOrder, Integral, LowerHex, Octal, UpperHex,
 };
 pub use bitvec_iter::{IterCalls, PieceCallsMut};
 pub use bitvec_ones::OnesCalls;
 pub use bitvec_ones::query::BitQueries;
 pub use bitvec_owned::edit::BitEdits;
-pub use bitvec_owned::{BitVec, RepeatError, ToBitVec};
-pub use bitvec_pieces::split::{SplitCalls, SplitCallsMut};
-pub use bitvec_pieces::{EditParts, EditSplits};
+pub use bitvec_owned::{BitArray, BitVec, RepeatError, ToBitVec};
+pub use bitvec_pieces::split::{SplitCalls, SplitCalls as PieceCalls, SplitCallsMut};
+pub use bitvec_pieces::{EditElements, EditParts, EditSplits};
 pub use bitvec_slice::{
-    BitDomain, BitRef, BitRefMut, BitSlice, BitSliceIndex, BitSliceMut, Domain, DomainMut, View,
+    BitDomain, BitDomainMut, BitRef, BitRefMut, BitSlice, BitSliceIndex, BitSliceMut, Domain,
+    DomainMut, View,
 };
 pub use bitvec_windows::base::{BitOrder, BitSpanError, HiLo, Lsb0, Msb0};
 pub use bitvec_windows::engine::SliceOrder;

@@ -1,5 +1,5 @@
 //! Views of bits, their indices, their walks and pieces, and the traits of their questions and edits.
-pub use bitvec_field::{Binary, LowerHex, Octal, UpperHex};
+pub use bitvec_in_place::field::{Binary, LowerHex, Octal, UpperHex};
 pub use bitvec_iter::{
     Chunks, ChunksExact, ChunksExactMut, ChunksMut, Cutting, ExactCutting, HalvesMut, InChunks,
     InChunksFromEnd, InExactChunks, InExactChunksFromEnd, InWindows, IterCalls, IterMut,
@@ -12,10 +12,10 @@ pub use bitvec_owned::ToBitVec;
 pub use bitvec_owned::edit::BitEdits;
 pub use bitvec_pieces::split::{
     Forward, Inclusive, LimitedSplitWalk, RSplit, RSplitMut, RSplitN, RSplitNMut, Reversed, Split,
-    SplitCalls, SplitCallsMut, SplitInclusive, SplitInclusiveMut, SplitKind, SplitMut, SplitN,
-    SplitNMut, SplitWalk, Splits, SplitsMut, SplitsN, SplitsNMut,
+    SplitCalls, SplitCalls as PieceCalls, SplitCallsMut, SplitInclusive, SplitInclusiveMut,
+    SplitKind, SplitMut, SplitN, SplitNMut, SplitWalk, Splits, SplitsMut, SplitsN, SplitsNMut,
 };
-pub use bitvec_pieces::{EditParts, EditSplits};
+pub use bitvec_pieces::{EditElements, EditParts, EditSplits};
 pub use bitvec_slice::{
     BitRefIter, BitSlice, BitSliceIndex, BitSliceMut, BitValIter, Iter, Shows, View, ViewMut,
     Viewed, ViewedMut, from_mut, from_ref,

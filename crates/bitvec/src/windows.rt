@@ -1,5 +1,6 @@
 //! The bit operations on windows of borrowed slices of elements, which views call.
 pub use bitvec_domain::{bit_in, fill_with_in, for_each_in, replace_in, set_in, swap_in};
+pub use bitvec_owned::edit::combine_within_in;
 pub use bitvec_windows::{
     all_in, any_in, combine_block_in, combine_in, compare_block_in, compare_in, contains_in,
     copy_from_block_in, copy_from_in, copy_within_in, count_in, ends_with_in, eq_block_in, eq_in,

@@ -10,7 +10,7 @@ mod part;
 mod span_error;
 mod window;
 
-/// What crates above name of `bitvec_store`.
+/// Items of `bitvec_store` that crates above use.
 pub mod store {
     pub use bitvec_store::BitStore;
 }

@@ -1,4 +1,5 @@
 //! The operations of `bitvec_checked` as C functions, a file an element type: `fb_u8_fill` and its kin.
+//! `of_u8.rt` is the source; `.ci/exports` writes the other three.
 //!
 //! A slice is handed over as a pointer and a number of elements. Condition of all: these are there,
 //! aligned, and used by nobody else meanwhile. Each other argument is tested; the contract of each

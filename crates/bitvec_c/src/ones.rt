@@ -38,7 +38,7 @@ pub(crate) fn ones<T: BitStore>(
     status
 }
 
-/// The same under one order. Conditions: the memory has at most `MAX_BITS` bits, the window lies in it,
+/// Writes the places under one order. Conditions: the memory has at most `MAX_BITS` bits, the window lies in it,
 /// and has so many bits.
 fn ones_in<T: BitStore, O: SliceOrder + WordOrder>(
     elements: &[T],

@@ -2,7 +2,7 @@
 //!
 //! They stand apart from the other exports, in an archive of their own that `bindings/` joins to that of
 //! `bitvec_c`: a library is compiled as one, and a kernel that a run calls beside an operation of its
-//! own is no longer compiled into that. Conditions are as of `bitvec_c`.
+//! own is no longer compiled into that. Conditions are as for `bitvec_c`.
 #![tactic(auto)]
 
 ghost use Rattle.bitvec_checked_run.specs.Runs.{Runs};

@@ -23,7 +23,7 @@ pub fn get_bit<O: BitOrder, C: CellsRead>(cells: &mut C, window: Window, index: 
 }
 
 /// Replaces the bit at an index of a window, and gives the old one; all other bits of the memory
-/// stay. Condition: as of [`get_bit`]. It takes one load and one store.
+/// stay. Condition: as for [`get_bit`]. It takes one load and one store.
 pub fn replace_bit<O: BitOrder, C: Cells>(
     cells: &mut C,
     window: Window,

@@ -40,7 +40,7 @@ pub fn first_in_element<O: BitOrder, T: BitStore>(
 }
 
 /// The last place of a bit in a part of an element, counted from the start of the part. Condition:
-/// as of [`first_in_element`].
+/// as for [`first_in_element`].
 pub fn last_in_element<O: BitOrder, T: BitStore>(
     element: T,
     part: Part,
@@ -71,7 +71,7 @@ pub fn first_in_part<O: BitOrder, C: CellsRead>(
     first_in_element::<O, C::Elem>(element, part, want)
 }
 
-/// The last place of a bit in a part, counted from the start of the part. Condition and load: as of
+/// The last place of a bit in a part, counted from the start of the part. Condition and load: as for
 /// [`first_in_part`].
 pub fn last_in_part<O: BitOrder, C: CellsRead>(
     cells: &mut C,

@@ -10,7 +10,7 @@ mod part;
 mod shared;
 mod swap;
 
-/// What crates above name of `bitvec_base`.
+/// Items of `bitvec_base` that crates above use.
 pub mod base {
     pub use bitvec_base::{
         BitOrder, BitSpanError, HiLo, Lsb0, MAX_BITS, Msb0, Part, Window, first_part, last_part,
@@ -18,7 +18,7 @@ pub mod base {
     };
 }
 
-/// What crates above name of `bitvec_store`.
+/// Items of `bitvec_store` that crates above use.
 pub mod store {
     pub use bitvec_base::store::BitStore;
 }

@@ -62,7 +62,7 @@ pub fn count_part<O: BitOrder, C: CellsRead>(cells: &mut C, part: Part) -> usize
     masked::<O, C::Elem>(element, part).count_ones() as usize
 }
 
-/// Sets or clears the bits of a part. Condition: as of [`count_part`]. It takes one store, and one
+/// Sets or clears the bits of a part. Condition: as for [`count_part`]. It takes one store, and one
 /// load unless the part is a whole element.
 pub fn fill_part<O: BitOrder, C: Cells>(cells: &mut C, part: Part, bit: bool)
     requires { HasPart C.Elem.BITS (C.numbers cells.old) part }
@@ -86,7 +86,7 @@ pub fn filled<T: BitStore>(bit: bool) -> T
     if bit { T::ALL } else { T::ZERO }
 }
 
-/// Flips the bits of a part. Condition: as of [`count_part`]. It takes one load and one store.
+/// Flips the bits of a part. Condition: as for [`count_part`]. It takes one load and one store.
 pub fn invert_part<O: BitOrder, C: Cells>(cells: &mut C, part: Part)
     requires { HasPart C.Elem.BITS (C.numbers cells.old) part }
     ensures writes { Writes C.Elem.BITS O.at (C.numbers cells.old) (C.numbers cells.new)

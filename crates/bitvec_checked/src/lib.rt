@@ -23,32 +23,32 @@ mod scanning;
 mod status;
 mod transfers;
 
-/// What crates above name of `bitvec_base`.
+/// Items of `bitvec_base` that crates above use.
 pub mod base {
     pub use bitvec_windows::base::{Lsb0, Msb0, Window};
 }
 
-/// What crates above name of `bitvec_store`.
+/// Items of `bitvec_store` that crates above use.
 pub mod store {
     pub use bitvec_windows::store::BitStore;
 }
 
-/// What crates above name of `bitvec_cells`.
+/// Items of `bitvec_cells` that crates above use.
 pub mod cells {
     pub use bitvec_windows::cells::{Cells, CellsRead, Exclusive, Shared};
 }
 
-/// What crates above name of `bitvec_engine`.
+/// Items of `bitvec_engine` that crates above use.
 pub mod engine {
     pub use bitvec_windows::engine::SliceOrder;
 }
 
-/// What crates above name of `bitvec_segments`.
+/// Items of `bitvec_segments` that crates above use.
 pub mod segments {
     pub use bitvec_run::segments::FieldOrder;
 }
 
-/// What crates above name of `bitvec_run`.
+/// Items of `bitvec_run` that crates above use.
 pub mod commands {
     pub use bitvec_run::{FieldOp, FieldStep, Op, Reply, carry_out_field, whole};
 }

@@ -104,7 +104,7 @@ pub(crate) fn windows_status<T: BitStore>(
     )
 }
 
-/// The same of a call that needs windows of one length.
+/// The status of a call that needs two windows of one length.
 #[inline(always)]
 pub(crate) fn equal_windows_status<T: BitStore>(
     order: u32,

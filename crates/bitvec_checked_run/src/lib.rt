@@ -7,7 +7,7 @@ mod replies;
 mod running;
 mod steps;
 
-/// What crates above name of `bitvec_checked`.
+/// Items of `bitvec_checked` that crates above use.
 pub mod checked {
     pub use bitvec_checked::{
         DONE, LSB0, MSB0, NONE, ORDER, all, and, any, compare, contains, copy, copy_within,

@@ -90,7 +90,7 @@ fn run_in<T: BitStore, O: SliceOrder + FieldOrder>(
     run_steps::<O, Exclusive<T>, Shared<T>>(&mut cells, window, &mut beside, steps, replies);
 }
 
-/// The same by accessors.
+/// Runs the steps through accessors.
 fn run_steps<O, C, D>(
     cells: &mut C,
     window: Window,

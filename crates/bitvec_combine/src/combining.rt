@@ -46,7 +46,7 @@ pub fn combine<O: WordOrder, C: Cells, D: CellsRead<Elem = C::Elem>>(
     combine_met::<O, C, D>(left, to, right, from.until(from.len - met), op);
 }
 
-/// The same, where the other window isn't empty and no longer. No element is taken for itself before the others
+/// Combines where the other window is neither empty nor longer. No element is taken for itself before the others
 /// where both windows begin with one, so that a loop has all of them.
 #[inline(always)]
 fn combine_met<O: WordOrder, C: Cells, D: CellsRead<Elem = C::Elem>>(
@@ -70,7 +70,7 @@ fn combine_met<O: WordOrder, C: Cells, D: CellsRead<Elem = C::Elem>>(
     combine_behind_part::<O, C, D>(left, to, right, from, op);
 }
 
-/// The same, a part of one element first.
+/// Combines a part of one element first, then what is left.
 #[inline(always)]
 fn combine_behind_part<O: WordOrder, C: Cells, D: CellsRead<Elem = C::Elem>>(
     left: &mut C,
@@ -102,7 +102,7 @@ fn combine_behind_part<O: WordOrder, C: Cells, D: CellsRead<Elem = C::Elem>>(
     combine_shifted::<O, C, D>(left, rest, right, behind, carry, op);
 }
 
-/// The same for two windows that begin where elements do, of which the other may be empty.
+/// Combines two windows that begin where elements do, of which the other may be empty.
 #[inline(always)]
 fn combine_aligned<O: WordOrder, C: Cells, D: CellsRead<Elem = C::Elem>>(
     left: &mut C,
@@ -132,7 +132,7 @@ fn combine_aligned<O: WordOrder, C: Cells, D: CellsRead<Elem = C::Elem>>(
     combine_end::<O, C>(left, rest, padded::<O, C::Elem>(front, tail.len), op);
 }
 
-/// The same for a window that begins where an element does and another that doesn't, whose first
+/// Combines a window that begins where an element does and another that doesn't, whose first
 /// element was loaded before.
 #[inline(always)]
 fn combine_shifted<O: WordOrder, C: Cells, D: CellsRead<Elem = C::Elem>>(

@@ -166,7 +166,7 @@ pub(crate) fn combine_joined<O: WordOrder, C: Cells, D: CellsRead<Elem = C::Elem
     combine_carried::<O, C, D, Whole<C::Elem>>(left, first, right, source, carry, skip, count, op)
 }
 
-/// The same for elements of 128 bits, two a turn: the compiler writes a loop over such elements out
+/// Combines elements of 128 bits, two a pass: the compiler unrolls a loop over such elements
 /// for no number of turns that it doesn't know.
 #[inline(always)]
 fn combine_pairs<O: WordOrder, C: Cells, D: CellsRead<Elem = C::Elem>>(
@@ -214,7 +214,7 @@ fn combine_pairs<O: WordOrder, C: Cells, D: CellsRead<Elem = C::Elem>>(
     )
 }
 
-/// The same, with each element carried to the next turn in a form that fits the width.
+/// Moves the elements, each carried to the next pass in a form that fits the width.
 #[inline(always)]
 fn combine_carried<O: WordOrder, C: Cells, D: CellsRead<Elem = C::Elem>, K: Carried<C::Elem>>(
     left: &mut C,

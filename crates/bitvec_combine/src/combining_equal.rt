@@ -48,7 +48,7 @@ pub fn combine_equal<O: BitOrder, C: Cells, D: CellsRead<Elem = C::Elem>>(
     combine_unpadded::<O, C, D>(left, to.after(passed), right, from.after(passed), op);
 }
 
-/// The same for two windows that begin where elements do.
+/// Combines two windows that begin where elements do.
 fn combine_unpadded<O: BitOrder, C: Cells, D: CellsRead<Elem = C::Elem>>(
     left: &mut C,
     to: Window,

@@ -15,10 +15,10 @@ use bitvec_move::store::BitStore;
 use bitvec_move::words::{WORD_BITS, same_between};
 
 /// How many bits are compared before each test. A test after each single element would keep the loop
-/// from vector instructions; a loop over more of the widest elements isn't written out, and so has none.
+/// from vector instructions; LLVM doesn't unroll longer loops over the widest elements, so they have none.
 pub(crate) const BITS_PER_TEST: usize = 2048;
 
-/// The same in windows that are shorter than that.
+/// Compares windows that are shorter than that.
 const BITS_PER_SHORT_TEST: usize = 1024;
 
 /// How many elements of `bits` bits are compared before each test of `TESTED` bits, or of one element.
@@ -43,7 +43,7 @@ pub(crate) fn is_zero<T: BitStore>(element: T) -> bool
 }
 
 /// Whether a window has the bits of one whose first bit has the same index in its element, under any
-/// order. Condition: as of [`crate::equal`], the windows are as long, and aren't empty. It loads each
+/// order. Condition: as for [`crate::equal`], the windows are as long, and aren't empty. It loads each
 /// element that a window touches at most once.
 #[inline(always)]
 pub fn equal_unshifted<O: BitOrder, C: CellsRead, D: CellsRead<Elem = C::Elem>>(
@@ -106,7 +106,7 @@ fn equal_aligned<O: BitOrder, C: CellsRead, D: CellsRead<Elem = C::Elem>>(
     equal_in_steps::<O, C, D, BITS_PER_TEST>(left, left_window, right, right_window)
 }
 
-/// The same, with a test after so many bits each.
+/// Compares with a test after each so many bits.
 #[inline(always)]
 fn equal_in_steps<O: BitOrder, C: CellsRead, D: CellsRead<Elem = C::Elem>, const TESTED: usize>(
     left: &mut C,
@@ -142,7 +142,7 @@ fn equal_in_steps<O: BitOrder, C: CellsRead, D: CellsRead<Elem = C::Elem>, const
     )
 }
 
-/// The same, with one test after all whole elements.
+/// Compares with one test after all whole elements.
 #[inline(always)]
 fn equal_aligned_rest<O: BitOrder, C: CellsRead, D: CellsRead<Elem = C::Elem>>(
     left: &mut C,

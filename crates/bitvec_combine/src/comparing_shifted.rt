@@ -20,7 +20,7 @@ use bitvec_move::words::{
 };
 
 /// Whether a window has the bits of one whose first bit has another index in its element.
-/// Condition: as of [`crate::equal`], and the windows aren't empty.
+/// Condition: as for [`crate::equal`], and the windows aren't empty.
 pub(crate) fn equal_shifted<O: WordOrder, C: CellsRead, D: CellsRead<Elem = C::Elem>>(
     left: &mut C,
     left_window: Window,
@@ -129,7 +129,7 @@ fn equal_carried<O: WordOrder, C: CellsRead, D: CellsRead<Elem = C::Elem>>(
     )
 }
 
-/// The same, with one test after all whole elements.
+/// Compares with one test after all whole elements.
 fn equal_carried_rest<O: WordOrder, C: CellsRead, D: CellsRead<Elem = C::Elem>>(
     left: &mut C,
     left_window: Window,
@@ -212,7 +212,7 @@ fn shifted_differences<O: WordOrder, C: CellsRead, D: CellsRead<Elem = C::Elem>>
     carried_differences::<O, C, D, Whole<C::Elem>>(left, first, right, source, carry, skip, count)
 }
 
-/// The same of as many elements as there are in a test, of which there may be many.
+/// Compares any number of elements with one test.
 fn tested_differences<O: WordOrder, C: CellsRead, D: CellsRead<Elem = C::Elem>>(
     left: &mut C,
     first: usize,
@@ -240,7 +240,7 @@ fn tested_differences<O: WordOrder, C: CellsRead, D: CellsRead<Elem = C::Elem>>(
     shifted_differences::<O, C, D>(left, first, right, source, carry, skip, count)
 }
 
-/// The same, with each element carried to the next turn in a form that fits the width.
+/// Moves the elements, each carried to the next pass in a form that fits the width.
 fn carried_differences<
     O: WordOrder,
     C: CellsRead,

@@ -8,7 +8,7 @@ mod comparing;
 mod comparing_equal;
 mod comparing_shifted;
 
-/// What crates above name of `bitvec_base`.
+/// Items of `bitvec_base` that crates above use.
 pub mod base {
     pub use bitvec_move::base::{
         BitOrder, BitSpanError, HiLo, Lsb0, MAX_BITS, Msb0, Part, Window, first_part, last_part,
@@ -16,22 +16,22 @@ pub mod base {
     };
 }
 
-/// What crates above name of `bitvec_cells`.
+/// Items of `bitvec_cells` that crates above use.
 pub mod cells {
     pub use bitvec_move::cells::{Cells, CellsRead, Exclusive, Shared, fits_max_bits, has_window};
 }
 
-/// What crates above name of `bitvec_move`.
+/// Items of `bitvec_move` that crates above use.
 pub mod moves {
     pub use bitvec_move::{copy, copy_equal, copy_within, reverse, swap, swap_equal};
 }
 
-/// What crates above name of `bitvec_store`.
+/// Items of `bitvec_store` that crates above use.
 pub mod store {
     pub use bitvec_move::store::BitStore;
 }
 
-/// What crates above name of `bitvec_cells`.
+/// Items of `bitvec_cells` that crates above use.
 pub mod walk {
     pub use bitvec_move::walk::{
         count_part, fill_part, filled, first_in_element, first_in_part, get_bit, invert_part,
@@ -39,7 +39,7 @@ pub mod walk {
     };
 }
 
-/// What crates above name of `bitvec_words`.
+/// Items of `bitvec_words` that crates above use.
 pub mod words {
     pub use bitvec_move::words::{
         BitOp, WORD_BITS, WordOrder, bits_load_front, bits_lowest_first, bits_scan_first,

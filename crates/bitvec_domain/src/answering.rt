@@ -27,7 +27,7 @@ pub fn fill_with_in<T: BitStore, O: BitOrder, F: FnMut(usize) -> bool>(
 }
 
 /// Makes each bit of a window what `f` answers for its index and the bit there, from the first one
-/// on. Condition: as of [`fill_with_in`].
+/// on. Condition: as for [`fill_with_in`].
 pub fn for_each_in<T: BitStore, O: BitOrder, F: FnMut(usize, bool) -> bool>(
     cells: &mut [T],
     window: Window,

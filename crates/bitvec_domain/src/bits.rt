@@ -18,7 +18,7 @@ pub fn bit_in<T: BitStore, O: BitOrder>(cells: &[T], window: Window, index: usiz
     get_bit::<O, Shared<T>>(&mut accessor, window, index)
 }
 
-/// Makes the bit at an index of a window `bit`. Condition: as of [`bit_in`].
+/// Makes the bit at an index of a window `bit`. Condition: as for [`bit_in`].
 pub fn set_in<T: BitStore, O: BitOrder>(cells: &mut [T], window: Window, index: usize, bit: bool)
     requires window { HasWindow T.BITS (map T.value cells.old) window }
     requires bound { index < window.len }
@@ -28,7 +28,7 @@ pub fn set_in<T: BitStore, O: BitOrder>(cells: &mut [T], window: Window, index: 
     replace_bit::<O, Exclusive<T>>(&mut accessor, window, index, bit);
 }
 
-/// Makes the bit at an index of a window `bit`, and gives the old one. Condition: as of [`bit_in`].
+/// Makes the bit at an index of a window `bit`, and gives the old one. Condition: as for [`bit_in`].
 pub fn replace_in<T: BitStore, O: BitOrder>(
     cells: &mut [T],
     window: Window,
@@ -44,7 +44,7 @@ pub fn replace_in<T: BitStore, O: BitOrder>(
     replace_bit::<O, Exclusive<T>>(&mut accessor, window, index, bit)
 }
 
-/// Exchanges the bits at two indices of a window. Condition: as of [`bit_in`], for both indices.
+/// Exchanges the bits at two indices of a window. Condition: as for [`bit_in`], for both indices.
 pub fn swap_in<T: BitStore, O: BitOrder>(
     cells: &mut [T],
     window: Window,

@@ -1,0 +1,3 @@
+mod Aside
+mod Edges
+mod Held

@@ -8,4 +8,6 @@ pub mod traits
 pub mod walk
 pub mod windows
 pub mod words
+pub mod Combined
+pub mod CombinedLaws
 pub mod UndoLaws

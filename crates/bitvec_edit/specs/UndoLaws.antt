@@ -9,7 +9,7 @@ use Rattle.bitvec_slice.specs.base.Window.{write_window}
 use Rattle.bitvec_slice.specs.base.WindowLaws.{window-rewritten, window-kept}
 use Rattle.bitvec_slice.specs.store.declared.store.BitStore.{Ghosts as Store}
 use Rattle.bitvec_slice.specs.base.declared.order.BitOrder.{Ghosts as Order}
-use Rattle.bitvec_slice.specs.SeenLaws.{length_bits, within_memory}
+use Rattle.bitvec_slice.specs.ShowingLaws.{length-seen_mut, within-seen_mut}
 use Rattle.bitvec_slice.specs.Views.{seen_mut}
 use Rattle.bitvec_slice.specs.Writes.{WritesBits}
 use Rattle.bitvec_slice.specs.declared.view_mut.BitSliceMut.{BitSliceMut}
@@ -20,12 +20,10 @@ module _ {T O : Type 0} {t : Store T} {o : Order O} (first second last : BitSlic
   undone x y one two back =
       let m = (seen_mut first).memory in
       let w = (seen_mut first).window in
-      let within = within_memory t.BITS o.at t.value first.elements.now first.head first.len first.inside in
-      let long : (v : BitSliceMut T O t o) → length (seen_mut v).bits ≡ (seen_mut v).window.len = λ v. length_bits t.BITS o.at t.value v.elements.now v.head v.len v.inside in
-      let x-long : length x ≡ w.len = ap length (sym one.bits) ∙ long second ∙ ap (λ v. v.len) one.window in
-      two.memory ∙ ap (λ v. write_window (seen_mut second).memory v y) one.window ∙ ap (λ (old : List Bool). write_window old w y) one.memory
+      let x-long : length x ≡ w.len = ap length (sym one.bits) ∙ length-seen_mut second ∙ ap (λ place. place.len) one.window in
+      two.memory ∙ ap (λ place. write_window (seen_mut second).memory place y) one.window ∙ ap (λ (old : List Bool). write_window old w y) one.memory
       ∙ ap (λ (new : List Bool). write_window (write_window m w x) w new) back
-      ∙ window-rewritten m w x (seen_mut first).bits within x-long (long first) ∙ window-kept m w within
+      ∙ window-rewritten m w x (seen_mut first).bits (within-seen_mut first) x-long (length-seen_mut first) ∙ window-kept m w (within-seen_mut first)
 
   pub reversed-back : WritesBits first second (reverse (seen_mut first).bits) → WritesBits second last (reverse (seen_mut second).bits) → (seen_mut last).memory ≡ (seen_mut first).memory
   reversed-back one two = undone _ _ one two (ap reverse one.bits ∙ reverse-reverse (seen_mut first).bits)

@@ -1,4 +1,4 @@
--- What crates above name of `bitvec_base`.
+-- Items of `bitvec_base` that crates above use.
 pub use Rattle.bitvec_slice.specs.base.CountLaws
 pub use Rattle.bitvec_slice.specs.base.CountedLaws
 pub use Rattle.bitvec_slice.specs.base.Counts

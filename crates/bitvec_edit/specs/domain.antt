@@ -1,4 +1,4 @@
--- What crates above name of `bitvec_domain`.
+-- Items of `bitvec_domain` that crates above use.
 pub use Rattle.bitvec_slice.specs.domain.Asked
 pub use Rattle.bitvec_slice.specs.domain.AskedLaws
 pub use Rattle.bitvec_slice.specs.domain.Cuts

@@ -1,3 +1,3 @@
--- What crates above name of `bitvec_lending`.
+-- Items of `bitvec_lending` that crates above use.
 pub use Rattle.bitvec_slice.specs.lends.Kept
 pub use Rattle.bitvec_slice.specs.lends.RefillLaws

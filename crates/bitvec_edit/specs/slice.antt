@@ -1,4 +1,4 @@
--- What crates above name of `bitvec_slice`.
+-- Items of `bitvec_slice` that crates above use.
 pub use Rattle.bitvec_slice.specs.BitParts
 pub use Rattle.bitvec_slice.specs.Domains
 pub use Rattle.bitvec_slice.specs.DomainsLaws
@@ -7,6 +7,7 @@ pub use Rattle.bitvec_slice.specs.KeptLaws
 pub use Rattle.bitvec_slice.specs.Seen
 pub use Rattle.bitvec_slice.specs.SeenLaws
 pub use Rattle.bitvec_slice.specs.Showing
+pub use Rattle.bitvec_slice.specs.ShowingLaws
 pub use Rattle.bitvec_slice.specs.Touched
 pub use Rattle.bitvec_slice.specs.Views
 pub use Rattle.bitvec_slice.specs.Walks

@@ -1,4 +1,4 @@
--- What crates above name of `bitvec_store`.
+-- Items of `bitvec_store` that crates above use.
 pub use Rattle.bitvec_slice.specs.store.Width
 pub use Rattle.bitvec_slice.specs.store.WidthLaws
 pub use Rattle.bitvec_slice.specs.store.declared

@@ -1,2 +1,2 @@
--- What crates above name of `bitvec_windows`.
+-- Items of `bitvec_windows` that crates above use.
 pub use Rattle.bitvec_slice.specs.windows.Swaps

@@ -1,3 +1,3 @@
--- What crates above name of `bitvec_words`.
+-- Items of `bitvec_words` that crates above use.
 pub use Rattle.bitvec_slice.specs.words.Operator
 pub use Rattle.bitvec_slice.specs.words.declared

@@ -7,8 +7,10 @@ ghost use Rattle.bitvec_slice.specs.words.Operator.{operator};
 ghost use Rattle.bitvec_slice.specs.words.declared.operator.BitOp.TheVariants.{And, Or, Xor};
 ghost use Rattle.bitvec_slice.specs.Views.{seen, seen_mut};
 ghost use Rattle.bitvec_slice.specs.Writes.{WritesBits};
+ghost use Rattle.bitvec_edit.specs.Combined.{combined_within};
 ghost use Rattle.bitvec_edit.specs.windows.Swaps.{LieApart, swapped_within};
 
+use crate::combine_within_in;
 use bitvec_slice::base::BitOrder;
 use bitvec_slice::engine::{BitOp, SliceOrder};
 use bitvec_slice::store::BitStore;
@@ -191,7 +193,41 @@ pub trait BitEdits<T: BitStore, O: SliceOrder>: ViewMut<T, O> {
         swap_within_in::<T, O>(self.elements_mut(Sealed), window, src, dest);
     }
 
-    /// The same as [`BitEdits::set`], under the same condition.
+    /// Makes each of the bits from `dest` on, as many as a range has, 1 if it and the one at its index in the
+    /// range both are, as they stood before the call, also where the two overlap. Condition:
+    /// `start <= end <= len`, and `dest + (end - start) <= len`. `bitvec` has no such call.
+    final fn and_within(&mut self, src: Range<usize>, dest: usize)
+        requires { FitsWithin src.start src.end dest (Self.shows self.old).window.len }
+        ensures { Self.writes self.old self.new (combined_within (operator And) src.start src.end dest (Self.shows self.old).bits) }
+    {
+        self.combine_within(src, dest, BitOp::And);
+    }
+
+    /// Makes each of the bits from `dest` on, as many as a range has, 1 if it or the one at its index in the
+    /// range is, as they stood before the call, also where the two overlap. Condition: as for
+    /// [`BitEdits::and_within`]. `bitvec` has no such call.
+    ///
+    /// ```
+    /// bits.or_within(source * width..source * width + width, target * width);
+    /// ```
+    final fn or_within(&mut self, src: Range<usize>, dest: usize)
+        requires { FitsWithin src.start src.end dest (Self.shows self.old).window.len }
+        ensures { Self.writes self.old self.new (combined_within (operator Or) src.start src.end dest (Self.shows self.old).bits) }
+    {
+        self.combine_within(src, dest, BitOp::Or);
+    }
+
+    /// Makes each of the bits from `dest` on, as many as a range has, 1 if it and the one at its index in the
+    /// range differ, as they stood before the call, also where the two overlap. Condition: as for
+    /// [`BitEdits::and_within`]. `bitvec` has no such call.
+    final fn xor_within(&mut self, src: Range<usize>, dest: usize)
+        requires { FitsWithin src.start src.end dest (Self.shows self.old).window.len }
+        ensures { Self.writes self.old self.new (combined_within (operator Xor) src.start src.end dest (Self.shows self.old).bits) }
+    {
+        self.combine_within(src, dest, BitOp::Xor);
+    }
+
+    /// Alias of [`BitEdits::set`], under its condition.
     final fn set_unchecked(&mut self, index: usize, bit: bool)
         requires { index < (Self.shows self.old).window.len }
         ensures { Self.writes self.old self.new (slice_set (Self.shows self.old).bits index bit) }
@@ -199,7 +235,7 @@ pub trait BitEdits<T: BitStore, O: SliceOrder>: ViewMut<T, O> {
         self.set(index, bit);
     }
 
-    /// The same as [`BitEdits::replace`], under the same condition.
+    /// Alias of [`BitEdits::replace`], under its condition.
     final fn replace_unchecked(&mut self, index: usize, bit: bool) -> bool
         requires { index < (Self.shows self.old).window.len }
         ensures value { result ≡ slice_index_or (Self.shows self.old).bits index false }
@@ -208,7 +244,7 @@ pub trait BitEdits<T: BitStore, O: SliceOrder>: ViewMut<T, O> {
         self.replace(index, bit)
     }
 
-    /// The same as [`BitEdits::swap`], under the same condition.
+    /// Alias of [`BitEdits::swap`], under its condition.
     final fn swap_unchecked(&mut self, first: usize, second: usize)
         requires first { first < (Self.shows self.old).window.len }
         requires second { second < (Self.shows self.old).window.len }
@@ -217,7 +253,7 @@ pub trait BitEdits<T: BitStore, O: SliceOrder>: ViewMut<T, O> {
         self.swap(first, second);
     }
 
-    /// The same as [`BitEdits::copy_within`], under the same condition.
+    /// Alias of [`BitEdits::copy_within`], under its condition.
     final fn copy_within_unchecked(&mut self, src: Range<usize>, dest: usize)
         requires { FitsWithin src.start src.end dest (Self.shows self.old).window.len }
         ensures { Self.writes self.old self.new (copied_within src.start src.end dest (Self.shows self.old).bits) }
@@ -361,5 +397,16 @@ pub trait BitEdits<T: BitStore, O: SliceOrder>: ViewMut<T, O> {
         let window = self.window();
         let from = src.window();
         combine_in::<T, O, U, P>(self.elements_mut(Sealed), window, src.elements(), from, op);
+    }
+
+    /// Makes each of the bits from `dest` on, as many as a range has, what `op` makes of it and the one at its
+    /// index in the range.
+    #[doc(hidden)]
+    final fn combine_within(&mut self, src: Range<usize>, dest: usize, op: BitOp)
+        requires { FitsWithin src.start src.end dest (Self.shows self.old).window.len }
+        ensures { Self.writes self.old self.new (combined_within (operator op) src.start src.end dest (Self.shows self.old).bits) }
+    {
+        let window = self.window();
+        combine_within_in::<T, O>(self.elements_mut(Sealed), window, src, dest, op);
     }
 }

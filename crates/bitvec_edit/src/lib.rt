@@ -1,32 +1,36 @@
 //! Edits of writable views.
 #![tactic(auto)]
 
+mod combining_within;
 mod edits;
 mod views;
 
-/// What crates above name of `bitvec_base`.
+/// Items of `bitvec_base` that crates above use.
 pub mod base {
     pub use bitvec_slice::base::{BitOrder, HiLo, Lsb0, MAX_BITS, Msb0, Window};
 }
 
-/// What crates above name of `bitvec_windows`.
+/// Items of `bitvec_windows` that crates above use.
 pub mod windows {
     pub use bitvec_slice::windows::copy_from_block_in;
 }
 
-/// What crates above name of `bitvec_engine`.
+/// Items of `bitvec_engine` that crates above use.
 pub mod engine {
     pub use bitvec_slice::engine::SliceOrder;
 }
 
-/// What crates above name of `bitvec_slice`.
+/// Items of `bitvec_slice` that crates above use.
 pub mod slice {
-    pub use bitvec_slice::{BitRef, BitSlice, BitSliceMut, Iter, Sealed, Shows, View, ViewMut};
+    pub use bitvec_slice::{
+        BitRef, BitSlice, BitSliceIndex, BitSliceMut, Iter, Sealed, Shows, View, ViewMut,
+    };
 }
 
-/// What crates above name of `bitvec_store`.
+/// Items of `bitvec_store` that crates above use.
 pub mod store {
     pub use bitvec_slice::store::BitStore;
 }
 
+pub use combining_within::combine_within_in;
 pub use edits::BitEdits;

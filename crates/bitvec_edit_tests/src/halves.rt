@@ -47,7 +47,7 @@ fn set_around_first(bytes: &mut [u8; 3], is_left: bool) -> Window {
     view.window()
 }
 
-/// The same around the last bit.
+/// Sets the bits around the last bit.
 fn set_around_last(bytes: &mut [u8; 3], is_left: bool) -> Window {
     let mut view = BitSliceMut::<u8, Lsb0>::from_slice_mut(bytes).into_part(3..21);
     set_half(view.split_last_mut(), is_left);

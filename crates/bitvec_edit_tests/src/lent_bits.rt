@@ -15,7 +15,7 @@ fn left_of(view: &mut BitSliceMut<'_, u8, Lsb0>) -> [usize; 3] {
     ]
 }
 
-/// The same, by the view for writing.
+/// How many bits a walk over the writable view has left.
 fn taken_of(view: &mut BitSliceMut<'_, u8, Lsb0>) -> usize {
     let mut bits = view.iter_mut();
     bits.pass(2);

@@ -1,15 +1,20 @@
 //! Callers of the edits of views, of the walks over ones and zeros, and of the bits, halves and chunks of a writable
-//! view that are lent one at a time: what they know afterwards, and what no clause says.
+//! view that are lent one at a time: what they know afterwards, and what no clause says. The calls of `limits` just keep
+//! their conditions.
 #![tactic(auto)]
 
 #[cfg(test)]
 mod asked;
 #[cfg(test)]
+mod by_value;
+#[cfg(test)]
 mod callers;
+#[cfg(test)]
+mod captures;
 #[cfg(test)]
 mod chunks;
 #[cfg(test)]
-mod counted;
+mod ended;
 #[cfg(test)]
 mod halves;
 #[cfg(test)]
@@ -20,6 +25,7 @@ pub mod known;
 pub mod laws;
 #[cfg(test)]
 mod lent_bits;
+pub mod limits;
 #[cfg(test)]
 mod old_names;
 #[cfg(test)]
@@ -34,5 +40,7 @@ mod turns;
 mod walked;
 #[cfg(test)]
 mod walks;
+#[cfg(test)]
+mod within;
 #[cfg(test)]
 mod written;

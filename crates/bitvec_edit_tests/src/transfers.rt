@@ -52,7 +52,7 @@ fn combine(bytes: &mut [u8; 1]) {
     part ^= bits.into_part(0..2);
 }
 
-/// The same by the named calls and bits of another order.
+/// Combines by the named calls, with bits of another order.
 fn combine_by_name(bytes: &mut [u8; 1]) {
     let mut part = BitSliceMut::<u8, Lsb0>::from_slice_mut(bytes).into_part(0..5);
     let bits = BitSlice::<u8, Msb0>::from_slice(&[0x40]);

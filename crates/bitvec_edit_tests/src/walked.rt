@@ -70,7 +70,7 @@ fn walks_over_chunks(bytes: &mut [u8; 3], call: Call, taken: usize) -> bool {
     true
 }
 
-/// The same of twenty calls and the eighteen bits.
+/// Makes twenty calls on a walk over the eighteen bits.
 fn walks_over_bits(bytes: &mut [u8; 3], call: Call, taken: usize) -> bool {
     let mut view = BitSliceMut::<u8, Lsb0>::from_slice_mut(bytes).into_part(3..21);
     let mut bits = view.iter_mut();
@@ -101,7 +101,7 @@ fn sets_chunks(call: Call, taken: usize, wanted: [u8; 3]) -> bool {
     true
 }
 
-/// The same of a walk over bits.
+/// Whether a walk over bits leaves the wanted bytes.
 fn sets_bits(call: Call, taken: usize, wanted: [u8; 3]) -> bool {
     for bytes in MEMORIES {
         let mut after = bytes;

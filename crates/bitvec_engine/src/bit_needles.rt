@@ -1,4 +1,4 @@
-//! The same of two windows of any element widths and orders, bit by bit.
+//! Needles in windows of any two element widths and orders, bit by bit.
 ghost use Rattle.std.specs.Prelude.{◌≡◌, ◌+◌, ◌*◌, ◌-◌};
 ghost use Rattle.bitvec_combine.specs.base.Lists.{is_prefix, is_suffix, stands_in};
 ghost use Rattle.bitvec_combine.specs.base.Memory.{HasWindow, list_in};
@@ -9,7 +9,7 @@ use bitvec_combine::base::{BitOrder, Window};
 use bitvec_combine::cells::CellsRead;
 use bitvec_combine::store::BitStore;
 
-/// Whether the needle's bits begin those of the window. Condition: as of [`starts_with`]. It loads at
+/// Whether the needle's bits begin those of the window. Condition: as for [`starts_with`]. It loads at
 /// most once a bit of the needle and side.
 ///
 /// [`starts_with`]: crate::starts_with
@@ -32,7 +32,7 @@ pub fn bits_starts_with<O: BitOrder, P: BitOrder, C: CellsRead, D: CellsRead>(
     bits_eq::<O, P, C, D>(cells, window.range(0, needle.len), right, needle)
 }
 
-/// Whether the needle's bits end those of the window. Condition and loads: as of
+/// Whether the needle's bits end those of the window. Condition and loads: as for
 /// [`bits_starts_with`].
 pub fn bits_ends_with<O: BitOrder, P: BitOrder, C: CellsRead, D: CellsRead>(
     cells: &mut C,
@@ -54,7 +54,7 @@ pub fn bits_ends_with<O: BitOrder, P: BitOrder, C: CellsRead, D: CellsRead>(
     bits_eq::<O, P, C, D>(cells, tail, right, needle)
 }
 
-/// Whether the needle's bits stand in those of the window, from some index on. Condition: as of
+/// Whether the needle's bits stand in those of the window, from some index on. Condition: as for
 /// [`bits_starts_with`]. It loads at most once a bit of the needle and side at each index where they
 /// may stand.
 pub fn bits_contains<O: BitOrder, P: BitOrder, C: CellsRead, D: CellsRead>(

@@ -42,7 +42,7 @@ pub fn bits_eq<O: BitOrder, P: BitOrder, C: CellsRead, D: CellsRead>(
 }
 
 /// How the bits of two windows compare, from the first index on, as lists of truth values do:
-/// `cmp` of `bitvec`. Condition: as of [`bits_eq`]. It loads at most once a bit that both have,
+/// `cmp` of `bitvec`. Condition: as for [`bits_eq`]. It loads at most once a bit that both have,
 /// a side.
 pub fn compare<O: BitOrder, P: BitOrder, C: CellsRead, D: CellsRead>(
     left: &mut C,

@@ -20,14 +20,14 @@ mod slice_order;
 mod swapping;
 mod whole_words;
 
-/// What crates above name of `bitvec_base`.
+/// Items of `bitvec_base` that crates above use.
 pub mod base {
     pub use bitvec_combine::base::{
         BitOrder, BitSpanError, HiLo, Lsb0, MAX_BITS, Msb0, Part, Window, first_part, last_part,
     };
 }
 
-/// What crates above name of `bitvec_cells`.
+/// Items of `bitvec_cells` that crates above use.
 pub mod cells {
     pub use bitvec_combine::cells::{
         Cells, CellsRead, Exclusive, Shared, fits_max_bits, has_window,
@@ -55,12 +55,12 @@ pub mod exchange {
     pub use bitvec_combine::moves::{reverse, swap};
 }
 
-/// What crates above name of `bitvec_store`.
+/// Items of `bitvec_store` that crates above use.
 pub mod store {
     pub use bitvec_combine::store::BitStore;
 }
 
-/// What crates above name of `bitvec_cells`.
+/// Items of `bitvec_cells` that crates above use.
 pub mod walk {
     pub use bitvec_combine::walk::{
         count_part, fill_part, filled, first_in_element, first_in_part, invert_part,
@@ -68,7 +68,7 @@ pub mod walk {
     };
 }
 
-/// What crates above name of `bitvec_words`.
+/// Items of `bitvec_words` that crates above use.
 pub mod words {
     pub use bitvec_combine::words::{
         WORD_BITS, WordOrder, field, field_after, joined, load_field, merged, moved, reversed,

@@ -33,7 +33,7 @@ pub fn starts_with<O: SliceOrder, C: CellsRead, D: CellsRead<Elem = C::Elem>>(
 }
 
 /// Whether the needle's bits end those of the window: `ends_with` of `bitvec`. Condition and
-/// loads: as of [`starts_with`].
+/// loads: as for [`starts_with`].
 pub fn ends_with<O: SliceOrder, C: CellsRead, D: CellsRead<Elem = C::Elem>>(
     cells: &mut C,
     window: Window,
@@ -55,7 +55,7 @@ pub fn ends_with<O: SliceOrder, C: CellsRead, D: CellsRead<Elem = C::Elem>>(
 }
 
 /// Whether the needle's bits stand in those of the window, from some index on: `contains` of
-/// `bitvec`. Condition: as of [`starts_with`]. It takes at most one equality of the needle's bits at
+/// `bitvec`. Condition: as for [`starts_with`]. It takes at most one equality of the needle's bits at
 /// each index where they may stand, and no load where there is no such index.
 pub fn contains<O: SliceOrder, C: CellsRead, D: CellsRead<Elem = C::Elem>>(
     cells: &mut C,

@@ -17,7 +17,7 @@ pub enum Direction {
 }
 
 /// Which way an order runs through elements of a type: each index is asked for its bit, up to the first
-/// that stands elsewhere. Of an order that is known when the machine code is made nothing is asked.
+/// that stands elsewhere. Of an order that is known at compile time nothing is asked.
 #[inline(always)]
 pub fn direction_of<O: BitOrder, T: BitStore>() -> Direction
     ensures { Runs result T.BITS O.at }

@@ -41,7 +41,7 @@ pub fn rotate_left<O: SliceOrder, C: Cells>(cells: &mut C, window: Window, by: u
 }
 
 /// Rotates the bits of a window so that the last `by` come first; all other bits of the memory
-/// stay: `rotate_right` of `bitvec`'s `BitSlice`. Condition and cost: as of [`rotate_left`], by
+/// stay: `rotate_right` of `bitvec`'s `BitSlice`. Condition and cost: as for [`rotate_left`], by
 /// the bits that are not the last `by`.
 pub fn rotate_right<O: SliceOrder, C: Cells>(cells: &mut C, window: Window, by: usize)
     requires window { HasWindow C.Elem.BITS (C.numbers cells.old) window }

@@ -10,7 +10,7 @@ use bitvec_combine::base::Window;
 use bitvec_combine::cells::CellsRead;
 use bitvec_combine::store::BitStore;
 
-/// Whether a bit of a window is 1; none of an empty window's is. Condition: as of
+/// Whether a bit of a window is 1; none of an empty window's is. Condition: as for
 /// [`SliceOrder::search_first`]. It loads each element that the window touches at most once.
 pub fn any<O: SliceOrder, C: CellsRead>(cells: &mut C, window: Window) -> bool
     requires { HasWindow C.Elem.BITS (C.numbers cells.old) window }
@@ -20,7 +20,7 @@ pub fn any<O: SliceOrder, C: CellsRead>(cells: &mut C, window: Window) -> bool
     O::search_first::<C>(cells, window, true).is_some()
 }
 
-/// Whether every bit of a window is 1; an empty window's are. Condition: as of [`SliceOrder::search_first`].
+/// Whether every bit of a window is 1; an empty window's are. Condition: as for [`SliceOrder::search_first`].
 /// It loads each element that the window touches at most once.
 pub fn all<O: SliceOrder, C: CellsRead>(cells: &mut C, window: Window) -> bool
     requires { HasWindow C.Elem.BITS (C.numbers cells.old) window }

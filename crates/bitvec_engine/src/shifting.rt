@@ -31,7 +31,7 @@ pub fn shift_start<O: SliceOrder, C: Cells>(cells: &mut C, window: Window, by: u
 
 /// Shifts the bits of a window by `by` places towards its end: the last `by` are lost, and as many
 /// zeros stand before the others; all other bits of the memory stay. It is `shift_end` of
-/// `bitvec`'s `BitSlice`. Condition and cost: as of [`shift_start`].
+/// `bitvec`'s `BitSlice`. Condition and cost: as for [`shift_start`].
 pub fn shift_end<O: SliceOrder, C: Cells>(cells: &mut C, window: Window, by: usize)
     requires window { HasWindow C.Elem.BITS (C.numbers cells.old) window }
     requires bound { by ≤ window.len }

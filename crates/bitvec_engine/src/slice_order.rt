@@ -115,7 +115,7 @@ pub trait SliceOrder: BitOrder {
         bits_scan_first::<Self, C>(cells, window, want)
     }
 
-    /// The same as [`SliceOrder::scan_first`], in the order of loads that is the fastest: it loads
+    /// The index that [`SliceOrder::scan_first`] gives, by the fastest order of loads: it loads
     /// each element that the window touches at most once, perhaps some behind the bit. An order that
     /// says nothing of it searches by its own `scan_first`.
     fn search_first<C: CellsRead>(cells: &mut C, window: Window, want: bool) -> Option<usize>

@@ -12,7 +12,7 @@ use bitvec_combine::words::{
     WORD_BITS, WordOrder, load_elements, load_field, moved, store_elements, store_field, store_part,
 };
 
-/// The bits of a window as the first bits of a word; the others are 0. Condition and loads: as of
+/// The bits of a window as the first bits of a word; the others are 0. Condition and loads: as for
 /// [`load_field`].
 #[inline(always)]
 pub fn load_bits<W: WordOrder, C: CellsRead>(cells: &mut C, window: Window) -> u64
@@ -29,7 +29,7 @@ pub fn load_bits<W: WordOrder, C: CellsRead>(cells: &mut C, window: Window) -> u
 }
 
 /// A window gets the first bits of a word, as many as it has; all other bits of the memory stay.
-/// Condition, loads and stores: as of [`store_field`].
+/// Condition, loads and stores: as for [`store_field`].
 #[inline(always)]
 pub fn store_bits<W: WordOrder, C: Cells>(cells: &mut C, window: Window, word: u64)
     requires window { HasWindow C.Elem.BITS (C.numbers cells.old) window }

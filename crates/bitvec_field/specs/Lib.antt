@@ -1,8 +1,12 @@
 pub mod base
+pub mod domain
 pub mod segments
 pub mod slice
 pub mod store
+pub mod windows
 pub mod words
+pub mod DomainParts
+pub mod DomainPartsLaws
 pub mod Fields
 pub mod Integers
 pub mod IntegersLaws

@@ -1,4 +1,4 @@
--- What crates above name of `bitvec_segments`.
+-- Items of `bitvec_segments` that crates above use.
 pub use Rattle.bitvec_segments.specs.LoadLaws
 pub use Rattle.bitvec_segments.specs.PlainLaws
 pub use Rattle.bitvec_segments.specs.Segments

@@ -1,2 +1,2 @@
--- What crates above name of `bitvec_store`.
+-- Items of `bitvec_store` that crates above use.
 pub use Rattle.bitvec_slice.specs.store.WidthLaws

@@ -40,7 +40,7 @@ pub trait BitField {
         requires bound { len self.now ≤ I.BITS }
         ensures { I.value result ≡ integer_of I.SIGNED (len self.now) (be self.now) };
 
-    /// The same as [`BitField::load_le`]. `bitvec` takes the target's byte order.
+    /// Alias of [`BitField::load_le`]. `bitvec` takes the target's byte order.
     ///
     /// ```
     /// let mut view = BitSliceMut::<u16, Lsb0>::from_slice_mut(&mut cells);
@@ -56,7 +56,7 @@ pub trait BitField {
     }
 }
 
-/// An integer in the bits of a view: the stores of `bitvec`'s `BitField`. Conditions are as of
+/// An integer in the bits of a view: the stores of `bitvec`'s `BitField`. Conditions are as for
 /// [`BitField`]. Of a value with more bits than the view has the lowest are stored.
 pub trait BitFieldMut: BitField {
     // Holds of the view before and after a call that gave it the bits with this number, modulo
@@ -83,7 +83,7 @@ pub trait BitFieldMut: BitField {
         requires bound { Self.len self.old ≤ I.BITS }
         ensures { writes_be self.old self.new (remainder_of I.BITS (I.value value)) };
 
-    /// The same as [`BitFieldMut::store_le`]. `bitvec` takes the target's byte order.
+    /// Alias of [`BitFieldMut::store_le`]. `bitvec` takes the target's byte order.
     ///
     /// ```
     /// let mut view = BitSliceMut::<u16, Lsb0>::from_slice_mut(&mut cells);

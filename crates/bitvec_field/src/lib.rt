@@ -12,24 +12,39 @@ mod slices;
 mod unsigned;
 mod views;
 
-/// What crates above name of `bitvec_base`.
+/// Items of `bitvec_base` that crates above use.
 pub mod base {
-    pub use bitvec_slice::base::{Lsb0, Msb0, Window};
+    pub use bitvec_slice::base::{BitOrder, Lsb0, Msb0, Window};
 }
 
-/// What crates above name of `bitvec_cells`.
+/// Items of `bitvec_cells` that crates above use.
 pub mod cells {
     pub use bitvec_slice::cells::{Exclusive, Shared};
 }
 
-/// What crates above name of `bitvec_slice`.
+/// Items of `bitvec_engine` that crates above use.
+pub mod engine {
+    pub use bitvec_slice::engine::{BitOp, SliceOrder};
+}
+
+/// Items of `bitvec_slice` that crates above use.
 pub mod slice {
     pub use bitvec_slice::{BitSlice, BitSliceMut};
 }
 
-/// What crates above name of `bitvec_store`.
+/// Items of `bitvec_store` that crates above use.
 pub mod store {
     pub use bitvec_slice::store::BitStore;
+}
+
+/// The bit operations on windows of borrowed slices that crates above name, those on numbers among them.
+pub mod windows {
+    pub use crate::slices::{load_be_in, load_le_in, store_be_in, store_le_in};
+    pub use bitvec_slice::windows::{
+        combine_in, copy_from_in, copy_within_in, count_in, fill_in, first_in, invert_in, last_in,
+        replace_in, reverse_in, rotate_left_in, rotate_right_in, set_in, shift_end_in,
+        shift_start_in, swap_in, swap_within_in,
+    };
 }
 
 pub use bit_field::{BitField, BitFieldMut};

@@ -12,7 +12,7 @@ use bitvec_slice::store::BitStore;
 
 /// The integer of a window's bits, the first segment lowest. Condition: the memory has at most
 /// `MAX_BITS` bits, the window lies in it, and has from 1 to `I::BITS` bits.
-pub(crate) fn load_le_in<T: BitStore, O: FieldOrder, I: Integral>(cells: &[T], window: Window) -> I
+pub fn load_le_in<T: BitStore, O: FieldOrder, I: Integral>(cells: &[T], window: Window) -> I
     requires window { HasWindow T.BITS (map T.value cells.now) window }
     requires some { 0 < window.len }
     requires bound { window.len ≤ I.BITS }
@@ -24,8 +24,8 @@ pub(crate) fn load_le_in<T: BitStore, O: FieldOrder, I: Integral>(cells: &[T], w
     I::from_bits(number, window.len as u32)
 }
 
-/// The integer of a window's bits, the first segment highest. Condition: as of [`load_le_in`].
-pub(crate) fn load_be_in<T: BitStore, O: FieldOrder, I: Integral>(cells: &[T], window: Window) -> I
+/// The integer of a window's bits, the first segment highest. Condition: as for [`load_le_in`].
+pub fn load_be_in<T: BitStore, O: FieldOrder, I: Integral>(cells: &[T], window: Window) -> I
     requires window { HasWindow T.BITS (map T.value cells.now) window }
     requires some { 0 < window.len }
     requires bound { window.len ≤ I.BITS }
@@ -37,9 +37,9 @@ pub(crate) fn load_be_in<T: BitStore, O: FieldOrder, I: Integral>(cells: &[T], w
     I::from_bits(number, window.len as u32)
 }
 
-/// Stores an integer in a window, the first segment lowest. Condition: as of [`load_le_in`], but the
+/// Stores an integer in a window, the first segment lowest. Condition: as for [`load_le_in`], but the
 /// window may be empty.
-pub(crate) fn store_le_in<T: BitStore, O: FieldOrder, I: Integral>(
+pub fn store_le_in<T: BitStore, O: FieldOrder, I: Integral>(
     cells: &mut [T],
     window: Window,
     value: I,
@@ -53,9 +53,9 @@ pub(crate) fn store_le_in<T: BitStore, O: FieldOrder, I: Integral>(
     O::store_le::<Exclusive<T>>(&mut accessor, window, value.to_bits());
 }
 
-/// Stores an integer in a window, the first segment highest. Condition: as of [`load_le_in`], but the
+/// Stores an integer in a window, the first segment highest. Condition: as for [`load_le_in`], but the
 /// window may be empty.
-pub(crate) fn store_be_in<T: BitStore, O: FieldOrder, I: Integral>(
+pub fn store_be_in<T: BitStore, O: FieldOrder, I: Integral>(
     cells: &mut [T],
     window: Window,
     value: I,

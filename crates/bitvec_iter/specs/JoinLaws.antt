@@ -9,7 +9,7 @@ use Rattle.bitvec_slice.specs.base.Window.{max_bits}
 use Rattle.bitvec_cutting.specs.ChunkLaws.{pieces_joined, sum_joined}
 use Rattle.bitvec_cutting.specs.Cutting.{chunk, chunk_count}
 use Rattle.bitvec_slice.specs.Seen.{Seen}
-use Rattle.bitvec_slice.specs.SeenLaws.{length_bits}
+use Rattle.bitvec_slice.specs.ShowingLaws.{few-seen, length-seen}
 use Rattle.bitvec_slice.specs.Views.{seen}
 use Rattle.bitvec_slice.specs.declared.view.BitSlice.{BitSlice}
 use Rattle.bitvec_iter.specs.Parts.{parts_of, subview}
@@ -17,8 +17,8 @@ use Rattle.bitvec_iter.specs.Parts.{parts_of, subview}
 module _ {T O : Type 0} {t : Store T} {o : Order O} (view : BitSlice T O t o) (size : ℕ) (some : 0 < size) where
   pub parts_joined : flat_map (λ piece. piece.bits) (parts_of t.BITS (seen view) (chunk_count size) (chunk size)) ≡ (seen view).bits
   parts_joined =
-      pieces_joined (λ piece. piece.bits) (λ number. subview t.BITS (seen view) (chunk size view.len number)) size view.len (seen view).bits some
-      (length_bits t.BITS o.at t.value view.elements.now view.head view.len view.inside)
+      pieces_joined (λ piece. piece.bits) (λ number. subview t.BITS (seen view) (chunk size (seen view).window.len number)) size (seen view).window.len (seen view).bits some
+      (length-seen view)
       (λ number. refl)
 
   pub parts_counted : (test : Bool → Bool) → sum_by (λ piece. count_by test piece.bits) (parts_of t.BITS (seen view) (chunk_count size) (chunk size)) ≡ count_by test (seen view).bits
@@ -28,9 +28,8 @@ module _ {T O : Type 0} {t : Store T} {o : Order O} (view : BitSlice T O t o) wh
   pub few_counted : (test : Bool → Bool) → count_by test (seen view).bits ≤ max_bits
   few_counted test =
       let count = count_by-le-length test (seen view).bits in
-      let len = length_bits t.BITS o.at t.value view.elements.now view.head view.len view.inside in
-      let inside = view.inside in
-      let bounded = view.bounded in
+      let len = length-seen view in
+      let few = few-seen view in
       omega arith
 
 -- what cutting a view into chunks keeps, for `using`

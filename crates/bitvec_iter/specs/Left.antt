@@ -22,7 +22,7 @@ module _ {T O C : Type 0} {t : Store T} {o : Order O} {c : Cutting C} where
 
   -- the piece of a number
   abbrev pub piece_at : Pieces T O C t o c → ℕ → Seen T
-  piece_at walk number = subview t.BITS (seen walk.view) (c.place walk.cutting walk.view.len number)
+  piece_at walk number = subview t.BITS (seen walk.view) (c.place walk.cutting (seen walk.view).window.len number)
 
   -- the pieces that are still to come
   unfoldable pub pieces_left : Pieces T O C t o c → List (Seen T)

@@ -1,7 +1,6 @@
 -- A part of a view shows what the view shows at its indices.
-use Rattle.std.specs.Prelude.{◌≡◌, ℕ, ◌+◌, ◌*◌, ◌<◌, Bool, List, length, map}
+use Rattle.std.specs.Prelude.{◌≡◌, ℕ, ◌+◌, ◌<◌, Bool, List, length, map}
 use Rattle.std.proofs.Common.{arith, ◌∙◌, ap}
-use Rattle.std.proofs.lemmas.List.{length-map}
 use Rattle.std.specs.declared.ops.Range.{Range}
 use Rattle.bitvec_slice.specs.base.Memory.{memory_bits}
 use Rattle.bitvec_slice.specs.base.SliceLaws.{range-map}
@@ -10,6 +9,7 @@ use Rattle.bitvec_slice.specs.base.MemoryLaws.{memory-range}
 use Rattle.bitvec_slice.specs.store.declared.store.BitStore.{Ghosts as Store}
 use Rattle.bitvec_slice.specs.base.declared.order.BitOrder.{Ghosts as Order}
 use Rattle.bitvec_slice.specs.Seen.{IsRangeOf, Seen}
+use Rattle.bitvec_slice.specs.ShowingLaws.{shows-seen}
 use Rattle.bitvec_slice.specs.TouchedLaws.{touches}
 use Rattle.bitvec_slice.specs.Views.{seen}
 use Rattle.bitvec_slice.specs.declared.view.BitSlice.{BitSlice}
@@ -24,12 +24,15 @@ same_seen b c e f m n s u k l bits elements memory start len = cc
 module _ {T O : Type 0} {t : Store T} {o : Order O} (view part : BitSlice T O t o) (places : Range ℕ) where
   pub part_seen : 0 < t.BITS → LiesIn (seen view).window.len places → IsRangeOf t.BITS (seen view) places.start places.end (seen part) → seen part ≡ subview t.BITS (seen view) places
   part_seen some lies is =
-      let inside = view.inside in
-      let xs = map t.value view.elements.now in
-      let product = ap (λ (n : ℕ). t.BITS * n) (length-map view.elements.now t.value) in
-      let are = touches t.BITS (length xs) (view.head + places.start) (view.head + places.end) some (omega arith) (omega arith) in
+      let cells = (seen view).elements in
+      let start = (seen view).window.start in
+      let xs = map t.value cells in
+      let within = (shows-seen view).has.within in
+      let order = within.start in
+      let len = within.len in
+      let are = touches t.BITS (length xs) (start + places.start) (start + places.end) some (omega arith) (omega arith) in
       same_seen _ _ _ _ _ _ _ _ _ _ is.bits is.elements
       (ap (λ (cells : List T). memory_bits t.BITS o.at (map t.value cells)) is.elements
-      ∙ ap (memory_bits t.BITS o.at) (range-map t.value view.elements.now _ _)
+      ∙ ap (memory_bits t.BITS o.at) (range-map t.value cells _ _)
       ∙ memory-range t.BITS o.at xs _ _ some are.order are.bound)
       is.start is.len

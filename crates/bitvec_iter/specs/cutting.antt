@@ -1,2 +1,2 @@
--- What crates above name of `bitvec_cutting`.
+-- Items of `bitvec_cutting` that crates above use.
 pub use Rattle.bitvec_cutting.specs.Cutting

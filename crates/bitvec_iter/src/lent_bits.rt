@@ -85,7 +85,7 @@ impl<'a, T: BitStore, O: BitOrder> IterMut<'a, T, O> {
         BitSlice::from_parts(&*self.elements, self.head, self.len).into_part(first..self.back)
     }
 
-    /// The same as [`IterMut::as_bitslice`].
+    /// Alias of [`IterMut::as_bitslice`].
     pub fn as_ref(&self) -> BitSlice<'_, T, O>
         ensures { IsRangeOf T.BITS (bit_walk_of self.now).view (start_of (bit_walk_of self.now)) (bit_walk_of self.now).back (seen result) }
     {

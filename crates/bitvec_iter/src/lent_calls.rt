@@ -41,7 +41,7 @@ pub trait PieceCallsMut<T: BitStore, O: BitOrder>: ViewMut<T, O> {
         ensures* writes_back { sem 𝓛 (follows Self.row (Array T.row 0) self.entry.ghost_name (name_of_halves result) (Self.with_elements self.old)) }
         ensures halves { IsCutOf (Self.shows self.old) mid result };
 
-    /// The same as [`PieceCallsMut::split_at_mut`], under the same condition.
+    /// Alias of [`PieceCallsMut::split_at_mut`], under its condition.
     fn split_at_unchecked_mut(&mut self, mid: usize) -> HalvesMut<'_, T, O>
         requires { mid ≤ (Self.shows self.old).window.len }
         ensures* writes_back { sem 𝓛 (follows Self.row (Array T.row 0) self.entry.ghost_name (name_of_halves result) (Self.with_elements self.old)) }

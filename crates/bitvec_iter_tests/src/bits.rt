@@ -1,6 +1,9 @@
 //! Walks over single bits.
 
-use crate::callers::{backwards, mixed_pairs, ones_by_chunks, parity};
+use crate::callers::{
+    backwards, mixed_pairs, ones_by_chunks, parity, phase_behind_first, window_before_last,
+    window_behind,
+};
 use bitvec_query::base::Msb0;
 use bitvec_query::slice::{BitRef, BitSlice, BitSliceMut};
 use std::alloc::Global;
@@ -93,6 +96,10 @@ fn bits_by_callers(rt: HostRuntime) {
     ];
     assert!(rt; ones == [4, 4, 3]);
     assert!(rt; !parity(view));
+    let six = view.into_part(2..8);
+    let (before, behind) = (window_before_last(six), window_behind(six, 3));
+    assert!(rt; [phase_behind_first(six), before.start, behind.start] == [3, 2, 6]);
+    assert!(rt; [before.len, behind.len] == [5, 2]);
     assert!(rt;
         is_backwards(
             rt.alloc(),

@@ -1,5 +1,5 @@
 //! Walks over bits with the adapters of std.
-ghost use Rattle.std.specs.Prelude.{◌≡◌, ◌%◌, ◌<◌, ◌==◌, IfOk, count_by, map, reverse};
+ghost use Rattle.std.specs.Prelude.{◌≡◌, ◌+◌, ◌-◌, ◌%◌, ◌<◌, ◌==◌, IfOk, count_by, map, min, reverse};
 ghost use Rattle.std.specs.List.{enumerate_from};
 ghost use Rattle.bitvec_query.specs.slice.Views.{seen};
 ghost use Rattle.bitvec_iter.specs.Parts.{parts_of};
@@ -7,7 +7,7 @@ ghost use Rattle.bitvec_iter.specs.cutting.Cutting.{chunk, chunk_count};
 
 use bitvec_iter::IterCalls;
 use bitvec_query::BitQueries;
-use bitvec_query::base::BitOrder;
+use bitvec_query::base::{BitOrder, Window};
 use bitvec_query::engine::SliceOrder;
 use bitvec_query::slice::BitSlice;
 use bitvec_query::store::BitStore;
@@ -38,6 +38,36 @@ pub fn numbered<T: BitStore, O: BitOrder>(
     ensures { IfOk result (λ places. places.items ≡ enumerate_from 0 (seen bits.entry).bits) }
 {
     bits.iter().by_vals().enumerate().collect(alloc)
+}
+
+/// At which index of its element the second bit stands: where the walk over the bits is after its first call.
+pub fn phase_behind_first<T: BitStore, O: BitOrder>(bits: BitSlice<'_, T, O>) -> usize
+    requires { 0 < (seen bits).window.len }
+    ensures { result ≡ ((seen bits.entry).window.start + 1) % T.BITS }
+{
+    let mut walk = bits.iter();
+    let _first = walk.next();
+    walk.as_bitslice().window().start
+}
+
+/// The place of the bits before the last, after a call from the back.
+pub fn window_before_last<T: BitStore, O: BitOrder>(bits: BitSlice<'_, T, O>) -> Window
+    ensures start { result.start ≡ (seen bits.entry).window.start % T.BITS }
+    ensures len { result.len ≡ (seen bits.entry).window.len - 1 }
+{
+    let mut walk = bits.iter();
+    let _last = walk.next_back();
+    walk.as_bitslice().window()
+}
+
+/// The place of the bits behind one that has so many before it.
+pub fn window_behind<T: BitStore, O: BitOrder>(bits: BitSlice<'_, T, O>, skipped: usize) -> Window
+    ensures start { result.start ≡ ((seen bits.entry).window.start + min (skipped + 1) (seen bits.entry).window.len) % T.BITS }
+    ensures len { result.len ≡ (seen bits.entry).window.len - (skipped + 1) }
+{
+    let mut walk = bits.iter();
+    let _bit = walk.nth(skipped);
+    walk.as_bitslice().window()
 }
 
 /// How many ones each chunk has.

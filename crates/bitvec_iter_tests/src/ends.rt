@@ -19,7 +19,7 @@ where
         && second.len() == 0
 }
 
-/// The same of a walk over pieces.
+/// Whether a walk over pieces stays ended.
 fn pieces_stay_ended<C: Cutting>(mut pieces: Pieces<'_, u8, Msb0, C>) -> bool {
     let mut ended = pieces.nth(usize::MAX).is_none();
     for _ in 0..10 {

@@ -13,7 +13,7 @@ use bitvec_words::store::BitStore;
 use bitvec_words::store_part;
 
 /// Copies a window whose first bit has the same index in its element as that of the other window,
-/// under any order. Condition: as of [`crate::copy`], and the windows aren't empty. On the left it
+/// under any order. Condition: as for [`crate::copy`], and the windows aren't empty. On the left it
 /// stores each element that the window touches once, and loads at most the first and the last; on
 /// the right it loads each once.
 pub fn copy_equal<O: BitOrder, C: Cells, D: CellsRead<Elem = C::Elem>>(

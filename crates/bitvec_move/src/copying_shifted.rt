@@ -15,7 +15,7 @@ use bitvec_words::store::BitStore;
 use bitvec_words::{Carried, Lanes, Whole, WordOrder, field, field_after, store_part, toward_end};
 
 /// Copies a window whose first bit has another index in its element than that of the other window.
-/// Condition: as of [`crate::copy`], and the windows aren't empty.
+/// Condition: as for [`crate::copy`], and the windows aren't empty.
 #[inline(always)]
 pub(crate) fn copy_shifted<O: WordOrder, C: Cells, D: CellsRead<Elem = C::Elem>>(
     left: &mut C,
@@ -140,7 +140,7 @@ fn shift_whole<O: WordOrder, C: Cells, D: CellsRead<Elem = C::Elem>>(
     shift_carried::<O, C, D, Whole<C::Elem>>(left, first, right, source, carry, skip, count)
 }
 
-/// The same, with each element carried to the next turn in a form that fits the width.
+/// Moves the elements, each carried to the next pass in a form that fits the width.
 #[inline(always)]
 fn shift_carried<O: WordOrder, C: Cells, D: CellsRead<Elem = C::Elem>, K: Carried<C::Elem>>(
     left: &mut C,

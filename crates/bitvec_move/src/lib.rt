@@ -2,7 +2,7 @@
 //! put in the opposite order.
 #![tactic(auto)]
 
-/// From how many bits on a loop for just the shift of narrow elements is worth the choice.
+/// Below this length in bits, a loop specialised to the shift of narrow elements does not pay.
 pub const MANY_BITS: usize = 512;
 
 /// A call in a branch of its own for each `skip` of bytes (1 to 7) or of elements of at most 16 bits (1 to
@@ -40,7 +40,7 @@ mod swapping_equal;
 mod swapping_shifted;
 mod word_elements;
 
-/// What crates above name of `bitvec_base`.
+/// Items of `bitvec_base` that crates above use.
 pub mod base {
     pub use bitvec_words::base::{
         BitOrder, BitSpanError, HiLo, Lsb0, MAX_BITS, Msb0, Part, Window, first_part, last_part,
@@ -48,17 +48,17 @@ pub mod base {
     };
 }
 
-/// What crates above name of `bitvec_cells`.
+/// Items of `bitvec_cells` that crates above use.
 pub mod cells {
     pub use bitvec_words::cells::{Cells, CellsRead, Exclusive, Shared, fits_max_bits, has_window};
 }
 
-/// What crates above name of `bitvec_store`.
+/// Items of `bitvec_store` that crates above use.
 pub mod store {
     pub use bitvec_words::store::BitStore;
 }
 
-/// What crates above name of `bitvec_cells`.
+/// Items of `bitvec_cells` that crates above use.
 pub mod walk {
     pub use bitvec_words::walk::{
         count_part, fill_part, filled, first_in_element, first_in_part, get_bit, invert_part,
@@ -66,7 +66,7 @@ pub mod walk {
     };
 }
 
-/// What crates above name of `bitvec_words`.
+/// Items of `bitvec_words` that crates above use.
 pub mod words {
     pub use bitvec_words::{
         BitOp, Carried, Lanes, WORD_BITS, Whole, WordOrder, bits_load_front, bits_lowest_first,

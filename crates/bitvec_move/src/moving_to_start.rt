@@ -92,7 +92,7 @@ fn move_whole_to_start<O: BitOrder, C: Cells>(
     }
 }
 
-/// The same, where `skip` is above 0: each stored element is joined of two that were loaded, and each
+/// Moves the elements where `skip` is above 0: each stored element is joined of two that were loaded, and each
 /// element is loaded once.
 #[inline(always)]
 fn shift_whole_to_start<O: WordOrder, C: Cells>(
@@ -119,7 +119,7 @@ fn shift_whole_to_start<O: WordOrder, C: Cells>(
     }
 }
 
-/// The same, with each element carried to the next turn in a form that fits the width.
+/// Moves the elements, each carried to the next pass in a form that fits the width.
 #[inline(always)]
 fn shift_carried_to_start<O: WordOrder, C: Cells, K: Carried<C::Elem>>(
     cells: &mut C,

@@ -43,7 +43,7 @@ pub fn reverse<O: WordOrder, C: Cells>(cells: &mut C, window: Window)
 }
 
 /// Exchanges the first `count` bits of a window with its last ones, each in the opposite order.
-/// Condition: as of [`reverse`]; the first ones lie in one element, and the last ones behind them.
+/// Condition: as for [`reverse`]; the first ones lie in one element, and the last ones behind them.
 fn exchange_edges<O: WordOrder, C: Cells>(cells: &mut C, window: Window, count: usize)
     requires window { HasWindow C.Elem.BITS (C.numbers cells.old) window }
     requires some { 0 < count }

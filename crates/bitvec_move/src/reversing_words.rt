@@ -35,7 +35,7 @@ pub(crate) fn reverse_words<O: WordOrder, C: Cells>(cells: &mut C, window: Windo
 }
 
 /// Exchanges the 64 bits of a window from `low` on with those that end as far before its end, each
-/// in the opposite order. Condition: as of [`reverse_words`]; they lie apart.
+/// in the opposite order. Condition: as for [`reverse_words`]; they lie apart.
 fn exchange_words<O: WordOrder, C: Cells>(cells: &mut C, window: Window, low: usize)
     requires window { HasWindow C.Elem.BITS (C.numbers cells.old) window }
     requires apart { low + 64 + 64 + low ≤ window.len }

@@ -13,7 +13,7 @@ use bitvec_words::merged;
 use bitvec_words::store::BitStore;
 
 /// Exchanges two windows whose first bits have the same index in their elements, under any order.
-/// Condition: as of [`crate::swap`], and the windows aren't empty. It loads and stores each element
+/// Condition: as for [`crate::swap`], and the windows aren't empty. It loads and stores each element
 /// that a window touches once.
 pub fn swap_equal<O: BitOrder, C: Cells, D: Cells + CellsRead<Elem = C::Elem>>(
     left: &mut C,

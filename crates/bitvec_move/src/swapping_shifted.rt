@@ -103,7 +103,7 @@ fn swap_across<O: WordOrder, C: Cells, D: Cells + CellsRead<Elem = C::Elem>>(
     swap_each::<O, C, D>(left, first, right, source, waiting, skip, count)
 }
 
-/// The same, an element a turn.
+/// Exchanges shifted elements one at a time.
 #[inline(always)]
 fn swap_each<O: WordOrder, C: Cells, D: Cells + CellsRead<Elem = C::Elem>>(
     left: &mut C,

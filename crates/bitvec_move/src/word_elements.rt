@@ -33,7 +33,7 @@ pub(crate) fn load_word<O: WordOrder, C: CellsRead>(cells: &mut C, window: Windo
     joined::<O, u64>(word, behind, skip)
 }
 
-/// A window of 64 bits gets those of a word; all other bits of the memory stay. Condition: as of
+/// A window of 64 bits gets those of a word; all other bits of the memory stay. Condition: as for
 /// [`load_word`]. It stores each element that the window touches once, and loads at most the first
 /// and the last.
 pub(crate) fn store_word<O: WordOrder, C: Cells>(cells: &mut C, window: Window, word: u64)

@@ -1,3 +1,3 @@
--- What crates above name of `bitvec_base`.
+-- Items of `bitvec_base` that crates above use.
 pub use Rattle.bitvec_query.specs.base.Lists
 pub use Rattle.bitvec_query.specs.base.Memory

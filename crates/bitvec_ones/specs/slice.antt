@@ -1,2 +1,2 @@
--- What crates above name of `bitvec_slice`.
+-- Items of `bitvec_slice` that crates above use.
 pub use Rattle.bitvec_query.specs.slice.Views

@@ -14,37 +14,37 @@ mod views;
 mod wanted;
 mod writing;
 
-/// What crates above name of `bitvec_base`.
+/// Items of `bitvec_base` that crates above use.
 pub mod base {
     pub use bitvec_query::base::{HiLo, Lsb0, Msb0, Window};
 }
 
-/// What crates above name of `bitvec_cells`.
+/// Items of `bitvec_cells` that crates above use.
 pub mod cells {
     pub use bitvec_query::cells::Shared;
 }
 
-/// What crates above name of `bitvec_engine`.
+/// Items of `bitvec_engine` that crates above use.
 pub mod engine {
     pub use bitvec_query::engine::SliceOrder;
 }
 
-/// What crates above name of `bitvec_query`.
+/// Items of `bitvec_query` that crates above use.
 pub mod query {
     pub use bitvec_query::BitQueries;
 }
 
-/// What crates above name of `bitvec_slice`.
+/// Items of `bitvec_slice` that crates above use.
 pub mod slice {
     pub use bitvec_query::slice::{BitSlice, BitSliceMut};
 }
 
-/// What crates above name of `bitvec_store`.
+/// Items of `bitvec_store` that crates above use.
 pub mod store {
     pub use bitvec_query::store::BitStore;
 }
 
-/// What crates above name of `bitvec_words`.
+/// Items of `bitvec_words` that crates above use.
 pub mod words {
     pub use bitvec_query::words::WordOrder;
 }

@@ -43,7 +43,7 @@ pub fn take_first<O: SliceOrder, C: CellsRead>(
 }
 
 /// The last index of the rest whose bit is `want`, if there is one; the rest then ends before it,
-/// or is empty, and begins where it did. Condition: as of [`take_first`]. It loads each element from
+/// or is empty, and begins where it did. Condition: as for [`take_first`]. It loads each element from
 /// the index on once.
 pub fn take_last<O: SliceOrder, C: CellsRead>(
     cells: &mut C,
@@ -71,7 +71,7 @@ pub fn take_last<O: SliceOrder, C: CellsRead>(
     }
 }
 
-/// How many bits of the rest are `want`. Condition: as of [`take_first`]. It loads each element that
+/// How many bits of the rest are `want`. Condition: as for [`take_first`]. It loads each element that
 /// the rest touches once.
 pub fn count_left<O: BitOrder, C: CellsRead>(
     cells: &mut C,

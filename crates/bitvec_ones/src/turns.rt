@@ -49,7 +49,7 @@ pub fn scan_turns<O: SliceOrder, C: CellsRead>(
     }
 }
 
-/// The index that a turn from this end gives. Condition: as of [`take_first`].
+/// The index that a turn from this end gives. Condition: as for [`take_first`].
 fn take_from<O: SliceOrder, C: CellsRead>(
     cells: &mut C,
     window: Window,

@@ -121,7 +121,7 @@ fn write_first(mut ones: u64, base: usize, indices: &mut [usize]) -> usize
     count
 }
 
-/// The same, where there is room for all: no place is tested. Condition: there are 64 places.
+/// Writes the places of a word's ones where there is room for all; none is tested. Condition: there are 64 places.
 #[inline(always)]
 fn write_all(mut ones: u64, base: usize, indices: &mut [usize]) -> usize
     requires bound { base + 64 < 2 ^ 64 }
@@ -138,8 +138,8 @@ fn write_all(mut ones: u64, base: usize, indices: &mut [usize]) -> usize
     count
 }
 
-/// The same from the most significant bit on: the last is written first, so that no word is turned
-/// round. Condition: as of [`write_all`].
+/// Writes them from the most significant bit on: the last is written first, so that no word is turned
+/// round. Condition: as for [`write_all`].
 #[inline(always)]
 fn write_back(mut ones: u64, base: usize, indices: &mut [usize]) -> usize
     requires bound { base + 64 < 2 ^ 64 }

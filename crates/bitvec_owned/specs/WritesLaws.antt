@@ -29,10 +29,10 @@ refilled xs old n long = take_at xs (drop (length xs) old) n long
 
 module _ {T : Type 0} (b : ℕ) (at : ℕ → ℕ → ℕ) (value : T → ℕ) (old new : List T) (start len : ℕ) (list : List Bool) (inside : start + len ≤ b * length old)
     (wrote : Writes b at (map value old) (map value new) (shown b at value old start len).window list) where
-  many : length new ≡ length old
+  pub many : length new ≡ length old
   many = same_length value new old wrote.elements
 
-  bits-written : (shown b at value new start len).bits ≡ list
+  pub bits-written : (shown b at value new start len).bits ≡ list
   bits-written =
       let within = within_memory b at value old start len inside in
       ap (λ (m : List Bool). window_of m (shown b at value old start len).window) wrote.bits

@@ -1,4 +1,6 @@
--- What crates above name of `bitvec_edit`.
+-- Items of `bitvec_edit` that crates above use.
+pub use Rattle.bitvec_edit.specs.Combined
+pub use Rattle.bitvec_edit.specs.CombinedLaws
 pub use Rattle.bitvec_edit.specs.UndoLaws
 pub use Rattle.bitvec_edit.specs.base
 pub use Rattle.bitvec_edit.specs.domain

@@ -10,7 +10,7 @@ use std::alloc::{AllocError, Allocator};
 impl<T: BitStore, O: BitOrder, A: Allocator + Clone> Clone for BitVec<T, O, A> {
     ghost is_clone = { λ bits copy. owned copy ≡ owned bits };
 
-    /// The same bits in elements of its own, with an allocator that is the sequence's, cloned; the
+    /// A copy of the bits in elements of its own, with an allocator that is the sequence's, cloned; the
     /// memory for them is asked for once.
     fn clone(&self) -> Result<Self, AllocError> {
         let alloc = self.elements.allocator().clone()?;

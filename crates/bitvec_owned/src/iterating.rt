@@ -9,13 +9,13 @@ use bitvec_edit::store::BitStore;
 use std::alloc::Allocator;
 
 impl<T: BitStore, O: BitOrder, A: Allocator> BitVec<T, O, A> {
-    ghost use Rattle.bitvec_edit.specs.slice.Walks.{YieldsBits, remaining_bits, walked};
+    ghost use Rattle.bitvec_edit.specs.slice.Walks.{Walks, YieldsBits, remaining_bits};
     ghost use Rattle.bitvec_owned.specs.Owned.{owned};
 
     /// The bits, one by one.
     pub fn iter(&self) -> Iter<'_, T, O>
         ensures bits { remaining_bits result ≡ (owned self.now).bits }
-        ensures view { walked result ≡ owned self.now }
+        ensures walk { Walks result (owned self.now) 0 (owned self.now).window.len }
         ensures bound { length (remaining_bits result) ≤ max_bits }
         ensures runs { YieldsBits result }
     {

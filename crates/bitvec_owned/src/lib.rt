@@ -1,7 +1,8 @@
-//! Owned sequences of bits: copies and repeats of views, which are asked, edited, walked, compared and
-//! printed as views are.
+//! Owned bits, which are asked, edited, walked, compared and printed as views are: sequences, copies and repeats
+//! of views, and arrays.
 #![tactic(auto)]
 
+mod array;
 mod bit_vec;
 mod cloning;
 mod copying;
@@ -13,16 +14,17 @@ mod to_bitvec;
 mod views;
 mod zeros;
 
-/// What crates above name of `bitvec_edit`.
+/// Items of `bitvec_edit` that crates above use.
 pub mod edit {
-    pub use bitvec_edit::BitEdits;
+    pub use bitvec_edit::{BitEdits, combine_within_in};
 }
 
-/// What crates above name of `bitvec_query`.
+/// Items of `bitvec_query` that crates above use.
 pub mod query {
     pub use bitvec_query::{BitQueries, base, engine, slice, store};
 }
 
+pub use array::BitArray;
 pub use bit_vec::BitVec;
 pub use repeating::RepeatError;
 pub use to_bitvec::ToBitVec;

@@ -8,7 +8,7 @@ ghost use Rattle.bitvec_owned.specs.declared.repeating.RepeatError.TheVariants.{
 
 use crate::copying::copy_of;
 use crate::repeating::repeat_of;
-use crate::{BitVec, RepeatError};
+use crate::{BitArray, BitVec, RepeatError};
 use bitvec_edit::engine::SliceOrder;
 use bitvec_edit::slice::{BitSlice, BitSliceMut, View};
 use bitvec_edit::store::BitStore;
@@ -59,3 +59,5 @@ impl<'a, T: BitStore, O: SliceOrder> ToBitVec<T, O> for BitSlice<'a, T, O> {}
 impl<'a, T: BitStore, O: SliceOrder> ToBitVec<T, O> for BitSliceMut<'a, T, O> {}
 
 impl<T: BitStore, O: SliceOrder, B: Allocator> ToBitVec<T, O> for BitVec<T, O, B> {}
+
+impl<T: BitStore, O: SliceOrder, const N: usize> ToBitVec<T, O> for BitArray<T, O, N> {}

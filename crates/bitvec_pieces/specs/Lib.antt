@@ -1,6 +1,8 @@
 pub mod cutting
 pub mod split
 pub mod CoversLaws
+pub mod Elements
+pub mod ElementsLaws
 pub mod InPlace
 pub mod InPlaceLaws
 pub mod LeftLaws
@@ -10,6 +12,7 @@ pub mod SplitEdits
 pub mod SplitEditsLaws
 pub mod ToSplit
 pub mod ToSplitLaws
+pub mod TurnLaws
 pub mod TurnsLaws
 pub mod ViewInPlace
 pub mod WritesLaws

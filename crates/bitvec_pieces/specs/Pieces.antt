@@ -66,10 +66,6 @@ module _ {V T : Type 0} (shows : V → Seen T) (named : V → GName) where
     pub accepts : (p : MutBor V) → IsPiece (shows p.now) → pre p
     pub in_place : (p q : MutBor V) (r : R) → IsPiece (shows p.now) → post p r q → StaysInPlace shows named p.now q.now
 
-  -- so it is of an edit with these steps, in any of its states, on each piece
-  abbrev pub MayEditEach : {F : Type 0} → (F → ℕ → MutBor V → Type 0) → (F → ℕ → MutBor V → ⊤ → MutBor V → F → Type 0) → Seen T → WayToCut → Type 0
-  MayEditEach {F} pre step view way = (f : F) (k : ℕ) → MayEdit (pre f k) (λ p r q. (g : F) × step f k p r q g) (IsNumbered view way k)
-
 module _ {V T : Type 0} (shows : V → Seen T) where
   -- such an edit was called on the piece, and the view has there the bits that it left
   pub record EditsPiece {R : Type 0} (writes : V → V → List Bool → Type 0) (post : MutBor V → R → MutBor V → Type 0) (before : V) (range : Range ℕ) (r : R) (after : V) : Type 0 where
@@ -91,20 +87,32 @@ module _ {V T : Type 0} (shows : V → Seen T) where
     pub second_edited : right second b second_left
     pub written : writes before after ((shows first_left.now).bits ++ (shows second_left.now).bits)
 
-  -- a step of such an edit was made at the piece of the number, and left this list there
-  pub record EditsNumbered {F : Type 0} (step : F → ℕ → MutBor V → ⊤ → MutBor V → F → Type 0) (view : Seen T) (way : WayToCut) (number : ℕ) (list : List Bool) : Type 0 where
-    pub before : F
-    pub after : F
+  -- a call of an edit with these steps on the piece of the number left this list there, and the edit as `after`
+  pub record EditsNumbered {F : Type 0} (step : F → ℕ → MutBor V → ⊤ → MutBor V → F → Type 0) (view : Seen T) (way : WayToCut) (number : ℕ) (before : F) (list : List Bool) (after : F) : Type 0 where
     pub piece : MutBor V
     pub left : MutBor V
     pub is : IsNumbered view way number (shows piece.now)
     pub stepped : step before number piece tt left after
     pub bits : list ≡ (shows left.now).bits
 
+  -- the edit was called on the first `count` pieces in turn, each time as the call before left it, and is `last` afterwards;
+  -- it was `states k` as it was called on the piece `k`, and left `lists k` there
+  pub record CallsInTurn {F : Type 0} (step : F → ℕ → MutBor V → ⊤ → MutBor V → F → Type 0) (edit : F) (view : Seen T) (way : WayToCut) (count : ℕ) (lists : ℕ → List Bool) (last : F) : Type 0 where
+    pub states : ℕ → F
+    pub first : states 0 ≡ edit
+    pub last_is : states count ≡ last
+    pub calls : (k : ℕ) → k < count → EditsNumbered step view way k (states k) (lists k) (states (k + 1))
+
 module _ {V T : Type 0} (shows : V → Seen T) (named : V → GName) where
-  -- so it was at each piece, the bits in no piece are as before, and so is all else
-  pub record EditsPieces {F : Type 0} (writes : V → V → List Bool → Type 0) (step : F → ℕ → MutBor V → ⊤ → MutBor V → F → Type 0) (before : V) (way : WayToCut) (after : V) : Type 0 where
-    pub pieces : (k : ℕ) → k < way.count (shows before).window.len → EditsNumbered shows step (shows before) way k (cut (shows after).bits (way.place (shows before).window.len k))
+  -- after any such calls the edit may be called on the next piece, and leaves it in its place
+  pub record MayEditEach {F : Type 0} (pre : F → ℕ → MutBor V → Type 0) (step : F → ℕ → MutBor V → ⊤ → MutBor V → F → Type 0) (edit : F) (view : Seen T) (way : WayToCut) : Type 0 where
+    pub at : (f : F) (k : ℕ) (lists : ℕ → List Bool) → CallsInTurn shows step edit view way k lists f
+        → MayEdit shows named (pre f k) (λ p r q. (g : F) × step f k p r q g) (IsNumbered view way k)
+
+  -- it was called on all pieces in turn, the bits in no piece are as before, and so is all else
+  pub record EditsPieces {F : Type 0} (writes : V → V → List Bool → Type 0) (step : F → ℕ → MutBor V → ⊤ → MutBor V → F → Type 0) (edit : F) (before : V) (way : WayToCut) (after : V) : Type 0 where
+    pub last : F
+    pub turns : CallsInTurn shows step edit (shows before) way (way.count (shows before).window.len) (λ k. cut (shows after).bits (way.place (shows before).window.len k)) last
     pub others : (i : ℕ) (d : Bool) → IsLeftOut way (shows before).window.len i → slice_index_or (shows after).bits i d ≡ slice_index_or (shows before).bits i d
     pub stays : StaysInPlace shows named before after
     pub written : writes before after (shows after).bits

@@ -30,10 +30,6 @@ pub record Editing (F : Type 0) : Type 0 where
   pub number : ℕ
 
 module _ {V T : Type 0} (shows : V → Seen T) (named : V → GName) where
-  -- an edit with these steps may be called, in any of its states, on each such piece, and leaves it in its place
-  abbrev pub MayEditGiven : {F : Type 0} → (F → ℕ → MutBor V → Type 0) → (F → ℕ → MutBor V → ⊤ → MutBor V → F → Type 0) → Seen T → Type 0
-  MayEditGiven {F} pre step view = (f : F) (k : ℕ) → MayEdit shows named (pre f k) (λ p r q. (g : F) × step f k p r q g) (IsGivenPiece view k)
-
   -- it was called on the range of the view, as that was before all edits, and its number; the bits that it left stand there
   pub record EditsNext {F : Type 0} (step : F → ℕ → MutBor V → ⊤ → MutBor V → F → Type 0) (view : V) (s : Editing F) (range : Range ℕ) (t : Editing F) : Type 0 where
     pub piece : MutBor V
@@ -44,6 +40,11 @@ module _ {V T : Type 0} (shows : V → Seen T) (named : V → GName) where
     pub stays : StaysInPlace shows named piece.now left.now
     pub bits : t.bits ≡ write_at s.bits range.start (shows left.now).bits
     pub number : t.number ≡ s.number + 1
+
+  -- after any such calls on pieces in turn an edit with these steps may be called on the next piece, and leaves it in its place
+  pub record MayEditGiven {F : Type 0} (pre : F → ℕ → MutBor V → Type 0) (step : F → ℕ → MutBor V → ⊤ → MutBor V → F → Type 0) (edit : F) (view : V) : Type 0 where
+    pub at : (s : Editing F) (pieces : List (Range ℕ)) → FoldsTo (EditsNext step view) (record { bits = (shows view).bits; edit = edit; number = 0 }) pieces s
+        → MayEdit shows named (pre s.edit s.number) (λ p r q. (g : F) × step s.edit s.number p r q g) (IsGivenPiece (shows view) s.number)
 
   -- so it was on each of the pieces in turn, from its first state on
   pub record EditsInTurn {F : Type 0} (step : F → ℕ → MutBor V → ⊤ → MutBor V → F → Type 0) (view : V) (edit : F) (pieces : List (Range ℕ)) (new : List Bool) : Type 0 where

@@ -1,5 +1,5 @@
 -- The pieces of a split that were edited so far, and one more.
-use Rattle.std.specs.Prelude.{◌≡◌, ℕ, ◌+◌, ◌-◌, ◌≤◌, ◌==◌, Bool, true, false, List, ◌∷◌, MatchOption, Option, Some, None, length, slice_range, ⊤, refl}
+use Rattle.std.specs.Prelude.{◌≡◌, ℕ, ◌+◌, ◌-◌, ◌≤◌, ◌==◌, Bool, true, false, List, [], ◌∷◌, MatchOption, Option, Some, None, length, slice_range, ⊤, refl}
 use Rattle.std.specs.Bool.{MatchBool}
 use Rattle.std.specs.Borrow.{Bor, GName, MutBor}
 use Rattle.std.specs.Fn.{Mut}
@@ -11,7 +11,7 @@ use Rattle.bitvec_split.specs.base.WriteLaws.{range-range, range-write_at_after,
 use Rattle.bitvec_split.specs.base.declared.window.Window.{Window}
 use Rattle.bitvec_cutting.specs.Cutting.{LiesIn}
 use Rattle.bitvec_split.specs.slice.Seen.{Seen}
-use Rattle.bitvec_pieces.specs.Pieces.{IsPieceOf, Narrows}
+use Rattle.bitvec_pieces.specs.Pieces.{IsPieceOf, MayEdit, Narrows}
 use Rattle.bitvec_split.specs.slice.Showing.{ShowsElements}
 use Rattle.bitvec_pieces.specs.InPlace.{StaysInPlace, WritesInPlace}
 use Rattle.bitvec_pieces.specs.InPlaceLaws.{length-left, length-shown, piece-before, shown-fits, shown-within, stays-then}
@@ -20,7 +20,7 @@ use Rattle.bitvec_split.specs.Lent.{GivesAllIn, GivesRangeIn, LeftIn, LimitedNex
 use Rattle.bitvec_split.specs.Splits.{SplitRule, row_of}
 use Rattle.bitvec_pieces.specs.ToSplit.{IsLeftOf, TakesFrom, left_at, limited_at, most_left}
 use Rattle.bitvec_pieces.specs.declared.left.ToSplit.{ToSplit}
-use Rattle.bitvec_pieces.specs.SplitEdits.{Editing, EditsNext, IsGivenPiece}
+use Rattle.bitvec_pieces.specs.SplitEdits.{Editing, EditsNext, IsGivenPiece, MayEditGiven}
 
 -- a range of two lists is the same where a wider one is
 kept-within : (a b : List Bool) (from to start end : ℕ) → slice_range a from to ≡ slice_range b from to → from ≤ start → start ≤ end → end ≤ to → to ≤ length a → to ≤ length b
@@ -81,6 +81,13 @@ module _ {V T F S : Type 0} {shows : V → Seen T} {named : V → GName} {step :
     few = few;
     ends = λ pieces t e gave edits. (pieces, subst (λ (q : S). FoldsTo (λ p r q. next p (Some r) q) q pieces t) (sym same) gave, edits);
   }
+
+  -- the edit may be called on the next piece
+  pub turns-may : {pre : F → ℕ → MutBor V → Type 0} {left : ToSplit} {now : V} {f : F} {number : ℕ} → TurnsSoFar shows named step view next first edit s left now f number → MayEditGiven shows named pre step edit view
+      → MayEdit shows named (pre f number) (λ p r q. (g : F) × step f number p r q g) (IsGivenPiece (shows view) number)
+  turns-may {pre} {left} {now} {f} {number} far may =
+      let so = far.ends [] s (record { bits = (shows now).bits; edit = f; number = number }) refl refl in
+      may.at _ so.0 so.2
 
   module _ {b : ℕ} {at : ℕ → ℕ → ℕ} {value : T → ℕ} (sound : (v : V) → ShowsElements b at value (shows v)) {left after : ToSplit} {now : V} {f : F} {number : ℕ} {range : Range ℕ} (far : TurnsSoFar shows named step view next first edit s left now f number) (takes : TakesFrom left range after) where
     -- the piece lies in the view as it is now, and is one of the view before

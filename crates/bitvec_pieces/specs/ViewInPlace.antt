@@ -4,7 +4,8 @@ use Rattle.std.proofs.Common.{ap, ◌∙◌}
 use Rattle.bitvec_split.specs.store.declared.store.BitStore.{Ghosts as Store}
 use Rattle.bitvec_split.specs.base.Window.{write_window}
 use Rattle.bitvec_split.specs.base.declared.order.BitOrder.{Ghosts as Order}
-use Rattle.bitvec_split.specs.slice.Showing.{ShowsElements, shows_elements}
+use Rattle.bitvec_split.specs.slice.Showing.{ShowsElements}
+use Rattle.bitvec_split.specs.slice.ShowingLaws.{shows-seen_mut}
 use Rattle.bitvec_split.specs.slice.Views.{name_of, seen_mut}
 use Rattle.bitvec_split.specs.slice.Writes.{WritesBits}
 use Rattle.bitvec_split.specs.slice.declared.view_mut.BitSliceMut.{BitSliceMut}
@@ -13,7 +14,7 @@ use Rattle.bitvec_pieces.specs.InPlaceLaws.{kept-memory}
 
 module _ {T O : Type 0} {t : Store T} {o : Order O} where
   pub view_elements : (v : BitSliceMut T O t o) → ShowsElements t.BITS o.at t.value (seen_mut v)
-  view_elements v = shows_elements t.BITS o.at t.value v.elements.now v.head v.len v.inside v.bounded
+  view_elements v = shows-seen_mut v
 
   pub written_so : (before after : BitSliceMut T O t o) (new : List Bool) → WritesInPlace seen_mut name_of before after new → WritesBits before after new
   written_so before after new is = record {

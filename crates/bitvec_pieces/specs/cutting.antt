@@ -1,4 +1,4 @@
--- What crates above name of `bitvec_cutting`.
+-- Items of `bitvec_cutting` that crates above use.
 pub use Rattle.bitvec_cutting.specs.Cutting
 pub use Rattle.bitvec_cutting.specs.RangeLaws
 pub use Rattle.bitvec_cutting.specs.Walks

@@ -1,4 +1,4 @@
--- What crates above name of `bitvec_split`.
+-- Items of `bitvec_split` that crates above use.
 pub use Rattle.bitvec_split.specs.Asked
 pub use Rattle.bitvec_split.specs.AskedLaws
 pub use Rattle.bitvec_split.specs.FoundLaws

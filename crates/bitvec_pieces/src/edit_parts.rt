@@ -107,8 +107,8 @@ pub trait EditParts<T: BitStore, O: BitOrder>: ViewMut<T, O> + Sized {
         mut edit: F,
     )
         requires apart { IsApart (way_of (C.pieces cutting) (C.place cutting)) (Self.shows self.old).window.len }
-        requires edit { MayEditEach Self.shows named F.pre F.step (Self.shows self.old) (way_of (C.pieces cutting) (C.place cutting)) }
-        ensures { EditsPieces Self.shows named Self.writes F.step self.old (way_of (C.pieces cutting) (C.place cutting)) self.new }
+        requires edit { MayEditEach Self.shows named F.pre F.step edit (Self.shows self.old) (way_of (C.pieces cutting) (C.place cutting)) }
+        ensures { EditsPieces Self.shows named Self.writes F.step edit self.old (way_of (C.pieces cutting) (C.place cutting)) self.new }
     {
         let len = self.window().len;
         for number in 0..cutting.count(len) {
@@ -123,40 +123,40 @@ pub trait EditParts<T: BitStore, O: BitOrder>: ViewMut<T, O> + Sized {
     /// each chunk, whatever it keeps from the calls before, and leaves it in its place.
     final fn for_each_chunk_mut<F: FnMut(usize, &mut Self)>(&mut self, size: usize, edit: F)
         requires some { 0 < size }
-        requires edit { MayEditEach Self.shows named F.pre F.step (Self.shows self.old) (in_chunks size) }
-        ensures { EditsPieces Self.shows named Self.writes F.step self.old (in_chunks size) self.new }
+        requires edit { MayEditEach Self.shows named F.pre F.step edit (Self.shows self.old) (in_chunks size) }
+        ensures { EditsPieces Self.shows named Self.writes F.step edit self.old (in_chunks size) self.new }
     {
         self.for_each_piece_mut(InChunks { size }, edit)
     }
 
     /// Calls `edit` on each chunk of `size` bits from the end and its number, in ascending order from
     /// 0, the last chunk of the view, on; the chunk that begins the view has as many bits as are left.
-    /// Conditions: as of `for_each_chunk_mut`.
+    /// Conditions: as for `for_each_chunk_mut`.
     final fn for_each_rchunk_mut<F: FnMut(usize, &mut Self)>(&mut self, size: usize, edit: F)
         requires some { 0 < size }
-        requires edit { MayEditEach Self.shows named F.pre F.step (Self.shows self.old) (in_back_chunks size) }
-        ensures { EditsPieces Self.shows named Self.writes F.step self.old (in_back_chunks size) self.new }
+        requires edit { MayEditEach Self.shows named F.pre F.step edit (Self.shows self.old) (in_back_chunks size) }
+        ensures { EditsPieces Self.shows named Self.writes F.step edit self.old (in_back_chunks size) self.new }
     {
         self.for_each_piece_mut(InChunksFromEnd { size }, edit)
     }
 
     /// Calls `edit` on each whole chunk of `size` bits and its number, in ascending order from 0 on;
-    /// the bits behind them stay. Conditions: as of `for_each_chunk_mut`.
+    /// the bits behind them stay. Conditions: as for `for_each_chunk_mut`.
     final fn for_each_chunk_exact_mut<F: FnMut(usize, &mut Self)>(&mut self, size: usize, edit: F)
         requires some { 0 < size }
-        requires edit { MayEditEach Self.shows named F.pre F.step (Self.shows self.old) (in_whole_chunks size) }
-        ensures { EditsPieces Self.shows named Self.writes F.step self.old (in_whole_chunks size) self.new }
+        requires edit { MayEditEach Self.shows named F.pre F.step edit (Self.shows self.old) (in_whole_chunks size) }
+        ensures { EditsPieces Self.shows named Self.writes F.step edit self.old (in_whole_chunks size) self.new }
     {
         self.for_each_piece_mut(InExactChunks { size }, edit)
     }
 
     /// Calls `edit` on each whole chunk of `size` bits from the end and its number, in ascending order
-    /// from 0, the last chunk of the view, on; the bits before them stay. Conditions: as of
+    /// from 0, the last chunk of the view, on; the bits before them stay. Conditions: as for
     /// `for_each_chunk_mut`.
     final fn for_each_rchunk_exact_mut<F: FnMut(usize, &mut Self)>(&mut self, size: usize, edit: F)
         requires some { 0 < size }
-        requires edit { MayEditEach Self.shows named F.pre F.step (Self.shows self.old) (in_whole_back_chunks size) }
-        ensures { EditsPieces Self.shows named Self.writes F.step self.old (in_whole_back_chunks size) self.new }
+        requires edit { MayEditEach Self.shows named F.pre F.step edit (Self.shows self.old) (in_whole_back_chunks size) }
+        ensures { EditsPieces Self.shows named Self.writes F.step edit self.old (in_whole_back_chunks size) self.new }
     {
         self.for_each_piece_mut(InExactChunksFromEnd { size }, edit)
     }

@@ -86,7 +86,7 @@ pub trait EditSplits<T: BitStore, O: BitOrder>: EditParts<T, O> {
         F: FnMut(usize, &mut Self),
     >(&mut self, mut pred: P, mut edit: F)
         requires callable { MayGoOnIn P.FnMut (unsplit_in W.INCLUSIVE (Self.shows self.old) pred) }
-        requires edit { MayEditGiven Self.shows Self.named F.pre F.step (Self.shows self.old) }
+        requires edit { MayEditGiven Self.shows Self.named F.pre F.step edit self.old }
         ensures { EditsGiven Self.shows Self.named Self.writes F.step (SplitNextIn P.FnMut W.INCLUSIVE W.REVERSED) (unsplit_in W.INCLUSIVE (Self.shows self.old) pred) self.old edit self.new }
     {
         let len = self.window().len;
@@ -100,7 +100,7 @@ pub trait EditSplits<T: BitStore, O: BitOrder>: EditParts<T, O> {
         }
     }
 
-    /// The range of the next piece of a limited split. Conditions: as of `step`.
+    /// The range of the next piece of a limited split. Conditions: as for `step`.
     #[doc(hidden)]
     #[tactic(auto, using(bitvec_split::specs::AskedLaws::may_ask_of_fewer, bitvec_split::specs::AskedLaws::may_ask_either))]
     final fn limited_step<W: SplitKind, P: FnMut(usize, &bool) -> bool>(
@@ -124,7 +124,7 @@ pub trait EditSplits<T: BitStore, O: BitOrder>: EditParts<T, O> {
         Some(range)
     }
 
-    /// Calls `edit` on each piece of a limited split in turn, and its number. Conditions: as of
+    /// Calls `edit` on each piece of a limited split in turn, and its number. Conditions: as for
     /// `for_each_piece_between`.
     #[doc(hidden)]
     final fn for_each_limited_piece<
@@ -133,7 +133,7 @@ pub trait EditSplits<T: BitStore, O: BitOrder>: EditParts<T, O> {
         F: FnMut(usize, &mut Self),
     >(&mut self, mut count: usize, mut pred: P, mut edit: F)
         requires callable { MayGoOnIn P.FnMut (unsplit_in W.INCLUSIVE (Self.shows self.old) pred) }
-        requires edit { MayEditGiven Self.shows Self.named F.pre F.step (Self.shows self.old) }
+        requires edit { MayEditGiven Self.shows Self.named F.pre F.step edit self.old }
         ensures { EditsGiven Self.shows Self.named Self.writes F.step (LimitedNextIn P.FnMut W.INCLUSIVE W.REVERSED)
             (record { left = unsplit_in W.INCLUSIVE (Self.shows self.old) pred; count = count }) self.old edit self.new }
     {
@@ -161,13 +161,13 @@ pub trait EditSplits<T: BitStore, O: BitOrder>: EditParts<T, O> {
         edit: F,
     )
         requires callable { MayGoOnIn P.FnMut (unsplit_in false (Self.shows self.old) pred) }
-        requires edit { MayEditGiven Self.shows Self.named F.pre F.step (Self.shows self.old) }
+        requires edit { MayEditGiven Self.shows Self.named F.pre F.step edit self.old }
         ensures { EditsGiven Self.shows Self.named Self.writes F.step (SplitNextIn P.FnMut false false) (unsplit_in false (Self.shows self.old) pred) self.old edit self.new }
     {
         self.for_each_piece_between::<Forward, P, F>(pred, edit)
     }
 
-    /// The same of the pieces with the bit behind each, as `split_inclusive_mut` lends them: no empty piece
+    /// Calls `edit` on each piece with the bit behind it, as `split_inclusive_mut` lends them: no empty piece
     /// follows a yes at the last bit, and the empty view has no piece.
     ///
     /// ```
@@ -178,7 +178,7 @@ pub trait EditSplits<T: BitStore, O: BitOrder>: EditParts<T, O> {
         F: FnMut(usize, &mut Self),
     >(&mut self, pred: P, edit: F)
         requires callable { MayGoOnIn P.FnMut (unsplit_in true (Self.shows self.old) pred) }
-        requires edit { MayEditGiven Self.shows Self.named F.pre F.step (Self.shows self.old) }
+        requires edit { MayEditGiven Self.shows Self.named F.pre F.step edit self.old }
         ensures { EditsGiven Self.shows Self.named Self.writes F.step (SplitNextIn P.FnMut true false) (unsplit_in true (Self.shows self.old) pred) self.old edit self.new }
     {
         self.for_each_piece_between::<Inclusive, P, F>(pred, edit)
@@ -196,7 +196,7 @@ pub trait EditSplits<T: BitStore, O: BitOrder>: EditParts<T, O> {
         edit: F,
     )
         requires callable { MayGoOnIn P.FnMut (unsplit_in false (Self.shows self.old) pred) }
-        requires edit { MayEditGiven Self.shows Self.named F.pre F.step (Self.shows self.old) }
+        requires edit { MayEditGiven Self.shows Self.named F.pre F.step edit self.old }
         ensures { EditsGiven Self.shows Self.named Self.writes F.step (SplitNextIn P.FnMut false true) (unsplit_in false (Self.shows self.old) pred) self.old edit self.new }
     {
         self.for_each_piece_between::<Reversed, P, F>(pred, edit)
@@ -215,7 +215,7 @@ pub trait EditSplits<T: BitStore, O: BitOrder>: EditParts<T, O> {
         edit: F,
     )
         requires callable { MayGoOnIn P.FnMut (unsplit_in false (Self.shows self.old) pred) }
-        requires edit { MayEditGiven Self.shows Self.named F.pre F.step (Self.shows self.old) }
+        requires edit { MayEditGiven Self.shows Self.named F.pre F.step edit self.old }
         ensures { EditsGiven Self.shows Self.named Self.writes F.step (LimitedNextIn P.FnMut false false)
             (record { left = unsplit_in false (Self.shows self.old) pred; count = count }) self.old edit self.new }
     {
@@ -234,7 +234,7 @@ pub trait EditSplits<T: BitStore, O: BitOrder>: EditParts<T, O> {
         edit: F,
     )
         requires callable { MayGoOnIn P.FnMut (unsplit_in false (Self.shows self.old) pred) }
-        requires edit { MayEditGiven Self.shows Self.named F.pre F.step (Self.shows self.old) }
+        requires edit { MayEditGiven Self.shows Self.named F.pre F.step edit self.old }
         ensures { EditsGiven Self.shows Self.named Self.writes F.step (LimitedNextIn P.FnMut false true)
             (record { left = unsplit_in false (Self.shows self.old) pred; count = count }) self.old edit self.new }
     {

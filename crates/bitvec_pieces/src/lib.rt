@@ -2,12 +2,13 @@
 //! view is known exactly afterwards.
 #![tactic(auto)]
 
+mod edit_elements;
 mod edit_parts;
 mod edit_splits;
 mod left;
 mod views;
 
-/// What crates above name of `bitvec_split`.
+/// Items of `bitvec_split` that crates above use.
 pub mod split {
     pub use bitvec_split::{
         Forward, Inclusive, LimitedSplitWalk, RSplit, RSplitMut, RSplitN, RSplitNMut, Reversed,
@@ -16,6 +17,7 @@ pub mod split {
     };
 }
 
+pub use edit_elements::EditElements;
 pub use edit_parts::EditParts;
 pub use edit_splits::EditSplits;
 #[doc(hidden)]

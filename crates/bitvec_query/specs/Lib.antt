@@ -1,6 +1,7 @@
 pub mod base
 pub mod cells
 pub mod engine
+pub mod iter
 pub mod slice
 pub mod store
 pub mod traits

@@ -1,4 +1,4 @@
--- What crates above name of `bitvec_base`.
+-- Items of `bitvec_base` that crates above use.
 pub use Rattle.bitvec_slice.specs.base.FoundLaws
 pub use Rattle.bitvec_slice.specs.base.Lists
 pub use Rattle.bitvec_slice.specs.base.ListsLaws

@@ -1,2 +1,2 @@
--- What crates above name of `bitvec_engine`.
+-- Items of `bitvec_engine` that crates above use.
 pub use Rattle.bitvec_slice.specs.engine.Front

@@ -1,4 +1,4 @@
--- What crates above name of `bitvec_slice`.
+-- Items of `bitvec_slice` that crates above use.
 pub use Rattle.bitvec_slice.specs.Apart
 pub use Rattle.bitvec_slice.specs.BitParts
 pub use Rattle.bitvec_slice.specs.Domains

@@ -1,2 +1,2 @@
--- What crates above name of `bitvec_words`.
+-- Items of `bitvec_words` that crates above use.
 pub use Rattle.bitvec_slice.specs.words.Field

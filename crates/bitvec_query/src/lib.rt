@@ -5,45 +5,45 @@ mod queries;
 mod runs;
 mod views;
 
-/// What crates above name of `bitvec_base`.
+/// Items of `bitvec_base` that crates above use.
 pub mod base {
     pub use bitvec_slice::base::{BitOrder, HiLo, Lsb0, Msb0, Part, Window};
 }
 
-/// What crates above name of `bitvec_cells`.
+/// Items of `bitvec_cells` that crates above use.
 pub mod cells {
     pub use bitvec_slice::cells::{CellsRead, Shared};
 }
 
-/// What crates above name of `bitvec_engine`.
+/// Items of `bitvec_engine` that crates above use.
 pub mod engine {
     pub use bitvec_slice::engine::{SliceOrder, count, count_zeros};
 }
 
-/// What crates above name of `bitvec_slice`.
+/// Items of `bitvec_slice` that crates above use.
 pub mod slice {
     pub use bitvec_slice::{
-        BitDomain, BitRef, BitRefMut, BitSlice, BitSliceIndex, BitSliceMut, Domain, DomainMut,
-        Shows, Viewed, ViewedMut, from_mut, from_ref,
+        BitDomain, BitDomainMut, BitRef, BitRefMut, BitSlice, BitSliceIndex, BitSliceMut, Domain,
+        DomainMut, Shows, Viewed, ViewedMut, from_mut, from_ref,
     };
 }
 
-/// What crates above name of `bitvec_store`.
+/// Items of `bitvec_store` that crates above use.
 pub mod store {
     pub use bitvec_slice::store::BitStore;
 }
 
-/// What crates above name of `bitvec_windows`.
+/// Items of `bitvec_windows` that crates above use.
 pub mod traits {
     pub use bitvec_slice::traits::separator_before;
 }
 
-/// What crates above name of `bitvec_cells`.
+/// Items of `bitvec_cells` that crates above use.
 pub mod walk {
     pub use bitvec_slice::walk::sought;
 }
 
-/// What crates above name of `bitvec_words`.
+/// Items of `bitvec_words` that crates above use.
 pub mod words {
     pub use bitvec_slice::words::{WORD_BITS, WordOrder};
 }

@@ -15,7 +15,7 @@ use bitvec_engine::{
 };
 
 /// An edit of bits where they stand, in the list that a window holds, whatever the right list.
-/// Condition: as of [`query`], with the indices that are named.
+/// Condition: as for [`query`], with the indices that are named.
 ///
 /// [`query`]: crate::query::query
 pub(crate) fn edit<O: SliceOrder, C: Cells>(cells: &mut C, target: Window, op: Op) -> Reply
@@ -40,7 +40,7 @@ pub(crate) fn edit<O: SliceOrder, C: Cells>(cells: &mut C, target: Window, op: O
 }
 
 /// An edit that moves bits to other places of the list that a window holds, whatever the right
-/// list. Condition: as of [`edit`], with the amount or the ranges that are named.
+/// list. Condition: as for [`edit`], with the amount or the ranges that are named.
 pub(crate) fn rearrange<O: SliceOrder, C: Cells>(cells: &mut C, target: Window, op: Op) -> Reply
     requires window { HasWindow C.Elem.BITS (C.numbers cells.old) target }
     requires group { group op ≡ Move }

@@ -20,7 +20,7 @@ use std::alloc::Allocator;
 /// The replies, one a step, are those of the plain list of the window's bits under the order, and
 /// the memory afterwards is the memory before with the window holding the list after the last step.
 /// The segments of a number are its bits cut at the edges of the memory's elements. Right windows,
-/// refused steps, costs and errors are as of `run`.
+/// refused steps, costs and errors are as for `run`.
 pub fn run_fields<O, A, C, D>(
     alloc: A,
     cells: &mut C,

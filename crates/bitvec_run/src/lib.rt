@@ -12,27 +12,27 @@ mod right;
 mod runner;
 mod step;
 
-/// What crates above name of `bitvec_base`.
+/// Items of `bitvec_base` that crates above use.
 pub mod base {
     pub use bitvec_engine::base::{BitOrder, HiLo, Lsb0, Msb0, Window};
 }
 
-/// What crates above name of `bitvec_cells`.
+/// Items of `bitvec_cells` that crates above use.
 pub mod cells {
     pub use bitvec_engine::cells::{Cells, CellsRead, Exclusive, Shared};
 }
 
-/// What crates above name of `bitvec_engine`.
+/// Items of `bitvec_engine` that crates above use.
 pub mod engine {
     pub use bitvec_engine::{BitOp, ByWords, SliceOrder};
 }
 
-/// What crates above name of `bitvec_segments`.
+/// Items of `bitvec_segments` that crates above use.
 pub mod segments {
     pub use bitvec_segments::FieldOrder;
 }
 
-/// What crates above name of `bitvec_store`.
+/// Items of `bitvec_store` that crates above use.
 pub mod store {
     pub use bitvec_engine::store::BitStore;
 }

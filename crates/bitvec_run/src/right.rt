@@ -54,7 +54,7 @@ where
 }
 
 /// A comparison of the list that a window holds with bits of the right list, which `source` holds.
-/// Condition: as of [`combine`].
+/// Condition: as for [`combine`].
 pub(crate) fn compare<O, C, D>(
     cells: &mut C,
     target: Window,

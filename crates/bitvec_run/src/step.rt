@@ -44,7 +44,7 @@ where
     }
 }
 
-/// One command, which isn't refused, on the list that `target` holds. Condition: as of [`carry_out`].
+/// One command, which isn't refused, on the list that `target` holds. Condition: as for [`carry_out`].
 fn command<O, C, D>(cells: &mut C, target: Window, right: &mut D, source: Window, op: Op) -> Reply
 where
     O: SliceOrder,

@@ -1,3 +1,3 @@
--- What crates above name of `bitvec_run`.
+-- Items of `bitvec_run` that crates above use.
 pub use Rattle.bitvec_run.specs.Fold
 pub use Rattle.bitvec_run.specs.Runs

@@ -4,7 +4,7 @@
 mod halves;
 mod runner;
 
-/// What crates above name of `bitvec_run`.
+/// Items of `bitvec_run` that crates above use.
 pub mod commands {
     pub use bitvec_run::{FieldOp, FieldStep, Op, Refusal, Reply, RunError, Step, run, run_fields};
 }

@@ -49,7 +49,7 @@ pub fn run_halves<T: BitStore, O: SliceOrder>(
     );
 }
 
-/// The same of a window of a slice of elements. Conditions: each slice has at most `MAX_BITS` bits, and
+/// Runs the steps on a window of a slice. Conditions: each slice has at most `MAX_BITS` bits, and
 /// each window lies in its slice.
 fn run_in<T: BitStore, O: SliceOrder>(
     cells: &mut [T],
@@ -80,7 +80,7 @@ fn run_in<T: BitStore, O: SliceOrder>(
     );
 }
 
-/// The same by accessors.
+/// Runs the steps through accessors.
 fn run_sides<O, C, D>(
     cells: &mut C,
     window: Window,

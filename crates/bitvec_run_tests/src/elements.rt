@@ -84,7 +84,7 @@ fn narrow_agree() -> [bool; 3] {
     ]
 }
 
-/// The same of words and of an element of two words.
+/// Whether words agree, and an element of two words.
 fn wide_agree() -> [bool; 3] {
     [
         give::<u64>(Row {

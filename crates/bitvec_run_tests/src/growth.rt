@@ -16,7 +16,7 @@ fn add_lines(text: &mut Vec<u8>, line: &[u8], lines: usize) -> bool {
 }
 
 /// Whether a run that is granted so many requests for memory makes no more. Asserts what it prints then, and
-/// that else it tells of the want of memory, and its status.
+/// that else it tells that memory ran out, and its status.
 fn is_enough<R: Abort + AllocGlobal>(
     rt: &R,
     args: &[String],

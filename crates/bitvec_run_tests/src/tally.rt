@@ -21,7 +21,7 @@ impl Tally {
         self.operations
     }
 
-    /// The same number, as of no operation.
+    /// This number, with no operation counted.
     pub(crate) fn fresh(self) -> Self
         ensures { result.number ≡ self.number }
     {

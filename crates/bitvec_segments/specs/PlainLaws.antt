@@ -1,4 +1,4 @@
--- Numbers whose segments join without a seam: where the first bit counts as the first segment does, a list's number is as of one segment.
+-- Numbers whose segments join without a seam: where the first bit counts as the first segment does, a list's number is that of one segment.
 use Rattle.std.specs.Prelude.{◌≡◌, ℕ, ◌+◌, ◌*◌, ◌%◌, ◌^◌, ◌==◌, if◌then◌else◌, Bool, true, false, List, [], ◌∷◌, ◌++◌, length, refl, suc}
 use Rattle.std.specs.List.{sum_by}
 use Rattle.std.proofs.Common.{arith, sym, ◌∙◌, ap, ⊎_elim, length-append}

@@ -5,7 +5,7 @@ ghost use Rattle.bitvec_words.specs.cells.Access.{CostsAtMost, OnlyReads};
 ghost use Rattle.bitvec_segments.specs.Segments.{loaded_be, loaded_le, stored_be, stored_le};
 ghost use Rattle.bitvec_words.specs.walk.Cost.{fill_loads, touched_count};
 
-use crate::endian::{Big, Little};
+use crate::segment_order::{Big, Little};
 use crate::{loading, storing};
 use bitvec_words::WordOrder;
 use bitvec_words::base::{Lsb0, Msb0, Window};

@@ -26,7 +26,7 @@ pub(crate) fn fits_word<T: BitStore>(window: Window) -> bool
         && window.start % T::BITS as usize + window.len <= WORD_BITS
 }
 
-/// The number of a window's bits as of one segment. Condition: the window isn't empty, lies in a
+/// The number of a window's bits, taken as one segment. Condition: the window isn't empty, lies in a
 /// memory of at most `MAX_BITS` bits, and the elements that it touches have at most 64 bits, one alone
 /// and together. It loads each of these once, and takes two shifts and one mask beside one shift an
 /// element.

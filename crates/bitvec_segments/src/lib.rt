@@ -3,11 +3,11 @@
 #![tactic(auto)]
 
 mod cutting;
-mod endian;
 mod field_order;
 mod joining;
 mod loading;
 mod part;
+mod segment_order;
 mod storing;
 mod whole;
 

@@ -4,9 +4,9 @@ ghost use Rattle.bitvec_words.specs.cells.Access.{OnlyReads};
 ghost use Rattle.bitvec_segments.specs.Windows.{HasNumber, loaded_in};
 ghost use Rattle.bitvec_words.specs.walk.Cost.{touched_count};
 
-use crate::endian::{Endian, lower_bits};
 use crate::joining::{fits_word, word_number};
 use crate::part::part_number;
+use crate::segment_order::{SegmentOrder, lower_bits};
 use bitvec_words::WordOrder;
 use bitvec_words::base::{Window, first_part};
 use bitvec_words::cells::CellsRead;
@@ -16,7 +16,10 @@ use bitvec_words::store::BitStore;
 /// memory of at most `MAX_BITS` bits. It loads each element that the window touches once, and takes no
 /// loop where the window lies in one element or two.
 #[inline(always)]
-pub(crate) fn load<E: Endian, O: WordOrder, C: CellsRead>(cells: &mut C, window: Window) -> u128
+pub(crate) fn load<E: SegmentOrder, O: WordOrder, C: CellsRead>(
+    cells: &mut C,
+    window: Window,
+) -> u128
     requires { HasNumber C.Elem.BITS (C.numbers cells.old) window }
     ensures value { result ≡ loaded_in E.BIG O.HIGH C.Elem.BITS O.at (C.numbers cells.old) window }
     ensures reads { OnlyReads C.CellsRead cells.old cells.new (touched_count C.Elem.BITS window.start window.len) }
@@ -28,7 +31,7 @@ pub(crate) fn load<E: Endian, O: WordOrder, C: CellsRead>(cells: &mut C, window:
 }
 
 /// `load` of any window: straight where it lies in one element or two.
-fn load_parts<E: Endian, O: WordOrder, C: CellsRead>(cells: &mut C, window: Window) -> u128
+fn load_parts<E: SegmentOrder, O: WordOrder, C: CellsRead>(cells: &mut C, window: Window) -> u128
     requires { HasNumber C.Elem.BITS (C.numbers cells.old) window }
     ensures value { result ≡ loaded_in E.BIG O.HIGH C.Elem.BITS O.at (C.numbers cells.old) window }
     ensures reads { OnlyReads C.CellsRead cells.old cells.new (touched_count C.Elem.BITS window.start window.len) }
@@ -48,7 +51,7 @@ fn load_parts<E: Endian, O: WordOrder, C: CellsRead>(cells: &mut C, window: Wind
 }
 
 /// `load` of a window that isn't empty: straight where the window lies in one element.
-fn load_few<E: Endian, O: WordOrder, C: CellsRead>(cells: &mut C, window: Window) -> u128
+fn load_few<E: SegmentOrder, O: WordOrder, C: CellsRead>(cells: &mut C, window: Window) -> u128
     requires number { HasNumber C.Elem.BITS (C.numbers cells.old) window }
     requires some { 0 < window.len }
     ensures value { result ≡ loaded_in E.BIG O.HIGH C.Elem.BITS O.at (C.numbers cells.old) window }
@@ -63,7 +66,7 @@ fn load_few<E: Endian, O: WordOrder, C: CellsRead>(cells: &mut C, window: Window
 }
 
 /// `load` of any window, a part of one element at a time.
-fn load_many<E: Endian, O: WordOrder, C: CellsRead>(cells: &mut C, window: Window) -> u128
+fn load_many<E: SegmentOrder, O: WordOrder, C: CellsRead>(cells: &mut C, window: Window) -> u128
     requires { HasNumber C.Elem.BITS (C.numbers cells.old) window }
     ensures value { result ≡ loaded_in E.BIG O.HIGH C.Elem.BITS O.at (C.numbers cells.old) window }
     ensures reads { OnlyReads C.CellsRead cells.old cells.new (touched_count C.Elem.BITS window.start window.len) }

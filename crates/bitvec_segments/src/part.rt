@@ -41,7 +41,7 @@ pub(crate) fn part_number<O: WordOrder, C: CellsRead>(cells: &mut C, part: Part)
     element.shr(below as u32).and(mask).to_u128()
 }
 
-/// Gives a part the lowest bits of a number, as many as it has, in the same order. Condition: as of
+/// Gives a part the lowest bits of a number, as many as it has, in the same order. Condition: as for
 /// [`part_number`]. It takes one store, and one load unless the part is a whole element.
 pub(crate) fn store_part_number<O: WordOrder, C: Cells>(cells: &mut C, part: Part, number: u128)
     requires part { HasPart C.Elem.BITS (C.numbers cells.old) part }

@@ -5,8 +5,8 @@ ghost use Rattle.bitvec_segments.specs.Windows.{HasNumber, StoresIn};
 ghost use Rattle.bitvec_words.specs.walk.Cost.{fill_loads, touched_count};
 
 use crate::cutting::{edge_part, head_part, only_part, whole_part};
-use crate::endian::{Endian, lower_bits};
 use crate::part::store_part_number;
+use crate::segment_order::{SegmentOrder, lower_bits};
 use crate::whole::{of_len, store_whole};
 use bitvec_words::WordOrder;
 use bitvec_words::base::{Window, first_part};
@@ -14,9 +14,13 @@ use bitvec_words::cells::Cells;
 use bitvec_words::store::BitStore;
 
 /// Gives a window the bits for which `load` gives the number, without those of its bits for which the
-/// window is too short. Condition: as of `load`. It stores each element that the window touches once,
+/// window is too short. Condition: as for `load`. It stores each element that the window touches once,
 /// loads at most the first and the last, and takes no loop where the window lies in few elements.
-pub(crate) fn store<E: Endian, O: WordOrder, C: Cells>(cells: &mut C, window: Window, number: u128)
+pub(crate) fn store<E: SegmentOrder, O: WordOrder, C: Cells>(
+    cells: &mut C,
+    window: Window,
+    number: u128,
+)
     requires { HasNumber C.Elem.BITS (C.numbers cells.old) window }
     ensures writes { StoresIn E.BIG O.HIGH C.Elem.BITS O.at (C.numbers cells.old) (C.numbers cells.new) window number }
     ensures cost { CostsAtMost C.CellsRead cells.old cells.new (fill_loads window.len) (touched_count C.Elem.BITS window.start window.len) }
@@ -47,7 +51,7 @@ pub(crate) fn store<E: Endian, O: WordOrder, C: Cells>(cells: &mut C, window: Wi
 }
 
 /// `store` of a window that reaches past its first element: straight where it lies in three.
-fn store_parts<E: Endian, O: WordOrder, C: Cells>(cells: &mut C, window: Window, number: u128)
+fn store_parts<E: SegmentOrder, O: WordOrder, C: Cells>(cells: &mut C, window: Window, number: u128)
     requires number { HasNumber C.Elem.BITS (C.numbers cells.old) window }
     requires some { 0 < window.len }
     requires passes { C.Elem.BITS < window.start % C.Elem.BITS + window.len }
@@ -69,7 +73,7 @@ fn store_parts<E: Endian, O: WordOrder, C: Cells>(cells: &mut C, window: Window,
 
 /// `store` of a window that begins where an element does, isn't empty, and isn't longer than two of
 /// them.
-fn store_few<E: Endian, O: WordOrder, C: Cells>(
+fn store_few<E: SegmentOrder, O: WordOrder, C: Cells>(
     cells: &mut C,
     window: Window,
     element: usize,
@@ -95,7 +99,7 @@ fn store_few<E: Endian, O: WordOrder, C: Cells>(
 }
 
 /// `store` of any window, a part of one element at a time.
-fn store_many<E: Endian, O: WordOrder, C: Cells>(cells: &mut C, window: Window, number: u128)
+fn store_many<E: SegmentOrder, O: WordOrder, C: Cells>(cells: &mut C, window: Window, number: u128)
     requires { HasNumber C.Elem.BITS (C.numbers cells.old) window }
     ensures writes { StoresIn E.BIG O.HIGH C.Elem.BITS O.at (C.numbers cells.old) (C.numbers cells.new) window number }
     ensures cost { CostsAtMost C.CellsRead cells.old cells.new (fill_loads window.len) (touched_count C.Elem.BITS window.start window.len) }

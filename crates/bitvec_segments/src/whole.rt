@@ -5,14 +5,14 @@ ghost use Rattle.bitvec_segments.specs.Windows.{HasNumber, StoresIn};
 ghost use Rattle.bitvec_words.specs.walk.Cost.{fill_loads, touched_count};
 
 use crate::cutting::whole_part;
-use crate::endian::{Endian, lower_bits};
 use crate::part::store_part_number;
+use crate::segment_order::{SegmentOrder, lower_bits};
 use bitvec_words::WordOrder;
 use bitvec_words::base::Window;
 use bitvec_words::cells::Cells;
 use bitvec_words::store::BitStore;
 
-/// The same window, whose length the machine code knows where it knows `len`.
+/// This window, with a length that the compiler knows where it knows `len`.
 #[inline(always)]
 pub(crate) fn of_len(window: Window, len: usize) -> Window
     requires { window.len ≡ len }
@@ -27,7 +27,7 @@ pub(crate) fn of_len(window: Window, len: usize) -> Window
 /// `store` of a window of whole elements. Where the machine code knows the window's length, it has no
 /// loop, no mask and no test.
 #[inline(always)]
-pub(crate) fn store_whole<E: Endian, O: WordOrder, C: Cells>(
+pub(crate) fn store_whole<E: SegmentOrder, O: WordOrder, C: Cells>(
     cells: &mut C,
     window: Window,
     number: u128,

@@ -1,1 +1,2 @@
 pub mod DomainBits
+pub mod Rests

@@ -20,9 +20,11 @@ pub mod Indices
 pub mod KeptLaws
 pub mod Lending
 pub mod ListingLaws
+pub mod NthLaws
 pub mod Seen
 pub mod SeenLaws
 pub mod Showing
+pub mod ShowingLaws
 pub mod Touched
 pub mod TouchedLaws
 pub mod Views

@@ -1,7 +1,8 @@
 -- The first and the last of the bits that are still to come, and how many they are.
 use Rattle.std.specs.Prelude.{◌≡◌, ◌+◌, ◌-◌, ◌<◌, ◌≤◌, [], ◌∷◌, ◌++◌, false, length, refl, slice_index_or, slice_range}
-use Rattle.std.proofs.Common.{arith, sym}
+use Rattle.std.proofs.Common.{ap, arith, sym}
 use Rattle.std.proofs.iter.Rest.{range_last, run_of_first, run_of_first_by, run_of_last, run_of_last_by}
+use Rattle.std.proofs.iter.runs.Sources.{from_back, from_front}
 use Rattle.bitvec_windows.specs.base.SliceLaws.{range-front, range-none}
 use Rattle.bitvec_windows.specs.base.WriteLaws.{length-slice_range}
 use Rattle.bitvec_windows.specs.store.declared.store.BitStore.{Ghosts as Store}
@@ -9,7 +10,7 @@ use Rattle.bitvec_windows.specs.base.declared.order.BitOrder.{Ghosts as Order}
 use Rattle.bitvec_slice.specs.SeenLaws.{length_bits}
 use Rattle.bitvec_slice.specs.Views.{seen}
 use Rattle.bitvec_domain.specs.References.{bit_of_ref}
-use Rattle.bitvec_slice.specs.Walks.{YieldsBits, YieldsRefs, YieldsVals, refs_left, remaining_bits, vals_left}
+use Rattle.bitvec_slice.specs.Walks.{TakesFirst, TakesLast, YieldsBits, YieldsRefs, YieldsVals, refs_left, remaining_bits, vals_left}
 use Rattle.bitvec_slice.specs.declared.bit_iters.BitRefIter.{BitRefIter}
 use Rattle.bitvec_slice.specs.declared.bit_iters.BitValIter.{BitValIter}
 use Rattle.bitvec_slice.specs.declared.iter.Iter.{Iter}
@@ -46,7 +47,10 @@ pub ruleset stepping = (left, left_none, left_first, left_last, left_length)
 
 module _ {T O : Type 0} {t : Store T} {o : Order O} where
   pub bits_yielded : (it : Iter T O t o) → YieldsBits it
-  bits_yielded it = record { front = λ p _. (run_of_first_by bit_of_ref remaining_bits p).1; back = λ p _. (run_of_last_by bit_of_ref remaining_bits p).1 }
+  bits_yielded it = record {
+    front = from_front TakesFirst bit_of_ref remaining_bits (λ s r h. ap length h.0.0) (λ s x r h. h.0);
+    back = from_back TakesLast bit_of_ref remaining_bits (λ s r h. ap length h.0.0) (λ s x r h. h.0);
+  }
 
   pub refs_yielded : (it : BitRefIter T O t o) → YieldsRefs it
   refs_yielded it = record { front = λ p _. (run_of_first_by (λ bit. bit.now) refs_left p).1; back = λ p _. (run_of_last_by (λ bit. bit.now) refs_left p).1 }

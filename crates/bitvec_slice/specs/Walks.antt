@@ -1,11 +1,12 @@
 -- What a walk over the bits of a view has still to give.
-use Rattle.std.specs.Prelude.{◌≡◌, ℕ, Bool, List, slice_range}
+use Rattle.std.specs.Prelude.{◌≡◌, ℕ, ◌+◌, ◌-◌, Bool, List, Option, max, min, slice_range}
 use Rattle.std.specs.Iterator.{YieldsFirst, YieldsFirstBy, YieldsFirstRef, YieldsLast, YieldsLastBy, YieldsLastRef}
 use Rattle.std.specs.Iterator.Runs.{EveryRun, ItemsAre, ItemsAreReversed, ItemsMapTo, ItemsMapToReversed}
 use Rattle.std.specs.declared.ops.Range.{Range}
 use Rattle.bitvec_windows.specs.store.declared.store.BitStore.{Ghosts as Store}
 use Rattle.bitvec_windows.specs.base.declared.order.BitOrder.{Ghosts as Order}
 use Rattle.bitvec_domain.specs.References.{bit_of_ref}
+use Rattle.bitvec_domain.specs.declared.reference.BitRef.{BitRef}
 use Rattle.bitvec_slice.specs.Seen.{Seen}
 use Rattle.bitvec_slice.specs.Views.{seen}
 use Rattle.bitvec_slice.specs.declared.iter.Iter.{Iter}
@@ -24,6 +25,23 @@ module _ {T O : Type 0} {t : Store T} {o : Order O} where
   unfoldable pub remaining_bits : Iter T O t o → List Bool
   remaining_bits it = slice_range (seen it.view).bits it.indices.start it.indices.end
 
+  -- it goes over this view, whose bits from the index `from` up to, without, `to` are still to come
+  pub record Walks (it : Iter T O t o) (whole : Seen T) (from to : ℕ) : Type 0 where
+    pub view : walked it ≡ whole
+    pub start : (index_range it).start ≡ from
+    pub end : (index_range it).end ≡ to
+
+  -- a call gave the first, or the last, of the bits that were still to come and left the others, or gave `None` where there were none
+  abbrev pub TakesFirst : Iter T O t o → Option (BitRef T O) → Iter T O t o → Type 0
+  TakesFirst before bit after =
+      let range = index_range before in
+      YieldsFirstBy (bit_of_ref {T = T} {O = O}) remaining_bits before bit after × Walks after (walked before) (min (range.start + 1) range.end) range.end
+
+  abbrev pub TakesLast : Iter T O t o → Option (BitRef T O) → Iter T O t o → Type 0
+  TakesLast before bit after =
+      let range = index_range before in
+      YieldsLastBy (bit_of_ref {T = T} {O = O}) remaining_bits before bit after × Walks after (walked before) range.start (max range.start (range.end - 1))
+
   -- two walks have the same still to come
   pub record IsSameWalk (first second : Iter T O t o) : Type 0 where
     pub bits : remaining_bits second ≡ remaining_bits first
@@ -38,8 +56,8 @@ module _ {T O : Type 0} {t : Store T} {o : Order O} where
 
   -- what calls of `next`, or of `next_back`, give of such a walk is what is still to come, in its order, or from its end
   pub record YieldsBits (it : Iter T O t o) : Type 0 where
-    pub front : EveryRun (YieldsFirstBy (bit_of_ref {T = T} {O = O}) remaining_bits) (λ p. ItemsMapTo p bit_of_ref (remaining_bits p.from))
-    pub back : EveryRun (YieldsLastBy (bit_of_ref {T = T} {O = O}) remaining_bits) (λ p. ItemsMapToReversed p bit_of_ref (remaining_bits p.from))
+    pub front : EveryRun TakesFirst (λ p. ItemsMapTo p bit_of_ref (remaining_bits p.from))
+    pub back : EveryRun TakesLast (λ p. ItemsMapToReversed p bit_of_ref (remaining_bits p.from))
 
   pub record YieldsRefs (it : BitRefIter T O t o) : Type 0 where
     pub front : EveryRun (YieldsFirstRef refs_left) (λ p. ItemsMapTo p (λ bit. bit.now) (refs_left p.from))

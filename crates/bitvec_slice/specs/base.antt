@@ -1,4 +1,4 @@
--- What crates above name of `bitvec_base`.
+-- Items of `bitvec_base` that crates above use.
 pub use Rattle.bitvec_windows.specs.base.CountLaws
 pub use Rattle.bitvec_windows.specs.base.CountedLaws
 pub use Rattle.bitvec_windows.specs.base.Counts
@@ -11,6 +11,8 @@ pub use Rattle.bitvec_windows.specs.base.ListsLaws
 pub use Rattle.bitvec_windows.specs.base.Memory
 pub use Rattle.bitvec_windows.specs.base.MemoryLaws
 pub use Rattle.bitvec_windows.specs.base.Order
+pub use Rattle.bitvec_windows.specs.base.PartLaws
+pub use Rattle.bitvec_windows.specs.base.Parts
 pub use Rattle.bitvec_windows.specs.base.PlacesLaws
 pub use Rattle.bitvec_windows.specs.base.RotationLaws
 pub use Rattle.bitvec_windows.specs.base.ScanLaws

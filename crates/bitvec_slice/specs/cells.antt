@@ -1,3 +1,3 @@
--- What crates above name of `bitvec_cells`.
+-- Items of `bitvec_cells` that crates above use.
 pub use Rattle.bitvec_windows.specs.cells.Access
 pub use Rattle.bitvec_windows.specs.cells.declared

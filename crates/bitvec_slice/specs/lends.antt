@@ -1,4 +1,4 @@
--- What crates above name of `bitvec_lending`.
+-- Items of `bitvec_lending` that crates above use.
 pub use Rattle.bitvec_lending.specs.Arity
 pub use Rattle.bitvec_lending.specs.Kept
 pub use Rattle.bitvec_lending.specs.Lender

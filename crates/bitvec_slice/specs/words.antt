@@ -1,4 +1,4 @@
--- What crates above name of `bitvec_words`.
+-- Items of `bitvec_words` that crates above use.
 pub use Rattle.bitvec_windows.specs.words.Field
 pub use Rattle.bitvec_windows.specs.words.Operator
 pub use Rattle.bitvec_windows.specs.words.declared

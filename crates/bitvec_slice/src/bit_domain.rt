@@ -32,6 +32,9 @@ pub enum BitDomain<V> {
     },
 }
 
+/// What `bit_domain_mut` gives: `bitvec`'s `BitDomainMut`. Its variants are those of [`BitDomain`].
+pub type BitDomainMut<'a, T, O> = BitDomain<BitSliceMut<'a, T, O>>;
+
 impl<V: Drop> BitDomain<V> {
     /// The view, where it touches neither edge of the one element that it lies in: `enclave` of bitvec.
     pub fn enclave(self) -> Option<V>

@@ -7,11 +7,11 @@ use crate::{BitSlice, BitSliceMut};
 use bitvec_windows::base::{BitOrder, BitSpanError, MAX_BITS};
 use bitvec_windows::store::BitStore;
 
-/// How many bits the elements have, or `usize::MAX` where a `usize` can't hold the number.
-pub(crate) fn bits_in<T: BitStore>(elements: &[T]) -> usize
-    ensures { result ≡ min (T.BITS * length elements.now) (2 ^ 64 - 1) }
+/// How many bits so many elements have, or `usize::MAX` where a `usize` can't hold the number.
+pub(crate) fn bits_in<T: BitStore>(count: usize) -> usize
+    ensures { result ≡ min (T.BITS * count) (2 ^ 64 - 1) }
 {
-    elements.len().saturating_mul(T::BITS as usize)
+    (T::BITS as usize).saturating_mul(count)
 }
 
 impl<'a, T: BitStore, O: BitOrder> BitSlice<'a, T, O> {
@@ -37,7 +37,7 @@ impl<'a, T: BitStore, O: BitOrder> BitSlice<'a, T, O> {
         BitSlice::from_slice(std::slice::from_ref(element))
     }
 
-    /// The same as [`BitSlice::from_slice`], under the same condition.
+    /// Alias of [`BitSlice::from_slice`], under its condition.
     pub fn from_slice_unchecked(elements: &'a [T]) -> Self
         requires { T.BITS * length elements.now ≤ max_bits }
         ensures { IsWhole T.BITS O.at T.value elements.now (seen result) }
@@ -59,7 +59,7 @@ impl<'a, T: BitStore, O: BitOrder> BitSlice<'a, T, O> {
             (λ error. error ≡ TooLong (min (T.BITS * length elements.now) (2 ^ 64 - 1))) }
         ensures whole { IfOk result (λ view. IsWhole T.BITS O.at T.value elements.now (seen view)) }
     {
-        let bits = bits_in(elements);
+        let bits = bits_in::<T>(elements.len());
         if bits <= MAX_BITS {
             Ok(BitSlice::from_slice(elements))
         } else {
@@ -69,7 +69,7 @@ impl<'a, T: BitStore, O: BitOrder> BitSlice<'a, T, O> {
 }
 
 impl<'a, T: BitStore, O: BitOrder> BitSliceMut<'a, T, O> {
-    ghost use Rattle.std.specs.Borrow.{Array, follows, sem};
+    ghost use Rattle.std.specs.Borrow.{Array, RestsIfErr, follows, sem};
     ghost use Rattle.bitvec_slice.specs.Seen.{IsEmpty, IsWhole};
     ghost use Rattle.bitvec_slice.specs.Views.{IsWholeOf, name_of, seen_mut};
 
@@ -90,7 +90,7 @@ impl<'a, T: BitStore, O: BitOrder> BitSliceMut<'a, T, O> {
         BitSliceMut::from_slice_mut(std::slice::from_mut(element))
     }
 
-    /// The same as [`BitSliceMut::from_slice_mut`], under the same condition.
+    /// Alias of [`BitSliceMut::from_slice_mut`], under its condition.
     pub fn from_slice_unchecked_mut(elements: &'a mut [T]) -> Self
         requires { T.BITS * length elements.old ≤ max_bits }
         ensures { IsWholeOf elements.old elements.entry.ghost_name result }
@@ -99,18 +99,34 @@ impl<'a, T: BitStore, O: BitOrder> BitSliceMut<'a, T, O> {
     }
 
     /// A view of all bits of the elements; `Err(TooLong(bits))` exactly where they are more than
-    /// `MAX_BITS` bits: so many, or `usize::MAX` where they are more than that.
+    /// `MAX_BITS` bits: so many, or `usize::MAX` where they are more than that. Then the elements stay.
     pub fn try_from_slice_mut(elements: &'a mut [T]) -> Result<Self, BitSpanError>
+        ensures* stays { sem 𝓛 (RestsIfErr (Array T.row 0) elements.entry name_of result
+            (λ left. left ≡ elements.old)) }
         ensures made { IsOk result ↔ (T.BITS * length elements.old ≤ max_bits) }
         ensures error { IfErr result
             (λ error. error ≡ TooLong (min (T.BITS * length elements.old) (2 ^ 64 - 1))) }
         ensures whole { IfOk result (IsWholeOf elements.old elements.entry.ghost_name) }
     {
-        let bits = bits_in(elements);
-        if bits <= MAX_BITS {
-            Ok(BitSliceMut::from_slice_mut(elements))
-        } else {
-            Err(BitSpanError::TooLong(bits))
+        let bits = bits_in::<T>(elements.len());
+        if bits > MAX_BITS {
+            return BitSliceMut::too_long(bits);
         }
+        BitSliceMut::all_of(elements)
+    }
+
+    // The two answers of `try_from_slice_mut`, whose proof by hand goes by their contracts.
+    fn too_long(bits: usize) -> Result<Self, BitSpanError>
+        ensures { result ≡ Err (TooLong bits) }
+    {
+        Err(BitSpanError::TooLong(bits))
+    }
+
+    fn all_of(elements: &'a mut [T]) -> Result<Self, BitSpanError>
+        requires { T.BITS * length elements.old ≤ max_bits }
+        ensures made { IsOk result }
+        ensures whole { IfOk result (IsWholeOf elements.old elements.entry.ghost_name) }
+    {
+        Ok(BitSliceMut::from_slice_mut(elements))
     }
 }

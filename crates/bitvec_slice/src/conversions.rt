@@ -39,7 +39,7 @@ impl<'a, T: BitStore, O: BitOrder> TryFrom<&'a [T]> for BitSlice<'a, T, O> {
         × IfErr result (λ back. back ≡ elements) };
 
     fn try_from(elements: &'a [T]) -> Result<Self, &'a [T]> {
-        if bits_in(elements) <= MAX_BITS {
+        if bits_in::<T>(elements.len()) <= MAX_BITS {
             Ok(BitSlice::from_slice(elements))
         } else {
             Err(elements)
@@ -58,7 +58,7 @@ impl<'a, T: BitStore, O: BitOrder> TryFrom<&'a mut [T]> for BitSliceMut<'a, T, O
         × IfErr result (λ back. back ≡ elements) };
 
     fn try_from(elements: &'a mut [T]) -> Result<Self, &'a mut [T]> {
-        if bits_in(elements) <= MAX_BITS {
+        if bits_in::<T>(elements.len()) <= MAX_BITS {
             Ok(BitSliceMut::from_slice_mut(elements))
         } else {
             Err(elements)

@@ -59,7 +59,7 @@ pub trait BitSliceIndex<V: Viewed>: Sized + Drop {
     // Holds of the index, a view and what stands there.
     ghost gives: { Self → Seen V.Element → Self.Immut → Type 0 };
 
-    // The same for writing.
+    // What a writable part shows.
     ghost gives_mut: { Self → Seen V.Writable.Element → Self.Mut → Type 0 };
 
     /// Whether a view of so many bits has the index. `bitvec` has no such call.

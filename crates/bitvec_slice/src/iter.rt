@@ -1,8 +1,7 @@
 //! The bits of a view, one by one.
 ghost use Rattle.std.specs.Prelude.{◌≡◌, Some, IfSome, ⊤, length};
-ghost use Rattle.std.specs.Iterator.{UpTo, YieldsFirstBy, YieldsLastBy, at_most, item_count};
+ghost use Rattle.std.specs.Iterator.{UpTo, at_most, item_count};
 ghost use Rattle.std.specs.Iterator.SizeHint.{IsWithinCount};
-ghost use Rattle.bitvec_domain.specs.References.{bit_of_ref};
 ghost use Rattle.bitvec_slice.specs.Indices.{HasRange};
 ghost use Rattle.bitvec_slice.specs.Views.{seen};
 
@@ -36,7 +35,7 @@ impl<'a, T: BitStore, O: BitOrder> Iter<'a, T, O> {
         self.view.into_part(self.indices.start..self.indices.end)
     }
 
-    /// The same as [`Iter::as_bitslice`].
+    /// Alias of [`Iter::as_bitslice`].
     pub fn as_ref(&self) -> BitSlice<'a, T, O>
         ensures bits { (seen result).bits ≡ remaining_bits self.now }
         ensures part { IsRangeOf T.BITS (walked self.now) (index_range self.now).start (index_range self.now).end (seen result) }
@@ -100,11 +99,11 @@ impl<'a, T: BitStore, O: BitOrder> Clone for Iter<'a, T, O> {
 }
 
 impl<'a, T: BitStore, O: BitOrder> Iterator for Iter<'a, T, O> {
-    ghost use Rattle.bitvec_slice.specs.Walks.{remaining_bits};
+    ghost use Rattle.bitvec_slice.specs.Walks.{TakesFirst, remaining_bits};
 
     type Item = BitRef<'a, T, O>;
 
-    ghost next_gives = { YieldsFirstBy (λ bit. bit_of_ref bit) (λ it. remaining_bits it) };
+    ghost next_gives = { λ before bit after. TakesFirst before bit after };
 
     ghost remaining = { item_count (λ it. remaining_bits it) };
 
@@ -127,9 +126,9 @@ impl<'a, T: BitStore, O: BitOrder> Iterator for Iter<'a, T, O> {
 }
 
 impl<'a, T: BitStore, O: BitOrder> DoubleEndedIterator for Iter<'a, T, O> {
-    ghost use Rattle.bitvec_slice.specs.Walks.{remaining_bits};
+    ghost use Rattle.bitvec_slice.specs.Walks.{TakesLast};
 
-    ghost next_back_gives = { YieldsLastBy (λ bit. bit_of_ref bit) (λ it. remaining_bits it) };
+    ghost next_back_gives = { λ before bit after. TakesLast before bit after };
 
     /// The last of the bits that are still to come.
     #[tactic(auto, using(crate::specs::WalkLaws::stepping))]

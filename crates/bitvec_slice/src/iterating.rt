@@ -8,7 +8,7 @@ use bitvec_windows::store::BitStore;
 
 impl<'a, T: BitStore, O: BitOrder> BitSlice<'a, T, O> {
     ghost use Rattle.bitvec_slice.specs.Views.{seen};
-    ghost use Rattle.bitvec_slice.specs.Walks.{YieldsBits, remaining_bits, walked};
+    ghost use Rattle.bitvec_slice.specs.Walks.{Walks, YieldsBits, remaining_bits};
 
     /// The bits, one by one.
     ///
@@ -18,7 +18,7 @@ impl<'a, T: BitStore, O: BitOrder> BitSlice<'a, T, O> {
     #[tactic(auto, unfolding(crate::specs::Walks::remaining_bits))]
     pub fn iter(self) -> Iter<'a, T, O>
         ensures bits { remaining_bits result ≡ (seen self.entry).bits }
-        ensures view { walked result ≡ seen self.entry }
+        ensures walk { Walks result (seen self.entry) 0 (seen self.entry).window.len }
         ensures bound { length (remaining_bits result) ≤ max_bits }
         ensures runs { YieldsBits result }
     {
@@ -32,12 +32,12 @@ impl<'a, T: BitStore, O: BitOrder> BitSlice<'a, T, O> {
 
 impl<'a, T: BitStore, O: BitOrder> BitSliceMut<'a, T, O> {
     ghost use Rattle.bitvec_slice.specs.Views.{seen_mut};
-    ghost use Rattle.bitvec_slice.specs.Walks.{YieldsBits, remaining_bits, walked};
+    ghost use Rattle.bitvec_slice.specs.Walks.{Walks, YieldsBits, remaining_bits};
 
     /// The bits, one by one.
     pub fn iter(&self) -> Iter<'_, T, O>
         ensures bits { remaining_bits result ≡ (seen_mut self.now).bits }
-        ensures view { walked result ≡ seen_mut self.now }
+        ensures walk { Walks result (seen_mut self.now) 0 (seen_mut self.now).window.len }
         ensures bound { length (remaining_bits result) ≤ max_bits }
         ensures runs { YieldsBits result }
     {

@@ -29,22 +29,22 @@ mod view_mut;
 mod walk_texts;
 mod writing;
 
-/// What crates above name of `bitvec_base`.
+/// Items of `bitvec_base` that crates above use.
 pub mod base {
     pub use bitvec_windows::base::{BitOrder, HiLo, Lsb0, MAX_BITS, Msb0, Part, Window};
 }
 
-/// What crates above name of `bitvec_cells`.
+/// Items of `bitvec_cells` that crates above use.
 pub mod cells {
     pub use bitvec_windows::cells::{Cells, CellsRead, Exclusive, Shared};
 }
 
-/// What crates above name of `bitvec_engine`.
+/// Items of `bitvec_engine` that crates above use.
 pub mod engine {
     pub use bitvec_windows::engine::{BitOp, SliceOrder, count, count_zeros};
 }
 
-/// What crates above name of `bitvec_store`.
+/// Items of `bitvec_store` that crates above use.
 pub mod store {
     pub use bitvec_windows::store::BitStore;
 }
@@ -54,7 +54,7 @@ pub mod traits {
     pub use bitvec_domain::separator_before;
 }
 
-/// What crates above name of `bitvec_cells`.
+/// Items of `bitvec_cells` that crates above use.
 pub mod walk {
     pub use bitvec_windows::walk::sought;
 }
@@ -70,12 +70,12 @@ pub mod windows {
     };
 }
 
-/// What crates above name of `bitvec_words`.
+/// Items of `bitvec_words` that crates above use.
 pub mod words {
     pub use bitvec_windows::words::{WORD_BITS, WordOrder};
 }
 
-pub use bit_domain::BitDomain;
+pub use bit_domain::{BitDomain, BitDomainMut};
 pub use bit_iters::{BitRefIter, BitValIter};
 pub use bit_parts::BitDomainParts;
 pub use bitvec_domain::{

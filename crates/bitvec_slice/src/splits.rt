@@ -25,7 +25,7 @@ impl<'a, T: BitStore, O: BitOrder> BitSlice<'a, T, O> {
         (left, right)
     }
 
-    /// The same as [`BitSlice::split_at`], under the same condition.
+    /// Alias of [`BitSlice::split_at`], under its condition.
     pub fn split_at_unchecked(self, mid: usize) -> (BitSlice<'a, T, O>, BitSlice<'a, T, O>)
         requires { mid ≤ (seen self).window.len }
         ensures { AreHalves T.BITS (seen self.entry) mid (seen result.0) (seen result.1) }
@@ -46,7 +46,7 @@ impl<'a, T: BitStore, O: BitOrder> BitSliceMut<'a, T, O> {
         self.as_ref().split_at(mid)
     }
 
-    /// The same as [`BitSliceMut::split_at`], under the same condition.
+    /// Alias of [`BitSliceMut::split_at`], under its condition.
     pub fn split_at_unchecked(&self, mid: usize) -> (BitSlice<'_, T, O>, BitSlice<'_, T, O>)
         requires { mid ≤ (seen_mut self.now).window.len }
         ensures { AreHalves T.BITS (seen_mut self.now) mid (seen result.0) (seen result.1) }

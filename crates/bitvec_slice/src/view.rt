@@ -104,7 +104,7 @@ impl<'a, T: BitStore, O: BitOrder> BitSlice<'a, T, O> {
         self.elements
     }
 
-    /// The same view: `&*bits` of `bitvec`, as [`crate::BitSliceMut::as_ref`] gives it.
+    /// This view: `&*bits` of `bitvec`, as [`crate::BitSliceMut::as_ref`] gives it.
     pub fn as_ref(&self) -> BitSlice<'_, T, O>
         ensures { seen result ≡ seen self.now }
     {

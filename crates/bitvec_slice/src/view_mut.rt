@@ -4,7 +4,7 @@ ghost use Rattle.bitvec_windows.specs.base.Window.{max_bits};
 
 use crate::bit_domain::bit_domain_mut_of;
 use crate::touching::touched_range;
-use crate::{BitDomain, BitSlice, Domain, DomainMut, Sealed};
+use crate::{BitDomain, BitDomainMut, BitSlice, Domain, DomainMut, Sealed};
 use bitvec_domain::domain_mut_of;
 use bitvec_windows::base::{BitOrder, Window};
 use bitvec_windows::store::BitStore;
@@ -186,7 +186,7 @@ impl<'a, T: BitStore, O: BitOrder> BitSliceMut<'a, T, O> {
     }
 
     /// The view for writing, cut at the edges of elements.
-    pub fn bit_domain_mut(&mut self) -> BitDomain<BitSliceMut<'_, T, O>>
+    pub fn bit_domain_mut(&mut self) -> BitDomainMut<'_, T, O>
         ensures { IsBitDomain T.BITS O.at T.value (seen_mut self.old) (views_of_mut result) }
     {
         let window = self.window();

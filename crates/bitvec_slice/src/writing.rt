@@ -16,7 +16,7 @@ pub trait ViewMut<T: BitStore, O: BitOrder>: View<T, O> {
     // Holds of it before and after a call that gave it these bits and left all others.
     ghost writes: { Self → Self → List Bool → Type 0 };
 
-    // The same as before, but for its elements, which are these, cut or filled up to as many.
+    // The view with these elements, cut or filled up to as many; all else is as before.
     ghost with_elements: { Self → List T → Self };
 
     /// The elements, also their bits outside these, for the crates that the library is made of, which alone

@@ -10,7 +10,7 @@ use Rattle.bitvec_slice.specs.Seen.{IsRangeOf, Seen}
 use Rattle.bitvec_split.specs.Asked.{MayAsk}
 use Rattle.bitvec_split.specs.Splits.{Limited, LimitedBy, RestBy, SplitRule, StepBy, row_of}
 
--- the view, the indices `from` up to `to` of the bits that no piece has yet, and the rest as of a shared split
+-- the view, the indices `from` up to `to` of the bits that no piece has yet, and the rest as in a shared split
 pub record LeftIn (T P : Type 0) : Type 0 where
   pub view : Seen T
   pub from : ℕ

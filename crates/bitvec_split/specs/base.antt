@@ -1,4 +1,4 @@
--- What crates above name of `bitvec_base`.
+-- Items of `bitvec_base` that crates above use.
 pub use Rattle.bitvec_slice.specs.base.Window
 pub use Rattle.bitvec_slice.specs.base.WindowLaws
 pub use Rattle.bitvec_slice.specs.base.WriteLaws

@@ -41,7 +41,7 @@ pub trait SplitCalls<T, P>: Shows<T> {
     fn split(self, pred: P) -> Self::Split
         ensures { Self.Split.left result ≡ unsplit false (Self.shows self) pred };
 
-    /// The same pieces, each with the bit behind it. No empty piece follows a yes at the last bit, and a
+    /// The pieces of a split, each with the bit behind it. No empty piece follows a yes at the last bit, and a
     /// call from the back doesn't ask about the last bit. An empty view has no piece, as std's slices have none,
     /// where `bitvec` gives one.
     ///

@@ -33,7 +33,7 @@ pub struct SplitsMut<'a, T: BitStore, O: BitOrder, P, W> {
 /// The pieces between the bits at which the predicate says yes: `split_mut` makes them.
 pub type SplitMut<'a, T, O, P> = SplitsMut<'a, T, O, P, Forward>;
 
-/// The same pieces, each with the bit behind it: `split_inclusive_mut` makes them.
+/// The pieces of a split, each with the bit behind it: `split_inclusive_mut` makes them.
 pub type SplitInclusiveMut<'a, T, O, P> = SplitsMut<'a, T, O, P, Inclusive>;
 
 /// The pieces of `SplitMut`, from the last to the first: `rsplit_mut` makes them.

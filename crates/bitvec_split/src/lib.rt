@@ -15,17 +15,17 @@ mod splitting;
 mod texts;
 mod walks;
 
-/// What crates above name of `bitvec_base`.
+/// Items of `bitvec_base` that crates above use.
 pub mod base {
     pub use bitvec_slice::base::{BitOrder, Window};
 }
 
-/// What crates above name of `bitvec_slice`.
+/// Items of `bitvec_slice` that crates above use.
 pub mod slice {
     pub use bitvec_slice::{BitSliceMut, Sealed, View, ViewMut};
 }
 
-/// What crates above name of `bitvec_store`.
+/// Items of `bitvec_store` that crates above use.
 pub mod store {
     pub use bitvec_slice::store::BitStore;
 }

@@ -105,7 +105,7 @@ impl<P: FnMut(usize, &bool) -> bool, W: SplitKind> SplitState<P, W> {
         self.step_from(bits, W::REVERSED)
     }
 
-    /// The same from the other end.
+    /// A step from the other end.
     pub(crate) fn step_behind<T: BitStore, O: BitOrder>(
         &mut self,
         bits: BitSlice<'_, T, O>,

@@ -26,7 +26,7 @@ pub struct Splits<'a, T: BitStore, O: BitOrder, P, W> {
 /// The pieces between the bits at which the predicate says yes. No piece has such a bit.
 pub type Split<'a, T, O, P> = Splits<'a, T, O, P, Forward>;
 
-/// The same pieces, each with the bit behind it. No empty piece follows a yes at the last bit, and a
+/// The pieces of a split, each with the bit behind it. No empty piece follows a yes at the last bit, and a
 /// call from the back doesn't ask about the last bit.
 pub type SplitInclusive<'a, T, O, P> = Splits<'a, T, O, P, Inclusive>;
 

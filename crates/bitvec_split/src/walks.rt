@@ -16,7 +16,7 @@ pub trait SplitWalk<T, P> {
 pub trait LimitedSplitWalk<T, P> {
     ghost use Rattle.bitvec_split.specs.Splits.{LimitedSplit};
 
-    // The same, and how many pieces it may still give.
+    // What is left, and how many pieces it may still give.
     ghost limited: { Self → LimitedSplit T P };
 }
 

@@ -23,7 +23,7 @@ where
     ended
 }
 
-/// The same from the back.
+/// Whether a walk stays ended from the back.
 fn stays_ended_behind<I: DoubleEndedIterator>(walk: &mut I) -> bool
 where
     I::Item: Drop,

@@ -10,17 +10,17 @@ pub mod refusing;
 pub mod streams;
 mod texts;
 
-/// What crates above name of `bitvec_base`.
+/// Items of `bitvec_base` that crates above use.
 pub mod base {
     pub use bitvec_cells::base::{BitOrder, HiLo, Lsb0, Msb0};
 }
 
-/// What crates above name of `bitvec_cells`.
+/// Items of `bitvec_cells` that crates above use.
 pub mod cells {
     pub use bitvec_cells::{Cells, CellsRead, Exclusive, Shared, has_window};
 }
 
-/// What crates above name of `bitvec_store`.
+/// Items of `bitvec_store` that crates above use.
 pub mod store {
     pub use bitvec_cells::store::BitStore;
 }

@@ -32,7 +32,7 @@ impl Allowance {
 /// A request is a call that asks for a block: to allocate, and to grow or to shrink a block, which
 /// here allocate a new one. Giving a block back is never refused.
 ///
-/// A test goes through every want of memory by a loop over the number granted, until a run in
+/// A test refuses each request for memory by a loop over the number granted, until a run in
 /// which nothing was refused. It lends the allocator: `&Refusing<B>` is `Copy`, and an allocator.
 #[derive(Drop)]
 pub struct Refusing<B: Allocator> {

@@ -49,7 +49,7 @@ impl Device {
         self.control().into_part(32 * number..32 * number + 32)
     }
 
-    /// The same for writing.
+    /// The bits of one control word, for writing. Condition: there is such a word.
     pub fn word_mut(&mut self, number: usize) -> BitSliceMut<'_, u32, Lsb0>
         requires { number < 4 }
         ensures { (seen_mut result).window.len ≡ 32 }

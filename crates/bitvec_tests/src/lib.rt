@@ -1,9 +1,14 @@
 //! Callers of `bitvec`: the functions of docs/GUIDE.md, and the blocks of docs/CALLING.md that name no other crate,
-//! with what their callers know. And each operation and run that tests its arguments, of `bitvec_checked_run`.
+//! with what their callers know. And whole windows by words beside bits, and each operation and run that tests its
+//! arguments, of `bitvec_checked_run`.
 #![tactic(auto)]
 
 #[cfg(test)]
 mod answers;
+#[cfg(test)]
+mod arrays;
+mod bit_arrays;
+mod blocks;
 #[cfg(test)]
 mod checked_operations;
 #[cfg(test)]
@@ -15,6 +20,8 @@ mod edits_composed;
 #[cfg(test)]
 mod edits_known;
 #[cfg(test)]
+mod edits_within;
+#[cfg(test)]
 mod filled;
 #[cfg(test)]
 mod guide;
@@ -22,6 +29,8 @@ mod guide;
 mod lends_known;
 #[cfg(test)]
 mod numbers_known;
+#[cfg(test)]
+mod ordered;
 #[cfg(test)]
 mod own_order;
 #[cfg(test)]

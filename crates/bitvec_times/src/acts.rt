@@ -23,6 +23,9 @@ pub(crate) struct CopiedWithin;
 /// The ones of the left view are counted.
 pub(crate) struct Counted;
 
+/// Whether the bits of the right view end those of the left one.
+pub(crate) struct Ended;
+
 /// Whether the views are equal.
 pub(crate) struct Equal;
 
@@ -38,6 +41,12 @@ pub(crate) struct Inverted;
 /// The left view gets the ones of the right one too.
 pub(crate) struct Joined;
 
+/// The second half of the left view gets the ones of the first half too.
+pub(crate) struct JoinedWithin;
+
+/// The left view gets its own ones one place nearer to its end too.
+pub(crate) struct JoinedOverlapping;
+
 /// The bits of the left view go in the opposite order.
 pub(crate) struct Reversed;
 
@@ -46,6 +55,9 @@ pub(crate) struct Rotated;
 
 /// The bits of the left view are shifted by 29 towards its start.
 pub(crate) struct Shifted;
+
+/// Whether the bits of the right view begin those of the left one.
+pub(crate) struct Started;
 
 /// The views exchange their bits.
 pub(crate) struct Swapped;
@@ -94,6 +106,16 @@ impl Act for Counted {
         _: &mut BitSliceMut<'_, T, O>,
     ) -> usize {
         left.count_ones()
+    }
+}
+
+impl Act for Ended {
+    #[inline(always)]
+    fn act<T: BitStore, O: SliceOrder>(
+        left: &mut BitSliceMut<'_, T, O>,
+        right: &mut BitSliceMut<'_, T, O>,
+    ) -> usize {
+        usize::from(left.ends_with(right.as_ref()))
     }
 }
 
@@ -150,6 +172,32 @@ impl Act for Joined {
     }
 }
 
+impl Act for JoinedWithin {
+    #[inline(always)]
+    fn act<T: BitStore, O: SliceOrder>(
+        left: &mut BitSliceMut<'_, T, O>,
+        _: &mut BitSliceMut<'_, T, O>,
+    ) -> usize {
+        let half = left.len() / 2;
+        left.or_within(0..half, half);
+        0
+    }
+}
+
+impl Act for JoinedOverlapping {
+    #[inline(always)]
+    fn act<T: BitStore, O: SliceOrder>(
+        left: &mut BitSliceMut<'_, T, O>,
+        _: &mut BitSliceMut<'_, T, O>,
+    ) -> usize {
+        let len = left.len();
+        if len > 0 {
+            left.or_within(0..len - 1, 1);
+        }
+        0
+    }
+}
+
 impl Act for Reversed {
     #[inline(always)]
     fn act<T: BitStore, O: SliceOrder>(
@@ -184,6 +232,16 @@ impl Act for Shifted {
             left.shift_start(29);
         }
         0
+    }
+}
+
+impl Act for Started {
+    #[inline(always)]
+    fn act<T: BitStore, O: SliceOrder>(
+        left: &mut BitSliceMut<'_, T, O>,
+        right: &mut BitSliceMut<'_, T, O>,
+    ) -> usize {
+        usize::from(left.starts_with(right.as_ref()))
     }
 }
 

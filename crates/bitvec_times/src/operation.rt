@@ -1,7 +1,7 @@
 //! Operations on the bits of two views in loops, each in one of its own.
 use crate::acts::{
-    Act, Compared, Copied, CopiedWithin, Counted, Equal, Filled, Found, Inverted, Joined, Reversed,
-    Rotated, Shifted, Swapped,
+    Act, Compared, Copied, CopiedWithin, Counted, Ended, Equal, Filled, Found, Inverted, Joined,
+    JoinedOverlapping, JoinedWithin, Reversed, Rotated, Shifted, Started, Swapped,
 };
 use crate::bits::{BITS, Place, zeros_and_one};
 use bitrecord::bits::{BitEdits, BitQueries, BitSliceMut, BitStore, SliceOrder};
@@ -23,14 +23,18 @@ pub(crate) fn operation_times<T: BitStore, O: SliceOrder, A: Allocator + Copy>(
         "copy" => act_times::<Copied, T, O, A>(alloc, place, times),
         "copy_within" => act_times::<CopiedWithin, T, O, A>(alloc, place, times),
         "count_ones" => act_times::<Counted, T, O, A>(alloc, place, times),
+        "ends_with" => act_times::<Ended, T, O, A>(alloc, place, times),
         "equality" => act_times::<Equal, T, O, A>(alloc, place, times),
         "fill" => act_times::<Filled, T, O, A>(alloc, place, times),
         "first_one" => act_times::<Found, T, O, A>(alloc, place, times),
         "invert" => act_times::<Inverted, T, O, A>(alloc, place, times),
         "or" => act_times::<Joined, T, O, A>(alloc, place, times),
+        "or_overlapping" => act_times::<JoinedOverlapping, T, O, A>(alloc, place, times),
+        "or_within" => act_times::<JoinedWithin, T, O, A>(alloc, place, times),
         "reverse" => act_times::<Reversed, T, O, A>(alloc, place, times),
         "rotate_left" => act_times::<Rotated, T, O, A>(alloc, place, times),
         "shift_start" => act_times::<Shifted, T, O, A>(alloc, place, times),
+        "starts_with" => act_times::<Started, T, O, A>(alloc, place, times),
         "swap" => act_times::<Swapped, T, O, A>(alloc, place, times),
         _ => None,
     }
@@ -53,7 +57,7 @@ fn act_times<F: Act, T: BitStore, O: SliceOrder, A: Allocator + Copy>(
     act_behind::<F, T, O>(&mut left, from, &mut right, other, times)
 }
 
-/// The same in two views.
+/// Carries an operation out on two views.
 fn act_behind<F: Act, T: BitStore, O: SliceOrder>(
     left: &mut BitSliceMut<'_, T, O>,
     from: usize,

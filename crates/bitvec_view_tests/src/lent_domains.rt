@@ -3,7 +3,7 @@
 
 use bitvec_owned::edit::BitEdits;
 use bitvec_owned::query::base::{Lsb0, Window};
-use bitvec_owned::query::slice::BitSliceMut;
+use bitvec_owned::query::slice::{BitDomainMut, BitSliceMut};
 use bitvec_test_support::{MEMORIES, bits_of, flipped};
 use std::process::Abort;
 
@@ -23,12 +23,17 @@ fn flip_elements(view: &mut BitSliceMut<'_, u8, Lsb0>, piece: usize) {
 
 /// Flips a part of a view: the head, the body or the tail.
 fn flip_bits(view: &mut BitSliceMut<'_, u8, Lsb0>, piece: usize) {
-    if let Some((mut head, mut body, mut tail)) = view.bit_domain_mut().region() {
-        match piece {
+    match view.bit_domain_mut() {
+        BitDomainMut::Enclave(_) => {}
+        BitDomainMut::Region {
+            mut head,
+            mut body,
+            mut tail,
+        } => match piece {
             0 => head.invert(),
             1 => body.invert(),
             _ => tail.invert(),
-        }
+        },
     }
 }
 

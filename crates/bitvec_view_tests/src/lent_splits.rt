@@ -67,6 +67,33 @@ fn a_piece_is_flipped_with_the_one_at_its_end(rt: HostRuntime) {
     assert!(rt; cells == [0x51]);
 }
 
+/// How many pieces an inclusive split of no bits may lend, which come from either end, and how often its predicate is
+/// asked, which says yes.
+fn split_nothing(bytes: &mut [u8; 1]) -> ((usize, Option<usize>), u128, usize) {
+    let (mut noted, mut asked) = (0, 0usize);
+    let mut view = BitSliceMut::<u8, Lsb0>::from_slice_mut(bytes).into_part(3..3);
+    let mut pieces = view.split_inclusive_mut(|_index, _bit| {
+        asked = asked.wrapping_add(1);
+        true
+    });
+    let hint = pieces.size_hint();
+    for from_back in [false, true] {
+        noted = if from_back {
+            flip_lent(noted, pieces.next_back_mut())
+        } else {
+            flip_lent(noted, pieces.next_mut())
+        };
+    }
+    (hint, noted, asked)
+}
+
+#[test]
+fn an_inclusive_split_of_no_bits_lends_nothing(rt: HostRuntime) {
+    let mut bytes = [0x5A];
+    assert!(rt; split_nothing(&mut bytes) == ((0, Some(0)), 0, 0));
+    assert!(rt; bytes == [0x5A]);
+}
+
 /// Calls a split twelve times, at even and at odd calls from the back or not. Gives what came, and how often the
 /// predicate was asked.
 fn split_in(bytes: &mut [u8; 3], from_back: [bool; 2]) -> (u128, usize) {

@@ -11,6 +11,8 @@ mod domains;
 #[cfg(test)]
 mod edits;
 #[cfg(test)]
+mod ended;
+#[cfg(test)]
 mod ends;
 #[cfg(test)]
 mod laws;

@@ -1,4 +1,5 @@
 mod CandidateLemmas
+mod ConvertedLemmas
 mod DifferenceLemmas
 mod ElementLemmas
 mod FewLemmas

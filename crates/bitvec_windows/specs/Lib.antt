@@ -1,5 +1,6 @@
 pub mod Candidates
 pub mod Cited
+pub mod Converting
 pub mod Difference
 pub mod OrderLaws
 pub mod Swaps

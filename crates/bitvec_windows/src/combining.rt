@@ -76,7 +76,7 @@ fn combine_words<W: WordOrder, T: BitStore, U: BitStore, P: BitOrder>(
 }
 
 /// Replaces each bit of the left window by what the operator makes of it and the one at its index in
-/// the right window, of elements of the same type and order, as the order does it. Condition: as of
+/// the right window, of elements of the same type and order, as the order does it. Condition: as for
 /// [`combine_in`].
 #[inline(always)]
 pub fn combine_block_in<T: BitStore, O: SliceOrder>(

@@ -6,6 +6,7 @@ ghost use Rattle.bitvec_engine.specs.base.Lists.{same_bits};
 ghost use Rattle.bitvec_engine.specs.base.Memory.{HasWindow, list_in};
 ghost use Rattle.bitvec_engine.specs.base.Spans.{HasSpan};
 
+use crate::converting::{common_direction, eq_converted};
 use crate::difference::common_bits;
 use crate::window_words::few_word;
 use bitvec_engine::base::{BitOrder, Lsb0, Msb0, Window};
@@ -21,8 +22,9 @@ const STRETCH: usize = 4096;
 /// Below how many bits a window is a short one to [`eq_blocks_in`].
 const SHORT_BITS: usize = 2048;
 
-/// Whether two windows have the same bits. Condition: each memory has at most `MAX_BITS` bits, and
-/// each window lies in its memory.
+/// Whether two windows have the same bits: by whole elements where both have elements of one width and
+/// orders that run the same way, as of one type, and else by words. Condition: each memory has at most
+/// `MAX_BITS` bits, and each window lies in its memory.
 pub fn eq_in<T: BitStore, O: BitOrder, U: BitStore, P: BitOrder>(
     left: &[T],
     left_window: Window,
@@ -37,11 +39,22 @@ pub fn eq_in<T: BitStore, O: BitOrder, U: BitStore, P: BitOrder>(
     if left_window.len != right_window.len {
         return false;
     }
+    if left_window.len > WORD_BITS && T::BITS == U::BITS {
+        match common_direction::<T, O, P>() {
+            Direction::Up => {
+                return eq_converted::<Lsb0, T, U>(left, left_window, right, right_window);
+            }
+            Direction::Down => {
+                return eq_converted::<Msb0, T, U>(left, left_window, right, right_window);
+            }
+            Direction::Other => {}
+        }
+    }
     common_bits::<T, O, U, P>(left, left_window, right, right_window) == left_window.len
 }
 
 /// Whether two windows have the same bits, of elements of the same type and order, as the order
-/// compares them. Condition: as of [`eq_in`].
+/// compares them. Condition: as for [`eq_in`].
 #[inline(always)]
 pub fn eq_block_in<T: BitStore, O: SliceOrder>(
     left: &[T],
@@ -67,8 +80,8 @@ pub fn eq_block_in<T: BitStore, O: SliceOrder>(
     eq_blocks_in::<T, O>(left, left_window, right, right_window)
 }
 
-/// [`eq_block_in`] by elements at any length: the shorter way to few bits where their number isn't known
-/// when the machine code is made. Whole elements of a short window are compared in the caller. Condition: as of [`eq_in`].
+/// [`eq_block_in`] by elements at any length: prefer it where the length is not a compile-time
+/// constant. Whole elements of a short window are compared in the caller. Condition: as for [`eq_in`].
 #[inline(always)]
 pub fn eq_blocks_in<T: BitStore, O: SliceOrder>(
     left: &[T],
@@ -112,7 +125,7 @@ fn eq_few<W: WordOrder, T: BitStore>(
     few_word::<W, T>(left, left_window) == few_word::<W, T>(right, right_window)
 }
 
-/// How the bits of two windows compare, as lists of truth values do. Condition: as of [`eq_in`].
+/// How the bits of two windows compare, as lists of truth values do. Condition: as for [`eq_in`].
 pub fn compare_in<T: BitStore, O: BitOrder, U: BitStore, P: BitOrder>(
     left: &[T],
     left_window: Window,
@@ -137,7 +150,7 @@ pub fn compare_in<T: BitStore, O: BitOrder, U: BitStore, P: BitOrder>(
 
 /// How the bits of two windows compare, as lists of truth values do, of elements of the same type
 /// and order. It passes equal stretches as the order compares them, and goes by words from the first
-/// stretch on that differs. Condition: as of [`eq_in`].
+/// stretch on that differs. Condition: as for [`eq_in`].
 pub fn compare_block_in<T: BitStore, O: SliceOrder>(
     left: &[T],
     left_window: Window,

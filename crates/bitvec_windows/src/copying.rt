@@ -62,7 +62,7 @@ fn copy_words<W: WordOrder, T: BitStore, U: BitStore, P: BitOrder>(
 }
 
 /// Copies the bits of the right window, of elements of the same type and order, as the order does
-/// it. Condition: as of [`copy_from_in`].
+/// it. Condition: as for [`copy_from_in`].
 #[inline(always)]
 pub fn copy_from_block_in<T: BitStore, O: SliceOrder>(
     left: &mut [T],
@@ -86,8 +86,8 @@ pub fn copy_from_block_in<T: BitStore, O: SliceOrder>(
     copy_blocks_in::<T, O>(left, left_window, right, right_window);
 }
 
-/// [`copy_from_block_in`] with no test for few bits: the shorter way to these where their number isn't known
-/// when the machine code is made. Whole elements are copied at once. Condition: as of [`copy_from_in`].
+/// [`copy_from_block_in`] with no test for few bits: prefer it where the length is not a compile-time
+/// constant. Whole elements are copied at once. Condition: as for [`copy_from_in`].
 #[inline(always)]
 pub fn copy_blocks_in<T: BitStore, O: SliceOrder>(
     left: &mut [T],
@@ -110,8 +110,8 @@ pub fn copy_blocks_in<T: BitStore, O: SliceOrder>(
     copy_parted_in::<T, O>(left, left_window, right, right_window);
 }
 
-/// The same. Many bits that begin at the same index of an element are copied by whole elements at once, others
-/// by the order's block function. Condition: as of [`copy_from_in`].
+/// Copies a window. Many bits that begin at the same index of an element are copied by whole elements at once, others
+/// by the order's block function. Condition: as for [`copy_from_in`].
 fn copy_parted_in<T: BitStore, O: SliceOrder>(left: &mut [T], to: Window, right: &[T], from: Window)
     requires { HasSpan T.BITS (map T.value left.old) (map T.value right.now) to from }
     ensures { Copies T.BITS O.at (map T.value left.old) (map T.value left.new) to (map T.value right.now) from }

@@ -8,11 +8,11 @@ use bitvec_engine::cells::Exclusive;
 use bitvec_engine::store::BitStore;
 use bitvec_engine::words::store_part;
 
-/// From how many bits on whole elements are copied at once.
+/// The least number of bits that are copied as whole elements at once.
 pub(crate) const AT_ONCE_BITS: usize = 256;
 
 /// Copies the bits of the right window, which begins at the same index of an element, under any order.
-/// Conditions: as of [`crate::copy_from_in`], and the windows have at least as many bits as an element.
+/// Conditions: as for [`crate::copy_from_in`], and the windows have at least as many bits as an element.
 pub(crate) fn copy_elements_in<T: BitStore, O: BitOrder>(
     left: &mut [T],
     to: Window,

@@ -26,8 +26,8 @@ pub fn count_in<T: BitStore, O: BitOrder>(cells: &[T], window: Window) -> usize
     count_blocks_in::<T, O>(cells, window)
 }
 
-/// [`count_in`] by whole elements at any length: the shorter way to few bits where their number isn't
-/// known when the machine code is made. Condition: as of [`count_in`].
+/// [`count_in`] by whole elements at any length: prefer it where the length is not a compile-time
+/// constant. Condition: as for [`count_in`].
 pub fn count_blocks_in<T: BitStore, O: BitOrder>(cells: &[T], window: Window) -> usize
     requires window { HasWindow T.BITS (map T.value cells.now) window }
     ensures { result ≡ count_by (λ bit. bit) (list_in T.BITS O.at (map T.value cells.now) window) }

@@ -17,7 +17,7 @@ pub fn fill_in<T: BitStore, O: BitOrder>(cells: &mut [T], window: Window, bit: b
     fill::<O, Exclusive<T>>(&mut accessor, window, bit);
 }
 
-/// Flips each bit of a window. Condition: as of [`fill_in`].
+/// Flips each bit of a window. Condition: as for [`fill_in`].
 pub fn invert_in<T: BitStore, O: BitOrder>(cells: &mut [T], window: Window)
     requires window { HasWindow T.BITS (map T.value cells.old) window }
     ensures writes { Edits T.BITS O.at (map T.value cells.old) (map T.value cells.new) window (map not) }

@@ -4,6 +4,7 @@
 mod candidates;
 mod combining;
 mod comparing;
+mod converting;
 mod copying;
 mod copying_elements;
 mod copying_within;
@@ -19,21 +20,21 @@ mod swapping;
 mod swapping_within;
 mod window_words;
 
-/// What crates above name of `bitvec_base`.
+/// Items of `bitvec_base` that crates above use.
 pub mod base {
     pub use bitvec_engine::base::{
         BitOrder, BitSpanError, HiLo, Lsb0, MAX_BITS, Msb0, Part, Window, first_part, last_part,
     };
 }
 
-/// What crates above name of `bitvec_cells`.
+/// Items of `bitvec_cells` that crates above use.
 pub mod cells {
     pub use bitvec_engine::cells::{
         Cells, CellsRead, Exclusive, Shared, fits_max_bits, has_window,
     };
 }
 
-/// What crates above name of `bitvec_engine`.
+/// Items of `bitvec_engine` that crates above use.
 pub mod engine {
     pub use bitvec_engine::{
         BitOp, ByWords, SliceOrder, all, any, bits_contains, bits_copy, bits_copy_within,
@@ -44,12 +45,12 @@ pub mod engine {
     };
 }
 
-/// What crates above name of `bitvec_store`.
+/// Items of `bitvec_store` that crates above use.
 pub mod store {
     pub use bitvec_engine::store::BitStore;
 }
 
-/// What crates above name of `bitvec_cells`.
+/// Items of `bitvec_cells` that crates above use.
 pub mod walk {
     pub use bitvec_engine::walk::{
         count_part, fill_part, filled, first_in_element, first_in_part, invert_part,

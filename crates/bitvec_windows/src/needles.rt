@@ -31,7 +31,7 @@ pub fn starts_with_in<T: BitStore, O: BitOrder, U: BitStore, P: BitOrder>(
     eq_in::<T, O, U, P>(left, head, right, right_window)
 }
 
-/// Whether the bits of the right window end those of the left one. Condition: as of
+/// Whether the bits of the right window end those of the left one. Condition: as for
 /// [`starts_with_in`].
 pub fn ends_with_in<T: BitStore, O: BitOrder, U: BitStore, P: BitOrder>(
     left: &[T],
@@ -52,7 +52,7 @@ pub fn ends_with_in<T: BitStore, O: BitOrder, U: BitStore, P: BitOrder>(
 }
 
 /// Whether the bits of the right window stand in those of the left one, from some index on: 64 indices at
-/// a time by words, and then bit by bit where they may. Condition: as of [`starts_with_in`].
+/// a time by words, and then bit by bit where they may. Condition: as for [`starts_with_in`].
 pub fn contains_in<T: BitStore, O: BitOrder, U: BitStore, P: BitOrder>(
     left: &[T],
     left_window: Window,
@@ -108,7 +108,7 @@ fn contains_by<W: WordOrder, T: BitStore, O: BitOrder, U: BitStore, P: BitOrder>
 }
 
 /// Whether the bits of the right window stand in those of the left one from one of 64 indices on, of
-/// which `starts` has those that come into question. Condition: as of [`starts_with_in`], and the
+/// which `starts` has those that come into question. Condition: as for [`starts_with_in`], and the
 /// indices begin in the left window.
 fn stands_from<W: WordOrder, T: BitStore, O: BitOrder, U: BitStore, P: BitOrder>(
     left: &[T],

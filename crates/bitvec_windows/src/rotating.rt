@@ -32,7 +32,7 @@ pub fn rotate_left_in<T: BitStore, O: SliceOrder>(cells: &mut [T], window: Windo
     rotate_many::<T, O>(cells, window, by);
 }
 
-/// Rotates the bits of a window so that the last `by` come first. Condition: as of
+/// Rotates the bits of a window so that the last `by` come first. Condition: as for
 /// [`rotate_left_in`].
 pub fn rotate_right_in<T: BitStore, O: SliceOrder>(cells: &mut [T], window: Window, by: usize)
     requires window { HasWindow T.BITS (map T.value cells.old) window }
@@ -96,7 +96,7 @@ fn rotate_many<T: BitStore, O: SliceOrder>(cells: &mut [T], window: Window, by: 
 }
 
 /// Rotates the bits of a window so that the bit at `by` comes first, with up to `HELD` elements held
-/// aside. Conditions: as of [`rotate_left_in`], and the memory has as many elements, which are at most 128.
+/// aside. Conditions: as for [`rotate_left_in`], and the memory has as many elements, which are at most 128.
 fn rotate_aside<T: BitStore, O: SliceOrder, const HELD: usize>(
     cells: &mut [T],
     window: Window,
@@ -116,7 +116,7 @@ fn rotate_aside<T: BitStore, O: SliceOrder, const HELD: usize>(
 }
 
 /// Rotates the bits of a window so that the bit at `by` comes first, with bits held aside in a memory of
-/// at most 128 elements. Conditions: as of [`rotate_left_in`].
+/// at most 128 elements. Conditions: as for [`rotate_left_in`].
 ///
 /// The shorter of the two sides is exchanged with as many bits of the other, which are then in
 /// their place, until the shorter one can be held aside.
@@ -152,7 +152,7 @@ fn rotate_blocks<T: BitStore, O: SliceOrder>(
 }
 
 /// Rotates the bits of a window so that the bit at `by` comes first, with those before it held
-/// aside. Conditions: as of [`rotate_blocks`], and the memory beside holds these bits.
+/// aside. Conditions: as for [`rotate_blocks`], and the memory beside holds these bits.
 fn rotate_front<T: BitStore, O: SliceOrder>(
     cells: &mut [T],
     window: Window,
@@ -176,7 +176,7 @@ fn rotate_front<T: BitStore, O: SliceOrder>(
 }
 
 /// Rotates the bits of a window so that the bit at `by` comes first, with those from it on held
-/// aside. Conditions: as of [`rotate_front`], of these bits.
+/// aside. Conditions: as for [`rotate_front`], of these bits.
 fn rotate_back<T: BitStore, O: SliceOrder>(
     cells: &mut [T],
     window: Window,

@@ -24,7 +24,7 @@ pub fn first_in<T: BitStore, O: SliceOrder>(
     O::search_first::<Shared<T>>(&mut accessor, window, want)
 }
 
-/// The index of a window's last bit that is `want`, if there is one. Condition: as of [`first_in`].
+/// The index of a window's last bit that is `want`, if there is one. Condition: as for [`first_in`].
 pub fn last_in<T: BitStore, O: SliceOrder>(cells: &[T], window: Window, want: bool) -> Option<usize>
     requires window { HasWindow T.BITS (map T.value cells.now) window }
     ensures { result ≡ last_place want (list_in T.BITS O.at (map T.value cells.now) window) }
@@ -33,7 +33,7 @@ pub fn last_in<T: BitStore, O: SliceOrder>(cells: &[T], window: Window, want: bo
     O::scan_last::<Shared<T>>(&mut accessor, window, want)
 }
 
-/// Whether a bit of a window is 1. Condition: as of [`first_in`].
+/// Whether a bit of a window is 1. Condition: as for [`first_in`].
 pub fn any_in<T: BitStore, O: SliceOrder>(cells: &[T], window: Window) -> bool
     requires window { HasWindow T.BITS (map T.value cells.now) window }
     ensures { result ≡ list_any (λ bit. bit) (list_in T.BITS O.at (map T.value cells.now) window) }
@@ -42,7 +42,7 @@ pub fn any_in<T: BitStore, O: SliceOrder>(cells: &[T], window: Window) -> bool
     any::<O, Shared<T>>(&mut accessor, window)
 }
 
-/// Whether every bit of a window is 1. Condition: as of [`first_in`].
+/// Whether every bit of a window is 1. Condition: as for [`first_in`].
 pub fn all_in<T: BitStore, O: SliceOrder>(cells: &[T], window: Window) -> bool
     requires window { HasWindow T.BITS (map T.value cells.now) window }
     ensures { result ≡ list_all (λ bit. bit) (list_in T.BITS O.at (map T.value cells.now) window) }

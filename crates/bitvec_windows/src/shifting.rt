@@ -31,7 +31,7 @@ pub fn shift_start_in<T: BitStore, O: SliceOrder>(cells: &mut [T], window: Windo
 }
 
 /// Shifts the bits of a window towards its end: as many zeros as were lost stand before the others.
-/// Condition: as of [`shift_start_in`].
+/// Condition: as for [`shift_start_in`].
 pub fn shift_end_in<T: BitStore, O: SliceOrder>(cells: &mut [T], window: Window, by: usize)
     requires window { HasWindow T.BITS (map T.value cells.old) window }
     requires bound { by ≤ window.len }

@@ -61,7 +61,7 @@ fn swap_with_any<W: WordOrder, T: BitStore, U: BitStore, P: BitOrder>(
     }
 }
 
-/// The same where both orders do: up to 64 bits at a time, as words.
+/// Exchanges two windows where both orders run through an element: up to 64 bits at a time, as words.
 fn swap_words<W: WordOrder, V: WordOrder, T: BitStore, U: BitStore>(
     left: &mut [T],
     left_window: Window,
@@ -90,7 +90,7 @@ fn swap_words<W: WordOrder, V: WordOrder, T: BitStore, U: BitStore>(
 }
 
 /// Exchanges the bits of two windows, of elements of one type and order, as the order does it.
-/// Condition: as of [`swap_with_in`].
+/// Condition: as for [`swap_with_in`].
 pub fn swap_with_block_in<T: BitStore, O: SliceOrder>(
     left: &mut [T],
     left_window: Window,

@@ -16,7 +16,7 @@ use std::ops::Range;
 /// most `MAX_BITS` bits, the window lies in it, and both ranges lie in the window, and apart.
 ///
 /// Ranges that lie apart share one element at most. What they have in other elements is exchanged by the
-/// order's block function, as of two memories, and then the bits of the shared one, held aside.
+/// order's block function, as for two memories, and then the bits of the shared one, held aside.
 pub fn swap_within_in<T: BitStore, O: SliceOrder>(
     cells: &mut [T],
     window: Window,
@@ -36,7 +36,7 @@ pub fn swap_within_in<T: BitStore, O: SliceOrder>(
     }
 }
 
-/// Exchanges `len` bits of a window from `first` on with as many from `second` on. Conditions: as of
+/// Exchanges `len` bits of a window from `first` on with as many from `second` on. Conditions: as for
 /// [`swap_within_in`]; and the second ones stand behind the first ones.
 pub(crate) fn swap_ranges<T: BitStore, O: SliceOrder>(
     cells: &mut [T],
@@ -60,7 +60,7 @@ pub(crate) fn swap_ranges<T: BitStore, O: SliceOrder>(
     swap_stretch::<T, O>(cells, window, first + before, second + before, len - before);
 }
 
-/// Exchanges `len` bits of a window from `first` on with as many from `second` on. Conditions: as of
+/// Exchanges `len` bits of a window from `first` on with as many from `second` on. Conditions: as for
 /// [`swap_ranges`]; and the first ones end where the element of the bit at `second` begins, or before.
 fn swap_sides<T: BitStore, O: SliceOrder>(
     cells: &mut [T],
@@ -84,7 +84,7 @@ fn swap_sides<T: BitStore, O: SliceOrder>(
 }
 
 /// Exchanges `count` bits of a window from `first` on with as many from `second` on, by copies: the first
-/// ones are held aside. Conditions: as of [`swap_within_in`]; and an element has as many bits.
+/// ones are held aside. Conditions: as for [`swap_within_in`]; and an element has as many bits.
 fn swap_stretch<T: BitStore, O: SliceOrder>(
     cells: &mut [T],
     window: Window,

@@ -153,8 +153,8 @@ fn gathered_word<W: WordOrder, O: BitOrder, T: BitStore>(elements: &[T], window:
     word
 }
 
-/// [`gathered`], of a whole element by eight bits at a time, which the compiler writes out. Condition:
-/// as of [`gathered`].
+/// [`gathered`], of a whole element by eight bits at a time, which the compiler unrolls. Condition:
+/// as for [`gathered`].
 #[inline(always)]
 fn gathered_part<O: BitOrder, W: WordOrder, T: BitStore>(element: T, part: Part) -> u64
     requires order { part.from ≤ part.to }

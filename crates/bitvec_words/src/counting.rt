@@ -91,7 +91,7 @@ fn count_words<C: CellsRead>(cells: &mut C, first: usize, count: usize) -> usize
     ones + count_some_words::<C>(cells, first + passed, count % BLOCK_WORDS)
 }
 
-/// The same of `count` blocks, whose words the compiler writes out.
+/// Counts the ones of `count` blocks, whose words the compiler unrolls.
 #[inline(always)]
 fn count_blocks<C: CellsRead>(cells: &mut C, first: usize, count: usize) -> usize
     requires window { HasWindow C.Elem.BITS (C.numbers cells.old) (elements_window C.Elem.BITS first (count * (4 * (64 / C.Elem.BITS)))) }
@@ -108,7 +108,7 @@ fn count_blocks<C: CellsRead>(cells: &mut C, first: usize, count: usize) -> usiz
     ones
 }
 
-/// The same of some words, one after the other.
+/// Counts the ones of some words, one after the other.
 #[inline(always)]
 fn count_some_words<C: CellsRead>(cells: &mut C, first: usize, count: usize) -> usize
     requires window { HasWindow C.Elem.BITS (C.numbers cells.old) (elements_window C.Elem.BITS first (count * (64 / C.Elem.BITS))) }
@@ -140,7 +140,7 @@ fn count_elements<O: BitOrder, C: CellsRead>(cells: &mut C, first: usize, count:
     ones
 }
 
-/// How many bits of a window are 0. Condition: as of [`count`]. It loads each element that the
+/// How many bits of a window are 0. Condition: as for [`count`]. It loads each element that the
 /// window touches once.
 pub fn count_zeros<O: BitOrder, C: CellsRead>(cells: &mut C, window: Window) -> usize
     requires { HasWindow C.Elem.BITS (C.numbers cells.old) window }

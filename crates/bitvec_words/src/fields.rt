@@ -78,7 +78,7 @@ pub fn load_field<O: WordOrder, C: CellsRead>(cells: &mut C, window: Window) -> 
 }
 
 /// A window gets the first bits of a word, as many as it has; all other bits of the memory stay.
-/// Condition: as of [`load_field`]. It stores each element that the window touches once, and loads
+/// Condition: as for [`load_field`]. It stores each element that the window touches once, and loads
 /// at most the first and the last.
 pub fn store_field<O: WordOrder, C: Cells>(cells: &mut C, window: Window, field: u64)
     requires window { HasWindow C.Elem.BITS (C.numbers cells.old) window }

@@ -82,7 +82,7 @@ fn store_whole<O: BitOrder, C: Cells>(cells: &mut C, first: usize, count: usize,
     }
 }
 
-/// Flips each bit of a window; all other bits of the memory stay. Condition: as of [`fill`]. It
+/// Flips each bit of a window; all other bits of the memory stay. Condition: as for [`fill`]. It
 /// loads and stores each element that the window touches once.
 pub fn invert<O: BitOrder, C: Cells>(cells: &mut C, window: Window)
     requires { HasWindow C.Elem.BITS (C.numbers cells.old) window }

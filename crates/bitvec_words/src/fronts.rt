@@ -36,7 +36,7 @@ pub fn words_load_front<O: WordOrder, C: CellsRead>(cells: &mut C, window: Windo
     (word, count)
 }
 
-/// The same under any order: the first bits are those of the first element, up to 64.
+/// The first bits of a window under any order: those of the first element, up to 64.
 pub fn bits_load_front<O: BitOrder, C: CellsRead>(cells: &mut C, window: Window) -> (u64, usize)
     requires window { HasWindow C.Elem.BITS (C.numbers cells.old) window }
     requires some { 0 < window.len }

@@ -16,7 +16,7 @@ mod scanning_words;
 mod word_elements;
 mod word_order;
 
-/// What crates above name of `bitvec_base`.
+/// Items of `bitvec_base` that crates above use.
 pub mod base {
     pub use bitvec_cells::base::{
         BitOrder, BitSpanError, HiLo, Lsb0, MAX_BITS, Msb0, Part, Window, first_part, last_part,
@@ -24,17 +24,17 @@ pub mod base {
     };
 }
 
-/// What crates above name of `bitvec_cells`.
+/// Items of `bitvec_cells` that crates above use.
 pub mod cells {
     pub use bitvec_cells::{Cells, CellsRead, Exclusive, Shared, fits_max_bits, has_window};
 }
 
-/// What crates above name of `bitvec_store`.
+/// Items of `bitvec_store` that crates above use.
 pub mod store {
     pub use bitvec_cells::store::BitStore;
 }
 
-/// What crates above name of `bitvec_cells`.
+/// Items of `bitvec_cells` that crates above use.
 pub mod walk {
     pub use bitvec_cells::{
         count_part, fill_part, filled, first_in_element, first_in_part, get_bit, invert_part,

@@ -46,7 +46,7 @@ pub fn field<O: WordOrder, C: CellsRead>(cells: &mut C, window: Window) -> (C::E
     field_after::<O, C>(cells, window, first)
 }
 
-/// The same, where the first element that the window touches was loaded before, and isn't loaded
+/// A field of a window whose first element was loaded before, and isn't loaded
 /// again.
 pub fn field_after<O: WordOrder, C: CellsRead>(
     cells: &mut C,

@@ -98,7 +98,7 @@ pub(crate) fn first_whole<O: BitOrder, C: CellsRead>(
     None
 }
 
-/// The index of a window's last bit that is `want`, if there is one. Condition: as of
+/// The index of a window's last bit that is `want`, if there is one. Condition: as for
 /// [`bits_scan_first`]. It loads each element that the window touches at most once, from the last
 /// on, and none before the bit.
 pub fn bits_scan_last<O: BitOrder, C: CellsRead>(

@@ -29,7 +29,7 @@ pub fn load_elements<O: WordOrder, C: CellsRead>(cells: &mut C, first: usize) ->
     word
 }
 
-/// Stores the elements of one word from the element `first` on. Condition: as of
+/// Stores the elements of one word from the element `first` on. Condition: as for
 /// [`load_elements`].
 #[inline(always)]
 pub fn store_elements<O: WordOrder, C: Cells>(cells: &mut C, first: usize, word: u64)

@@ -4,7 +4,7 @@ use Rattle.std.proofs.Common.{Err, Ok, arith, sym, ◌∙◌, ap, subst}
 use Rattle.std.specs.declared.result.Result.{Result}
 use Rattle.std.proofs.lemmas.List.{get_or_append_left, get_or_push, get_or-map, length-map, length_push, set-set}
 use Rattle.std.proofs.lemmas.List.Sums.{fold_push}
-use Rattle.bitrecord.specs.bits.{BitSliceMut, Order, Store, Window, length_bits, seen_mut, written-none, written-then}
+use Rattle.bitrecord.specs.bits.{BitSliceMut, Order, Store, Window, length-seen_mut, seen_mut, written-none, written-then}
 use Rattle.bitrecord.specs.Layouts.{IsLayout, field_at, no_field}
 use Rattle.bitrecord.specs.Records.{IsBeside, WritesField, number_in, record_in}
 use Rattle.bitrecord.specs.declared.endian.Endian.TheVariants.{Big}
@@ -31,17 +31,14 @@ done (Ok y) x is p = p
 done (Err y) x is p = absurd (cc)
 
 module _ {T O : Type 0} {t : Store T} {o : Order O} where
-  long : (v : BitSliceMut T O t o) → length (seen_mut v).bits ≡ (seen_mut v).window.len
-  long v = length_bits t.BITS o.at t.value v.elements.now v.head v.len v.inside
-
   -- one field written
   pub field-written : (bits n value : ℕ) (fields : List Window) (before after : BitSliceMut T O t o) → IsLayout bits fields → (seen_mut before).window.len ≡ bits → n < length fields
       → WritesField Big true (field_at fields n) value before after → numbers_seen after fields ≡ slice_set (numbers_seen before fields) n value
   field-written bits n value fields before after layout many below wrote =
       let place = wrote.written.window in
       ap (λ (w : Window). record_in Big true t.BITS w.start (seen_mut after).bits fields) place
-      ∙ numbers-set Big true t.BITS (seen_mut before).window.start bits n value fields (seen_mut before).bits (seen_mut after).bits layout (long before ∙ many)
-      (long after ∙ ap (λ (w : Window). w.len) place ∙ many) below
+      ∙ numbers-set Big true t.BITS (seen_mut before).window.start bits n value fields (seen_mut before).bits (seen_mut after).bits layout (length-seen_mut before ∙ many)
+      (length-seen_mut after ∙ ap (λ (w : Window). w.len) place ∙ many) below
       (ap (λ (w : Window). number_in Big true t.BITS w.start (seen_mut after).bits (field_at fields n)) (sym place) ∙ wrote.number) wrote.others
 
   -- no change, and one more
@@ -87,7 +84,7 @@ module _ {T O : Type 0} {t : Store T} {o : Order O} where
             ∙ set-set (numbers_seen before fields) CHECKSUM 0 (65535 - sum)
             ∙ ap (λ (n : ℕ). slice_set (numbers_seen before fields) CHECKSUM n) here;
         right = ap sum_words (new ∙ ap (λ (n : ℕ). slice_set (numbers_seen middle words) checksum_word n) wanting)
-            ∙ checksum-right (numbers_seen middle words) (omega arith) (words-below bits t.BITS (seen_mut middle).window.start words (seen_mut middle).bits also (long middle ∙ len) of);
+            ∙ checksum-right (numbers_seen middle words) (omega arith) (words-below bits t.BITS (seen_mut middle).window.start words (seen_mut middle).bits also (length-seen_mut middle ∙ len) of);
         others = λ place d beside. wrote.others place d beside ∙ zero.others place d beside;
         written = written-then before middle after _ _ zero.written wrote.written;
       }

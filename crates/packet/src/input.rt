@@ -9,7 +9,7 @@ use std::io::{ErrorKind, Read};
 /// How many bytes are asked for at a time.
 const CHUNK: usize = 1024;
 
-/// All bytes of the input. A fault of the reader, whatever its kind, isn't want of memory.
+/// All bytes of the input. A fault of the reader, whatever its kind, is not a lack of memory.
 pub(crate) fn read_bytes<R: Read, A: Allocator>(
     alloc: A,
     input: &mut R,

@@ -107,7 +107,7 @@ fn change<A: Allocator + Copy, R: Read, W: Write>(
 /// are assignments, the packet that has them. The result is the status.
 ///
 /// With status 0 all of it is printed, and nothing else. Otherwise one line says why, with status 2,
-/// or 3 for want of memory. With status 1 the output couldn't be written.
+/// or 3 where memory runs out. With status 1 the output couldn't be written.
 pub fn work<A: Allocator + Copy, R: Read, W: Write>(
     alloc: A,
     words: &[String],

@@ -94,7 +94,7 @@ fn print_form<T: BitStore, O: SliceOrder, W: Write>(
     }
 }
 
-/// The same, and then flushes the output.
+/// Prints it, and then flushes the output.
 pub(crate) fn print_primes<T: BitStore, O: SliceOrder, W: Write>(
     output: &mut W,
     bits: BitSlice<'_, T, O>,

@@ -1,19 +1,18 @@
-use Rattle.std.proofs.Common.{◌≡◌, ℕ, length, ap, sym, ◌∙◌}
+use Rattle.std.proofs.Common.{ap, sym, ◌∙◌}
 use Rattle.bitrecord.specs.Records.{record_in}
 use Rattle.bitrecord.specs.RecordLaws.{is-layout, record-determines}
 use Rattle.bitrecord.specs.Views.{fields_of}
-use Rattle.bitrecord.specs.bits.{Window, length_bits, seen, width_some}
+use Rattle.bitrecord.specs.bits.{Window, length-seen, seen, width_some}
 use Rattle.bitrecord_tests.proofs.laws.read_both.Goals as goal
 
 pub returns : goal.returns
 returns g c =
     let b = g.T.BitStore.BITS in
-    let at = g.O.BitOrder.at in
     let fields = fields_of c.args.layout.now in
     let x = seen c.args.view in
     let y = seen c.args.other in
-    let long : length x.bits ≡ x.window.len = length_bits b at g.T.BitStore.value c.args.view.elements.now c.args.view.head c.args.view.len c.args.view.inside in
-    let also : length y.bits ≡ y.window.len = length_bits b at g.T.BitStore.value c.args.other.elements.now c.args.other.head c.args.other.len c.args.other.inside in
+    let long = length-seen c.args.view in
+    let also = length-seen c.args.other in
     λ same. record-determines c.args.endian g.O.WordOrder.HIGH b x.window.start fields x.bits y.bits (width_some _ g.met.T.BitStore.width_law)
     (long ∙ sym (ap (λ (w : Window). w.len) c.requires.window) ∙ sym also)
     (λ k low. rw (long ∙ c.requires.bits) ((is-layout c.args.layout.now).inside k low))

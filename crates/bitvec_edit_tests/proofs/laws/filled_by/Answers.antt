@@ -10,10 +10,10 @@ fill_with-requires g c = callable-always _ _ _ _ c.requires.callable
 
 pub returns : goal.returns
 returns g c =
-    let view = c.from_slice_mut-view.ensures.whole in
+    let whole = c.from_slice_mut-view.ensures.whole in
     let wrote = c.fill_with.ensures in
-    let memory = c.into_slice.ensures.memory ∙ whole-written _ _ _ _ wrote.bits view (wrote.len ∙ view.len) in
+    let memory = c.into_slice.ensures.memory ∙ whole-written _ _ _ _ wrote.bits whole (wrote.len ∙ whole.len) in
     record {
       answers = subst (FillsWith g.F.FnMut c.args.f) (sym memory) wrote.answers;
-      length = ap length c.into_slice.ensures.elements ∙ wrote.bits.length ∙ ap length view.elements;
+      length = ap length c.into_slice.ensures.elements ∙ wrote.bits.length ∙ ap length whole.elements;
     }

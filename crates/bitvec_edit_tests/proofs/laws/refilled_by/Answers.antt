@@ -10,11 +10,11 @@ for_each-requires g c = callable-always _ _ _ _ c.requires.callable
 
 pub returns : goal.returns
 returns g c =
-    let view = c.from_slice_mut-view.ensures.whole in
+    let whole = c.from_slice_mut-view.ensures.whole in
     let wrote = c.for_each.ensures in
-    let memory = c.into_slice.ensures.memory ∙ whole-written _ _ _ _ wrote.bits view (wrote.len ∙ view.len) in
-    let old = rw view.bits at wrote.answers in
+    let memory = c.into_slice.ensures.memory ∙ whole-written _ _ _ _ wrote.bits whole (wrote.len ∙ whole.len) in
+    let old = rw whole.bits at wrote.answers in
     record {
       answers = subst (RefillsWith g.F.FnMut c.args.f _) (sym memory) old;
-      length = ap length c.into_slice.ensures.elements ∙ wrote.bits.length ∙ ap length view.elements;
+      length = ap length c.into_slice.ensures.elements ∙ wrote.bits.length ∙ ap length whole.elements;
     }

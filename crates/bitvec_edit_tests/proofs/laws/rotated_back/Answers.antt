@@ -1,11 +1,11 @@
 use Rattle.std.specs.Prelude.{◌≤◌}
 use Rattle.std.proofs.Common.{sym, subst, ◌∙◌}
 use Rattle.bitvec_edit.specs.UndoLaws.{rotated-back}
-use Rattle.bitvec_edit.specs.slice.SeenLaws.{length_bits}
+use Rattle.bitvec_edit.specs.slice.ShowingLaws.{length-seen_mut}
 use Rattle.bitvec_edit_tests.proofs.laws.rotated_back.Goals as goal
 
 pub returns : goal.returns
 returns g c =
     let view = c.from_slice_mut-view.result in
-    let inside = subst (λ n. c.args.by ≤ n) (sym (length_bits g.T.BitStore.BITS g.O.BitOrder.at g.T.BitStore.value view.elements.now view.head view.len view.inside ∙ c.from_slice_mut-view.ensures.whole.len)) c.requires.bound in
+    let inside = subst (λ n. c.args.by ≤ n) (sym (length-seen_mut view ∙ c.from_slice_mut-view.ensures.whole.len)) c.requires.bound in
     c.into_slice.ensures.memory ∙ rotated-back view _ _ c.args.by inside c.rotate_left.ensures c.rotate_right.ensures ∙ c.from_slice_mut-view.ensures.whole.memory

@@ -1,6 +1,6 @@
 use Rattle.std.proofs.Common.{◌≡◌, ◌∙◌, length, sym}
 use Rattle.bitvec_edit.specs.store.WidthLaws.{width_some}
-use Rattle.bitvec_edit.specs.slice.SeenLaws.{length_bits}
+use Rattle.bitvec_edit.specs.slice.ShowingLaws.{length-seen}
 use Rattle.bitvec_edit.specs.slice.Views.{seen}
 use Rattle.bitvec_owned.proofs.Held.{held}
 use Rattle.bitvec_owned.specs.WritesLaws.{refilled, same_length}
@@ -10,9 +10,8 @@ pub returns-clause-copy : goal.returns-clause-copy
 returns-clause-copy g c =
     let writes = rw (c.elements.ensures, c.window-from.ensures.value) at c.copy_from_block_in.ensures.writes in
     let begins = rw c.window-from.ensures.value at c.start_of_copy-head.ensures in
-    let long = length_bits g.T.BitStore.BITS g.O.BitOrder.at g.T.BitStore.value c.args.view.elements.now c.args.view.head c.args.view.len c.args.view.inside in
     let many : length c.copy_from_block_in.new.left ≡ length c.as_mut_slice.result.now = same_length g.T.BitStore.value _ _ c.copy_from_block_in.ensures.writes.elements in
     let is = rw (refilled c.copy_from_block_in.new.left c.in_ok-elements.elements.items c.in_ok-elements.elements.len (many ∙ c.as_mut_slice.ensures.len), c.window-from.ensures.value) at c.from_parts.ensures in
     rw (← begins)
-    (held g.T.BitStore.BITS g.O.BitOrder.at g.T.BitStore.value (width_some _ g.met.T.BitStore.width_law) g.T.BitStore.ZERO c.as_mut_slice.result.now c.copy_from_block_in.new.left c.div_ceil-count.result c.start_of_copy-head.result c.args.view.len (seen c.args.view).bits _
-    g.met.T.BitStore.zero_law (c.as_mut_slice.ensures.value ∙ c.in_ok-elements.ensures.items) many (rw (c.BITS.ensures, c.window-from.ensures.value) at c.div_ceil-count.ensures) (sym long) writes.bits is)
+    (held g.T.BitStore.BITS g.O.BitOrder.at g.T.BitStore.value (width_some _ g.met.T.BitStore.width_law) g.T.BitStore.ZERO c.as_mut_slice.result.now c.copy_from_block_in.new.left c.div_ceil-count.result c.start_of_copy-head.result (seen c.args.view).window.len (seen c.args.view).bits _
+    g.met.T.BitStore.zero_law (c.as_mut_slice.ensures.value ∙ c.in_ok-elements.ensures.items) many (rw (c.BITS.ensures, c.window-from.ensures.value) at c.div_ceil-count.ensures) (sym (length-seen c.args.view)) writes.bits is)

@@ -2,7 +2,8 @@ use Rattle.std.proofs.Common.{◌≡◌, ◌∙◌, ◌*◌, ap, arith, length, 
 use Rattle.std.proofs.lemmas.List.{length-map}
 use Rattle.bitvec_edit.specs.base.Memory.{memory_bits}
 use Rattle.bitvec_edit.specs.base.WriteLaws.{write_at-nil}
-use Rattle.bitvec_edit.specs.slice.SeenLaws.{length-memory, length_bits}
+use Rattle.bitvec_edit.specs.slice.SeenLaws.{length-memory}
+use Rattle.bitvec_edit.specs.slice.ShowingLaws.{length-seen}
 use Rattle.bitvec_edit.specs.slice.Views.{seen}
 use Rattle.bitvec_owned.proofs.Repeats.{repeat-fits, repeat-next}
 use Rattle.bitvec_owned.proofs.repeating.write_copies.Goals as goal
@@ -14,8 +15,8 @@ loop-number-init g c =
 pub copy_from_block_in-requires-clause-window : goal.copy_from_block_in-requires-clause-window
 copy_from_block_in-requires-clause-window g c =
     let bits = (seen c.args.view).bits in
-    let long : length bits ≡ c.args.view.len = length_bits g.T.BitStore.BITS g.O.BitOrder.at g.T.BitStore.value c.args.view.elements.now c.args.view.head c.args.view.len c.args.view.inside in
-    let same : c.window-from.result.len ≡ c.args.view.len = ap (λ w. w.len) c.window-from.ensures.value in
+    let long = length-seen c.args.view in
+    let same : c.window-from.result.len ≡ (seen c.args.view).window.len = ap (λ w. w.len) c.window-from.ensures.value in
     let fits = repeat-fits bits c.loop-number.number c.args.copies (g.T.BitStore.BITS * length c.args.cells.now) (omega arith) (rw long c.requires.room) in
     let spread = rw long at fits in
     let size : length (map g.T.BitStore.value c.loop-number.cells) ≡ length c.args.cells.now = length-map c.loop-number.cells g.T.BitStore.value ∙ c.loop-number.invariant.1 in
@@ -24,7 +25,7 @@ copy_from_block_in-requires-clause-window g c =
 pub loop-number-preserved : goal.loop-number-preserved
 loop-number-preserved g c =
     let bits = (seen c.args.view).bits in
-    let long : length bits ≡ c.args.view.len = length_bits g.T.BitStore.BITS g.O.BitOrder.at g.T.BitStore.value c.args.view.elements.now c.args.view.head c.args.view.len c.args.view.inside in
+    let long = length-seen c.args.view in
     let writes = rw (c.elements.ensures, c.window-from.ensures.value) at c.copy_from_block_in.ensures.writes in
     let memory = length-memory g.T.BitStore.BITS g.O.BitOrder.at g.T.BitStore.value c.args.cells.now in
     (repeat-next bits _ _ _ c.loop-number.number c.args.copies (omega arith) (rw (memory, long) c.requires.room) c.loop-number.invariant.0 (rw long writes.bits), search rules)

@@ -10,7 +10,7 @@ invariant-loop-rest g l =
     let part = passed l.fn.window l.rest in
     record {
       walk : Walked b l.fn.window l.rest;
-      value : Loaded g.E.Endian.BIG g.O.WordOrder.HIGH b g.O.BitOrder.at (g.C.CellsRead.numbers l.fn.cells) l.fn.window l.rest l.number;
+      value : Loaded g.E.SegmentOrder.BIG g.O.WordOrder.HIGH b g.O.BitOrder.at (g.C.CellsRead.numbers l.fn.cells) l.fn.window l.rest l.number;
       reads : OnlyReads g.C.CellsRead l.fn.cells l.cells (touched_count b part.start part.len);
     }
 

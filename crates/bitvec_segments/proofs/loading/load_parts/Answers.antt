@@ -54,7 +54,7 @@ overflow_add-result g c =
     let number = rw part at c.part_number-number.ensures.value in
     let later = rw (c.after-rest.ensures, c.part_number-number.ensures.reads.numbers) at c.load_few-others.ensures.value in
     let joined = number-joined _ _ _ _ _ window _ some more step c.requires.window _ _ number later in
-    let fits = rw (← joined) at (loaded-fits g.E.Endian.BIG g.O.WordOrder.HIGH b g.O.BitOrder.at _ window c.requires.window c.requires.bound) in
+    let fits = rw (← joined) at (loaded-fits g.E.SegmentOrder.BIG g.O.WordOrder.HIGH b g.O.BitOrder.at _ window c.requires.window c.requires.bound) in
     let kept = parts_kept _ _ fits in
     rw (c.lower_bits.ensures.bits, c.lower_bits-2.ensures.bits, c.after-rest.ensures, kept.0, kept.1) (record { fits = fits })
 
@@ -69,7 +69,7 @@ returns-clause-value g c =
     let number = rw part at c.part_number-number.ensures.value in
     let later = rw (c.after-rest.ensures, c.part_number-number.ensures.reads.numbers) at c.load_few-others.ensures.value in
     let joined = number-joined _ _ _ _ _ window _ some more step c.requires.window _ _ number later in
-    let fits = rw (← joined) at (loaded-fits g.E.Endian.BIG g.O.WordOrder.HIGH b g.O.BitOrder.at _ window c.requires.window c.requires.bound) in
+    let fits = rw (← joined) at (loaded-fits g.E.SegmentOrder.BIG g.O.WordOrder.HIGH b g.O.BitOrder.at _ window c.requires.window c.requires.bound) in
     let kept = parts_kept _ _ fits in
     rw (c.lower_bits.ensures.bits, c.lower_bits-2.ensures.bits, c.after-rest.ensures, kept.0, kept.1) joined
 

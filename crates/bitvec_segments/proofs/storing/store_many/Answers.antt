@@ -15,7 +15,7 @@ use Rattle.bitvec_segments.proofs.storing.store_many.Goals as goal
 pub loop-rest-init : goal.loop-rest-init
 loop-rest-init g c =
     let window = c.args.window in
-    let target = stored g.E.Endian.BIG g.O.WordOrder.HIGH g.C.Elem.BitStore.BITS window.start c.args.number (list_in g.C.Elem.BitStore.BITS g.O.BitOrder.at (g.C.CellsRead.numbers c.args.cells.now) window) in
+    let target = stored g.E.SegmentOrder.BIG g.O.WordOrder.HIGH g.C.Elem.BitStore.BITS window.start c.args.number (list_in g.C.Elem.BitStore.BITS g.O.BitOrder.at (g.C.CellsRead.numbers c.args.cells.now) window) in
     let none : window.start - window.start ≡ 0 = omega arith in
     let empty = touched-none g.C.Elem.BitStore.BITS window.start in
     record {

@@ -13,11 +13,11 @@ invariant-loop-rest g l =
     let at = g.O.BitOrder.at in
     let old = g.C.CellsRead.numbers l.fn.cells in
     let part = passed l.fn.window l.rest in
-    let target = stored g.E.Endian.BIG g.O.WordOrder.HIGH b l.fn.window.start l.fn.number (list_in b at old l.fn.window) in
+    let target = stored g.E.SegmentOrder.BIG g.O.WordOrder.HIGH b l.fn.window.start l.fn.number (list_in b at old l.fn.window) in
     record {
       walk : Walked b l.fn.window l.rest;
       writes : Writes b at old (g.C.CellsRead.numbers l.cells) part (take part.len target);
-      left : Left g.E.Endian.BIG g.O.WordOrder.HIGH b target (list_in b at old l.rest) l.fn.window l.rest l.fn.number;
+      left : Left g.E.SegmentOrder.BIG g.O.WordOrder.HIGH b target (list_in b at old l.rest) l.fn.window l.rest l.fn.number;
       cost : CostsAtMost g.C.CellsRead l.fn.cells l.cells (edge_loads l.fn.window l.rest) (touched_count b part.start part.len);
     }
 

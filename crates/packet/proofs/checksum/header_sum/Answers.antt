@@ -1,6 +1,6 @@
-use Rattle.std.proofs.Common.{◌≡◌, ◌<◌, length, sym, subst, ◌∙◌}
+use Rattle.std.proofs.Common.{◌<◌, sym, subst, ◌∙◌}
 use Rattle.std.specs.Prelude.{All}
-use Rattle.bitrecord.specs.bits.{length_bits, seen}
+use Rattle.bitrecord.specs.bits.{length-seen, seen}
 use Rattle.bitrecord.specs.RecordLaws.{is-layout}
 use Rattle.bitrecord.specs.Views.{bits_of, fields_of}
 use Rattle.packet.proofs.ChangeLaws.{words-below}
@@ -10,6 +10,5 @@ pub add_up-requires : goal.add_up-requires
 add_up-requires g c =
     let words = c.args.words.now in
     let view = c.args.view in
-    let long : length (seen view).bits ≡ (seen view).window.len = length_bits 8 _ (λ x. x) view.elements.now view.head view.len view.inside in
     subst (All (λ word. word < 65536)) (sym c.decode.ensures.numbers)
-    (words-below (bits_of words) 8 (seen view).window.start (fields_of words) (seen view).bits (is-layout words) (long ∙ c.requires.bits) c.requires.words)
+    (words-below (bits_of words) 8 (seen view).window.start (fields_of words) (seen view).bits (is-layout words) (length-seen view ∙ c.requires.bits) c.requires.words)

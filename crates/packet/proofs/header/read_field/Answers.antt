@@ -1,5 +1,5 @@
-use Rattle.std.proofs.Common.{◌≡◌, ℕ, ◌^◌, ◌<◌, length, sym, subst, ◌∙◌, true}
-use Rattle.bitrecord.specs.bits.{length_bits, seen}
+use Rattle.std.proofs.Common.{ℕ, ◌^◌, ◌<◌, sym, subst, ◌∙◌, true}
+use Rattle.bitrecord.specs.bits.{length-seen, seen}
 use Rattle.bitrecord.specs.Layouts.{field_at}
 use Rattle.bitrecord.specs.RecordLaws.{is-layout}
 use Rattle.bitrecord.specs.Views.{bits_of, fields_of}
@@ -11,7 +11,6 @@ pub returns-clause-below : goal.returns-clause-below
 returns-clause-below g c =
     let layout = c.args.layout.now in
     let view = c.from_slice-view.result in
-    let long : length (seen view).bits ≡ (seen view).window.len = length_bits 8 _ (λ x. x) view.elements.now view.head view.len view.inside in
     subst (λ (n : ℕ). n < 2 ^ (field_at (fields_of layout) c.args.number).len) (sym c.decode_one.ensures.value)
     (number-below Big true 8 (seen view).window.start (bits_of layout) c.args.number (fields_of layout) (seen view).bits (is-layout layout)
-    (long ∙ c.from_slice-view.ensures.len ∙ sym c.requires.bits) c.requires.field)
+    (length-seen view ∙ c.from_slice-view.ensures.len ∙ sym c.requires.bits) c.requires.field)

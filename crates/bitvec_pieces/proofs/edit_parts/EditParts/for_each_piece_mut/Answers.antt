@@ -1,7 +1,10 @@
 use Rattle.std.proofs.Common.{arith, refl}
-use Rattle.bitvec_pieces.specs.NumberedLaws.{next-is, next-lies, pieces-next}
+use Rattle.bitvec_pieces.specs.NumberedLaws.{next-is, next-lies, pieces-all, pieces-next, pieces-none}
 use Rattle.bitvec_pieces.specs.InPlaceLaws.{may-return, returned}
 use Rattle.bitvec_pieces.proofs.edit_parts.EditParts.for_each_piece_mut.Goals as goal
+
+pub loop-number-init : goal.loop-number-init
+loop-number-init g c = pieces-none
 
 pub narrow-window-requires : goal.narrow-window-requires
 narrow-window-requires g c =
@@ -15,7 +18,7 @@ edit-requires g c =
     let below = rw (c.count-number-end.ensures, c.window-len.ensures.value) at c.loop-number-test.true in
     let narrowed = rw (c.piece.ensures, c.window-len.ensures.value) at c.narrow-window.ensures in
     let is = next-is sound c.requires.apart (g.met.C.Cutting.inside c.args.cutting _) c.loop-number.invariant below (g.met.C.Cutting.few c.args.cutting _) narrowed in
-    (c.requires.edit _ _).accepts _ is
+    (c.requires.edit.at _ _ _ c.loop-number.invariant.turns).accepts _ is
 
 pub stand_at-requires : goal.stand_at-requires
 stand_at-requires g c =
@@ -24,7 +27,7 @@ stand_at-requires g c =
     let narrowed = rw (c.piece.ensures, c.window-len.ensures.value) at c.narrow-window.ensures in
     let lies = next-lies sound c.requires.apart (g.met.C.Cutting.inside c.args.cutting _) c.loop-number.invariant below in
     let is = next-is sound c.requires.apart (g.met.C.Cutting.inside c.args.cutting _) c.loop-number.invariant below (g.met.C.Cutting.few c.args.cutting _) narrowed in
-    may-return sound lies narrowed ((c.requires.edit _ _).in_place _ _ _ is (_, c.edit.ensures))
+    may-return sound lies narrowed ((c.requires.edit.at _ _ _ c.loop-number.invariant.turns).in_place _ _ _ is (_, c.edit.ensures))
 
 pub loop-number-preserved : goal.loop-number-preserved
 loop-number-preserved g c =
@@ -35,16 +38,11 @@ loop-number-preserved g c =
     let far = c.loop-number.invariant in
     let lies = next-lies sound c.requires.apart inside far below in
     let is = next-is sound c.requires.apart inside far below (g.met.C.Cutting.few c.args.cutting _) narrowed in
-    let stays = (c.requires.edit _ _).in_place _ _ _ is (_, c.edit.ensures) in
+    let stays = (c.requires.edit.at _ _ _ far.turns).in_place _ _ _ is (_, c.edit.ensures) in
     pieces-next sound c.requires.apart inside far below is c.edit.ensures stays (returned sound lies narrowed stays c.stand_at.ensures)
 
 pub returns : goal.returns
 returns g c =
     let done = c.loop-number.invariant in
     let all = rw (c.count-number-end.ensures, c.window-len.ensures.value) at c.loop-number-test.false in
-    record {
-      pieces = λ k below. done.pieces k (omega arith);
-      others = done.others;
-      stays = done.stays;
-      written = g.met.Self.EditParts.written_so _ _ _ (record { bits = refl; stays = done.stays });
-    }
+    pieces-all done (omega (arith, all)) (g.met.Self.EditParts.written_so _ _ _ (record { bits = refl; stays = done.stays }))

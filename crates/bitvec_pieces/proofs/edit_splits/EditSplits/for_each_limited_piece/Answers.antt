@@ -2,11 +2,11 @@ use Rattle.std.proofs.Common.{Some, [], refl}
 use Rattle.bitvec_pieces.specs.InPlaceLaws.{may-return, returned}
 use Rattle.bitvec_pieces.specs.ToSplit.{limited_at}
 use Rattle.bitvec_pieces.specs.SplitEdits.{Editing}
-use Rattle.bitvec_pieces.specs.TurnsLaws.{given-piece, limited-on, piece-given, piece-lies, turns-next}
+use Rattle.bitvec_pieces.specs.TurnsLaws.{given-piece, limited-on, piece-given, piece-lies, turns-may, turns-next}
 use Rattle.bitvec_pieces.proofs.edit_splits.EditSplits.for_each_limited_piece.Goals as goal
 
 pub edit-requires : goal.edit-requires
-edit-requires g c = (c.requires.edit _ _).accepts _ (given-piece g.met.Self.View.shows_elements c.loop-range.invariant.turns c.in-Some.ensures.takes c.narrow-window.ensures)
+edit-requires g c = (turns-may c.loop-range.invariant.turns c.requires.edit).accepts _ (given-piece g.met.Self.View.shows_elements c.loop-range.invariant.turns c.in-Some.ensures.takes c.narrow-window.ensures)
 
 pub stand_at-requires : goal.stand_at-requires
 stand_at-requires g c =
@@ -14,7 +14,7 @@ stand_at-requires g c =
     let far = c.loop-range.invariant.turns in
     let takes = c.in-Some.ensures.takes in
     let narrowed = c.narrow-window.ensures in
-    may-return sound (piece-lies sound far takes) narrowed ((c.requires.edit _ _).in_place _ _ _ (given-piece sound far takes narrowed) (_, c.edit.ensures))
+    may-return sound (piece-lies sound far takes) narrowed ((turns-may c.loop-range.invariant.turns c.requires.edit).in_place _ _ _ (given-piece sound far takes narrowed) (_, c.edit.ensures))
 
 pub loop-range-preserved : goal.loop-range-preserved
 loop-range-preserved g c =
@@ -23,7 +23,7 @@ loop-range-preserved g c =
     let takes = c.in-Some.ensures.takes in
     let narrowed = c.narrow-window.ensures in
     let is = given-piece sound far takes narrowed in
-    let kept = (c.requires.edit _ _).in_place _ _ _ is (_, c.edit.ensures) in
+    let kept = (turns-may c.loop-range.invariant.turns c.requires.edit).in_place _ _ _ is (_, c.edit.ensures) in
     let left = c.loop-range.left in
     let gave = limited-on g.P.FnMut g.W.SplitKind.INCLUSIVE g.W.SplitKind.REVERSED _ (g.Self.Shows.shows c.args.self.now) left c.limited_step.new.left c.loop-range.pred c.limited_step.new.pred c.loop-range.count c.limited_step.new.count (Some c.in-Some.range) far.rest c.in-Some.ensures.piece in
     record {

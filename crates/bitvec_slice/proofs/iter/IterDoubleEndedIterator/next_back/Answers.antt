@@ -1,4 +1,4 @@
-use Rattle.std.specs.Prelude.{◌≡◌, ℕ, ◌+◌, ◌-◌, [], ◌∷◌, ◌++◌, false, slice_index_or, slice_range}
+use Rattle.std.specs.Prelude.{◌≡◌, ℕ, ◌+◌, ◌-◌, [], ◌∷◌, ◌++◌, false, refl, slice_index_or, slice_range}
 use Rattle.std.proofs.Common.{arith, sym, ◌∙◌, ap}
 use Rattle.bitvec_slice.specs.Views.{seen}
 use Rattle.bitvec_slice.specs.WalkLaws.{left_last, left_length}
@@ -16,7 +16,11 @@ returns-clause-steps g c =
     let last = c.in_ok-index.ensures.steps.1 in
     let end = one-less c.args.self.now.indices.end c.next_back.new.self.end last.2 in
     let bit = c.into_bit.ensures ∙ ap (λ (index : ℕ). slice_index_or bits index false) (last.1 ∙ end) in
-    left_last c.args.self.now (omega (arith, last.0)) ∙ sym (λ i. slice_range bits (start i) (end i) ++ bit i ∷ [])
+    let ends = last.2 in
+    let some = last.0 in (
+      left_last c.args.self.now (omega (arith, last.0)) ∙ sym (λ i. slice_range bits (start i) (end i) ++ bit i ∷ []),
+      record { view = refl; start = start; end = omega arith },
+    )
 
 pub returns-clause-goes : goal.returns-clause-goes
 returns-clause-goes g c = grind (arith, left_length)

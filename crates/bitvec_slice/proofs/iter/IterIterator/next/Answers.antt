@@ -1,4 +1,4 @@
-use Rattle.std.specs.Prelude.{ℕ, ◌∷◌, false, slice_index_or, slice_range}
+use Rattle.std.specs.Prelude.{ℕ, ◌∷◌, false, refl, slice_index_or, slice_range}
 use Rattle.std.proofs.Common.{arith, sym, ◌∙◌, ap}
 use Rattle.bitvec_slice.specs.Views.{seen}
 use Rattle.bitvec_slice.specs.WalkLaws.{left_first, left_length}
@@ -12,7 +12,11 @@ returns-clause-steps g c =
     let end = c.in_ok-index.ensures.steps.0 in
     let first = c.in_ok-index.ensures.steps.1 in
     let bit = c.into_bit.ensures ∙ ap (λ (index : ℕ). slice_index_or bits index false) first.1 in
-    left_first c.args.self.now (omega (arith, first.0)) ∙ sym (λ i. bit i ∷ slice_range bits (first.2 i) (end i))
+    let begins = first.2 in
+    let some = first.0 in (
+      left_first c.args.self.now (omega (arith, first.0)) ∙ sym (λ i. bit i ∷ slice_range bits (first.2 i) (end i)),
+      record { view = refl; start = omega arith; end = end },
+    )
 
 pub returns-clause-goes : goal.returns-clause-goes
 returns-clause-goes g c = grind (arith, left_length)

@@ -1,0 +1,194 @@
+// What makes the views of fehimbary.hpp native ones: ranges, <algorithm>, comparisons, containers. Expected values are by hand.
+#include "fehimbary.hpp"
+
+#include <algorithm>
+#include <array>
+#include <cstdio>
+#include <cstdlib>
+#include <iterator>
+#include <numeric>
+#include <string>
+#include <vector>
+
+namespace {
+
+using fehimbary::Bits;
+using fehimbary::Lsb0;
+using fehimbary::Msb0;
+using View = Bits<uint8_t>;
+using Seen = Bits<const uint8_t>;
+
+void expect(bool holds, const char *what) {
+    if (holds)
+        return;
+    std::fprintf(stderr, "%s differs\n", what);
+    std::exit(1);
+}
+
+template <class Call>
+void expect_refused(fb_status wanted, Call call) {
+    try {
+        call();
+    } catch (const fehimbary::Refused &refused) {
+        return expect(refused.status() == wanted, "why a call is refused");
+    }
+    expect(false, "a call that is to be refused");
+}
+
+static_assert(std::is_same_v<View::iterator::iterator_category, std::random_access_iterator_tag>);
+static_assert(std::is_same_v<Seen::reference, bool> && !std::is_same_v<View::reference, bool>);
+static_assert(std::is_assignable_v<View::reference, bool> && !std::is_assignable_v<Seen::reference, bool>);
+static_assert(std::is_convertible_v<View, Seen> && !std::is_convertible_v<Seen, View>);
+static_assert(std::is_convertible_v<View::iterator, Seen::iterator> && !std::is_convertible_v<Seen::iterator, View::iterator>);
+static_assert(!std::is_constructible_v<View, const std::vector<uint8_t> &> && !std::is_constructible_v<View, std::vector<int> &>);
+static_assert(!std::is_constructible_v<View, std::vector<uint8_t>>, "a vector that ends with the call");
+static_assert(std::is_constructible_v<Seen, const std::vector<uint8_t> &> && std::is_constructible_v<Seen, std::vector<uint8_t> &>);
+#if __cplusplus >= 202002L
+static_assert(std::random_access_iterator<View::iterator> && std::random_access_iterator<Seen::iterator>);
+static_assert(std::indirectly_writable<View::iterator, bool> && !std::indirectly_writable<Seen::iterator, bool>);
+static_assert(std::ranges::view<View> && std::ranges::random_access_range<View> && std::ranges::sized_range<View>);
+static_assert(std::ranges::borrowed_range<View> && std::ranges::view<Seen> && std::sortable<View::iterator>);
+static_assert(std::ranges::forward_range<decltype(Seen().ones())> && std::ranges::view<decltype(Seen().ones())>);
+#endif
+
+// The 14 bits of "01101000101100" inside three elements; the bits beside them are ones.
+struct Memory {
+    std::array<uint8_t, 3> elements{0xFF, 0xFF, 0xFF};
+    View view = View(elements).part(5, 19);
+
+    Memory() {
+        const std::string digits = "01101000101100";
+        std::transform(digits.begin(), digits.end(), view.begin(), [](char digit) { return digit == '1'; });
+    }
+
+    void check(const std::string &wanted, const char *what) const {
+        expect(view.to_string() == wanted, what);
+        expect((elements[0] & 0x1F) == 0x1F && elements[2] >> 3 == 0x1F, "the bits beside the view");
+    }
+};
+
+void ranges() {
+    Memory memory;
+    size_t count = 0;
+    for (bool bit : Seen(memory.view))
+        count += bit;
+    expect(count == 6 && memory.view.size() == 14 && !memory.view.empty() && View().begin() == View().end(), "a range-for");
+    for (auto bit : memory.view)
+        bit = !bit;
+    memory.check("10010111010011", "bits written in a range-for");
+    for (auto &&bit : memory.view)
+        bit.flip();
+    memory.check("01101000101100", "bits flipped in a range-for");
+    auto it = memory.view.begin();
+    Seen::iterator seen = it + 3;
+    expect(seen - it == 3 && it < seen && seen == 3 + it && it[1] && !*(it + 3) && *--seen && *seen-- && *seen++, "an iterator");
+    expect(memory.view.cend() - memory.view.cbegin() == 14 && (it += 4) - 4 == memory.view.begin(), "the ends");
+    expect(std::vector<bool>(memory.view.begin(), memory.view.end()).size() == 14, "a list of the bits");
+}
+
+void algorithms() {
+    Memory memory;
+    const View view = memory.view;
+    expect(std::count(view.begin(), view.end(), true) == 6, "std::count");
+    expect(std::find(view.begin(), view.end(), true) - view.begin() == 1, "std::find");
+    expect(std::accumulate(view.begin(), view.end(), 0) == 6, "accumulate");
+    std::reverse(view.begin(), view.end());
+    memory.check("00110100010110", "std::reverse");
+    std::rotate(view.begin(), view.begin() + 2, view.end());
+    memory.check("11010001011000", "std::rotate");
+    std::sort(view.begin() + 4, view.end());
+    memory.check("11010000000111", "std::sort");
+    std::stable_sort(view.begin(), view.end(), std::greater<bool>());
+    memory.check("11111100000000", "std::stable_sort");
+    std::swap_ranges(view.begin(), view.begin() + 3, view.end() - 3);
+    memory.check("00011100000111", "std::swap_ranges");
+    std::fill_n(view.begin(), 2, true);
+    std::copy(view.begin(), view.begin() + 4, view.begin() + 5);
+    memory.check("11011110100111", "std::copy");
+    bool bit = false;
+    swap(view[0], bit);
+    std::iter_swap(view.begin() + 1, view.begin() + 2);
+    memory.check("00111110100111", "what is exchanged");
+    expect(bit, "the bit exchanged");
+#if __cplusplus >= 202002L
+    std::ranges::sort(view);
+    memory.check("00000111111111", "std::ranges::sort");
+#if !defined(__clang__) || __clang_major__ >= 16 // older ones can't read the adaptors of libstdc++
+    expect(std::ranges::count(view | std::views::drop(8), true) == 6, "a pipeline");
+#endif
+#endif
+}
+
+void single_bits() {
+    Memory memory;
+    const View view = memory.view;
+    view[0] = true;
+    view[1] = view[3];
+    view[13].flip();
+    memory.check("10101000101101", "bits by their indices");
+    expect(view[0] && !view[1] && Seen(view)[13], "a bit by its index");
+    expect_refused(FB_INDEX, [&] { view[14] = false; });
+    expect_refused(FB_INDEX, [&] { return bool(Seen(view)[~size_t(0)]); });
+}
+
+void operators() {
+    Memory memory, other;
+    const Seen right = other.view;
+    expect(memory.view == right && !(memory.view != right) && memory.view <= right && memory.view >= right, "equal bits");
+    memory.view.set(13, true);
+    expect(memory.view != right && memory.view > right && right < memory.view && right <= memory.view, "bits behind others");
+    expect(right.part(0, 3) < right && right >= right.part(0, 0), "what bits begin with");
+    memory.view ^= right;
+    memory.check("00000000000001", "^=");
+    (memory.view |= right) &= ~right;
+    memory.check("00000000000001", "|=, &= and ~");
+    const fehimbary::OwnBits<uint8_t> opposite = ~memory.view;
+    expect(opposite.view().to_string() == "11111111111110" && memory.view != opposite, "~");
+    memory.check("00000000000001", "what ~ was made of");
+}
+
+void ones() {
+    Memory memory;
+    const auto ones = memory.view.ones();
+    expect(std::vector<size_t>(ones.begin(), ones.end()) == std::vector<size_t>{1, 2, 4, 8, 10, 11}, "ones");
+    for (size_t one : memory.view.ones())
+        if (one < 7)
+            memory.view.set(2 * one, false);
+    memory.check("01001000001100", "ones cleared on the way");
+    const auto none = memory.view.part(5, 8).ones();
+    expect(none.begin() == none.end() && View().ones().begin() == View().ones().end(), "no ones");
+}
+
+void containers() {
+    std::vector<uint16_t> vector{1, 0};
+    std::array<uint32_t, 1> array{2};
+    uint64_t elements[2] = {4, 0};
+    const std::vector<uint8_t> seen{8};
+    const Bits bits(vector);
+    const Bits of_array(array);
+    const Bits of_elements(elements), of_pointer(elements, 1);
+    const Bits read(seen);
+    static_assert(std::is_same_v<decltype(bits), const Bits<uint16_t, Lsb0>> && std::is_same_v<decltype(read), const Seen>);
+    expect(bits.size() == 32 && of_array.size() == 32 && of_elements.size() == 128 && of_pointer.size() == 64 && read.size() == 8,
+           "the bits of a container");
+    expect(bits[0] && of_array[1] && of_elements[2] && of_pointer[2] && read[3], "a bit of a container");
+    const Bits<uint16_t, Msb0> other(vector);
+    other[0] = true;
+    expect(vector[0] == 0x8001 && other.to_string() == "1000000000000001" + std::string(16, '0'), "the other order");
+#if __cplusplus >= 202002L
+    const Bits of_span{std::span{elements}.first(1)};
+    const Bits<const uint64_t> of_const_span{std::span<const uint64_t>{elements}};
+    expect(of_span.size() == 64 && of_span == of_const_span.part(0, 64), "the bits of a span");
+#endif
+}
+
+} // namespace
+
+int main() {
+    ranges();
+    algorithms();
+    single_bits();
+    operators();
+    ones();
+    containers();
+}

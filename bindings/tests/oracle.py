@@ -1,0 +1,190 @@
+"""Compares the package for Python with `bitarray`, operation by operation, on bits that keep changing: oracle.py [OPERATIONS]."""
+
+import random
+import sys
+from array import array
+
+from bitarray import bitarray
+
+from fehimbary import Bits, Lsb0, Msb0
+
+CODES = {8: "B", 16: "H", 32: "I", 64: "Q"}
+
+
+class Pair:
+    """Bits at some place of a memory, and a bitarray of them."""
+
+    def __init__(self, length, width, order):
+        self.start = random.randint(0, 70)
+        count = -(-(self.start + length + random.randint(0, 70)) // width)
+        self.memory = array(CODES[width], [random.getrandbits(width) for _ in range(count)])
+        self.bits = Bits(self.memory, order)[self.start : self.start + length]
+        self.list = bitarray(list(self.bits))
+
+    @classmethod
+    def drawn(cls, length):
+        return cls(length, random.choice(list(CODES)), random.choice((Lsb0, Msb0)))
+
+    def like(self, length):
+        """Others, mostly of the same order and elements."""
+        if random.random() < 0.3:
+            return Pair.drawn(length)
+        return Pair(length, 8 * self.memory.itemsize, self.bits._order)
+
+
+def part_of(pair):
+    """A slice as Python takes any."""
+    ends = [None, random.randint(-len(pair.bits) - 3, len(pair.bits) + 3)]
+    return slice(random.choice(ends), random.choice([None, random.randint(-9, len(pair.bits) + 3)]))
+
+
+def set_bit(pair):
+    index, bit = random.randrange(-len(pair.bits), len(pair.bits)), random.getrandbits(1)
+    pair.bits[index] = pair.list[index] = bit
+
+
+def fill_part(pair):
+    part, bit = part_of(pair), random.getrandbits(1)
+    pair.bits[part] = bit
+    pair.list[part] = bit
+
+
+def write_part(pair):
+    part = part_of(pair)
+    other = pair.like(len(pair.list[part]))
+    pair.bits[part] = other.bits
+    pair.list[part] = other.list
+
+
+def move_part(pair):
+    length = random.randint(0, len(pair.bits))
+    source, dest = (random.randint(0, len(pair.bits) - length) for _ in range(2))
+    if random.getrandbits(1):
+        pair.bits.copy_within(source, source + length, dest)
+    else:
+        pair.bits[dest : dest + length] = pair.bits[source : source + length]
+    pair.list[dest : dest + length] = pair.list[source : source + length]
+
+
+def combine(pair):
+    other = pair.like(len(pair.bits))
+    name = random.choice(["__iand__", "__ior__", "__ixor__"])
+    getattr(pair.bits, name)(other.bits)
+    getattr(pair.list, name)(other.list)
+
+
+def combine_parts(pair):
+    part = part_of(pair)
+    other = pair.like(len(pair.list[part]))
+    pair.bits[part] ^= other.bits
+    pair.list[part] ^= other.list
+
+
+def combine_copies(pair):
+    other = pair.like(len(pair.bits))
+    found = (pair.bits & other.bits, pair.bits | other.bits, pair.bits ^ other.bits, ~pair.bits)
+    wanted = (pair.list & other.list, pair.list | other.list, pair.list ^ other.list, ~pair.list)
+    assert all(str(it) == that.to01() for it, that in zip(found, wanted))
+
+
+def shift(pair):
+    by = random.randint(0, len(pair.bits) + 2)
+    if random.getrandbits(1):
+        pair.bits <<= by
+        pair.list <<= by
+    else:
+        pair.bits >>= by
+        pair.list >>= by
+
+
+def rotate(pair):
+    by = random.randint(0, len(pair.bits))
+    pair.bits.rotate_left(by)
+    pair.list = pair.list[by:] + pair.list[:by]
+
+
+def turn(pair):
+    pair.bits.reverse()
+    pair.list.reverse()
+
+
+def flip(pair):
+    pair.bits.invert()
+    pair.list.invert()
+
+
+def refill(pair):
+    fresh = pair.like(len(pair.bits))
+    pair.bits.copy_from(fresh.bits)
+    pair.list[:] = fresh.list
+
+
+def ask(pair):
+    bits, those = pair.bits, pair.list
+    assert (bits.count_ones(), bits.count_zeros()) == (those.count(1), those.count(0))
+    assert (bits.any(), bits.all()) == (those.any(), those.all())
+    for bit, first, last in [(1, bits.first_one, bits.last_one), (0, bits.first_zero, bits.last_zero)]:
+        places = those.search(bitarray([bit]))
+        assert (first(), last()) == ((places[0], places[-1]) if places else (None, None))
+    assert bits.ones() == those.search(bitarray("1")) and list(map(int, bits)) == those.tolist()
+
+
+def search(pair):
+    part = part_of(pair)
+    needle = pair.bits[part].copy() if random.getrandbits(1) else pair.like(random.randint(0, 7)).bits
+    those = bitarray(str(needle))
+    assert (needle in pair.bits) == (those in pair.list)
+    assert pair.bits.starts_with(needle) == (pair.list[: len(those)] == those)
+    assert pair.bits.ends_with(needle) == (len(those) <= len(pair.list) and pair.list[len(pair.list) - len(those) :] == those)
+
+
+def compare(pair):
+    other = pair.like(len(pair.bits) + random.randint(-2, 2) if len(pair.bits) > 2 else 3)
+    shared = random.randint(0, min(len(pair.bits), len(other.bits)))
+    other.bits[:shared] = pair.bits[:shared]
+    other.list[:shared] = pair.list[:shared]
+    assert (pair.bits == other.bits, pair.bits != other.bits) == (pair.list == other.list, pair.list != other.list)
+    assert (pair.bits < other.bits, pair.bits >= other.bits) == (pair.list < other.list, pair.list >= other.list)
+    assert (pair.bits <= other.bits, pair.bits > other.bits) == (pair.list <= other.list, pair.list > other.list)
+
+
+def number(pair):
+    length = random.randint(1, 64)
+    if length > len(pair.bits):
+        return
+    start, value = random.randint(0, len(pair.bits) - length), random.getrandbits(64) % 2**length
+    part, big = pair.bits[start : start + length], pair.bits._order is Msb0
+    (part.store_be if big else part.store_le)(value)
+    digits = f"{value:0{length}b}"
+    pair.list[start : start + length] = bitarray(digits if big else digits[::-1])
+    assert (part.load_be if big else part.load_le)() == value
+
+
+def write_down(pair):
+    endian = "little" if pair.bits._order is Lsb0 else "big"
+    assert pair.bits.to_bytes() == bitarray(pair.list, endian).tobytes()
+    assert str(pair.bits.copy()) == str(pair.bits) == pair.list.to01()
+    groups = repr(pair.bits).split("'")[1].removesuffix(" ..").split()
+    assert "".join(groups) == pair.list.to01()[:64] and all(len(group) == 4 for group in groups[:-1])
+
+
+OPERATIONS = [set_bit, fill_part, write_part, move_part, combine, combine_parts, combine_copies, shift, rotate, turn, flip, refill,
+              ask, search, compare, number, write_down]
+
+
+def main():
+    operations = int(sys.argv[1]) if len(sys.argv) > 1 else 10000
+    random.seed(7)
+    for turn_number in range(operations):
+        if turn_number % 100 == 0:
+            pair = Pair.drawn(random.choice([1, 7, 64, 65, random.randint(1, 600)]))
+            outside = list(Bits(pair.memory, pair.bits._order))
+        operation = random.choice(OPERATIONS)
+        operation(pair)
+        wanted = outside[: pair.start] + pair.list.tolist() + outside[pair.start + len(pair.list) :]
+        if str(Bits(pair.memory, pair.bits._order)) != "".join("01"[bit] for bit in wanted):
+            raise SystemExit(f"{operation.__name__} differs: {pair.bits!r}")
+    print(f"beside bitarray: {operations} operations")
+
+
+main()

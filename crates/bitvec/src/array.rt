@@ -1,0 +1,2 @@
+//! Arrays of elements as bits.
+pub use bitvec_owned::BitArray;

@@ -1,0 +1,2 @@
+-- What crates above name of `bitvec_domain`.
+pub use Rattle.bitvec_slice.specs.domain.Domains

@@ -1,0 +1,2 @@
+-- What crates above name of `bitvec_windows`.
+pub use Rattle.bitvec_slice.specs.windows.Swaps

@@ -1,0 +1,75 @@
+-- What is written into a window of a memory's bits, by the words on ranges and on whole lists.
+use Rattle.std.specs.Prelude.{◌≡◌, ℕ, ◌+◌, ◌-◌, ◌≤◌, Bool, List, length, replicate, slice_index_or, slice_range, slice_set, map, not}
+use Rattle.std.specs.List.{swap}
+use Rattle.std.proofs.Common.{arith, refl, sym, ◌∙◌, ap}
+use Rattle.std.proofs.lemmas.List.{length-set}
+use Rattle.std.proofs.lemmas.List.Edits.{length-swap}
+use Rattle.bitvec_edit.specs.Combined.{combined_within}
+use Rattle.bitvec_edit.specs.CombinedLaws.{length-combined_within}
+use Rattle.bitvec_field.specs.base.Lists.{combined, copied_within}
+use Rattle.bitvec_field.specs.base.SliceLaws.{range-all}
+use Rattle.bitvec_field.specs.base.Window.{window_of, write_at}
+use Rattle.bitvec_field.specs.base.WriteLaws.{write_at-all}
+use Rattle.bitvec_field.specs.segments.Segments.{loaded, stored}
+use Rattle.bitvec_field.specs.windows.Swaps.{swapped_within}
+use Rattle.bitvec_in_place.specs.MovedLaws.{length-bits_of, length-copied, length-swapped}
+use Rattle.bitvec_in_place.specs.Ranges.{edited, filled, flipped, joined, number_in, numbered}
+
+-- ---- the window of a range
+
+pub window_range : (bits : List Bool) (from to : ℕ) → from ≤ to → window_of bits (record { start = from; len = to - from }) ≡ slice_range bits from to
+unfolding window_of
+window_range bits from to order = let end : from + (to - from) ≡ to = omega arith in ap (slice_range bits from) end
+
+pub filled-is : (list : List Bool) (from to : ℕ) (bit : Bool) → filled list from to bit ≡ write_at list from (replicate (to - from) bit)
+unfolding filled
+filled-is list from to bit = refl
+
+pub flipped-is : (list : List Bool) (from to : ℕ) → from ≤ to → flipped list from to ≡ write_at list from (map not (window_of list (record { start = from; len = to - from })))
+unfolding flipped
+flipped-is list from to order = ap (λ (part : List Bool). write_at list from (map not part)) (sym (window_range list from to order))
+
+pub edited-is : (edit : List Bool → List Bool) (list : List Bool) (from to : ℕ) → from ≤ to → edited edit list from to ≡ write_at list from (edit (window_of list (record { start = from; len = to - from })))
+unfolding edited
+edited-is edit list from to order = ap (λ (part : List Bool). write_at list from (edit part)) (sym (window_range list from to order))
+
+pub joined-is : (f : Bool → Bool → Bool) (list : List Bool) (from to : ℕ) (other : List Bool) → from ≤ to → joined f list from to other ≡ write_at list from (combined f (window_of list (record { start = from; len = to - from })) other)
+unfolding joined
+joined-is f list from to other order = ap (λ (part : List Bool). write_at list from (combined f part other)) (sym (window_range list from to order))
+
+pub number-is : (big high : Bool) (b : ℕ) (list : List Bool) (from to : ℕ) → from ≤ to → number_in big high b list from to ≡ loaded big high b from (window_of list (record { start = from; len = to - from }))
+unfolding number_in
+number-is big high b list from to order = ap (loaded big high b from) (sym (window_range list from to order))
+
+pub numbered-is : (big high : Bool) (b : ℕ) (list : List Bool) (from to v : ℕ) → from ≤ to → numbered big high b list from to v ≡ write_at list from (stored big high b from v (window_of list (record { start = from; len = to - from })))
+unfolding numbered
+numbered-is big high b list from to v order = ap (λ (part : List Bool). write_at list from (stored big high b from v part)) (sym (window_range list from to order))
+
+-- ---- the window of all
+
+module _ (bits : List Bool) (n : ℕ) (all : n ≡ length bits) where
+  pub window_all : window_of bits (record { start = 0; len = n }) ≡ bits
+  unfolding window_of
+  window_all = range-all bits (0 + n) (omega arith)
+
+  pub whole-set : (i : ℕ) (bit : Bool) → write_at bits 0 (slice_set (window_of bits (record { start = 0; len = n })) i bit) ≡ slice_set bits i bit
+  whole-set i bit = ap (λ (list : List Bool). write_at bits 0 (slice_set list i bit)) window_all ∙ write_at-all bits (slice_set bits i bit) (length-set bits i bit)
+
+  pub whole-get : (i : ℕ) (d : Bool) → slice_index_or (window_of bits (record { start = 0; len = n })) i d ≡ slice_index_or bits i d
+  whole-get i d = ap (λ (list : List Bool). slice_index_or list i d) window_all
+
+  pub whole-swap : (i j : ℕ) → write_at bits 0 (swap (window_of bits (record { start = 0; len = n })) i j) ≡ swap bits i j
+  whole-swap i j = ap (λ (list : List Bool). write_at bits 0 (swap list i j)) window_all ∙ write_at-all bits (swap bits i j) (length-swap bits i j)
+
+  pub whole-copy : (from to dest : ℕ) → to ≤ n → dest + (to - from) ≤ n → write_at bits 0 (copied_within from to dest (window_of bits (record { start = 0; len = n }))) ≡ copied_within from to dest bits
+  whole-copy from to dest source room = ap (λ (list : List Bool). write_at bits 0 (copied_within from to dest list)) window_all ∙ write_at-all bits (copied_within from to dest bits) (length-copied from to dest bits (omega arith) (omega arith))
+
+  pub whole-exchange : (from to dest : ℕ) → from ≤ to → to ≤ n → dest + (to - from) ≤ n → write_at bits 0 (swapped_within from to dest (window_of bits (record { start = 0; len = n }))) ≡ swapped_within from to dest bits
+  whole-exchange from to dest order source room = ap (λ (list : List Bool). write_at bits 0 (swapped_within from to dest list)) window_all ∙ write_at-all bits (swapped_within from to dest bits) (length-swapped from to dest bits order (omega arith) (omega arith))
+
+  pub whole-combine : (f : Bool → Bool → Bool) (from to dest : ℕ) → from ≤ to → to ≤ n → dest + (to - from) ≤ n → write_at bits 0 (combined_within f from to dest (window_of bits (record { start = 0; len = n }))) ≡ combined_within f from to dest bits
+  whole-combine f from to dest order source room = ap (λ (list : List Bool). write_at bits 0 (combined_within f from to dest list)) window_all ∙ write_at-all bits (combined_within f from to dest bits) (length-combined_within f from to dest bits order (omega arith))
+
+pub ruleset ranges = (filled-is, flipped-is, edited-is, joined-is, number-is, numbered-is)
+
+pub ruleset wholes = (length-bits_of, whole-set, whole-get, whole-swap, whole-copy, whole-exchange, whole-combine)

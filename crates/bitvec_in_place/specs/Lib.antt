@@ -1,0 +1,6 @@
+pub mod Laws
+pub mod MovedLaws
+pub mod NumbersLaws
+pub mod Ranges
+pub mod RangesLaws
+pub mod field

@@ -1,0 +1,166 @@
+-- What stands at an index of a list whose values moved or changed, and that the list is as long.
+use Rattle.std.specs.Prelude.{◌≡◌, ◌≢◌, ℕ, ◌+◌, ◌-◌, ◌*◌, ◌<◌, ◌≤◌, ◌⊎◌, Bool, false, not, List, drop, length, map, replicate, slice_index_or, slice_range, take}
+use Rattle.std.specs.List.{swap}
+use Rattle.std.proofs.Common.{arith, sym, ◌∙◌, ap, ⊎_elim, inl, inr, length-append, length-drop}
+use Rattle.std.proofs.lemmas.Grind.{get_or-set_at}
+use Rattle.std.proofs.lemmas.List.{get_or-map, get_or-replicate, get_or-set_other, length-map, length-replicate, length-set, length-take, places}
+use Rattle.std.proofs.lemmas.List.Edits.{swap_is}
+use Rattle.bitvec_field.specs.base.FilledLaws.{bits-zeros}
+use Rattle.bitvec_field.specs.base.Lists.{copied_within, rotated_left, rotated_right, shifted_end, shifted_start}
+use Rattle.bitvec_field.specs.base.Memory.{memory_bits}
+use Rattle.bitvec_field.specs.base.MemoryLaws.{length-memory_bits}
+use Rattle.bitvec_field.specs.base.Window.{write_at}
+use Rattle.bitvec_field.specs.base.WriteLaws.{get-slice_range, get-write_at_above, get-write_at_below, get-write_at_inside, length-slice_range, length-write_at}
+use Rattle.bitvec_field.specs.windows.Swaps.{LieApart, swapped_within}
+
+-- ---- lengths
+
+pub length-bits_of : {T : Type 0} (b : ℕ) (at : ℕ → ℕ → ℕ) (value : T → ℕ) (elements : List T) → length (memory_bits b at (map value elements)) ≡ b * length elements
+length-bits_of b at value elements = length-memory_bits b at (map value elements) ∙ ap (λ (n : ℕ). b * n) (length-map elements value)
+
+pub length-rotation_left : {X : Type 0} (by : ℕ) (list : List X) → length (rotated_left by list) ≡ length list
+unfolding rotated_left
+length-rotation_left by list = omega (arith, length-append (drop by list) (take by list), length-take by list, length-drop by list)
+
+pub length-rotation_right : {X : Type 0} (by : ℕ) (list : List X) → length (rotated_right by list) ≡ length list
+unfolding rotated_right rotated_left
+length-rotation_right by list = length-rotation_left (length list - by) list
+
+pub length-shift_start : (by : ℕ) (list : List Bool) → by ≤ length list → length (shifted_start by list) ≡ length list
+unfolding shifted_start
+length-shift_start by list fits = omega (arith, length-append (drop by list) (replicate by false), length-drop by list, length-replicate by false)
+
+pub length-shift_end : (by : ℕ) (list : List Bool) → by ≤ length list → length (shifted_end by list) ≡ length list
+unfolding shifted_end
+length-shift_end by list fits =
+    let kept = length list - by in
+    omega (arith, length-append (replicate by false) (take kept list), length-take kept list, length-replicate by false)
+
+-- ---- a list as long as a range, written there
+
+module _ {X : Type 0} (list : List X) (from to : ℕ) (new : List X) (order : from ≤ to) (inside : to ≤ length list) (long : length new ≡ to - from) where
+  pub length-put : length (write_at list from new) ≡ length list
+  length-put = length-write_at list from new (omega arith)
+
+  pub get-put_outside : (k : ℕ) (d : X) → (k < from) ⊎ (to ≤ k) → slice_index_or (write_at list from new) k d ≡ slice_index_or list k d
+  get-put_outside k d apart =
+      ⊎_elim (λ (low : k < from). get-write_at_below list from new k d (omega arith) low)
+      (λ (above : to ≤ k). get-write_at_above list from new k d (omega arith) (omega arith)) apart
+
+  pub get-put_inside : (k : ℕ) (d : X) → from ≤ k → k < to → slice_index_or (write_at list from new) k d ≡ slice_index_or new (k - from) d
+  get-put_inside k d low high = get-write_at_inside list from new k d (omega arith) low (omega arith)
+
+-- ---- each value
+
+-- flipped
+pub get-flip : (list : List Bool) (k : ℕ) (d : Bool) → k < length list → slice_index_or (map not list) k d ≡ not (slice_index_or list k d)
+get-flip list k d inside = get_or-map not list k d d inside
+
+-- rotated
+pub get-rotated_left_early : {X : Type 0} (by : ℕ) (list : List X) (k : ℕ) (d : X) → k + by < length list → slice_index_or (rotated_left by list) k d ≡ slice_index_or list (k + by) d
+unfolding rotated_left
+get-rotated_left_early by list k d inside = grind (arith, places)
+
+pub get-rotated_left_late : {X : Type 0} (by : ℕ) (list : List X) (k : ℕ) (d : X) → by ≤ length list → k < length list → length list ≤ k + by → slice_index_or (rotated_left by list) k d ≡ slice_index_or list (k + by - length list) d
+unfolding rotated_left
+get-rotated_left_late by list k d fits inside late = grind (arith, places)
+
+pub get-rotated_right_early : {X : Type 0} (by : ℕ) (list : List X) (k : ℕ) (d : X) → by ≤ length list → k < by → slice_index_or (rotated_right by list) k d ≡ slice_index_or list (k + length list - by) d
+unfolding rotated_right
+get-rotated_right_early by list k d fits early = grind (arith, places)
+
+pub get-rotated_right_late : {X : Type 0} (by : ℕ) (list : List X) (k : ℕ) (d : X) → by ≤ k → k < length list → slice_index_or (rotated_right by list) k d ≡ slice_index_or list (k - by) d
+unfolding rotated_right
+get-rotated_right_late by list k d late inside = grind (arith, places)
+
+-- shifted
+pub get-shifted_start_kept : (by : ℕ) (list : List Bool) (k : ℕ) (d : Bool) → k + by < length list → slice_index_or (shifted_start by list) k d ≡ slice_index_or list (k + by) d
+unfolding shifted_start
+get-shifted_start_kept by list k d inside = grind (arith, places)
+
+pub get-shifted_start_zero : (by : ℕ) (list : List Bool) (k : ℕ) (d : Bool) → by ≤ length list → k < length list → length list ≤ k + by → slice_index_or (shifted_start by list) k d ≡ false
+unfolding shifted_start
+get-shifted_start_zero by list k d fits inside late = grind (arith, places)
+
+pub get-shifted_end_zero : (by : ℕ) (list : List Bool) (k : ℕ) (d : Bool) → k < by → slice_index_or (shifted_end by list) k d ≡ false
+unfolding shifted_end
+get-shifted_end_zero by list k d early = grind (arith, places)
+
+pub get-shifted_end_kept : (by : ℕ) (list : List Bool) (k : ℕ) (d : Bool) → by ≤ k → k < length list → slice_index_or (shifted_end by list) k d ≡ slice_index_or list (k - by) d
+unfolding shifted_end
+get-shifted_end_kept by list k d late inside = grind (arith, places)
+
+-- copied
+module _ {X : Type 0} (from to dest : ℕ) (list : List X) where
+  pub length-copied : to ≤ length list → dest + (to - from) ≤ length list → length (copied_within from to dest list) ≡ length list
+  unfolding copied_within
+  length-copied source room = let long = length-slice_range list from to source in length-write_at list dest (slice_range list from to) (omega arith)
+
+  pub get-copied_inside : (k : ℕ) (d : X) → to ≤ length list → dest + (to - from) ≤ length list → dest ≤ k → k < dest + (to - from) → slice_index_or (copied_within from to dest list) k d ≡ slice_index_or list (from + (k - dest)) d
+  unfolding copied_within
+  get-copied_inside k d source room low high =
+      let long = length-slice_range list from to source in
+      get-put_inside list dest (dest + (to - from)) (slice_range list from to) (omega arith) room (omega arith) k d low high
+      ∙ get-slice_range list from to (k - dest) d (omega arith)
+
+  pub get-copied_outside : (k : ℕ) (d : X) → to ≤ length list → dest + (to - from) ≤ length list → (k < dest) ⊎ (dest + (to - from) ≤ k) → slice_index_or (copied_within from to dest list) k d ≡ slice_index_or list k d
+  unfolding copied_within
+  get-copied_outside k d source room apart =
+      let long = length-slice_range list from to source in
+      get-put_outside list dest (dest + (to - from)) (slice_range list from to) (omega arith) room (omega arith) k d apart
+
+-- exchanged
+pub get-swap_first : {X : Type 0} (list : List X) (i j k : ℕ) (d : X) → k ≡ i → i < length list → j < length list → slice_index_or (swap list i j) k d ≡ slice_index_or list j d
+get-swap_first {X} list i j k d here first second =
+    ap (λ (l : List X). slice_index_or l k d) (sym (swap_is list i j d first second)) ∙ grind (arith, get_or-set_at, get_or-set_other, length-set)
+
+pub get-swap_second : {X : Type 0} (list : List X) (i j k : ℕ) (d : X) → k ≡ j → i < length list → j < length list → slice_index_or (swap list i j) k d ≡ slice_index_or list i d
+get-swap_second {X} list i j k d here first second =
+    ap (λ (l : List X). slice_index_or l k d) (sym (swap_is list i j d first second)) ∙ grind (arith, get_or-set_at, get_or-set_other, length-set)
+
+pub get-swap_other : {X : Type 0} (list : List X) (i j k : ℕ) (d : X) → k ≢ i → k ≢ j → i < length list → j < length list → slice_index_or (swap list i j) k d ≡ slice_index_or list k d
+get-swap_other {X} list i j k d not_first not_second first second =
+    ap (λ (l : List X). slice_index_or l k d) (sym (swap_is list i j d first second)) ∙ grind (arith, get_or-set_at, get_or-set_other, length-set)
+
+-- ranges exchanged
+module _ {X : Type 0} (from to dest : ℕ) (list : List X) (order : from ≤ to) (source : to ≤ length list) (room : dest + (to - from) ≤ length list) where
+  length-moved : length (slice_range list dest (dest + (to - from))) ≡ to - from
+  length-moved = let long = length-slice_range list dest (dest + (to - from)) room in omega arith
+
+  length-once : length (write_at list from (slice_range list dest (dest + (to - from)))) ≡ length list
+  length-once = length-put list from to (slice_range list dest (dest + (to - from))) order source length-moved
+
+  pub length-swapped : length (swapped_within from to dest list) ≡ length list
+  unfolding swapped_within
+  length-swapped =
+      let long = length-slice_range list from to source in
+      let once = length-once in
+      length-write_at (write_at list from (slice_range list dest (dest + (to - from)))) dest (slice_range list from to) (omega arith) ∙ once
+
+  pub get-swapped_back : (k : ℕ) (d : X) → dest ≤ k → k < dest + (to - from) → slice_index_or (swapped_within from to dest list) k d ≡ slice_index_or list (from + (k - dest)) d
+  unfolding swapped_within
+  get-swapped_back k d low high =
+      let long = length-slice_range list from to source in
+      let once = length-once in
+      get-write_at_inside (write_at list from (slice_range list dest (dest + (to - from)))) dest (slice_range list from to) k d (omega arith) low (omega arith)
+      ∙ get-slice_range list from to (k - dest) d (omega arith)
+
+  outside_back : (k : ℕ) (d : X) → (k < dest) ⊎ (dest + (to - from) ≤ k) → slice_index_or (swapped_within from to dest list) k d ≡ slice_index_or (write_at list from (slice_range list dest (dest + (to - from)))) k d
+  unfolding swapped_within
+  outside_back k d apart =
+      let long = length-slice_range list from to source in
+      let once = length-once in
+      get-put_outside (write_at list from (slice_range list dest (dest + (to - from)))) dest (dest + (to - from)) (slice_range list from to) (omega arith) (omega arith) (omega arith) k d apart
+
+  pub get-swapped_front : (k : ℕ) (d : X) → LieApart from to dest → from ≤ k → k < to → slice_index_or (swapped_within from to dest list) k d ≡ slice_index_or list (dest + (k - from)) d
+  get-swapped_front k d apart low high =
+      outside_back k d (⊎_elim (λ (before : to ≤ dest). inl (omega arith)) (λ (after : dest + (to - from) ≤ from). inr (omega arith)) apart)
+      ∙ get-put_inside list from to (slice_range list dest (dest + (to - from))) order source length-moved k d low high
+      ∙ get-slice_range list dest (dest + (to - from)) (k - from) d (omega arith)
+
+  pub get-swapped_outside : (k : ℕ) (d : X) → (k < from) ⊎ (to ≤ k) → (k < dest) ⊎ (dest + (to - from) ≤ k) → slice_index_or (swapped_within from to dest list) k d ≡ slice_index_or list k d
+  get-swapped_outside k d front back = outside_back k d back ∙ get-put_outside list from to (slice_range list dest (dest + (to - from))) order source length-moved k d front
+
+-- a memory of zeros
+pub get-zeros : (b : ℕ) (at : ℕ → ℕ → ℕ) (words : List ℕ) (k : ℕ) (d : Bool) → words ≡ replicate (length words) 0 → k < b * length words → slice_index_or (memory_bits b at words) k d ≡ false
+get-zeros b at words k d zeros inside = ap (λ (l : List Bool). slice_index_or l k d) (bits-zeros b at words zeros) ∙ get_or-replicate (b * length words) k false d inside

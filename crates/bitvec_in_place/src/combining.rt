@@ -1,0 +1,79 @@
+//! The bits of a range and those of a view of any element type and order.
+#![tactic(auto, using(crate::proofs::Windows::ranges))]
+
+ghost use Rattle.std.specs.Prelude.{◌≡◌, ◌-◌, length, map};
+ghost use Rattle.bitvec_field.specs.base.Memory.{memory_bits};
+ghost use Rattle.bitvec_field.specs.base.Window.{write_at};
+ghost use Rattle.bitvec_field.specs.slice.Views.{seen};
+ghost use Rattle.bitvec_field.specs.words.Operator.{operator};
+ghost use Rattle.bitvec_field.specs.words.declared.operator.BitOp.TheVariants.{And, Or, Xor};
+ghost use Rattle.bitvec_in_place.specs.Ranges.{HasRange, joined};
+
+use crate::spans::span;
+use bitvec_field::base::BitOrder;
+use bitvec_field::engine::{BitOp, SliceOrder};
+use bitvec_field::slice::BitSlice;
+use bitvec_field::store::BitStore;
+use bitvec_field::windows::{combine_in, copy_from_in};
+use std::ops::Range;
+
+/// Copies the bits of a view to a range. Condition: the slice has at most `MAX_BITS` bits, the range lies in them, and the
+/// view is as long.
+pub fn copy_from<T: BitStore, O: SliceOrder, U: BitStore, P: BitOrder>(
+    elements: &mut [T],
+    range: Range<usize>,
+    source: BitSlice<'_, U, P>,
+)
+    requires range { HasRange T.BITS (length elements.old) range.start range.end }
+    requires long { (seen source).window.len ≡ range.end - range.start }
+    ensures bits { memory_bits T.BITS O.at (map T.value elements.new) ≡ write_at (memory_bits T.BITS O.at (map T.value elements.old)) range.start (seen source.entry).bits }
+    ensures len { length elements.new ≡ length elements.old }
+{
+    let from = source.window();
+    copy_from_in::<T, O, U, P>(elements, span(range), source.elements(), from);
+}
+
+/// Makes each bit of a range 1 if it and the one at its index in the view, which counts as 0 past the view's end, both
+/// are. Condition: the slice has at most `MAX_BITS` bits, and the range lies in them.
+pub fn and_bits<T: BitStore, O: SliceOrder, U: BitStore, P: BitOrder>(
+    elements: &mut [T],
+    range: Range<usize>,
+    source: BitSlice<'_, U, P>,
+)
+    requires range { HasRange T.BITS (length elements.old) range.start range.end }
+    ensures bits { memory_bits T.BITS O.at (map T.value elements.new) ≡ joined (operator And) (memory_bits T.BITS O.at (map T.value elements.old)) range.start range.end (seen source.entry).bits }
+    ensures len { length elements.new ≡ length elements.old }
+{
+    let from = source.window();
+    combine_in::<T, O, U, P>(elements, span(range), source.elements(), from, BitOp::And);
+}
+
+/// Makes each bit of a range 1 if it or the one at its index in the view, which counts as 0 past the view's end, is.
+/// Condition: as for [`and_bits`].
+pub fn or_bits<T: BitStore, O: SliceOrder, U: BitStore, P: BitOrder>(
+    elements: &mut [T],
+    range: Range<usize>,
+    source: BitSlice<'_, U, P>,
+)
+    requires range { HasRange T.BITS (length elements.old) range.start range.end }
+    ensures bits { memory_bits T.BITS O.at (map T.value elements.new) ≡ joined (operator Or) (memory_bits T.BITS O.at (map T.value elements.old)) range.start range.end (seen source.entry).bits }
+    ensures len { length elements.new ≡ length elements.old }
+{
+    let from = source.window();
+    combine_in::<T, O, U, P>(elements, span(range), source.elements(), from, BitOp::Or);
+}
+
+/// Makes each bit of a range 1 if it and the one at its index in the view, which counts as 0 past the view's end, differ.
+/// Condition: as for [`and_bits`].
+pub fn xor_bits<T: BitStore, O: SliceOrder, U: BitStore, P: BitOrder>(
+    elements: &mut [T],
+    range: Range<usize>,
+    source: BitSlice<'_, U, P>,
+)
+    requires range { HasRange T.BITS (length elements.old) range.start range.end }
+    ensures bits { memory_bits T.BITS O.at (map T.value elements.new) ≡ joined (operator Xor) (memory_bits T.BITS O.at (map T.value elements.old)) range.start range.end (seen source.entry).bits }
+    ensures len { length elements.new ≡ length elements.old }
+{
+    let from = source.window();
+    combine_in::<T, O, U, P>(elements, span(range), source.elements(), from, BitOp::Xor);
+}

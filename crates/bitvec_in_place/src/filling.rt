@@ -1,0 +1,39 @@
+//! Each bit of a range set, cleared or flipped.
+#![tactic(auto, using(crate::proofs::Windows::ranges))]
+
+ghost use Rattle.std.specs.Prelude.{◌≡◌, length, map};
+ghost use Rattle.bitvec_field.specs.base.Memory.{memory_bits};
+ghost use Rattle.bitvec_in_place.specs.Ranges.{HasRange, filled, flipped};
+
+use crate::spans::span;
+use bitvec_field::engine::SliceOrder;
+use bitvec_field::store::BitStore;
+use bitvec_field::windows::{fill_in, invert_in};
+use std::ops::Range;
+
+/// Makes each bit of a range `bit`: `fill` of that part as a view. Condition: the slice has at most `MAX_BITS`
+/// bits, and the range lies in them.
+///
+/// ```
+/// in_place::fill::<u8, Lsb0>(&mut bytes, 20..40, true);
+/// ```
+pub fn fill<T: BitStore, O: SliceOrder>(elements: &mut [T], range: Range<usize>, bit: bool)
+    requires range { HasRange T.BITS (length elements.old) range.start range.end }
+    ensures bits { memory_bits T.BITS O.at (map T.value elements.new) ≡ filled (memory_bits T.BITS O.at (map T.value elements.old)) range.start range.end bit }
+    ensures len { length elements.new ≡ length elements.old }
+{
+    fill_in::<T, O>(elements, span(range), bit);
+}
+
+/// Flips each bit of a range: `invert` of that part as a view. Condition: as for [`fill`].
+///
+/// ```
+/// in_place::invert::<u8, Lsb0>(&mut bytes, 30..50);
+/// ```
+pub fn invert<T: BitStore, O: SliceOrder>(elements: &mut [T], range: Range<usize>)
+    requires range { HasRange T.BITS (length elements.old) range.start range.end }
+    ensures bits { memory_bits T.BITS O.at (map T.value elements.new) ≡ flipped (memory_bits T.BITS O.at (map T.value elements.old)) range.start range.end }
+    ensures len { length elements.new ≡ length elements.old }
+{
+    invert_in::<T, O>(elements, span(range));
+}

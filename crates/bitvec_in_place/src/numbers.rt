@@ -1,0 +1,73 @@
+//! Integers in ranges of bits.
+#![tactic(auto, using(crate::proofs::Windows::ranges))]
+
+ghost use Rattle.std.specs.Prelude.{◌≡◌, ◌+◌, ◌-◌, ◌<◌, ◌≤◌, false, length, map, true};
+ghost use Rattle.bitvec_field.specs.Integers.{integer_of, remainder_of};
+ghost use Rattle.bitvec_field.specs.base.Memory.{memory_bits};
+ghost use Rattle.bitvec_in_place.specs.Ranges.{HasRange, number_in, numbered};
+
+use crate::spans::span;
+use bitvec_field::store::BitStore;
+use bitvec_field::windows::{load_be_in, load_le_in, store_be_in, store_le_in};
+use bitvec_field::{FieldOrder, Integral};
+use std::ops::Range;
+
+/// The integer of a range's bits, the first segment lowest. Condition: the slice has at most `MAX_BITS` bits, the range
+/// lies in them, and has from 1 to `I::BITS` bits.
+pub fn load_le<T: BitStore, O: FieldOrder, I: Integral>(elements: &[T], range: Range<usize>) -> I
+    requires range { HasRange T.BITS (length elements.now) range.start range.end }
+    requires some { range.start < range.end }
+    requires bound { range.end ≤ range.start + I.BITS }
+    ensures { I.value result ≡ integer_of I.SIGNED (range.end - range.start)
+        (number_in false O.HIGH T.BITS (memory_bits T.BITS O.at (map T.value elements.now)) range.start range.end) }
+{
+    load_le_in::<T, O, I>(elements, span(range))
+}
+
+/// The integer of a range's bits, the first segment highest. Condition: as for [`load_le`].
+pub fn load_be<T: BitStore, O: FieldOrder, I: Integral>(elements: &[T], range: Range<usize>) -> I
+    requires range { HasRange T.BITS (length elements.now) range.start range.end }
+    requires some { range.start < range.end }
+    requires bound { range.end ≤ range.start + I.BITS }
+    ensures { I.value result ≡ integer_of I.SIGNED (range.end - range.start)
+        (number_in true O.HIGH T.BITS (memory_bits T.BITS O.at (map T.value elements.now)) range.start range.end) }
+{
+    load_be_in::<T, O, I>(elements, span(range))
+}
+
+/// Stores an integer in a range, the first segment lowest; of one with more bits than the range has, the lowest.
+/// Condition: as for [`load_le`], but the range may be empty.
+///
+/// ```
+/// in_place::store_le::<u8, Lsb0, u64>(&mut bytes, 5..17, number);
+/// ```
+pub fn store_le<T: BitStore, O: FieldOrder, I: Integral>(
+    elements: &mut [T],
+    range: Range<usize>,
+    value: I,
+)
+    requires range { HasRange T.BITS (length elements.old) range.start range.end }
+    requires bound { range.end ≤ range.start + I.BITS }
+    ensures bits { memory_bits T.BITS O.at (map T.value elements.new) ≡ numbered false O.HIGH T.BITS (memory_bits T.BITS O.at (map T.value elements.old)) range.start range.end (remainder_of I.BITS (I.value value)) }
+    ensures len { length elements.new ≡ length elements.old }
+{
+    store_le_in::<T, O, I>(elements, span(range), value);
+}
+
+/// Stores an integer in a range, the first segment highest. Condition: as for [`store_le`].
+///
+/// ```
+/// in_place::store_be::<u8, Msb0, usize>(&mut bytes, 5 * turn..5 * turn + 5, turn);
+/// ```
+pub fn store_be<T: BitStore, O: FieldOrder, I: Integral>(
+    elements: &mut [T],
+    range: Range<usize>,
+    value: I,
+)
+    requires range { HasRange T.BITS (length elements.old) range.start range.end }
+    requires bound { range.end ≤ range.start + I.BITS }
+    ensures bits { memory_bits T.BITS O.at (map T.value elements.new) ≡ numbered true O.HIGH T.BITS (memory_bits T.BITS O.at (map T.value elements.old)) range.start range.end (remainder_of I.BITS (I.value value)) }
+    ensures len { length elements.new ≡ length elements.old }
+{
+    store_be_in::<T, O, I>(elements, span(range), value);
+}

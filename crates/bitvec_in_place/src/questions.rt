@@ -1,0 +1,51 @@
+//! What a range of bits answers: how many are 1, and which of them is the first or the last that is.
+ghost use Rattle.std.specs.Prelude.{◌≡◌, ◌-◌, count_by, false, length, map, true};
+ghost use Rattle.bitvec_field.specs.base.Lists.{first_place, last_place};
+ghost use Rattle.bitvec_field.specs.base.Memory.{list_in};
+ghost use Rattle.bitvec_in_place.specs.Ranges.{HasRange};
+
+use crate::spans::span;
+use bitvec_field::engine::SliceOrder;
+use bitvec_field::store::BitStore;
+use bitvec_field::windows::{count_in, first_in, last_in};
+use std::ops::Range;
+
+/// How many bits of a range are 1. Condition: the slice has at most `MAX_BITS` bits, and the range lies in them.
+pub fn count_ones<T: BitStore, O: SliceOrder>(elements: &[T], range: Range<usize>) -> usize
+    requires range { HasRange T.BITS (length elements.now) range.start range.end }
+    ensures { result ≡ count_by (λ bit. bit) (list_in T.BITS O.at (map T.value elements.now) (record { start = range.start; len = range.end - range.start })) }
+{
+    count_in::<T, O>(elements, span(range))
+}
+
+/// The index in a range of its first 1, if it has one. Condition: as for [`count_ones`].
+pub fn first_one<T: BitStore, O: SliceOrder>(elements: &[T], range: Range<usize>) -> Option<usize>
+    requires range { HasRange T.BITS (length elements.now) range.start range.end }
+    ensures { result ≡ first_place true (list_in T.BITS O.at (map T.value elements.now) (record { start = range.start; len = range.end - range.start })) }
+{
+    first_in::<T, O>(elements, span(range), true)
+}
+
+/// The index in a range of its last 1, if it has one. Condition: as for [`count_ones`].
+pub fn last_one<T: BitStore, O: SliceOrder>(elements: &[T], range: Range<usize>) -> Option<usize>
+    requires range { HasRange T.BITS (length elements.now) range.start range.end }
+    ensures { result ≡ last_place true (list_in T.BITS O.at (map T.value elements.now) (record { start = range.start; len = range.end - range.start })) }
+{
+    last_in::<T, O>(elements, span(range), true)
+}
+
+/// The index in a range of its first 0, if it has one. Condition: as for [`count_ones`].
+pub fn first_zero<T: BitStore, O: SliceOrder>(elements: &[T], range: Range<usize>) -> Option<usize>
+    requires range { HasRange T.BITS (length elements.now) range.start range.end }
+    ensures { result ≡ first_place false (list_in T.BITS O.at (map T.value elements.now) (record { start = range.start; len = range.end - range.start })) }
+{
+    first_in::<T, O>(elements, span(range), false)
+}
+
+/// The index in a range of its last 0, if it has one. Condition: as for [`count_ones`].
+pub fn last_zero<T: BitStore, O: SliceOrder>(elements: &[T], range: Range<usize>) -> Option<usize>
+    requires range { HasRange T.BITS (length elements.now) range.start range.end }
+    ensures { result ≡ last_place false (list_in T.BITS O.at (map T.value elements.now) (record { start = range.start; len = range.end - range.start })) }
+{
+    last_in::<T, O>(elements, span(range), false)
+}

@@ -1,0 +1,53 @@
+//! One range of a slice's bits combined with another range of them.
+#![tactic(auto, using(crate::proofs::Windows::wholes))]
+
+ghost use Rattle.std.specs.Prelude.{◌≡◌, ◌*◌, ◌≤◌, length, map};
+ghost use Rattle.bitvec_edit.specs.Combined.{combined_within};
+ghost use Rattle.bitvec_field.specs.base.Lists.{FitsWithin};
+ghost use Rattle.bitvec_field.specs.base.Memory.{memory_bits};
+ghost use Rattle.bitvec_field.specs.base.Window.{max_bits};
+ghost use Rattle.bitvec_field.specs.words.Operator.{operator};
+ghost use Rattle.bitvec_field.specs.words.declared.operator.BitOp.TheVariants.{And, Or, Xor};
+
+use crate::spans::whole;
+use bitvec_edit::combine_within_in;
+use bitvec_field::engine::{BitOp, SliceOrder};
+use bitvec_field::store::BitStore;
+use std::ops::Range;
+
+/// Makes each of the bits from `dest` on, as many as a range has, 1 if it and the one at its index in the range both are, as
+/// they stood before the call. Condition: the slice has at most `MAX_BITS` bits, `start <= end`, and both the bits read and
+/// those written are among them.
+pub fn and_within<T: BitStore, O: SliceOrder>(elements: &mut [T], src: Range<usize>, dest: usize)
+    requires bound { T.BITS * length elements.old ≤ max_bits }
+    requires fits { FitsWithin src.start src.end dest (T.BITS * length elements.old) }
+    ensures bits { memory_bits T.BITS O.at (map T.value elements.new) ≡ combined_within (operator And) src.start src.end dest (memory_bits T.BITS O.at (map T.value elements.old)) }
+    ensures len { length elements.new ≡ length elements.old }
+{
+    let window = whole(&*elements);
+    combine_within_in::<T, O>(elements, window, src, dest, BitOp::And);
+}
+
+/// Makes each of the bits from `dest` on, as many as a range has, 1 if it or the one at its index in the range is, as they
+/// stood before the call. Condition: as for [`and_within`].
+pub fn or_within<T: BitStore, O: SliceOrder>(elements: &mut [T], src: Range<usize>, dest: usize)
+    requires bound { T.BITS * length elements.old ≤ max_bits }
+    requires fits { FitsWithin src.start src.end dest (T.BITS * length elements.old) }
+    ensures bits { memory_bits T.BITS O.at (map T.value elements.new) ≡ combined_within (operator Or) src.start src.end dest (memory_bits T.BITS O.at (map T.value elements.old)) }
+    ensures len { length elements.new ≡ length elements.old }
+{
+    let window = whole(&*elements);
+    combine_within_in::<T, O>(elements, window, src, dest, BitOp::Or);
+}
+
+/// Makes each of the bits from `dest` on, as many as a range has, 1 if it and the one at its index in the range differ, as
+/// they stood before the call. Condition: as for [`and_within`].
+pub fn xor_within<T: BitStore, O: SliceOrder>(elements: &mut [T], src: Range<usize>, dest: usize)
+    requires bound { T.BITS * length elements.old ≤ max_bits }
+    requires fits { FitsWithin src.start src.end dest (T.BITS * length elements.old) }
+    ensures bits { memory_bits T.BITS O.at (map T.value elements.new) ≡ combined_within (operator Xor) src.start src.end dest (memory_bits T.BITS O.at (map T.value elements.old)) }
+    ensures len { length elements.new ≡ length elements.old }
+{
+    let window = whole(&*elements);
+    combine_within_in::<T, O>(elements, window, src, dest, BitOp::Xor);
+}

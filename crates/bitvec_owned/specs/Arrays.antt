@@ -1,0 +1,15 @@
+-- What contracts see of an array of bits.
+use Rattle.std.specs.Prelude.{ℕ, ◌*◌, List, length, take}
+use Rattle.bitvec_edit.specs.store.declared.store.BitStore.{Ghosts as Store}
+use Rattle.bitvec_edit.specs.base.declared.order.BitOrder.{Ghosts as Order}
+use Rattle.bitvec_edit.specs.slice.Seen.{Seen, shown}
+use Rattle.bitvec_owned.specs.declared.array.BitArray.{BitArray}
+
+module _ {T O : Type 0} {N : ℕ} {t : Store T} {o : Order O} where
+  -- its elements, of which there are N
+  abbrev pub elements_of : BitArray T O N t o → List T
+  elements_of a = take N a.elements
+
+  -- what a view of all its bits shows
+  abbrev pub in_array : BitArray T O N t o → Seen T
+  in_array a = shown t.BITS o.at t.value (elements_of a) 0 (t.BITS * length (elements_of a))

@@ -1,0 +1,4 @@
+pub mod Chunks
+pub mod Filter
+pub mod Pattern
+pub mod Registers

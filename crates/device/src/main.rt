@@ -1,0 +1,40 @@
+//! `device uart BAUD PARITY DATA`, `device bloom KEY OTHER ..`, `device pattern NUMBER` and
+//! `device chunks COUNT` set bits of arrays in place, and print what these hold then.
+#![tactic(auto)]
+
+mod bloom;
+mod chunks;
+mod part;
+mod pattern;
+mod print;
+mod uart;
+
+use part::Part;
+use print::print_asked;
+use std::env;
+use std::io::{self, BufWriter, ErrorKind};
+use std::process::ExitCode;
+use std::rt::Env;
+
+/// The status where the output can't be written.
+const OUTPUT_FAILED: u8 = 1;
+
+/// The status of the work on the words after the program's name.
+fn status<R: Env + Print + AllocGlobal>(rt: &R) -> io::Result<u8> {
+    let words: Vec<String> = env::args(rt)?.skip(1).collect(rt.alloc())?;
+    let mut output = BufWriter::new(rt.alloc(), io::writer(rt))?;
+    let asked = Part::parse(words.as_slice());
+    Ok(print_asked(&mut output, &asked).unwrap_or(OUTPUT_FAILED))
+}
+
+fn main(rt: HostRuntime) -> ExitCode {
+    let (line, status) = match status(&rt) {
+        Ok(status) => return ExitCode::from(status),
+        Err(error) if error.kind() == ErrorKind::OutOfMemory => ("out of memory", 3),
+        Err(_) => ("bad arguments", 2),
+    };
+    match rt.println(line) {
+        Ok(()) => ExitCode::from(status),
+        Err(_) => ExitCode::FAILURE,
+    }
+}
