@@ -1,7 +1,7 @@
 #!/bin/sh
 # Builds the library, its peers and the driver, writes RESULTS.md, which README.md explains, and draws speeds.svg.
-# What it builds goes to bench/out and to out/ of face, crates/bitvec_c, crates/bitvec_c_run,
-# crates/bitvec_times and crates/sieve.
+# What it builds goes to bench/out and to out/ of bindings, crates/bitvec_c, crates/bitvec_c_run,
+# crates/bitvec_times, crates/sieve and crates/bitmatrix.
 set -eu
 cd "$(dirname "$0")"
 
@@ -24,6 +24,7 @@ mkdir -p out
 (cd ../crates/bitvec_c && rt lib) >&2
 (cd ../crates/bitvec_times && rt run -- encode 8 0 0) >/dev/null
 (cd ../crates/sieve && rt run -- count 0) >/dev/null
+(cd ../crates/bitmatrix && rt run -- chain 0) >/dev/null
 make -s -C ../bindings wheel >&2
 /usr/bin/python3 -m zipfile -e ../bindings/out/fehimbary-*.whl out/python
 
@@ -44,6 +45,7 @@ g++ -std=c++17 -O3 "-march=$processor" -Wall -Wextra -Wno-stringop-overflow driv
     ../crates/bitvec_c/out/libbitvec_c.a out/libpeers.a -lpthread -ldl -o out/driver
 g++ -std=c++17 -O3 "-march=$processor" -Wall -Wextra programs.cpp out/libpeers.a -lpthread -ldl -o out/programs
 g++ -std=c++17 -O3 "-march=$processor" -Wall -Wextra sieve.cpp -o out/sieve
+g++ -std=c++17 -O3 "-march=$processor" -Wall -Wextra closure.cpp -o out/closure
 
 out/driver plot | python3 plot.py > speeds.svg
 {
@@ -59,6 +61,7 @@ out/driver plot | python3 plot.py > speeds.svg
     out/driver
     out/programs ../crates/bitvec_times/out/bitvec_times
     out/sieve ../crates/sieve/out/sieve
+    out/closure ../crates/bitmatrix/out/bitmatrix
     echo
     PYTHONPATH=out/python /usr/bin/python3 beside_bitarray.py
 } > out/results.md

@@ -1,0 +1,4 @@
+pub mod ChainLaws
+pub mod PathLaws
+pub mod RowLaws
+pub mod TextLaws

@@ -1,0 +1,4 @@
+pub mod Faults
+pub mod Matrix
+pub mod Program
+pub mod Texts
