@@ -1,5 +1,6 @@
 // Times the program `bitmatrix`, which is given as the first argument, as it closes the chain of 1024 places, beside the same
 // loop over rows of uint64_t, and prints a table in Markdown: runs of the program, less runs for a chain of one place.
+#include "said.hpp"
 #include <algorithm>
 #include <chrono>
 #include <cstdint>
@@ -36,17 +37,7 @@ static std::string by_loop() {
 }
 
 static std::string by_program(const char *program, size_t count) {
-    const std::string command = "exec " + std::string(program) + " chain " + std::to_string(count);
-    FILE *pipe = popen(command.c_str(), "r");
-    if (!pipe)
-        std::abort();
-    std::string said;
-    char part[64];
-    for (size_t n; (n = std::fread(part, 1, sizeof part, pipe)) > 0;)
-        said.append(part, n);
-    if (pclose(pipe))
-        std::abort();
-    return said;
+    return said_by("exec " + std::string(program) + " chain " + std::to_string(count));
 }
 
 // Makes `least` the time of a call in seconds, if that is less; the call has to give this many ones.

@@ -297,7 +297,7 @@ static void within(const char *program) {
     std::printf("\n### One range of a view or-ed into another, under `Lsb0`, in bits per ns\n\n"
                 "| bits | elements | phase | `\\|=` with another memory | apart | overlapping | apart / `\\|=` | overlapping / `\\|=` |\n"
                 "|---|---|---|---|---|---|---|---|\n");
-    for (size_t bits : {1024, 524288})
+    for (size_t bits : {1024, 262144})
         for (size_t width : {8, 64})
             for (size_t phase : {0, 29}) {
                 const auto speed = [&](const char *operation, size_t right, size_t len) {
