@@ -29,6 +29,7 @@ pub use Rattle.bitvec_in_place.specs.MovedLaws
 pub use Rattle.bitvec_in_place.specs.NumbersLaws
 pub use Rattle.bitvec_in_place.specs.Ranges
 pub use Rattle.bitvec_in_place.specs.RangesLaws
+pub use Rattle.bitvec_in_place.specs.Rooms
 pub use Rattle.bitvec_in_place.specs.field.base.ListsLaws
 pub use Rattle.bitvec_in_place.specs.field.base.MemoryLaws
 pub use Rattle.bitvec_iter.specs.Left

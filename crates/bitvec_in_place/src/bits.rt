@@ -1,10 +1,11 @@
 //! Single bits.
 #![tactic(auto, using(crate::proofs::Windows::wholes))]
 
-ghost use Rattle.std.specs.Prelude.{◌≡◌, ◌*◌, ◌<◌, ◌≤◌, false, length, map, slice_index_or, slice_set};
+ghost use Rattle.std.specs.Prelude.{◌≡◌, ◌+◌, ◌*◌, ◌<◌, ◌≤◌, false, length, map, slice_index_or, slice_set};
 ghost use Rattle.std.specs.List.{swap as swapped};
 ghost use Rattle.bitvec_field.specs.base.Memory.{memory_bits};
 ghost use Rattle.bitvec_field.specs.base.Window.{max_bits};
+ghost use Rattle.bitvec_in_place.specs.Ranges.{HasRange};
 
 use crate::spans::whole;
 use bitvec_field::engine::SliceOrder;
@@ -44,8 +45,7 @@ pub fn set<T: BitStore, O: SliceOrder>(elements: &mut [T], index: usize, bit: bo
 
 /// Makes the bit at an index `bit`, and gives the old one. Condition: as for [`get`].
 pub fn replace<T: BitStore, O: SliceOrder>(elements: &mut [T], index: usize, bit: bool) -> bool
-    requires fits { T.BITS * length elements.old ≤ max_bits }
-    requires inside { index < T.BITS * length elements.old }
+    requires range { HasRange T.BITS (length elements.old) index (index + 1) }
     ensures value { result ≡ slice_index_or (memory_bits T.BITS O.at (map T.value elements.old)) index false }
     ensures bits { memory_bits T.BITS O.at (map T.value elements.new) ≡ slice_set (memory_bits T.BITS O.at (map T.value elements.old)) index bit }
     ensures len { length elements.new ≡ length elements.old }
@@ -56,9 +56,8 @@ pub fn replace<T: BitStore, O: SliceOrder>(elements: &mut [T], index: usize, bit
 
 /// Exchanges the bits at two indices, which may be one. Condition: as for [`get`], of both.
 pub fn swap<T: BitStore, O: SliceOrder>(elements: &mut [T], first: usize, second: usize)
-    requires fits { T.BITS * length elements.old ≤ max_bits }
-    requires first { first < T.BITS * length elements.old }
-    requires second { second < T.BITS * length elements.old }
+    requires first { HasRange T.BITS (length elements.old) first (first + 1) }
+    requires second { HasRange T.BITS (length elements.old) second (second + 1) }
     ensures bits { memory_bits T.BITS O.at (map T.value elements.new) ≡ swapped (memory_bits T.BITS O.at (map T.value elements.old)) first second }
     ensures len { length elements.new ≡ length elements.old }
 {

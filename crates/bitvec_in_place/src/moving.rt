@@ -7,6 +7,7 @@ ghost use Rattle.bitvec_field.specs.base.Memory.{memory_bits};
 ghost use Rattle.bitvec_field.specs.base.Window.{max_bits};
 ghost use Rattle.bitvec_field.specs.windows.Swaps.{LieApart, swapped_within};
 ghost use Rattle.bitvec_in_place.specs.Ranges.{HasRange, edited};
+ghost use Rattle.bitvec_in_place.specs.Rooms.{HasRoom};
 
 use crate::spans::{span, whole};
 use bitvec_field::engine::SliceOrder;
@@ -91,8 +92,7 @@ pub fn copy_within<T: BitStore, O: SliceOrder>(elements: &mut [T], src: Range<us
 /// apart.
 #[tactic(auto, using(crate::proofs::Windows::wholes))]
 pub fn swap_within<T: BitStore, O: SliceOrder>(elements: &mut [T], src: Range<usize>, dest: usize)
-    requires bound { T.BITS * length elements.old ≤ max_bits }
-    requires fits { FitsWithin src.start src.end dest (T.BITS * length elements.old) }
+    requires room { HasRoom T.BITS (length elements.old) src.start src.end dest }
     requires apart { LieApart src.start src.end dest }
     ensures bits { memory_bits T.BITS O.at (map T.value elements.new) ≡ swapped_within src.start src.end dest (memory_bits T.BITS O.at (map T.value elements.old)) }
     ensures len { length elements.new ≡ length elements.old }
