@@ -66,7 +66,7 @@ pub fn read_both<T: BitStore, O: FieldOrder, A: Allocator>(
 /// that have the same bits in no field: they have the same bits then.
 pub fn write_in_orders<T: BitStore, O: FieldOrder, A: Allocator>(
     layout: &Layout<A>,
-    turned: &Layout<A>,
+    reordered: &Layout<A>,
     endian: Endian,
     values: &[u128],
     others: &[u128],
@@ -74,12 +74,12 @@ pub fn write_in_orders<T: BitStore, O: FieldOrder, A: Allocator>(
     twin: &mut BitSliceMut<'_, T, O>,
 ) -> Result<(), EncodeError>
     requires bits { (seen_mut view.old).window.len ≡ bits_of layout.now }
-    requires turned_bits { bits_of turned.now ≡ bits_of layout.now }
-    requires order { IsPermutation (zip (fields_of layout.now) values.now) (zip (fields_of turned.now) others.now) }
+    requires reordered_bits { bits_of reordered.now ≡ bits_of layout.now }
+    requires order { IsPermutation (zip (fields_of layout.now) values.now) (zip (fields_of reordered.now) others.now) }
     requires window { (seen_mut twin.old).window ≡ (seen_mut view.old).window }
     requires outside { AgreeOutside (fields_of layout.now) (seen_mut view.old).bits (seen_mut twin.old).bits }
     ensures { OnOk result ((seen_mut view.new).bits ≡ (seen_mut twin.new).bits) }
 {
     encode(layout, endian, values, view)?;
-    encode(turned, endian, others, twin)
+    encode(reordered, endian, others, twin)
 }

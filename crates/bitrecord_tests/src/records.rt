@@ -36,11 +36,11 @@ fn codes(
 #[test]
 fn three_fields_from_both_ends(rt: HostRuntime) {
     let [first, second, third] = THREE;
-    let turned = [third, first, second];
+    let reordered = [third, first, second];
     for (endian, fields, values, bytes) in [
         (Endian::Big, THREE, [5, 85, 33], [0xB5, 0x61]),
         (Endian::Little, THREE, [5, 85, 33], [0xB5, 0xA1]),
-        (Endian::Big, turned, [33, 5, 85], [0xB5, 0x61]),
+        (Endian::Big, reordered, [33, 5, 85], [0xB5, 0x61]),
     ] {
         assert!(rt; codes(rt.alloc(), endian, &fields, values, bytes));
     }

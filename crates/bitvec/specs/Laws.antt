@@ -18,7 +18,7 @@ use Rattle.bitvec_iter.specs.JoinLaws.{joining as chunks}
 use Rattle.bitvec_iter.specs.Laws.{walked as walks}
 use Rattle.bitvec_in_place.specs.field.segments.LoadLaws.{loaded-one, loaded_be-phase, loaded_le-phase}
 use Rattle.bitvec_in_place.specs.field.segments.StoreLaws.{loaded_be-determines, loaded_be-stores, loaded_le-determines, loaded_le-stores, stored_be-loads, stored_le-loads}
-use Rattle.bitvec_pieces.specs.WritesLaws.{written-around, written-none, written-then}
+use Rattle.bitvec_closures.specs.WritesLaws.{written-around, written-none, written-then}
 use Rattle.bitvec_owned.specs.edit.slice.SeenLaws.{length_bits}
 use Rattle.bitvec_owned.specs.edit.store.WidthLaws.{width_some}
 use Rattle.bitvec_owned.specs.edit.traits.FeedingLaws.{fed_same}

@@ -12,13 +12,13 @@ pub use Rattle.bitvec_owned.specs.edit.base.PlacesLaws
 pub use Rattle.bitvec_owned.specs.edit.base.Window
 pub use Rattle.bitvec_owned.specs.edit.base.WindowLaws
 pub use Rattle.bitvec_owned.specs.edit.base.WriteLaws
-pub use Rattle.bitvec_pieces.specs.cutting.Cutting
-pub use Rattle.bitvec_pieces.specs.cutting.Walks as PieceWalks
+pub use Rattle.bitvec_closures.specs.cutting.Cutting
+pub use Rattle.bitvec_closures.specs.cutting.Walks as PieceWalks
 pub use Rattle.bitvec_owned.specs.edit.domain.Asked
 pub use Rattle.bitvec_owned.specs.edit.domain.Cuts
 pub use Rattle.bitvec_owned.specs.edit.domain.Parts
 pub use Rattle.bitvec_owned.specs.edit.domain.Values as DomainValues
-pub use Rattle.bitvec_owned.specs.edit.windows.Swaps
+pub use Rattle.bitvec_owned.specs.edit.elements.Swaps
 pub use Rattle.bitvec_owned.specs.edit.Combined
 pub use Rattle.bitvec_owned.specs.edit.CombinedLaws
 pub use Rattle.bitvec_owned.specs.edit.UndoLaws
@@ -49,14 +49,14 @@ pub use Rattle.bitvec_owned.specs.Arrays as BitArrays
 pub use Rattle.bitvec_owned.specs.Copies
 pub use Rattle.bitvec_owned.specs.Owned
 pub use Rattle.bitvec_owned.specs.Writes as OwnedWrites
-pub use Rattle.bitvec_pieces.specs.CoversLaws as SplitCoversLaws
-pub use Rattle.bitvec_pieces.specs.Elements
-pub use Rattle.bitvec_pieces.specs.InPlace
-pub use Rattle.bitvec_pieces.specs.LeftLaws
-pub use Rattle.bitvec_pieces.specs.Pieces
-pub use Rattle.bitvec_pieces.specs.SplitEdits
-pub use Rattle.bitvec_pieces.specs.SplitEditsLaws
-pub use Rattle.bitvec_pieces.specs.WritesLaws
+pub use Rattle.bitvec_closures.specs.CoversLaws as SplitCoversLaws
+pub use Rattle.bitvec_closures.specs.Elements
+pub use Rattle.bitvec_closures.specs.InPlace
+pub use Rattle.bitvec_closures.specs.LeftLaws
+pub use Rattle.bitvec_closures.specs.Pieces
+pub use Rattle.bitvec_closures.specs.SplitEdits
+pub use Rattle.bitvec_closures.specs.SplitEditsLaws
+pub use Rattle.bitvec_closures.specs.WritesLaws
 pub use Rattle.bitvec_owned.specs.edit.reference.References
 pub use Rattle.bitvec_run_halves.specs.commands.Fold
 pub use Rattle.bitvec_run_halves.specs.commands.Runs
@@ -74,14 +74,14 @@ pub use Rattle.bitvec_owned.specs.edit.slice.Touched
 pub use Rattle.bitvec_owned.specs.edit.slice.Views
 pub use Rattle.bitvec_owned.specs.edit.slice.Walks as BitWalks
 pub use Rattle.bitvec_owned.specs.edit.slice.Writes
-pub use Rattle.bitvec_pieces.specs.split.Asked as SplitAsked
-pub use Rattle.bitvec_pieces.specs.split.AskedLaws as SplitAskedLaws
-pub use Rattle.bitvec_pieces.specs.split.FoundLaws as SplitFoundLaws
-pub use Rattle.bitvec_pieces.specs.split.Lent as SplitLent
-pub use Rattle.bitvec_pieces.specs.split.LentViews as SplitLentViews
-pub use Rattle.bitvec_pieces.specs.split.SplitLaws
-pub use Rattle.bitvec_pieces.specs.split.Splits
-pub use Rattle.bitvec_pieces.specs.split.Views as SplitViews
+pub use Rattle.bitvec_closures.specs.split.Asked as SplitAsked
+pub use Rattle.bitvec_closures.specs.split.AskedLaws as SplitAskedLaws
+pub use Rattle.bitvec_closures.specs.split.FoundLaws as SplitFoundLaws
+pub use Rattle.bitvec_closures.specs.split.Lent as SplitLent
+pub use Rattle.bitvec_closures.specs.split.LentViews as SplitLentViews
+pub use Rattle.bitvec_closures.specs.split.SplitLaws
+pub use Rattle.bitvec_closures.specs.split.Splits
+pub use Rattle.bitvec_closures.specs.split.Views as SplitViews
 pub use Rattle.bitvec_owned.specs.edit.store.Width
 pub use Rattle.bitvec_owned.specs.edit.store.WidthLaws
 pub use Rattle.bitvec_in_place.specs.field.Radix

@@ -6,6 +6,7 @@
 pub mod array;
 pub mod cells;
 pub mod domain;
+pub mod elements;
 pub mod engine;
 pub mod field;
 pub mod in_place;
@@ -18,5 +19,4 @@ pub mod slice;
 pub mod store;
 pub mod vec;
 pub mod walk;
-pub mod windows;
 pub mod words;

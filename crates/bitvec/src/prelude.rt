@@ -1,4 +1,9 @@
 //! What most programs use.
+pub use bitvec_closures::split::{SplitCalls, SplitCalls as PieceCalls, SplitCallsMut};
+pub use bitvec_closures::{EditElements, EditParts, EditSplits};
+pub use bitvec_elements::base::{BitOrder, BitSpanError, HiLo, Lsb0, Msb0};
+pub use bitvec_elements::engine::SliceOrder;
+pub use bitvec_elements::store::BitStore;
 pub use bitvec_in_place::field::{
     Binary, BitField, BitFieldMut, FieldOrder, Integral, LowerHex, Octal, UpperHex,
 };
@@ -7,12 +12,7 @@ pub use bitvec_ones::OnesCalls;
 pub use bitvec_ones::query::BitQueries;
 pub use bitvec_owned::edit::BitEdits;
 pub use bitvec_owned::{BitArray, BitVec, RepeatError, ToBitVec};
-pub use bitvec_pieces::split::{SplitCalls, SplitCalls as PieceCalls, SplitCallsMut};
-pub use bitvec_pieces::{EditElements, EditParts, EditSplits};
 pub use bitvec_slice::{
     BitDomain, BitDomainMut, BitRef, BitRefMut, BitSlice, BitSliceIndex, BitSliceMut, Domain,
     DomainMut, View,
 };
-pub use bitvec_windows::base::{BitOrder, BitSpanError, HiLo, Lsb0, Msb0};
-pub use bitvec_windows::engine::SliceOrder;
-pub use bitvec_windows::store::BitStore;

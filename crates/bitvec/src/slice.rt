@@ -1,4 +1,10 @@
 //! Views of bits, their indices, their walks and pieces, and the traits of their questions and edits.
+pub use bitvec_closures::split::{
+    Forward, Inclusive, LimitedSplitWalk, RSplit, RSplitMut, RSplitN, RSplitNMut, Reversed, Split,
+    SplitCalls, SplitCalls as PieceCalls, SplitCallsMut, SplitInclusive, SplitInclusiveMut,
+    SplitKind, SplitMut, SplitN, SplitNMut, SplitWalk, Splits, SplitsMut, SplitsN, SplitsNMut,
+};
+pub use bitvec_closures::{EditElements, EditParts, EditSplits};
 pub use bitvec_in_place::field::{Binary, LowerHex, Octal, UpperHex};
 pub use bitvec_iter::{
     Chunks, ChunksExact, ChunksExactMut, ChunksMut, Cutting, ExactCutting, HalvesMut, InChunks,
@@ -10,12 +16,6 @@ pub use bitvec_ones::query::BitQueries;
 pub use bitvec_ones::{IndexWalk, IterOnes, IterZeros, Ones, OnesCalls, Places, Wanted, Zeros};
 pub use bitvec_owned::ToBitVec;
 pub use bitvec_owned::edit::BitEdits;
-pub use bitvec_pieces::split::{
-    Forward, Inclusive, LimitedSplitWalk, RSplit, RSplitMut, RSplitN, RSplitNMut, Reversed, Split,
-    SplitCalls, SplitCalls as PieceCalls, SplitCallsMut, SplitInclusive, SplitInclusiveMut,
-    SplitKind, SplitMut, SplitN, SplitNMut, SplitWalk, Splits, SplitsMut, SplitsN, SplitsNMut,
-};
-pub use bitvec_pieces::{EditElements, EditParts, EditSplits};
 pub use bitvec_slice::{
     BitRefIter, BitSlice, BitSliceIndex, BitSliceMut, BitValIter, Iter, Shows, View, ViewMut,
     Viewed, ViewedMut, from_mut, from_ref,

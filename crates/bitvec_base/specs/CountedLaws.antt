@@ -21,8 +21,8 @@ zeros-by_ones xs ys long same = let left = ones_and_zeros xs in let right = ones
 ones-append : (xs ys : List Bool) → ones_of (xs ++ ys) ≡ ones_of xs + ones_of ys
 ones-append xs ys = sum_by-append (λ (bit : Bool). cond bit 1 0) xs ys
 
-ones-turned : (k : ℕ) (list : List Bool) → ones_of (drop k list ++ take k list) ≡ ones_of list
-ones-turned k list =
+ones-rotated : (k : ℕ) (list : List Bool) → ones_of (drop k list ++ take k list) ≡ ones_of list
+ones-rotated k list =
     let same : ones_of (take k list ++ drop k list) ≡ ones_of list = ap (λ (l : List Bool). ones_of l) (take-append-drop k list) in
     let front = ones-append (take k list) (drop k list) in
     let back = ones-append (drop k list) (take k list) in
@@ -30,11 +30,11 @@ ones-turned k list =
 
 pub ones-rotated_left : (k : ℕ) (list : List Bool) → ones_of (rotated_left k list) ≡ ones_of list
 unfolding rotated_left
-ones-rotated_left k list = ones-turned k list
+ones-rotated_left k list = ones-rotated k list
 
 pub ones-rotated_right : (k : ℕ) (list : List Bool) → ones_of (rotated_right k list) ≡ ones_of list
 unfolding rotated_right
-ones-rotated_right k list = ones-turned (length list - k) list
+ones-rotated_right k list = ones-rotated (length list - k) list
 
 pub ones-reversed : (list : List Bool) → ones_of (reverse list) ≡ ones_of list
 ones-reversed list = sum_by-IsPermutation (λ (bit : Bool). cond bit 1 0) list (reverse list) (IsPermutation-reverse list)

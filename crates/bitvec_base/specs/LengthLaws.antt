@@ -37,7 +37,7 @@ length-copied_within from to dest list source fits =
 pub length-reversed_part : {X : Type 0} (list : List X) (from to : ℕ) → from ≤ to → to ≤ length list → length (write_at list from (reverse (slice_range list from to))) ≡ length list
 length-reversed_part list from to order bound =
     let part = length-slice_range list from to bound in
-    let turned = length-reverse (slice_range list from to) in
+    let mirrored = length-reverse (slice_range list from to) in
     length-write_at list from (reverse (slice_range list from to)) (omega arith)
 
 pub ruleset list_lengths = (length-rotated_left, length-rotated_right, length-shifted_start, length-shifted_end, length-copied_within, length-combined, length-write_at, length-slice_range, length-reverse, length-swap, length-set, length-map, length-replicate)

@@ -106,7 +106,7 @@ mask_of-step b at p from i le new =
 -- ---- masks as runs of ones, whose numbers are 2 ^ to - 2 ^ from
 
 one_less : (x y : ℕ) → (x - 1) * y ≡ x * y - y
-one_less x y = let turned = mul_comm (x - 1) y in let whole = mul_comm x y in let apart = mul-sub y x 1 in omega arith
+one_less x y = let swapped = mul_comm (x - 1) y in let whole = mul_comm x y in let apart = mul-sub y x 1 in omega arith
 
 -- all ones, moved down until n are left, and up to the bit `from`
 pub ones_moved : (b from to : ℕ) → from ≤ to → to ≤ b → ((2 ^ b - 1) / 2 ^ (b - (to - from)) * 2 ^ from) % 2 ^ b ≡ 2 ^ to - 2 ^ from

@@ -27,13 +27,13 @@ get-swap_other xs i j k d first second not-first not-second =
 
 pub length-mirrored : {X : Type 0} (list : List X) (low high : ℕ) → low + high ≡ length list → low ≤ high → length (write_at (reverse list) low (slice_range list low high)) ≡ length list
 length-mirrored list low high ends order =
-    let turned = length-reverse list in
+    let mirrored = length-reverse list in
     let middle = length-slice_range list low high (omega arith) in
-    length-write_at (reverse list) low (slice_range list low high) (omega arith) ∙ turned
+    length-write_at (reverse list) low (slice_range list low high) (omega arith) ∙ mirrored
 
 mirrored-inside : {X : Type 0} (list : List X) (low high k : ℕ) (d : X) → low + high ≡ length list → low ≤ k → k < high → slice_index_or (write_at (reverse list) low (slice_range list low high)) k d ≡ slice_index_or list k d
 mirrored-inside list low high k d ends above below =
-    let turned = length-reverse list in
+    let mirrored = length-reverse list in
     let middle = length-slice_range list low high (omega arith) in
     get-write_at_inside (reverse list) low (slice_range list low high) k d (omega arith) above (omega arith)
     ∙ get-slice_range list low high (k - low) d (omega arith)
@@ -41,7 +41,7 @@ mirrored-inside list low high k d ends above below =
 
 mirrored-outside : {X : Type 0} (list : List X) (low high k : ℕ) (d : X) → low + high ≡ length list → low ≤ high → k < length list → (k < low) ⊎ (high ≤ k) → slice_index_or (write_at (reverse list) low (slice_range list low high)) k d ≡ slice_index_or list (length list - 1 - k) d
 mirrored-outside list low high k d ends order inside side =
-    let turned = length-reverse list in
+    let mirrored = length-reverse list in
     let middle = length-slice_range list low high (omega arith) in
     ⊎_elim
     (λ (below : k < low). get-write_at_below (reverse list) low (slice_range list low high) k d (omega arith) below)
@@ -110,7 +110,7 @@ mirror-all list low high ends order met = same_lists _ _ (search (rules, places,
 pub get-reversed_part_inside : {X : Type 0} (list : List X) (from to k : ℕ) (d : X) → to ≤ length list → from ≤ k → k < to → slice_index_or (write_at list from (reverse (slice_range list from to))) k d ≡ slice_index_or list (from + (to - 1 - k)) d
 get-reversed_part_inside list from to k d bound above below =
     let part = length-slice_range list from to bound in
-    let turned = length-reverse (slice_range list from to) in
+    let mirrored = length-reverse (slice_range list from to) in
     let mirror : length (slice_range list from to) - 1 - (k - from) ≡ to - 1 - k = omega arith in
     get-write_at_inside list from (reverse (slice_range list from to)) k d (omega arith) above (omega arith)
     ∙ get_or-reverse (slice_range list from to) (k - from) d (omega arith)
@@ -120,7 +120,7 @@ get-reversed_part_inside list from to k d bound above below =
 pub get-reversed_part_outside : {X : Type 0} (list : List X) (from to k : ℕ) (d : X) → from ≤ to → to ≤ length list → (k < from) ⊎ (to ≤ k) → slice_index_or (write_at list from (reverse (slice_range list from to))) k d ≡ slice_index_or list k d
 get-reversed_part_outside list from to k d order bound side =
     let part = length-slice_range list from to bound in
-    let turned = length-reverse (slice_range list from to) in
+    let mirrored = length-reverse (slice_range list from to) in
     ⊎_elim
     (λ (below : k < from). get-write_at_below list from (reverse (slice_range list from to)) k d (omega arith) below)
     (λ (above : to ≤ k). get-write_at_above list from (reverse (slice_range list from to)) k d (omega arith) (omega arith))

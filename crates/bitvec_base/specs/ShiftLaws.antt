@@ -24,4 +24,4 @@ bit_at_shl_left b v k p h low =
 
 -- bits moved down
 pub bit_at_shr : (v k i : ℕ) → bit_at (v / 2 ^ k) i ≡ bit_at v (i + k)
-bit_at_shr v k i = ap (λ (n : ℕ). n % 2) (shr-shr v k i) ∙ ap (bit_at v) (let turned : k + i ≡ i + k = omega arith in turned)
+bit_at_shr v k i = ap (λ (n : ℕ). n % 2) (shr-shr v k i) ∙ ap (bit_at v) (let swapped : k + i ≡ i + k = omega arith in swapped)

@@ -7,10 +7,10 @@ ghost use Rattle.bitvec_checked.specs.Replies.{bit_of, count_of};
 ghost use Rattle.bitvec_checked.specs.Statuses.{bits_from};
 
 use crate::status::{DONE, window_status};
-use bitvec_windows::base::{BitOrder, Window};
-use bitvec_windows::cells::Shared;
-use bitvec_windows::store::BitStore;
-use bitvec_windows::{all_in, any_in, count_blocks_in, engine};
+use bitvec_elements::base::{BitOrder, Window};
+use bitvec_elements::cells::Shared;
+use bitvec_elements::store::BitStore;
+use bitvec_elements::{all_in, any_in, count_blocks_in, engine};
 
 /// How many bits of a window are 1.
 pub fn count_ones<T: BitStore>(

@@ -4,9 +4,9 @@ ghost use Rattle.bitvec_checked.specs.Calls.{Seeks};
 ghost use Rattle.bitvec_checked.specs.Statuses.{bits_from};
 
 use crate::status::{DONE, NONE, window_status};
-use bitvec_windows::base::Window;
-use bitvec_windows::store::BitStore;
-use bitvec_windows::{first_in, last_in};
+use bitvec_elements::base::Window;
+use bitvec_elements::store::BitStore;
+use bitvec_elements::{find_first_in, find_last_in};
 
 /// The index of the first bit of a window that is 1.
 pub fn first_one<T: BitStore>(
@@ -23,7 +23,7 @@ pub fn first_one<T: BitStore>(
     if status != DONE {
         return status;
     }
-    match under!(order, first_in::<T>(elements, window, true)) {
+    match under!(order, find_first_in::<T>(elements, window, true)) {
         Some(place) => {
             *index = place;
             DONE
@@ -47,7 +47,7 @@ pub fn first_zero<T: BitStore>(
     if status != DONE {
         return status;
     }
-    match under!(order, first_in::<T>(elements, window, false)) {
+    match under!(order, find_first_in::<T>(elements, window, false)) {
         Some(place) => {
             *index = place;
             DONE
@@ -71,7 +71,7 @@ pub fn last_one<T: BitStore>(
     if status != DONE {
         return status;
     }
-    match under!(order, last_in::<T>(elements, window, true)) {
+    match under!(order, find_last_in::<T>(elements, window, true)) {
         Some(place) => {
             *index = place;
             DONE
@@ -95,7 +95,7 @@ pub fn last_zero<T: BitStore>(
     if status != DONE {
         return status;
     }
-    match under!(order, last_in::<T>(elements, window, false)) {
+    match under!(order, find_last_in::<T>(elements, window, false)) {
         Some(place) => {
             *index = place;
             DONE

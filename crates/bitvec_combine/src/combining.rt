@@ -15,7 +15,7 @@ use crate::combining_elements::{
 use bitvec_move::base::{BitOrder, Window, first_part, whole_elements};
 use bitvec_move::cells::{Cells, CellsRead};
 use bitvec_move::store::BitStore;
-use bitvec_move::words::{BitOp, WordOrder, field, field_after};
+use bitvec_move::words::{BitOp, WordOrder, load_element, load_element_after};
 
 /// Replaces each bit of a window by what the operator makes of it and the one at its index in a
 /// window of another memory of the same elements, which counts as 0 past that window's end.
@@ -128,7 +128,7 @@ fn combine_aligned<O: WordOrder, C: Cells, D: CellsRead<Elem = C::Elem>>(
         combine_zeros::<O, C>(left, rest, op);
         return;
     }
-    let (front, _) = field::<O, D>(right, tail);
+    let (front, _) = load_element::<O, D>(right, tail);
     combine_end::<O, C>(left, rest, padded::<O, C::Elem>(front, tail.len), op);
 }
 
@@ -158,6 +158,6 @@ fn combine_shifted<O: WordOrder, C: Cells, D: CellsRead<Elem = C::Elem>>(
         combine_zeros::<O, C>(left, rest, op);
         return;
     }
-    let (front, _) = field_after::<O, D>(right, tail, last);
+    let (front, _) = load_element_after::<O, D>(right, tail, last);
     combine_end::<O, C>(left, rest, padded::<O, C::Elem>(front, tail.len), op);
 }

@@ -16,7 +16,7 @@ use bitvec_move::base::{BitOrder, Part, Window, first_part};
 use bitvec_move::cells::{Cells, CellsRead};
 use bitvec_move::store::BitStore;
 use bitvec_move::words::{
-    BitOp, Carried, Lanes, Whole, WordOrder, field, fill, merged, toward_end,
+    BitOp, Carried, Lanes, Whole, WordOrder, fill, load_element, merged, toward_end,
 };
 use bitvec_move::{MANY_BITS, at_known_skip};
 
@@ -67,7 +67,7 @@ pub(crate) fn combine_head<O: WordOrder, C: Cells, D: CellsRead<Elem = C::Elem>>
     ensures cost { Costs C.CellsRead left.old left.new 1 1 }
     ensures right { OnlyReads D.CellsRead right.old right.new (touched_count C.Elem.BITS from.start from.len) }
 {
-    let (front, last) = field::<O, D>(right, from);
+    let (front, last) = load_element::<O, D>(right, from);
     let other = padded::<O, C::Elem>(front, from.len);
     combine_part::<O, C>(left, part, toward_end::<O, C::Elem>(other, part.from), op);
     last
@@ -167,7 +167,7 @@ pub(crate) fn combine_joined<O: WordOrder, C: Cells, D: CellsRead<Elem = C::Elem
 }
 
 /// Combines elements of 128 bits, two a pass: the compiler unrolls a loop over such elements
-/// for no number of turns that it doesn't know.
+/// for no number of passes that it doesn't know.
 #[inline(always)]
 fn combine_pairs<O: WordOrder, C: Cells, D: CellsRead<Elem = C::Elem>>(
     left: &mut C,

@@ -16,7 +16,7 @@ use bitvec_move::base::{BitOrder, Part, Window, first_part, tail_part, whole_ele
 use bitvec_move::cells::CellsRead;
 use bitvec_move::store::BitStore;
 use bitvec_move::words::{
-    Carried, Lanes, Whole, WordOrder, field, field_after, same_between, toward_end,
+    Carried, Lanes, Whole, WordOrder, load_element, load_element_after, same_between, toward_end,
 };
 
 /// Whether a window has the bits of one whose first bit has another index in its element.
@@ -74,7 +74,7 @@ fn equal_shifted_head<O: WordOrder, C: CellsRead, D: CellsRead<Elem = C::Elem>>(
     ensures reads { OnlyReads C.CellsRead left.old left.new 1 }
     ensures right { OnlyReads D.CellsRead right.old right.new (touched_count C.Elem.BITS window.start window.len) }
 {
-    let (front, last) = field::<O, D>(right, window);
+    let (front, last) = load_element::<O, D>(right, window);
     let moved = toward_end::<O, C::Elem>(front, part.from);
     let element = left.load(part.element);
     (
@@ -180,7 +180,7 @@ fn equal_shifted_tail<O: WordOrder, C: CellsRead, D: CellsRead<Elem = C::Elem>>(
     ensures reads { OnlyReads C.CellsRead left.old left.new 1 }
     ensures right { OnlyReads D.CellsRead right.old right.new (touched_count C.Elem.BITS window.start window.len - 1) }
 {
-    let (front, _) = field_after::<O, D>(right, window, carry);
+    let (front, _) = load_element_after::<O, D>(right, window, carry);
     let beginning = left.load(element);
     same_between::<O, C::Elem>(beginning, front, 0, window.len)
 }

@@ -43,9 +43,10 @@ pub mod walk {
 pub mod words {
     pub use bitvec_move::words::{
         BitOp, WORD_BITS, WordOrder, bits_load_front, bits_lowest_first, bits_scan_first,
-        bits_scan_last, count, count_zeros, field, field_after, fill, gathered, invert, joined,
-        load_elements, load_field, merged, moved, reversed, same_between, store_elements,
-        store_field, store_part, toward_end, toward_start, words_load_front, words_scan_first,
+        bits_scan_last, count, count_zeros, fill, gathered, invert, joined, load_element,
+        load_element_after, load_elements, load_parts, merged, moved, reversed, same_between,
+        store_elements, store_part, store_parts, toward_end, toward_start, words_load_front,
+        words_scan_first,
     };
 }
 

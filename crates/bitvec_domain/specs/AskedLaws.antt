@@ -35,18 +35,18 @@ module _ {F A : Type 0} (g : Mut F A Bool) (asked : ℕ → A) where
     pub answers-keep : (f : F) (new : List Bool) → J [] f → AnswersTo g asked f new → (last : F) × J new last
     answers-keep f new first fills = (fills.0, fills-keep [] new 0 f fills.0 refl first fills.1)
 
-    turns-keep : (n : ℕ) (xs : List ℕ) (k t : ℕ) (done : List Bool) (p q : F) → length done ≡ k → J done p → Yields (index_steps n) k xs t → FoldsTo (λ p i q. (bit : Bool) × R p i bit q) p xs q → (all : List Bool) × (length all ≡ t) × J all q
-    turns-keep n [] k t done p q at held gave calls = (done, at ∙ gave, subst (J done) calls held)
-    turns-keep n (x ∷ xs) k t done p q at held gave calls =
+    calls-keep : (n : ℕ) (xs : List ℕ) (k t : ℕ) (done : List Bool) (p q : F) → length done ≡ k → J done p → Yields (index_steps n) k xs t → FoldsTo (λ p i q. (bit : Bool) × R p i bit q) p xs q → (all : List Bool) × (length all ≡ t) × J all q
+    calls-keep n [] k t done p q at held gave calls = (done, at ∙ gave, subst (J done) calls held)
+    calls-keep n (x ∷ xs) k t done p q at held gave calls =
         let call = calls.1 in
         let here : x ≡ length done = gave.1.1 ∙ sym at in
         let next = keeps done p call.0 calls.0 held (subst (λ (i : ℕ). R p i call.0 calls.0) here call.1) in
-        turns-keep n xs gave.0 t (done ++ (call.0 ∷ [])) calls.0 q (omega (arith, at, gave.1.2, length-append done (call.0 ∷ []))) next gave.2 calls.2
+        calls-keep n xs gave.0 t (done ++ (call.0 ∷ [])) calls.0 q (omega (arith, at, gave.1.2, length-append done (call.0 ∷ []))) next gave.2 calls.2
 
     pub callable-by : (f : F) (n : ℕ) → J [] f → ((done : List Bool) (p : F) → J done p → length done < n → Takes g p (asked (length done))) → CallableTo g asked f n
     callable-by f n first allows = record {
       at = λ xs t q x u gave calls more.
-          let all = turns-keep n xs 0 t [] f q refl first gave calls in
+          let all = calls-keep n xs 0 t [] f q refl first gave calls in
           let here : length all.0 ≡ x = all.1 ∙ sym more.1 in
           subst (λ (i : ℕ). Takes g q (asked i)) here (allows all.0 q all.2 (omega (arith, all.1, more.0)));
     }

@@ -65,43 +65,43 @@ impl<'a, T: BitStore, O: BitOrder> Domain<'a, T, O> {
 
 /// The elements that a window touches. Condition: the memory has at most `MAX_BITS` bits, and the
 /// window lies in it.
-pub fn domain_of<T: BitStore, O: BitOrder>(cells: &[T], window: Window) -> Domain<'_, T, O>
-    requires window { HasWindow T.BITS (map T.value cells.now) window }
-    ensures { pieces_of result ≡ pieces_in T.BITS O.at T.value cells.now (cut_of T.BITS window) }
+pub fn domain_of<T: BitStore, O: BitOrder>(elements: &[T], window: Window) -> Domain<'_, T, O>
+    requires window { HasWindow T.BITS (map T.value elements.now) window }
+    ensures { pieces_of result ≡ pieces_in T.BITS O.at T.value elements.now (cut_of T.BITS window) }
 {
-    match Cut::of_elements(cells, window) {
-        Cut::Inside(part) => Domain::Enclave(part_of(cells, part)),
+    match Cut::of_elements(elements, window) {
+        Cut::Inside(part) => Domain::Enclave(part_of(elements, part)),
         Cut::Across {
             head,
             start,
             end,
             tail,
         } => Domain::Region {
-            head: part_if(cells, head),
-            body: &cells[start..end],
-            tail: part_if(cells, tail),
+            head: part_if(elements, head),
+            body: &elements[start..end],
+            tail: part_if(elements, tail),
         },
     }
 }
 
 /// The bits of a part.
-fn part_of<T: BitStore, O: BitOrder>(cells: &[T], part: Part) -> PartialElement<'_, T, O>
-    requires { IsPartWithin T.BITS (length cells.now) part }
-    ensures { seen_part result ≡ part_in T.BITS O.at T.value cells.now part }
+fn part_of<T: BitStore, O: BitOrder>(elements: &[T], part: Part) -> PartialElement<'_, T, O>
+    requires { IsPartWithin T.BITS (length elements.now) part }
+    ensures { seen_part result ≡ part_in T.BITS O.at T.value elements.now part }
 {
-    PartialElement::new(&cells[part.element], part.from, part.to)
+    PartialElement::new(&elements[part.element], part.from, part.to)
 }
 
 /// The bits of a part, if there is one.
 fn part_if<T: BitStore, O: BitOrder>(
-    cells: &[T],
+    elements: &[T],
     part: Option<Part>,
 ) -> Option<PartialElement<'_, T, O>>
-    requires { IfSome part (IsPartWithin T.BITS (length cells.now)) }
-    ensures { seen_part_if result ≡ part_in_if T.BITS O.at T.value cells.now part }
+    requires { IfSome part (IsPartWithin T.BITS (length elements.now)) }
+    ensures { seen_part_if result ≡ part_in_if T.BITS O.at T.value elements.now part }
 {
     match part {
         None => None,
-        Some(part) => Some(part_of(cells, part)),
+        Some(part) => Some(part_of(elements, part)),
     }
 }

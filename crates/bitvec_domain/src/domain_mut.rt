@@ -68,38 +68,38 @@ impl<'a, T: BitStore, O: BitOrder> DomainMut<'a, T, O> {
 /// The elements that a window touches. Condition: the memory has at most `MAX_BITS` bits, and the
 /// window lies in it.
 pub fn domain_mut_of<T: BitStore, O: BitOrder>(
-    cells: &mut [T],
+    elements: &mut [T],
     window: Window,
 ) -> DomainMut<'_, T, O>
-    requires window { HasWindow T.BITS (map T.value cells.old) window }
-    ensures { pieces_of_mut result ≡ pieces_in T.BITS O.at T.value cells.old (cut_of T.BITS window) }
+    requires window { HasWindow T.BITS (map T.value elements.old) window }
+    ensures { pieces_of_mut result ≡ pieces_in T.BITS O.at T.value elements.old (cut_of T.BITS window) }
 {
-    match Cut::of_elements(cells, window) {
-        Cut::Inside(part) => DomainMut::Enclave(part_of(cells, 0, part)),
+    match Cut::of_elements(elements, window) {
+        Cut::Inside(part) => DomainMut::Enclave(part_of(elements, 0, part)),
         Cut::Across {
             head,
             start,
             end,
             tail,
-        } => region(cells, head, start, end, tail),
+        } => region(elements, head, start, end, tail),
     }
 }
 
 /// A part of one element, whole elements, and again a part of one.
 fn region<T: BitStore, O: BitOrder>(
-    cells: &mut [T],
+    elements: &mut [T],
     head: Option<Part>,
     start: usize,
     end: usize,
     tail: Option<Part>,
 ) -> DomainMut<'_, T, O>
-    requires head { IfSome head (IsHeadWithin T.BITS (length cells.old) start) }
+    requires head { IfSome head (IsHeadWithin T.BITS (length elements.old) start) }
     requires order { start ≤ end }
-    requires bound { end ≤ length cells.old }
-    requires tail { IfSome tail (IsTailWithin T.BITS (length cells.old) end) }
-    ensures { pieces_of_mut result ≡ pieces_in T.BITS O.at T.value cells.old (Across head start end tail) }
+    requires bound { end ≤ length elements.old }
+    requires tail { IfSome tail (IsTailWithin T.BITS (length elements.old) end) }
+    ensures { pieces_of_mut result ≡ pieces_in T.BITS O.at T.value elements.old (Across head start end tail) }
 {
-    let (front, after) = cells.split_at_mut(end);
+    let (front, after) = elements.split_at_mut(end);
     let (before, body) = front.split_at_mut(start);
     let head = part_if(before, 0, head);
     let tail = part_if(after, end, tail);
@@ -108,29 +108,29 @@ fn region<T: BitStore, O: BitOrder>(
 
 /// The bits of a part, where `cells` are the elements from the element `first` on.
 fn part_of<T: BitStore, O: BitOrder>(
-    cells: &mut [T],
+    elements: &mut [T],
     first: usize,
     part: Part,
 ) -> PartialElementMut<'_, T, O>
     requires first { first ≤ part.element }
-    requires within { IsPartWithin T.BITS (first + length cells.old) part }
-    ensures { seen_part_mut result ≡ part_in T.BITS O.at T.value cells.old (part_from first part) }
+    requires within { IsPartWithin T.BITS (first + length elements.old) part }
+    ensures { seen_part_mut result ≡ part_in T.BITS O.at T.value elements.old (part_from first part) }
 {
-    PartialElementMut::new(&mut cells[part.element - first], part.from, part.to)
+    PartialElementMut::new(&mut elements[part.element - first], part.from, part.to)
 }
 
 /// The bits of a part, if there is one, where `cells` are the elements from the element `first` on.
 fn part_if<T: BitStore, O: BitOrder>(
-    cells: &mut [T],
+    elements: &mut [T],
     first: usize,
     part: Option<Part>,
 ) -> Option<PartialElementMut<'_, T, O>>
     requires first { IfSome part (λ p. first ≤ p.element) }
-    requires within { IfSome part (IsPartWithin T.BITS (first + length cells.old)) }
-    ensures { seen_part_if_mut result ≡ part_in_if T.BITS O.at T.value cells.old (part_if_from first part) }
+    requires within { IfSome part (IsPartWithin T.BITS (first + length elements.old)) }
+    ensures { seen_part_if_mut result ≡ part_in_if T.BITS O.at T.value elements.old (part_if_from first part) }
 {
     match part {
         None => None,
-        Some(part) => Some(part_of(cells, first, part)),
+        Some(part) => Some(part_of(elements, first, part)),
     }
 }

@@ -11,11 +11,11 @@ use std::hash::{Hash, Hasher};
 #[tactic(auto, using(crate::proofs::Steps::steps), unfolding(crate::specs::Feeding::bits_fed))]
 /// Feeds each bit of a window as a truth value, in their order, without their number. Condition: the
 /// memory has at most `MAX_BITS` bits, and the window lies in it.
-pub fn hash_in<T: BitStore, O: BitOrder, H: Hasher>(cells: &[T], window: Window, state: &mut H)
-    requires { HasWindow T.BITS (map T.value cells.now) window }
-    ensures { state.new ≡ fold H.write state.old (bits_fed (list_in T.BITS O.at (map T.value cells.now) window)) }
+pub fn hash_in<T: BitStore, O: BitOrder, H: Hasher>(elements: &[T], window: Window, state: &mut H)
+    requires { HasWindow T.BITS (map T.value elements.now) window }
+    ensures { state.new ≡ fold H.write state.old (bits_fed (list_in T.BITS O.at (map T.value elements.now) window)) }
 {
     for index in 0..window.len {
-        bit_in::<T, O>(cells, window, index).hash(state);
+        bit_in::<T, O>(elements, window, index).hash(state);
     }
 }

@@ -14,31 +14,31 @@ use std::fmt;
 /// the window lies in it.
 #[tactic(auto, unfolding(crate::specs::Listing::listed))]
 pub fn write_bits_in<T: BitStore, O: BitOrder, W: fmt::Write>(
-    cells: &[T],
+    elements: &[T],
     window: Window,
     f: &mut fmt::Formatter<W>,
 ) -> fmt::Result
-    requires { HasWindow T.BITS (map T.value cells.now) window }
+    requires { HasWindow T.BITS (map T.value elements.now) window }
     ensures { WritesOnOk W.write_str_gives f.old result
-        (bits_text (list_in T.BITS O.at (map T.value cells.now) window)) f.new }
+        (bits_text (list_in T.BITS O.at (map T.value elements.now) window)) f.new }
 {
     f.write_str("[")?;
-    write_joined_in::<T, O, W>(cells, window, f)?;
+    write_joined_in::<T, O, W>(elements, window, f)?;
     f.write_str("]")
 }
 
 #[tactic(auto, using(crate::proofs::Steps::steps))]
 fn write_joined_in<T: BitStore, O: BitOrder, W: fmt::Write>(
-    cells: &[T],
+    elements: &[T],
     window: Window,
     f: &mut fmt::Formatter<W>,
 ) -> fmt::Result
-    requires { HasWindow T.BITS (map T.value cells.now) window }
+    requires { HasWindow T.BITS (map T.value elements.now) window }
     ensures { WritesOnOk W.write_str_gives f.old result
-        (join_by bit_text comma (list_in T.BITS O.at (map T.value cells.now) window)) f.new }
+        (join_by bit_text comma (list_in T.BITS O.at (map T.value elements.now) window)) f.new }
 {
     for index in 0..window.len {
-        write_bit(index, bit_in::<T, O>(cells, window, index), f)?;
+        write_bit(index, bit_in::<T, O>(elements, window, index), f)?;
     }
     Ok(())
 }

@@ -6,7 +6,7 @@ pub mod slice
 pub mod store
 pub mod traits
 pub mod walk
-pub mod windows
+pub mod elements
 pub mod words
 pub mod Combined
 pub mod CombinedLaws

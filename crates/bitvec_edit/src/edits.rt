@@ -8,17 +8,17 @@ ghost use Rattle.bitvec_slice.specs.words.declared.operator.BitOp.TheVariants.{A
 ghost use Rattle.bitvec_slice.specs.Views.{seen, seen_mut};
 ghost use Rattle.bitvec_slice.specs.Writes.{WritesBits};
 ghost use Rattle.bitvec_edit.specs.Combined.{combined_within};
-ghost use Rattle.bitvec_edit.specs.windows.Swaps.{LieApart, swapped_within};
+ghost use Rattle.bitvec_edit.specs.elements.Swaps.{LieApart, swapped_within};
 
 use crate::combine_within_in;
 use bitvec_slice::base::BitOrder;
-use bitvec_slice::engine::{BitOp, SliceOrder};
-use bitvec_slice::store::BitStore;
-use bitvec_slice::windows::{
+use bitvec_slice::elements::{
     combine_in, copy_from_in, copy_within_in, fill_in, fill_with_in, for_each_in, invert_in,
     replace_in, reverse_in, rotate_left_in, rotate_right_in, set_in, shift_end_in, shift_start_in,
     swap_in, swap_with_in, swap_within_in,
 };
+use bitvec_slice::engine::{BitOp, SliceOrder};
+use bitvec_slice::store::BitStore;
 use bitvec_slice::{BitSlice, BitSliceMut, Sealed, View, ViewMut};
 use std::ops::Range;
 

@@ -10,9 +10,9 @@ pub mod base {
     pub use bitvec_slice::base::{BitOrder, HiLo, Lsb0, MAX_BITS, Msb0, Window};
 }
 
-/// Items of `bitvec_windows` that crates above use.
-pub mod windows {
-    pub use bitvec_slice::windows::copy_from_block_in;
+/// Items of `bitvec_elements` that crates above use.
+pub mod elements {
+    pub use bitvec_slice::elements::copy_from_block_in;
 }
 
 /// Items of `bitvec_engine` that crates above use.

@@ -3,18 +3,18 @@ ghost use Rattle.std.specs.Prelude.{◌≡◌, ℕ, ◌+◌, ◌*◌, ◌<◌, �
 ghost use Rattle.bitvec_edit.specs.base.Lists.{combined, rotated_left};
 ghost use Rattle.bitvec_edit.specs.base.Memory.{memory_bits};
 ghost use Rattle.bitvec_edit.specs.base.Window.{write_at};
-ghost use Rattle.bitvec_pieces.specs.cutting.Cutting.{back_chunk, chunk_count, cut, whole_chunk, whole_count};
+ghost use Rattle.bitvec_closures.specs.cutting.Cutting.{back_chunk, chunk_count, cut, whole_chunk, whole_count};
 ghost use Rattle.bitvec_edit.specs.slice.Views.{seen, seen_mut};
 ghost use Rattle.bitvec_edit.specs.slice.Writes.{WritesBits};
 ghost use Rattle.bitvec_edit.specs.words.Operator.{operator};
 ghost use Rattle.bitvec_edit.specs.words.declared.operator.BitOp.TheVariants.{Or};
 
+use bitvec_closures::EditParts;
 use bitvec_edit::BitEdits;
 use bitvec_edit::base::{BitOrder, Lsb0};
 use bitvec_edit::engine::SliceOrder;
 use bitvec_edit::slice::{BitSlice, BitSliceMut};
 use bitvec_edit::store::BitStore;
-use bitvec_pieces::EditParts;
 
 /// Rotates the bits `from` up to `to` by one place to the left.
 pub fn rotate_part<T: BitStore, O: SliceOrder>(

@@ -61,7 +61,7 @@ element-same_way x y same b at other from to v = element-agrees b other at v (sa
 
 pub element-other_way : (x y : Bool) → beq x y ≡ false → (b : ℕ) (at other : ℕ → ℕ → ℕ) → RunsFrom x b at → RunsFrom y b other → (v w : ℕ)
     → element_bits b at w ≡ reverse (element_bits b at v) → element_bits b other w ≡ element_bits b at v
-element-other_way x y apart b at other from to v w turned =
+element-other_way x y apart b at other from to v w reversed =
     let left = length-element_bits b other w in
     let right = length-element_bits b at v in
     same_lists _ _ (omega arith) (λ k d inside.
@@ -70,6 +70,6 @@ element-other_way x y apart b at other from to v w turned =
     get-element_bits b other w k d below
     ∙ ap (λ (n : ℕ). bit_at w n == 1) (far x y apart b at other from to k below)
     ∙ sym (get-element_bits b at w (b - 1 - k) d (omega arith))
-    ∙ ap (λ (l : List Bool). slice_index_or l (b - 1 - k) d) turned
+    ∙ ap (λ (l : List Bool). slice_index_or l (b - 1 - k) d) reversed
     ∙ get_or-reverse (element_bits b at v) (b - 1 - k) d (omega arith)
     ∙ ap (λ (n : ℕ). slice_index_or (element_bits b at v) n d) mirrored)

@@ -27,9 +27,9 @@ use Rattle.bitvec_combine.specs.walk.Cost.{touched_count}
 use Rattle.bitvec_combine.specs.walk.ElementLaws.{element-count}
 use Rattle.bitvec_combine.specs.walk.WalkLaws.{first-len, first-place}
 use Rattle.bitvec_combine.specs.words.Elements.{elements_window}
-use Rattle.bitvec_combine.specs.words.Field.{padded}
+use Rattle.bitvec_combine.specs.words.ShortWindow.{padded}
 use Rattle.bitvec_combine.specs.words.FieldLaws.{element_of}
-use Rattle.bitvec_combine.specs.words.MovedLaws.{element-joined, field-there, take-field, take-range, written-padded}
+use Rattle.bitvec_combine.specs.words.MovedLaws.{element-joined, word-there, take-word, take-range, written-padded}
 use Rattle.bitvec_combine.specs.words.TouchedLaws.{touched-first, touched-from_full, touched-two}
 
 -- values moved to the start
@@ -39,8 +39,8 @@ padded-moved b n list fits bound =
     ap (write_at (replicate b false) 0) (range-from_start list n (0 + n) (omega arith)) ∙ written-padded b (take n list) (omega arith)
 
 -- the first bits of an element, moved to the start of a word
-pub padded-field : (b : ℕ) (at : ℕ → ℕ → ℕ) (n element word : ℕ) (list : List Bool) → n ≤ b → n ≤ 64 → element_bits 64 at word ≡ write_at (replicate 64 false) 0 (slice_range (element_bits b at element) 0 (0 + n)) → take n (element_bits b at element) ≡ list → element_bits 64 at word ≡ padded 64 list
-padded-field b at n element word list short fits put is =
+pub padded-word : (b : ℕ) (at : ℕ → ℕ → ℕ) (n element word : ℕ) (list : List Bool) → n ≤ b → n ≤ 64 → element_bits 64 at word ≡ write_at (replicate 64 false) 0 (slice_range (element_bits b at element) 0 (0 + n)) → take n (element_bits b at element) ≡ list → element_bits 64 at word ≡ padded 64 list
+padded-word b at n element word list short fits put is =
     let wide = length-element_bits b at element in
     put ∙ padded-moved 64 n (element_bits b at element) (omega arith) fits ∙ ap (padded 64) is
 
@@ -107,7 +107,7 @@ stored-part : (b from to n e : ℕ) (bits word : List Bool) → bits ≡ write_a
 stored-part b from to n e bits word put order bound fits size =
     let long = length-slice_range word n e fits in
     let zeros = length-replicate b false in
-    ap (λ (l : List Bool). slice_range l from to) put ∙ field-there b from to (replicate b false) (slice_range word n e) zeros bound (omega arith) order
+    ap (λ (l : List Bool). slice_range l from to) put ∙ word-there b from to (replicate b false) (slice_range word n e) zeros bound (omega arith) order
 
 module _ (b : ℕ) (at : ℕ → ℕ → ℕ) (old mid : List ℕ) (window : Window) (t word first : ℕ) (some : 0 < b) (more : 0 < window.len) (bound : window.len ≤ 64) (short : window.len ≤ b) (step : t ≡ (first_part_of b window).to - (first_part_of b window).from) (has : HasWindow b old window)
     (put : element_bits b at first ≡ write_at (replicate b false) (first_part_of b window).from (slice_range (element_bits 64 at word) 0 (0 + t)))
@@ -166,7 +166,7 @@ same-words at permutes v w xs ys small other long left right =
     same_from_decides _ _ (Decides-eqb v w)
     (Decides-like (same_bits xs ys)
     (λ h. element_bits-fix 64 at (permutes 64 word_width) v w small other (left ∙ ap (padded 64) h ∙ sym right))
-    (λ e. sym (take-field 64 (length xs) _ xs left refl) ∙ ap (λ (n : ℕ). take (length xs) (element_bits 64 at n)) e ∙ take-field 64 (length xs) _ ys right long)
+    (λ e. sym (take-word 64 (length xs) _ xs left refl) ∙ ap (λ (n : ℕ). take (length xs) (element_bits 64 at n)) e ∙ take-word 64 (length xs) _ ys right long)
     (same_bits-decides xs ys))
 
 -- zeros behind a list are no ones

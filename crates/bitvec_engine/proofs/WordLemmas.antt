@@ -16,9 +16,9 @@ use Rattle.bitvec_combine.specs.store.WidthLaws.{at_each_width, width_some}
 use Rattle.bitvec_combine.specs.walk.Walk.{Walked, passed}
 use Rattle.bitvec_combine.specs.walk.WalkLaws.{first-len, length-first as length-first_part, length-passed, list-next}
 use Rattle.bitvec_combine.specs.words.Elements.{elements_window}
-use Rattle.bitvec_combine.specs.words.Field.{padded}
+use Rattle.bitvec_combine.specs.words.ShortWindow.{padded}
 use Rattle.bitvec_combine.specs.words.FieldLaws.{element_of, list-part}
-use Rattle.bitvec_combine.specs.words.FieldWalkLaws.{HasPart-first}
+use Rattle.bitvec_combine.specs.words.PartWalkLaws.{HasPart-first}
 use Rattle.bitvec_combine.specs.words.MovedLaws.{element-joined, take-range}
 
 -- 64 values from the index `skip` of an element on, which is at most as wide as a word

@@ -71,8 +71,8 @@ pub mod walk {
 /// Items of `bitvec_words` that crates above use.
 pub mod words {
     pub use bitvec_combine::words::{
-        WORD_BITS, WordOrder, field, field_after, joined, load_field, merged, moved, reversed,
-        same_between, store_field, store_part, toward_end, toward_start,
+        WORD_BITS, WordOrder, joined, load_element, load_element_after, load_parts, merged, moved,
+        reversed, same_between, store_part, store_parts, toward_end, toward_start,
     };
 }
 

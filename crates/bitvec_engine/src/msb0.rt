@@ -73,7 +73,7 @@ impl SliceOrder for Msb0 {
     }
 
     #[inline(always)]
-    fn search_first<C: CellsRead>(cells: &mut C, window: Window, want: bool) -> Option<usize> {
+    fn find_first<C: CellsRead>(cells: &mut C, window: Window, want: bool) -> Option<usize> {
         words_scan_first::<Self, C>(cells, window, want)
     }
 

@@ -118,7 +118,7 @@ pub trait SliceOrder: BitOrder {
     /// The index that [`SliceOrder::scan_first`] gives, by the fastest order of loads: it loads
     /// each element that the window touches at most once, perhaps some behind the bit. An order that
     /// says nothing of it searches by its own `scan_first`.
-    fn search_first<C: CellsRead>(cells: &mut C, window: Window, want: bool) -> Option<usize>
+    fn find_first<C: CellsRead>(cells: &mut C, window: Window, want: bool) -> Option<usize>
         requires { HasWindow C.Elem.BITS (C.numbers cells.old) window }
         ensures value { result ≡ first_place want (list_in C.Elem.BITS Self.at (C.numbers cells.old) window) }
         ensures reads { OnlyReadsAtMost C.CellsRead cells.old cells.new (touched_count C.Elem.BITS window.start window.len) }

@@ -3,17 +3,17 @@ ghost use Rattle.std.specs.Prelude.{◌≡◌, ◌≢◌, ◌%◌, ◌<◌, ◌�
 ghost use Rattle.bitvec_combine.specs.base.Memory.{HasWindow, Writes, element_bits, list_in};
 ghost use Rattle.bitvec_combine.specs.cells.Access.{CostsAtMost, OnlyReads};
 ghost use Rattle.bitvec_combine.specs.walk.Cost.{fill_loads, touched_count};
-ghost use Rattle.bitvec_combine.specs.words.Field.{padded};
+ghost use Rattle.bitvec_combine.specs.words.ShortWindow.{padded};
 
 use bitvec_combine::base::{Part, Window, first_part};
 use bitvec_combine::cells::{Cells, CellsRead};
 use bitvec_combine::store::BitStore;
 use bitvec_combine::words::{
-    WORD_BITS, WordOrder, load_elements, load_field, moved, store_elements, store_field, store_part,
+    WORD_BITS, WordOrder, load_elements, load_parts, moved, store_elements, store_part, store_parts,
 };
 
 /// The bits of a window as the first bits of a word; the others are 0. Condition and loads: as for
-/// [`load_field`].
+/// [`load_parts`].
 #[inline(always)]
 pub fn load_bits<W: WordOrder, C: CellsRead>(cells: &mut C, window: Window) -> u64
     requires window { HasWindow C.Elem.BITS (C.numbers cells.old) window }
@@ -25,11 +25,11 @@ pub fn load_bits<W: WordOrder, C: CellsRead>(cells: &mut C, window: Window) -> u
     if bits <= WORD_BITS && window.len == WORD_BITS && window.start % bits == 0 {
         return load_elements::<W, C>(cells, window.start / bits);
     }
-    load_field::<W, C>(cells, window)
+    load_parts::<W, C>(cells, window)
 }
 
 /// A window gets the first bits of a word, as many as it has; all other bits of the memory stay.
-/// Condition, loads and stores: as for [`store_field`].
+/// Condition, loads and stores: as for [`store_parts`].
 #[inline(always)]
 pub fn store_bits<W: WordOrder, C: Cells>(cells: &mut C, window: Window, word: u64)
     requires window { HasWindow C.Elem.BITS (C.numbers cells.old) window }
@@ -43,7 +43,7 @@ pub fn store_bits<W: WordOrder, C: Cells>(cells: &mut C, window: Window, word: u
         store_elements::<W, C>(cells, window.start / bits, word);
         return;
     }
-    store_field::<W, C>(cells, window, word);
+    store_parts::<W, C>(cells, window, word);
 }
 
 /// [`store_bits`], with no loop where the window is no longer than an element or has 64 bits.

@@ -38,11 +38,11 @@ pub mod store {
 }
 
 /// The bit operations on windows of borrowed slices that crates above name, those on numbers among them.
-pub mod windows {
+pub mod elements {
     pub use crate::slices::{load_be_in, load_le_in, store_be_in, store_le_in};
-    pub use bitvec_slice::windows::{
-        combine_in, copy_from_in, copy_within_in, count_in, fill_in, first_in, invert_in, last_in,
-        replace_in, reverse_in, rotate_left_in, rotate_right_in, set_in, shift_end_in,
+    pub use bitvec_slice::elements::{
+        combine_in, copy_from_in, copy_within_in, count_in, fill_in, find_first_in, find_last_in,
+        invert_in, replace_in, reverse_in, rotate_left_in, rotate_right_in, set_in, shift_end_in,
         shift_start_in, swap_in, swap_within_in,
     };
 }

@@ -11,7 +11,7 @@ use Rattle.bitvec_field.specs.base.SliceLaws.{range-all}
 use Rattle.bitvec_field.specs.base.Window.{window_of, write_at}
 use Rattle.bitvec_field.specs.base.WriteLaws.{write_at-all}
 use Rattle.bitvec_field.specs.segments.Segments.{loaded, stored}
-use Rattle.bitvec_field.specs.windows.Swaps.{swapped_within}
+use Rattle.bitvec_field.specs.elements.Swaps.{swapped_within}
 use Rattle.bitvec_in_place.specs.MovedLaws.{length-bits_of, length-copied, length-swapped}
 use Rattle.bitvec_in_place.specs.Ranges.{edited, filled, flipped, joined, number_in, numbered}
 

@@ -8,10 +8,10 @@ ghost use Rattle.bitvec_field.specs.base.Window.{max_bits};
 ghost use Rattle.bitvec_in_place.specs.Ranges.{HasRange};
 
 use crate::spans::whole;
+use bitvec_field::elements::{replace_in, set_in, swap_in};
 use bitvec_field::engine::SliceOrder;
 use bitvec_field::slice::BitSlice;
 use bitvec_field::store::BitStore;
-use bitvec_field::windows::{replace_in, set_in, swap_in};
 
 /// The bit at an index. Condition: the slice has at most `MAX_BITS` bits, and the index is below their number.
 ///

@@ -11,10 +11,10 @@ ghost use Rattle.bitvec_in_place.specs.Ranges.{HasRange, joined};
 
 use crate::spans::span;
 use bitvec_field::base::BitOrder;
+use bitvec_field::elements::{combine_in, copy_from_in};
 use bitvec_field::engine::{BitOp, SliceOrder};
 use bitvec_field::slice::BitSlice;
 use bitvec_field::store::BitStore;
-use bitvec_field::windows::{combine_in, copy_from_in};
 use std::ops::Range;
 
 /// Copies the bits of a view to a range. Condition: the slice has at most `MAX_BITS` bits, the range lies in them, and the

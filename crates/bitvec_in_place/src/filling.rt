@@ -6,9 +6,9 @@ ghost use Rattle.bitvec_field.specs.base.Memory.{memory_bits};
 ghost use Rattle.bitvec_in_place.specs.Ranges.{HasRange, filled, flipped};
 
 use crate::spans::span;
+use bitvec_field::elements::{fill_in, invert_in};
 use bitvec_field::engine::SliceOrder;
 use bitvec_field::store::BitStore;
-use bitvec_field::windows::{fill_in, invert_in};
 use std::ops::Range;
 
 /// Makes each bit of a range `bit`: `fill` of that part as a view. Condition: the slice has at most `MAX_BITS`

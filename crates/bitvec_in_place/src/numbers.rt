@@ -7,8 +7,8 @@ ghost use Rattle.bitvec_field.specs.base.Memory.{memory_bits};
 ghost use Rattle.bitvec_in_place.specs.Ranges.{HasRange, number_in, numbered};
 
 use crate::spans::span;
+use bitvec_field::elements::{load_be_in, load_le_in, store_be_in, store_le_in};
 use bitvec_field::store::BitStore;
-use bitvec_field::windows::{load_be_in, load_le_in, store_be_in, store_le_in};
 use bitvec_field::{FieldOrder, Integral};
 use std::ops::Range;
 
@@ -57,7 +57,7 @@ pub fn store_le<T: BitStore, O: FieldOrder, I: Integral>(
 /// Stores an integer in a range, the first segment highest. Condition: as for [`store_le`].
 ///
 /// ```
-/// in_place::store_be::<u8, Msb0, usize>(&mut bytes, 5 * turn..5 * turn + 5, turn);
+/// in_place::store_be::<u8, Msb0, usize>(&mut bytes, 5 * step..5 * step + 5, step);
 /// ```
 pub fn store_be<T: BitStore, O: FieldOrder, I: Integral>(
     elements: &mut [T],

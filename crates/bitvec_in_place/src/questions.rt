@@ -5,9 +5,9 @@ ghost use Rattle.bitvec_field.specs.base.Memory.{list_in};
 ghost use Rattle.bitvec_in_place.specs.Ranges.{HasRange};
 
 use crate::spans::span;
+use bitvec_field::elements::{count_in, find_first_in, find_last_in};
 use bitvec_field::engine::SliceOrder;
 use bitvec_field::store::BitStore;
-use bitvec_field::windows::{count_in, first_in, last_in};
 use std::ops::Range;
 
 /// How many bits of a range are 1. Condition: the slice has at most `MAX_BITS` bits, and the range lies in them.
@@ -23,7 +23,7 @@ pub fn first_one<T: BitStore, O: SliceOrder>(elements: &[T], range: Range<usize>
     requires range { HasRange T.BITS (length elements.now) range.start range.end }
     ensures { result ≡ first_place true (list_in T.BITS O.at (map T.value elements.now) (record { start = range.start; len = range.end - range.start })) }
 {
-    first_in::<T, O>(elements, span(range), true)
+    find_first_in::<T, O>(elements, span(range), true)
 }
 
 /// The index in a range of its last 1, if it has one. Condition: as for [`count_ones`].
@@ -31,7 +31,7 @@ pub fn last_one<T: BitStore, O: SliceOrder>(elements: &[T], range: Range<usize>)
     requires range { HasRange T.BITS (length elements.now) range.start range.end }
     ensures { result ≡ last_place true (list_in T.BITS O.at (map T.value elements.now) (record { start = range.start; len = range.end - range.start })) }
 {
-    last_in::<T, O>(elements, span(range), true)
+    find_last_in::<T, O>(elements, span(range), true)
 }
 
 /// The index in a range of its first 0, if it has one. Condition: as for [`count_ones`].
@@ -39,7 +39,7 @@ pub fn first_zero<T: BitStore, O: SliceOrder>(elements: &[T], range: Range<usize
     requires range { HasRange T.BITS (length elements.now) range.start range.end }
     ensures { result ≡ first_place false (list_in T.BITS O.at (map T.value elements.now) (record { start = range.start; len = range.end - range.start })) }
 {
-    first_in::<T, O>(elements, span(range), false)
+    find_first_in::<T, O>(elements, span(range), false)
 }
 
 /// The index in a range of its last 0, if it has one. Condition: as for [`count_ones`].
@@ -47,5 +47,5 @@ pub fn last_zero<T: BitStore, O: SliceOrder>(elements: &[T], range: Range<usize>
     requires range { HasRange T.BITS (length elements.now) range.start range.end }
     ensures { result ≡ last_place false (list_in T.BITS O.at (map T.value elements.now) (record { start = range.start; len = range.end - range.start })) }
 {
-    last_in::<T, O>(elements, span(range), false)
+    find_last_in::<T, O>(elements, span(range), false)
 }

@@ -3,8 +3,8 @@ ghost use Rattle.std.specs.Prelude.{◌≡◌, ◌+◌, ◌-◌, ◌*◌, ◌<�
 ghost use Rattle.bitvec_slice.specs.base.Window.{max_bits};
 
 use bitvec_slice::base::{BitOrder, Window};
+use bitvec_slice::elements::for_each_in;
 use bitvec_slice::store::BitStore;
-use bitvec_slice::windows::for_each_in;
 use bitvec_slice::{BitRefMut, BitSlice, BitSliceMut, Sealed, ViewMut, touched_range};
 use std::marker::PhantomData;
 

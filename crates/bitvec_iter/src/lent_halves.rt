@@ -12,7 +12,7 @@ use std::marker::PhantomData;
 ///
 /// A half is a view of the elements that it touches. An element that both halves touch is lent with
 /// either, and no call on a half writes a bit of the other. What is known of the whole once a half was
-/// written in place are its elements that the half doesn't touch; by `edit_halves` of `bitvec_pieces`,
+/// written in place are its elements that the half doesn't touch; by `edit_halves` of `bitvec_closures`,
 /// which gives each half to a closure, each bit.
 #[derive(Drop)]
 pub struct HalvesMut<'a, T: BitStore, O: BitOrder> {

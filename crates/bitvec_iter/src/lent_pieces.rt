@@ -16,7 +16,7 @@ use std::marker::PhantomData;
 /// `len`, knows of the walk what is left of it, and each element that the piece doesn't touch.
 ///
 /// By `for_each_chunk_mut`, `for_each_chunk_exact_mut`, `for_each_rchunk_mut` and
-/// `for_each_rchunk_exact_mut` of `bitvec_pieces`, which give each piece to a closure, each bit is
+/// `for_each_rchunk_exact_mut` of `bitvec_closures`, which give each piece to a closure, each bit is
 /// known afterwards.
 #[derive(Drop)]
 pub struct PiecesMut<'a, T: BitStore, O: BitOrder, C: Cutting> {

@@ -1,4 +1,4 @@
--- A turn of the loop that reverses elements of which the last one takes part with its first bits, and the one in the middle.
+-- A pass of the loop that reverses elements of which the last one takes part with its first bits, and the one in the middle.
 use Rattle.std.proofs.Common.{◌≡◌, ℕ, ◌+◌, ◌-◌, ◌*◌, ◌/◌, ◌<◌, ◌≤◌, ◌++◌, List, take, drop, reverse, slice_index, slice_range, slice_set, arith, ap, ◌∙◌}
 use Rattle.std.proofs.Math.Nat.{mul-le-mul_left}
 use Rattle.bitvec_words.specs.base.Memory.{HasWindow, Writes, element_bits, list_in}
@@ -20,7 +20,7 @@ pub record ShiftedNext (b : ℕ) (at : ℕ → ℕ → ℕ) (old mid : List ℕ)
       let next = (count - (pair + 1) - 1) * b in
       take (b - part) (element_bits b at t) ≡ slice_range (front_reversed ((count - 1) * b + part) (list_in b at old (elements_window b first count))) (next + part) (next + b)
 
--- v and w are stored, where h and k came from the turn before
+-- v and w are stored, where h and k came from the pass before
 pub shifted-pair : (b : ℕ) (at : ℕ → ℕ → ℕ) (old mid : List ℕ) (first count part pair h k v w t : ℕ) → 0 < b → part < b → pair < count / 2 → HasWindow b old (elements_window b first count)
     → (let list = list_in b at old (elements_window b first count) in
     let target = front_reversed ((count - 1) * b + part) list in
@@ -32,7 +32,7 @@ pub shifted-pair : (b : ℕ) (at : ℕ → ℕ → ℕ) (old mid : List ℕ) (fi
     → element_bits b at t ≡ reverse (element_bits b at (slice_index mid (first + pair)))
     → element_bits b at w ≡ drop (b - part) (element_bits b at t) ++ take (b - part) (element_bits b at k)
     → ShiftedNext b at old mid first count part pair v w t)
-shifted-pair b at old mid first count part pair h k v w t some bound more has writes high_is behind_is front turned back =
+shifted-pair b at old mid first count part pair h k v w t some bound more has writes high_is behind_is front mirrored back =
     let last : ℕ = count - pair - 1 in
     let next : ℕ = count - (pair + 1) - 1 in
     let n : ℕ = (count - 1) * b + part in
@@ -50,15 +50,15 @@ shifted-pair b at old mid first count part pair h k v w t some bound more has wr
     let next_left = Settled-left b at old mid first count (pair * b) ((count - pair) * b) next (first + count - 1 - pair - 1) target some has (same ∙ long) (omega arith) (omega arith) (omega arith) (omega arith) (omega arith) writes in
     let next_range = next_left ∙ range-same list (next * b) (next * b + b) (last * b - b) (last * b) (omega arith) (omega arith) in
     let front_bits = rw (next_range, high_is) at front in
-    let turned_bits = rw low_left at turned in
-    let back_bits = rw (turned_bits, behind_is) at back in
+    let mirrored_bits = rw low_left at mirrored in
+    let back_bits = rw (mirrored_bits, behind_is) at back in
     record {
       writes = Settled-pair b at old mid first count pair last (first + pair) (first + count - 1 - pair) _ _ (pair * b) ((count - pair) * b) ((pair + 1) * b) ((count - (pair + 1)) * b) target some has (same ∙ long) (omega arith) (omega arith)
           (omega arith) (omega arith) (omega arith) high (omega arith) next_high
           (front_bits ∙ reversed-first list (pair * b) (last * b) b part n (omega arith) (omega arith) (omega arith) bound (omega arith))
           (back_bits ∙ reversed-last list (pair * b) (last * b) b part n (omega arith) (omega arith) bound (omega arith) (omega arith)) writes;
       high = next_left;
-      behind = rw turned_bits
+      behind = rw mirrored_bits
           (reversed-behind list (pair * b) (last * b) b part n (omega arith) (omega arith) (omega arith) bound (omega arith)
           ∙ range-same target (last * b - b + part) (last * b) (next * b + part) (next * b + b) (omega arith) (omega arith));
     }
@@ -74,7 +74,7 @@ pub shifted-middle : (b : ℕ) (at : ℕ → ℕ → ℕ) (old mid : List ℕ) (
     → element_bits b at t ≡ reverse (element_bits b at h)
     → element_bits b at w ≡ drop (b - part) (element_bits b at t) ++ take (b - part) (element_bits b at k)
     → Writes b at old (slice_set mid (first + count / 2) w) (elements_window b first count) target)
-shifted-middle b at old mid first count part pair h k w t some bound odd has writes high_is behind_is turned back =
+shifted-middle b at old mid first count part pair h k w t some bound odd has writes high_is behind_is mirrored back =
     let last : ℕ = count - pair - 1 in
     let n : ℕ = (count - 1) * b + part in
     let list = list_in b at old (elements_window b first count) in
@@ -85,6 +85,6 @@ shifted-middle b at old mid first count part pair h k w t some bound odd has wri
     let high = element-before (count - pair) b (omega arith) in
     let whole = element-before count b (omega arith) in
     let all : (count - 1) * b ≡ last * b + last * b = ap (λ (m : ℕ). m * b) (let e : count - 1 ≡ last + last = omega arith in e) ∙ omega arith in
-    let made = rw (rw high_is at turned, behind_is) at back in
+    let made = rw (rw high_is at mirrored, behind_is) at back in
     Settled-rest b at old mid first count last (first + count / 2) w (pair * b) ((count - pair) * b) target some has (same ∙ long) (omega arith) (omega arith) place high
     (made ∙ reversed-last list (last * b) (last * b) b part n (omega arith) (omega arith) bound (omega arith) (omega arith)) writes

@@ -20,16 +20,16 @@ use Rattle.bitvec_words.specs.TouchedLaws.{touched-one, touched-two}
 -- ---- an element in the opposite order, of which n bits are taken
 
 -- those that stood at its start, moved to the place `from`
-pub turned-part : (bits : List Bool) (from n skip : ℕ) → from + n + skip ≡ length bits
+pub mirrored-part : (bits : List Bool) (from n skip : ℕ) → from + n + skip ≡ length bits
     → slice_range (shifted_start skip (reverse bits)) from (from + n) ≡ reverse (take n bits)
 unfolding shifted_start
-turned-part bits from n skip all = same_lists _ _ (search (rules, places, length-reverse)) (λ i d inside. grind (arith, places, get_or-reverse, length-reverse))
+mirrored-part bits from n skip all = same_lists _ _ (search (rules, places, length-reverse)) (λ i d inside. grind (arith, places, get_or-reverse, length-reverse))
 
 -- those that stood there, moved to its start
-pub turned-front : (bits : List Bool) (from n skip : ℕ) → from + n + skip ≡ length bits
+pub mirrored-front : (bits : List Bool) (from n skip : ℕ) → from + n + skip ≡ length bits
     → take n (shifted_start skip (reverse bits)) ≡ reverse (slice_range bits from (from + n))
 unfolding shifted_start
-turned-front bits from n skip all = same_lists _ _ (search (rules, places, length-reverse)) (λ i d inside. grind (arith, places, get_or-reverse, length-reverse))
+mirrored-front bits from n skip all = same_lists _ _ (search (rules, places, length-reverse)) (λ i d inside. grind (arith, places, get_or-reverse, length-reverse))
 
 -- the first n values, as the first t and those behind them
 pub take-parted : (bits : List Bool) (t n : ℕ) → t ≤ n → n ≤ length bits

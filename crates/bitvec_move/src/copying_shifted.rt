@@ -12,7 +12,9 @@ use crate::{MANY_BITS, at_known_skip};
 use bitvec_words::base::{BitOrder, Part, Window, first_part, tail_part, whole_elements};
 use bitvec_words::cells::{Cells, CellsRead};
 use bitvec_words::store::BitStore;
-use bitvec_words::{Carried, Lanes, Whole, WordOrder, field, field_after, store_part, toward_end};
+use bitvec_words::{
+    Carried, Lanes, Whole, WordOrder, load_element, load_element_after, store_part, toward_end,
+};
 
 /// Copies a window whose first bit has another index in its element than that of the other window.
 /// Condition: as for [`crate::copy`], and the windows aren't empty.
@@ -58,7 +60,7 @@ fn shift_head<O: WordOrder, C: Cells, D: CellsRead<Elem = C::Elem>>(
     ensures cost { Costs C.CellsRead left.old left.new (part_loads C.Elem.BITS part) 1 }
     ensures right { OnlyReads D.CellsRead right.old right.new (touched_count C.Elem.BITS from.start from.len) }
 {
-    let (front, last) = field::<O, D>(right, from);
+    let (front, last) = load_element::<O, D>(right, from);
     store_part::<O, C>(left, part, toward_end::<O, C::Elem>(front, part.from));
     last
 }
@@ -106,7 +108,7 @@ fn shift_tail<O: WordOrder, C: Cells, D: CellsRead<Elem = C::Elem>>(
     ensures cost { CostsAtMost C.CellsRead left.old left.new 1 1 }
     ensures right { OnlyReads D.CellsRead right.old right.new (touched_count C.Elem.BITS from.start from.len - 1) }
 {
-    let (front, _) = field_after::<O, D>(right, from, carry);
+    let (front, _) = load_element_after::<O, D>(right, from, carry);
     store_part::<O, C>(left, part, front);
 }
 

@@ -14,7 +14,7 @@ use crate::moving_to_end::move_to_end;
 use crate::moving_to_start::move_to_start;
 use bitvec_words::base::Window;
 use bitvec_words::cells::Cells;
-use bitvec_words::{WORD_BITS, WordOrder, load_field, store_field};
+use bitvec_words::{WORD_BITS, WordOrder, load_parts, store_parts};
 
 /// Copies the bits `from..to` of a window to `dest` on, also where they overlap; all other bits of
 /// the memory stay. Condition: the memory has at most `MAX_BITS` bits, the window lies in it,
@@ -40,7 +40,7 @@ pub fn copy_within<O: WordOrder, C: Cells>(
 }
 
 /// Moves the bits of a window to another of the same memory and of the same length, also where they
-/// overlap: at most 64 bits as one field, more by whole elements.
+/// overlap: at most 64 bits as one word, more by whole elements.
 #[inline(always)]
 fn move_window<O: WordOrder, C: Cells>(cells: &mut C, to: Window, from: Window)
     requires { HasSpan C.Elem.BITS (C.numbers cells.old) (C.numbers cells.old) to from }
@@ -48,8 +48,8 @@ fn move_window<O: WordOrder, C: Cells>(cells: &mut C, to: Window, from: Window)
     ensures cost { CostsAtMost C.CellsRead cells.old cells.new (edit_loads C.Elem.BITS true to.len) (write_stores C.Elem.BITS true to.len) }
 {
     if to.len <= WORD_BITS {
-        let field = load_field::<O, C>(cells, from);
-        store_field::<O, C>(cells, to, field);
+        let word = load_parts::<O, C>(cells, from);
+        store_parts::<O, C>(cells, to, word);
         return;
     }
     if to.start <= from.start {

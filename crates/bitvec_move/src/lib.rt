@@ -8,7 +8,7 @@ pub const MANY_BITS: usize = 512;
 /// A call in a branch of its own for each `skip` of bytes (1 to 7) or of elements of at most 16 bits (1 to
 /// 15), so that the compiler, which knows the number there, makes a loop for each: where it doesn't know by
 /// how much is shifted, a loop makes the masks for bytes, and the vector of shifts for both, anew in each
-/// turn.
+/// pass.
 #[macro_export]
 macro_rules! at_known_skip {
     (u8: $skip:ident, $call:expr) => {
@@ -70,10 +70,10 @@ pub mod walk {
 pub mod words {
     pub use bitvec_words::{
         BitOp, Carried, Lanes, WORD_BITS, Whole, WordOrder, bits_load_front, bits_lowest_first,
-        bits_scan_first, bits_scan_last, count, count_zeros, field, field_after, fill, gathered,
-        invert, joined, load_elements, load_field, merged, moved, reversed, same_between,
-        store_elements, store_field, store_part, toward_end, toward_start, words_load_front,
-        words_scan_first,
+        bits_scan_first, bits_scan_last, count, count_zeros, fill, gathered, invert, joined,
+        load_element, load_element_after, load_elements, load_parts, merged, moved, reversed,
+        same_between, store_elements, store_part, store_parts, toward_end, toward_start,
+        words_load_front, words_scan_first,
     };
 }
 

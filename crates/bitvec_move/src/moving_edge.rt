@@ -9,7 +9,7 @@ ghost use Rattle.bitvec_move.specs.Moves.{Copies};
 use bitvec_words::base::{Window, first_part};
 use bitvec_words::cells::Cells;
 use bitvec_words::store::BitStore;
-use bitvec_words::{WordOrder, field, store_part, toward_end};
+use bitvec_words::{WordOrder, load_element, store_part, toward_end};
 
 /// Moves the bits of a window to another, of the same length, that lies in one element or is empty:
 /// all are read before any is written. It loads each element that the first touches once, and that
@@ -24,6 +24,6 @@ pub(crate) fn move_edge<O: WordOrder, C: Cells>(cells: &mut C, to: Window, from:
         return;
     }
     let part = first_part(C::Elem::BITS as usize, to);
-    let (front, _) = field::<O, C>(cells, from);
+    let (front, _) = load_element::<O, C>(cells, from);
     store_part::<O, C>(cells, part, toward_end::<O, C::Elem>(front, part.from));
 }

@@ -3,7 +3,7 @@ ghost use Rattle.std.specs.Prelude.{◌+◌, ◌%◌, ◌<◌, ◌≤◌, revers
 ghost use Rattle.bitvec_words.specs.base.Memory.{Edits, HasWindow, Writes, element_bits};
 ghost use Rattle.bitvec_words.specs.cells.Access.{CostsAtMost};
 ghost use Rattle.bitvec_words.specs.walk.Cost.{reverse_loads, reverse_stores};
-ghost use Rattle.bitvec_words.specs.Field.{HasField};
+ghost use Rattle.bitvec_words.specs.ShortWindow.{HasShortWindow};
 ghost use Rattle.bitvec_move.specs.Ends.{ends_exchanged};
 
 use crate::reversing_elements::reverse_elements;
@@ -12,7 +12,7 @@ use bitvec_words::base::{Part, Window, first_part};
 use bitvec_words::cells::{Cells, CellsRead};
 use bitvec_words::store::BitStore;
 use bitvec_words::{
-    WORD_BITS, WordOrder, field, merged, reversed, store_part, toward_end, toward_start,
+    WORD_BITS, WordOrder, load_element, merged, reversed, store_part, toward_end, toward_start,
 };
 
 /// Reverses the bits of a window; all other bits of the memory stay. Condition: the memory has at
@@ -55,14 +55,14 @@ fn exchange_edges<O: WordOrder, C: Cells>(cells: &mut C, window: Window, count: 
     let bits = C::Elem::BITS as usize;
     let (element, from) = (window.start / bits, window.start % bits);
     let back = window.range(window.len - count, window.len);
-    let (last, _) = field::<O, C>(cells, back);
+    let (last, _) = load_element::<O, C>(cells, back);
     let first = cells.load(element);
     // of an element in the opposite order, the first bits come last
     let skip = bits - from - count;
-    let turned = toward_start::<O, C::Elem>(reversed::<O, C::Elem>(last), skip);
+    let mirrored = toward_start::<O, C::Elem>(reversed::<O, C::Elem>(last), skip);
     cells.store(
         element,
-        merged::<O, C::Elem>(first, turned, from, from + count),
+        merged::<O, C::Elem>(first, mirrored, from, from + count),
     );
     let other = toward_start::<O, C::Elem>(reversed::<O, C::Elem>(first), skip);
     store_front::<O, C>(cells, back, other);
@@ -71,7 +71,7 @@ fn exchange_edges<O: WordOrder, C: Cells>(cells: &mut C, window: Window, count: 
 /// A window of at most an element's width gets the first bits of an element, as many as it has. It
 /// stores each element that the window touches once.
 fn store_front<O: WordOrder, C: Cells>(cells: &mut C, window: Window, element: C::Elem)
-    requires { HasField C.Elem.BITS (C.numbers cells.old) window }
+    requires { HasShortWindow C.Elem.BITS (C.numbers cells.old) window }
     ensures writes { Writes C.Elem.BITS O.at (C.numbers cells.old) (C.numbers cells.new) window
         (take window.len (element_bits C.Elem.BITS O.at (C.Elem.value element))) }
     ensures cost { CostsAtMost C.CellsRead cells.old cells.new 2 2 }

@@ -72,17 +72,17 @@ fn reverse_shifted<O: WordOrder, C: Cells>(cells: &mut C, first: usize, count: u
         let next = cells.load(last - pair - 1);
         let front = joined::<O, C::Elem>(next, high, part);
         cells.store(first + pair, reversed::<O, C::Elem>(front));
-        let turned = reversed::<O, C::Elem>(low);
+        let mirrored = reversed::<O, C::Elem>(low);
         cells.store(
             last - pair,
-            joined::<O, C::Elem>(turned, behind, bits - part),
+            joined::<O, C::Elem>(mirrored, behind, bits - part),
         );
         high = next;
-        behind = turned;
+        behind = mirrored;
     }
     if count % 2 == 1 {
-        let turned = reversed::<O, C::Elem>(high);
-        let middle = joined::<O, C::Elem>(turned, behind, bits - part);
+        let mirrored = reversed::<O, C::Elem>(high);
+        let middle = joined::<O, C::Elem>(mirrored, behind, bits - part);
         cells.store(first + count / 2, middle);
     }
 }

@@ -122,8 +122,8 @@ fn swap_each<O: WordOrder, C: Cells, D: Cells + CellsRead<Elem = C::Elem>>(
 {
     let rest = C::Elem::BITS as usize - skip;
     let mut last = waiting;
-    // what a turn needs of `last` is in the two elements that were loaded before it, and is taken
-    // from there: so the turns can go many at once
+    // what a pass needs of `last` is in the two elements that were loaded before it, and is taken
+    // from there: so the passes can go many at once
     let mut before = toward_end::<O, C::Elem>(waiting, rest);
     let mut latest = waiting;
     for step in 0..count {

@@ -17,7 +17,7 @@ use Rattle.bitvec_ones.specs.declared.rest.Rest.{Rest}
 use Rattle.bitvec_ones.specs.Places.{places_in}
 use Rattle.bitvec_ones.specs.PlacesLaws.{places-next, places-none}
 use Rattle.bitvec_query.specs.walk.Sought.{Shows}
-use Rattle.bitvec_query.specs.words.Field.{padded}
+use Rattle.bitvec_query.specs.words.ShortWindow.{padded}
 use Rattle.bitvec_ones.specs.Kept.{Keeps}
 use Rattle.bitvec_ones.specs.declared.kept.Kept.{Kept}
 use Rattle.bitvec_ones.specs.WordOnes.{order_ones, word_ones}

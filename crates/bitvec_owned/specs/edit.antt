@@ -10,5 +10,5 @@ pub use Rattle.bitvec_edit.specs.slice
 pub use Rattle.bitvec_edit.specs.store
 pub use Rattle.bitvec_edit.specs.traits
 pub use Rattle.bitvec_edit.specs.walk
-pub use Rattle.bitvec_edit.specs.windows
+pub use Rattle.bitvec_edit.specs.elements
 pub use Rattle.bitvec_edit.specs.words

@@ -7,10 +7,10 @@ ghost use Rattle.bitvec_edit.specs.slice.Views.{seen};
 use crate::BitVec;
 use crate::zeros::zeros;
 use bitvec_edit::base::Window;
+use bitvec_edit::elements::copy_from_block_in;
 use bitvec_edit::engine::SliceOrder;
 use bitvec_edit::slice::BitSlice;
 use bitvec_edit::store::BitStore;
-use bitvec_edit::windows::copy_from_block_in;
 use std::alloc::{AllocError, Allocator};
 
 /// A copy of a view's bits, from the index in its first element on at which the view begins.

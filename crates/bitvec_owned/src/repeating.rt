@@ -11,10 +11,10 @@ ghost use Rattle.bitvec_edit.specs.slice.Views.{seen};
 use crate::BitVec;
 use crate::zeros::zeros;
 use bitvec_edit::base::{MAX_BITS, Window};
+use bitvec_edit::elements::copy_from_block_in;
 use bitvec_edit::engine::SliceOrder;
 use bitvec_edit::slice::BitSlice;
 use bitvec_edit::store::BitStore;
-use bitvec_edit::windows::copy_from_block_in;
 use std::alloc::Allocator;
 
 /// Why there is no repeat.

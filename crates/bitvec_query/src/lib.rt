@@ -33,7 +33,7 @@ pub mod store {
     pub use bitvec_slice::store::BitStore;
 }
 
-/// Items of `bitvec_windows` that crates above use.
+/// Items of `bitvec_elements` that crates above use.
 pub mod traits {
     pub use bitvec_slice::traits::separator_before;
 }

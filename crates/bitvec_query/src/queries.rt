@@ -8,12 +8,12 @@ ghost use Rattle.bitvec_slice.specs.Views.{seen};
 
 use crate::runs::{before_first, behind_last};
 use bitvec_slice::base::BitOrder;
+use bitvec_slice::elements::{
+    all_in, any_in, compare_in, contains_in, count_in, ends_with_in, eq_in, find_first_in,
+    find_last_in, starts_with_in,
+};
 use bitvec_slice::engine::SliceOrder;
 use bitvec_slice::store::BitStore;
-use bitvec_slice::windows::{
-    all_in, any_in, compare_in, contains_in, count_in, ends_with_in, eq_in, first_in, last_in,
-    starts_with_in,
-};
 use bitvec_slice::{BitSlice, View};
 use std::cmp::Ordering;
 
@@ -59,7 +59,7 @@ pub trait BitQueries<T: BitStore, O: SliceOrder>: View<T, O> {
         ensures { result ≡ first_place true (Self.shows self.now).bits }
     {
         let view = self.as_bitslice();
-        first_in::<T, O>(view.elements(), view.window(), true)
+        find_first_in::<T, O>(view.elements(), view.window(), true)
     }
 
     /// The index of the first bit that is 0, if there is one.
@@ -73,7 +73,7 @@ pub trait BitQueries<T: BitStore, O: SliceOrder>: View<T, O> {
         ensures { result ≡ first_place false (Self.shows self.now).bits }
     {
         let view = self.as_bitslice();
-        first_in::<T, O>(view.elements(), view.window(), false)
+        find_first_in::<T, O>(view.elements(), view.window(), false)
     }
 
     /// The index of the last bit that is 1, if there is one.
@@ -86,7 +86,7 @@ pub trait BitQueries<T: BitStore, O: SliceOrder>: View<T, O> {
         ensures { result ≡ last_place true (Self.shows self.now).bits }
     {
         let view = self.as_bitslice();
-        last_in::<T, O>(view.elements(), view.window(), true)
+        find_last_in::<T, O>(view.elements(), view.window(), true)
     }
 
     /// The index of the last bit that is 0, if there is one.
@@ -94,7 +94,7 @@ pub trait BitQueries<T: BitStore, O: SliceOrder>: View<T, O> {
         ensures { result ≡ last_place false (Self.shows self.now).bits }
     {
         let view = self.as_bitslice();
-        last_in::<T, O>(view.elements(), view.window(), false)
+        find_last_in::<T, O>(view.elements(), view.window(), false)
     }
 
     /// How many bits at the start are 1.

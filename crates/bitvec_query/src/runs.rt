@@ -5,16 +5,16 @@ ghost use Rattle.bitvec_slice.specs.base.LeadingLaws.{is_other};
 ghost use Rattle.bitvec_slice.specs.Views.{seen};
 
 use bitvec_slice::BitSlice;
+use bitvec_slice::elements::{find_first_in, find_last_in};
 use bitvec_slice::engine::SliceOrder;
 use bitvec_slice::store::BitStore;
-use bitvec_slice::windows::{first_in, last_in};
 
 /// How many bits stand before the first that is `end`, or in all if none is.
 #[tactic(auto, using(bitvec_slice::specs::Cited::first_run))]
 pub(crate) fn before_first<T: BitStore, O: SliceOrder>(view: BitSlice<'_, T, O>, end: bool) -> usize
     ensures { result ≡ prefix_len (is_other end) (seen view.entry).bits }
 {
-    first_in::<T, O>(view.elements(), view.window(), end).unwrap_or(view.len())
+    find_first_in::<T, O>(view.elements(), view.window(), end).unwrap_or(view.len())
 }
 
 /// How many bits stand behind the last that is `end`, or in all if none is.
@@ -22,7 +22,7 @@ pub(crate) fn before_first<T: BitStore, O: SliceOrder>(view: BitSlice<'_, T, O>,
 pub(crate) fn behind_last<T: BitStore, O: SliceOrder>(view: BitSlice<'_, T, O>, end: bool) -> usize
     ensures { result ≡ suffix_len (is_other end) (seen view.entry).bits }
 {
-    match last_in::<T, O>(view.elements(), view.window(), end) {
+    match find_last_in::<T, O>(view.elements(), view.window(), end) {
         Some(index) => view.len() - index - 1,
         None => view.len(),
     }

@@ -52,7 +52,7 @@ pub fn run_halves<T: BitStore, O: SliceOrder>(
 /// Runs the steps on a window of a slice. Conditions: each slice has at most `MAX_BITS` bits, and
 /// each window lies in its slice.
 fn run_in<T: BitStore, O: SliceOrder>(
-    cells: &mut [T],
+    elements: &mut [T],
     window: Window,
     mid: usize,
     right: &[T],
@@ -60,14 +60,14 @@ fn run_in<T: BitStore, O: SliceOrder>(
     steps: &[(Side, Step)],
     out: &mut [Reply],
 )
-    requires window { HasWindow T.BITS (map T.value cells.old) window }
+    requires window { HasWindow T.BITS (map T.value elements.old) window }
     requires right_window { HasWindow T.BITS (map T.value right.now) source }
     requires bound { mid ≤ window.len }
     requires lengths { length steps.now ≡ length out.old }
     ensures { RunsSides T.BITS O.at (list_in T.BITS O.at (map T.value right.now) source)
-        window mid steps.now (map T.value cells.old) (map T.value cells.new) out.new }
+        window mid steps.now (map T.value elements.old) (map T.value elements.new) out.new }
 {
-    let mut accessor = Exclusive::new(cells);
+    let mut accessor = Exclusive::new(elements);
     let mut beside = Shared::new(right);
     run_sides::<O, Exclusive<T>, Shared<T>>(
         &mut accessor,

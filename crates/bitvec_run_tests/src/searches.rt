@@ -15,7 +15,7 @@ fn begins<O: SliceOrder>(bytes: &[u8; 3], index: usize) -> bool {
     }
     let (word, count) = O::load_front(&mut cells, window);
     let front_loads = cells.loads();
-    let found = O::search_first(&mut cells, window, false) == Some(index);
+    let found = O::find_first(&mut cells, window, false) == Some(index);
     found && (O::lowest_first(word), count, front_loads) == (31, 5, 1) && cells.loads() <= 4
 }
 
@@ -30,7 +30,7 @@ fn stands<O: SliceOrder>(elements: &[u16; 16], index: usize) -> bool {
     let window = Window { start: 0, len: 256 };
     let mut cells = Counted::new(Shared::new(elements));
     has_window(&cells, window)
-        && O::search_first(&mut cells, window, true) == Some(index)
+        && O::find_first(&mut cells, window, true) == Some(index)
         && cells.loads() == 16
 }
 

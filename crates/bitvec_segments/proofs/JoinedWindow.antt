@@ -18,7 +18,7 @@ use Rattle.bitvec_words.specs.base.WritesLaws.{length-list, list-join, list-rang
 use Rattle.bitvec_words.specs.walk.Cost.{touched_count}
 use Rattle.bitvec_words.specs.walk.WalkLaws.{touched-until}
 use Rattle.bitvec_words.specs.Elements.{elements_window}
-use Rattle.bitvec_words.specs.Field.{lowest_bit}
+use Rattle.bitvec_words.specs.ShortWindow.{lowest_bit}
 use Rattle.bitvec_words.specs.FieldLaws.{element_of, list-element, list-part}
 use Rattle.bitvec_words.specs.WholeLaws.{list-empty}
 use Rattle.bitvec_segments.specs.LoadLaws.{joined_below}

@@ -9,7 +9,7 @@ use Rattle.bitvec_words.specs.base.Memory.{element_bits}
 use Rattle.bitvec_words.specs.base.MemoryLaws.{get-element_bits, length-element_bits}
 use Rattle.bitvec_words.specs.base.ShiftLaws.{bit_at_shl, bit_at_shr}
 use Rattle.bitvec_words.specs.base.WriteLaws.{get-slice_range, length-slice_range}
-use Rattle.bitvec_words.specs.Field.{lowest_bit}
+use Rattle.bitvec_words.specs.ShortWindow.{lowest_bit}
 use Rattle.bitvec_words.specs.MovedLaws.{lowest_bit-fits}
 use Rattle.bitvec_words.specs.OrderEnd.{RunsFrom}
 use Rattle.bitvec_segments.specs.NumberLaws.{bit_number-below, segment-number-is, segment_bits-mod}

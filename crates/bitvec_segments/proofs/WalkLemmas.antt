@@ -16,7 +16,7 @@ use Rattle.bitvec_words.specs.base.WritesLaws.{Writes-is, Writes-join, length-li
 use Rattle.bitvec_words.specs.walk.Cost.{fill_loads, part_loads, touched_count}
 use Rattle.bitvec_words.specs.walk.Walk.{Walked, passed}
 use Rattle.bitvec_words.specs.walk.WalkLaws.{Walked-next, Walked-start, Writes-next_part, Writes-none_passed, div-order, first-len, first-place, touched-none, touched-until}
-use Rattle.bitvec_words.specs.FieldWalkLaws.{HasWindow-rest}
+use Rattle.bitvec_words.specs.PartWalkLaws.{HasWindow-rest}
 use Rattle.bitvec_words.specs.WholeLaws.{list-empty}
 use Rattle.bitvec_segments.specs.LoadLaws.{alone, loaded-below, loaded-first, loaded-none, lower_bits}
 use Rattle.bitvec_segments.specs.Segments.{loaded, segment_bits, segment_number, stored}

@@ -6,7 +6,7 @@ ghost use Rattle.bitvec_segments.specs.Segments.{segment_number};
 ghost use Rattle.bitvec_segments.specs.Windows.{FitsWord, HasHalves};
 ghost use Rattle.bitvec_words.specs.walk.Cost.{touched_count};
 ghost use Rattle.bitvec_words.specs.Elements.{elements_window};
-ghost use Rattle.bitvec_words.specs.Field.{lowest_bit};
+ghost use Rattle.bitvec_words.specs.ShortWindow.{lowest_bit};
 
 use crate::part::part_number;
 use bitvec_words::base::{Part, Window};

@@ -5,7 +5,7 @@ ghost use Rattle.bitvec_words.specs.base.Parts.{HasPart, part_window};
 ghost use Rattle.bitvec_words.specs.cells.Access.{Costs, OnlyReads};
 ghost use Rattle.bitvec_segments.specs.Segments.{segment_bits, segment_number};
 ghost use Rattle.bitvec_words.specs.walk.Cost.{part_loads};
-ghost use Rattle.bitvec_words.specs.Field.{lowest_bit};
+ghost use Rattle.bitvec_words.specs.ShortWindow.{lowest_bit};
 
 use bitvec_words::base::Part;
 use bitvec_words::cells::{Cells, CellsRead};

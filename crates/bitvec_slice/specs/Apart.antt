@@ -1,6 +1,6 @@
 -- Two parts of a view that share no element.
 use Rattle.std.specs.Prelude.{◌≡◌, ℕ, ◌+◌, ◌-◌, ◌%◌, ◌<◌, ◌⊎◌, slice_range}
-use Rattle.bitvec_windows.specs.base.declared.window.Window.{Window}
+use Rattle.bitvec_elements.specs.base.declared.window.Window.{Window}
 use Rattle.bitvec_slice.specs.Seen.{IsRangeOf, Seen}
 
 -- the bits before the index `mid` of a view at this window, where an element has b bits, touch no element

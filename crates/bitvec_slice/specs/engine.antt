@@ -1,2 +1,2 @@
 -- Items of `bitvec_engine` that crates above use.
-pub use Rattle.bitvec_windows.specs.engine.Front
+pub use Rattle.bitvec_elements.specs.engine.Front

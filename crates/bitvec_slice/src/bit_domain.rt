@@ -1,8 +1,8 @@
 //! A view, cut at the edges of elements.
 ghost use Rattle.std.specs.Prelude.{◌≡◌, ◌+◌, ◌*◌, ◌≤◌, IfSome, length, map};
 ghost use Rattle.std.specs.Option.{option_map};
-ghost use Rattle.bitvec_windows.specs.base.Memory.{HasWindow};
-ghost use Rattle.bitvec_windows.specs.base.Window.{max_bits};
+ghost use Rattle.bitvec_elements.specs.base.Memory.{HasWindow};
+ghost use Rattle.bitvec_elements.specs.base.Window.{max_bits};
 ghost use Rattle.bitvec_domain.specs.Cuts.{IsCutWithin, IsPartWithin, cut_of, part_from, part_if_from};
 ghost use Rattle.bitvec_domain.specs.declared.cut.Cut.TheVariants.{Across};
 ghost use Rattle.bitvec_slice.specs.Domains.{enclave_part, region_parts, view_in, view_in_if, views_in, views_of, views_of_mut};
@@ -10,8 +10,8 @@ ghost use Rattle.bitvec_slice.specs.Views.{seen, seen_mut};
 
 use crate::{BitSlice, BitSliceMut};
 use bitvec_domain::Cut;
-use bitvec_windows::base::{BitOrder, Part, Window};
-use bitvec_windows::store::BitStore;
+use bitvec_elements::base::{BitOrder, Part, Window};
+use bitvec_elements::store::BitStore;
 
 /// A view, cut at the edges of elements: `bitvec`'s `BitDomain`, over the type of the parts, which is
 /// [`BitSlice`] of `bit_domain` and [`BitSliceMut`] of `bit_domain_mut`. In a `for` it gives them in their
@@ -64,44 +64,44 @@ impl<V: Drop> BitDomain<V> {
 /// A window, cut at the edges of elements. Condition: the memory has at most `MAX_BITS` bits, and
 /// the window lies in it.
 pub(crate) fn bit_domain_of<T: BitStore, O: BitOrder>(
-    cells: &[T],
+    elements: &[T],
     window: Window,
 ) -> BitDomain<BitSlice<'_, T, O>>
-    requires window { HasWindow T.BITS (map T.value cells.now) window }
-    ensures { views_of result ≡ views_in T.BITS O.at T.value cells.now (cut_of T.BITS window) }
+    requires window { HasWindow T.BITS (map T.value elements.now) window }
+    ensures { views_of result ≡ views_in T.BITS O.at T.value elements.now (cut_of T.BITS window) }
 {
-    match Cut::of_elements(cells, window) {
-        Cut::Inside(part) => BitDomain::Enclave(part_view(cells, part)),
+    match Cut::of_elements(elements, window) {
+        Cut::Inside(part) => BitDomain::Enclave(part_view(elements, part)),
         Cut::Across {
             head,
             start,
             end,
             tail,
         } => BitDomain::Region {
-            head: part_view_if(cells, head),
-            body: BitSlice::from_slice(&cells[start..end]),
-            tail: part_view_if(cells, tail),
+            head: part_view_if(elements, head),
+            body: BitSlice::from_slice(&elements[start..end]),
+            tail: part_view_if(elements, tail),
         },
     }
 }
 
 /// The bits of a part, as a view of its element.
-fn part_view<T: BitStore, O: BitOrder>(cells: &[T], part: Part) -> BitSlice<'_, T, O>
-    requires { IsPartWithin T.BITS (length cells.now) part }
-    ensures { seen result ≡ view_in T.BITS O.at T.value cells.now part }
+fn part_view<T: BitStore, O: BitOrder>(elements: &[T], part: Part) -> BitSlice<'_, T, O>
+    requires { IsPartWithin T.BITS (length elements.now) part }
+    ensures { seen result ≡ view_in T.BITS O.at T.value elements.now part }
 {
     T::fits_in_memory();
-    let cell = &cells[part.element..part.element + 1];
+    let cell = &elements[part.element..part.element + 1];
     BitSlice::from_parts(cell, part.from, part.to - part.from)
 }
 
 /// The bits of a part, if there is one.
-fn part_view_if<T: BitStore, O: BitOrder>(cells: &[T], part: Option<Part>) -> BitSlice<'_, T, O>
-    requires { IfSome part (IsPartWithin T.BITS (length cells.now)) }
-    ensures { seen result ≡ view_in_if T.BITS O.at T.value cells.now part }
+fn part_view_if<T: BitStore, O: BitOrder>(elements: &[T], part: Option<Part>) -> BitSlice<'_, T, O>
+    requires { IfSome part (IsPartWithin T.BITS (length elements.now)) }
+    ensures { seen result ≡ view_in_if T.BITS O.at T.value elements.now part }
 {
     if let Some(part) = part {
-        return part_view(cells, part);
+        return part_view(elements, part);
     }
     BitSlice::empty()
 }
@@ -109,36 +109,36 @@ fn part_view_if<T: BitStore, O: BitOrder>(cells: &[T], part: Option<Part>) -> Bi
 /// A window, cut at the edges of elements. Condition: the memory has at most `MAX_BITS` bits, and
 /// the window lies in it.
 pub(crate) fn bit_domain_mut_of<T: BitStore, O: BitOrder>(
-    cells: &mut [T],
+    elements: &mut [T],
     window: Window,
 ) -> BitDomain<BitSliceMut<'_, T, O>>
-    requires window { HasWindow T.BITS (map T.value cells.old) window }
-    ensures { views_of_mut result ≡ views_in T.BITS O.at T.value cells.old (cut_of T.BITS window) }
+    requires window { HasWindow T.BITS (map T.value elements.old) window }
+    ensures { views_of_mut result ≡ views_in T.BITS O.at T.value elements.old (cut_of T.BITS window) }
 {
-    match Cut::of_elements(cells, window) {
-        Cut::Inside(part) => BitDomain::Enclave(part_view_mut(cells, 0, part)),
+    match Cut::of_elements(elements, window) {
+        Cut::Inside(part) => BitDomain::Enclave(part_view_mut(elements, 0, part)),
         Cut::Across {
             head,
             start,
             end,
             tail,
-        } => region(cells, head, start, end, tail),
+        } => region(elements, head, start, end, tail),
     }
 }
 
 /// A part of one element, whole elements, and again a part of one.
 fn region<T: BitStore, O: BitOrder>(
-    cells: &mut [T],
+    elements: &mut [T],
     head: Option<Part>,
     start: usize,
     end: usize,
     tail: Option<Part>,
 ) -> BitDomain<BitSliceMut<'_, T, O>>
-    requires cut { IsCutWithin T.BITS (length cells.old) (Across head start end tail) }
-    requires fits { T.BITS * length cells.old ≤ max_bits }
-    ensures { views_of_mut result ≡ views_in T.BITS O.at T.value cells.old (Across head start end tail) }
+    requires cut { IsCutWithin T.BITS (length elements.old) (Across head start end tail) }
+    requires fits { T.BITS * length elements.old ≤ max_bits }
+    ensures { views_of_mut result ≡ views_in T.BITS O.at T.value elements.old (Across head start end tail) }
 {
-    let (front, after) = cells.split_at_mut(end);
+    let (front, after) = elements.split_at_mut(end);
     let (before, body) = front.split_at_mut(start);
     let head = part_view_if_mut(before, 0, head);
     let body = BitSliceMut::from_slice_mut(body);
@@ -149,33 +149,33 @@ fn region<T: BitStore, O: BitOrder>(
 /// The bits of a part, as a view of its element, where `cells` are the elements from the element
 /// `first` on.
 fn part_view_mut<T: BitStore, O: BitOrder>(
-    cells: &mut [T],
+    elements: &mut [T],
     first: usize,
     part: Part,
 ) -> BitSliceMut<'_, T, O>
     requires first { first ≤ part.element }
-    requires within { IsPartWithin T.BITS (first + length cells.old) part }
-    ensures { seen_mut result ≡ view_in T.BITS O.at T.value cells.old (part_from first part) }
+    requires within { IsPartWithin T.BITS (first + length elements.old) part }
+    ensures { seen_mut result ≡ view_in T.BITS O.at T.value elements.old (part_from first part) }
 {
     T::fits_in_memory();
     let index = part.element - first;
-    let (front, _) = cells.split_at_mut(index + 1);
+    let (front, _) = elements.split_at_mut(index + 1);
     let (_, cell) = front.split_at_mut(index);
     BitSliceMut::from_parts(cell, part.from, part.to - part.from)
 }
 
 /// The bits of a part, if there is one, where `cells` are the elements from the element `first` on.
 fn part_view_if_mut<T: BitStore, O: BitOrder>(
-    cells: &mut [T],
+    elements: &mut [T],
     first: usize,
     part: Option<Part>,
 ) -> BitSliceMut<'_, T, O>
     requires first { IfSome part (λ p. first ≤ p.element) }
-    requires within { IfSome part (IsPartWithin T.BITS (first + length cells.old)) }
-    ensures { seen_mut result ≡ view_in_if T.BITS O.at T.value cells.old (part_if_from first part) }
+    requires within { IfSome part (IsPartWithin T.BITS (first + length elements.old)) }
+    ensures { seen_mut result ≡ view_in_if T.BITS O.at T.value elements.old (part_if_from first part) }
 {
     match part {
         None => BitSliceMut::empty_mut(),
-        Some(part) => part_view_mut(cells, first, part),
+        Some(part) => part_view_mut(elements, first, part),
     }
 }

@@ -4,8 +4,8 @@ ghost use Rattle.std.specs.Iterator.{UpTo, YieldsFirst, YieldsFirstRef, YieldsLa
 ghost use Rattle.std.specs.Iterator.SizeHint.{IsWithinCount};
 
 use crate::Iter;
-use bitvec_windows::base::BitOrder;
-use bitvec_windows::store::BitStore;
+use bitvec_elements::base::BitOrder;
+use bitvec_elements::store::BitStore;
 use std::iter::FusedIterator;
 
 /// The bits of a view as `&bool`, from both ends: `by_refs` of [`Iter`] makes it.

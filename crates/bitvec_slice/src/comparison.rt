@@ -5,12 +5,12 @@ ghost use Rattle.std.specs.Cmp.Lexicographic.{slice_cmp};
 ghost use Rattle.std.specs.Cmp.Rules.{comparing};
 ghost use Rattle.std.specs.Ordering.{as_partial_cmp, bool_cmp, on};
 ghost use Rattle.bitvec_slice.specs.Views.{seen};
-ghost use Rattle.bitvec_windows.specs.OrderLaws.{same_bits-ties};
+ghost use Rattle.bitvec_elements.specs.OrderLaws.{same_bits-ties};
 
 use crate::BitSlice;
-use bitvec_windows::compare_block_in;
-use bitvec_windows::engine::SliceOrder;
-use bitvec_windows::store::BitStore;
+use bitvec_elements::compare_block_in;
+use bitvec_elements::engine::SliceOrder;
+use bitvec_elements::store::BitStore;
 use std::cmp::Ordering;
 
 impl<'a, T: BitStore, O: SliceOrder> PartialOrd for BitSlice<'a, T, O> {

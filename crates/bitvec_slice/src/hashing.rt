@@ -5,8 +5,8 @@ ghost use Rattle.bitvec_domain.specs.FeedingLaws.{fed_same};
 
 use crate::BitSlice;
 use bitvec_domain::hash_in;
-use bitvec_windows::engine::SliceOrder;
-use bitvec_windows::store::BitStore;
+use bitvec_elements::engine::SliceOrder;
+use bitvec_elements::store::BitStore;
 use std::hash::{Hash, Hasher};
 
 impl<'a, T: BitStore, O: SliceOrder> Hash for BitSlice<'a, T, O> {

@@ -2,8 +2,8 @@
 ghost use Rattle.std.specs.Prelude.{◌≡◌, ℕ, ◌<◌, ◌↔◌, IsTrue};
 
 use crate::{BitRef, BitRefMut, BitSlice, BitSliceMut};
-use bitvec_windows::base::BitOrder;
-use bitvec_windows::store::BitStore;
+use bitvec_elements::base::BitOrder;
+use bitvec_elements::store::BitStore;
 
 /// A shared view, as an index meets it.
 #[doc(hidden)]

@@ -6,8 +6,8 @@ ghost use Rattle.bitvec_slice.specs.Indices.{HasRange};
 ghost use Rattle.bitvec_slice.specs.Views.{seen};
 
 use crate::{BitRef, BitRefIter, BitSlice, BitValIter};
-use bitvec_windows::base::BitOrder;
-use bitvec_windows::store::BitStore;
+use bitvec_elements::base::BitOrder;
+use bitvec_elements::store::BitStore;
 use std::alloc::AllocError;
 use std::iter::FusedIterator;
 use std::ops::Range;

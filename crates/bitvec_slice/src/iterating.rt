@@ -1,10 +1,10 @@
 //! Walks over the bits of both types of views.
 ghost use Rattle.std.specs.Prelude.{◌≡◌, ◌≤◌, length};
-ghost use Rattle.bitvec_windows.specs.base.Window.{max_bits};
+ghost use Rattle.bitvec_elements.specs.base.Window.{max_bits};
 
 use crate::{BitRef, BitSlice, BitSliceMut, Iter};
-use bitvec_windows::base::BitOrder;
-use bitvec_windows::store::BitStore;
+use bitvec_elements::base::BitOrder;
+use bitvec_elements::store::BitStore;
 
 impl<'a, T: BitStore, O: BitOrder> BitSlice<'a, T, O> {
     ghost use Rattle.bitvec_slice.specs.Views.{seen};

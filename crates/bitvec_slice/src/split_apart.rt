@@ -3,8 +3,8 @@ ghost use Rattle.std.specs.Prelude.{◌≡◌, ◌+◌, ◌%◌, ◌<◌, ◌≤
 
 use crate::BitSliceMut;
 use crate::touching::touched_range;
-use bitvec_windows::base::BitOrder;
-use bitvec_windows::store::BitStore;
+use bitvec_elements::base::BitOrder;
+use bitvec_elements::store::BitStore;
 
 impl<'a, T: BitStore, O: BitOrder> BitSliceMut<'a, T, O> {
     ghost use Rattle.bitvec_slice.specs.Apart.{ComesApart, IsSideOf};

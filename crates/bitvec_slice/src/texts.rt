@@ -5,8 +5,8 @@ ghost use Rattle.bitvec_domain.specs.Listing.{bits_text};
 
 use crate::{BitSlice, BitSliceMut};
 use bitvec_domain::write_bits_in;
-use bitvec_windows::base::BitOrder;
-use bitvec_windows::store::BitStore;
+use bitvec_elements::base::BitOrder;
+use bitvec_elements::store::BitStore;
 use std::fmt;
 
 /// The bits as a list, as `[0, 1, 0]`.

@@ -3,9 +3,9 @@
 ghost use Rattle.std.specs.Prelude.{◌≡◌};
 
 use crate::{BitSlice, BitSliceMut};
-use bitvec_windows::engine::SliceOrder;
-use bitvec_windows::store::BitStore;
-use bitvec_windows::{copy_from_block_in, swap_with_block_in};
+use bitvec_elements::engine::SliceOrder;
+use bitvec_elements::store::BitStore;
+use bitvec_elements::{copy_from_block_in, swap_with_block_in};
 
 impl<'a, T: BitStore, O: SliceOrder> BitSliceMut<'a, T, O> {
     ghost use Rattle.bitvec_slice.specs.Views.{seen, seen_mut};

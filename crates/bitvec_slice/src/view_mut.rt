@@ -1,13 +1,13 @@
 //! A writable view of bits.
 ghost use Rattle.std.specs.Prelude.{◌≡◌, ◌+◌, ◌*◌, ◌≤◌, ◌==◌, length, map, slice_range};
-ghost use Rattle.bitvec_windows.specs.base.Window.{max_bits};
+ghost use Rattle.bitvec_elements.specs.base.Window.{max_bits};
 
 use crate::bit_domain::bit_domain_mut_of;
 use crate::touching::touched_range;
 use crate::{BitDomain, BitDomainMut, BitSlice, Domain, DomainMut, Sealed};
 use bitvec_domain::domain_mut_of;
-use bitvec_windows::base::{BitOrder, Window};
-use bitvec_windows::store::BitStore;
+use bitvec_elements::base::{BitOrder, Window};
+use bitvec_elements::store::BitStore;
 use std::marker::PhantomData;
 use std::ops::Range;
 
@@ -25,7 +25,7 @@ use std::ops::Range;
 /// `bit_domain_mut`. In crates above: halves, walks and splits, which lend such views and references one
 /// at a time (`PieceCallsMut` of `bitvec_iter`, `SplitCallsMut` of `bitvec_split`), and the view itself,
 /// which a closure gets moved to a part of it, and owes to leave there (`EditParts` of
-/// `bitvec_pieces`).
+/// `bitvec_closures`).
 ///
 /// A part holds the elements that its bits touch and no other, and no call of it writes a bit of these
 /// outside the part: what an edit leaves says `WritesBits` of a view, `WritesBit` of a reference,
@@ -45,8 +45,8 @@ pub struct BitSliceMut<'a, T: BitStore, O: BitOrder> {
 
 impl<'a, T: BitStore, O: BitOrder> BitSliceMut<'a, T, O> {
     ghost use Rattle.std.specs.Borrow.{sem};
-    ghost use Rattle.bitvec_windows.specs.base.Memory.{HasWindow, memory_bits};
-    ghost use Rattle.bitvec_windows.specs.base.Window.{IsWithin};
+    ghost use Rattle.bitvec_elements.specs.base.Memory.{HasWindow, memory_bits};
+    ghost use Rattle.bitvec_elements.specs.base.Window.{IsWithin};
     ghost use Rattle.bitvec_domain.specs.Domains.{pieces_of, pieces_of_mut};
     ghost use Rattle.bitvec_slice.specs.Domains.{IsBitDomain, IsDomain, views_of, views_of_mut};
     ghost use Rattle.bitvec_slice.specs.Indices.{HasRange};

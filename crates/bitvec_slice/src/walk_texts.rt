@@ -5,8 +5,8 @@ ghost use Rattle.bitvec_domain.specs.Listing.{bits_text};
 ghost use Rattle.bitvec_slice.specs.Views.{seen};
 
 use crate::{BitRefIter, BitSlice, BitValIter, Iter};
-use bitvec_windows::base::BitOrder;
-use bitvec_windows::store::BitStore;
+use bitvec_elements::base::BitOrder;
+use bitvec_elements::store::BitStore;
 use std::fmt;
 
 /// Writes a name, and behind it the view in parentheses.

@@ -137,8 +137,8 @@ pub fn every_third() -> [u16; 4]
     ensures { (k : ℕ) → k < 21 → slice_index_or (msb0_bits 16 result) (3 * k) false ≡ true }
 {
     let mut words = [0u16; 4];
-    for turn in 0..21 {
-        in_place::set::<u16, Msb0>(&mut words, 3 * turn, true);
+    for step in 0..21 {
+        in_place::set::<u16, Msb0>(&mut words, 3 * step, true);
     }
     words
 }
@@ -149,8 +149,8 @@ pub fn fives() -> [u8; 8]
     ensures { (k : ℕ) → k < 12 → number_in true true 8 (msb0_bits 8 result) (5 * k) (5 * k + 5) ≡ k }
 {
     let mut bytes = [0u8; 8];
-    for turn in 0..12 {
-        in_place::store_be::<u8, Msb0, usize>(&mut bytes, 5 * turn..5 * turn + 5, turn);
+    for step in 0..12 {
+        in_place::store_be::<u8, Msb0, usize>(&mut bytes, 5 * step..5 * step + 5, step);
     }
     bytes
 }

@@ -160,7 +160,7 @@ fn each_second_asking(rt: HostRuntime) {
         None,
     ];
     assert!(rt; places_of_six(false) == front);
-    let turns = [
+    let from_both_ends = [
         Some((0, 1)),
         Some((5, 1)),
         Some((2, 1)),
@@ -168,5 +168,5 @@ fn each_second_asking(rt: HostRuntime) {
         None,
         None,
     ];
-    assert!(rt; places_of_six(true) == turns);
+    assert!(rt; places_of_six(true) == from_both_ends);
 }

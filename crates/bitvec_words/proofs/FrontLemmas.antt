@@ -20,9 +20,9 @@ use Rattle.bitvec_cells.specs.base.WritesLaws.{length-list}
 use Rattle.bitvec_words.specs.WordLaws.{padded-all, word_whole}
 use Rattle.bitvec_cells.specs.WalkLaws.{Walked-start, first-len, first-place}
 use Rattle.bitvec_words.specs.Elements.{elements_window}
-use Rattle.bitvec_words.specs.Field.{padded}
+use Rattle.bitvec_words.specs.ShortWindow.{padded}
 use Rattle.bitvec_words.specs.FieldLaws.{list-part}
-use Rattle.bitvec_words.specs.FieldWalkLaws.{HasPart-first}
+use Rattle.bitvec_words.specs.PartWalkLaws.{HasPart-first}
 use Rattle.bitvec_words.specs.TouchedLaws.{head_edge, touched-head}
 use Rattle.bitvec_words.specs.WholeLaws.{HasWindow-part, behind-mod}
 use Rattle.bitvec_cells.specs.Cost.{touched_count}

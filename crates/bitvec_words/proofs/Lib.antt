@@ -5,5 +5,5 @@ pub mod LaneLemmas
 pub mod OrderedLemmas
 pub mod PlaceLemmas
 pub mod ScanLemmas
-pub mod TurnLemmas
+pub mod ExchangeLemmas
 pub mod WordScanLemmas

@@ -17,7 +17,7 @@ use Rattle.bitvec_cells.specs.base.Window.{window_of, write_at}
 use Rattle.bitvec_cells.specs.base.WriteLaws.{write_at-all}
 use Rattle.bitvec_words.specs.CombinedLaws.{length-elements}
 use Rattle.bitvec_words.specs.Elements.{HasElements, elements_window}
-use Rattle.bitvec_words.specs.Field.{padded}
+use Rattle.bitvec_words.specs.ShortWindow.{padded}
 use Rattle.bitvec_words.specs.FieldLaws.{element_of, list-element}
 use Rattle.bitvec_words.specs.MovedLaws.{element-joined}
 use Rattle.bitvec_words.specs.WordLaws.{padded-all, word_whole}

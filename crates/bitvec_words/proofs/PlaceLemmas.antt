@@ -14,7 +14,7 @@ use Rattle.bitvec_cells.specs.store.WidthLaws.{width_some}
 use Rattle.bitvec_cells.specs.WalkLaws.{Walked-start, first-len, first-place}
 use Rattle.bitvec_words.specs.Elements.{elements_window}
 use Rattle.bitvec_words.specs.FieldLaws.{element_of, first_part-long}
-use Rattle.bitvec_words.specs.FieldWalkLaws.{HasPart-first}
+use Rattle.bitvec_words.specs.PartWalkLaws.{HasPart-first}
 use Rattle.bitvec_words.specs.Front.{front_window}
 use Rattle.bitvec_words.specs.TouchedLaws.{head_edge, touched-head, touched-rest}
 use Rattle.bitvec_words.specs.WholeLaws.{HasWindow-part}

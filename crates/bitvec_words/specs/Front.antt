@@ -3,7 +3,7 @@ use Rattle.std.specs.Prelude.{◌≡◌, ℕ, ◌+◌, ◌%◌, ◌<◌, ◌≤�
 use Rattle.bitvec_cells.specs.base.declared.window.Window.{Window}
 use Rattle.bitvec_cells.specs.base.Memory.{element_bits, list_in}
 use Rattle.bitvec_cells.specs.base.Window.{window_range}
-use Rattle.bitvec_words.specs.Field.{padded}
+use Rattle.bitvec_words.specs.ShortWindow.{padded}
 
 -- the first `count` bits of the window are those of the word, whose others are 0; where more are left, and elements are not wider than a word, one begins behind them
 pub record IsFront (b : ℕ) (at : ℕ → ℕ → ℕ) (xs : List ℕ) (window : Window) (word count : ℕ) : Type 0 where

@@ -22,4 +22,4 @@ mirrored b v =
     ∙ get-element_bits b (λ n i. n - 1 - i) v (b - 1 - k) d (omega arith)))
 
 pub reversed-lowest : (b : ℕ) (v w : ℕ) → element_bits b (λ n i. n - 1 - i) w ≡ reverse (element_bits b (λ n i. n - 1 - i) v) → element_bits b (λ n i. i) w ≡ element_bits b (λ n i. n - 1 - i) v
-reversed-lowest b v w turned = mirrored b w ∙ ap reverse turned ∙ reverse-reverse (element_bits b (λ n i. n - 1 - i) v)
+reversed-lowest b v w back = mirrored b w ∙ ap reverse back ∙ reverse-reverse (element_bits b (λ n i. n - 1 - i) v)

@@ -2,9 +2,9 @@ pub mod Cited
 pub mod CombinedLaws
 pub mod ElementLaws
 pub mod Elements
-pub mod Field
+pub mod Exchanged
 pub mod FieldLaws
-pub mod FieldWalkLaws
+pub mod PartWalkLaws
 pub mod FillingLaws
 pub mod Front
 pub mod FrontLaws
@@ -15,9 +15,9 @@ pub mod OrderEnd
 pub mod OrderEndLaws
 pub mod SameLaws
 pub mod ShiftedLaws
+pub mod ShortWindow
 pub mod Spans
 pub mod TouchedLaws
-pub mod Turn
 pub mod WholeLaws
 pub mod WordLaws
 pub mod walk

@@ -16,7 +16,7 @@ use Rattle.bitvec_cells.specs.base.ShiftLaws.{bit_at_shr}
 use Rattle.bitvec_cells.specs.base.Window.{write_at}
 use Rattle.bitvec_cells.specs.base.WriteLaws.{get-slice_range, get-write_at_above, get-write_at_below, get-write_at_inside, length-slice_range, range-write_at}
 use Rattle.bitvec_words.specs.ElementLaws.{element-or}
-use Rattle.bitvec_words.specs.Field.{lowest_bit, padded}
+use Rattle.bitvec_words.specs.ShortWindow.{lowest_bit, padded}
 use Rattle.bitvec_words.specs.OrderEnd.{RunsFrom}
 
 -- ---- numbers
@@ -25,22 +25,22 @@ use Rattle.bitvec_words.specs.OrderEnd.{RunsFrom}
 cut-inside : (v down len up p : ℕ) → up ≤ p → p < len + up → bit_at (v / 2 ^ down % 2 ^ len * 2 ^ up) p ≡ bit_at v (p - up + down)
 cut-inside v down len up p low high =
     let shifted = v / 2 ^ down in
-    let field = shifted % 2 ^ len in
-    let none : field * 2 ^ up + 0 ≡ field * 2 ^ up = omega arith in
+    let word = shifted % 2 ^ len in
+    let none : word * 2 ^ up + 0 ≡ word * 2 ^ up = omega arith in
     sym (ap (λ (n : ℕ). bit_at n p) none)
-    ∙ bit_at_cat_high field up 0 p (pow_pos up) low
-    ∙ sym (bit_at_cat_low (shifted / 2 ^ len) len field (p - up) (omega arith))
+    ∙ bit_at_cat_high word up 0 p (pow_pos up) low
+    ∙ sym (bit_at_cat_low (shifted / 2 ^ len) len word (p - up) (omega arith))
     ∙ ap (λ (n : ℕ). bit_at n (p - up)) (shr_split shifted len)
     ∙ bit_at_shr v down (p - up)
 
 cut-outside : (v down len up p : ℕ) → (p < up) ⊎ (len + up ≤ p) → bit_at (v / 2 ^ down % 2 ^ len * 2 ^ up) p ≡ 0
 cut-outside v down len up p out =
-    let field = v / 2 ^ down % 2 ^ len in
-    let none : field * 2 ^ up + 0 ≡ field * 2 ^ up = omega arith in
+    let word = v / 2 ^ down % 2 ^ len in
+    let none : word * 2 ^ up + 0 ≡ word * 2 ^ up = omega arith in
     sym (ap (λ (n : ℕ). bit_at n p) none)
     ∙ ⊎_elim
-    (λ (below : p < up). bit_at_cat_low field up 0 p below ∙ bit_at-zero p)
-    (λ (above : len + up ≤ p). bit_at_cat_high field up 0 p (pow_pos up) (omega arith) ∙ bit_at_above field len (p - up) (mod_below (v / 2 ^ down) (2 ^ len) (pow_pos len)) (omega arith))
+    (λ (below : p < up). bit_at_cat_low word up 0 p below ∙ bit_at-zero p)
+    (λ (above : len + up ≤ p). bit_at_cat_high word up 0 p (pow_pos up) (omega arith) ∙ bit_at_above word len (p - up) (mod_below (v / 2 ^ down) (2 ^ len) (pow_pos len)) (omega arith))
     out
 
 masked_field : (t v len : ℕ) → len ≤ t → bit_and v ((2 ^ t - 1) / 2 ^ (t - len)) ≡ v % 2 ^ len
@@ -70,7 +70,7 @@ cut-none v down up = let none : v / 2 ^ down % 2 ^ 0 ≡ 0 = omega arith in rw n
 abbrev end_bit : Bool → ℕ → ℕ → ℕ
 end_bit high b i = if high then b - 1 - i else i
 
--- those of a field end within the element
+-- those of a word end within the element
 pub lowest_bit-fits : (high : Bool) (b from len : ℕ) → from + len ≤ b → len + lowest_bit high b from len ≤ b
 lowest_bit-fits true b from len fits = omega arith
 lowest_bit-fits false b from len fits = omega arith
@@ -86,10 +86,10 @@ outside_place false c len to i target below out = ⊎_elim (λ before. inl (omeg
 
 -- ---- elements
 
--- a field moved to another element
-pub field-element : (high : Bool) (at : ℕ → ℕ → ℕ) → ((b : ℕ) → RunsFrom high b at) → (b c v from len to : ℕ) → from + len ≤ b → to + len ≤ c
+-- a word moved to another element
+pub word-element : (high : Bool) (at : ℕ → ℕ → ℕ) → ((b : ℕ) → RunsFrom high b at) → (b c v from len to : ℕ) → from + len ≤ b → to + len ≤ c
     → element_bits c at (v / 2 ^ lowest_bit high b from len % 2 ^ len * 2 ^ lowest_bit high c to len) ≡ write_at (replicate c false) to (slice_range (element_bits b at v) from (from + len))
-field-element high at ends b c v from len to source target =
+word-element high at ends b c v from len to source target =
     let down = lowest_bit high b from len in
     let up = lowest_bit high c to len in
     let cut = v / 2 ^ down % 2 ^ len * 2 ^ up in
@@ -110,12 +110,12 @@ field-element high at ends b c v from len to source target =
     ∙ sym (bit_at-zero (at c i)))
     ∙ ap (λ l. write_at l to new) (element-none c at)
 
--- a field of no bits
-pub field-none : (high : Bool) (at : ℕ → ℕ → ℕ) → ((b : ℕ) → RunsFrom high b at) → (b c v from len to : ℕ) → len ≡ 0 → from + len ≤ b → to + len ≤ c
+-- a word of no bits
+pub word-none : (high : Bool) (at : ℕ → ℕ → ℕ) → ((b : ℕ) → RunsFrom high b at) → (b c v from len to : ℕ) → len ≡ 0 → from + len ≤ b → to + len ≤ c
     → element_bits c at 0 ≡ write_at (replicate c false) to (slice_range (element_bits b at v) from (from + len))
-field-none high at ends b c v from len to none source target =
+word-none high at ends b c v from len to none source target =
     rw none
-    (ap (element_bits c at) (cut-none v (lowest_bit high b from 0) (lowest_bit high c to 0)) ∙ field-element high at ends b c v from 0 to (omega arith) (omega arith))
+    (ap (element_bits c at) (cut-none v (lowest_bit high b from 0) (lowest_bit high c to 0)) ∙ word-element high at ends b c v from 0 to (omega arith) (omega arith))
 
 -- ---- lists with zeros behind them
 
@@ -127,9 +127,9 @@ pub take-padded : (b n : ℕ) (list : List Bool) → n ≡ length list → take 
 unfolding padded
 take-padded b n list long = same_lists _ _ (search (rules, places)) (λ k d inside. grind (arith, places))
 
--- what a field's first bits are
-pub take-field : (b n : ℕ) (bits list : List Bool) → bits ≡ padded b list → n ≡ length list → take n bits ≡ list
-take-field b n bits list field long = ap (take n) field ∙ take-padded b n list long
+-- what a word's first bits are
+pub take-word : (b n : ℕ) (bits list : List Bool) → bits ≡ padded b list → n ≡ length list → take n bits ≡ list
+take-word b n bits list word long = ap (take n) word ∙ take-padded b n list long
 
 pub length-padded : (b : ℕ) (list : List Bool) → length list ≤ b → length (padded b list) ≡ b
 unfolding padded
@@ -190,8 +190,8 @@ element-joined b at v w n list part long fits left right =
     ∙ padded-joined b n list part long fits
 
 -- what was put into an element at a place stands there
-pub field-there : (b from to : ℕ) (old new : List Bool) → length old ≡ b → to ≤ b → length new ≡ to - from → from ≤ to → slice_range (write_at old from new) from to ≡ new
-field-there b from to old new whole bound long order =
+pub word-there : (b from to : ℕ) (old new : List Bool) → length old ≡ b → to ≤ b → length new ≡ to - from → from ≤ to → slice_range (write_at old from new) from to ≡ new
+word-there b from to old new whole bound long order =
     ap (λ (e : ℕ). slice_range (write_at old from new) from e) (let end : to ≡ from + length new = omega arith in end) ∙ range-write_at old from new (omega arith)
 
 -- the first n values, and those from there on

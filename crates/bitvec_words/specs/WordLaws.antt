@@ -11,7 +11,7 @@ use Rattle.bitvec_cells.specs.base.WritesLaws.{Writes-empty, Writes-is}
 use Rattle.bitvec_cells.specs.store.Width.{IsWidth}
 use Rattle.bitvec_cells.specs.store.WidthLaws.{at_each_width, width_some}
 use Rattle.bitvec_words.specs.Elements.{elements_window}
-use Rattle.bitvec_words.specs.Field.{padded}
+use Rattle.bitvec_words.specs.ShortWindow.{padded}
 use Rattle.bitvec_words.specs.FieldLaws.{element_of}
 
 -- ---- numbers

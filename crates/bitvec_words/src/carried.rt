@@ -1,4 +1,4 @@
-//! Elements as a loop carries them from one turn to the next, to join each with the next one.
+//! Elements as a loop carries them from one pass to the next, to join each with the next one.
 ghost use Rattle.std.specs.Prelude.{◌≡◌, ℕ, ◌<◌, ◌++◌, take, drop, ⊤};
 ghost use Rattle.bitvec_cells.specs.base.Memory.{element_bits};
 
@@ -24,8 +24,8 @@ pub trait Carried<T: BitStore>: Copy + Drop {
         requires { fits T.BITS }
         ensures { T.value result ≡ value self.now };
 
-    /// The element that stands `skip` bits into this one and the next one side by side, as
-    /// [`crate::joined`] gives it. Condition: `skip` is above 0 and below the width.
+    /// The element that stands `skip` bits into this one and the next one side by side, as [`crate::joined`] gives
+    /// it. Condition: `skip` is above 0 and below the width.
     fn joined<O: WordOrder>(&self, next: &Self, skip: usize) -> T
         requires width { fits T.BITS }
         requires some { 0 < skip }

@@ -5,8 +5,8 @@ ghost use Rattle.bitvec_cells.specs.Access.{OnlyReads};
 ghost use Rattle.bitvec_cells.specs.Cost.{touched_count};
 ghost use Rattle.bitvec_words.specs.Elements.{elements_window};
 
-use crate::fields::WORD_BITS;
 use crate::word_elements::load_elements;
+use crate::word_parts::WORD_BITS;
 use bitvec_cells::base::{BitOrder, Lsb0, Window, first_part, tail_part, whole_elements};
 use bitvec_cells::store::BitStore;
 use bitvec_cells::{CellsRead, count_part};
@@ -14,8 +14,8 @@ use bitvec_cells::{CellsRead, count_part};
 /// The words of a block.
 const BLOCK_WORDS: usize = 4;
 
-/// How many bits of a window are 1. Condition: the memory has at most `MAX_BITS` bits, and the
-/// window lies in it. It loads each element that the window touches once.
+/// How many bits of a window are 1. Condition: the memory has at most `MAX_BITS` bits, and the window lies in it.
+/// It loads each element that the window touches once.
 pub fn count<O: BitOrder, C: CellsRead>(cells: &mut C, window: Window) -> usize
     requires { HasWindow C.Elem.BITS (C.numbers cells.old) window }
     ensures value { result ≡ count_by (λ bit. bit) (list_in C.Elem.BITS O.at (C.numbers cells.old) window) }
@@ -54,8 +54,8 @@ fn count_aligned<O: BitOrder, C: CellsRead>(cells: &mut C, window: Window) -> us
     ones + count_part::<O, C>(cells, tail)
 }
 
-/// How many bits of `count` whole elements are 1, of elements narrower than a word by the word. It loads
-/// each element once.
+/// How many bits of `count` whole elements are 1, of elements narrower than a word by the word. It loads each
+/// element once.
 fn count_whole<O: BitOrder, C: CellsRead>(cells: &mut C, first: usize, count: usize) -> usize
     requires { HasWindow C.Elem.BITS (C.numbers cells.old) (elements_window C.Elem.BITS first count) }
     ensures value { result
@@ -73,9 +73,9 @@ fn count_whole<O: BitOrder, C: CellsRead>(cells: &mut C, first: usize, count: us
     ones + count_elements::<O, C>(cells, first + passed, count - passed)
 }
 
-/// How many bits of the elements of `count` words are 1: as many as the words have, which are gathered
-/// in one order, since a whole element has as many in each. Condition: the elements are narrower than a
-/// word. It loads each element once.
+/// How many bits of the elements of `count` words are 1: as many as the words have, which are gathered in one
+/// order, since a whole element has as many in each. Condition: the elements are narrower than a word. It loads
+/// each element once.
 #[inline(always)]
 fn count_words<C: CellsRead>(cells: &mut C, first: usize, count: usize) -> usize
     requires window { HasWindow C.Elem.BITS (C.numbers cells.old) (elements_window C.Elem.BITS first (count * (64 / C.Elem.BITS))) }
@@ -140,8 +140,8 @@ fn count_elements<O: BitOrder, C: CellsRead>(cells: &mut C, first: usize, count:
     ones
 }
 
-/// How many bits of a window are 0. Condition: as for [`count`]. It loads each element that the
-/// window touches once.
+/// How many bits of a window are 0. Condition: as for [`count`]. It loads each element that the window touches
+/// once.
 pub fn count_zeros<O: BitOrder, C: CellsRead>(cells: &mut C, window: Window) -> usize
     requires { HasWindow C.Elem.BITS (C.numbers cells.old) window }
     ensures value { result ≡ count_by not (list_in C.Elem.BITS O.at (C.numbers cells.old) window) }

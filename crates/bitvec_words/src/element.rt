@@ -3,14 +3,14 @@ ghost use Rattle.std.specs.Prelude.{◌≡◌, ◌<◌, ◌≤◌, ◌++◌, tak
 ghost use Rattle.bitvec_cells.specs.base.Lists.{same_bits, shifted_end, shifted_start};
 ghost use Rattle.bitvec_cells.specs.base.Memory.{element_bits};
 ghost use Rattle.bitvec_cells.specs.base.Window.{write_at};
-ghost use Rattle.bitvec_words.specs.Turn.{exchanged_bits};
+ghost use Rattle.bitvec_words.specs.Exchanged.{exchanged_bits};
 
 use crate::WordOrder;
 use bitvec_cells::base::BitOrder;
 use bitvec_cells::store::BitStore;
 
-/// The element whose bits stand `by` places nearer to its start, with zeros at the end.
-/// Condition: `by` is below the width. Cost: one shift.
+/// The element whose bits stand `by` places nearer to its start, with zeros at the end. Condition: `by` is below
+/// the width. Cost: one shift.
 pub fn toward_start<O: WordOrder, T: BitStore>(element: T, by: usize) -> T
     requires { by < T.BITS }
     ensures { element_bits T.BITS O.at (T.value result)
@@ -23,8 +23,8 @@ pub fn toward_start<O: WordOrder, T: BitStore>(element: T, by: usize) -> T
     element.shr(by as u32)
 }
 
-/// The element whose bits stand `by` places nearer to its end, with zeros at the start.
-/// Condition: `by` is below the width. Cost: one shift.
+/// The element whose bits stand `by` places nearer to its end, with zeros at the start. Condition: `by` is below
+/// the width. Cost: one shift.
 pub fn toward_end<O: WordOrder, T: BitStore>(element: T, by: usize) -> T
     requires { by < T.BITS }
     ensures { element_bits T.BITS O.at (T.value result)
@@ -37,9 +37,8 @@ pub fn toward_end<O: WordOrder, T: BitStore>(element: T, by: usize) -> T
     element.shl(by as u32)
 }
 
-/// The element that stands `skip` bits into two elements side by side: the bits of `first` from
-/// index `skip` on, and then the first `skip` bits of `second`. Condition: `skip` is above 0 and
-/// below the width. Cost: two shifts.
+/// The element that stands `skip` bits into two elements side by side: the bits of `first` from index `skip` on,
+/// and then the first `skip` bits of `second`. Condition: `skip` is above 0 and below the width. Cost: two shifts.
 pub fn joined<O: WordOrder, T: BitStore>(first: T, second: T, skip: usize) -> T
     requires some { 0 < skip }
     requires bound { skip < T.BITS }
@@ -52,8 +51,8 @@ pub fn joined<O: WordOrder, T: BitStore>(first: T, second: T, skip: usize) -> T
     toward_start::<O, T>(first, skip).xor(carried)
 }
 
-/// The old element with the bits at the indices from `from` up to, without, `to` taken from the
-/// new one. Condition: `from <= to`, and `to` is at most the width. Cost: one mask.
+/// The old element with the bits at the indices from `from` up to, without, `to` taken from the new one. Condition:
+/// `from <= to`, and `to` is at most the width. Cost: one mask.
 pub fn merged<O: BitOrder, T: BitStore>(old: T, new: T, from: usize, to: usize) -> T
     requires order { from ≤ to }
     requires bound { to ≤ T.BITS }
@@ -65,27 +64,27 @@ pub fn merged<O: BitOrder, T: BitStore>(old: T, new: T, from: usize, to: usize) 
     old.and(mask.not()).or(new.and(mask))
 }
 
-/// The element with its bits in the reverse order. Cost: for each time that the width can be
-/// halved, one exchange of blocks of its bits.
+/// The element with its bits in the reverse order. Cost: for each time that the width can be halved, one exchange
+/// of blocks of its bits.
 #[inline(always)]
 pub fn reversed<O: WordOrder, T: BitStore>(element: T) -> T
     ensures { element_bits T.BITS O.at (T.value result)
         ≡ reverse (element_bits T.BITS O.at (T.value element)) }
 {
-    let mut turned = element;
+    let mut mirrored = element;
     // every other block of `size` bits, from the least significant one
     let mut lower = T::ALL;
     let mut size = T::BITS;
     while size > 1 {
         size /= 2;
         lower = lower.xor(lower.shl(size));
-        turned = exchanged(turned, lower, size);
+        mirrored = exchanged(mirrored, lower, size);
     }
-    turned
+    mirrored
 }
 
-/// The element with each bit of `lower` exchanged with the bit `by` places above it. Condition:
-/// `by` is below the width.
+/// The element with each bit of `lower` exchanged with the bit `by` places above it. Condition: `by` is below the
+/// width.
 #[inline(always)]
 fn exchanged<T: BitStore>(element: T, lower: T, by: u32) -> T
     requires { by < T.BITS }
@@ -96,8 +95,8 @@ fn exchanged<T: BitStore>(element: T, lower: T, by: u32) -> T
     moved_down.or(moved_up)
 }
 
-/// Whether two elements have the same bits at the indices from `from` up to, without, `to`.
-/// Condition: `from <= to`, and `to` is at most the width. Cost: one mask.
+/// Whether two elements have the same bits at the indices from `from` up to, without, `to`. Condition: `from <=
+/// to`, and `to` is at most the width. Cost: one mask.
 pub fn same_between<O: BitOrder, T: BitStore>(element: T, other: T, from: usize, to: usize) -> bool
     requires order { from ≤ to }
     requires bound { to ≤ T.BITS }

@@ -9,9 +9,9 @@ use bitvec_cells::base::{BitOrder, Window, first_part, tail_part, whole_elements
 use bitvec_cells::store::BitStore;
 use bitvec_cells::{Cells, CellsRead, fill_part, invert_part};
 
-/// Makes each bit of a window `bit`; all other bits of the memory stay. Condition: the memory has
-/// at most `MAX_BITS` bits, and the window lies in it. It stores each element that the window
-/// touches once, and loads at most the first and the last of them.
+/// Makes each bit of a window `bit`; all other bits of the memory stay. Condition: the memory has at most
+/// `MAX_BITS` bits, and the window lies in it. It stores each element that the window touches once, and loads at
+/// most the first and the last of them.
 pub fn fill<O: BitOrder, C: Cells>(cells: &mut C, window: Window, bit: bool)
     requires { HasWindow C.Elem.BITS (C.numbers cells.old) window }
     ensures writes { Writes C.Elem.BITS O.at (C.numbers cells.old) (C.numbers cells.new) window
@@ -68,8 +68,7 @@ fn fill_whole<O: BitOrder, C: Cells>(cells: &mut C, first: usize, count: usize, 
     }
 }
 
-/// Stores an element into `count` elements, each with one store. If all its bits are the same, so
-/// are theirs.
+/// Stores an element into `count` elements, each with one store. If all its bits are the same, so are theirs.
 fn store_whole<O: BitOrder, C: Cells>(cells: &mut C, first: usize, count: usize, element: C::Elem)
     requires { HasWindow C.Elem.BITS (C.numbers cells.old) (elements_window C.Elem.BITS first count) }
     ensures writes { (bit : Bool) → C.Elem.value element ≡ (if bit then 2 ^ C.Elem.BITS - 1 else 0) →
@@ -82,8 +81,8 @@ fn store_whole<O: BitOrder, C: Cells>(cells: &mut C, first: usize, count: usize,
     }
 }
 
-/// Flips each bit of a window; all other bits of the memory stay. Condition: as for [`fill`]. It
-/// loads and stores each element that the window touches once.
+/// Flips each bit of a window; all other bits of the memory stay. Condition: as for [`fill`]. It loads and stores
+/// each element that the window touches once.
 pub fn invert<O: BitOrder, C: Cells>(cells: &mut C, window: Window)
     requires { HasWindow C.Elem.BITS (C.numbers cells.old) window }
     ensures writes { Edits C.Elem.BITS O.at (C.numbers cells.old) (C.numbers cells.new) window (map not) }

@@ -4,19 +4,18 @@ ghost use Rattle.bitvec_cells.specs.base.Memory.{HasWindow, element_bits};
 ghost use Rattle.bitvec_cells.specs.Access.{OnlyReads};
 ghost use Rattle.bitvec_words.specs.Front.{IsFront, front_window};
 ghost use Rattle.bitvec_cells.specs.Cost.{touched_count};
-ghost use Rattle.bitvec_words.specs.Field.{padded};
+ghost use Rattle.bitvec_words.specs.ShortWindow.{padded};
 
-use crate::fields::{WORD_BITS, moved};
 use crate::word_elements::load_elements;
 use crate::word_order::WordOrder;
+use crate::word_parts::{WORD_BITS, moved};
 use bitvec_cells::CellsRead;
 use bitvec_cells::base::{BitOrder, Lsb0, Part, Window, first_part};
 use bitvec_cells::store::BitStore;
 
-/// The first bits of a window as the first bits of a word, and how many they are: 64 where it begins
-/// with an element that isn't wider and has so many, else those of the first element, up to 64.
-/// Condition: the window isn't empty, and lies in a memory of at most `MAX_BITS` bits. It loads each
-/// element that these bits touch once.
+/// The first bits of a window as the first bits of a word, and how many they are: 64 where it begins with an
+/// element that isn't wider and has so many, else those of the first element, up to 64. Condition: the window isn't
+/// empty, and lies in a memory of at most `MAX_BITS` bits. It loads each element that these bits touch once.
 #[inline(always)]
 pub fn words_load_front<O: WordOrder, C: CellsRead>(cells: &mut C, window: Window) -> (u64, usize)
     requires window { HasWindow C.Elem.BITS (C.numbers cells.old) window }
@@ -60,8 +59,7 @@ fn front_window(window: Window) -> Window
     }
 }
 
-/// The word whose bit number `i`, from the least significant one, is the bit at index `i` of the
-/// order.
+/// The word whose bit number `i`, from the least significant one, is the bit at index `i` of the order.
 pub fn bits_lowest_first<O: BitOrder>(word: u64) -> u64
     ensures { element_bits 64 (λ b i. i) result ≡ element_bits 64 O.at word }
 {
@@ -73,9 +71,8 @@ pub fn bits_lowest_first<O: BitOrder>(word: u64) -> u64
     gathered::<O, Lsb0, u64>(word, part)
 }
 
-/// The bits of a part of an element under one order as the first bits of a word under another; the
-/// word's other bits are 0. Condition: `from <= to`, `to` is at most the width, and the part has at
-/// most 64 bits.
+/// The bits of a part of an element under one order as the first bits of a word under another; the word's other
+/// bits are 0. Condition: `from <= to`, `to` is at most the width, and the part has at most 64 bits.
 #[inline(always)]
 pub fn gathered<O: BitOrder, P: BitOrder, T: BitStore>(element: T, part: Part) -> u64
     requires order { part.from ≤ part.to }

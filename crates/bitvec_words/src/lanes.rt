@@ -1,5 +1,4 @@
-//! Elements of 128 bits as two words side by side in one register of the processor, which shifts
-//! both at once.
+//! Elements of 128 bits as two words side by side in one register of the processor, which shifts both at once.
 ghost use Rattle.std.specs.Prelude.{◌≡◌, ◌^◌, ◌<◌, ⊤};
 ghost use Rattle.bitvec_words.specs.Lanes.{AreJoined, AreWords, number_of_words, words_between};
 

@@ -1,11 +1,10 @@
-//! Elements as words: their bits moved, joined, merged and reversed many at a time; parts of elements
-//! and fields of words, loaded and stored; windows filled, flipped, counted and searched.
+//! Elements as words: their bits moved, joined, merged and reversed many at a time; parts of elements and fields of
+//! words, loaded and stored; windows filled, flipped, counted and searched.
 #![tactic(auto)]
 
 mod carried;
 mod counting;
 mod element;
-mod fields;
 mod filling;
 mod fronts;
 mod lanes;
@@ -15,6 +14,7 @@ mod scanning;
 mod scanning_words;
 mod word_elements;
 mod word_order;
+mod word_parts;
 
 /// Items of `bitvec_base` that crates above use.
 pub mod base {
@@ -45,13 +45,13 @@ pub mod walk {
 pub use carried::{Carried, Whole};
 pub use counting::{count, count_zeros};
 pub use element::{joined, merged, reversed, same_between, toward_end, toward_start};
-pub use fields::{WORD_BITS, load_field, moved, store_field};
 pub use filling::{fill, invert};
 pub use fronts::{bits_load_front, bits_lowest_first, gathered, words_load_front};
 pub use lanes::Lanes;
 pub use operator::BitOp;
-pub use part::{field, field_after, store_part};
+pub use part::{load_element, load_element_after, store_part};
 pub use scanning::{bits_scan_first, bits_scan_last};
 pub use scanning_words::words_scan_first;
 pub use word_elements::{load_elements, store_elements};
 pub use word_order::WordOrder;
+pub use word_parts::{WORD_BITS, load_parts, moved, store_parts};

@@ -4,7 +4,7 @@ ghost use Rattle.bitvec_cells.specs.base.Memory.{Writes, element_bits, list_in};
 ghost use Rattle.bitvec_cells.specs.base.Parts.{HasPart, part_window};
 ghost use Rattle.bitvec_cells.specs.Access.{Costs, OnlyReads};
 ghost use Rattle.bitvec_cells.specs.Cost.{part_loads, touched_count};
-ghost use Rattle.bitvec_words.specs.Field.{HasField};
+ghost use Rattle.bitvec_words.specs.ShortWindow.{HasShortWindow};
 
 use crate::WordOrder;
 use crate::element::{joined, merged, toward_start};
@@ -12,8 +12,8 @@ use bitvec_cells::base::{BitOrder, Part, Window};
 use bitvec_cells::store::BitStore;
 use bitvec_cells::{Cells, CellsRead};
 
-/// Gives a part the bits that an element has at the same indices. Condition: the part is one of an
-/// element of the memory. It takes one store, and one load unless the part is a whole element.
+/// Gives a part the bits that an element has at the same indices. Condition: the part is one of an element of the
+/// memory. It takes one store, and one load unless the part is a whole element.
 pub fn store_part<O: BitOrder, C: Cells>(cells: &mut C, part: Part, element: C::Elem)
     requires { HasPart C.Elem.BITS (C.numbers cells.old) part }
     ensures writes { Writes C.Elem.BITS O.at (C.numbers cells.old) (C.numbers cells.new) (part_window C.Elem.BITS part)
@@ -31,11 +31,11 @@ pub fn store_part<O: BitOrder, C: Cells>(cells: &mut C, part: Part, element: C::
     );
 }
 
-/// An element that begins with the bits of a window of at most an element's width, and the last
-/// element that the window touches. Condition: the memory has at most `MAX_BITS` bits, the window
-/// lies in it and isn't empty. It loads each element that the window touches once.
-pub fn field<O: WordOrder, C: CellsRead>(cells: &mut C, window: Window) -> (C::Elem, C::Elem)
-    requires { HasField C.Elem.BITS (C.numbers cells.old) window }
+/// An element that begins with the bits of a window of at most an element's width, and the last element that the
+/// window touches. Condition: the memory has at most `MAX_BITS` bits, the window lies in it and isn't empty. It
+/// loads each element that the window touches once.
+pub fn load_element<O: WordOrder, C: CellsRead>(cells: &mut C, window: Window) -> (C::Elem, C::Elem)
+    requires { HasShortWindow C.Elem.BITS (C.numbers cells.old) window }
     ensures value { take window.len (element_bits C.Elem.BITS O.at (C.Elem.value result.0))
         ≡ list_in C.Elem.BITS O.at (C.numbers cells.old) window }
     ensures last { C.Elem.value result.1
@@ -43,17 +43,16 @@ pub fn field<O: WordOrder, C: CellsRead>(cells: &mut C, window: Window) -> (C::E
     ensures reads { OnlyReads C.CellsRead cells.old cells.new (touched_count C.Elem.BITS window.start window.len) }
 {
     let first = cells.load(window.start / C::Elem::BITS as usize);
-    field_after::<O, C>(cells, window, first)
+    load_element_after::<O, C>(cells, window, first)
 }
 
-/// A field of a window whose first element was loaded before, and isn't loaded
-/// again.
-pub fn field_after<O: WordOrder, C: CellsRead>(
+/// A word of a window whose first element was loaded before, and isn't loaded again.
+pub fn load_element_after<O: WordOrder, C: CellsRead>(
     cells: &mut C,
     window: Window,
     first: C::Elem,
 ) -> (C::Elem, C::Elem)
-    requires field { HasField C.Elem.BITS (C.numbers cells.old) window }
+    requires short { HasShortWindow C.Elem.BITS (C.numbers cells.old) window }
     requires first { C.Elem.value first ≡ slice_index (C.numbers cells.old) (window.start / C.Elem.BITS) }
     ensures value { take window.len (element_bits C.Elem.BITS O.at (C.Elem.value result.0))
         ≡ list_in C.Elem.BITS O.at (C.numbers cells.old) window }

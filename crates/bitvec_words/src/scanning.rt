@@ -12,9 +12,9 @@ use bitvec_cells::{
     CellsRead, filled, first_in_element, first_in_part, last_in_element, last_in_part,
 };
 
-/// The index of a window's first bit that is `want`, if there is one. Condition: the memory has at
-/// most `MAX_BITS` bits, and the window lies in it. It loads each element that the window touches
-/// at most once, from the first on, and none behind the bit.
+/// The index of a window's first bit that is `want`, if there is one. Condition: the memory has at most `MAX_BITS`
+/// bits, and the window lies in it. It loads each element that the window touches at most once, from the first on,
+/// and none behind the bit.
 pub fn bits_scan_first<O: BitOrder, C: CellsRead>(
     cells: &mut C,
     window: Window,
@@ -67,8 +67,7 @@ fn first_aligned<O: BitOrder, C: CellsRead>(
     Some(count * bits + found)
 }
 
-/// The first of `count` whole elements, each of which is passed by one comparison if it lacks the
-/// bit.
+/// The first of `count` whole elements, each of which is passed by one comparison if it lacks the bit.
 pub(crate) fn first_whole<O: BitOrder, C: CellsRead>(
     cells: &mut C,
     first: usize,
@@ -98,9 +97,8 @@ pub(crate) fn first_whole<O: BitOrder, C: CellsRead>(
     None
 }
 
-/// The index of a window's last bit that is `want`, if there is one. Condition: as for
-/// [`bits_scan_first`]. It loads each element that the window touches at most once, from the last
-/// on, and none before the bit.
+/// The index of a window's last bit that is `want`, if there is one. Condition: as for [`bits_scan_first`]. It
+/// loads each element that the window touches at most once, from the last on, and none before the bit.
 pub fn bits_scan_last<O: BitOrder, C: CellsRead>(
     cells: &mut C,
     window: Window,
@@ -148,8 +146,7 @@ fn last_aligned<O: BitOrder, C: CellsRead>(
     last_whole::<O, C>(cells, first, count, want)
 }
 
-/// The last of `count` whole elements, each of which is passed by one comparison if it lacks the
-/// bit.
+/// The last of `count` whole elements, each of which is passed by one comparison if it lacks the bit.
 fn last_whole<O: BitOrder, C: CellsRead>(
     cells: &mut C,
     first: usize,

@@ -6,10 +6,10 @@ ghost use Rattle.bitvec_cells.specs.Access.{OnlyReads, OnlyReadsAtMost};
 ghost use Rattle.bitvec_cells.specs.Cost.{touched_count};
 ghost use Rattle.bitvec_words.specs.Elements.{HasElements, elements_window};
 
-use crate::fields::WORD_BITS;
 use crate::scanning::first_whole;
 use crate::word_elements::{load_elements, ordered};
 use crate::word_order::WordOrder;
+use crate::word_parts::WORD_BITS;
 use bitvec_cells::base::{BitOrder, Lsb0, Part, Window, first_part};
 use bitvec_cells::store::BitStore;
 use bitvec_cells::{CellsRead, filled, first_in_element, first_in_part};
@@ -17,9 +17,9 @@ use bitvec_cells::{CellsRead, filled, first_in_element, first_in_part};
 /// The bits of a block, which is four words.
 const BLOCK_BITS: usize = 4 * WORD_BITS;
 
-/// The index of a window's first bit that is `want`, if there is one. Condition: the memory has at
-/// most `MAX_BITS` bits, and the window lies in it. It loads each element that the window touches at
-/// most once, those of a block together.
+/// The index of a window's first bit that is `want`, if there is one. Condition: the memory has at most `MAX_BITS`
+/// bits, and the window lies in it. It loads each element that the window touches at most once, those of a block
+/// together.
 #[inline(always)]
 pub fn words_scan_first<O: WordOrder, C: CellsRead>(
     cells: &mut C,
@@ -43,8 +43,8 @@ pub fn words_scan_first<O: WordOrder, C: CellsRead>(
     Some(passed + found)
 }
 
-/// The first of a window that is empty or begins where an element does: of all elements that it
-/// touches, where it isn't behind the window's end.
+/// The first of a window that is empty or begins where an element does: of all elements that it touches, where it
+/// isn't behind the window's end.
 #[inline(always)]
 fn first_from_edge<O: WordOrder, C: CellsRead>(
     cells: &mut C,
@@ -183,8 +183,8 @@ fn first_in_block<O: WordOrder, C: CellsRead>(
     first_in_pair::<O, C::Elem>(one, two, want)
 }
 
-/// The first of the elements of a block, which the machine loads as words from the least significant bit
-/// on: they are put in the order only where the block has the bit. Condition: they are not wider than a word.
+/// The first of the elements of a block, which the machine loads as words from the least significant bit on: they
+/// are put in the order only where the block has the bit. Condition: they are not wider than a word.
 #[inline(always)]
 fn first_in_narrow_block<O: WordOrder, C: CellsRead>(
     cells: &mut C,
@@ -218,9 +218,9 @@ fn lack<O: BitOrder>(one: u64, two: u64, three: u64, four: u64, want: bool) -> b
     (one ^ lacking) | (two ^ lacking) | (three ^ lacking) | (four ^ lacking) == 0
 }
 
-/// The first of the elements that four words have from their least significant bits on. Condition: they
-/// are not wider than a word. It isn't inlined, so that the loads that a word is gathered of have no other
-/// use, and the compiler makes one of them.
+/// The first of the elements that four words have from their least significant bits on. Condition: they are not
+/// wider than a word. It isn't inlined, so that the loads that a word is gathered of have no other use, and the
+/// compiler makes one of them.
 #[inline(never)]
 fn first_in_ordered<O: WordOrder, T: BitStore>(
     one: u64,

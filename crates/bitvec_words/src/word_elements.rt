@@ -4,14 +4,14 @@ ghost use Rattle.bitvec_cells.specs.base.Memory.{HasWindow, Writes, element_bits
 ghost use Rattle.bitvec_cells.specs.Access.{Costs, OnlyReads};
 ghost use Rattle.bitvec_words.specs.Elements.{SameElements, elements_window};
 
-use crate::fields::{WORD_BITS, moved};
 use crate::word_order::WordOrder;
+use crate::word_parts::{WORD_BITS, moved};
 use bitvec_cells::base::Lsb0;
 use bitvec_cells::store::BitStore;
 use bitvec_cells::{Cells, CellsRead};
 
-/// The bits of the elements of one word from the element `first` on. Condition: they are not wider than
-/// a word, and lie in a memory of at most `MAX_BITS` bits. It loads each of them once.
+/// The bits of the elements of one word from the element `first` on. Condition: they are not wider than a word, and
+/// lie in a memory of at most `MAX_BITS` bits. It loads each of them once.
 #[inline(always)]
 pub fn load_elements<O: WordOrder, C: CellsRead>(cells: &mut C, first: usize) -> u64
     requires window { HasWindow C.Elem.BITS (C.numbers cells.old) (elements_window C.Elem.BITS first (64 / C.Elem.BITS)) }
@@ -29,8 +29,7 @@ pub fn load_elements<O: WordOrder, C: CellsRead>(cells: &mut C, first: usize) ->
     word
 }
 
-/// Stores the elements of one word from the element `first` on. Condition: as for
-/// [`load_elements`].
+/// Stores the elements of one word from the element `first` on. Condition: as for [`load_elements`].
 #[inline(always)]
 pub fn store_elements<O: WordOrder, C: Cells>(cells: &mut C, first: usize, word: u64)
     requires window { HasWindow C.Elem.BITS (C.numbers cells.old) (elements_window C.Elem.BITS first (64 / C.Elem.BITS)) }
@@ -46,8 +45,8 @@ pub fn store_elements<O: WordOrder, C: Cells>(cells: &mut C, first: usize, word:
     }
 }
 
-/// The word that has under the order the elements that `word` has from its least significant bit on.
-/// Condition: they are not wider than a word.
+/// The word that has under the order the elements that `word` has from its least significant bit on. Condition:
+/// they are not wider than a word.
 #[inline(always)]
 pub(crate) fn ordered<O: WordOrder, T: BitStore>(word: u64) -> u64
     requires { T.BITS ≤ 64 }

@@ -5,8 +5,8 @@ use bitvec_cells::base::{BitOrder, Lsb0, Msb0};
 
 /// An order whose indices run through an element from one end to the other.
 ///
-/// Bits that are next to each other in it are next to each other in the element, so a shift of an
-/// element moves them all at once.
+/// Bits that are next to each other in it are next to each other in the element, so a shift of an element moves
+/// them all at once.
 pub trait WordOrder: BitOrder {
     ghost HIGH: { Bool };
 

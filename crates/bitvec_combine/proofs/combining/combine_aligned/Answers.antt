@@ -38,8 +38,8 @@ after-tail-requires-clause-bound g c =
     let b = g.C.Elem.BitStore.BITS in
     rw (c.whole_elements-source.ensures, c.BITS-bits.ensures) (whole_fits b c.args.from.len (c.args.from.len / b) (omega arith))
 
-pub field-front-requires : goal.field-front-requires
-field-front-requires g c = record {
+pub load_element-front-requires : goal.load_element-front-requires
+load_element-front-requires g c = record {
   inside = rw (c.after-tail.ensures, c.whole_elements-source.ensures, c.BITS-bits.ensures, c.combine_whole.ensures.right.numbers) ((behind-whole _ _ _ _ _ _ c.requires.span refl).beside);
   some = search rules;
   bound = rw (c.after-tail.ensures, c.whole_elements-source.ensures, c.BITS-bits.ensures) (tail-short _ _ (width_some _ g.met.C.Elem.BitStore.width_law));
@@ -102,7 +102,7 @@ returns-clause-writes g c =
     let fits : c.args.from.len / b * b ≤ c.args.from.len = omega arith in
     let first = rw (c.whole_elements-source.ensures, c.BITS-bits.ensures) at c.combine_whole.ensures.writes in
     let rest = rw (c.after-rest.ensures, c.whole_elements-source.ensures, c.BITS-bits.ensures) at c.combine_end.ensures.writes in
-    let value = rw (c.after-tail.ensures, c.whole_elements-source.ensures, c.BITS-bits.ensures, c.combine_whole.ensures.right.numbers) at c.field-front.ensures.value in
+    let value = rw (c.after-tail.ensures, c.whole_elements-source.ensures, c.BITS-bits.ensures, c.combine_whole.ensures.right.numbers) at c.load_element-front.ensures.value in
     let tail = rw (c.after-tail.ensures, c.whole_elements-source.ensures, c.BITS-bits.ensures, value) at c.padded.ensures in
     Writes-some_met _ _ (operator c.args.op) _ _ _ _ _ _ _ _ _ _ c.requires.span.window c.requires.span.beside c.requires.edge start fits c.requires.span.lengths first rest tail
 
@@ -124,5 +124,5 @@ returns-clause-right g c =
     let fits : c.args.from.len / b * b ≤ c.args.from.len = omega arith in
     let all = touched-after b c.args.from.start c.args.from.len (c.args.from.len / b) (width_some _ g.met.C.Elem.BitStore.width_law) c.requires.right_edge fits in
     let whole = rw (c.whole_elements-source.ensures, c.BITS-bits.ensures) at c.combine_whole.ensures.right in
-    let rest = rw (c.after-tail.ensures, c.whole_elements-source.ensures, c.BITS-bits.ensures) at c.field-front.ensures.reads in
+    let rest = rw (c.after-tail.ensures, c.whole_elements-source.ensures, c.BITS-bits.ensures) at c.load_element-front.ensures.reads in
     record { numbers = search rules; borrow = search rules; loads = omega arith; stores = search rules }

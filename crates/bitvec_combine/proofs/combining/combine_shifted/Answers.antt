@@ -43,8 +43,8 @@ after-tail-requires-clause-bound g c =
     let b = g.C.Elem.BitStore.BITS in
     rw c.BITS-bits.ensures (whole_fits b c.args.from.len (c.args.from.len / b) (omega arith))
 
-pub field_after-front-requires-clause-field : goal.field_after-front-requires-clause-field
-field_after-front-requires-clause-field g c = record {
+pub load_element_after-front-requires-clause-short : goal.load_element_after-front-requires-clause-short
+load_element_after-front-requires-clause-short g c = record {
   inside = rw (c.after-tail.ensures, c.BITS-bits.ensures, c.combine_joined-last.ensures.right.numbers) ((behind-whole _ _ _ _ _ _ c.requires.span refl).beside);
   some = search rules;
   bound = rw (c.after-tail.ensures, c.BITS-bits.ensures) (tail-short _ _ (width_some _ g.met.C.Elem.BitStore.width_law));
@@ -65,8 +65,8 @@ combine_end-requires-clause-edge g c =
     let some = width_some _ g.met.C.Elem.BitStore.width_law in
     rw (c.after-rest.ensures, c.BITS-bits.ensures) (behind-mod b c.args.to.start (c.args.from.len / b) some ∙ c.requires.edge)
 
-pub field_after-front-requires-clause-first : goal.field_after-front-requires-clause-first
-field_after-front-requires-clause-first g c =
+pub load_element_after-front-requires-clause-first : goal.load_element_after-front-requires-clause-first
+load_element_after-front-requires-clause-first g c =
     let b = g.C.Elem.BitStore.BITS in
     let some = width_some _ g.met.C.Elem.BitStore.width_law in
     rw (c.after-tail.ensures, c.BITS-bits.ensures, c.combine_joined-last.ensures.right.numbers, behind-element b c.args.from.start (c.args.from.len / b) some) (rw c.BITS-bits.ensures at c.combine_joined-last.ensures.carried)
@@ -111,7 +111,7 @@ returns-clause-writes g c =
     let fits : c.args.from.len / b * b ≤ c.args.from.len = omega arith in
     let first = rw c.BITS-bits.ensures at c.combine_joined-last.ensures.writes in
     let rest = rw (c.after-rest.ensures, c.BITS-bits.ensures) at c.combine_end.ensures.writes in
-    let value = rw (c.after-tail.ensures, c.BITS-bits.ensures, c.combine_joined-last.ensures.right.numbers) at c.field_after-front.ensures.value in
+    let value = rw (c.after-tail.ensures, c.BITS-bits.ensures, c.combine_joined-last.ensures.right.numbers) at c.load_element_after-front.ensures.value in
     let tail = rw (c.after-tail.ensures, c.BITS-bits.ensures, value) at c.padded.ensures in
     Writes-some_met _ _ (operator c.args.op) _ _ _ _ _ _ _ _ _ _ c.requires.span.window c.requires.span.beside c.requires.edge start fits c.requires.span.lengths first rest tail
 
@@ -134,5 +134,5 @@ returns-clause-right g c =
     let some = rw (c.after-tail.ensures, c.BITS-bits.ensures) at c.if-tail-eq0.false in
     let all = touched-from_more b c.args.from.start c.args.from.len (width_some _ g.met.C.Elem.BitStore.width_law) c.requires.inside (omega arith) in
     let whole = rw c.BITS-bits.ensures at c.combine_joined-last.ensures.right in
-    let rest = rw (c.after-tail.ensures, c.BITS-bits.ensures, long) at c.field_after-front.ensures.reads in
+    let rest = rw (c.after-tail.ensures, c.BITS-bits.ensures, long) at c.load_element_after-front.ensures.reads in
     record { numbers = search rules; borrow = search rules; loads = omega arith; stores = search rules }

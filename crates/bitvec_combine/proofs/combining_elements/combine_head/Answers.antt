@@ -24,7 +24,7 @@ returns-clause-writes g c =
     let inside : part.to ≤ length other = omega arith in
     let end : part.to ≡ part.from + (part.to - part.from) = omega arith in
     let size = length-part_list b at (g.C.CellsRead.numbers c.args.left.now) part c.requires.part in
-    let whole = rw c.field-front.ensures.value at c.padded-other.ensures in
+    let whole = rw c.load_element-front.ensures.value at c.padded-other.ensures in
     let fits : length list ≤ part.to - part.from = omega arith in
     Writes-is _ _ _ _ _ _ _ (rw c.toward_end.ensures at c.combine_part.ensures.writes)
     (ap (λ (l : List Bool). combined f list l) (range-shifted other part.from (part.to - part.from) part.to end inside)

@@ -7,11 +7,11 @@ use Rattle.bitvec_combine.proofs.comparing_shifted.equal_shifted_head.Goals as g
 
 pub returns-clause-value : goal.returns-clause-value
 returns-clause-value g c =
-    let front = element_bits g.C.Elem.BitStore.BITS g.O.BitOrder.at (g.C.Elem.BitStore.value c.field-front.result.0) in
-    let long = length-element_bits g.C.Elem.BitStore.BITS g.O.BitOrder.at (g.C.Elem.BitStore.value c.field-front.result.0) in
+    let front = element_bits g.C.Elem.BitStore.BITS g.O.BitOrder.at (g.C.Elem.BitStore.value c.load_element-front.result.0) in
+    let long = length-element_bits g.C.Elem.BitStore.BITS g.O.BitOrder.at (g.C.Elem.BitStore.value c.load_element-front.result.0) in
     let bound = c.requires.beside.part.bound in
     let inside : c.args.part.to ≤ length front = omega arith in
     let same = rw (c.load-element.ensures.value, c.toward_end-moved.ensures) at c.same_between.ensures in
     same ∙ same-lists _ _ _ _
     (sym (list-part _ _ _ _ c.requires.beside.part))
-    (range-shifted front c.args.part.from c.args.window.len c.args.part.to c.requires.lengths inside ∙ c.field-front.ensures.value)
+    (range-shifted front c.args.part.from c.args.window.len c.args.part.to c.requires.lengths inside ∙ c.load_element-front.ensures.value)

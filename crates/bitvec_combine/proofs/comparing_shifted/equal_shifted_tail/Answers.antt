@@ -9,4 +9,4 @@ returns-clause-value g c =
     let same = rw c.load-beginning.ensures.value at c.same_between.ensures in
     same ∙ same-lists _ _ _ _
     (sym (list-part _ _ _ _ c.requires.beside.part))
-    (range-from_start _ _ _ refl ∙ c.field_after-front.ensures.value)
+    (range-from_start _ _ _ refl ∙ c.load_element_after-front.ensures.value)

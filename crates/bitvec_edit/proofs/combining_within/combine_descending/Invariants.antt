@@ -8,10 +8,10 @@ abbrev pub invariant-loop-left : goal.invariant-loop-left
 invariant-loop-left g l =
     let b = g.T.BitStore.BITS in
     let at = g.O.BitOrder.at in
-    let before = map g.T.BitStore.value l.fn.cells in
+    let before = map g.T.BitStore.value l.fn.elements in
     record {
       within : l.left ≤ l.len;
-      writes : Writes b at before (map g.T.BitStore.value l.cells) l.window (combined_within (operator l.op) (l.from + l.left) (l.from + l.len) (l.dest + l.left) (list_in b at before l.window));
+      writes : Writes b at before (map g.T.BitStore.value l.elements) l.window (combined_within (operator l.op) (l.from + l.left) (l.from + l.len) (l.dest + l.left) (list_in b at before l.window));
     }
 
 abbrev pub decreases-loop-left : goal.decreases-loop-left

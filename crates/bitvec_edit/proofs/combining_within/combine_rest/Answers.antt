@@ -35,15 +35,15 @@ returns g c =
     let far-start : b * length (map value front) + far.start ≡ window.start + dest = cut-place b bits value front window dest c.BITS-bits.ensures c.split_at_mut-front.ensures.front_len in
     let near-start : near.start ≡ window.start + from = ap (λ (w : Window). w.start) c.range-near.ensures in
     let near-len : near.len ≡ len = ap (λ (w : Window). w.len) c.range-near.ensures ∙ omega arith in
-    let cells : map value c.args.cells.now ≡ map value front ++ map value rest = ap (map value) c.split_at_mut-front.ensures.value ∙ map-append value front rest in
-    let sides = cut-inside b bits value c.args.cells.now front rest window near from dest len c.BITS-bits.ensures c.requires.window c.split_at_mut-front.ensures.value c.split_at_mut-front.ensures.front_len c.range-near.ensures c.requires.edge c.requires.bound in
-    let has = subst (λ (xs : List ℕ). HasWindow b xs window) cells c.requires.window in
+    let elements : map value c.args.elements.now ≡ map value front ++ map value rest = ap (map value) c.split_at_mut-front.ensures.value ∙ map-append value front rest in
+    let sides = cut-inside b bits value c.args.elements.now front rest window near from dest len c.BITS-bits.ensures c.requires.window c.split_at_mut-front.ensures.value c.split_at_mut-front.ensures.front_len c.range-near.ensures c.requires.edge c.requires.bound in
+    let has = subst (λ (xs : List ℕ). HasWindow b xs window) elements c.requires.window in
     let edge = c.requires.edge in
     let bound = c.requires.bound in
     let order : from + len ≤ window.len = omega arith in
     let wrote = rest-combined b at (width_some b g.met.T.BitStore.width_law) made (map value front) (map value rest) window near far from dest len has sides.0 sides.1 near-start near-len far-start refl order bound (map value new) c.combine_block.ensures.writes in
     record {
-      writes = subst (λ (xs : List ℕ). Writes b at xs (map value (front ++ new)) window (combined_within made from (from + len) dest (list_in b at xs window))) (sym cells)
+      writes = subst (λ (xs : List ℕ). Writes b at xs (map value (front ++ new)) window (combined_within made from (from + len) dest (list_in b at xs window))) (sym elements)
           (subst (λ (xs : List ℕ). Writes b at (map value front ++ map value rest) xs window (combined_within made from (from + len) dest (list_in b at (map value front ++ map value rest) window)))
           (sym (map-append value front new)) wrote);
     }

@@ -1,6 +1,6 @@
 use Rattle.std.proofs.Common.{◌≡◌, arith, refl, rules}
 use Rattle.std.specs.Prelude.{◌%◌}
-use Rattle.bitvec_pieces.specs.LeftLaws.{may_edit_kept, piece_kept}
+use Rattle.bitvec_closures.specs.LeftLaws.{may_edit_kept, piece_kept}
 use Rattle.bitvec_edit_tests.specs.contracts.captures.fn.fill_in_turn.for_each_chunk_exact_mut as closure
 use Rattle.bitvec_edit_tests.proofs.captures.fill_in_turn.Goals as goal
 

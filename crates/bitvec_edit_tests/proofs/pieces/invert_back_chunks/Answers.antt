@@ -1,5 +1,5 @@
 use Rattle.std.proofs.Common.{rules}
-use Rattle.bitvec_pieces.specs.LeftLaws.{piece_left}
+use Rattle.bitvec_closures.specs.LeftLaws.{piece_left}
 use Rattle.bitvec_edit_tests.proofs.pieces.invert_back_chunks.Goals as goal
 
 pub returns : goal.returns

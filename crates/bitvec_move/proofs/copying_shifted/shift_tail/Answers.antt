@@ -9,4 +9,4 @@ returns-clause-writes g c =
     let edge = c.requires.edge in
     let long : c.args.part.to ≡ c.args.from.len = omega arith in
     Writes-is _ _ _ _ _ _ _ c.store_part.ensures.writes
-    (rw (edge, long) (range-from_start _ _ _ refl ∙ c.field_after-front.ensures.value))
+    (rw (edge, long) (range-from_start _ _ _ refl ∙ c.load_element_after-front.ensures.value))

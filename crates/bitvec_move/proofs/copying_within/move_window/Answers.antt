@@ -1,6 +1,6 @@
 use Rattle.std.proofs.Common.{◌∙◌, sym, arith, refl, true}
 use Rattle.bitvec_words.specs.base.WritesLaws.{Writes-is, length-list}
-use Rattle.bitvec_words.specs.MovedLaws.{take-field}
+use Rattle.bitvec_words.specs.MovedLaws.{take-word}
 use Rattle.bitvec_words.specs.store.WidthLaws.{width_some}
 use Rattle.bitvec_words.specs.walk.CostLaws.{edges_loaded}
 use Rattle.bitvec_move.specs.WithinLaws.{edges_enough}
@@ -10,11 +10,11 @@ use Rattle.bitvec_move.proofs.copying_within.move_window.Goals as goal
 pub returns-then-to-le-WORD_BITS-clause-writes : goal.returns-then-to-le-WORD_BITS-clause-writes
 returns-then-to-le-WORD_BITS-clause-writes g c =
     let long = length-list g.C.Elem.BitStore.BITS g.O.BitOrder.at _ _ c.requires.beside in
-    Writes-is _ _ _ _ _ _ _ (rw c.load_field-field.ensures.reads.numbers at c.store_field.ensures.writes)
-    (take-field 64 _ _ _ c.load_field-field.ensures.value (c.requires.lengths ∙ sym long))
+    Writes-is _ _ _ _ _ _ _ (rw c.load_parts-word.ensures.reads.numbers at c.store_parts.ensures.writes)
+    (take-word 64 _ _ _ c.load_parts-word.ensures.value (c.requires.lengths ∙ sym long))
 
-pub load_field-field-requires-clause-bound : goal.load_field-field-requires-clause-bound
-load_field-field-requires-clause-bound g c = let lengths = c.requires.lengths in let short = c.if-to-le-WORD_BITS.true in omega arith
+pub load_parts-word-requires-clause-bound : goal.load_parts-word-requires-clause-bound
+load_parts-word-requires-clause-bound g c = let lengths = c.requires.lengths in let short = c.if-to-le-WORD_BITS.true in omega arith
 
 pub returns-then-to-le-WORD_BITS-clause-cost : goal.returns-then-to-le-WORD_BITS-clause-cost
 returns-then-to-le-WORD_BITS-clause-cost g c =
@@ -22,8 +22,8 @@ returns-then-to-le-WORD_BITS-clause-cost g c =
     let loads = touched-read g.C.Elem.BitStore.BITS c.args.from.start c.args.from.len c.args.to.len some c.requires.lengths in
     let edges = edges_loaded g.C.Elem.BitStore.BITS true c.args.to.len in
     let stores = touched-stored g.C.Elem.BitStore.BITS c.args.to.start c.args.to.len c.args.to.len some refl in
-    let reads = c.load_field-field.ensures.reads in
-    let cost = c.store_field.ensures.cost in
+    let reads = c.load_parts-word.ensures.reads in
+    let cost = c.store_parts.ensures.cost in
     record { borrow = cost.borrow ∙ reads.borrow; loads = omega arith; stores = omega arith }
 
 pub returns-then-to-from-clause-cost : goal.returns-then-to-from-clause-cost

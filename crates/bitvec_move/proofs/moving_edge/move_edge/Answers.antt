@@ -18,7 +18,7 @@ returns-then-to-eq0-clause-writes g c =
 pub returns-clause-writes : goal.returns-clause-writes
 returns-clause-writes g c =
     let b = g.C.Elem.BitStore.BITS in
-    let value = g.C.Elem.BitStore.value c.field-front.result.0 in
+    let value = g.C.Elem.BitStore.value c.load_element-front.result.0 in
     let front = element_bits b g.O.BitOrder.at value in
     let long = length-element_bits b g.O.BitOrder.at value in
     let part : c.first_part-part.result ≡ first_part_of b c.args.to = c.first_part-part.ensures ∙ ap (λ (n : ℕ). first_part_of n c.args.to) c.BITS.ensures in
@@ -29,8 +29,8 @@ returns-clause-writes g c =
     let lengths = c.requires.span.lengths in
     let end : c.first_part-part.result.to ≡ c.first_part-part.result.from + c.args.from.len = omega arith in
     let inside : c.first_part-part.result.to ≤ length front = omega arith in
-    Writes-is _ _ _ _ _ _ _ (rw (c.field-front.ensures.reads.numbers, c.toward_end.ensures, place) at c.store_part.ensures.writes)
-    (range-shifted front c.first_part-part.result.from c.args.from.len c.first_part-part.result.to end inside ∙ c.field-front.ensures.value)
+    Writes-is _ _ _ _ _ _ _ (rw (c.load_element-front.ensures.reads.numbers, c.toward_end.ensures, place) at c.store_part.ensures.writes)
+    (range-shifted front c.first_part-part.result.from c.args.from.len c.first_part-part.result.to end inside ∙ c.load_element-front.ensures.value)
 
 pub returns-clause-cost : goal.returns-clause-cost
 returns-clause-cost g c =

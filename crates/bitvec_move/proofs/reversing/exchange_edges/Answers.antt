@@ -9,7 +9,7 @@ use Rattle.bitvec_words.specs.base.Window.{window_range}
 use Rattle.bitvec_words.specs.base.WritesLaws.{list-range, HasWindow-range}
 use Rattle.bitvec_words.specs.FieldLaws.{list-part, part-stored}
 use Rattle.bitvec_words.specs.WholeLaws.{window-end}
-use Rattle.bitvec_move.specs.ReversalLaws.{Writes-ends, touched-most, turned-front, turned-part}
+use Rattle.bitvec_move.specs.ReversalLaws.{Writes-ends, touched-most, mirrored-front, mirrored-part}
 use Rattle.bitvec_move.specs.SettledLaws.{Writes-same, list-same}
 use Rattle.bitvec_move.specs.PlaceLaws.{width-some}
 use Rattle.bitvec_move.proofs.MoveLemmas.{place-element}
@@ -38,27 +38,27 @@ returns-clause-writes g c =
     let part : Part = record { element = window.start / b; from = from; to = from + count } in
     let has_part : HasPart b old part = record { element = div_below window.start b (length old) some (omega arith); order = omega arith; bound = bound } in
     let size : window.len - (window.len - count) ≡ count = omega arith in
-    let last = value c.field-last.result.0 in
+    let last = value c.load_element-last.result.0 in
     let first = value c.load-first.result in
     let wide = length-element_bits b at last in
     let first_wide = length-element_bits b at first in
-    let first_is = rw (c.BITS-bits.ensures, c.field-last.ensures.reads.numbers) at c.load-first.ensures.value in
-    let last_is = rw c.range-back.ensures at c.field-last.ensures.value in
-    let turned = rw (c.BITS-bits.ensures, c.reversed.ensures) at c.toward_start-turned.ensures in
+    let first_is = rw (c.BITS-bits.ensures, c.load_element-last.ensures.reads.numbers) at c.load-first.ensures.value in
+    let last_is = rw c.range-back.ensures at c.load_element-last.ensures.value in
+    let mirrored = rw (c.BITS-bits.ensures, c.reversed.ensures) at c.toward_start-mirrored.ensures in
     let other = rw (c.BITS-bits.ensures, c.reversed-2.ensures) at c.toward_start-other.ensures in
     let merged = rw (c.BITS-bits.ensures, first_is) at c.merged.ensures in
-    let mid_is = rw (c.BITS-bits.ensures, c.load-first.ensures.numbers, c.field-last.ensures.reads.numbers) at c.store.ensures.numbers in
-    let stored = part-stored b at old part (value c.toward_start-turned.result) (value c.merged.result) some has_part merged in
+    let mid_is = rw (c.BITS-bits.ensures, c.load-first.ensures.numbers, c.load_element-last.ensures.reads.numbers) at c.store.ensures.numbers in
+    let stored = part-stored b at old part (value c.toward_start-mirrored.result) (value c.merged.result) some has_part merged in
     let back = rw c.range-back.ensures at c.store_front.ensures.writes in
     Writes-ends b at old mid _ window 0 window.len count _ _ has (omega arith) (omega arith)
     (Writes-same (part_window b part) (window_range window 0 (0 + count)) (omega arith) (omega arith) (rw mid_is stored))
-    (ap (λ (l : List Bool). slice_range l from (from + count)) turned
-    ∙ turned-part (element_bits b at last) from count skip (omega arith)
+    (ap (λ (l : List Bool). slice_range l from (from + count)) mirrored
+    ∙ mirrored-part (element_bits b at last) from count skip (omega arith)
     ∙ ap reverse (ap (λ (n : ℕ). take n (element_bits b at last)) (sym size) ∙ last_is ∙ list-range b at old window (window.len - count) window.len has (omega arith) (omega arith)))
     back
     (ap (λ (n : ℕ). take n (element_bits b at (value c.toward_start-other.result))) size
     ∙ ap (take count) other
-    ∙ turned-front (element_bits b at first) from count skip (omega arith)
+    ∙ mirrored-front (element_bits b at first) from count skip (omega arith)
     ∙ ap reverse (ap (λ (v : ℕ). slice_range (element_bits b at v) from (from + count)) first_is
     ∙ sym (list-part b at old part has_part)
     ∙ list-same b at old (window_range window 0 (0 + count)) (part_window b part) (omega arith) (omega arith)
@@ -74,7 +74,7 @@ returns-clause-cost g c =
     let back = c.range-back.result in
     let size : back.len ≡ c.args.count = rw c.range-back.ensures (omega arith) in
     let few = touched-most b back.start back.len some (omega arith) (omega arith) in
-    let reads = c.field-last.ensures.reads in
+    let reads = c.load_element-last.ensures.reads in
     let first = c.load-first.ensures in
     let store = c.store.ensures in
     let more_cost = c.store_front.ensures.cost in
@@ -89,8 +89,8 @@ nonzero_rem-from g c = let some = width-some _ _ g.met.C.Elem.BitStore.width_law
 pub range-back-requires-clause-end : goal.range-back-requires-clause-end
 range-back-requires-clause-end g c = window-end _ _ c.args.window c.requires.window
 
-pub field-last-requires : goal.field-last-requires
-field-last-requires g c =
+pub load_element-last-requires : goal.load_element-last-requires
+load_element-last-requires g c =
     let bound = c.requires.bound in
     let more = c.requires.some in
     let apart = c.requires.apart in
@@ -105,7 +105,7 @@ load-first-requires g c =
     let bound = c.requires.bound in
     let more = c.requires.some in
     let apart = c.requires.apart in
-    rw c.field-last.ensures.reads.numbers (place-element _ _ _ _ c.args.window _ g.met.C.Elem.BitStore.width_law c.BITS-bits.ensures c.requires.window (omega arith) refl)
+    rw c.load_element-last.ensures.reads.numbers (place-element _ _ _ _ c.args.window _ g.met.C.Elem.BitStore.width_law c.BITS-bits.ensures c.requires.window (omega arith) refl)
 
 pub overflow_sub-skip : goal.overflow_sub-skip
 overflow_sub-skip g c =
@@ -117,8 +117,8 @@ overflow_sub-skip-2 g c =
     let bound = c.requires.bound in
     rw c.BITS-bits.ensures (omega arith)
 
-pub toward_start-turned-requires : goal.toward_start-turned-requires
-toward_start-turned-requires g c =
+pub toward_start-mirrored-requires : goal.toward_start-mirrored-requires
+toward_start-mirrored-requires g c =
     let bound = c.requires.bound in
     let more = c.requires.some in
     let apart = c.requires.apart in
@@ -132,7 +132,7 @@ store-requires g c =
     let bound = c.requires.bound in
     let more = c.requires.some in
     let apart = c.requires.apart in
-    rw (c.load-first.ensures.numbers, c.field-last.ensures.reads.numbers) (place-element _ _ _ _ c.args.window _ g.met.C.Elem.BitStore.width_law c.BITS-bits.ensures c.requires.window (omega arith) refl)
+    rw (c.load-first.ensures.numbers, c.load_element-last.ensures.reads.numbers) (place-element _ _ _ _ c.args.window _ g.met.C.Elem.BitStore.width_law c.BITS-bits.ensures c.requires.window (omega arith) refl)
 
 pub toward_start-other-requires : goal.toward_start-other-requires
 toward_start-other-requires g c =

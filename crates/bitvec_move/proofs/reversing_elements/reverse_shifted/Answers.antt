@@ -89,7 +89,7 @@ loop-pair-preserved g c =
     let inv = c.loop-pair.invariant in
     let value = rw c.load-low.ensures.numbers at c.load-next.ensures.value in
     let next = shifted-pair b at (g.C.CellsRead.numbers c.args.cells.now) (g.C.CellsRead.numbers c.loop-pair.cells) c.args.first c.args.count c.args.part c.loop-pair.pair _ _ _ _ _ some c.requires.bound c.loop-pair-test.true c.requires.window
-    inv.writes inv.high inv.behind (rw (c.joined-front.ensures, value) at c.reversed.ensures) (rw c.load-low.ensures.value at c.reversed-turned.ensures) (rw c.BITS-bits.ensures at c.joined.ensures) in
+    inv.writes inv.high inv.behind (rw (c.joined-front.ensures, value) at c.reversed.ensures) (rw c.load-low.ensures.value at c.reversed-mirrored.ensures) (rw c.BITS-bits.ensures at c.joined.ensures) in
     record {
       writes = rw (c.store-in-loop-pair.ensures.numbers, c.store.ensures.numbers, c.load-next.ensures.numbers, c.load-low.ensures.numbers) next.writes;
       high = ap (element_bits b at) value ∙ next.high;
@@ -103,7 +103,7 @@ returns-then-count-eq1-clause-writes g c =
     let inv = c.loop-pair.invariant in
     rw c.store-then-count-eq1.ensures.numbers
     (shifted-middle g.C.Elem.BitStore.BITS g.O.BitOrder.at (g.C.CellsRead.numbers c.args.cells.now) (g.C.CellsRead.numbers c.loop-pair.cells) c.args.first c.args.count c.args.part c.loop-pair.pair _ _ _ _ some c.requires.bound (omega arith) c.requires.window
-    inv.writes inv.high inv.behind c.reversed-turned-then-count-eq1.ensures (rw c.BITS-bits.ensures at c.joined-middle.ensures))
+    inv.writes inv.high inv.behind c.reversed-mirrored-then-count-eq1.ensures (rw c.BITS-bits.ensures at c.joined-middle.ensures))
 
 pub returns-else-count-eq1-clause-writes : goal.returns-else-count-eq1-clause-writes
 returns-else-count-eq1-clause-writes g c =

@@ -85,20 +85,20 @@ loop-pair-preserved g c =
     let has = c.requires.window in
     let some = width_some _ g.met.C.Elem.BitStore.width_law in
     let long = length-list b at old _ has in
-    let turned = length-reverse list in
+    let mirrored = length-reverse list in
     let more = c.loop-pair-test.true in
     let high = element-before (count - pair) b (omega arith) in
     let next_high : (count - (pair + 1)) * b ≡ next * b = ap (λ (n : ℕ). n * b) (omega arith) in
     let all : count * b ≡ pair * b + next * b + b = ap (λ (n : ℕ). n * b) (let e : count ≡ pair + next + 1 = omega arith in e) ∙ omega arith in
     let order : pair * b + b ≤ next * b = omega (arith, mul-le-mul_left b (let e : pair < next = omega arith in e)) in
     let before = c.loop-pair.invariant.writes in
-    let low_left = Settled-left b at old mid first count (pair * b) ((count - pair) * b) pair (first + pair) (reverse list) some has (turned ∙ long) (omega arith) (omega arith) (omega arith) (omega arith) (omega arith) before in
-    let high_left = Settled-left b at old mid first count (pair * b) ((count - pair) * b) next (first + count - 1 - pair) (reverse list) some has (turned ∙ long) (omega arith) (omega arith) (omega arith) (omega arith) (omega arith) before in
+    let low_left = Settled-left b at old mid first count (pair * b) ((count - pair) * b) pair (first + pair) (reverse list) some has (mirrored ∙ long) (omega arith) (omega arith) (omega arith) (omega arith) (omega arith) before in
+    let high_left = Settled-left b at old mid first count (pair * b) ((count - pair) * b) next (first + count - 1 - pair) (reverse list) some has (mirrored ∙ long) (omega arith) (omega arith) (omega arith) (omega arith) (omega arith) before in
     let low = rw (c.load-low.ensures.value, low_left) at c.reversed-in-loop-pair.ensures in
     let back = rw (c.load-high.ensures.value, c.load-low.ensures.numbers, high_left) at c.reversed.ensures in
     record {
       writes = rw (c.store-in-loop-pair.ensures.numbers, c.store.ensures.numbers, c.load-high.ensures.numbers, c.load-low.ensures.numbers)
-          (Settled-pair b at old mid first count pair next (first + pair) (first + count - 1 - pair) _ _ (pair * b) ((count - pair) * b) ((pair + 1) * b) ((count - (pair + 1)) * b) (reverse list) some has (turned ∙ long) (omega arith) (omega arith)
+          (Settled-pair b at old mid first count pair next (first + pair) (first + count - 1 - pair) _ _ (pair * b) ((count - pair) * b) ((pair + 1) * b) ((count - (pair + 1)) * b) (reverse list) some has (mirrored ∙ long) (omega arith) (omega arith)
           (omega arith) (omega arith) (omega arith) high (omega arith) next_high
           (back ∙ range-reversed list (pair * b) (next * b) b (omega arith))
           (low ∙ range-reversed list (next * b) (pair * b) b (omega arith)) before);
@@ -118,15 +118,15 @@ returns-then-count-eq1-clause-writes g c =
     let has = c.requires.window in
     let some = width_some _ g.met.C.Elem.BitStore.width_law in
     let long = length-list b at old _ has in
-    let turned = length-reverse list in
+    let mirrored = length-reverse list in
     let middle : pair ≡ count / 2 = omega arith in
     let high : (count - pair) * b ≡ pair * b + b = ap (λ (n : ℕ). n * b) (let e : count - pair ≡ pair + 1 = omega arith in e) ∙ omega arith in
     let all : count * b ≡ pair * b + pair * b + b = ap (λ (n : ℕ). n * b) (let e : count ≡ pair + pair + 1 = omega arith in e) ∙ omega arith in
     let before = c.loop-pair.invariant.writes in
-    let left = Settled-left b at old mid first count (pair * b) ((count - pair) * b) pair (first + count / 2) (reverse list) some has (turned ∙ long) (omega arith) (omega arith) (omega arith) (omega arith) (omega arith) before in
+    let left = Settled-left b at old mid first count (pair * b) ((count - pair) * b) pair (first + count / 2) (reverse list) some has (mirrored ∙ long) (omega arith) (omega arith) (omega arith) (omega arith) (omega arith) before in
     let made = rw (c.load-middle.ensures.value, left) at c.reversed-then-count-eq1.ensures in
     rw (c.store-then-count-eq1.ensures.numbers, c.load-middle.ensures.numbers)
-    (Settled-rest b at old mid first count pair (first + count / 2) _ (pair * b) ((count - pair) * b) (reverse list) some has (turned ∙ long) (omega arith) (omega arith) (omega arith) high
+    (Settled-rest b at old mid first count pair (first + count / 2) _ (pair * b) ((count - pair) * b) (reverse list) some has (mirrored ∙ long) (omega arith) (omega arith) (omega arith) high
     (made ∙ range-reversed list (pair * b) (pair * b) b (omega arith)) before)
 
 pub returns-else-count-eq1-clause-writes : goal.returns-else-count-eq1-clause-writes
@@ -137,10 +137,10 @@ returns-else-count-eq1-clause-writes g c =
     let pair = c.loop-pair.pair in
     let list = list_in b at (g.C.CellsRead.numbers c.args.cells.now) (elements_window b c.args.first count) in
     let long = length-list b at _ _ c.requires.window in
-    let turned = length-reverse list in
+    let mirrored = length-reverse list in
     let high : (count - pair) * b ≡ pair * b = ap (λ (n : ℕ). n * b) (let e : count - pair ≡ pair = omega arith in e) in
     let all : count * b ≡ pair * b + pair * b = ap (λ (n : ℕ). n * b) (let e : count ≡ pair + pair = omega arith in e) ∙ omega arith in
-    rw (← settled-all (reverse list) list (pair * b) ((count - pair) * b) turned (omega arith) (omega arith)) c.loop-pair.invariant.writes
+    rw (← settled-all (reverse list) list (pair * b) ((count - pair) * b) mirrored (omega arith) (omega arith)) c.loop-pair.invariant.writes
 
 pub store-requires-in-loop-pair : goal.store-requires-in-loop-pair
 store-requires-in-loop-pair g c =

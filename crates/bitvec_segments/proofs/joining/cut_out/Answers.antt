@@ -3,7 +3,7 @@ use Rattle.std.proofs.lemmas.Bool.{cond-true, cond-false}
 use Rattle.std.specs.Prelude.{bit_and}
 use Rattle.std.proofs.lemmas.Nat.{and_mask}
 use Rattle.std.proofs.lemmas.Nat.Bits.{ones_shr}
-use Rattle.bitvec_words.specs.Field.{lowest_bit}
+use Rattle.bitvec_words.specs.ShortWindow.{lowest_bit}
 use Rattle.bitvec_segments.proofs.joining.cut_out.Goals.{then-HIGH, else-HIGH}
 use Rattle.bitvec_segments.proofs.joining.cut_out.Goals as goal
 

@@ -5,7 +5,7 @@ use Rattle.bitvec_words.specs.store.WidthLaws.{width_some}
 use Rattle.bitvec_words.specs.walk.WalkLaws.{Walked-start, Walked-next, first-len, touched-next, touched-none}
 use Rattle.bitvec_segments.proofs.WalkLemmas.{Loaded-all, Loaded-fits, Loaded-next, Loaded-start, parts_kept, rest-end, rest-fits, taken}
 use Rattle.bitvec_words.specs.WordLaws.{width-some}
-use Rattle.bitvec_words.specs.FieldWalkLaws.{HasPart-first}
+use Rattle.bitvec_words.specs.PartWalkLaws.{HasPart-first}
 use Rattle.bitvec_segments.proofs.loading.load_many.Goals as goal
 
 pub loop-rest-init : goal.loop-rest-init

@@ -9,7 +9,7 @@ use Rattle.bitvec_words.specs.store.WidthLaws.{width_some}
 use Rattle.bitvec_words.specs.walk.WalkLaws.{Walked-start, Walked-next, Writes-none_passed, edge_loads-next, first-len, touched-next, touched-none}
 use Rattle.bitvec_segments.proofs.WalkLemmas.{Left-next, Left-start, Writes-all, Writes-next, rest-end, rest-fits, taken}
 use Rattle.bitvec_words.specs.WordLaws.{width-some}
-use Rattle.bitvec_words.specs.FieldWalkLaws.{HasPart-first}
+use Rattle.bitvec_words.specs.PartWalkLaws.{HasPart-first}
 use Rattle.bitvec_segments.proofs.storing.store_many.Goals as goal
 
 pub loop-rest-init : goal.loop-rest-init

@@ -10,7 +10,7 @@ use Rattle.bitvec_words.specs.store.WidthLaws.{width_some}
 use Rattle.bitvec_words.specs.walk.WalkLaws.{Walked-start, Walked-next, Writes-none_passed, edge_loads-next, touched-next, touched-none, first-len}
 use Rattle.bitvec_segments.proofs.WalkLemmas.{Left-next, Left-start, Writes-all, Writes-next, edge-len, whole-elements, whole-less, whole-some, element-word, rest-end, rest-fits}
 use Rattle.bitvec_words.specs.WordLaws.{width-some}
-use Rattle.bitvec_words.specs.FieldWalkLaws.{HasPart-first}
+use Rattle.bitvec_words.specs.PartWalkLaws.{HasPart-first}
 use Rattle.bitvec_segments.proofs.whole.store_whole.Goals as goal
 
 pub loop-rest-init : goal.loop-rest-init

@@ -19,4 +19,4 @@ pub region-requires-clause-fits : goal.region-requires-clause-fits
 region-requires-clause-fits g c = rw length-map at c.requires.window.fits
 
 pub returns-in-Across : goal.returns-in-Across
-returns-in-Across g c = c.region.ensures ∙ ap (views_in g.T.BitStore.BITS g.O.BitOrder.at g.T.BitStore.value c.args.cells.now) c.in-Across.ensures.value
+returns-in-Across g c = c.region.ensures ∙ ap (views_in g.T.BitStore.BITS g.O.BitOrder.at g.T.BitStore.value c.args.elements.now) c.in-Across.ensures.value

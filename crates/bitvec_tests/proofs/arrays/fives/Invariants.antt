@@ -3,5 +3,5 @@ use Rattle.bitvec.specs.Arrays.{msb0_bits}
 use Rattle.bitvec.specs.Ranges.{number_in}
 use Rattle.bitvec_tests.proofs.arrays.fives.Given as goal
 
-abbrev pub invariant-loop-turn : goal.invariant-loop-turn
-invariant-loop-turn l = (k : ℕ) → k < l.turn → number_in true true 8 (msb0_bits 8 l.bytes) (5 * k) (5 * k + 5) ≡ k
+abbrev pub invariant-loop-step : goal.invariant-loop-step
+invariant-loop-step l = (k : ℕ) → k < l.step → number_in true true 8 (msb0_bits 8 l.bytes) (5 * k) (5 * k + 5) ≡ k

@@ -1,5 +1,5 @@
 use Rattle.std.specs.Prelude.{refl}
-use Rattle.bitvec_words.specs.Turn.{exchanged_bits}
+use Rattle.bitvec_words.specs.Exchanged.{exchanged_bits}
 use Rattle.bitvec_words.proofs.element.exchanged.Goals as goal
 
 pub returns : goal.returns

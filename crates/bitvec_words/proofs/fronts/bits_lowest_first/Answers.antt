@@ -1,7 +1,7 @@
 use Rattle.std.proofs.Common.{◌∙◌, ap, refl}
 use Rattle.bitvec_cells.specs.base.MemoryLaws.{length-element_bits}
 use Rattle.bitvec_words.specs.WordLaws.{padded-all}
-use Rattle.bitvec_words.specs.Field.{padded}
+use Rattle.bitvec_words.specs.ShortWindow.{padded}
 use Rattle.bitvec_words.proofs.ScanLemmas.{range-element}
 use Rattle.bitvec_words.proofs.fronts.bits_lowest_first.Goals as goal
 

@@ -1,6 +1,6 @@
 use Rattle.std.proofs.Common.{◌≡◌, slice_range}
 use Rattle.bitvec_cells.specs.base.Memory.{element_bits}
-use Rattle.bitvec_words.specs.Field.{padded}
+use Rattle.bitvec_words.specs.ShortWindow.{padded}
 use Rattle.bitvec_words.proofs.fronts.gathered.Given as goal
 
 abbrev pub invariant-loop-index : goal.invariant-loop-index

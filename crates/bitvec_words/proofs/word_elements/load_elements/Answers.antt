@@ -9,7 +9,7 @@ use Rattle.bitvec_cells.specs.base.Window.{write_at}
 use Rattle.bitvec_cells.specs.base.WritesLaws.{length-list}
 use Rattle.bitvec_words.specs.CombinedLaws.{length-elements}
 use Rattle.bitvec_words.specs.Elements.{elements_window}
-use Rattle.bitvec_words.specs.Field.{padded}
+use Rattle.bitvec_words.specs.ShortWindow.{padded}
 use Rattle.bitvec_words.specs.FieldLaws.{list-element}
 use Rattle.bitvec_words.specs.MovedLaws.{element-joined, padded-none}
 use Rattle.bitvec_words.specs.WordLaws.{list-no_element, padded-all, word_whole}

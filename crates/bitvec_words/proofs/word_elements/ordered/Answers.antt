@@ -1,6 +1,6 @@
 use Rattle.std.proofs.Common.{◌≡◌, ◌/◌, arith, ap, sym, ◌∙◌}
 use Rattle.bitvec_cells.specs.base.PartLaws.{element-none}
-use Rattle.bitvec_words.specs.Field.{padded}
+use Rattle.bitvec_words.specs.ShortWindow.{padded}
 use Rattle.bitvec_words.specs.MovedLaws.{padded-none}
 use Rattle.bitvec_words.specs.WordLaws.{list-no_element, width-some, word-place}
 use Rattle.bitvec_words.proofs.OrderedLemmas.{word-all, word-next}

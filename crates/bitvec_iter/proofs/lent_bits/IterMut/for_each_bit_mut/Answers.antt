@@ -69,6 +69,6 @@ pub returns : goal.returns
 returns g c =
     let i = c.args.self.now in
     let wrote = rw (c.min.ensures, c.len.ensures) at c.for_each_in.ensures.writes in
-    let (answers, left) = refilled g.T.BitStore.BITS g.O.BitOrder.at g.T.BitStore.value i.elements.now i.head i.len i.front i.back i.inside i.bounded i.numbered c.for_each_in.new.cells wrote.0 wrote.2
+    let (answers, left) = refilled g.T.BitStore.BITS g.O.BitOrder.at g.T.BitStore.value i.elements.now i.head i.len i.front i.back i.inside i.bounded i.numbered c.for_each_in.new.elements wrote.0 wrote.2
     (RefillsWith g.F.FnMut c.args.f) wrote.1 in
     record { answers = answers; walk = left; name = refl }

@@ -41,10 +41,10 @@ use denote.Triple.Clauses.{lasts}
 use denote.Triple.Spec.{triple_of}
 use denote.Triple.Table.{framed}
 use denote.Triple.Walked.{Stays, walk_of, stay_dropped, Goes-spent_slice, ends_at}
-use Rattle.bitvec_windows.specs.base.Window.{max_bits}
-use Rattle.bitvec_windows.specs.base.declared.span_error.BitSpanError.{BitSpanError}
-use Rattle.bitvec_windows.specs.base.declared.span_error.BitSpanError.TheVariants.{TooLong}
-use Rattle.bitvec_windows.proofs.base.BitSpanError.TheLaws.{the_row_laws as error_laws}
+use Rattle.bitvec_elements.specs.base.Window.{max_bits}
+use Rattle.bitvec_elements.specs.base.declared.span_error.BitSpanError.{BitSpanError}
+use Rattle.bitvec_elements.specs.base.declared.span_error.BitSpanError.TheVariants.{TooLong}
+use Rattle.bitvec_elements.proofs.base.BitSpanError.TheLaws.{the_row_laws as error_laws}
 use Rattle.bitvec_slice.specs.Views.{IsWholeOf, name_of}
 use Rattle.bitvec_slice.specs.contracts.view_mut.BitSliceMut.try_from_slice_mut as f
 use Rattle.bitvec_slice.specs.contracts.constructors.bits_in as bits_in

@@ -1,0 +1,17 @@
+use Rattle.bitvec_split.specs.Lent.{MayGoOnIn, SplitNextIn, unsplit_in}
+use Rattle.bitvec_closures.specs.ToSplit.{left_at, most_left}
+use Rattle.bitvec_closures.specs.SplitCallsLaws.{CallsSoFar}
+use Rattle.bitvec_closures.proofs.edit_splits.EditSplits.for_each_piece_between.Given as goal
+
+abbrev pub invariant-loop-range : goal.invariant-loop-range
+invariant-loop-range g l =
+    let shows = g.Self.Shows.shows in
+    let view = shows l.fn.self in
+    record {
+      in_turn : CallsSoFar shows g.Self.EditParts.named (goal.F-step g) l.fn.self (SplitNextIn g.P.FnMut g.W.SplitKind.INCLUSIVE g.W.SplitKind.REVERSED) (unsplit_in g.W.SplitKind.INCLUSIVE view l.fn.pred) l.fn.edit
+          (left_at view l.left l.pred) l.left l.self l.edit l.number;
+      callable : MayGoOnIn g.P.FnMut (left_at view l.left l.pred);
+    }
+
+abbrev pub decreases-loop-range : goal.decreases-loop-range
+decreases-loop-range g l = most_left l.left

@@ -1,0 +1,20 @@
+//! Parts of writable views, and the pieces of their splits, are edited in place.
+ghost use Rattle.bitvec_split.specs.slice.Views.{name_of};
+ghost use Rattle.bitvec_closures.specs.ViewInPlace.{written_so};
+
+use crate::{EditParts, EditSplits};
+use bitvec_split::base::{BitOrder, Window};
+use bitvec_split::slice::{BitSliceMut, Sealed};
+use bitvec_split::store::BitStore;
+
+impl<'a, T: BitStore, O: BitOrder> EditParts<T, O> for BitSliceMut<'a, T, O> {
+    ghost named = { name_of };
+
+    ghost written_so = { written_so };
+
+    fn stand_at(&mut self, window: Window, by: Sealed) {
+        BitSliceMut::stand_at(self, window, by);
+    }
+}
+
+impl<'a, T: BitStore, O: BitOrder> EditSplits<T, O> for BitSliceMut<'a, T, O> {}

@@ -1,0 +1,159 @@
+-- Elements replaced by others at once, as a write of their bits.
+use borrow.Rule.Slice.PartMut.{post_of, put_mid}
+use Rattle.std.specs.Prelude.{◌≡◌, ◌≢◌, ℕ, ◌+◌, ◌-◌, ◌*◌, ◌/◌, ◌%◌, ◌<◌, ◌≤◌, Bool, List, ◌++◌, length, map, take, drop, slice_index, slice_index_or, slice_range, refl}
+use Rattle.std.proofs.Common.{arith, sym, ap, ◌∙◌, ⊎_elim}
+use Rattle.std.proofs.Math.Nat.{add-mul, mul-le-mul_right}
+use Rattle.std.proofs.Math.Seq.{drop-drop}
+use Rattle.std.proofs.lemmas.Bool.{cases_lt}
+use Rattle.std.proofs.lemmas.List.{drop-map, get_or-map, length-map, map-append, take-map}
+use Rattle.std.proofs.lemmas.Nat.{div-add-mod'}
+use Rattle.bitvec_elements.specs.base.declared.part.Part.{Part}
+use Rattle.bitvec_elements.specs.base.declared.window.Window.{Window}
+use Rattle.bitvec_elements.specs.base.Memory.{HasWindow, Writes, element_bits, list_in, memory_bits}
+use Rattle.bitvec_elements.specs.base.MemoryLaws.{length-memory_bits, memory-range}
+use Rattle.bitvec_elements.specs.base.Parts.{first_part_of, part_window}
+use Rattle.bitvec_elements.specs.base.SliceLaws.{range-all, range-from_start, range-join, range-map, range-same, range-to_end}
+use Rattle.bitvec_elements.specs.base.Spans.{HasSpan}
+use Rattle.bitvec_elements.specs.base.Window.{window_of, write_at}
+use Rattle.bitvec_elements.specs.base.WriteLaws.{length-slice_range, length-write_at, range-write_at, range-write_at_after, range-write_at_before}
+use Rattle.bitvec_elements.specs.base.WritesLaws.{Writes-is, length-list}
+use Rattle.bitvec_elements.specs.words.FieldLaws.{Writes-none, element_of, list-part}
+
+row_le : (e n b : ℕ) → 0 < b → e * b ≤ n * b → e ≤ n
+row_le e n b some below = ⊎_elim
+    (λ (more : n < e). let order = mul-le-mul_right {m = n + 1} {n = e} b (omega arith) in let next = add-mul n 1 b in absurd (omega arith))
+    (λ (less : e ≤ n). less)
+    (cases_lt n e)
+
+-- elements that two memories have in common
+same-part : (b : ℕ) (at : ℕ → ℕ → ℕ) (xs zs : List ℕ) (a e : ℕ) → 0 < b → a ≤ e → e ≤ length xs → e ≤ length zs → slice_range zs a e ≡ slice_range xs a e
+    → slice_range (memory_bits b at zs) (a * b) (e * b) ≡ slice_range (memory_bits b at xs) (a * b) (e * b)
+same-part b at xs zs a e some order fits short same = sym (memory-range b at zs a e some order short) ∙ ap (memory_bits b at) same ∙ memory-range b at xs a e some order fits
+
+pub memory-write_at : (b : ℕ) (at : ℕ → ℕ → ℕ) (xs new : List ℕ) (first : ℕ) → 0 < b → first + length new ≤ length xs
+    → memory_bits b at (write_at xs first new) ≡ write_at (memory_bits b at xs) (first * b) (memory_bits b at new)
+unfolding write_at
+memory-write_at b at xs new first some fits =
+    let n = length xs in
+    let end = first + length new in
+    let zs = write_at xs first new in
+    let old = memory_bits b at xs in
+    let now = memory_bits b at zs in
+    let long = length-write_at xs first new fits in
+    let old-long = length-memory_bits b at xs in
+    let now-long = length-memory_bits b at zs ∙ ap (λ (m : ℕ). b * m) long in
+    let new-long = length-memory_bits b at new in
+    let ends = add-mul first (length new) b in
+    let low = mul-le-mul_right {m = first} {n = end} b (omega arith) in
+    let high = mul-le-mul_right {m = end} {n = n} b fits in
+    let front : slice_range now 0 (first * b) ≡ take (first * b) old =
+    range-same now 0 (first * b) (0 * b) (first * b) (omega arith) refl
+    ∙ same-part b at xs zs 0 first some (omega arith) (omega arith) (omega arith) (range-write_at_before xs first new 0 first fits (omega arith))
+    ∙ range-same old (0 * b) (first * b) 0 (first * b) (omega arith) refl
+    ∙ range-from_start old (first * b) (first * b) refl in
+    let middle : slice_range now (first * b) (end * b) ≡ memory_bits b at new =
+    sym (memory-range b at zs first end some (omega arith) (omega arith)) ∙ ap (memory_bits b at) (range-write_at xs first new fits) in
+    let back : slice_range now (end * b) (n * b) ≡ drop (first * b + length (memory_bits b at new)) old =
+    same-part b at xs zs end n some fits (omega arith) (omega arith) (range-write_at_after xs first new end n fits (omega arith) (omega arith))
+    ∙ range-to_end old (end * b) (n * b) (omega arith)
+    ∙ ap (λ (k : ℕ). drop k old) (let same : end * b ≡ first * b + length (memory_bits b at new) = omega arith in same) in
+    sym (range-all now (n * b) (omega arith))
+    ∙ sym (range-join now 0 (first * b) (n * b) (omega arith) (omega arith) (omega arith))
+    ∙ ap (λ (l : List Bool). slice_range now 0 (first * b) ++ l) (sym (range-join now (first * b) (end * b) (n * b) (omega arith) (omega arith) (omega arith)))
+    ∙ ap (λ (l : List Bool). l ++ (slice_range now (first * b) (end * b) ++ slice_range now (end * b) (n * b))) front
+    ∙ ap (λ (l : List Bool). take (first * b) old ++ (l ++ slice_range now (end * b) (n * b))) middle
+    ∙ ap (λ (l : List Bool). take (first * b) old ++ (memory_bits b at new ++ l)) back
+
+-- whole elements from a window's first bit on lie in the memory
+elements-inside : (b : ℕ) (xs : List ℕ) (window : Window) (n : ℕ) → 0 < b → HasWindow b xs window → window.start % b ≡ 0 → n % b ≡ 0 → n ≤ window.len → window.start / b + n / b ≤ length xs
+elements-inside b xs window n some has edge whole short =
+    let place = div-add-mod' window.start b in
+    let parts = div-add-mod' n b in
+    let start = has.within.start in
+    let len = has.within.len in
+    let ends = add-mul (window.start / b) (n / b) b in
+    row_le (window.start / b + n / b) (length xs) b some (omega arith)
+
+-- whole elements of a window hold those of another
+pub Writes-elements : (b : ℕ) (at : ℕ → ℕ → ℕ) (xs ys : List ℕ) (to from : Window) → 0 < b → HasSpan b xs ys to from → to.start % b ≡ 0 → from.start % b ≡ 0 → to.len % b ≡ 0
+    → Writes b at xs (write_at xs (to.start / b) (slice_range ys (from.start / b) (from.start / b + to.len / b))) to (list_in b at ys from)
+unfolding window_of
+Writes-elements b at xs ys to from some span edge right_edge whole =
+    let first = to.start / b in
+    let source = from.start / b in
+    let count = to.len / b in
+    let place = div-add-mod' to.start b in
+    let right_place = div-add-mod' from.start b in
+    let parts = div-add-mod' to.len b in
+    let lengths = span.lengths in
+    let ends = add-mul source count b in
+    let inside = elements-inside b ys from to.len some span.beside right_edge whole (omega arith) in
+    let fits = elements-inside b xs to to.len some span.window edge whole (omega arith) in
+    let new = slice_range ys source (source + count) in
+    let long = length-slice_range ys source (source + count) inside in
+    let room : first + length new ≤ length xs = omega arith in
+    record {
+      bits = memory-write_at b at xs new first some room
+          ∙ ap (λ (l : List Bool). write_at (memory_bits b at xs) (first * b) l)
+          (memory-range b at ys source (source + count) some (omega arith) inside
+          ∙ range-same (memory_bits b at ys) (source * b) ((source + count) * b) from.start (from.start + from.len) (omega arith) (omega arith))
+          ∙ ap (λ (s : ℕ). write_at (memory_bits b at xs) s (list_in b at ys from)) (let same : first * b ≡ to.start = omega arith in same);
+      long = length-list b at ys from span.beside ∙ sym lengths;
+      elements = length-write_at xs first new room;
+    }
+
+-- the numbers of a slice of which a part was written
+part-numbers : {A : Type 0} (value : A → ℕ) (a k : ℕ) (xs ys : List A) → length ys ≡ k → map value (put_mid a k xs ys) ≡ write_at (map value xs) a (map value ys)
+unfolding write_at
+part-numbers value a k xs ys long =
+    let behind : map value (post_of a k xs) ≡ drop (a + length (map value ys)) (map value xs) =
+    ap (map value) (drop-drop k a xs) ∙ sym (drop-map value (a + k) xs) ∙ ap (λ (n : ℕ). drop (a + n) (map value xs)) (sym (length-map ys value ∙ long)) in
+    map-append value (take a xs) (ys ++ post_of a k xs)
+    ∙ ap (λ (l : List ℕ). l ++ map value (ys ++ post_of a k xs)) (sym (take-map value a xs))
+    ∙ ap (λ (l : List ℕ). take a (map value xs) ++ l) (map-append value ys (post_of a k xs))
+    ∙ ap (λ (l : List ℕ). take a (map value xs) ++ (map value ys ++ l)) behind
+
+-- the elements of a part copied at once
+pub elements-copied : {A : Type 0} (value : A → ℕ) (b w : ℕ) (at : ℕ → ℕ → ℕ) (left right new : List A) (to from : Window) → 0 < b → w ≡ b → HasSpan b (map value left) (map value right) to from → to.start % b ≡ 0 → from.start % b ≡ 0 → to.len % b ≡ 0
+    → new ≡ slice_range right (from.start / w) (from.start / w + to.len / w)
+    → Writes b at (map value left) (map value (put_mid (to.start / w) (to.start / w + to.len / w - to.start / w) left new)) to (list_in b at (map value right) from)
+elements-copied value b w at left right new to from some same span edge right_edge whole is =
+    let wrote = Writes-elements b at (map value left) (map value right) to from some span edge right_edge whole in
+    let inside = elements-inside b (map value right) from to.len some span.beside right_edge whole (let lengths = span.lengths in omega arith) in
+    let ends = length-map right value in
+    rw same (
+    let long = ap length is ∙ ap (λ (n : ℕ). length (slice_range right (from.start / n) (from.start / n + to.len / n))) same ∙ length-slice_range right (from.start / b) (from.start / b + to.len / b) (omega arith) in
+    let numbers = part-numbers value (to.start / b) (to.start / b + to.len / b - to.start / b) left new (omega arith) in
+    let part = ap (map value) is ∙ ap (λ (n : ℕ). map value (slice_range right (from.start / n) (from.start / n + to.len / n))) same ∙ range-map value right (from.start / b) (from.start / b + to.len / b) in
+    rw (numbers, part) wrote)
+
+-- ---- the bits of one element
+
+-- the same windows, told in another way
+copied-same : (b : ℕ) (at : ℕ → ℕ → ℕ) (old new other : List ℕ) (part source to from : Window) → to.start ≡ part.start → to.len ≡ part.len → from.start ≡ source.start → from.len ≡ source.len
+    → Writes b at old new part (list_in b at other source) → Writes b at old new to (list_in b at other from)
+copied-same b at old new other part source to from start len source_start source_len copies = rw (start, len, source_start, source_len) copies
+
+-- none
+pub none-copied : (b : ℕ) (at : ℕ → ℕ → ℕ) (xs ys : List ℕ) (to from : Window) → HasSpan b xs ys to from → to.len ≡ 0 → Writes b at xs xs to (list_in b at ys from)
+none-copied b at xs ys to from span none = Writes-none b at xs ys to from span.window none (sym span.lengths ∙ none)
+
+-- those of an element that was read, stored at the same indices of another
+pub part-copied : {A : Type 0} (value : A → ℕ) (b w : ℕ) (at : ℕ → ℕ → ℕ) (xs mid : List ℕ) (right : List A) (to from : Window) (part : Part) (v : A) → 0 < b → w ≡ b → HasSpan b xs (map value right) to from → to.len ≢ 0 → to.start % b ≡ from.start % b → to.start % b + to.len ≤ b
+    → part ≡ first_part_of w to → v ≡ slice_index_or right (from.start / w) v
+    → Writes b at xs mid (part_window b part) (slice_range (element_bits b at (value v)) part.from part.to) → Writes b at xs mid to (list_in b at (map value right) from)
+part-copied value b w at xs mid right to from part v some same span more phases one is held writes =
+    let ys = map value right in
+    let place = div-add-mod' to.start b in
+    let right_place = div-add-mod' from.start b in
+    let lengths = span.lengths in
+    let start = span.beside.within.start in
+    let len = span.beside.within.len in
+    let inside : from.start / b < length ys = element_of b (from.start / b) (from.start % b) (length ys) (omega arith) in
+    let number : value v ≡ slice_index ys (from.start / b) =
+    ap value (rw same at held) ∙ sym (get_or-map value right (from.start / b) v 0 (omega (arith, length-map right value))) in
+    let piece : Part = record (first_part_of b to) { element = from.start / b } in
+    let source = list-part b at ys piece (record { element = inside; order = omega arith; bound = omega arith }) in
+    let stored : Writes b at xs mid (part_window b (first_part_of b to)) (slice_range (element_bits b at (slice_index ys (from.start / b))) (first_part_of b to).from (first_part_of b to).to) = rw (is, same, number) at writes in
+    copied-same b at xs mid ys (part_window b (first_part_of b to)) (part_window b piece) to from (omega arith) (omega arith) (omega arith) (omega arith)
+    (Writes-is b at xs mid (part_window b (first_part_of b to)) _ _ stored (sym source))

@@ -1,0 +1,202 @@
+-- Windows written a stretch at a time.
+use Rattle.std.specs.Prelude.{◌≡◌, ℕ, ◌+◌, ◌-◌, ◌*◌, ◌<◌, ◌≤◌, min, Bool, false, List, length, slice_index_or, slice_range, take, refl}
+use Rattle.std.proofs.Common.{arith, sym, ◌∙◌, ap, subst, ⊎_elim}
+use Rattle.std.proofs.Math.Nat.{mul-le-mul_left}
+use Rattle.std.proofs.lemmas.Bool.{cases_lt}
+use Rattle.std.proofs.lemmas.List.{places, same_lists}
+use Rattle.bitvec_engine.specs.Direction.{Agrees}
+use Rattle.bitvec_elements.specs.base.declared.window.Window.{Window}
+use Rattle.bitvec_elements.specs.base.Lists.{combined}
+use Rattle.bitvec_elements.specs.base.ListsLaws.{get-combined, length-combined}
+use Rattle.bitvec_elements.specs.base.Memory.{Edits, HasWindow, Writes, element_bits, list_in}
+use Rattle.bitvec_elements.specs.base.Spans.{HasSpan}
+use Rattle.bitvec_elements.specs.base.Window.{window_range, write_window}
+use Rattle.bitvec_elements.specs.base.WriteLaws.{get-slice_range, length-slice_range}
+use Rattle.bitvec_elements.specs.base.WritesLaws.{HasWindow-kept, HasWindow-range, Writes-empty, Writes-is, Writes-join, length-list, list-behind, list-range}
+use Rattle.bitvec_elements.specs.moves.WordLaws.{take-all}
+use Rattle.bitvec_elements.specs.store.Width.{IsWidth}
+use Rattle.bitvec_elements.specs.store.WidthLaws.{at_each_width}
+use Rattle.bitvec_elements.specs.words.ShortWindow.{padded}
+use Rattle.bitvec_elements.specs.words.MovedLaws.{length-padded, take-word, take-range}
+use Rattle.bitvec_elements.proofs.DifferenceLemmas.{in_padded, past_padded}
+use Rattle.bitvec_engine.proofs.DirectionLemmas.{list-agrees, memory-agrees}
+
+-- the first n places of a window
+abbrev pub until : Window → ℕ → Window
+until window n = record { start = window.start; len = n }
+
+-- a write under an order that agrees
+pub Writes-agrees : (b : ℕ) (at other : ℕ → ℕ → ℕ) (old new : List ℕ) (window : Window) (list : List Bool) → 0 < b → Agrees b at other → Writes b other old new window list → Writes b at old new window list
+Writes-agrees b at other old new window list some agrees writes = record {
+  bits = memory-agrees b at other new some agrees ∙ writes.bits ∙ ap (λ (l : List Bool). write_window l window list) (sym (memory-agrees b at other old some agrees));
+  long = writes.long;
+  elements = writes.elements;
+}
+
+-- a list of a memory under such an order, written elsewhere
+pub List-agrees : (b : ℕ) (at other : ℕ → ℕ → ℕ) (xs : List ℕ) (window : Window) (d : ℕ) (way : ℕ → ℕ → ℕ) (old new : List ℕ) (to : Window) → 0 < b → Agrees b at other → Writes d way old new to (list_in b other xs window) → Writes d way old new to (list_in b at xs window)
+List-agrees b at other xs window d way old new to some agrees writes = Writes-is d way old new to _ _ writes (sym (list-agrees b at other xs window some agrees))
+
+-- both
+pub Copied-agrees : (b : ℕ) (at other : ℕ → ℕ → ℕ) (old new xs : List ℕ) (window right : Window) → 0 < b → Agrees b at other → Writes b other old new window (list_in b other xs right) → Writes b at old new window (list_in b at xs right)
+Copied-agrees b at other old new xs window right some agrees writes =
+    List-agrees b at other xs right b at old new window some agrees (Writes-agrees b at other old new window _ some agrees writes)
+
+pub Edits-agrees : (b : ℕ) (at other : ℕ → ℕ → ℕ) (old new : List ℕ) (window : Window) (edit : List Bool → List Bool) → 0 < b → Agrees b at other → Edits b other old new window edit → Edits b at old new window edit
+Edits-agrees b at other old new window edit some agrees writes =
+    Writes-is b at old new window _ _ (Writes-agrees b at other old new window _ some agrees writes) (ap edit (sym (list-agrees b at other old window some agrees)))
+
+-- a range of a window lies in the memory, also after a write
+pub range-inside : (b : ℕ) (xs : List ℕ) (window part : Window) (from to : ℕ) → HasWindow b xs window → part ≡ window_range window from to → from ≤ to → to ≤ window.len → HasWindow b xs part
+range-inside b xs window part from to has is order bound = rw is (HasWindow-range b xs window from to has order bound)
+
+pub range-kept : (b : ℕ) (xs ys : List ℕ) (window part : Window) (from to : ℕ) → HasWindow b xs window → length ys ≡ length xs → part ≡ window_range window from to → from ≤ to → to ≤ window.len → HasWindow b ys part
+range-kept b xs ys window part from to has long is order bound = range-inside b ys window part from to (HasWindow-kept b xs ys window has long) is order bound
+
+-- the word that is loaded of a range
+pub loaded-range : (b : ℕ) (at way : ℕ → ℕ → ℕ) (xs : List ℕ) (window part : Window) (from to word : ℕ) → part ≡ window_range window from to → element_bits 64 way word ≡ padded 64 (list_in b at xs part)
+    → element_bits 64 way word ≡ padded 64 (list_in b at xs (window_range window from to))
+loaded-range b at way xs window part from to word is loaded = rw is at loaded
+
+-- the first bits of the few elements that are held aside
+pub held-inside : (b : ℕ) (xs : List ℕ) (n count : ℕ) → IsWidth b → length xs ≡ n → n ≤ 128 → count ≤ b * n → HasWindow b xs (record { start = 0; len = count })
+held-inside b xs n count width long few fits =
+    let most : b ≤ 128 = at_each_width (λ m. m ≤ 128) (omega arith) (omega arith) (omega arith) (omega arith) (omega arith) b width in
+    let room = mul-le-mul_left b few in
+    let all : b * length xs ≡ b * n = ap (λ (m : ℕ). b * m) long in
+    record { fits = omega arith; within = record { start = omega arith; len = omega arith } }
+
+-- nothing yet
+pub stretch-none : (b : ℕ) (at : ℕ → ℕ → ℕ) (xs ys : List ℕ) (window : Window) (list : List Bool) → HasWindow b xs window → ys ≡ xs → Writes b at xs ys (until window 0) (take 0 list)
+stretch-none b at xs ys window list has same =
+    let start = has.within.start in
+    Writes-empty b at xs ys (until window 0) (record { fits = has.fits; within = record { start = start; len = omega arith } }) refl same
+
+-- a stretch more
+pub stretch-next : (b : ℕ) (at : ℕ → ℕ → ℕ) (old mid new : List ℕ) (window : Window) (list part : List Bool) (from to : ℕ) → HasWindow b old window → from ≤ to → to ≤ window.len → length list ≡ window.len → part ≡ slice_range list from to
+    → Writes b at old mid (until window from) (take from list) → Writes b at mid new (window_range window from to) part → Writes b at old new (until window to) (take to list)
+stretch-next b at old mid new window list part from to has order bound long same before after =
+    let start = has.within.start in
+    let end = has.within.len in
+    let whole : HasWindow b old (until window to) = record { fits = has.fits; within = record { start = start; len = omega arith } } in
+    Writes-is b at old new (until window to) _ _
+    (Writes-join b at old mid new (until window from) (window_range window from to) (until window to) (take from list) (slice_range list from to) whole refl refl (omega arith) before (Writes-is b at mid new (window_range window from to) part _ after same))
+    (take-range list from to to order (omega arith) refl)
+
+-- all of them
+pub stretch-all : (b : ℕ) (at : ℕ → ℕ → ℕ) (old new : List ℕ) (window : Window) (list : List Bool) (n : ℕ) → n ≡ window.len → length list ≡ window.len → Writes b at old new (until window n) (take n list) → Writes b at old new window list
+stretch-all b at old new window list n all long writes =
+    Writes-is b at old new window _ _ (subst (λ (k : ℕ). Writes b at old new (until window k) (take k list)) all writes) (take-all list window.len (omega arith))
+
+-- three stretches of a window of another memory
+pub stretches-copied : (b : ℕ) (at : ℕ → ℕ → ℕ) (old mid next new ys : List ℕ) (to from head source body right tail rest : Window) (f l : ℕ) → HasSpan b old ys to from → f ≤ l → l ≤ to.len
+    → head ≡ window_range to 0 f → source ≡ window_range from 0 f → Writes b at old mid head (list_in b at ys source)
+    → body ≡ window_range to f l → right ≡ window_range from f l → Writes b at mid next body (list_in b at ys right)
+    → tail ≡ window_range to l to.len → rest ≡ window_range from l to.len → Writes b at next new tail (list_in b at ys rest)
+    → Writes b at old new to (list_in b at ys from)
+stretches-copied b at old mid next new ys to from head source body right tail rest f l span order bound head-is source-is first body-is right-is second tail-is rest-is third =
+    let lengths = span.lengths in
+    let list = list_in b at ys from in
+    let long = length-list b at ys from span.beside ∙ sym lengths in
+    let part = λ (a e : ℕ) (up : a ≤ e) (fits : e ≤ to.len). list-range b at ys from a e span.beside up (omega arith) in
+    let one = stretch-next b at old old mid to list _ 0 f span.window (omega arith) (omega arith) long (part 0 f (omega arith) (omega arith)) (stretch-none b at old old to list span.window refl) (rw (head-is, source-is) at first) in
+    let two = stretch-next b at old mid next to list _ f l span.window order bound long (part f l order bound) one (rw (body-is, right-is) at second) in
+    let three = stretch-next b at old next new to list _ l to.len span.window bound (omega arith) long (part l to.len bound (omega arith)) two (rw (tail-is, rest-is) at third) in
+    stretch-all b at old new to list to.len refl long three
+
+-- ---- what is stored
+
+-- the word's bits
+pub copied-stretch : (at : ℕ → ℕ → ℕ) (d : ℕ) (other : ℕ → ℕ → ℕ) (ys : List ℕ) (right : Window) (from to n word : ℕ) → HasWindow d ys right → from ≤ to → to ≤ right.len → n ≡ to - from → element_bits 64 at word ≡ padded 64 (list_in d other ys (window_range right from to))
+    → take n (element_bits 64 at word) ≡ slice_range (list_in d other ys right) from to
+copied-stretch at d other ys right from to n word has order bound size is =
+    let long = length-list d other ys right has in
+    let part = length-slice_range (list_in d other ys right) from to (omega arith) in
+    take-word 64 n _ (slice_range (list_in d other ys right) from to) (is ∙ ap (padded 64) (list-range d other ys right from to has order bound)) (omega arith)
+
+-- those of a stretch of another window, loaded under another order
+pub stored-stretch : (at to_at : ℕ → ℕ → ℕ) (list : List Bool) (from to n word made : ℕ) → from ≤ to → to ≤ length list → n ≡ to - from → element_bits 64 at word ≡ padded 64 (slice_range list from to) → element_bits 64 to_at made ≡ element_bits 64 at word
+    → take n (element_bits 64 to_at made) ≡ slice_range list from to
+stored-stretch at to_at list from to n word made order bound size loaded same =
+    let part = length-slice_range list from to bound in
+    take-word 64 n _ (slice_range list from to) (same ∙ loaded) (omega arith)
+
+-- ---- what an operator makes of a stretch
+
+in_taken : (list : List Bool) (n k : ℕ) (d : Bool) → k < n → slice_index_or (take n list) k d ≡ slice_index_or list k d
+in_taken list n k d inside = grind (arith, places)
+
+past_end : (list : List Bool) (k : ℕ) → length list ≤ k → slice_index_or list k false ≡ false
+past_end list k behind = grind (arith, places)
+
+module _ (f : Bool → Bool → Bool) (xs ys : List Bool) (from to r : ℕ) (long : r ≡ length ys) (order : from ≤ to) (bound : to ≤ length xs) (size : to ≤ from + 64) where
+  abbrev other : List Bool
+  other = slice_range ys (min from r) (min to r)
+
+  other_bit : (k : ℕ) → k < to - from → slice_index_or (padded 64 other) k false ≡ slice_index_or ys (from + k) false
+  other_bit k inside =
+      let wide = length-slice_range ys (min from r) (min to r) (omega arith) in
+      ⊎_elim
+      (λ (within : k < length other).
+      let place : min from r + k ≡ from + k = omega arith in
+      in_padded 64 other k within ∙ get-slice_range ys (min from r) (min to r) k false (omega arith) ∙ ap (λ (n : ℕ). slice_index_or ys n false) place)
+      (λ (behind : length other ≤ k). past_padded 64 other k behind (omega arith) ∙ sym (past_end ys (from + k) (omega arith)))
+      (cases_lt k (length other))
+
+  one_bit : (k : ℕ) → k < to - from → slice_index_or (padded 64 (slice_range xs from to)) k false ≡ slice_index_or xs (from + k) false
+  one_bit k inside =
+      let wide = length-slice_range xs from to bound in
+      in_padded 64 (slice_range xs from to) k (omega arith) ∙ get-slice_range xs from to k false (omega arith)
+
+  pub combined-stretch : (a b made : List Bool) → a ≡ padded 64 (slice_range xs from to) → b ≡ padded 64 other → made ≡ combined f a b → take (to - from) made ≡ slice_range (combined f xs ys) from to
+  combined-stretch a b made left right is =
+      let wide = length-slice_range xs from to bound in
+      let word = ap length left ∙ length-padded 64 (slice_range xs from to) (omega arith) in
+      let all : length made ≡ 64 = ap length is ∙ length-combined f a b ∙ word in
+      let whole = length-combined f xs ys in
+      let part = length-slice_range (combined f xs ys) from to (omega arith) in
+      let first : length (take (to - from) made) ≡ to - from = grind (arith, places) in
+      same_lists _ _ (omega arith) (λ k d inside.
+      in_taken made (to - from) k d (omega arith)
+      ∙ ap (λ (l : List Bool). slice_index_or l k d) is
+      ∙ get-combined f a b k d (omega arith)
+      ∙ ap (λ (x : Bool). f x (slice_index_or b k false)) (ap (λ (l : List Bool). slice_index_or l k false) left ∙ one_bit k (omega arith))
+      ∙ ap (f (slice_index_or xs (from + k) false)) (ap (λ (l : List Bool). slice_index_or l k false) right ∙ other_bit k (omega arith))
+      ∙ sym (get-slice_range (combined f xs ys) from to k d (omega arith) ∙ get-combined f xs ys (from + k) d (omega arith)))
+
+-- the stretch of the window that is not yet written
+pub stretch-old : (b : ℕ) (at : ℕ → ℕ → ℕ) (old mid : List ℕ) (window : Window) (list : List Bool) (from to : ℕ) → HasWindow b old window → from ≤ to → to ≤ window.len → Writes b at old mid (until window from) list
+    → list_in b at mid (window_range window from to) ≡ slice_range (list_in b at old window) from to
+stretch-old b at old mid window list from to has order bound writes =
+    let start = has.within.start in
+    let end = has.within.len in
+    let whole : HasWindow b old (until window from) = record { fits = has.fits; within = record { start = start; len = omega arith } } in
+    list-behind b at old mid (until window from) (window_range window from to) list whole (HasWindow-range b old window from to has order bound) (omega arith) writes
+    ∙ list-range b at old window from to has order bound
+
+-- the word that is loaded of it
+pub stretch-loaded : (b : ℕ) (at : ℕ → ℕ → ℕ) (old mid : List ℕ) (window part : Window) (list : List Bool) (from to word : ℕ) → HasWindow b old window → from ≤ to → to ≤ window.len → part ≡ window_range window from to → Writes b at old mid (until window from) list
+    → element_bits 64 at word ≡ padded 64 (list_in b at mid part) → element_bits 64 at word ≡ padded 64 (slice_range (list_in b at old window) from to)
+stretch-loaded b at old mid window part list from to word has order bound is writes loaded = (rw is at loaded) ∙ ap (padded 64) (stretch-old b at old mid window list from to has order bound writes)
+
+-- a stretch more, of a word's first bits; of a word that was loaded under another order
+pub stretch-stored : (b : ℕ) (at : ℕ → ℕ → ℕ) (old mid now new : List ℕ) (window part : Window) (list made : List Bool) (from to : ℕ) → HasWindow b old window → from ≤ to → to ≤ window.len → length list ≡ window.len → part ≡ window_range window from to → now ≡ mid → take (to - from) made ≡ slice_range list from to
+    → Writes b at old mid (until window from) (take from list) → Writes b at now new part (take part.len made) → Writes b at old new (until window to) (take to list)
+stretch-stored b at old mid now new window part list made from to has order bound long is same fits before after =
+    stretch-next b at old mid new window list (take (to - from) made) from to has order bound long fits before (rw (is, same) at after)
+
+pub stretch-reordered : (b : ℕ) (at other : ℕ → ℕ → ℕ) (old mid now new : List ℕ) (window part : Window) (list : List Bool) (from to word made : ℕ) → HasWindow b old window → from ≤ to → to ≤ window.len → length list ≡ window.len → part ≡ window_range window from to → now ≡ mid
+    → element_bits 64 other word ≡ padded 64 (slice_range list from to) → element_bits 64 at made ≡ element_bits 64 other word
+    → Writes b at old mid (until window from) (take from list) → Writes b at now new part (take part.len (element_bits 64 at made)) → Writes b at old new (until window to) (take to list)
+stretch-reordered b at other old mid now new window part list from to word made has order bound long is same loaded reordered before after =
+    stretch-stored b at old mid now new window part list (element_bits 64 at made) from to has order bound long is same (stored-stretch other at list from to (to - from) word made order (omega arith) refl loaded reordered) before after
+
+-- a window of at most 64 bits gets an edit of its list, as the first bits of a word
+pub few-edited : (b : ℕ) (at : ℕ → ℕ → ℕ) (old new : List ℕ) (window : Window) (edit : List Bool → List Bool) (bits reordered : List Bool) → HasWindow b old window
+    → bits ≡ padded 64 (list_in b at old window) → reordered ≡ padded 64 (edit (take window.len bits)) → length (edit (list_in b at old window)) ≡ window.len
+    → Writes b at old new window (take window.len reordered) → Edits b at old new window edit
+few-edited b at old new window edit bits reordered has word edited long writes =
+    let list = list_in b at old window in
+    let whole = length-list b at old window has in
+    let same = take-word 64 window.len bits list word (sym whole) in
+    Writes-is b at old new window _ (edit list) writes (take-word 64 window.len reordered (edit list) (edited ∙ ap (λ (l : List Bool). padded 64 (edit l)) same) (sym long))

@@ -1,0 +1,24 @@
+use Rattle.std.proofs.Common.{◌-◌, map}
+use Rattle.bitvec_engine.specs.Direction.{Runs}
+use Rattle.bitvec_elements.specs.base.Lists.{combined}
+use Rattle.bitvec_elements.specs.base.Memory.{list_in}
+use Rattle.bitvec_elements.specs.store.WidthLaws.{width_some}
+use Rattle.bitvec_elements.specs.words.Operator.{operator}
+use Rattle.bitvec_elements.proofs.StoreLemmas.{Edits-agrees}
+use Rattle.bitvec_elements.proofs.combining.combine_in.Goals as goal
+
+pub returns-in-Up : goal.returns-in-Up
+unfolding Runs
+returns-in-Up g c =
+    let other = list_in g.U.BitStore.BITS g.P.BitOrder.at (map g.U.BitStore.value c.args.right.now) c.args.right_window in
+    record {
+      writes = Edits-agrees g.T.BitStore.BITS g.O.BitOrder.at (λ b i. i) _ _ c.args.left_window (λ list. combined (operator c.args.op) list other) (width_some _ g.met.T.BitStore.width_law) (rw c.in-Up.is at c.direction_of.ensures) c.combine_words.ensures.writes;
+    }
+
+pub returns-in-Down : goal.returns-in-Down
+unfolding Runs
+returns-in-Down g c =
+    let other = list_in g.U.BitStore.BITS g.P.BitOrder.at (map g.U.BitStore.value c.args.right.now) c.args.right_window in
+    record {
+      writes = Edits-agrees g.T.BitStore.BITS g.O.BitOrder.at (λ b i. b - 1 - i) _ _ c.args.left_window (λ list. combined (operator c.args.op) list other) (width_some _ g.met.T.BitStore.width_law) (rw c.in-Down.is at c.direction_of.ensures) c.combine_words-in-Down.ensures.writes;
+    }

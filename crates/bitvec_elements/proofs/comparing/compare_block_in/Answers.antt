@@ -1,0 +1,44 @@
+use Rattle.std.proofs.Common.{◌+◌, ◌∙◌, arith, sym}
+use Rattle.bitvec_engine.specs.base.CompareLaws.{order-behind, order-same, same-stretch}
+use Rattle.bitvec_engine.specs.base.WritesLaws.{HasWindow-range, length-list, list-after, list-range}
+use Rattle.bitvec_elements.proofs.StoreLemmas.{range-inside}
+use Rattle.bitvec_elements.proofs.comparing.compare_block_in.Goals as goal
+
+pub eq_blocks_in-requires-clause-window : goal.eq_blocks_in-requires-clause-window
+eq_blocks_in-requires-clause-window g c = range-inside _ _ c.args.left_window _ _ _ c.requires.window c.range-part.ensures (omega arith) (omega arith)
+
+pub eq_blocks_in-requires-clause-right_window : goal.eq_blocks_in-requires-clause-right_window
+eq_blocks_in-requires-clause-right_window g c = range-inside _ _ c.args.right_window _ _ _ c.requires.right_window c.range-other.ensures (omega arith) (omega arith)
+
+pub compare_in-requires-clause-window : goal.compare_in-requires-clause-window
+compare_in-requires-clause-window g c = rw c.after-rest.ensures (HasWindow-range _ _ c.args.left_window c.loop-from.from c.args.left_window.len c.requires.window (omega arith) (omega arith))
+
+pub compare_in-requires-clause-right_window : goal.compare_in-requires-clause-right_window
+compare_in-requires-clause-right_window g c = rw c.after-other.ensures (HasWindow-range _ _ c.args.right_window c.loop-from.from c.args.right_window.len c.requires.right_window (omega arith) (omega arith))
+
+pub returns-then-not-eq_blocks_in : goal.returns-then-not-eq_blocks_in
+returns-then-not-eq_blocks_in g c =
+    let at = g.O.BitOrder.at in
+    let inv = c.loop-from.invariant in
+    let left = length-list _ at _ _ c.requires.window in
+    let right = length-list _ at _ _ c.requires.right_window in
+    rw (c.compare_in.ensures, c.after-rest.ensures, c.after-other.ensures, list-after _ at _ _ c.loop-from.from c.requires.window (omega arith), list-after _ at _ _ c.loop-from.from c.requires.right_window (omega arith))
+    (order-behind _ _ c.loop-from.from (omega arith) (omega arith) inv.same)
+
+pub loop-from-preserved : goal.loop-from-preserved
+loop-from-preserved g c =
+    let at = g.O.BitOrder.at in
+    let from = c.loop-from.from in
+    let to = from + c.min.result in
+    let left = list-range _ at _ _ from to c.requires.window (omega arith) (omega arith) in
+    let right = list-range _ at _ _ from to c.requires.right_window (omega arith) (omega arith) in
+    let same = rw (c.range-part.ensures, c.range-other.ensures, left, right) at c.eq_blocks_in.ensures in
+    record {
+      fits = omega arith;
+      same = same-stretch _ _ from to c.loop-from.invariant.same (sym same ∙ c.if-not-eq_blocks_in.false);
+    }
+
+pub returns : goal.returns
+returns g c =
+    let at = g.O.BitOrder.at in
+    rw c.cmp.ensures (order-same _ _ _ _ c.loop-from.from (length-list _ at _ _ c.requires.window) (length-list _ at _ _ c.requires.right_window) (omega arith) c.loop-from.invariant.same)

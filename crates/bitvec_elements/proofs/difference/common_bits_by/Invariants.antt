@@ -1,0 +1,16 @@
+use Rattle.std.proofs.Common.{◌-◌, ◌≤◌, map}
+use Rattle.bitvec_elements.specs.base.CompareLaws.{SameBelow}
+use Rattle.bitvec_elements.specs.base.Memory.{list_in}
+use Rattle.bitvec_elements.proofs.difference.common_bits_by.Given as goal
+
+abbrev pub invariant-loop-from : goal.invariant-loop-from
+invariant-loop-from g l =
+    let list = list_in g.T.BitStore.BITS g.O.BitOrder.at (map g.T.BitStore.value l.left) l.left_window in
+    let right_list = list_in g.U.BitStore.BITS g.P.BitOrder.at (map g.U.BitStore.value l.right) l.right_window in
+    record {
+      fits : l.from ≤ l.len;
+      same : SameBelow list right_list l.from;
+    }
+
+abbrev pub decreases-loop-from : goal.decreases-loop-from
+decreases-loop-from g l = l.len - l.from

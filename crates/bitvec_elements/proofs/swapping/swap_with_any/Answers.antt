@@ -1,0 +1,25 @@
+use Rattle.std.proofs.Common.{◌-◌}
+use Rattle.bitvec_engine.specs.Direction.{Runs}
+use Rattle.bitvec_elements.specs.store.WidthLaws.{width_some}
+use Rattle.bitvec_elements.proofs.StoreLemmas.{List-agrees, Writes-agrees}
+use Rattle.bitvec_elements.proofs.swapping.swap_with_any.Goals as goal
+
+pub returns-in-Up : goal.returns-in-Up
+unfolding Runs
+returns-in-Up g c =
+    let agrees = rw c.in-Up.is at c.direction_of.ensures in
+    let some = width_some _ g.met.U.BitStore.width_law in
+    record {
+      writes = List-agrees g.U.BitStore.BITS g.P.BitOrder.at (λ b i. i) _ c.args.right_window _ g.W.BitOrder.at _ _ _ some agrees c.swap_words.ensures.writes;
+      right_writes = Writes-agrees g.U.BitStore.BITS g.P.BitOrder.at (λ b i. i) _ _ _ _ some agrees c.swap_words.ensures.right_writes;
+    }
+
+pub returns-in-Down : goal.returns-in-Down
+unfolding Runs
+returns-in-Down g c =
+    let agrees = rw c.in-Down.is at c.direction_of.ensures in
+    let some = width_some _ g.met.U.BitStore.width_law in
+    record {
+      writes = List-agrees g.U.BitStore.BITS g.P.BitOrder.at (λ b i. b - 1 - i) _ c.args.right_window _ g.W.BitOrder.at _ _ _ some agrees c.swap_words-in-Down.ensures.writes;
+      right_writes = Writes-agrees g.U.BitStore.BITS g.P.BitOrder.at (λ b i. b - 1 - i) _ _ _ _ some agrees c.swap_words-in-Down.ensures.right_writes;
+    }

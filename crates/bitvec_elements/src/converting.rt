@@ -1,0 +1,93 @@
+//! The bits of two windows of elements of one width, compared as elements of one type.
+ghost use Rattle.std.specs.Prelude.{◌≡◌, map};
+ghost use Rattle.bitvec_engine.specs.Direction.{Runs};
+ghost use Rattle.bitvec_engine.specs.base.Lists.{same_bits};
+ghost use Rattle.bitvec_engine.specs.base.Memory.{HasWindow, list_in};
+
+use bitvec_engine::base::{BitOrder, Window};
+use bitvec_engine::cells::{CellsRead, Shared};
+use bitvec_engine::store::BitStore;
+use bitvec_engine::{Direction, SliceOrder, direction_of};
+use std::marker::PhantomData;
+
+/// The accessor of a slice whose elements are read as those of another type of as many bits. Where
+/// the two types are one, the machine code has no conversion, and it reads as [`Shared`] does.
+#[derive(Drop)]
+pub(crate) struct Converted<'a, T: BitStore, U: BitStore> {
+    cells: Shared<'a, U>,
+    read_as: PhantomData<T>,
+    ghost same_width: { T.BITS ≡ U.BITS },
+}
+
+impl<'a, T: BitStore, U: BitStore> Converted<'a, T, U> {
+    ghost use Rattle.bitvec_engine.specs.cells.Accessors.{shared_numbers};
+    ghost use Rattle.bitvec_elements.specs.Converting.{unconverted};
+
+    /// The accessor of this slice. Condition: the elements of both types have as many bits.
+    fn new(elements: &'a [U]) -> Self
+        requires { T.BITS ≡ U.BITS }
+        ensures { shared_numbers U.value (unconverted result) ≡ map U.value elements.now }
+    {
+        Converted {
+            cells: Shared::new(elements),
+            read_as: PhantomData,
+        }
+    }
+}
+
+impl<'a, T: BitStore, U: BitStore> CellsRead for Converted<'a, T, U> {
+    ghost use Rattle.bitvec_engine.specs.cells.Accessors.{shared_borrow, shared_loads, shared_numbers, shared_stores};
+    ghost use Rattle.bitvec_elements.specs.Converting.{unconverted};
+
+    type Elem = T;
+
+    ghost borrow = { λ it. shared_borrow (unconverted it) };
+
+    ghost numbers = { λ it. shared_numbers U.value (unconverted it) };
+
+    ghost loads = { λ it. shared_loads (unconverted it) };
+
+    ghost stores = { λ it. shared_stores (unconverted it) };
+
+    fn len(&self) -> usize {
+        self.cells.len()
+    }
+
+    fn load(&mut self, index: usize) -> T {
+        let element = self.cells.load(index);
+        T::from_u128(element.to_u128())
+    }
+}
+
+/// Which way both orders run through elements of a type; `Other` where they run apart.
+#[inline(always)]
+#[tactic(auto, unfolding(bitvec_engine::specs::Direction::Runs))]
+pub(crate) fn common_direction<T: BitStore, O: BitOrder, P: BitOrder>() -> Direction
+    ensures left { Runs result T.BITS O.at }
+    ensures right { Runs result T.BITS P.at }
+{
+    match (direction_of::<O, T>(), direction_of::<P, T>()) {
+        (Direction::Up, Direction::Up) => Direction::Up,
+        (Direction::Down, Direction::Down) => Direction::Down,
+        _ => Direction::Other,
+    }
+}
+
+/// Whether two windows have the same bits, of elements of two types of one width, as the order compares
+/// them. Condition: each memory has at most `MAX_BITS` bits, and each window lies in its memory.
+pub(crate) fn eq_converted<O: SliceOrder, T: BitStore, U: BitStore>(
+    left: &[T],
+    left_window: Window,
+    right: &[U],
+    right_window: Window,
+) -> bool
+    requires width { T.BITS ≡ U.BITS }
+    requires window { HasWindow T.BITS (map T.value left.now) left_window }
+    requires right_window { HasWindow T.BITS (map U.value right.now) right_window }
+    ensures { result ≡ same_bits (list_in T.BITS O.at (map T.value left.now) left_window)
+        (list_in T.BITS O.at (map U.value right.now) right_window) }
+{
+    let mut left = Shared::new(left);
+    let mut right = Converted::<T, U>::new(right);
+    O::block_eq::<Shared<T>, Converted<T, U>>(&mut left, left_window, &mut right, right_window)
+}

@@ -1,0 +1,145 @@
+//! Bits copied from a window of one slice of elements to a window of another.
+ghost use Rattle.std.specs.Prelude.{◌≡◌, ◌≤◌, map};
+ghost use Rattle.bitvec_engine.specs.Pairs.{HasPair};
+ghost use Rattle.bitvec_engine.specs.base.Memory.{HasWindow, Writes, list_in};
+ghost use Rattle.bitvec_engine.specs.base.Spans.{HasSpan};
+ghost use Rattle.bitvec_engine.specs.moves.Moves.{Copies};
+
+use crate::copying_elements::{AT_ONCE_BITS, copy_elements_in, copy_whole_in};
+use crate::window_words::{few_word, window_word, word_end};
+use bitvec_engine::base::{BitOrder, Lsb0, Msb0, Window};
+use bitvec_engine::cells::{Exclusive, Shared};
+use bitvec_engine::store::BitStore;
+use bitvec_engine::words::{WORD_BITS, WordOrder};
+use bitvec_engine::{Direction, SliceOrder, bits_copy, direction_of, store_bits, store_few};
+
+/// Copies the bits of the right window, of elements of any type and order. Condition: each memory
+/// has at most `MAX_BITS` bits, each window lies in its memory, and the windows are as long.
+pub fn copy_from_in<T: BitStore, O: BitOrder, U: BitStore, P: BitOrder>(
+    left: &mut [T],
+    left_window: Window,
+    right: &[U],
+    right_window: Window,
+)
+    requires window { HasWindow T.BITS (map T.value left.old) left_window }
+    requires right_window { HasWindow U.BITS (map U.value right.now) right_window }
+    requires lengths { left_window.len ≡ right_window.len }
+    ensures writes { Writes T.BITS O.at (map T.value left.old) (map T.value left.new) left_window
+        (list_in U.BITS P.at (map U.value right.now) right_window) }
+{
+    match direction_of::<O, T>() {
+        Direction::Up => copy_words::<Lsb0, T, U, P>(left, left_window, right, right_window),
+        Direction::Down => copy_words::<Msb0, T, U, P>(left, left_window, right, right_window),
+        Direction::Other => {
+            let mut cells = Exclusive::new(left);
+            let mut source = Shared::new(right);
+            bits_copy::<O, P, _, _>(&mut cells, left_window, &mut source, right_window);
+        }
+    }
+}
+
+/// [`copy_from_in`] under an order that runs from one end of an element to the other, up to 64 bits
+/// at a time as a word.
+fn copy_words<W: WordOrder, T: BitStore, U: BitStore, P: BitOrder>(
+    left: &mut [T],
+    left_window: Window,
+    right: &[U],
+    right_window: Window,
+)
+    requires { HasPair T.BITS (map T.value left.old) left_window U.BITS (map U.value right.now) right_window }
+    ensures writes { Writes T.BITS W.at (map T.value left.old) (map T.value left.new) left_window
+        (list_in U.BITS P.at (map U.value right.now) right_window) }
+{
+    let direction = direction_of::<P, U>();
+    let mut cells = Exclusive::new(left);
+    let mut from = 0;
+    while from < left_window.len {
+        let to = word_end(left_window, from);
+        let word = window_word::<W, P, U>(right, right_window.range(from, to), direction);
+        store_bits::<W, Exclusive<T>>(&mut cells, left_window.range(from, to), word);
+        from = to;
+    }
+}
+
+/// Copies the bits of the right window, of elements of the same type and order, as the order does
+/// it. Condition: as for [`copy_from_in`].
+#[inline(always)]
+pub fn copy_from_block_in<T: BitStore, O: SliceOrder>(
+    left: &mut [T],
+    left_window: Window,
+    right: &[T],
+    right_window: Window,
+)
+    requires window { HasWindow T.BITS (map T.value left.old) left_window }
+    requires right_window { HasWindow T.BITS (map T.value right.now) right_window }
+    requires lengths { left_window.len ≡ right_window.len }
+    ensures writes { Writes T.BITS O.at (map T.value left.old) (map T.value left.new) left_window
+        (list_in T.BITS O.at (map T.value right.now) right_window) }
+{
+    if left_window.len <= WORD_BITS {
+        match direction_of::<O, T>() {
+            Direction::Up => return copy_few::<Lsb0, T>(left, left_window, right, right_window),
+            Direction::Down => return copy_few::<Msb0, T>(left, left_window, right, right_window),
+            Direction::Other => {}
+        }
+    }
+    copy_from_long_block_in::<T, O>(left, left_window, right, right_window);
+}
+
+/// [`copy_from_block_in`] with no test for few bits: prefer it where the length is not a compile-time
+/// constant. Whole elements are copied at once. Condition: as for [`copy_from_in`].
+#[inline(always)]
+pub fn copy_from_long_block_in<T: BitStore, O: SliceOrder>(
+    left: &mut [T],
+    left_window: Window,
+    right: &[T],
+    right_window: Window,
+)
+    requires window { HasWindow T.BITS (map T.value left.old) left_window }
+    requires right_window { HasWindow T.BITS (map T.value right.now) right_window }
+    requires lengths { left_window.len ≡ right_window.len }
+    ensures writes { Writes T.BITS O.at (map T.value left.old) (map T.value left.new) left_window
+        (list_in T.BITS O.at (map T.value right.now) right_window) }
+{
+    let bits = T::BITS as usize;
+    let has_edges = left_window.start % bits == 0 && right_window.start % bits == 0;
+    if has_edges && left_window.len % bits == 0 {
+        copy_whole_in::<T, O>(left, left_window, right, right_window);
+        return;
+    }
+    copy_parted_in::<T, O>(left, left_window, right, right_window);
+}
+
+/// Copies a window. Many bits that begin at the same index of an element are copied by whole elements at once, others
+/// by the order's block function. Condition: as for [`copy_from_in`].
+fn copy_parted_in<T: BitStore, O: SliceOrder>(left: &mut [T], to: Window, right: &[T], from: Window)
+    requires { HasSpan T.BITS (map T.value left.old) (map T.value right.now) to from }
+    ensures { Copies T.BITS O.at (map T.value left.old) (map T.value left.new) to (map T.value right.now) from }
+{
+    let bits = T::BITS as usize;
+    if to.len >= AT_ONCE_BITS && to.start % bits == from.start % bits {
+        copy_elements_in::<T, O>(left, to, right, from);
+        return;
+    }
+    let mut left = Exclusive::new(left);
+    let mut right = Shared::new(right);
+    O::block_copy::<Exclusive<T>, Shared<T>>(&mut left, to, &mut right, from);
+}
+
+/// [`copy_from_block_in`] of windows of at most 64 bits, as a word.
+#[inline(always)]
+fn copy_few<W: WordOrder, T: BitStore>(
+    left: &mut [T],
+    left_window: Window,
+    right: &[T],
+    right_window: Window,
+)
+    requires span { HasSpan T.BITS (map T.value left.old) (map T.value right.now) left_window right_window }
+    requires bound { left_window.len ≤ 64 }
+    ensures writes { Writes T.BITS W.at (map T.value left.old) (map T.value left.new) left_window
+        (list_in T.BITS W.at (map T.value right.now) right_window) }
+{
+    let word = few_word::<W, T>(right, right_window);
+    let mut cells = Exclusive::new(left);
+    store_few::<W, Exclusive<T>>(&mut cells, left_window, word);
+}

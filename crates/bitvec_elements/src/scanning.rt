@@ -1,0 +1,56 @@
+//! The first and the last bit of a window of a slice of elements that is 1, or 0.
+ghost use Rattle.std.specs.Prelude.{◌≡◌, map};
+ghost use Rattle.std.specs.List.{list_all, list_any};
+ghost use Rattle.bitvec_engine.specs.base.Lists.{first_place, last_place};
+ghost use Rattle.bitvec_engine.specs.base.Memory.{HasWindow, list_in};
+
+use bitvec_engine::base::Window;
+use bitvec_engine::cells::Shared;
+use bitvec_engine::store::BitStore;
+use bitvec_engine::{SliceOrder, all, any};
+
+/// The index of a window's first bit that is `want`, if there is one. Condition: the memory has at
+/// most `MAX_BITS` bits, and the window lies in it.
+#[inline(always)]
+pub fn find_first_in<T: BitStore, O: SliceOrder>(
+    elements: &[T],
+    window: Window,
+    want: bool,
+) -> Option<usize>
+    requires window { HasWindow T.BITS (map T.value elements.now) window }
+    ensures { result ≡ first_place want (list_in T.BITS O.at (map T.value elements.now) window) }
+{
+    let mut accessor = Shared::new(elements);
+    O::find_first::<Shared<T>>(&mut accessor, window, want)
+}
+
+/// The index of a window's last bit that is `want`, if there is one. Condition: as for [`find_first_in`].
+pub fn find_last_in<T: BitStore, O: SliceOrder>(
+    elements: &[T],
+    window: Window,
+    want: bool,
+) -> Option<usize>
+    requires window { HasWindow T.BITS (map T.value elements.now) window }
+    ensures { result ≡ last_place want (list_in T.BITS O.at (map T.value elements.now) window) }
+{
+    let mut accessor = Shared::new(elements);
+    O::scan_last::<Shared<T>>(&mut accessor, window, want)
+}
+
+/// Whether a bit of a window is 1. Condition: as for [`find_first_in`].
+pub fn any_in<T: BitStore, O: SliceOrder>(elements: &[T], window: Window) -> bool
+    requires window { HasWindow T.BITS (map T.value elements.now) window }
+    ensures { result ≡ list_any (λ bit. bit) (list_in T.BITS O.at (map T.value elements.now) window) }
+{
+    let mut accessor = Shared::new(elements);
+    any::<O, Shared<T>>(&mut accessor, window)
+}
+
+/// Whether every bit of a window is 1. Condition: as for [`find_first_in`].
+pub fn all_in<T: BitStore, O: SliceOrder>(elements: &[T], window: Window) -> bool
+    requires window { HasWindow T.BITS (map T.value elements.now) window }
+    ensures { result ≡ list_all (λ bit. bit) (list_in T.BITS O.at (map T.value elements.now) window) }
+{
+    let mut accessor = Shared::new(elements);
+    all::<O, Shared<T>>(&mut accessor, window)
+}

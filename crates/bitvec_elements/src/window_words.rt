@@ -1,0 +1,184 @@
+//! The bits of a window of a slice, up to 64 of them, as the first bits of a word under an order that
+//! runs from one end of it to the other.
+ghost use Rattle.std.specs.Prelude.{◌≡◌, ◌+◌, ◌<◌, ◌≤◌, map, slice_range, true};
+ghost use Rattle.bitvec_engine.specs.base.Memory.{HasWindow, element_bits, list_in};
+ghost use Rattle.bitvec_engine.specs.base.Window.{max_bits};
+ghost use Rattle.bitvec_engine.specs.words.ShortWindow.{padded};
+ghost use Rattle.bitvec_elements.specs.Candidates.{HasBitsFrom};
+ghost use Rattle.bitvec_engine.specs.Direction.{Runs};
+
+use bitvec_engine::base::{BitOrder, Lsb0, Msb0, Part, Window, first_part};
+use bitvec_engine::cells::{CellsRead, Shared};
+use bitvec_engine::copy::load_elements;
+use bitvec_engine::store::BitStore;
+use bitvec_engine::words::{
+    WORD_BITS, WordOrder, joined, load_element, load_parts, moved, reversed,
+};
+use bitvec_engine::{Direction, gathered};
+
+/// Where the word of 64 bits of the memory ends that has a window's index, or the window where that is
+/// before. Condition: the index is below the window's length, and the window ends in a memory of at
+/// most `MAX_BITS` bits.
+#[inline(always)]
+pub(crate) fn word_end(window: Window, from: usize) -> usize
+    requires bound { from < window.len }
+    requires fits { window.start + window.len ≤ max_bits }
+    ensures further { from < result }
+    ensures bound { result ≤ window.len }
+    ensures size { result ≤ from + 64 }
+{
+    let edge = from + WORD_BITS - (window.start + from) % WORD_BITS;
+    edge.min(window.len)
+}
+
+/// The 64 bits of a window from an index on as those of a word, with zeros behind the window's end.
+/// Conditions: the window lies in a memory of at most `MAX_BITS` bits, the index is at most 64 behind
+/// its end, and the order runs as said.
+#[inline(always)]
+pub(crate) fn word_from<W: WordOrder, O: BitOrder, T: BitStore>(
+    elements: &[T],
+    window: Window,
+    from: usize,
+    direction: Direction,
+) -> u64
+    requires window { HasWindow T.BITS (map T.value elements.now) window }
+    requires bound { from ≤ window.len + 64 }
+    requires runs { Runs direction T.BITS O.at }
+    ensures { HasBitsFrom W.at result (list_in T.BITS O.at (map T.value elements.now) window) from }
+{
+    let start = from.min(window.len);
+    let end = (from + WORD_BITS).min(window.len);
+    window_word::<W, O, T>(elements, window.range(start, end), direction)
+}
+
+/// The bits of a window as the first bits of a word; the others are 0. Conditions: the window has at
+/// most 64 bits and lies in a memory of at most `MAX_BITS` bits, and the order runs as said.
+#[inline(always)]
+pub(crate) fn window_word<W: WordOrder, O: BitOrder, T: BitStore>(
+    elements: &[T],
+    window: Window,
+    direction: Direction,
+) -> u64
+    requires window { HasWindow T.BITS (map T.value elements.now) window }
+    requires bound { window.len ≤ 64 }
+    requires runs { Runs direction T.BITS O.at }
+    ensures { element_bits 64 W.at result
+        ≡ padded 64 (list_in T.BITS O.at (map T.value elements.now) window) }
+{
+    match direction {
+        Direction::Up => reordered::<Lsb0, W>(run_word::<Lsb0, T>(elements, window)),
+        Direction::Down => reordered::<Msb0, W>(run_word::<Msb0, T>(elements, window)),
+        Direction::Other => gathered_word::<W, O, T>(elements, window),
+    }
+}
+
+/// The word that has under the order `W` the bits of a word under `V`.
+#[inline(always)]
+pub(crate) fn reordered<V: WordOrder, W: WordOrder>(word: u64) -> u64
+    ensures { element_bits 64 W.at result ≡ element_bits 64 V.at word }
+{
+    if V::HIGH == W::HIGH {
+        word
+    } else {
+        reversed::<V, u64>(word)
+    }
+}
+
+/// [`window_word`] of an order that runs from one end to the other: 64 bits of elements that aren't
+/// wider are loaded as one word, and what is left of them with the next element.
+#[inline(always)]
+fn run_word<W: WordOrder, T: BitStore>(elements: &[T], window: Window) -> u64
+    requires window { HasWindow T.BITS (map T.value elements.now) window }
+    requires bound { window.len ≤ 64 }
+    ensures { element_bits 64 W.at result
+        ≡ padded 64 (list_in T.BITS W.at (map T.value elements.now) window) }
+{
+    let mut cells = Shared::new(elements);
+    let bits = T::BITS as usize;
+    if window.len < WORD_BITS || bits > WORD_BITS {
+        return load_parts::<W, Shared<T>>(&mut cells, window);
+    }
+    let (first, skip) = (window.start / bits, window.start % bits);
+    let word = load_elements::<W, Shared<T>>(&mut cells, first);
+    if skip == 0 {
+        return word;
+    }
+    let next = cells.load(first + WORD_BITS / bits);
+    let behind = moved::<W, T, u64>(next, 0, bits, 0);
+    joined::<W, u64>(word, behind, skip)
+}
+
+/// [`run_word`], with no loop where the window is no longer than an element.
+#[inline(always)]
+pub(crate) fn few_word<W: WordOrder, T: BitStore>(elements: &[T], window: Window) -> u64
+    requires window { HasWindow T.BITS (map T.value elements.now) window }
+    requires bound { window.len ≤ 64 }
+    ensures { element_bits 64 W.at result
+        ≡ padded 64 (list_in T.BITS W.at (map T.value elements.now) window) }
+{
+    if window.len == 0 || window.len > T::BITS as usize {
+        return run_word::<W, T>(elements, window);
+    }
+    let mut cells = Shared::new(elements);
+    let (front, _) = load_element::<W, Shared<T>>(&mut cells, window);
+    moved::<W, T, u64>(front, 0, window.len, 0)
+}
+
+/// Whether so many bits are loaded and stored as a word with no loop: those of a window that is no longer
+/// than an element, or 64.
+#[inline(always)]
+pub(crate) fn is_few<T: BitStore>(len: usize) -> bool
+    ensures { result ≡ true → len ≤ 64 }
+{
+    len == WORD_BITS || len <= WORD_BITS.min(T::BITS as usize)
+}
+
+/// [`window_word`] of any order: each element is loaded once, and its bits are gathered one by one.
+fn gathered_word<W: WordOrder, O: BitOrder, T: BitStore>(elements: &[T], window: Window) -> u64
+    requires window { HasWindow T.BITS (map T.value elements.now) window }
+    requires bound { window.len ≤ 64 }
+    ensures { element_bits 64 W.at result
+        ≡ padded 64 (list_in T.BITS O.at (map T.value elements.now) window) }
+{
+    let mut cells = Shared::new(elements);
+    let bits = T::BITS as usize;
+    let mut word = 0;
+    let mut rest = window;
+    while rest.len > 0 {
+        let part = first_part(bits, rest);
+        let count = part.len();
+        let element = cells.load(part.element);
+        let first = gathered_part::<O, W, T>(element, part);
+        word |= moved::<W, u64, u64>(first, 0, count, window.len - rest.len);
+        rest = rest.after(count);
+    }
+    word
+}
+
+/// [`gathered`], of a whole element by eight bits at a time, which the compiler unrolls. Condition:
+/// as for [`gathered`].
+#[inline(always)]
+fn gathered_part<O: BitOrder, W: WordOrder, T: BitStore>(element: T, part: Part) -> u64
+    requires order { part.from ≤ part.to }
+    requires bound { part.to ≤ T.BITS }
+    requires fits { part.to ≤ part.from + 64 }
+    ensures { element_bits 64 W.at result
+        ≡ padded 64 (slice_range (element_bits T.BITS O.at (T.value element)) part.from part.to) }
+{
+    let bits = T::BITS as usize;
+    if part.len() < bits {
+        return gathered::<O, W, T>(element, part);
+    }
+    let mut word = 0;
+    for step in 0..bits / 8 {
+        let from = step * 8;
+        let eight = Part {
+            element: 0,
+            from,
+            to: from + 8,
+        };
+        let few = gathered::<O, W, T>(element, eight);
+        word |= moved::<W, u64, u64>(few, 0, 8, from);
+    }
+    word
+}

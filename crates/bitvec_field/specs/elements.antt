@@ -1,0 +1,2 @@
+-- What crates above name of `bitvec_elements`.
+pub use Rattle.bitvec_slice.specs.elements.Swaps

@@ -1,0 +1,2 @@
+-- Items of `bitvec_elements` that crates above use.
+pub use Rattle.bitvec_elements.specs.Swaps

@@ -1,2 +1,0 @@
--- Items of `bitvec_windows` that crates above use.
-pub use Rattle.bitvec_windows.specs.Swaps

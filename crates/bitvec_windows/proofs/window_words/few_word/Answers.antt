@@ -1,6 +1,0 @@
-use Rattle.bitvec_engine.proofs.FewLemmas.{padded-field}
-use Rattle.bitvec_windows.proofs.window_words.few_word.Goals as goal
-
-pub returns : goal.returns
-returns g c =
-    padded-field g.T.BitStore.BITS g.W.BitOrder.at c.args.window.len _ _ _ (rw c.BITS.ensures at c.if-window-BITS.false) c.requires.bound c.moved.ensures (rw c.new-cells.ensures.numbers at c.field-front.ensures.value)

@@ -1,7 +1,0 @@
-use Rattle.std.proofs.Common.{◌≡◌, ◌*◌, take}
-use Rattle.bitvec_windows.specs.base.Memory.{element_bits}
-use Rattle.bitvec_windows.specs.words.Field.{padded}
-use Rattle.bitvec_windows.proofs.window_words.gathered_part.Given as goal
-
-abbrev pub invariant-loop-step : goal.invariant-loop-step
-invariant-loop-step g l = element_bits 64 g.W.BitOrder.at l.word ≡ padded 64 (take (l.step * 8) (element_bits g.T.BitStore.BITS g.O.BitOrder.at (g.T.BitStore.value l.element)))

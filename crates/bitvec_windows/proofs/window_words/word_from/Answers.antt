@@ -1,7 +1,0 @@
-use Rattle.bitvec_windows.proofs.StandingLemmas.{bits-from}
-use Rattle.bitvec_windows.proofs.window_words.word_from.Goals as goal
-
-pub returns : goal.returns
-returns g c =
-    let held = rw c.range.ensures at c.window_word.ensures in
-    bits-from _ g.O.BitOrder.at g.W.BitOrder.at _ _ c.requires.window _ c.args.from _ _ c.min-start.ensures c.min-end.ensures held

@@ -1,8 +1,0 @@
--- What contracts see of an accessor that reads elements as those of another type.
-use Rattle.bitvec_engine.specs.cells.declared.shared.Shared.{Shared}
-use Rattle.bitvec_engine.specs.store.declared.store.BitStore.{Ghosts as Store}
-use Rattle.bitvec_windows.specs.declared.converting.Converted.{Converted}
-
--- the accessor of the elements as they are
-abbrev pub unconverted : {T U : Type 0} {t : Store T} {u : Store U} → Converted T U t u → Shared U
-unconverted it = it.cells

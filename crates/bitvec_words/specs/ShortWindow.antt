@@ -1,0 +1,18 @@
+-- Fields of elements under an order that runs from one end to the other.
+use Rattle.std.specs.Prelude.{ℕ, ◌+◌, ◌-◌, ◌<◌, ◌≤◌, Bool, false, if◌then◌else◌, List, ◌++◌, length, replicate}
+use Rattle.bitvec_cells.specs.base.declared.window.Window.{Window}
+use Rattle.bitvec_cells.specs.base.Memory.{HasWindow}
+
+-- a window of the memory that isn't empty, and is no longer than an element
+pub record HasShortWindow (b : ℕ) (xs : List ℕ) (window : Window) : Type 0 where
+  pub inside : HasWindow b xs window
+  pub some : 0 < window.len
+  pub bound : window.len ≤ b
+
+-- the lowest of the numbers of the bits at the indices from..from + len
+abbrev pub lowest_bit : Bool → ℕ → ℕ → ℕ → ℕ
+lowest_bit high b from len = if high then b - (from + len) else from
+
+-- the list with zeros behind it, b bits in all
+unfoldable pub padded : ℕ → List Bool → List Bool
+padded b list = list ++ replicate (b - length list) false
