@@ -105,7 +105,7 @@ pub(crate) fn put_word<T: BitStore, O: FieldOrder>(
 }
 
 /// `put` of a field of more than 64 bits as two words. Conditions beside those of `put`: the field has
-/// more than 64 bits, and numbers are made of one another.
+/// more than 64 bits, and numbers join without a seam.
 pub(crate) fn put_wide<T: BitStore, O: FieldOrder>(
     endian: Endian,
     field: Window,

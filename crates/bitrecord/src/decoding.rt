@@ -14,8 +14,8 @@ use bitvec::index::Window;
 use bitvec::prelude::*;
 use std::alloc::Allocator;
 
-/// Whether numbers that are read from the end, under the order, are those of one segment: then the
-/// number of several fields that follow one another is made of theirs.
+/// Whether numbers join without a seam: read from this end, under this order, the number of neighbouring
+/// fields together is put together from theirs.
 #[inline(always)]
 pub(crate) fn is_seamless<O: FieldOrder>(endian: Endian) -> bool
     ensures { IsTrue result ↔ IsSeamless endian O.HIGH }
@@ -27,7 +27,7 @@ pub(crate) fn is_seamless<O: FieldOrder>(endian: Endian) -> bool
 }
 
 /// Reads the numbers of the fields of a run, of which there are several, from one word. Conditions: as
-/// of `decode`, and the run is one of the layout, whose numbers are made of one another.
+/// for `decode`, the run is one of the layout, and numbers join without a seam.
 fn decode_run<T: BitStore, O: FieldOrder, A: Allocator>(
     layout: &Layout<A>,
     endian: Endian,
@@ -55,9 +55,9 @@ fn decode_run<T: BitStore, O: FieldOrder, A: Allocator>(
     }
 }
 
-/// The number of a field that is in no run of several. One of fewer than 64 bits is the end of the word
-/// that ends with it, if there is one, since no number is read as fast as a word. Conditions: the field
-/// has a width and lies in the view, and numbers are made of one another.
+/// The number of a field that is in no run of several. A field of fewer than 64 bits is read as the end of
+/// the word that ends with it, if there is one, since a word is read fastest. Conditions: the field has a
+/// width and lies in the view, and numbers join without a seam.
 fn take_alone<T: BitStore, O: FieldOrder>(
     endian: Endian,
     field: Window,
@@ -83,7 +83,7 @@ fn take_alone<T: BitStore, O: FieldOrder>(
     u128::from(last_of::<O>(word as u64, field.len))
 }
 
-/// `decode` by words, where the numbers of fields that follow one another are made of one another.
+/// `decode` by words, where the numbers of neighbouring fields join without a seam.
 fn decode_words<T: BitStore, O: FieldOrder, A: Allocator>(
     layout: &Layout<A>,
     endian: Endian,

@@ -18,8 +18,7 @@ use bitvec::prelude::*;
 use std::alloc::Allocator;
 
 /// Writes values into the fields of a run, of which there are several, as one word. Conditions: as for
-/// `encode`, each value fits its field, and the run is one of the layout, whose numbers are made of one
-/// another.
+/// `encode`, each value fits its field, the run is one of the layout, and numbers join without a seam.
 fn encode_run<T: BitStore, O: FieldOrder, A: Allocator>(
     layout: &Layout<A>,
     endian: Endian,
@@ -46,8 +45,8 @@ fn encode_run<T: BitStore, O: FieldOrder, A: Allocator>(
     put_word(endian, Window { start, len }, word, out);
 }
 
-/// Writes a value into a field that is in no run of several. Conditions: as for `put`, and numbers are
-/// made of one another.
+/// Writes a value into a field that is in no run of several. Conditions: as for `put`, and numbers join
+/// without a seam.
 fn put_alone<T: BitStore, O: FieldOrder>(
     endian: Endian,
     field: Window,
@@ -67,8 +66,7 @@ fn put_alone<T: BitStore, O: FieldOrder>(
     }
 }
 
-/// `encode` of values that fit, by words, where the numbers of fields that follow one another are made
-/// of one another.
+/// `encode` of values that fit, by words, where the numbers of neighbouring fields join without a seam.
 fn encode_words<T: BitStore, O: FieldOrder, A: Allocator>(
     layout: &Layout<A>,
     endian: Endian,
@@ -108,9 +106,9 @@ fn encode_fields<T: BitStore, O: FieldOrder, A: Allocator>(
     }
 }
 
-/// Writes a value into each field; every other bit is as before. It is refused where there isn't one
-/// value a field, and by the first value that has more bits than its field; nothing is written then.
-/// Condition: the view has as many bits as a record.
+/// Writes a value into each field; every other bit is as before. Unless there is one value a field, and each
+/// has no more bits than its field, the answer is an error, and nothing is written. Condition: the view has
+/// as many bits as a record.
 pub fn encode<T: BitStore, O: FieldOrder, A: Allocator>(
     layout: &Layout<A>,
     endian: Endian,

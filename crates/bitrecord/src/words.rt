@@ -1,5 +1,4 @@
-//! Numbers of up to 64 bits, of which one number after the other is split off, or which are joined of
-//! such.
+//! Words of up to 64 bits that are split into the numbers of fields, or joined from them.
 ghost use Rattle.std.specs.Prelude.{◌≡◌, ◌+◌, ◌-◌, ◌*◌, ◌/◌, ◌%◌, ◌^◌, ◌<◌, ◌≤◌, if◌then◌else◌};
 ghost use Rattle.bitrecord.specs.Runs.{SplitsOff, aligned};
 

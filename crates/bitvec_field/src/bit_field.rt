@@ -57,7 +57,7 @@ pub trait BitField {
 }
 
 /// An integer in the bits of a view: the stores of `bitvec`'s `BitField`. Conditions are as for
-/// [`BitField`]. Of a value with more bits than the view has the lowest are stored.
+/// [`BitField`]. If a value has more bits than the view, its lowest are stored.
 pub trait BitFieldMut: BitField {
     // Holds of the view before and after a call that gave it the bits with this number, modulo
     // `2^n`, and left all others.

@@ -8,8 +8,8 @@ use bitvec_slice::store::BitStore;
 use std::fmt;
 
 /// A view that prints a digit for each bit, as `[0100, 0010]`: `{:b}` of `bitvec`. There is a text for
-/// each part of the view in one element. This and its sisters stand for `bitvec`'s impls of the traits
-/// of these names.
+/// each part of the view in one element. This type and the three below stand for `bitvec`'s impls of the
+/// traits of these names.
 #[derive(Clone, Copy)]
 pub struct Binary<'a, T: BitStore, O: BitOrder>(pub BitSlice<'a, T, O>);
 

@@ -33,8 +33,8 @@ pub fn copy_from<T: BitStore, O: SliceOrder, U: BitStore, P: BitOrder>(
     copy_from_in::<T, O, U, P>(elements, span(range), source.elements(), from);
 }
 
-/// Makes each bit of a range 1 if it and the one at its index in the view, which counts as 0 past the view's end, both
-/// are. Condition: the slice has at most `MAX_BITS` bits, and the range lies in them.
+/// Combines each bit of a range with the one at its index in a view, by "and". The view counts as 0 past its end.
+/// Condition: the slice has at most `MAX_BITS` bits, and the range lies in them.
 pub fn and_bits<T: BitStore, O: SliceOrder, U: BitStore, P: BitOrder>(
     elements: &mut [T],
     range: Range<usize>,
@@ -48,7 +48,7 @@ pub fn and_bits<T: BitStore, O: SliceOrder, U: BitStore, P: BitOrder>(
     combine_in::<T, O, U, P>(elements, span(range), source.elements(), from, BitOp::And);
 }
 
-/// Makes each bit of a range 1 if it or the one at its index in the view, which counts as 0 past the view's end, is.
+/// Combines each bit of a range with the one at its index in a view, by "or". The view counts as 0 past its end.
 /// Condition: as for [`and_bits`].
 pub fn or_bits<T: BitStore, O: SliceOrder, U: BitStore, P: BitOrder>(
     elements: &mut [T],
@@ -63,7 +63,7 @@ pub fn or_bits<T: BitStore, O: SliceOrder, U: BitStore, P: BitOrder>(
     combine_in::<T, O, U, P>(elements, span(range), source.elements(), from, BitOp::Or);
 }
 
-/// Makes each bit of a range 1 if it and the one at its index in the view, which counts as 0 past the view's end, differ.
+/// Combines each bit of a range with the one at its index in a view, by "xor". The view counts as 0 past its end.
 /// Condition: as for [`and_bits`].
 pub fn xor_bits<T: BitStore, O: SliceOrder, U: BitStore, P: BitOrder>(
     elements: &mut [T],

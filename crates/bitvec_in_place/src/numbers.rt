@@ -35,8 +35,8 @@ pub fn load_be<T: BitStore, O: FieldOrder, I: Integral>(elements: &[T], range: R
     load_be_in::<T, O, I>(elements, span(range))
 }
 
-/// Stores an integer in a range, the first segment lowest; of one with more bits than the range has, the lowest.
-/// Condition: as for [`load_le`], but the range may be empty.
+/// Stores an integer in a range, the first segment lowest. If it has more bits than the range, its lowest are
+/// stored. Condition: as for [`load_le`], but the range may be empty.
 ///
 /// ```
 /// in_place::store_le::<u8, Lsb0, u64>(&mut bytes, 5..17, number);

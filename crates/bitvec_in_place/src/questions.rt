@@ -1,4 +1,4 @@
-//! What a range of bits answers: how many are 1, and which of them is the first or the last that is.
+//! Questions about a range of bits: how many are 1, and where the first or the last 1 or 0 is.
 ghost use Rattle.std.specs.Prelude.{◌≡◌, ◌-◌, count_by, false, length, map, true};
 ghost use Rattle.bitvec_field.specs.base.Lists.{first_place, last_place};
 ghost use Rattle.bitvec_field.specs.base.Memory.{list_in};

@@ -15,9 +15,9 @@ use bitvec_field::engine::{BitOp, SliceOrder};
 use bitvec_field::store::BitStore;
 use std::ops::Range;
 
-/// Makes each of the bits from `dest` on, as many as a range has, 1 if it and the one at its index in the range both are, as
-/// they stood before the call. Condition: the slice has at most `MAX_BITS` bits, `start <= end`, and both the bits read and
-/// those written are among them.
+/// Combines as many bits from `dest` on as a range has with those of the range, by "and", as both stood before the
+/// call. Condition: the slice has at most `MAX_BITS` bits, `start <= end`, and both the bits read and those written
+/// are among them.
 pub fn and_within<T: BitStore, O: SliceOrder>(elements: &mut [T], src: Range<usize>, dest: usize)
     requires bound { T.BITS * length elements.old ≤ max_bits }
     requires fits { FitsWithin src.start src.end dest (T.BITS * length elements.old) }
@@ -28,8 +28,8 @@ pub fn and_within<T: BitStore, O: SliceOrder>(elements: &mut [T], src: Range<usi
     combine_within_in::<T, O>(elements, window, src, dest, BitOp::And);
 }
 
-/// Makes each of the bits from `dest` on, as many as a range has, 1 if it or the one at its index in the range is, as they
-/// stood before the call. Condition: as for [`and_within`].
+/// Combines as many bits from `dest` on as a range has with those of the range, by "or", as both stood before the
+/// call. Condition: as for [`and_within`].
 pub fn or_within<T: BitStore, O: SliceOrder>(elements: &mut [T], src: Range<usize>, dest: usize)
     requires bound { T.BITS * length elements.old ≤ max_bits }
     requires fits { FitsWithin src.start src.end dest (T.BITS * length elements.old) }
@@ -40,8 +40,8 @@ pub fn or_within<T: BitStore, O: SliceOrder>(elements: &mut [T], src: Range<usiz
     combine_within_in::<T, O>(elements, window, src, dest, BitOp::Or);
 }
 
-/// Makes each of the bits from `dest` on, as many as a range has, 1 if it and the one at its index in the range differ, as
-/// they stood before the call. Condition: as for [`and_within`].
+/// Combines as many bits from `dest` on as a range has with those of the range, by "xor", as both stood before the
+/// call. Condition: as for [`and_within`].
 pub fn xor_within<T: BitStore, O: SliceOrder>(elements: &mut [T], src: Range<usize>, dest: usize)
     requires bound { T.BITS * length elements.old ≤ max_bits }
     requires fits { FitsWithin src.start src.end dest (T.BITS * length elements.old) }

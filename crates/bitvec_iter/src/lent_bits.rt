@@ -147,8 +147,8 @@ impl<'a, T: BitStore, O: BitOrder> IterMut<'a, T, O> {
     }
 
     /// Makes each bit that is left what `f` answers for its number among these and the bit that stands
-    /// there: `f` is called once for each, in ascending order, with numbers from 0 on, and what it keeps goes
-    /// from each call to the next. No bit is left then, and all others stay as they are. Condition: `f` may be
+    /// there. `f` is called once for each, in ascending order, with numbers from 0 on, and its state goes from
+    /// each call to the next. No bit is left then, and all others stay as they are. Condition: `f` may be
     /// called for each number and the bit there, once the calls for those before it are done, whatever they
     /// answered. It stands for `for` over `bitvec`'s iterator.
     ///

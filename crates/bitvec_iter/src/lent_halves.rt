@@ -11,9 +11,9 @@ use std::marker::PhantomData;
 /// and lends one half at a time.
 ///
 /// A half is a view of the elements that it touches. An element that both halves touch is lent with
-/// either, and no call on a half writes a bit of the other. What is known of the whole once a half was
-/// written in place are its elements that the half doesn't touch; by `edit_halves` of `bitvec_closures`,
-/// which gives each half to a closure, each bit.
+/// either, and no call on a half writes a bit of the other. Once a half was written in place, the elements
+/// that it doesn't touch are known. `edit_halves` of `bitvec_closures`, which gives each half to a closure,
+/// tells each bit.
 #[derive(Drop)]
 pub struct HalvesMut<'a, T: BitStore, O: BitOrder> {
     pub(crate) elements: &'a mut [T],

@@ -10,14 +10,12 @@ use std::marker::PhantomData;
 
 /// The pieces of a writable view, cut as `C` says, which are lent one at a time, from both ends.
 ///
-/// A piece is a view of the elements that it touches, and no call on it writes another bit. A piece of
-/// `next_mut` and its kin ends before the next is asked for, and what is known of the walk afterwards
-/// is that it is one. `take_mut` and `take_back_mut` give no `Option`; their caller, who has tested
-/// `len`, knows of the walk what is left of it, and each element that the piece doesn't touch.
+/// A piece is a view of the elements that it touches, and no call on it writes another bit. It ends before
+/// the next is asked for. After `next_mut` and its kin nothing is known of the walk but that it is one.
+/// `take_mut` and `take_back_mut` give no `Option`; their caller, who has tested `len`, knows what is left
+/// of the walk, and each element that the piece doesn't touch.
 ///
-/// By `for_each_chunk_mut`, `for_each_chunk_exact_mut`, `for_each_rchunk_mut` and
-/// `for_each_rchunk_exact_mut` of `bitvec_closures`, which give each piece to a closure, each bit is
-/// known afterwards.
+/// `for_each_chunk_mut` and its kin of `bitvec_closures`, which give each piece to a closure, tell each bit.
 #[derive(Drop)]
 pub struct PiecesMut<'a, T: BitStore, O: BitOrder, C: Cutting> {
     pub(crate) elements: &'a mut [T],

@@ -15,10 +15,11 @@ use bitvec_edit::store::BitStore;
 use std::alloc::AllocError;
 use std::marker::PhantomData;
 
-/// An array of elements, of which all bits are asked, edited, walked, compared and printed.
+/// An array of elements as bits: `bitvec`'s `BitArray`, which `bitarr!` makes there. All its bits are asked,
+/// edited, walked, compared and printed. docs/DIFFERENCES.md says what differs.
 ///
-/// It is a field of a struct, or a variable of a function, and its edits are exact there. Contracts see it
-/// as they see a view of all its bits.
+/// Contracts see it as a view of all its bits. After an edit each bit is known, also where it is a field of a
+/// struct or a local variable.
 pub struct BitArray<T: BitStore, O: BitOrder, const N: usize> {
     pub(crate) elements: [T; N],
     order: PhantomData<O>,

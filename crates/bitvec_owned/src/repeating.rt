@@ -48,7 +48,7 @@ pub(crate) fn repeat_of<T: BitStore, O: SliceOrder, A: Allocator>(
     let Ok(mut elements) = zeros::<T, A>(alloc, count) else {
         return Err(RepeatError::Memory);
     };
-    // Elements of more than `MAX_BITS` bits, around bits that are not: so much memory no machine grants.
+    // The bits fit `MAX_BITS`, but the elements around them have more bits: no machine grants so much memory.
     if count > MAX_BITS / width {
         return Err(RepeatError::Memory);
     }

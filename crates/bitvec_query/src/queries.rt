@@ -125,7 +125,7 @@ pub trait BitQueries<T: BitStore, O: SliceOrder>: View<T, O> {
         behind_last(self.as_bitslice(), true)
     }
 
-    /// Whether a bit is 1; none of an empty view's is.
+    /// Whether some bit is 1. An empty view has none.
     final fn any(&self) -> bool
         ensures { result ≡ list_any (λ bit. bit) (Self.shows self.now).bits }
     {
@@ -133,7 +133,7 @@ pub trait BitQueries<T: BitStore, O: SliceOrder>: View<T, O> {
         any_in::<T, O>(view.elements(), view.window())
     }
 
-    /// Whether every bit is 1; an empty view's are.
+    /// Whether every bit is 1, as in an empty view.
     ///
     /// ```
     /// let view = BitSliceMut::<u8, Lsb0>::from_slice_mut(&mut cells);
@@ -147,7 +147,7 @@ pub trait BitQueries<T: BitStore, O: SliceOrder>: View<T, O> {
         all_in::<T, O>(view.elements(), view.window())
     }
 
-    /// Whether no bit is 1; none of an empty view's is.
+    /// Whether no bit is 1, as in an empty view.
     ///
     /// ```
     /// let view = BitSliceMut::<u8, Lsb0>::from_slice_mut(&mut cells);
@@ -160,14 +160,14 @@ pub trait BitQueries<T: BitStore, O: SliceOrder>: View<T, O> {
         !self.any()
     }
 
-    /// Whether a bit is 0; none of an empty view's is.
+    /// Whether some bit is 0. An empty view has none.
     final fn not_all(&self) -> bool
         ensures { result ≡ not (list_all (λ bit. bit) (Self.shows self.now).bits) }
     {
         !self.all()
     }
 
-    /// Whether a bit is 1 and a bit is 0.
+    /// Whether some bit is 1 and some bit is 0.
     ///
     /// ```
     /// bits.windows(2).filter(|pair| pair.some()).count()
@@ -210,7 +210,7 @@ pub trait BitQueries<T: BitStore, O: SliceOrder>: View<T, O> {
         )
     }
 
-    /// Whether the needle's bits begin these; those of an empty needle always do.
+    /// Whether the bits begin with the needle's. They always begin with an empty one.
     final fn starts_with<'b, U: BitStore, P: BitOrder>(&self, needle: BitSlice<'b, U, P>) -> bool
         ensures { result ≡ is_prefix (seen needle.entry).bits (Self.shows self.now).bits }
     {
@@ -223,7 +223,7 @@ pub trait BitQueries<T: BitStore, O: SliceOrder>: View<T, O> {
         )
     }
 
-    /// Whether the needle's bits end these; those of an empty needle always do.
+    /// Whether the bits end with the needle's. They always end with an empty one.
     final fn ends_with<'b, U: BitStore, P: BitOrder>(&self, needle: BitSlice<'b, U, P>) -> bool
         ensures { result ≡ is_suffix (seen needle.entry).bits (Self.shows self.now).bits }
     {

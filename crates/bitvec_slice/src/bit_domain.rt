@@ -36,7 +36,7 @@ pub enum BitDomain<V> {
 pub type BitDomainMut<'a, T, O> = BitDomain<BitSliceMut<'a, T, O>>;
 
 impl<V: Drop> BitDomain<V> {
-    /// The view, where it touches neither edge of the one element that it lies in: `enclave` of bitvec.
+    /// The view, where it touches neither edge of the one element that it lies in: `enclave` of `bitvec`.
     pub fn enclave(self) -> Option<V>
         ensures { result ≡ enclave_part self }
     {
@@ -50,7 +50,7 @@ impl<V: Drop> BitDomain<V> {
         }
     }
 
-    /// The views of the three pieces, where the view isn't within one element: `region` of bitvec.
+    /// The views of the three pieces, where the view isn't within one element: `region` of `bitvec`.
     pub fn region(self) -> Option<(V, V, V)>
         ensures { option_map (λ given. (given.0, (given.1, given.2))) result ≡ region_parts self }
     {

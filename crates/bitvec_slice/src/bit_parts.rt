@@ -21,7 +21,7 @@ pub struct BitDomainParts<V> {
 
 impl<V: Drop> BitDomain<V> {
     /// The parts, in their order: the one view of an enclave, and of a region the head, the body and the
-    /// tail, each of them also where it is empty. bitvec's type has no such call.
+    /// tail, each of them also where it is empty. `bitvec`'s type has no such call.
     pub fn parts(self) -> BitDomainParts<V>
         ensures parts { parts_left result ≡ parts_of self }
         ensures runs { YieldsParts result }

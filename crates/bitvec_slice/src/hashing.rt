@@ -14,8 +14,8 @@ impl<'a, T: BitStore, O: SliceOrder> Hash for BitSlice<'a, T, O> {
 
     ghost respects_eq = { λ view other same. fed_same (seen view).bits (seen other).bits same };
 
-    /// Feeds each bit as a truth value, in their order, without their number: views with the same
-    /// bits feed the same.
+    /// Feeds each bit as a truth value, in order, without their number. So views with equal bits feed
+    /// equal bytes.
     fn hash<H: Hasher>(&self, state: &mut H) {
         hash_in::<T, O, H>(self.elements(), self.window(), state);
     }

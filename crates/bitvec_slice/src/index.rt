@@ -5,7 +5,7 @@ use crate::{BitRef, BitRefMut, BitSlice, BitSliceMut};
 use bitvec_elements::base::BitOrder;
 use bitvec_elements::store::BitStore;
 
-/// A shared view, as an index meets it.
+/// A shared view, as [`BitSliceIndex`] needs it.
 #[doc(hidden)]
 pub trait Viewed: Drop {
     ghost use Rattle.bitvec_slice.specs.Seen.{Seen};
@@ -24,7 +24,7 @@ pub trait Viewed: Drop {
         ensures { result ≡ (sees self.now).window.len };
 }
 
-/// A writable view, as an index meets it.
+/// A writable view, as [`BitSliceIndex`] needs it.
 #[doc(hidden)]
 pub trait ViewedMut: Drop {
     ghost use Rattle.bitvec_slice.specs.Seen.{Seen};

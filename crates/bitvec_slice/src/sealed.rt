@@ -1,6 +1,6 @@
-//! What calls are made with that are the library's own.
+//! The value that calls within the library ask for.
 
-/// What a call is made with that only the crates may make that the library is made of: `bitvec` does not
-/// pass it on, so a caller of `bitvec` can't make one.
+/// The argument of calls that reach bits outside a view. Only the library's crates can make it: `bitvec` does
+/// not pass it on.
 #[derive(Clone, Copy)]
 pub struct Sealed;

@@ -12,9 +12,9 @@ impl<'a, T: BitStore, O: BitOrder> BitSliceMut<'a, T, O> {
     ghost use Rattle.bitvec_slice.specs.Views.{seen_mut};
 
     /// The bits before the index `mid` and those from it on, both for writing, if they share no
-    /// element: exactly where the first of the latter begins an element, or there are none of the
-    /// ones or the others. Condition: `mid` is at most `len`. `bitvec`'s `split_at_mut` cuts
-    /// anywhere, by two views of the element that is cut.
+    /// element. That is so exactly where the bit at `mid` begins an element, or one side has no bits.
+    /// Condition: `mid` is at most `len`. `bitvec`'s `split_at_mut` cuts anywhere, by two views of the
+    /// element that is cut.
     pub fn split_apart_mut(
         &mut self,
         mid: usize,

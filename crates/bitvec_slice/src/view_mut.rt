@@ -14,25 +14,25 @@ use std::ops::Range;
 /// Bits of a slice of elements that is borrowed for writing, in an order: it stands for
 /// `bitvec`'s `&mut BitSlice<T, O>`.
 ///
-/// Contracts see it as they see a [`BitSlice`], and besides know its memory by its name among
-/// borrows. Lengths, indices and ranges are in bits. A call has the name and the meaning of
-/// `bitvec`'s, unless its text says what it stands for.
+/// Contracts see it as they see a [`BitSlice`], and also know its memory by its name among borrows.
+/// Lengths, indices and ranges are in bits. A call has the name and the meaning of `bitvec`'s, unless
+/// its text says what it stands for.
 ///
-/// What is written through comes from these calls alone. Views: `as_mut`, `part_mut`, `into_part`,
-/// `split_apart_mut`, `!`, and by a range `get_mut`, `get_unchecked_mut` and the calls of
-/// [`crate::BitSliceIndex`]. References to one bit: `bit_mut`, `into_bit`, `first_mut`, `last_mut`, and
-/// by an index `get_mut` and its kin. Elements and parts of them: `domain_mut`, and as views
-/// `bit_domain_mut`. In crates above: halves, walks and splits, which lend such views and references one
-/// at a time (`PieceCallsMut` of `bitvec_iter`, `SplitCallsMut` of `bitvec_split`), and the view itself,
-/// which a closure gets moved to a part of it, and owes to leave there (`EditParts` of
-/// `bitvec_closures`).
+/// These calls alone give something to write through:
 ///
-/// A part holds the elements that its bits touch and no other, and no call of it writes a bit of these
-/// outside the part: what an edit leaves says `WritesBits` of a view, `WritesBit` of a reference,
-/// `WritesPart` of a part of an element. Whole elements are given out by `domain_mut`, which covers
-/// them, and by `into_slice`, which asks for a view of all their bits. The other bits of the elements
-/// are reached by calls that ask for a `Sealed` alone, which only the crates that the library is made of
-/// can make.
+/// - views: `as_mut`, `part_mut`, `into_part`, `split_apart_mut`, `!`, and by a range `get_mut`,
+///   `get_unchecked_mut` and the calls of [`crate::BitSliceIndex`];
+/// - references to one bit: `bit_mut`, `into_bit`, `first_mut`, `last_mut`, and by an index `get_mut`
+///   and its kin;
+/// - elements and parts of them: `domain_mut`, and as views `bit_domain_mut`;
+/// - in crates above: halves, walks and splits, which lend views and references one at a time
+///   (`PieceCallsMut`, `SplitCallsMut`), and `EditParts`, which lends a part of the view to a closure.
+///
+/// A part holds just the elements that its bits touch, and no call on it writes a bit outside the part.
+/// `WritesBits` says so of a view's edit, `WritesBit` of a reference's, and `WritesPart` of an edit of a
+/// part of an element. Whole elements come from `domain_mut`, where the view covers them, and from
+/// `into_slice`, which asks for a view of all their bits. Calls that reach other bits ask for a
+/// [`crate::Sealed`], which only the library's crates can make.
 #[derive(Drop)]
 pub struct BitSliceMut<'a, T: BitStore, O: BitOrder> {
     elements: &'a mut [T],

@@ -1,4 +1,4 @@
-//! What writes bits.
+//! Types whose bits can be written.
 ghost use Rattle.std.specs.Prelude.{◌≡◌, Bool, List, map};
 ghost use Rattle.std.specs.Borrow.{Array, follows, sem};
 ghost use Rattle.bitvec_elements.specs.base.Memory.{Writes};
@@ -11,7 +11,7 @@ use crate::{BitSliceMut, Sealed, View};
 use bitvec_elements::base::BitOrder;
 use bitvec_elements::store::BitStore;
 
-/// What writes bits: writable views, and owned sequences.
+/// Types whose bits can be written: writable views, and owned sequences.
 pub trait ViewMut<T: BitStore, O: BitOrder>: View<T, O> {
     // Holds of it before and after a call that gave it these bits and left all others.
     ghost writes: { Self → Self → List Bool → Type 0 };
@@ -19,9 +19,9 @@ pub trait ViewMut<T: BitStore, O: BitOrder>: View<T, O> {
     // The view with these elements, cut or filled up to as many; all else is as before.
     ghost with_elements: { Self → List T → Self };
 
-    /// The elements, also their bits outside these, for the crates that the library is made of, which alone
-    /// have a `Sealed` to call it with: whoever calls it owes that those bits stay, which `writes` says of
-    /// an edit. Once the slice has ended, the elements are what was left in it.
+    /// The elements, with their bits outside these, for the library's crates, which alone have a `Sealed` to
+    /// call it with. The caller owes that those bits stay, which `writes` says of an edit. Once the slice has
+    /// ended, the elements are what was left in it.
     #[doc(hidden)]
     fn elements_mut(&mut self, by: Sealed) -> &mut [T]
         ensures* writes_back { sem 𝓛 (follows Self.row (Array T.row 0) self.entry.ghost_name result.ghost_name (with_elements self.old)) }

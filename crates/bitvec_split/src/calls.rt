@@ -8,12 +8,11 @@ use bitvec_slice::store::BitStore;
 use bitvec_slice::{BitSlice, BitSliceMut, Shows};
 
 /// Splits of a view by a predicate, for both view types: of a `BitSlice` they live as long as its
-/// elements, of a `&BitSliceMut` as long as that borrow. A predicate is asked with the index of a bit
+/// elements, of a `&BitSliceMut` as long as that borrow. A predicate is called with the index of a bit
 /// among those that no piece has yet, and with that bit.
 ///
-/// What a predicate keeps goes from each asking to the next. The condition of each call of an iterator is
-/// that its predicate may be asked about the bits that are left, in any order and however often; one that
-/// may always be called may be asked.
+/// The predicate's state goes from each call to the next. The condition of each call of an iterator is that
+/// its predicate may be called for the bits that are left, in any order and however often.
 pub trait SplitCalls<T, P>: Shows<T> {
     /// What `split` makes.
     type Split: SplitWalk<T, P>;

@@ -23,8 +23,8 @@ pub trait SplitCallsMut<T: BitStore, O: BitOrder>: ViewMut<T, O> {
         ensures* writes_back { sem 𝓛 (follows Self.row (Array T.row 0) self.entry.ghost_name (name_of_splits result) (Self.with_elements self.old)) }
         ensures left { left_in result ≡ unsplit_in false (Self.shows self.old) pred };
 
-    /// The pieces of a split, each with the bit behind it. An empty view has none, as std's slices have, where the
-    /// crate gives one.
+    /// The pieces of a split, each with the bit behind it. An empty view has none, as std's slices have, where
+    /// `bitvec` gives one.
     ///
     /// ```
     /// let mut pieces = view.split_inclusive_mut(|_, bit| *bit);

@@ -13,9 +13,9 @@ use std::ops::Range;
 /// The pieces of a writable view as `Splits` gives them of a shared one. A piece is lent: it ends
 /// before the next is asked for. The predicate sees the bits as they stand when it is asked.
 ///
-/// `advance` finds a piece and `piece_mut` lends it; whoever calls these knows of the split what was
-/// asked, what is left, and each element that the piece doesn't touch. `next_mut` is both in one, and
-/// of the split its caller knows that it is one.
+/// `advance` finds a piece and `piece_mut` lends it. Their caller knows what was asked, what is left of the
+/// split, and each element that the piece doesn't touch. `next_mut` is both in one; after it nothing is
+/// known of the split but that it is one.
 #[derive(Drop)]
 pub struct SplitsMut<'a, T: BitStore, O: BitOrder, P, W> {
     pub(crate) elements: &'a mut [T],
@@ -133,8 +133,7 @@ impl<'a, T: BitStore, O: BitOrder, P: FnMut(usize, &bool) -> bool, W: SplitKind>
     }
 
     /// The next piece, if there is one. Condition: the predicate may always be called, or at least
-    /// asked about all that is left. What is left afterwards is known by the step; of the split the
-    /// caller knows that it is one.
+    /// asked about all that is left. Afterwards nothing is known of the split but that it is one.
     pub fn next_mut(&mut self) -> Option<BitSliceMut<'_, T, O>>
         requires { MayGoOnIn P.FnMut (left_in self.old) }
         ensures { Lends T.BITS (left_in self.old).view (SplitNextIn P.FnMut W.INCLUSIVE W.REVERSED (left_in self.old)) (option_map seen_mut result) }
