@@ -14,15 +14,6 @@ where_all : {Y : Type 0} (b : Bool) (xs ys : List Y) → (if b then Some xs else
 where_all true xs ys h = (refl, cc)
 where_all false xs ys h = absurd (cc)
 
--- whether each can be read
-is_some-where : {Y : Type 0} (b : Bool) (ys : List Y) → is_some (if b then Some ys else None) ≡ b
-is_some-where true ys = refl
-is_some-where false ys = refl
-
-pub is_some-read_each : {X Y : Type 0} (read : X → Option Y) (xs : List X) → is_some (read_each read xs) ≡ list_all (λ x. is_some (read x)) xs
-unfolding read_each
-is_some-read_each read xs = is_some-where (list_all (λ x. is_some (read x)) xs) (filter_map read xs)
-
 -- one more that can be read
 pub read_each-push : {X Y : Type 0} (read : X → Option Y) (xs : List X) (ys : List Y) (x : X) (y : Y) → read_each read xs ≡ Some ys → read x ≡ Some y
     → read_each read (xs ++ x ∷ []) ≡ Some (ys ++ y ∷ [])

@@ -1,5 +1,6 @@
 -- What is asked for, by the texts of the memories, and the faults that follow.
-use Rattle.std.proofs.Common.{◌≡◌, ℕ, ◌&&◌, List, length, Option, Some, None, is_some, IsSome, ◌⊎◌, inl, inr, refl, ap}
+use Rattle.std.proofs.Common.{◌≡◌, ℕ, Bool, false, true, ◌&&◌, List, length, Option, Some, None, is_some, IsSome, refl, ap, ◌∙◌}
+use Rattle.std.proofs.Math.Bool.{and-false}
 use Rattle.bitvec_run.specs.base.declared.window.Window.{Window}
 use Rattle.bitvec_run.specs.declared.command.Reply.{Reply}
 use Rattle.bitvec_run.specs.declared.command.RunError.{RunError}
@@ -7,9 +8,10 @@ use Rattle.bitvec_run.specs.declared.command.Step.{Step}
 use Rattle.bitvec_run.specs.Runs.{FailsRun}
 use Rattle.bitdo_work.specs.Arguments.{Request, request, request_by_texts}
 use Rattle.bitdo_work.specs.Elements.{elements_of}
-use Rattle.bitdo_work.specs.Program.{GivesSteps, IsRun, HasRun, HasRunError, HasFault}
+use Rattle.bitdo_work.specs.Program.{GivesSteps, IsRun, HasRun, HasRunError, HasFault, InputFault}
 use Rattle.bitdo_work.specs.declared.fault.Fault.{Fault}
-use Rattle.bitdo_work.specs.declared.fault.Fault.TheVariants.{Arguments, Memory}
+use Rattle.bitdo_work.specs.declared.fault.Fault.TheVariants.{Arguments, Input, Line, Memory, Run}
+use Rattle.bitdo_work.proofs.OptionLaws.{none_of_is_some}
 
 module _ (b : ℕ) (at : ℕ → ℕ → ℕ) (memory right : List ℕ) (window : Window) where
   by_parts : (o p : Option (List ℕ)) → elements_of b memory ≡ o → elements_of b right ≡ p → is_some (request_by_texts b at memory right window) ≡ (is_some o && is_some p)
@@ -38,26 +40,30 @@ module _ (b : ℕ) (at : ℕ → ℕ → ℕ) (memory right : List ℕ) (window 
   HasRunError_by_texts {elements = elements} {others = others} {steps = steps} e f input fails =
       record { given = request b at elements others window; given_is = request_by_texts-is elements others e f; steps = steps; input = input; fails = fails }
 
-  both_some : (o p : Option (List ℕ)) → elements_of b memory ≡ o → elements_of b right ≡ p → IsSome (request_by_texts b at memory right window) → IsSome o × IsSome p
-  unfolding request_by_texts
-  both_some None p e f some = absurd (cc (rw e at some))
-  both_some (Some x) None e f some = absurd (cc (rw (e, f) at some))
-  both_some (Some x) (Some y) e f some = (refl, refl)
+  -- what is asked for is there, where both texts are memories
+  pub IsSome-request_by_texts : is_some (elements_of b memory) ≡ true → is_some (elements_of b right) ≡ true → IsSome (request_by_texts b at memory right window)
+  IsSome-request_by_texts one other = rw (is_some-request_by_texts, one, other) refl
 
-  -- where a text that is asked for is parsed, there is no fault but want of memory
-  wants_memory : (old new : Option (List ℕ)) (fault : Fault) (o : Option (List ℕ)) → IsSome (request_by_texts b at memory right window) → IsSome o
-      → (fault ≡ Arguments → o ≡ None) → (fault ≡ Arguments) ⊎ (fault ≡ Memory) → HasFault (request_by_texts b at memory right window) old new fault
-  wants_memory old new fault None some is bad h = absurd (cc)
-  wants_memory old new fault (Some x) some is bad (inl e) = absurd (cc (bad e))
-  wants_memory old new fault (Some x) some is bad (inr e) = rw e (some, tt)
+  pub asked-by_both : is_some (elements_of b memory) ≡ true → is_some (elements_of b right) ≡ true → request_by_texts b at memory right window ≡ None → ⊥
+  asked-by_both one other none =
+      let some : is_some (request_by_texts b at memory right window) ≡ true = IsSome-request_by_texts one other in
+      cc (rw none at some)
 
-  pub HasFault-memory : (old new : Option (List ℕ)) (fault : Fault) → IsSome (request_by_texts b at memory right window) → (fault ≡ Arguments → elements_of b memory ≡ None)
-      → (fault ≡ Arguments) ⊎ (fault ≡ Memory) → HasFault (request_by_texts b at memory right window) old new fault
-  HasFault-memory old new fault some = wants_memory old new fault (elements_of b memory) some (both_some _ _ refl refl some).0
+  -- and is not, where one is none
+  pub request_by_texts-memory : is_some (elements_of b memory) ≡ false → request_by_texts b at memory right window ≡ None
+  request_by_texts-memory none = none_of_is_some _ (rw (is_some-request_by_texts, none) refl)
 
-  pub HasFault-right : (old new : Option (List ℕ)) (fault : Fault) → IsSome (request_by_texts b at memory right window) → (fault ≡ Arguments → elements_of b right ≡ None)
-      → (fault ≡ Arguments) ⊎ (fault ≡ Memory) → HasFault (request_by_texts b at memory right window) old new fault
-  HasFault-right old new fault some = wants_memory old new fault (elements_of b right) some (both_some _ _ refl refl some).1
+  pub request_by_texts-right : is_some (elements_of b right) ≡ false → request_by_texts b at memory right window ≡ None
+  request_by_texts-right none = none_of_is_some _ (is_some-request_by_texts ∙ ap (λ (o : Bool). is_some (elements_of b memory) && o) none ∙ and-false (is_some (elements_of b memory)))
+
+  -- a fault of the input, where a run is asked for
+  pub HasFault-input : (old new : Option (List ℕ)) (fault : Fault) → IsSome (request_by_texts b at memory right window) → InputFault old new fault
+      → HasFault (request_by_texts b at memory right window) old new fault
+  HasFault-input old new Arguments some fault = absurd fault
+  HasFault-input old new Input some fault = (some, fault)
+  HasFault-input old new (Line number) some fault = (some, fault)
+  HasFault-input old new (Run why) some fault = absurd fault
+  HasFault-input old new Memory some fault = (some, fault)
 
   -- its elements are as wide as was asked
   same_bits : (given : Request) (o p : Option (List ℕ)) → elements_of b memory ≡ o → elements_of b right ≡ p → request_by_texts b at memory right window ≡ Some given → given.bits ≡ b

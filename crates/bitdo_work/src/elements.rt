@@ -1,13 +1,12 @@
 //! A memory in the arguments' notation: elements of hexadecimal digits, joined by commas.
-ghost use Rattle.std.specs.Prelude.{◌≡◌, ◌^◌, ◌<◌, ◌≤◌, ◌⊎◌, is_some, IfSome, IfOk, IfErr, map};
+ghost use Rattle.std.specs.Prelude.{◌≡◌, ◌^◌, ◌<◌, ◌≤◌, is_some, IfSome, IfOk, Some, map};
 ghost use Rattle.std.specs.Char.{is_ascii_hexdigit};
 ghost use Rattle.std.specs.List.{list_all};
 ghost use Rattle.std.specs.Option.{option_map};
 ghost use Rattle.bitdo_work.specs.Elements.{hexadecimal_of, element_of, elements_of};
 
-use crate::fault::Fault;
 use bitvec_run::store::BitStore;
-use std::alloc::Allocator;
+use std::alloc::{AllocError, Allocator};
 
 /// Whether each byte is a hexadecimal digit, in either case.
 fn is_hexadecimal(word: &str) -> bool
@@ -39,33 +38,30 @@ fn parse_element<T: BitStore>(word: &str) -> Option<T>
     Some(T::from_u128(number))
 }
 
-/// Whether a text is a memory: words of elements joined by commas, or `-` for none.
-pub(crate) fn is_memory<T: BitStore>(text: &str) -> bool
-    ensures { result ≡ is_some (elements_of T.BITS text.now) }
-{
-    text == "-"
-        || text
-            .split(',')
-            .all(|word| parse_element::<T>(word).is_some())
-}
-
-/// The elements of a memory.
+/// The elements of a memory, words of elements joined by commas or `-` for none; or that there is no room for
+/// them. None, if the text isn't a memory, also where there is no room.
 pub(crate) fn parse_elements<T: BitStore, A: Allocator>(
     alloc: A,
     text: &str,
-) -> Result<Vec<T, A>, Fault>
-    ensures read { IfOk result (λ elements.
-        elements_of T.BITS text.now ≡ Some (map T.value elements.items)) }
-    ensures arguments { result ≡ Err Fault.Arguments → elements_of T.BITS text.now ≡ None }
-    ensures faults { IfErr result (λ fault. (fault ≡ Fault.Arguments) ⊎ (fault ≡ Fault.Memory)) }
+) -> Option<Result<Vec<T, A>, AllocError>>
+    ensures notation { is_some result ≡ is_some (elements_of T.BITS text.now) }
+    ensures read { IfSome result (λ made. IfOk made (λ elements.
+        elements_of T.BITS text.now ≡ Some (map T.value elements.items))) }
 {
     let mut elements = Vec::new(alloc);
     if text == "-" {
-        return Ok(elements);
+        return Some(Ok(elements));
     }
+    let mut has_room = true;
     for word in text.split(',') {
-        let element = parse_element(word).ok_or(Fault::Arguments)?;
-        elements.push(element)?;
+        let element = parse_element(word)?;
+        if has_room {
+            has_room = elements.push(element).is_ok();
+        }
     }
-    Ok(elements)
+    if has_room {
+        Some(Ok(elements))
+    } else {
+        Some(Err(AllocError))
+    }
 }

@@ -1,5 +1,5 @@
 //! The whole program, but for what a process is.
-ghost use Rattle.std.specs.Prelude.{◌≡◌, ℕ, ◌⊎◌, is_some, length, map, string_bytes, IfOk, IfErr, IsSome};
+ghost use Rattle.std.specs.Prelude.{◌≡◌, ◌⊎◌, length, map, string_bytes, IfOk, IfErr, None};
 ghost use Rattle.std.specs.Io.KnownBytes.{Appends};
 ghost use Rattle.bitvec_run.specs.Runs.{FailsRun};
 ghost use Rattle.bitdo_work.specs.Arguments.{request, request_of, typed_request, ordered_request, own_request};
@@ -8,7 +8,7 @@ ghost use Rattle.bitdo_work.specs.Program.{IsRun, HasRun, HasFault, Works};
 ghost use Rattle.bitdo_work.specs.Texts.{line_of};
 
 use crate::arguments::Arguments;
-use crate::elements::{is_memory, parse_elements};
+use crate::elements::parse_elements;
 use crate::fault::Fault;
 use crate::input::read_steps;
 use crate::print::{print_fault, print_run};
@@ -47,27 +47,27 @@ struct Outcome<T, A: Allocator> {
     memory: Vec<T, A>,
 }
 
-/// Whether the memories of the arguments are in the notation, whatever the order.
-fn has_memories<T: BitStore>(arguments: &Arguments<'_>) -> bool
-    ensures { (at : ℕ → ℕ → ℕ) → result ≡ is_some (typed_request T.BITS at arguments.now) }
-{
-    is_memory::<T>(arguments.memory) && is_memory::<T>(arguments.right)
-}
-
-/// Makes the run of the arguments and the input. Condition: the memories are in the notation.
+/// Makes the run of the arguments and the input. Memories that aren't in the notation are a fault before room is,
+/// and before the input is read.
 fn make_run<'a, T: BitStore, O: SliceOrder, A: Allocator, R: Read>(
     alloc: &'a A,
     arguments: &Arguments<'_>,
     input: &mut R,
 ) -> Result<Outcome<T, &'a A>, Fault>
-    requires { IsSome (typed_request T.BITS O.at arguments.now) }
     ensures run { IfOk result (λ outcome. HasRun (typed_request T.BITS O.at arguments.now)
         (R.remaining input.old) (R.remaining input.new) outcome.replies.items (map T.value outcome.memory.items)) }
     ensures fault { IfErr result (HasFault (typed_request T.BITS O.at arguments.now)
         (R.remaining input.old) (R.remaining input.new)) }
+    ensures unread { typed_request T.BITS O.at arguments.now ≡ None → input.new ≡ input.old }
 {
-    let mut memory = parse_elements(alloc, arguments.memory)?;
-    let right = parse_elements(alloc, arguments.right)?;
+    let Some(memory) = parse_elements(alloc, arguments.memory) else {
+        return Err(Fault::Arguments);
+    };
+    let Some(right) = parse_elements(alloc, arguments.right) else {
+        return Err(Fault::Arguments);
+    };
+    let mut memory = memory?;
+    let right = right?;
     let steps = read_steps(alloc, input)?;
     let replies = run_elements::<T, O, _>(
         alloc,
@@ -91,8 +91,6 @@ fn report<W: Write>(output: &mut W, fault: &Fault) -> u8
 }
 
 /// Makes the run at an element type and an order, and prints it. The result is the status.
-///
-/// The memories are tested before the input is read, and before room is needed for either.
 fn run_typed<T: BitStore, O: SliceOrder, A: Allocator, R: Read, W: Write>(
     alloc: &A,
     arguments: &Arguments<'_>,
@@ -102,9 +100,6 @@ fn run_typed<T: BitStore, O: SliceOrder, A: Allocator, R: Read, W: Write>(
     ensures { Works R.remaining (typed_request T.BITS O.at arguments.now) input.old input.new
         (W.contents output.old) (W.contents output.new) result }
 {
-    if !has_memories::<T>(arguments) {
-        return report(output, &Fault::Arguments);
-    }
     match make_run::<T, O, _, _>(alloc, arguments, input) {
         Ok(outcome) => match print_run(
             output,

@@ -1,7 +1,7 @@
 -- What callers name by `using`: a set of laws for each kind of call.
 use Rattle.std.proofs.lemmas.Grind.{get_or-set_at}
 use Rattle.std.proofs.lemmas.List.{get_or-replicate, get_or-set_other, length-set, reverse-reverse}
-use Rattle.bitvec_owned.specs.edit.CombinedLaws.{get-combined_within_above, get-combined_within_below, get-combined_within_inside, length-combined_within, range-combined_within, range-combined_within_after, range-combined_within_before}
+use Rattle.bitvec_owned.specs.edit.within.CombinedLaws.{get-combined_within_above, get-combined_within_below, get-combined_within_inside, length-combined_within, range-combined_within, range-combined_within_after, range-combined_within_before}
 use Rattle.bitvec_owned.specs.edit.base.CountLaws.{ones_and_zeros}
 use Rattle.bitvec_owned.specs.edit.base.CountedLaws.{ones-all, ones-fewer, ones-flipped, ones-front, ones-more, ones-none, ones-rest, ones-reversed, ones-rotated_left, ones-rotated_right, ones-whole, zeros-all, zeros-fewer, zeros-flipped, zeros-more, zeros-none, zeros-reversed, zeros-rotated_left, zeros-rotated_right}
 use Rattle.bitvec_owned.specs.edit.base.FillLaws.{flip-undoes}

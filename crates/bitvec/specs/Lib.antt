@@ -18,9 +18,9 @@ pub use Rattle.bitvec_owned.specs.edit.domain.Asked
 pub use Rattle.bitvec_owned.specs.edit.domain.Cuts
 pub use Rattle.bitvec_owned.specs.edit.domain.Parts
 pub use Rattle.bitvec_owned.specs.edit.domain.Values as DomainValues
-pub use Rattle.bitvec_owned.specs.edit.elements.Swaps
-pub use Rattle.bitvec_owned.specs.edit.Combined
-pub use Rattle.bitvec_owned.specs.edit.CombinedLaws
+pub use Rattle.bitvec_owned.specs.edit.within.Swaps
+pub use Rattle.bitvec_owned.specs.edit.within.Combined
+pub use Rattle.bitvec_owned.specs.edit.within.CombinedLaws
 pub use Rattle.bitvec_owned.specs.edit.UndoLaws
 pub use Rattle.bitvec_in_place.specs.field.Fields
 pub use Rattle.bitvec_in_place.specs.field.Integers
@@ -40,10 +40,10 @@ pub use Rattle.bitvec_iter.specs.LentBits
 pub use Rattle.bitvec_iter.specs.Halves
 pub use Rattle.bitvec_iter.specs.LentPieces
 pub use Rattle.bitvec_iter.specs.LentWalk
-pub use Rattle.bitvec_ones.specs.Indices as OnesLeft
-pub use Rattle.bitvec_ones.specs.Loads
-pub use Rattle.bitvec_ones.specs.Places
-pub use Rattle.bitvec_ones.specs.Turns
+pub use Rattle.bitvec_query.specs.Indices as OnesLeft
+pub use Rattle.bitvec_query.specs.Loads
+pub use Rattle.bitvec_query.specs.Places
+pub use Rattle.bitvec_query.specs.Turns
 pub use Rattle.bitvec_owned.specs.ArrayWrites
 pub use Rattle.bitvec_owned.specs.Arrays as BitArrays
 pub use Rattle.bitvec_owned.specs.Copies

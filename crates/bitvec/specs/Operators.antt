@@ -1,6 +1,6 @@
 -- What `&=`, `|=` and `^=` and their like make of two lists of bits, in short.
 use Rattle.std.specs.Prelude.{ℕ, Bool, List}
-use Rattle.bitvec_owned.specs.edit.Combined.{combined_within}
+use Rattle.bitvec_owned.specs.edit.within.Combined.{combined_within}
 use Rattle.bitvec_owned.specs.edit.base.Lists.{combined}
 use Rattle.bitvec_owned.specs.edit.words.Operator.{operator}
 use Rattle.bitvec_owned.specs.edit.words.declared.operator.BitOp.TheVariants.{And, Or, Xor}

@@ -6,4 +6,4 @@ pub use bitvec_elements::engine::{
     ends_with, fill, get_bit, invert, replace_bit, reverse, rotate_left, rotate_right, shift_end,
     shift_start, starts_with, swap_bits,
 };
-pub use bitvec_ones::{End, Rest, count_left, scan_turns, take_first, take_last};
+pub use bitvec_query::{End, Rest, count_left, scan_turns, take_first, take_last};

@@ -8,10 +8,9 @@ pub use bitvec_in_place::field::{
     Binary, BitField, BitFieldMut, FieldOrder, Integral, LowerHex, Octal, UpperHex,
 };
 pub use bitvec_iter::{IterCalls, PieceCallsMut};
-pub use bitvec_ones::OnesCalls;
-pub use bitvec_ones::query::BitQueries;
 pub use bitvec_owned::edit::BitEdits;
 pub use bitvec_owned::{BitArray, BitVec, RepeatError, ToBitVec};
+pub use bitvec_query::{BitQueries, OnesCalls};
 pub use bitvec_slice::{
     BitDomain, BitDomainMut, BitRef, BitRefMut, BitSlice, BitSliceIndex, BitSliceMut, Domain,
     DomainMut, View,

@@ -12,10 +12,11 @@ pub use bitvec_iter::{
     PieceCallsMut, PieceWalk, Pieces, PiecesMut, RChunks, RChunksExact, RChunksExactMut,
     RChunksMut, Windows,
 };
-pub use bitvec_ones::query::BitQueries;
-pub use bitvec_ones::{IndexWalk, IterOnes, IterZeros, Ones, OnesCalls, Places, Wanted, Zeros};
 pub use bitvec_owned::ToBitVec;
 pub use bitvec_owned::edit::BitEdits;
+pub use bitvec_query::{
+    BitQueries, IndexWalk, IterOnes, IterZeros, Ones, OnesCalls, Places, Wanted, Zeros,
+};
 pub use bitvec_slice::{
     BitRefIter, BitSlice, BitSliceIndex, BitSliceMut, BitValIter, Iter, Shows, View, ViewMut,
     Viewed, ViewedMut, from_mut, from_ref,

@@ -6,10 +6,10 @@ ghost use Rattle.bitvec_c.specs.Ones.{Lists, ones_from};
 
 use bitvec_checked::store::BitStore;
 use bitvec_checked::{DONE, LSB0, end_status, or_next, window_status};
-use bitvec_ones::base::{Lsb0, Msb0, Window};
-use bitvec_ones::engine::SliceOrder;
-use bitvec_ones::words::WordOrder;
-use bitvec_ones::write_places;
+use bitvec_query::base::{Lsb0, Msb0, Window};
+use bitvec_query::engine::SliceOrder;
+use bitvec_query::words::WordOrder;
+use bitvec_query::write_places;
 
 /// The indices, from `from` on, of the bits of a window that are 1, ascending, as many as there are
 /// places for, and how many these are.

@@ -6,8 +6,8 @@ ghost use Rattle.bitvec_checked.specs.Statuses.{bits_from};
 
 use crate::status::{DONE, index_status, indices_status, or_next, window_status};
 use bitvec_domain::{bit_in, replace_in, set_in, swap_in};
-use bitvec_elements::base::Window;
-use bitvec_elements::store::BitStore;
+use bitvec_within::base::Window;
+use bitvec_within::store::BitStore;
 
 /// The bit at an index of a window.
 pub fn get<T: BitStore>(

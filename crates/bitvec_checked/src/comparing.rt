@@ -6,9 +6,9 @@ ghost use Rattle.bitvec_checked.specs.Replies.{bit_of, order_number, order_of};
 ghost use Rattle.bitvec_checked.specs.Statuses.{bits_from};
 
 use crate::status::{DONE, windows_status};
-use bitvec_elements::base::Window;
-use bitvec_elements::store::BitStore;
-use bitvec_elements::{compare_block_in, eq_blocks_in};
+use bitvec_within::base::Window;
+use bitvec_within::elements::{compare_block_in, eq_blocks_in};
+use bitvec_within::store::BitStore;
 use std::cmp::Ordering;
 
 /// Whether two windows have the same bits.

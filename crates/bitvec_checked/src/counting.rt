@@ -7,10 +7,11 @@ ghost use Rattle.bitvec_checked.specs.Replies.{bit_of, count_of};
 ghost use Rattle.bitvec_checked.specs.Statuses.{bits_from};
 
 use crate::status::{DONE, window_status};
-use bitvec_elements::base::{BitOrder, Window};
-use bitvec_elements::cells::Shared;
-use bitvec_elements::store::BitStore;
-use bitvec_elements::{all_in, any_in, count_blocks_in, engine};
+use bitvec_within::base::{BitOrder, Window};
+use bitvec_within::cells::Shared;
+use bitvec_within::elements::{all_in, any_in, count_blocks_in};
+use bitvec_within::engine;
+use bitvec_within::store::BitStore;
 
 /// How many bits of a window are 1.
 pub fn count_ones<T: BitStore>(

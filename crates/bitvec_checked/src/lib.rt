@@ -6,8 +6,8 @@
 macro_rules! under {
     ($order:expr, $function:ident::<$element:ty>($($argument:expr),*)) => {
         match $order {
-            $crate::status::LSB0 => $function::<$element, bitvec_elements::base::Lsb0>($($argument),*),
-            _ => $function::<$element, bitvec_elements::base::Msb0>($($argument),*),
+            $crate::status::LSB0 => $function::<$element, bitvec_within::base::Lsb0>($($argument),*),
+            _ => $function::<$element, bitvec_within::base::Msb0>($($argument),*),
         }
     };
 }
@@ -25,22 +25,22 @@ mod transfers;
 
 /// Items of `bitvec_base` that crates above use.
 pub mod base {
-    pub use bitvec_elements::base::{Lsb0, Msb0, Window};
+    pub use bitvec_within::base::{Lsb0, Msb0, Window};
 }
 
 /// Items of `bitvec_store` that crates above use.
 pub mod store {
-    pub use bitvec_elements::store::BitStore;
+    pub use bitvec_within::store::BitStore;
 }
 
 /// Items of `bitvec_cells` that crates above use.
 pub mod cells {
-    pub use bitvec_elements::cells::{Cells, CellsRead, Exclusive, Shared};
+    pub use bitvec_within::cells::{Cells, CellsRead, Exclusive, Shared};
 }
 
 /// Items of `bitvec_engine` that crates above use.
 pub mod engine {
-    pub use bitvec_elements::engine::SliceOrder;
+    pub use bitvec_within::engine::SliceOrder;
 }
 
 /// Items of `bitvec_segments` that crates above use.

@@ -4,9 +4,9 @@ ghost use Rattle.bitvec_checked.specs.Calls.{Edits};
 ghost use Rattle.bitvec_checked.specs.Statuses.{bits_from};
 
 use crate::status::{DONE, amount_status, or_next, ranges_status, window_status};
-use bitvec_elements::base::Window;
-use bitvec_elements::store::BitStore;
-use bitvec_elements::{
+use bitvec_within::base::Window;
+use bitvec_within::store::BitStore;
+use bitvec_within::{
     copy_within_in, reverse_in, rotate_left_in, rotate_right_in, shift_end_in, shift_start_in,
 };
 

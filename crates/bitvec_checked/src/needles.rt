@@ -8,10 +8,10 @@ ghost use Rattle.bitvec_checked.specs.Replies.{bit_of};
 ghost use Rattle.bitvec_checked.specs.Statuses.{bits_from};
 
 use crate::status::{DONE, windows_status};
-use bitvec_elements::base::Window;
-use bitvec_elements::cells::Shared;
-use bitvec_elements::engine::{self, SliceOrder};
-use bitvec_elements::store::BitStore;
+use bitvec_within::base::Window;
+use bitvec_within::cells::Shared;
+use bitvec_within::engine::{self, SliceOrder};
+use bitvec_within::store::BitStore;
 
 /// Whether the bits of the right window begin those of a window.
 pub fn starts_with<T: BitStore>(
@@ -137,5 +137,5 @@ fn contains_in<T: BitStore, O: SliceOrder>(
     requires right_window { HasWindow T.BITS (map T.value right.now) right_window }
     ensures { result ≡ stands_in (list_in T.BITS O.at (map T.value right.now) right_window) (list_in T.BITS O.at (map T.value elements.now) window) }
 {
-    bitvec_elements::contains_in::<T, O, T, O>(elements, window, right, right_window)
+    bitvec_within::elements::contains_in::<T, O, T, O>(elements, window, right, right_window)
 }

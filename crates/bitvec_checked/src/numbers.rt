@@ -6,10 +6,10 @@ ghost use Rattle.bitvec_checked.specs.Calls.{Loads, Stores};
 ghost use Rattle.bitvec_checked.specs.Statuses.{bits_from};
 
 use crate::status::{DONE, or_next, width_status, window_status};
-use bitvec_elements::base::Window;
-use bitvec_elements::cells::{Exclusive, Shared};
-use bitvec_elements::store::BitStore;
 use bitvec_run::segments::FieldOrder;
+use bitvec_within::base::Window;
+use bitvec_within::cells::{Exclusive, Shared};
+use bitvec_within::store::BitStore;
 
 /// The number of the bits of a window, the first segment lowest.
 pub fn load_le<T: BitStore>(

@@ -7,10 +7,10 @@ ghost use Rattle.bitvec_run.specs.Rows.{unless};
 ghost use Rattle.bitvec_run.specs.declared.command.Op.TheVariants.{CopyFrom, CopyWithin, Swap};
 ghost use Rattle.bitvec_checked.specs.Statuses.{end_status, memories_status, or_next, refusal_status, status_beside, width_status, window_status};
 
-use bitvec_elements::base::Window;
-use bitvec_elements::cells::{CellsRead, Shared, fits_max_bits, has_window};
-use bitvec_elements::store::BitStore;
 use bitvec_run::Refusal;
+use bitvec_within::base::Window;
+use bitvec_within::cells::{CellsRead, Shared, fits_max_bits, has_window};
+use bitvec_within::store::BitStore;
 
 /// The order that begins with the least significant bit of an element.
 pub const LSB0: u32 = 0;

@@ -1,3 +1,5 @@
+pub mod Apart
+pub mod Arity
 pub mod Asked
 pub mod AskedLaws
 pub mod CutLaws
@@ -5,9 +7,17 @@ pub mod Cuts
 pub mod Domains
 pub mod Feeding
 pub mod FeedingLaws
+pub mod Kept
+pub mod Lender
 pub mod Listing
 pub mod ListingLaws
+pub mod Middle
+pub mod PartLender
 pub mod Parts
 pub mod References
+pub mod Refill
+pub mod RefillLaws
+pub mod Steps
+pub mod Through
 pub mod Values
 pub mod ValuesLaws

@@ -1,8 +1,13 @@
 //! What a borrowed slice of elements falls into: the elements that a range of bits touches, cut at their edges, and their
-//! parts; single bits of a window, references to one; and what views' hash and texts stand on.
+//! parts; where it comes apart; single bits of a window, references to one; and what views' hash and texts stand on.
+//!
+//! A struct with a first field `elements: &'a mut [T]` and ghost fields lends these elements, or a range of them, by a
+//! method of one expression. No proof of that is generated, so it stands here once for all such structs: a lender above
+//! cites `specs/Lender.antt` or `specs/PartLender.antt` in a file of some 25 lines.
 #![tactic(auto)]
 
 mod answering;
+mod apart;
 mod bits;
 mod cut;
 mod domain;
@@ -18,6 +23,7 @@ mod reference_texts;
 mod values;
 
 pub use answering::{fill_with_in, for_each_in};
+pub use apart::comes_apart;
 pub use bits::{bit_in, replace_in, set_in, swap_in};
 pub use cut::Cut;
 pub use domain::{Domain, Region, domain_of};

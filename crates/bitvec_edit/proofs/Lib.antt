@@ -1,3 +1,0 @@
-mod Aside
-mod Edges
-mod Held

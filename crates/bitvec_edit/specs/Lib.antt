@@ -6,8 +6,6 @@ pub mod slice
 pub mod store
 pub mod traits
 pub mod walk
-pub mod elements
+pub mod within
 pub mod words
-pub mod Combined
-pub mod CombinedLaws
 pub mod UndoLaws

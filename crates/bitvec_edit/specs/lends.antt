@@ -1,3 +1,3 @@
--- Items of `bitvec_lending` that crates above use.
+-- Items of `bitvec_domain` that crates above use.
 pub use Rattle.bitvec_slice.specs.lends.Kept
 pub use Rattle.bitvec_slice.specs.lends.RefillLaws

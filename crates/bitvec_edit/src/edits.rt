@@ -7,19 +7,21 @@ ghost use Rattle.bitvec_slice.specs.words.Operator.{operator};
 ghost use Rattle.bitvec_slice.specs.words.declared.operator.BitOp.TheVariants.{And, Or, Xor};
 ghost use Rattle.bitvec_slice.specs.Views.{seen, seen_mut};
 ghost use Rattle.bitvec_slice.specs.Writes.{WritesBits};
-ghost use Rattle.bitvec_edit.specs.Combined.{combined_within};
-ghost use Rattle.bitvec_edit.specs.elements.Swaps.{LieApart, swapped_within};
+ghost use Rattle.bitvec_within.specs.Combined.{combined_within};
+ghost use Rattle.bitvec_within.specs.Swaps.{LieApart, swapped_within};
 
-use crate::combine_within_in;
 use bitvec_slice::base::BitOrder;
 use bitvec_slice::elements::{
-    combine_in, copy_from_in, copy_within_in, fill_in, fill_with_in, for_each_in, invert_in,
-    replace_in, reverse_in, rotate_left_in, rotate_right_in, set_in, shift_end_in, shift_start_in,
-    swap_in, swap_with_in, swap_within_in,
+    combine_in, copy_from_in, fill_in, fill_with_in, for_each_in, invert_in, replace_in, set_in,
+    swap_in, swap_with_in,
 };
 use bitvec_slice::engine::{BitOp, SliceOrder};
 use bitvec_slice::store::BitStore;
 use bitvec_slice::{BitSlice, BitSliceMut, Sealed, View, ViewMut};
+use bitvec_within::{
+    combine_within_in, copy_within_in, reverse_in, rotate_left_in, rotate_right_in, shift_end_in,
+    shift_start_in, swap_within_in,
+};
 use std::ops::Range;
 
 /// `bitvec`'s edits of a `&mut BitSlice`: those of single bits and of all, those that move its bits,
@@ -196,6 +198,7 @@ pub trait BitEdits<T: BitStore, O: SliceOrder>: ViewMut<T, O> {
     /// Makes each of the bits from `dest` on, as many as a range has, 1 if it and the one at its index in the
     /// range both are, as they stood before the call, also where the two overlap. Condition:
     /// `start <= end <= len`, and `dest + (end - start) <= len`. `bitvec` has no such call.
+    #[inline(always)]
     final fn and_within(&mut self, src: Range<usize>, dest: usize)
         requires { FitsWithin src.start src.end dest (Self.shows self.old).window.len }
         ensures { Self.writes self.old self.new (combined_within (operator And) src.start src.end dest (Self.shows self.old).bits) }
@@ -210,6 +213,7 @@ pub trait BitEdits<T: BitStore, O: SliceOrder>: ViewMut<T, O> {
     /// ```
     /// bits.or_within(source * width..source * width + width, target * width);
     /// ```
+    #[inline(always)]
     final fn or_within(&mut self, src: Range<usize>, dest: usize)
         requires { FitsWithin src.start src.end dest (Self.shows self.old).window.len }
         ensures { Self.writes self.old self.new (combined_within (operator Or) src.start src.end dest (Self.shows self.old).bits) }
@@ -220,6 +224,7 @@ pub trait BitEdits<T: BitStore, O: SliceOrder>: ViewMut<T, O> {
     /// Makes each of the bits from `dest` on, as many as a range has, 1 if it and the one at its index in the
     /// range differ, as they stood before the call, also where the two overlap. Condition: as for
     /// [`BitEdits::and_within`]. `bitvec` has no such call.
+    #[inline(always)]
     final fn xor_within(&mut self, src: Range<usize>, dest: usize)
         requires { FitsWithin src.start src.end dest (Self.shows self.old).window.len }
         ensures { Self.writes self.old self.new (combined_within (operator Xor) src.start src.end dest (Self.shows self.old).bits) }
@@ -402,6 +407,7 @@ pub trait BitEdits<T: BitStore, O: SliceOrder>: ViewMut<T, O> {
     /// Makes each of the bits from `dest` on, as many as a range has, what `op` makes of it and the one at its
     /// index in the range.
     #[doc(hidden)]
+    #[inline(always)]
     final fn combine_within(&mut self, src: Range<usize>, dest: usize, op: BitOp)
         requires { FitsWithin src.start src.end dest (Self.shows self.old).window.len }
         ensures { Self.writes self.old self.new (combined_within (operator op) src.start src.end dest (Self.shows self.old).bits) }

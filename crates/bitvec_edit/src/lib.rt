@@ -1,7 +1,6 @@
 //! Edits of writable views.
 #![tactic(auto)]
 
-mod combining_within;
 mod edits;
 mod views;
 
@@ -32,5 +31,12 @@ pub mod store {
     pub use bitvec_slice::store::BitStore;
 }
 
-pub use combining_within::combine_within_in;
+/// Items of `bitvec_within` that crates above use.
+pub mod within {
+    pub use bitvec_within::{
+        combine_within_in, copy_within_in, reverse_in, rotate_left_in, rotate_right_in,
+        shift_end_in, shift_start_in, swap_within_in,
+    };
+}
+
 pub use edits::BitEdits;

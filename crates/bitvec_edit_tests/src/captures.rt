@@ -1,17 +1,17 @@
 //! Closures over chunks that captured something: what a caller knows of each chunk.
 ghost use Rattle.std.specs.Prelude.{◌≡◌, ℕ, ◌==◌, ◌%◌, ◌<◌, replicate};
-ghost use Rattle.bitvec_edit.specs.slice.Views.{seen, seen_mut};
-ghost use Rattle.bitvec_edit.specs.base.Lists.{combined};
-ghost use Rattle.bitvec_edit.specs.words.Operator.{operator};
-ghost use Rattle.bitvec_edit.specs.words.declared.operator.BitOp.TheVariants.{Or};
+ghost use Rattle.bitvec_owned.specs.edit.slice.Views.{seen, seen_mut};
+ghost use Rattle.bitvec_owned.specs.edit.base.Lists.{combined};
+ghost use Rattle.bitvec_owned.specs.edit.words.Operator.{operator};
+ghost use Rattle.bitvec_owned.specs.edit.words.declared.operator.BitOp.TheVariants.{Or};
 ghost use Rattle.bitvec_closures.specs.cutting.Cutting.{cut, whole_chunk, whole_count};
 
 use bitvec_closures::EditParts;
-use bitvec_edit::BitEdits;
-use bitvec_edit::base::{BitOrder, Lsb0};
-use bitvec_edit::engine::SliceOrder;
-use bitvec_edit::slice::{BitSlice, BitSliceMut};
-use bitvec_edit::store::BitStore;
+use bitvec_owned::edit::BitEdits;
+use bitvec_owned::query::base::{BitOrder, Lsb0};
+use bitvec_owned::query::engine::SliceOrder;
+use bitvec_owned::query::slice::{BitSlice, BitSliceMut};
+use bitvec_owned::query::store::BitStore;
 
 /// Makes each bit of each whole chunk of `size` bits `bit`.
 pub fn fill_chunks<T: BitStore, O: SliceOrder>(

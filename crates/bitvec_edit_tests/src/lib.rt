@@ -1,46 +1,35 @@
-//! Callers of the edits of views, of the walks over ones and zeros, and of the bits, halves and chunks of a writable
-//! view that are lent one at a time: what they know afterwards, and what no clause says. The calls of `limits` just keep
-//! their conditions.
+//! Edits of views, by calls, by closures and of the numbers in them, and sequences and copies of bits: callers, what the
+//! user's elements are afterwards, and what no clause says. The calls of `limits` just keep their conditions.
 #![tactic(auto)]
 
 #[cfg(test)]
-mod asked;
-#[cfg(test)]
-mod by_value;
-#[cfg(test)]
-mod callers;
-#[cfg(test)]
 mod captures;
 #[cfg(test)]
-mod chunks;
+mod closures;
 #[cfg(test)]
-mod ended;
+mod copies;
 #[cfg(test)]
-mod halves;
+mod digits;
 #[cfg(test)]
-mod kept;
+pub mod edit_laws;
 #[cfg(test)]
-pub mod known;
-#[cfg(test)]
-pub mod laws;
-#[cfg(test)]
-mod lent_bits;
+mod edits;
 pub mod limits;
+#[cfg(test)]
+mod number_laws;
+#[cfg(test)]
+mod numbers;
 #[cfg(test)]
 mod old_names;
 #[cfg(test)]
-mod pieces;
+mod owned;
 #[cfg(test)]
-mod remainders;
+mod refusals;
+#[cfg(test)]
+mod repeats;
+#[cfg(test)]
+mod split_edits;
 #[cfg(test)]
 mod transfers;
 #[cfg(test)]
-mod turns;
-#[cfg(test)]
-mod walked;
-#[cfg(test)]
-mod walks;
-#[cfg(test)]
 mod within;
-#[cfg(test)]
-mod written;

@@ -1,12 +1,12 @@
 //! One range of a view combined with another, beside a plain list of truth values.
 ghost use Rattle.std.specs.Prelude.{◌*◌, ◌≤◌, length};
-ghost use Rattle.bitvec_edit.specs.base.Window.{max_bits};
+ghost use Rattle.bitvec_owned.specs.edit.base.Window.{max_bits};
 
-use bitvec_edit::BitEdits;
-use bitvec_edit::base::{HiLo, Lsb0, Msb0};
-use bitvec_edit::engine::SliceOrder;
-use bitvec_edit::slice::BitSliceMut;
-use bitvec_edit::store::BitStore;
+use bitvec_owned::edit::BitEdits;
+use bitvec_owned::query::base::{HiLo, Lsb0, Msb0};
+use bitvec_owned::query::engine::SliceOrder;
+use bitvec_owned::query::slice::BitSliceMut;
+use bitvec_owned::query::store::BitStore;
 
 /// What becomes of a bit and the one at its index, by the number of a call.
 fn made(kind: usize, bit: bool, other: bool) -> bool {

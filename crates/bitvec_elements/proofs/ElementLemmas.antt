@@ -1,10 +1,9 @@
 -- Elements replaced by others at once, as a write of their bits.
 use borrow.Rule.Slice.PartMut.{post_of, put_mid}
 use Rattle.std.specs.Prelude.{◌≡◌, ◌≢◌, ℕ, ◌+◌, ◌-◌, ◌*◌, ◌/◌, ◌%◌, ◌<◌, ◌≤◌, Bool, List, ◌++◌, length, map, take, drop, slice_index, slice_index_or, slice_range, refl}
-use Rattle.std.proofs.Common.{arith, sym, ap, ◌∙◌, ⊎_elim}
-use Rattle.std.proofs.Math.Nat.{add-mul, mul-le-mul_right}
+use Rattle.std.proofs.Common.{arith, sym, ap, ◌∙◌}
+use Rattle.std.proofs.Math.Nat.{add-mul, le_of_mul-le-mul_right, mul-le-mul_right}
 use Rattle.std.proofs.Math.Seq.{drop-drop}
-use Rattle.std.proofs.lemmas.Bool.{cases_lt}
 use Rattle.std.proofs.lemmas.List.{drop-map, get_or-map, length-map, map-append, take-map}
 use Rattle.std.proofs.lemmas.Nat.{div-add-mod'}
 use Rattle.bitvec_elements.specs.base.declared.part.Part.{Part}
@@ -18,12 +17,6 @@ use Rattle.bitvec_elements.specs.base.Window.{window_of, write_at}
 use Rattle.bitvec_elements.specs.base.WriteLaws.{length-slice_range, length-write_at, range-write_at, range-write_at_after, range-write_at_before}
 use Rattle.bitvec_elements.specs.base.WritesLaws.{Writes-is, length-list}
 use Rattle.bitvec_elements.specs.words.FieldLaws.{Writes-none, element_of, list-part}
-
-row_le : (e n b : ℕ) → 0 < b → e * b ≤ n * b → e ≤ n
-row_le e n b some below = ⊎_elim
-    (λ (more : n < e). let order = mul-le-mul_right {m = n + 1} {n = e} b (omega arith) in let next = add-mul n 1 b in absurd (omega arith))
-    (λ (less : e ≤ n). less)
-    (cases_lt n e)
 
 -- elements that two memories have in common
 same-part : (b : ℕ) (at : ℕ → ℕ → ℕ) (xs zs : List ℕ) (a e : ℕ) → 0 < b → a ≤ e → e ≤ length xs → e ≤ length zs → slice_range zs a e ≡ slice_range xs a e
@@ -72,7 +65,7 @@ elements-inside b xs window n some has edge whole short =
     let start = has.within.start in
     let len = has.within.len in
     let ends = add-mul (window.start / b) (n / b) b in
-    row_le (window.start / b + n / b) (length xs) b some (omega arith)
+    le_of_mul-le-mul_right {m = window.start / b + n / b} {n = length xs} {k = b} (omega arith) some
 
 -- whole elements of a window hold those of another
 pub Writes-elements : (b : ℕ) (at : ℕ → ℕ → ℕ) (xs ys : List ℕ) (to from : Window) → 0 < b → HasSpan b xs ys to from → to.start % b ≡ 0 → from.start % b ≡ 0 → to.len % b ≡ 0

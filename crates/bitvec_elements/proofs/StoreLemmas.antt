@@ -1,7 +1,6 @@
 -- Windows written a stretch at a time.
-use Rattle.std.specs.Prelude.{◌≡◌, ℕ, ◌+◌, ◌-◌, ◌*◌, ◌<◌, ◌≤◌, min, Bool, false, List, length, slice_index_or, slice_range, take, refl}
+use Rattle.std.specs.Prelude.{◌≡◌, ℕ, ◌+◌, ◌-◌, ◌<◌, ◌≤◌, min, Bool, false, List, length, slice_index_or, slice_range, take, refl}
 use Rattle.std.proofs.Common.{arith, sym, ◌∙◌, ap, subst, ⊎_elim}
-use Rattle.std.proofs.Math.Nat.{mul-le-mul_left}
 use Rattle.std.proofs.lemmas.Bool.{cases_lt}
 use Rattle.std.proofs.lemmas.List.{places, same_lists}
 use Rattle.bitvec_engine.specs.Direction.{Agrees}
@@ -14,8 +13,6 @@ use Rattle.bitvec_elements.specs.base.Window.{window_range, write_window}
 use Rattle.bitvec_elements.specs.base.WriteLaws.{get-slice_range, length-slice_range}
 use Rattle.bitvec_elements.specs.base.WritesLaws.{HasWindow-kept, HasWindow-range, Writes-empty, Writes-is, Writes-join, length-list, list-behind, list-range}
 use Rattle.bitvec_elements.specs.moves.WordLaws.{take-all}
-use Rattle.bitvec_elements.specs.store.Width.{IsWidth}
-use Rattle.bitvec_elements.specs.store.WidthLaws.{at_each_width}
 use Rattle.bitvec_elements.specs.words.ShortWindow.{padded}
 use Rattle.bitvec_elements.specs.words.MovedLaws.{length-padded, take-word, take-range}
 use Rattle.bitvec_elements.proofs.DifferenceLemmas.{in_padded, past_padded}
@@ -57,14 +54,6 @@ range-kept b xs ys window part from to has long is order bound = range-inside b 
 pub loaded-range : (b : ℕ) (at way : ℕ → ℕ → ℕ) (xs : List ℕ) (window part : Window) (from to word : ℕ) → part ≡ window_range window from to → element_bits 64 way word ≡ padded 64 (list_in b at xs part)
     → element_bits 64 way word ≡ padded 64 (list_in b at xs (window_range window from to))
 loaded-range b at way xs window part from to word is loaded = rw is at loaded
-
--- the first bits of the few elements that are held aside
-pub held-inside : (b : ℕ) (xs : List ℕ) (n count : ℕ) → IsWidth b → length xs ≡ n → n ≤ 128 → count ≤ b * n → HasWindow b xs (record { start = 0; len = count })
-held-inside b xs n count width long few fits =
-    let most : b ≤ 128 = at_each_width (λ m. m ≤ 128) (omega arith) (omega arith) (omega arith) (omega arith) (omega arith) b width in
-    let room = mul-le-mul_left b few in
-    let all : b * length xs ≡ b * n = ap (λ (m : ℕ). b * m) long in
-    record { fits = omega arith; within = record { start = omega arith; len = omega arith } }
 
 -- nothing yet
 pub stretch-none : (b : ℕ) (at : ℕ → ℕ → ℕ) (xs ys : List ℕ) (window : Window) (list : List Bool) → HasWindow b xs window → ys ≡ xs → Writes b at xs ys (until window 0) (take 0 list)
@@ -190,13 +179,3 @@ pub stretch-reordered : (b : ℕ) (at other : ℕ → ℕ → ℕ) (old mid now 
     → Writes b at old mid (until window from) (take from list) → Writes b at now new part (take part.len (element_bits 64 at made)) → Writes b at old new (until window to) (take to list)
 stretch-reordered b at other old mid now new window part list from to word made has order bound long is same loaded reordered before after =
     stretch-stored b at old mid now new window part list (element_bits 64 at made) from to has order bound long is same (stored-stretch other at list from to (to - from) word made order (omega arith) refl loaded reordered) before after
-
--- a window of at most 64 bits gets an edit of its list, as the first bits of a word
-pub few-edited : (b : ℕ) (at : ℕ → ℕ → ℕ) (old new : List ℕ) (window : Window) (edit : List Bool → List Bool) (bits reordered : List Bool) → HasWindow b old window
-    → bits ≡ padded 64 (list_in b at old window) → reordered ≡ padded 64 (edit (take window.len bits)) → length (edit (list_in b at old window)) ≡ window.len
-    → Writes b at old new window (take window.len reordered) → Edits b at old new window edit
-few-edited b at old new window edit bits reordered has word edited long writes =
-    let list = list_in b at old window in
-    let whole = length-list b at old window has in
-    let same = take-word 64 window.len bits list word (sym whole) in
-    Writes-is b at old new window _ (edit list) writes (take-word 64 window.len reordered (edit list) (edited ∙ ap (λ (l : List Bool). padded 64 (edit l)) same) (sym long))

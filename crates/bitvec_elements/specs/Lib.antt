@@ -3,7 +3,6 @@ pub mod Cited
 pub mod Converting
 pub mod Difference
 pub mod OrderLaws
-pub mod Swaps
 pub use Rattle.bitvec_engine.specs.base as base
 pub use Rattle.bitvec_engine.specs.cells as cells
 pub use Rattle.bitvec_engine.specs as engine

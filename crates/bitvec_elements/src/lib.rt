@@ -7,17 +7,12 @@ mod comparing;
 mod converting;
 mod copying;
 mod copying_elements;
-mod copying_within;
 mod counting;
 mod difference;
 mod filling;
 mod needles;
-mod reversing;
-mod rotating;
 mod scanning;
-mod shifting;
 mod swapping;
-mod swapping_within;
 mod window_words;
 
 /// Items of `bitvec_base` that crates above use.
@@ -37,11 +32,12 @@ pub mod cells {
 /// Items of `bitvec_engine` that crates above use.
 pub mod engine {
     pub use bitvec_engine::{
-        BitOp, ByWords, SliceOrder, all, any, bits_contains, bits_copy, bits_copy_within,
-        bits_ends_with, bits_eq, bits_op, bits_reverse, bits_scan_first, bits_scan_last,
-        bits_starts_with, bits_swap, compare, contains, count, count_zeros, elements_copy,
-        elements_eq, elements_op, elements_swap, ends_with, fill, get_bit, invert, replace_bit,
-        reverse, rotate_left, rotate_right, shift_end, shift_start, starts_with, swap_bits,
+        BitOp, ByWords, Direction, SliceOrder, all, any, bits_contains, bits_copy,
+        bits_copy_within, bits_ends_with, bits_eq, bits_op, bits_reverse, bits_scan_first,
+        bits_scan_last, bits_starts_with, bits_swap, compare, contains, count, count_zeros,
+        direction_of, elements_copy, elements_eq, elements_op, elements_swap, ends_with, fill,
+        get_bit, invert, replace_bit, reverse, rotate_left, rotate_right, shift_end, shift_start,
+        starts_with, store_few, swap_bits,
     };
 }
 
@@ -73,13 +69,9 @@ pub mod words {
 pub use combining::{combine_block_in, combine_in};
 pub use comparing::{compare_block_in, compare_in, eq_block_in, eq_blocks_in, eq_in};
 pub use copying::{copy_from_block_in, copy_from_in, copy_from_long_block_in};
-pub use copying_within::copy_within_in;
 pub use counting::{count_blocks_in, count_in};
 pub use filling::{fill_in, invert_in};
 pub use needles::{contains_in, ends_with_in, starts_with_in};
-pub use reversing::reverse_in;
-pub use rotating::{rotate_left_in, rotate_right_in};
 pub use scanning::{all_in, any_in, find_first_in, find_last_in};
-pub use shifting::{shift_end_in, shift_start_in};
 pub use swapping::{swap_with_block_in, swap_with_in};
-pub use swapping_within::swap_within_in;
+pub use window_words::few_word;

@@ -1,6 +1,6 @@
 //! The bits of a window of a slice, up to 64 of them, as the first bits of a word under an order that
 //! runs from one end of it to the other.
-ghost use Rattle.std.specs.Prelude.{◌≡◌, ◌+◌, ◌<◌, ◌≤◌, map, slice_range, true};
+ghost use Rattle.std.specs.Prelude.{◌≡◌, ◌+◌, ◌<◌, ◌≤◌, map, slice_range};
 ghost use Rattle.bitvec_engine.specs.base.Memory.{HasWindow, element_bits, list_in};
 ghost use Rattle.bitvec_engine.specs.base.Window.{max_bits};
 ghost use Rattle.bitvec_engine.specs.words.ShortWindow.{padded};
@@ -108,9 +108,11 @@ fn run_word<W: WordOrder, T: BitStore>(elements: &[T], window: Window) -> u64
     joined::<W, u64>(word, behind, skip)
 }
 
-/// [`run_word`], with no loop where the window is no longer than an element.
+/// The bits of a window as the first bits of a word under an order that runs from one end of it to the other, with
+/// no loop where the window is no longer than an element; the other bits are 0. Condition: the window has at most
+/// 64 bits and lies in a memory of at most `MAX_BITS` bits.
 #[inline(always)]
-pub(crate) fn few_word<W: WordOrder, T: BitStore>(elements: &[T], window: Window) -> u64
+pub fn few_word<W: WordOrder, T: BitStore>(elements: &[T], window: Window) -> u64
     requires window { HasWindow T.BITS (map T.value elements.now) window }
     requires bound { window.len ≤ 64 }
     ensures { element_bits 64 W.at result
@@ -122,15 +124,6 @@ pub(crate) fn few_word<W: WordOrder, T: BitStore>(elements: &[T], window: Window
     let mut cells = Shared::new(elements);
     let (front, _) = load_element::<W, Shared<T>>(&mut cells, window);
     moved::<W, T, u64>(front, 0, window.len, 0)
-}
-
-/// Whether so many bits are loaded and stored as a word with no loop: those of a window that is no longer
-/// than an element, or 64.
-#[inline(always)]
-pub(crate) fn is_few<T: BitStore>(len: usize) -> bool
-    ensures { result ≡ true → len ≤ 64 }
-{
-    len == WORD_BITS || len <= WORD_BITS.min(T::BITS as usize)
 }
 
 /// [`window_word`] of any order: each element is loaded once, and its bits are gathered one by one.

@@ -3,7 +3,6 @@ pub mod domain
 pub mod segments
 pub mod slice
 pub mod store
-pub mod elements
 pub mod words
 pub mod DomainParts
 pub mod DomainPartsLaws

@@ -41,9 +41,8 @@ pub mod store {
 pub mod elements {
     pub use crate::slices::{load_be_in, load_le_in, store_be_in, store_le_in};
     pub use bitvec_slice::elements::{
-        combine_in, copy_from_in, copy_within_in, count_in, fill_in, find_first_in, find_last_in,
-        invert_in, replace_in, reverse_in, rotate_left_in, rotate_right_in, set_in, shift_end_in,
-        shift_start_in, swap_in, swap_within_in,
+        combine_in, copy_from_in, count_in, fill_in, find_first_in, find_last_in, invert_in,
+        replace_in, set_in, swap_in,
     };
 }
 

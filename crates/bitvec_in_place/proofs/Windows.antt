@@ -1,29 +1,26 @@
 -- What is written into a window of a memory's bits, by the words on ranges and on whole lists.
-use Rattle.std.specs.Prelude.{◌≡◌, ℕ, ◌+◌, ◌-◌, ◌≤◌, Bool, List, length, replicate, slice_index_or, slice_range, slice_set, map, not}
+use Rattle.std.specs.Prelude.{◌≡◌, ℕ, ◌+◌, ◌-◌, ◌≤◌, Bool, List, length, slice_index_or, slice_range, slice_set, map, not}
 use Rattle.std.specs.List.{swap}
-use Rattle.std.proofs.Common.{arith, refl, sym, ◌∙◌, ap}
+use Rattle.std.proofs.Common.{arith, sym, ◌∙◌, ap}
 use Rattle.std.proofs.lemmas.List.{length-set}
 use Rattle.std.proofs.lemmas.List.Edits.{length-swap}
-use Rattle.bitvec_edit.specs.Combined.{combined_within}
-use Rattle.bitvec_edit.specs.CombinedLaws.{length-combined_within}
+use Rattle.bitvec_within.specs.Combined.{combined_within}
+use Rattle.bitvec_within.specs.CombinedLaws.{length-combined_within}
 use Rattle.bitvec_field.specs.base.Lists.{combined, copied_within}
 use Rattle.bitvec_field.specs.base.SliceLaws.{range-all}
 use Rattle.bitvec_field.specs.base.Window.{window_of, write_at}
 use Rattle.bitvec_field.specs.base.WriteLaws.{write_at-all}
 use Rattle.bitvec_field.specs.segments.Segments.{loaded, stored}
-use Rattle.bitvec_field.specs.elements.Swaps.{swapped_within}
+use Rattle.bitvec_within.specs.Swaps.{swapped_within}
 use Rattle.bitvec_in_place.specs.MovedLaws.{length-bits_of, length-copied, length-swapped}
-use Rattle.bitvec_in_place.specs.Ranges.{edited, filled, flipped, joined, number_in, numbered}
+use Rattle.bitvec_in_place.specs.Ranges.{edited, flipped, joined, number_in, numbered}
+use Rattle.bitvec_in_place.specs.RangesLaws.{filled-write}
 
 -- ---- the window of a range
 
 pub window_range : (bits : List Bool) (from to : ℕ) → from ≤ to → window_of bits (record { start = from; len = to - from }) ≡ slice_range bits from to
 unfolding window_of
 window_range bits from to order = let end : from + (to - from) ≡ to = omega arith in ap (slice_range bits from) end
-
-pub filled-is : (list : List Bool) (from to : ℕ) (bit : Bool) → filled list from to bit ≡ write_at list from (replicate (to - from) bit)
-unfolding filled
-filled-is list from to bit = refl
 
 pub flipped-is : (list : List Bool) (from to : ℕ) → from ≤ to → flipped list from to ≡ write_at list from (map not (window_of list (record { start = from; len = to - from })))
 unfolding flipped
@@ -70,6 +67,6 @@ module _ (bits : List Bool) (n : ℕ) (all : n ≡ length bits) where
   pub whole-combine : (f : Bool → Bool → Bool) (from to dest : ℕ) → from ≤ to → to ≤ n → dest + (to - from) ≤ n → write_at bits 0 (combined_within f from to dest (window_of bits (record { start = 0; len = n }))) ≡ combined_within f from to dest bits
   whole-combine f from to dest order source room = ap (λ (list : List Bool). write_at bits 0 (combined_within f from to dest list)) window_all ∙ write_at-all bits (combined_within f from to dest bits) (length-combined_within f from to dest bits order (omega arith))
 
-pub ruleset ranges = (filled-is, flipped-is, edited-is, joined-is, number-is, numbered-is)
+pub ruleset ranges = (filled-write, flipped-is, edited-is, joined-is, number-is, numbered-is)
 
 pub ruleset wholes = (length-bits_of, whole-set, whole-get, whole-swap, whole-copy, whole-exchange, whole-combine)

@@ -2,7 +2,7 @@
 use Rattle.std.proofs.lemmas.Grind.{get_or-set_at}
 use Rattle.std.proofs.lemmas.List.{get_or-replicate, get_or-reverse, get_or-set_other, length-map, length-replicate, length-reverse, length-set}
 use Rattle.std.proofs.lemmas.List.Edits.{length-swap}
-use Rattle.bitvec_edit.specs.CombinedLaws.{get-combined_within_above, get-combined_within_below, get-combined_within_inside, length-combined_within}
+use Rattle.bitvec_within.specs.CombinedLaws.{get-combined_within_above, get-combined_within_below, get-combined_within_inside, length-combined_within}
 use Rattle.bitvec_field.specs.base.ListsLaws.{get-combined, length-combined}
 use Rattle.bitvec_field.specs.base.MemoryLaws.{length-memory_bits}
 use Rattle.bitvec_field.specs.base.WriteLaws.{get-write_at_above, get-write_at_below, get-write_at_inside, length-write_at}

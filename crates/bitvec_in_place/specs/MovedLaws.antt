@@ -11,7 +11,7 @@ use Rattle.bitvec_field.specs.base.Memory.{memory_bits}
 use Rattle.bitvec_field.specs.base.MemoryLaws.{length-memory_bits}
 use Rattle.bitvec_field.specs.base.Window.{write_at}
 use Rattle.bitvec_field.specs.base.WriteLaws.{get-slice_range, get-write_at_above, get-write_at_below, get-write_at_inside, length-slice_range, length-write_at}
-use Rattle.bitvec_field.specs.elements.Swaps.{LieApart, swapped_within}
+use Rattle.bitvec_within.specs.Swaps.{LieApart, swapped_within}
 
 -- ---- lengths
 

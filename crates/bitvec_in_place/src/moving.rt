@@ -5,17 +5,17 @@ ghost use Rattle.std.specs.Prelude.{◌≡◌, ◌-◌, ◌*◌, ◌≤◌, leng
 ghost use Rattle.bitvec_field.specs.base.Lists.{FitsWithin, copied_within, rotated_left, rotated_right, shifted_end, shifted_start};
 ghost use Rattle.bitvec_field.specs.base.Memory.{memory_bits};
 ghost use Rattle.bitvec_field.specs.base.Window.{max_bits};
-ghost use Rattle.bitvec_field.specs.elements.Swaps.{LieApart, swapped_within};
 ghost use Rattle.bitvec_in_place.specs.Ranges.{HasRange, edited};
 ghost use Rattle.bitvec_in_place.specs.Rooms.{HasRoom};
+ghost use Rattle.bitvec_within.specs.Swaps.{LieApart, swapped_within};
 
 use crate::spans::{span, whole};
-use bitvec_field::elements::{
+use bitvec_field::engine::SliceOrder;
+use bitvec_field::store::BitStore;
+use bitvec_within::{
     copy_within_in, reverse_in, rotate_left_in, rotate_right_in, shift_end_in, shift_start_in,
     swap_within_in,
 };
-use bitvec_field::engine::SliceOrder;
-use bitvec_field::store::BitStore;
 use std::ops::Range;
 
 /// Puts the bits of a range in the opposite order. Condition: the slice has at most `MAX_BITS` bits, and the range

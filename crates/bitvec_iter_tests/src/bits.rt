@@ -1,6 +1,6 @@
 //! Walks over single bits.
 
-use crate::callers::{
+use crate::adapters::{
     backwards, mixed_pairs, ones_by_chunks, parity, phase_behind_first, window_before_last,
     window_behind,
 };
@@ -87,7 +87,7 @@ fn is_backwards(alloc: Global, bits: BitSlice<'_, u8, Msb0>, wanted: &[bool]) ->
 }
 
 #[test]
-fn bits_by_callers(rt: HostRuntime) {
+fn callers_count_and_place_bits(rt: HostRuntime) {
     let view = BitSlice::<u8, Msb0>::from_slice(&[0x17]);
     let ones = [
         ones_by_loop(view),

@@ -1,30 +1,32 @@
-//! Callers of the walks over views, of their searches, and of the numbers in views and in runs, with the digits that
-//! views print: what they know afterwards, and what no clause says.
+//! Walks over the bits and pieces of views, those that are lent one at a time, and splits by a predicate: callers, and
+//! what no clause says.
 #![tactic(auto)]
 
 #[cfg(test)]
+pub mod adapters;
+#[cfg(test)]
 mod bits;
 #[cfg(test)]
-pub mod callers;
-#[cfg(test)]
-mod chunks;
+mod by_value;
 #[cfg(test)]
 mod ends;
 #[cfg(test)]
-mod growth;
+mod halves;
 #[cfg(test)]
-mod laws;
+mod lent_bits;
 #[cfg(test)]
-mod numbers;
+mod lent_chunks;
+#[cfg(test)]
+mod lent_ended;
+#[cfg(test)]
+mod lent_splits;
 #[cfg(test)]
 mod pieces;
 #[cfg(test)]
-mod run_rows;
-#[cfg(test)]
-mod runs;
-#[cfg(test)]
-mod scans;
-#[cfg(test)]
 mod shown;
 #[cfg(test)]
-mod texts;
+mod splits;
+#[cfg(test)]
+mod splits_ended;
+#[cfg(test)]
+mod walked;

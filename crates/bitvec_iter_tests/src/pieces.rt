@@ -68,7 +68,7 @@ fn a_clone_walks_alone(rt: HostRuntime) {
 }
 
 #[test]
-fn what_no_piece_has(rt: HostRuntime) {
+fn remainders_are_what_no_exact_chunk_has(rt: HostRuntime) {
     let mut cells = [0x17u8];
     let view = BitSliceMut::<u8, Msb0>::from_slice_mut(&mut cells);
     let mut front = view.chunks_exact(3);

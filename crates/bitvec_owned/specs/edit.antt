@@ -1,6 +1,4 @@
 -- Items of `bitvec_edit` that crates above use.
-pub use Rattle.bitvec_edit.specs.Combined
-pub use Rattle.bitvec_edit.specs.CombinedLaws
 pub use Rattle.bitvec_edit.specs.UndoLaws
 pub use Rattle.bitvec_edit.specs.base
 pub use Rattle.bitvec_edit.specs.domain
@@ -10,5 +8,5 @@ pub use Rattle.bitvec_edit.specs.slice
 pub use Rattle.bitvec_edit.specs.store
 pub use Rattle.bitvec_edit.specs.traits
 pub use Rattle.bitvec_edit.specs.walk
-pub use Rattle.bitvec_edit.specs.elements
+pub use Rattle.bitvec_edit.specs.within
 pub use Rattle.bitvec_edit.specs.words

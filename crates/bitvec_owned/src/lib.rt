@@ -16,7 +16,7 @@ mod zeros;
 
 /// Items of `bitvec_edit` that crates above use.
 pub mod edit {
-    pub use bitvec_edit::{BitEdits, combine_within_in};
+    pub use bitvec_edit::{BitEdits, within};
 }
 
 /// Items of `bitvec_query` that crates above use.

@@ -1,8 +1,4 @@
 -- Items of `bitvec_slice` that crates above use.
 pub use Rattle.bitvec_slice.specs.Apart
-pub use Rattle.bitvec_slice.specs.BitParts
-pub use Rattle.bitvec_slice.specs.Domains
-pub use Rattle.bitvec_slice.specs.DomainsLaws
-pub use Rattle.bitvec_slice.specs.Seen
 pub use Rattle.bitvec_slice.specs.Views
 pub use Rattle.bitvec_slice.specs.Walks

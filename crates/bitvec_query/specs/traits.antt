@@ -1,3 +1,2 @@
--- What hash and texts stand on.
+-- What hash stands on.
 pub use Rattle.bitvec_slice.specs.traits.Feeding
-pub use Rattle.bitvec_slice.specs.traits.Listing

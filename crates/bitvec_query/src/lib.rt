@@ -1,30 +1,41 @@
-//! Questions about the bits of a view: how many, where, whether, and how they compare.
+//! Questions about the bits of a view: how many, where, whether, and how they compare. The indices of its ones and of
+//! its zeros are walked from both ends, those of a window also through counted access to its elements.
 #![tactic(auto)]
 
+mod index_walk;
+mod kept;
+mod ones_calls;
+mod places;
 mod queries;
+mod rest;
 mod runs;
+mod taking;
+mod texts;
+mod turns;
 mod views;
+mod wanted;
+mod writing;
 
 /// Items of `bitvec_base` that crates above use.
 pub mod base {
-    pub use bitvec_slice::base::{BitOrder, HiLo, Lsb0, Msb0, Part, Window};
+    pub use bitvec_slice::base::{BitOrder, HiLo, Lsb0, Msb0, Window};
 }
 
 /// Items of `bitvec_cells` that crates above use.
 pub mod cells {
-    pub use bitvec_slice::cells::{CellsRead, Shared};
+    pub use bitvec_slice::cells::Shared;
 }
 
 /// Items of `bitvec_engine` that crates above use.
 pub mod engine {
-    pub use bitvec_slice::engine::{SliceOrder, count, count_zeros};
+    pub use bitvec_slice::engine::SliceOrder;
 }
 
 /// Items of `bitvec_slice` that crates above use.
 pub mod slice {
     pub use bitvec_slice::{
-        BitDomain, BitDomainMut, BitRef, BitRefMut, BitSlice, BitSliceIndex, BitSliceMut, Domain,
-        DomainMut, Shows, Viewed, ViewedMut, from_mut, from_ref,
+        BitDomain, BitDomainMut, BitRef, BitSlice, BitSliceIndex, BitSliceMut, Domain, Viewed,
+        ViewedMut, from_mut, from_ref,
     };
 }
 
@@ -33,19 +44,17 @@ pub mod store {
     pub use bitvec_slice::store::BitStore;
 }
 
-/// Items of `bitvec_elements` that crates above use.
-pub mod traits {
-    pub use bitvec_slice::traits::separator_before;
-}
-
-/// Items of `bitvec_cells` that crates above use.
-pub mod walk {
-    pub use bitvec_slice::walk::sought;
-}
-
 /// Items of `bitvec_words` that crates above use.
 pub mod words {
-    pub use bitvec_slice::words::{WORD_BITS, WordOrder};
+    pub use bitvec_slice::words::WordOrder;
 }
 
+pub use index_walk::IndexWalk;
+pub use ones_calls::OnesCalls;
+pub use places::{IterOnes, IterZeros, Places};
 pub use queries::BitQueries;
+pub use rest::Rest;
+pub use taking::{count_left, take_first, take_last};
+pub use turns::{End, scan_turns};
+pub use wanted::{Ones, Wanted, Zeros};
+pub use writing::write_places;

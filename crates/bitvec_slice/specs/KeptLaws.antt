@@ -6,10 +6,10 @@ use Rattle.std.proofs.lemmas.Grind.{div_ceil_times}
 use Rattle.std.proofs.lemmas.Nat.{le-div}
 use Rattle.bitvec_elements.specs.store.declared.store.BitStore.{Ghosts as Store}
 use Rattle.bitvec_elements.specs.base.declared.order.BitOrder.{Ghosts as Order}
-use Rattle.bitvec_lending.specs.Kept.{KeepsOutside}
+use Rattle.bitvec_domain.specs.Kept.{KeepsOutside}
 use Rattle.bitvec_slice.specs.Lending.{with_elements}
-use Rattle.bitvec_lending.specs.Refill.{with_range}
-use Rattle.bitvec_lending.specs.RefillLaws.{refilled-keeps}
+use Rattle.bitvec_domain.specs.Refill.{with_range}
+use Rattle.bitvec_domain.specs.RefillLaws.{refilled-keeps}
 use Rattle.bitvec_slice.specs.Touched.{end_touched, first_touched}
 use Rattle.bitvec_slice.specs.TouchedLaws.{touches}
 use Rattle.bitvec_slice.specs.Views.{seen_mut}

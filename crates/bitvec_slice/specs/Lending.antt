@@ -3,7 +3,7 @@ use Rattle.std.specs.Prelude.{ℕ, ◌+◌, ◌*◌, ◌≤◌, List}
 use Rattle.std.specs.Borrow.{Fml, GName, MutBor, RattleType, Array, follows}
 use Rattle.std.proofs.Common.{subst}
 use Rattle.bitvec_slice.specs.Touched.{end_touched, first_touched}
-use Rattle.bitvec_lending.specs.Refill.{refilled, length_refilled, of_lender, with_range}
+use Rattle.bitvec_domain.specs.Refill.{refilled, length_refilled, of_lender, with_range}
 use Rattle.bitvec_elements.specs.store.declared.store.BitStore.{Ghosts as Store}
 use Rattle.bitvec_elements.specs.base.declared.order.BitOrder.{Ghosts as Order}
 use Rattle.bitvec_elements.specs.base.Window.{max_bits}

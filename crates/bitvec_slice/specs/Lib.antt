@@ -7,7 +7,6 @@ pub mod reference
 pub mod store
 pub mod traits
 pub mod walk
-pub mod elements
 pub mod words
 pub mod Cited
 pub mod Apart

@@ -1,10 +1,10 @@
--- Items of `bitvec_lending` that crates above use.
-pub use Rattle.bitvec_lending.specs.Arity
-pub use Rattle.bitvec_lending.specs.Kept
-pub use Rattle.bitvec_lending.specs.Lender
-pub use Rattle.bitvec_lending.specs.Middle
-pub use Rattle.bitvec_lending.specs.PartLender
-pub use Rattle.bitvec_lending.specs.Refill
-pub use Rattle.bitvec_lending.specs.RefillLaws
-pub use Rattle.bitvec_lending.specs.Steps
-pub use Rattle.bitvec_lending.specs.Through
+-- Items of `bitvec_domain` that crates above use.
+pub use Rattle.bitvec_domain.specs.Arity
+pub use Rattle.bitvec_domain.specs.Kept
+pub use Rattle.bitvec_domain.specs.Lender
+pub use Rattle.bitvec_domain.specs.Middle
+pub use Rattle.bitvec_domain.specs.PartLender
+pub use Rattle.bitvec_domain.specs.Refill
+pub use Rattle.bitvec_domain.specs.RefillLaws
+pub use Rattle.bitvec_domain.specs.Steps
+pub use Rattle.bitvec_domain.specs.Through

@@ -39,6 +39,11 @@ pub mod cells {
     pub use bitvec_elements::cells::{Cells, CellsRead, Exclusive, Shared};
 }
 
+/// Items of `bitvec_domain` that crates above use, beside those that this crate's own items answer.
+pub mod domain {
+    pub use bitvec_domain::{Cut, Region, RegionMut, domain_mut_of, domain_of};
+}
+
 /// Items of `bitvec_engine` that crates above use.
 pub mod engine {
     pub use bitvec_elements::engine::{BitOp, SliceOrder, count, count_zeros};
@@ -61,12 +66,11 @@ pub mod walk {
 
 /// The bit operations on windows of borrowed slices that crates above name.
 pub mod elements {
-    pub use bitvec_domain::{fill_with_in, for_each_in, replace_in, set_in, swap_in};
+    pub use bitvec_domain::{bit_in, fill_with_in, for_each_in, replace_in, set_in, swap_in};
     pub use bitvec_elements::{
         all_in, any_in, combine_in, compare_in, contains_in, copy_from_block_in, copy_from_in,
-        copy_within_in, count_in, ends_with_in, eq_in, fill_in, find_first_in, find_last_in,
-        invert_in, reverse_in, rotate_left_in, rotate_right_in, shift_end_in, shift_start_in,
-        starts_with_in, swap_with_in, swap_within_in,
+        count_in, ends_with_in, eq_in, fill_in, find_first_in, find_last_in, invert_in,
+        starts_with_in, swap_with_in,
     };
 }
 

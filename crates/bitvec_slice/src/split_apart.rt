@@ -3,6 +3,7 @@ ghost use Rattle.std.specs.Prelude.{◌≡◌, ◌+◌, ◌%◌, ◌<◌, ◌≤
 
 use crate::BitSliceMut;
 use crate::touching::touched_range;
+use bitvec_domain::comes_apart;
 use bitvec_elements::base::BitOrder;
 use bitvec_elements::store::BitStore;
 
@@ -36,16 +37,16 @@ impl<'a, T: BitStore, O: BitOrder> BitSliceMut<'a, T, O> {
             (λ sides. IsSideOf T.BITS (seen_mut self.entry) mid (seen_mut self.entry).window.len (seen_mut sides.1)) }
     {
         let window = self.window();
+        if !comes_apart::<T>(window, mid) {
+            return None;
+        }
         if mid == 0 {
             return Some((BitSliceMut::empty_mut(), self.into_part(0..window.len)));
         }
         if mid == window.len {
             return Some((self.into_part(0..mid), BitSliceMut::empty_mut()));
         }
-        if (window.start + mid) % (T::BITS as usize) == 0 {
-            return Some(self.into_halves(mid));
-        }
-        None
+        Some(self.into_halves(mid))
     }
 
     /// The bits before the index `mid`, which begins an element, and those from it on.

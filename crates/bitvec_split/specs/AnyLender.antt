@@ -1,4 +1,4 @@
--- `elements_part_mut`, as `PartLender.antt` of `bitvec_lending` proves it, of a struct with fields whose machine value no denotation tells, as a predicate is one.
+-- `elements_part_mut`, as `PartLender.antt` of `bitvec_domain` proves it, of a struct with fields whose machine value no denotation tells, as a predicate is one.
 --     of_four        what four type parameters bring into a method's signature and code
 --     Begins         a struct's machine value begins with this one;  `begins`, where its fields' values are known to be some
 --     lends_range    the code meets the contract

@@ -1,9 +1,9 @@
-//! Views that are made of no element, of one, and of slices of any length.
+//! Views that are made of no element, of one, and of slices of any length, and how long they may be.
 
-use bitvec_owned::edit::BitEdits;
-use bitvec_owned::query::BitQueries;
-use bitvec_owned::query::base::Lsb0;
-use bitvec_owned::query::slice::{BitSlice, BitSliceMut, from_mut, from_ref};
+use bitvec_edit::BitEdits;
+use bitvec_query::BitQueries;
+use bitvec_query::base::Lsb0;
+use bitvec_query::slice::{BitSlice, BitSliceMut, from_mut, from_ref};
 
 #[test]
 fn an_empty_view_has_no_bit(rt: HostRuntime) {
@@ -77,4 +77,13 @@ fn a_slice_that_is_short_enough_is_written(rt: HostRuntime) {
     let mut view = BitSliceMut::<u16, Lsb0>::from_slice_unchecked_mut(&mut cells);
     view.set(17, true);
     assert!(rt; view.into_slice()[1] == 2);
+}
+
+#[test]
+fn the_constants_are_the_crates(rt: HostRuntime) {
+    let most = (
+        BitSlice::<u8, Lsb0>::MAX_BITS,
+        BitSlice::<u8, Lsb0>::MAX_ELTS,
+    );
+    assert!(rt; most == (0x1FFF_FFFF_FFFF_FFFF, 0x0400_0000_0000_0001));
 }

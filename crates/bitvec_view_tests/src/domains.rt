@@ -1,8 +1,9 @@
-//! Domains: the elements that a view touches, and views cut at the edges of elements.
+//! Domains: the elements that a view touches, and views cut at the edges of elements; and walks over these past their ends.
 
-use bitvec_owned::edit::BitEdits;
-use bitvec_owned::query::base::{Lsb0, Msb0};
-use bitvec_owned::query::slice::{BitDomain, BitSlice, BitSliceMut, Domain};
+use bitvec_edit::BitEdits;
+use bitvec_query::base::{Lsb0, Msb0};
+use bitvec_query::slice::{BitDomain, BitSlice, BitSliceMut, Domain};
+use bitvec_test_support::stays_ended_at_both;
 
 /// How many bits the one part has of a range that touches neither edge of its element, or else 0 and how many the
 /// head, the body and the tail have; nothing where there is no such range.
@@ -19,7 +20,7 @@ fn cut_of(cells: &[u32; 3], from: usize, to: usize) -> Option<(usize, usize, usi
 }
 
 #[test]
-fn each_case_of_a_cut(rt: HostRuntime) {
+fn a_range_is_cut_at_the_edges_of_elements(rt: HostRuntime) {
     let cells = [0u32; 3];
     for (from, to, cut) in [
         (2, 94, (0, 30, 32, 30)),
@@ -111,4 +112,17 @@ fn parts_are_written_in_a_loop(rt: HostRuntime) {
     let mut cells = [0u8; 3];
     flip_each_part(&mut cells);
     assert!(rt; cells == [0xF0, 0xFF, 0x0F]);
+}
+
+#[test]
+fn nothing_comes_behind_the_end_of_a_domain(rt: HostRuntime) {
+    let view = BitSlice::<u8, Lsb0>::from_slice(&[0xFF, 0x12, 0xFF]).into_part(4..20);
+    let (mut values, mut other_values) = (view.domain().values(), view.domain().values());
+    assert!(rt; stays_ended_at_both(&mut values, &mut other_values));
+    let (mut parts, mut other_parts) = (view.bit_domain().parts(), view.bit_domain().parts());
+    assert!(rt; stays_ended_at_both(&mut parts, &mut other_parts));
+    let mut values = view.domain().values();
+    let mut parts = view.bit_domain().parts();
+    assert!(rt; values.nth(usize::MAX).is_none() && values.next_back().is_none());
+    assert!(rt; parts.nth(usize::MAX).is_none() && parts.next_back().is_none());
 }

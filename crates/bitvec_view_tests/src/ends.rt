@@ -1,8 +1,8 @@
 //! The first and the last bit of a view, and views cut in two.
 
-use bitvec_owned::query::BitQueries;
-use bitvec_owned::query::base::Lsb0;
-use bitvec_owned::query::slice::{BitRef, BitSlice, BitSliceMut};
+use bitvec_query::BitQueries;
+use bitvec_query::base::Lsb0;
+use bitvec_query::slice::{BitRef, BitSlice, BitSliceMut};
 
 /// Whether a bit is referred to, and reads so.
 fn reads(bit: Option<BitRef<'_, u8, Lsb0>>, wanted: bool) -> bool {
@@ -25,7 +25,7 @@ fn has(
 }
 
 #[test]
-fn ends_of_three_bits(rt: HostRuntime) {
+fn first_and_last_bits_are_read_and_split_off(rt: HostRuntime) {
     let mut cells = [0xF9u8];
     let view = BitSliceMut::<u8, Lsb0>::from_slice_mut(&mut cells).into_part(0..3);
     assert!(rt; reads(view.first(), true) && reads(view.last(), false));
@@ -45,7 +45,7 @@ fn counts(parts: (BitSlice<'_, u8, Lsb0>, BitSlice<'_, u8, Lsb0>)) -> [(usize, u
 }
 
 #[test]
-fn halves_of_a_byte(rt: HostRuntime) {
+fn a_view_is_read_in_two_parts(rt: HostRuntime) {
     let cells = [0xF0u8];
     let view = BitSlice::<u8, Lsb0>::from_slice(&cells);
     assert!(rt; counts(view.split_at(4)) == [(4, 0), (4, 4)]);

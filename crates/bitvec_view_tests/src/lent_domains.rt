@@ -1,9 +1,9 @@
 //! The parts of a view that is cut at the edges of elements: one of them is flipped; then every other bit
 //! of the three bytes is as before, and the view stands where it stood.
 
-use bitvec_owned::edit::BitEdits;
-use bitvec_owned::query::base::{Lsb0, Window};
-use bitvec_owned::query::slice::{BitDomainMut, BitSliceMut};
+use bitvec_edit::BitEdits;
+use bitvec_query::base::{Lsb0, Window};
+use bitvec_query::slice::{BitDomainMut, BitSliceMut};
 use bitvec_test_support::{MEMORIES, bits_of, flipped};
 use std::process::Abort;
 

@@ -1,39 +1,38 @@
-//! Views, their parts and edits, order, hash and texts, splits by a predicate and at the edges of elements, what a
-//! writable view lends, and owned sequences: callers, and what no clause says.
+//! Views: made, indexed, cut, lent, asked, searched, compared and printed; their domains, references to their bits, and
+//! walks over their ones: callers, and what no clause says.
 #![tactic(auto)]
 
 #[cfg(test)]
-mod callers;
+mod by_value;
+#[cfg(test)]
+mod comparisons;
 #[cfg(test)]
 mod constructors;
 #[cfg(test)]
 mod domains;
 #[cfg(test)]
-mod edits;
-#[cfg(test)]
-mod ended;
-#[cfg(test)]
 mod ends;
 #[cfg(test)]
-mod laws;
+mod kept;
 #[cfg(test)]
 mod lends;
 #[cfg(test)]
 mod lent_domains;
 #[cfg(test)]
-mod lent_splits;
+mod ones;
 #[cfg(test)]
-mod owned;
+mod ones_ended;
 #[cfg(test)]
-mod pieces;
+mod ones_turns;
+#[cfg(test)]
+mod ones_written;
 #[cfg(test)]
 mod ranges;
 #[cfg(test)]
 mod references;
 #[cfg(test)]
+mod scans;
+#[cfg(test)]
 mod shown;
 #[cfg(test)]
 mod split_apart;
-
-#[cfg(test)]
-pub use callers::flipped;

@@ -1,8 +1,8 @@
 //! Indices and ranges of indices of a view, of each kind: whether it is there, and what bits it has.
 
-use bitvec_owned::query::BitQueries;
-use bitvec_owned::query::base::{Lsb0, Window};
-use bitvec_owned::query::slice::{BitSlice, BitSliceIndex, BitSliceMut, Viewed, ViewedMut};
+use bitvec_query::BitQueries;
+use bitvec_query::base::{Lsb0, Window};
+use bitvec_query::slice::{BitSlice, BitSliceIndex, BitSliceMut, Viewed, ViewedMut};
 use std::process::Abort;
 
 /// The view 0, 1, 0, 0, 1 of a byte.
@@ -61,12 +61,12 @@ fn pair_of_bits<R: Abort>(rt: &R, view: BitSlice<'_, u8, Lsb0>) -> Result<(), &'
 }
 
 #[test]
-fn a_pair_of_bits(rt: HostRuntime) {
+fn a_pair_of_bits_is_read_by_get_and_brackets(rt: HostRuntime) {
     assert!(rt; pair_of_bits(&rt, five_bits(&[0x12])).is_ok());
 }
 
 #[test]
-fn what_is_there_by_index(rt: HostRuntime) {
+fn bits_and_ranges_are_there_by_index(rt: HostRuntime) {
     let cells = [0x12u8];
     let view = BitSlice::<u8, Lsb0>::from_slice(&cells);
     assert!(rt; *4.index(view) && (2..).index(view).len() == 6 && !*view.get_unchecked(3));
@@ -74,7 +74,7 @@ fn what_is_there_by_index(rt: HostRuntime) {
 }
 
 #[test]
-fn brackets_of_a_writable_view(rt: HostRuntime) {
+fn a_writable_view_is_read_by_brackets(rt: HostRuntime) {
     let mut cells = [0x01u8];
     {
         let view = BitSliceMut::<u8, Lsb0>::from_slice_mut(&mut cells);

@@ -1,13 +1,13 @@
 //! Two parts of a view that are written at once.
 ghost use Rattle.std.specs.Prelude.{◌≤◌, ◌↔◌, IsTrue};
-ghost use Rattle.bitvec_owned.specs.query.slice.Apart.{ComesApart};
-ghost use Rattle.bitvec_owned.specs.query.slice.Views.{seen_mut};
+ghost use Rattle.bitvec_query.specs.slice.Apart.{ComesApart};
+ghost use Rattle.bitvec_query.specs.slice.Views.{seen_mut};
 
-use bitvec_owned::edit::BitEdits;
-use bitvec_owned::query::base::Lsb0;
-use bitvec_owned::query::engine::SliceOrder;
-use bitvec_owned::query::slice::BitSliceMut;
-use bitvec_owned::query::store::BitStore;
+use bitvec_edit::BitEdits;
+use bitvec_query::base::Lsb0;
+use bitvec_query::engine::SliceOrder;
+use bitvec_query::slice::BitSliceMut;
+use bitvec_query::store::BitStore;
 
 /// Fills the bits before `mid` and flips those from it on, if they share no element, and says
 /// whether it did.

@@ -1,0 +1,13 @@
+-- The names that the proof of a lender cites, which gives its struct to `Lender.antt`.
+pub use mathlib.Core.Path.{refl}
+pub use mathlib.Core.List.{[], ◌∷◌}
+pub use base.Fraction.{full_share}
+pub use mir.Syntax.{a_type, dcons, dnil, erased}
+pub use denote.Ref.{NamedLft}
+pub use denote.Param.{layout, bounded, copied, param}
+pub use denote.Param.Laws.{copied_copy, copied_laws, copy_told, param_laws}
+pub use borrow.Struct.Apart.{part_apart}
+pub use Rattle.bitvec_domain.specs.Arity.{of_two}
+pub use Rattle.bitvec_domain.specs.Through.{tail}
+pub use Rattle.bitvec_domain.specs.Lender.{behind_ty, behind, lends_first}
+pub use Rattle.bitvec_domain.specs.PartLender.{lends_range}

@@ -1,0 +1,127 @@
+//! Edits of views: what the user's elements are afterwards, the bits outside the view among them.
+ghost use Rattle.std.specs.Prelude.{◌≤◌};
+
+use bitvec_owned::edit::BitEdits;
+use bitvec_owned::query::BitQueries;
+use bitvec_owned::query::base::{HiLo, Lsb0, Msb0};
+use bitvec_owned::query::engine::SliceOrder;
+use bitvec_owned::query::slice::{BitSlice, BitSliceMut};
+
+/// Fills the bits `from` up to `to`, if there are as many.
+fn fill_range<O: SliceOrder>(cells: &mut [u8; 3], from: usize, to: usize) -> bool {
+    let mut view = BitSliceMut::<u8, O>::from_slice_mut(cells);
+    match view.get_mut(from..to) {
+        Some(mut part) => {
+            part.fill(true);
+            true
+        }
+        None => false,
+    }
+}
+
+#[test]
+fn fill_leaves_the_neighbours(rt: HostRuntime) {
+    let mut cells = [0u8, 0, 0];
+    assert!(rt; fill_range::<Lsb0>(&mut cells, 3, 21));
+    assert!(rt; cells == [0xF8, 0xFF, 0x1F]);
+    let mut cells = [0u8, 0, 0];
+    assert!(rt; fill_range::<Msb0>(&mut cells, 3, 21));
+    assert!(rt; cells == [0x1F, 0xFF, 0xF8]);
+    let mut cells = [0u8, 0, 0];
+    assert!(rt; fill_range::<HiLo>(&mut cells, 0, 3));
+    assert!(rt; cells == [0x70, 0, 0]);
+}
+
+/// Flips the bits 16 to 79, and of these flips 24 to 39 again.
+fn invert_twice(cells: &mut [u32; 3]) {
+    let view = BitSliceMut::<u32, Lsb0>::from_slice_mut(cells).into_part(16..80);
+    let mut part = !view;
+    if let Some(middle) = part.get_mut(24..40) {
+        let _middle = !middle;
+    }
+}
+
+#[test]
+fn bits_flipped_twice_are_as_before(rt: HostRuntime) {
+    let mut cells = [0u32; 3];
+    invert_twice(&mut cells);
+    assert!(rt; cells == [0xFFFF_0000, 0xFF00_00FF, 0x0000_FFFF]);
+    let view = BitSlice::<u32, Lsb0>::from_slice(&cells);
+    assert!(rt; (view.count_ones(), view.count_zeros()) == (48, 48));
+}
+
+/// Fills the bits before an index, flips the second byte, and then sets its first bit.
+fn edit_parts(cells: &mut [u8; 2], index: usize)
+    requires { index ≤ 16 }
+{
+    let mut view = BitSliceMut::<u8, Lsb0>::from_slice_mut(cells);
+    {
+        let mut front = view.part_mut(0..index);
+        front.fill(true);
+    }
+    if let Some(mut inner) = view.get_mut(8..16) {
+        inner.invert();
+        inner.as_mut().set(0, true);
+    }
+}
+
+#[test]
+fn a_part_for_writing_leaves_the_others(rt: HostRuntime) {
+    let mut cells = [0x00u8, 0x80];
+    edit_parts(&mut cells, 10);
+    assert!(rt; cells == [0xFF, 0x7D]);
+}
+
+/// Edits the first five bits, by one call a number.
+fn edit_five(bytes: &mut [u8; 1], kind: usize) {
+    let mut five = BitSliceMut::<u8, Lsb0>::from_slice_mut(bytes).into_part(0..5);
+    match kind {
+        0 => five.rotate_left(2),
+        1 => five.rotate_right(2),
+        2 => five.copy_within(5..5, 5),
+        3 => five.swap(0, 4),
+        4 => five.part_mut(1..4).reverse(),
+        5 => five.shift_start(5),
+        6 => five.fill(true),
+        7 => five.fill_with(|index| index % 2 == 0),
+        8 => five.copy_within(1..5, 0),
+        9 => five.shift_end(1),
+        10 => five.swap_within(0..2, 3),
+        11 => five.set_unchecked(0, true),
+        12 => five.swap_unchecked(0, 3),
+        13 => five.copy_within_unchecked(3..5, 0),
+        14 => {
+            let _old = five.replace(1, false);
+        }
+        _ => {
+            let _old = five.replace_unchecked(4, false);
+        }
+    }
+}
+
+// The last three bits stay.
+#[test]
+fn five_bits_are_edited(rt: HostRuntime) {
+    for (kind, before, after) in [
+        (0, 0xF2, 0xF4),
+        (1, 0xF4, 0xF2),
+        (2, 0xF2, 0xF2),
+        (3, 0xF2, 0xE3),
+        (4, 0xE3, 0xE9),
+        (5, 0xF2, 0xE0),
+        (6, 0xE0, 0xFF),
+        (7, 0xFF, 0xF5),
+        (8, 0xF5, 0xFA),
+        (9, 0xFA, 0xF4),
+        (10, 0xFA, 0xF3),
+        (11, 0xF2, 0xF3),
+        (12, 0xF1, 0xF8),
+        (13, 0xF8, 0xFB),
+        (14, 0xFB, 0xF9),
+        (15, 0xF9, 0xE9),
+    ] {
+        let mut bytes = [before];
+        edit_five(&mut bytes, kind);
+        assert!(rt; bytes == [after], "{kind}");
+    }
+}

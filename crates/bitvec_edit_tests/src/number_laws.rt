@@ -1,0 +1,73 @@
+//! What loads and stores of a view come to together.
+ghost use Rattle.std.specs.Prelude.{◌≡◌, ◌+◌, ◌%◌, ◌<◌, ◌≤◌};
+ghost use Rattle.bitvec_field.specs.DomainParts.{lists_of_pieces};
+ghost use Rattle.bitvec_field.specs.Integers.{integer_of, remainder_of};
+ghost use Rattle.bitvec_field.specs.domain.Domains.{pieces_of};
+ghost use Rattle.bitvec_field.specs.segments.Segments.{segments};
+ghost use Rattle.bitvec_field.specs.slice.Views.{seen, seen_mut};
+
+use bitvec_field::slice::{BitSlice, BitSliceMut};
+use bitvec_field::store::BitStore;
+use bitvec_field::{BitField, BitFieldMut, FieldOrder, Integral};
+use bitvec_owned::query::base::BitOrder;
+use bitvec_owned::query::slice::Domain;
+
+/// Stores a value and loads it: it is the value modulo `2^n`, of a signed type less `2^n` where the
+/// highest bit is 1.
+pub fn stored_then_loaded_le<T: BitStore, O: FieldOrder, I: Integral>(
+    view: &mut BitSliceMut<'_, T, O>,
+    value: I,
+) -> I
+    requires some { 0 < (seen_mut view.old).window.len }
+    requires bound { (seen_mut view.old).window.len ≤ I.BITS }
+    ensures { let n = (seen_mut view.old).window.len in
+        I.value result ≡ integer_of I.SIGNED n (remainder_of n (I.value value)) }
+{
+    let _bits = view.len();
+    view.store_le::<I>(value);
+    view.load_le::<I>()
+}
+
+/// Loads a number and stores it: the bits are as before, so no other bits have this number.
+pub fn loaded_then_stored_le<T: BitStore, O: FieldOrder>(view: &mut BitSliceMut<'_, T, O>)
+    requires some { 0 < (seen_mut view.old).window.len }
+    requires bound { (seen_mut view.old).window.len ≤ 128 }
+    ensures { (seen_mut view.new).bits ≡ (seen_mut view.old).bits }
+{
+    let _bits = view.len();
+    let number = view.load_le::<u128>();
+    view.store_le::<u128>(number);
+}
+
+/// Stores and loads with the first segment highest.
+pub fn loaded_then_stored_be<T: BitStore, O: FieldOrder>(view: &mut BitSliceMut<'_, T, O>)
+    requires some { 0 < (seen_mut view.old).window.len }
+    requires bound { (seen_mut view.old).window.len ≤ 128 }
+    ensures { (seen_mut view.new).bits ≡ (seen_mut view.old).bits }
+{
+    let _bits = view.len();
+    let number = view.load_be::<u128>();
+    view.store_be::<u128>(number);
+}
+
+/// Loads a view that lies in one element both ways: the integers are the same.
+pub fn same_in_one_element<T: BitStore, O: FieldOrder, I: Integral>(
+    view: BitSlice<'_, T, O>,
+) -> (I, I)
+    requires some { 0 < (seen view).window.len }
+    requires bound { (seen view).window.len ≤ I.BITS }
+    requires one { (seen view).window.start % T.BITS + (seen view).window.len ≤ T.BITS }
+    ensures { I.value result.0 ≡ I.value result.1 }
+{
+    let _bits = view.len();
+    (view.load_le::<I>(), view.load_be::<I>())
+}
+
+/// The elements that a view touches: the bits of its parts are the segments that loads and stores go by.
+pub fn parts_by_element<'a, T: BitStore, O: BitOrder>(view: BitSlice<'a, T, O>) -> Domain<'a, T, O>
+    ensures { lists_of_pieces T.BITS O.at T.value (pieces_of result)
+        ≡ segments T.BITS (seen view.entry).window.start (seen view.entry).bits }
+{
+    let _window = view.window();
+    view.domain()
+}

@@ -1,0 +1,122 @@
+//! Numbers in views and in their chunks: worked rows, and what a load and a store come to together.
+ghost use Rattle.std.specs.Prelude.{◌≤◌};
+
+use crate::number_laws::{
+    loaded_then_stored_be, loaded_then_stored_le, same_in_one_element, stored_then_loaded_le,
+};
+use bitvec_field::base::{Lsb0, Msb0};
+use bitvec_field::slice::{BitSlice, BitSliceMut};
+use bitvec_field::{BitField, BitFieldMut, FieldOrder, Integral};
+use bitvec_iter::PieceCallsMut;
+
+/// The number of the bits 4 up to 12, `le` or else `be`.
+fn load_middle<O: FieldOrder>(bytes: &[u8; 2], le: bool) -> u8 {
+    let part = BitSlice::<u8, O>::from_slice(bytes).into_part(4..12);
+    if le {
+        part.load_le::<u8>()
+    } else {
+        part.load_be::<u8>()
+    }
+}
+
+#[test]
+fn a_number_is_read_from_either_end(rt: HostRuntime) {
+    let cells = [0xB4u8, 0x6E];
+    for (le, by_lsb0, by_msb0) in [(true, 0xEB, 0x64), (false, 0xBE, 0x46)] {
+        let found = [
+            load_middle::<Lsb0>(&cells, le),
+            load_middle::<Msb0>(&cells, le),
+        ];
+        assert!(rt; found == [by_lsb0, by_msb0]);
+    }
+    let part = BitSlice::<u8, Lsb0>::from_slice(&[0xB4]).into_part(2..6);
+    assert!(rt; same_in_one_element::<u8, Lsb0, u8>(part) == (0xD, 0xD));
+    let two = BitSlice::<u8, Lsb0>::from_slice(&[0x06]).into_part(1..3);
+    assert!(rt; (two.load_le::<u8>(), two.load_le::<i8>()) == (3, -1));
+}
+
+/// Stores a negative number in the bits 6 up to 10, `le` or else `be`, and gives what is loaded then.
+fn store_negative(bytes: &mut [u8; 2], le: bool) -> i8 {
+    let mut part = BitSliceMut::<u8, Msb0>::from_slice_mut(bytes).into_part(6..10);
+    if le {
+        return stored_then_loaded_le::<u8, Msb0, i8>(&mut part, -3);
+    }
+    part.store_be::<i8>(-3);
+    part.load_be::<i8>()
+}
+
+/// Loads a number from either end and stores it.
+fn load_and_store(bytes: &mut [u8; 2]) {
+    {
+        let mut view = BitSliceMut::<u8, Lsb0>::from_slice_mut(bytes);
+        loaded_then_stored_le::<u8, Lsb0>(&mut view);
+    }
+    let mut view = BitSliceMut::<u8, Lsb0>::from_slice_mut(bytes);
+    loaded_then_stored_be::<u8, Lsb0>(&mut view);
+}
+
+#[test]
+fn a_number_comes_back(rt: HostRuntime) {
+    for (le, bytes) in [(true, [0x01, 0xC0]), (false, [0x03, 0x40])] {
+        let mut cells = [0u8, 0];
+        assert!(rt; (store_negative(&mut cells, le), cells) == (-3, bytes));
+    }
+    let mut cells = [0x23, 0x45];
+    load_and_store(&mut cells);
+    assert!(rt; cells == [0x23, 0x45]);
+}
+
+#[test]
+fn load_and_store_are_the_lower_end_first(rt: HostRuntime) {
+    let mut cells = [0u16, 0];
+    let mut view = BitSliceMut::<u16, Lsb0>::from_slice_mut(&mut cells);
+    view.store::<u32>(0x0123_4567);
+    assert!(rt; view.load::<u32>() == 0x0123_4567);
+    assert!(rt; cells == [0x4567, 0x0123]);
+}
+
+/// Stores an integer in seven bits, the first of them the last of an element, and loads it.
+fn through_seven_bits<I: Integral>(value: I) -> I
+    requires { 7 ≤ I.BITS }
+{
+    let mut cells = [0u8; 2];
+    let mut part = BitSliceMut::<u8, Lsb0>::from_slice_mut(&mut cells).into_part(7..14);
+    stored_then_loaded_le::<u8, Lsb0, I>(&mut part, value)
+}
+
+#[test]
+fn integers_of_each_type_keep_their_lowest_bits(rt: HostRuntime) {
+    assert!(rt; through_seven_bits::<u8>(200) == 72 && through_seven_bits::<u16>(200) == 72);
+    assert!(rt; through_seven_bits::<u32>(200) == 72 && through_seven_bits::<u64>(200) == 72);
+    assert!(rt; through_seven_bits::<u128>(200) == 72 && through_seven_bits::<usize>(200) == 72);
+    assert!(rt; through_seven_bits::<i8>(-50) == -50 && through_seven_bits::<i16>(-50) == -50);
+    assert!(rt; through_seven_bits::<i32>(-50) == -50 && through_seven_bits::<i64>(-50) == -50);
+    assert!(rt; through_seven_bits::<i128>(-50) == -50 && through_seven_bits::<isize>(-50) == -50);
+}
+
+/// A number for each chunk of five bits.
+const NUMBERS: [u8; 8] = [0, 4, 8, 12, 16, 20, 24, 28];
+
+/// Stores the numbers in the chunks of five bits, the first segment highest, and gives what these held.
+fn store_numbers(cells: &mut [u8; 5]) -> [u8; 8] {
+    let mut view = BitSliceMut::<u8, Msb0>::from_slice_mut(cells);
+    let mut chunks = view.chunks_mut(5);
+    let mut held = [0xFF; 8];
+    for (old, number) in held.iter_mut().zip(NUMBERS) {
+        if let Some(mut chunk) = chunks.next_mut() {
+            if chunk.len() == 5 {
+                *old = chunk.load_be::<u8>();
+                chunk.store_be::<u8>(number);
+            }
+        }
+    }
+    held
+}
+
+#[test]
+fn chunks_of_five_bits_hold_their_numbers(rt: HostRuntime) {
+    let mut cells = [0u8; 5];
+    assert!(rt; store_numbers(&mut cells) == [0; 8]);
+    assert!(rt; cells == [0x01, 0x10, 0xC8, 0x53, 0x1C]);
+    assert!(rt; store_numbers(&mut cells) == NUMBERS);
+}

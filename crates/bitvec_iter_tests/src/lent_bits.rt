@@ -1,0 +1,76 @@
+//! Single bits of a view that are lent, and what a caller knows of a walk over them.
+ghost use Rattle.bitvec_iter.specs.LentBits.{WritesLeft, bit_walk_of, bits_in_place, bits_to_come, past_bits};
+ghost use Rattle.bitvec_edit.specs.domain.Asked.{RefillsWith};
+
+use bitvec_edit::base::{BitOrder, Lsb0};
+use bitvec_edit::slice::BitSliceMut;
+use bitvec_edit::store::BitStore;
+use bitvec_iter::{IterMut, PieceCallsMut};
+
+/// Makes each bit of a walk behind the first `count` that are left what `f` answers: the bits of the walk's
+/// view are known.
+pub fn refill_behind<T: BitStore, O: BitOrder, F: FnMut(usize, bool) -> bool>(
+    bits: &mut IterMut<'_, T, O>,
+    count: usize,
+    f: F,
+)
+    requires { F.IsAlwaysCallable f }
+    ensures answers { RefillsWith F.FnMut f (bits_to_come (past_bits (bit_walk_of bits.old) count))
+        (bits_in_place (past_bits (bit_walk_of bits.old) count) (bit_walk_of bits.new)) }
+    ensures walk { WritesLeft (past_bits (bit_walk_of bits.old) count) (bit_walk_of bits.new)
+        (bits_in_place (past_bits (bit_walk_of bits.old) count) (bit_walk_of bits.new)) }
+{
+    bits.pass(count);
+    bits.for_each_bit_mut(f);
+}
+
+/// How many bits are left behind the first two and before the last, by each view of them.
+fn left_of(view: &mut BitSliceMut<'_, u8, Lsb0>) -> [usize; 3] {
+    let mut bits = view.iter_mut();
+    bits.pass(2);
+    bits.pass_back(1);
+    [
+        bits.as_bitslice().len(),
+        bits.as_slice().len(),
+        bits.as_ref().len(),
+    ]
+}
+
+/// How many bits a walk over the writable view has left.
+fn taken_of(view: &mut BitSliceMut<'_, u8, Lsb0>) -> usize {
+    let mut bits = view.iter_mut();
+    bits.pass(2);
+    bits.pass_back(1);
+    let left = bits.into_bitslice();
+    left.len()
+}
+
+/// How many bits are left behind the first, by the old name.
+fn taken_by_old_name(view: &mut BitSliceMut<'_, u8, Lsb0>) -> usize {
+    let mut bits = view.iter_mut();
+    bits.pass(1);
+    let left = bits.into_slice();
+    left.len()
+}
+
+/// Flips every second one of the bits behind the first two and before the last three, from the first of these
+/// on.
+fn flip_every_second(bytes: &mut [u8; 2]) -> bool {
+    let mut view = BitSliceMut::<u8, Lsb0>::from_slice_mut(bytes);
+    let mut bits = view.iter_mut();
+    bits.pass(2);
+    bits.pass_back(3);
+    bits.for_each_bit_mut(|number, bit| bit != (number % 2 == 0));
+    bits.is_empty()
+}
+
+#[test]
+fn bits_that_are_left(rt: HostRuntime) {
+    let mut bytes = [0x00, 0xFF];
+    assert!(rt; flip_every_second(&mut bytes));
+    assert!(rt; bytes == [0x54, 0xEA]);
+    let mut byte = [0x00];
+    let mut view = BitSliceMut::from_slice_mut(&mut byte);
+    assert!(rt; left_of(&mut view) == [5, 5, 5]);
+    assert!(rt; [taken_of(&mut view), taken_by_old_name(&mut view)] == [5, 7]);
+}

@@ -1,0 +1,84 @@
+//! Chunks of a view that are lent, from both ends, and what no exact chunk has.
+use bitvec_edit::BitEdits;
+use bitvec_edit::base::{Lsb0, Msb0};
+use bitvec_edit::slice::BitSliceMut;
+use bitvec_iter::PieceCallsMut;
+
+/// Sets the second of the two chunks of four bits.
+fn set_second(bytes: &mut [u8; 1]) {
+    let mut view = BitSliceMut::<u8, Msb0>::from_slice_mut(bytes);
+    let mut chunks = view.chunks_exact_mut(4);
+    if let Some(mut chunk) = chunks.nth_mut(1) {
+        chunk.fill(true);
+    }
+}
+
+/// Sets the first bit of each chunk of three, by the calls that give no `Option`.
+fn set_first_bits(bytes: &mut [u8; 1]) {
+    let mut view = BitSliceMut::<u8, Lsb0>::from_slice_mut(bytes);
+    let mut chunks = view.chunks_mut(3);
+    for _ in 0..chunks.len() {
+        if chunks.is_empty() {
+            break;
+        }
+        let mut chunk = chunks.take_mut();
+        if !chunk.is_empty() {
+            chunk.set(0, true);
+        }
+    }
+}
+
+#[test]
+fn chunks_are_given_and_taken(rt: HostRuntime) {
+    let mut second = [0x00];
+    set_second(&mut second);
+    let mut first_bits = [0x00];
+    set_first_bits(&mut first_bits);
+    assert!(rt; [second, first_bits] == [[0x0F], [0x49]]);
+}
+
+/// How many chunks of three bits there are, how many bits their remainder has, which is set, how many it has
+/// when it is taken again, how many the first chunk has then, and how many are left at the end.
+fn set_remainder(bytes: &mut [u8; 1]) -> [usize; 5] {
+    let mut view = BitSliceMut::<u8, Lsb0>::from_slice_mut(bytes);
+    let mut chunks = view.chunks_exact_mut(3);
+    let count = chunks.len();
+    let first = {
+        let mut rest = chunks.take_remainder();
+        rest.fill(true);
+        rest.len()
+    };
+    let again = {
+        let rest = chunks.take_remainder();
+        rest.len()
+    };
+    let came = len_of(chunks.next_mut());
+    let left = {
+        let rest = chunks.into_remainder();
+        rest.len()
+    };
+    [count, first, again, came, left]
+}
+
+/// How many bits a chunk has, if one came.
+fn len_of(chunk: Option<BitSliceMut<'_, u8, Lsb0>>) -> usize {
+    match chunk {
+        Some(chunk) => chunk.len(),
+        None => 0,
+    }
+}
+
+/// Sets what is left before the chunks from the end.
+fn set_left_over(view: &mut BitSliceMut<'_, u8, Lsb0>) {
+    let chunks = view.rchunks_exact_mut(3);
+    let mut rest = chunks.into_remainder();
+    rest.fill(true);
+}
+
+#[test]
+fn a_remainder_is_taken_once(rt: HostRuntime) {
+    let mut bytes = [0x00];
+    assert!(rt; set_remainder(&mut bytes) == [2, 2, 0, 3, 0]);
+    set_left_over(&mut BitSliceMut::from_slice_mut(&mut bytes));
+    assert!(rt; bytes == [0xC3]);
+}

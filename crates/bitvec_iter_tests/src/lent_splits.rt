@@ -1,0 +1,165 @@
+//! Writable splits of bits at ones, whose pieces are lent, and flipped. Of the bits 3 up to 21 of three bytes
+//! twelve are called for, some past the end: then the pieces, how often the predicate was asked, and the bytes
+//! are those of the plain list, whose ones stay.
+ghost use Rattle.std.specs.Prelude.{◌*◌, ◌≤◌, length};
+ghost use Rattle.bitvec_query.specs.base.Window.{max_bits};
+
+use bitvec_query::base::{BitOrder, Lsb0};
+use bitvec_query::slice::BitSliceMut;
+use bitvec_query::store::BitStore;
+use bitvec_split::SplitCallsMut;
+use bitvec_test_support::MEMORIES;
+use std::process::Abort;
+
+/// Flips the first pieces between ones, some from the front and then one from the back, and gives how
+/// many bits they have.
+fn flip_between<T: BitStore, O: BitOrder>(elements: &mut [T], front: usize) -> usize
+    requires { T.BITS * length elements.old ≤ max_bits }
+{
+    let mut view = BitSliceMut::<T, O>::from_slice_mut(elements);
+    let mut pieces = view.split_mut(|_, bit| *bit);
+    let mut bits = 0usize;
+    for _ in 0..front {
+        if let Some(piece) = pieces.next_mut() {
+            bits = bits.wrapping_add(piece.len());
+            let _flipped = !piece;
+        }
+    }
+    if let Some(piece) = pieces.next_back_mut() {
+        bits = bits.wrapping_add(piece.len());
+        let _flipped = !piece;
+    }
+    bits
+}
+
+#[test]
+fn pieces_between_ones_are_flipped(rt: HostRuntime) {
+    // 0, 1, 0, 0, 1, 0, 1, 0
+    let mut cells = [0x52u8];
+    assert!(rt; flip_between::<u8, Lsb0>(&mut cells, 2) == 4);
+    assert!(rt; cells == [0xDF]);
+}
+
+/// Flips what a call lends, and notes how many bits it has, and one more, as two digits.
+fn flip_lent(noted: u128, piece: Option<BitSliceMut<'_, u8, Lsb0>>) -> u128 {
+    match piece {
+        Some(piece) => {
+            let bits = piece.len() as u128;
+            let _flipped = !piece;
+            noted.wrapping_mul(100).wrapping_add(bits).wrapping_add(1)
+        }
+        None => noted,
+    }
+}
+
+/// Flips the first piece with the one at its end, and gives how many bits it has, and one more.
+fn flip_inclusive(cells: &mut [u8; 1]) -> u128 {
+    let mut view = BitSliceMut::<u8, Lsb0>::from_slice_mut(cells);
+    let mut pieces = view.split_inclusive_mut(|_, bit| *bit);
+    flip_lent(0, pieces.next_mut())
+}
+
+// The bits are 0, 1, 0, 0, 1, 0, 1, 0.
+#[test]
+fn a_piece_is_flipped_with_the_one_at_its_end(rt: HostRuntime) {
+    let mut cells = [0x52u8];
+    assert!(rt; flip_inclusive(&mut cells) == 3);
+    assert!(rt; cells == [0x51]);
+}
+
+/// How many pieces an inclusive split of no bits may lend, which come from either end, and how often its predicate is
+/// asked, which says yes.
+fn split_nothing(bytes: &mut [u8; 1]) -> ((usize, Option<usize>), u128, usize) {
+    let (mut noted, mut asked) = (0, 0usize);
+    let mut view = BitSliceMut::<u8, Lsb0>::from_slice_mut(bytes).into_part(3..3);
+    let mut pieces = view.split_inclusive_mut(|_index, _bit| {
+        asked = asked.wrapping_add(1);
+        true
+    });
+    let hint = pieces.size_hint();
+    for from_back in [false, true] {
+        noted = if from_back {
+            flip_lent(noted, pieces.next_back_mut())
+        } else {
+            flip_lent(noted, pieces.next_mut())
+        };
+    }
+    (hint, noted, asked)
+}
+
+#[test]
+fn an_inclusive_split_of_no_bits_lends_nothing(rt: HostRuntime) {
+    let mut bytes = [0x5A];
+    assert!(rt; split_nothing(&mut bytes) == ((0, Some(0)), 0, 0));
+    assert!(rt; bytes == [0x5A]);
+}
+
+/// Calls a split twelve times, at even and at odd calls from the back or not. Gives what came, and how often the
+/// predicate was asked.
+fn split_in(bytes: &mut [u8; 3], from_back: [bool; 2]) -> (u128, usize) {
+    let (mut noted, mut asked) = (0, 0usize);
+    let mut view = BitSliceMut::<u8, Lsb0>::from_slice_mut(bytes).into_part(3..21);
+    let mut pieces = view.split_mut(|_index, bit| {
+        asked = asked.wrapping_add(1);
+        *bit
+    });
+    for call in 0..12 {
+        noted = if from_back[call % 2] {
+            flip_lent(noted, pieces.next_back_mut())
+        } else {
+            flip_lent(noted, pieces.next_mut())
+        };
+    }
+    (noted, asked)
+}
+
+/// Asserts that a split of each of two memories gives such pieces, and asks about each bit once.
+fn splits<R: Abort>(rt: &R, from_back: [bool; 2], pieces: [u128; 2]) {
+    let all_ones = [[0xFE, 0xFF, 0x5F], [0xF9, 0xFF, 0xBF]];
+    for index in 0..2 {
+        let mut bytes = MEMORIES[index];
+        assert!(rt; split_in(&mut bytes, from_back) == (pieces[index], 18));
+        assert!(rt; bytes == all_ones[index]);
+    }
+}
+
+#[test]
+fn pieces_by_next_mut(rt: HostRuntime) {
+    let first = 03_02_03_01_01_01_03_03_01_01;
+    splits(&rt, [false, false], [first, 01_01_02_02_01_05_01_02_01_03]);
+}
+
+#[test]
+fn pieces_by_next_back_mut(rt: HostRuntime) {
+    let first = 01_01_03_03_01_01_01_03_02_03;
+    splits(&rt, [true, true], [first, 03_01_02_01_05_01_02_02_01_01]);
+}
+
+#[test]
+fn pieces_by_turns(rt: HostRuntime) {
+    let first = 03_01_02_01_03_03_01_03_01_01;
+    splits(&rt, [false, true], [first, 01_03_01_01_02_02_02_01_01_05]);
+}
+
+/// Calls a split into two pieces at most twelve times, and gives what came.
+fn split_in_two(bytes: &mut [u8; 3]) -> u128 {
+    let mut noted = 0;
+    let mut view = BitSliceMut::<u8, Lsb0>::from_slice_mut(bytes).into_part(3..21);
+    let mut pieces = view.splitn_mut(2, |_, bit| *bit);
+    for _ in 0..12 {
+        noted = flip_lent(noted, pieces.next_mut());
+    }
+    noted
+}
+
+#[test]
+fn limited_pieces_by_next_mut(rt: HostRuntime) {
+    for (bytes, pieces, after) in [
+        (MEMORIES[0], 03_16, [0x7E, 0xC3, 0x46]),
+        (MEMORIES[1], 01_18, [0xA9, 0x3C, 0xB9]),
+    ] {
+        let mut bytes = bytes;
+        assert!(rt; split_in_two(&mut bytes) == pieces);
+        assert!(rt; bytes == after);
+    }
+}

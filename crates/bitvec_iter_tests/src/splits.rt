@@ -1,0 +1,186 @@
+//! The pieces of splits, from both ends, how many may come, and which bits the predicate is asked about.
+ghost use Rattle.std.specs.Prelude.{◌≡◌, false, find, slice_index_or, unwrap_or};
+ghost use Rattle.std.specs.Iterator.{IsFinite};
+ghost use Rattle.bitvec_query.specs.slice.Views.{seen};
+ghost use Rattle.bitvec_split.specs.Asked.{upward};
+
+use bitvec_query::base::{BitOrder, Lsb0};
+use bitvec_query::slice::{BitSlice, BitSliceMut};
+use bitvec_query::store::BitStore;
+use bitvec_split::SplitCalls;
+use bitvec_test_support::shows;
+
+/// How many bits stand before the first one: as many as there are, if none is.
+pub fn before_one<T: BitStore, O: BitOrder>(view: BitSlice<'_, T, O>) -> usize
+    ensures { result ≡ unwrap_or (find (λ index. slice_index_or (seen view.entry).bits index false) (upward (seen view.entry).window.len)) (seen view.entry).window.len }
+{
+    match view.split(|_, bit| *bit).next() {
+        Some(piece) => piece.len(),
+        None => view.len(),
+    }
+}
+
+/// A view's bits as digits behind a 1, read as a number.
+fn number(piece: BitSlice<'_, u8, Lsb0>) -> u32 {
+    let mut number = 1u32;
+    for index in 0..piece.len() {
+        number = number.wrapping_mul(2).wrapping_add(u32::from(piece[index]));
+    }
+    number
+}
+
+/// The numbers of the first four pieces; 0 for each that didn't come.
+fn numbers<'a, I: Iterator<Item = BitSlice<'a, u8, Lsb0>>>(pieces: I) -> [u32; 4]
+    requires can { I.can_next pieces }
+    requires ends { IsFinite (I.remaining pieces) }
+{
+    let mut numbers = [0; 4];
+    let mut count = 0;
+    for piece in pieces {
+        if count < 4 {
+            numbers[count] = number(piece);
+            count += 1;
+        }
+    }
+    numbers
+}
+
+/// Where a piece begins in its element and how many bits it has, if one came.
+fn place(piece: Option<BitSlice<'_, u8, Lsb0>>) -> Option<(usize, usize)> {
+    match piece {
+        Some(piece) => Some((piece.window().start, piece.len())),
+        None => None,
+    }
+}
+
+/// Says yes at ones.
+fn is_one(_index: usize, bit: &bool) -> bool {
+    *bit
+}
+
+// The bits are 0, 1, 0, 0, 1.
+#[test]
+fn splits_at_ones(rt: HostRuntime) {
+    let cells = [0x90u8];
+    let view = BitSlice::<u8, Lsb0>::from_slice(&cells).into_part(3..8);
+    assert!(rt; numbers(view.split(|_, bit| *bit)) == [0b1_0, 0b1_00, 0b1, 0]);
+    assert!(rt; numbers(view.rsplit(is_one)) == [0b1, 0b1_00, 0b1_0, 0]);
+}
+
+// The bits are 0, 1, 0, 0, 1, over two elements.
+#[test]
+fn inclusive_splits_at_ones(rt: HostRuntime) {
+    let mut cells = [0x40u8, 0x02];
+    let view = BitSliceMut::<u8, Lsb0>::from_slice_mut(&mut cells).into_part(5..10);
+    let pieces = view.split_inclusive(|_, bit| *bit);
+    assert!(rt; numbers(pieces) == [0b1_01, 0b1_001, 0, 0]);
+    let mut pieces = view.split_inclusive(is_one);
+    assert!(rt; place(pieces.next_back()) == Some((7, 3)));
+    assert!(rt; place(pieces.next_back()) == Some((5, 2)) && pieces.next_back().is_none());
+}
+
+#[test]
+fn splits_of_no_bits(rt: HostRuntime) {
+    let none = BitSlice::<u8, Lsb0>::from_slice(&[]);
+    assert!(rt; numbers(none.split(is_one)) == [0b1, 0, 0, 0]);
+    let mut pieces = none.split_inclusive(is_one);
+    assert!(rt; pieces.size_hint() == (0, Some(0)));
+    assert!(rt; pieces.next().is_none() && pieces.next_back().is_none());
+}
+
+// The bits are 0, 1, 0, 0, 1.
+#[test]
+fn limited_splits_at_ones(rt: HostRuntime) {
+    let mut cells = [0x12u8];
+    let view = BitSliceMut::<u8, Lsb0>::from_slice_mut(&mut cells).into_part(0..5);
+    assert!(rt; numbers(view.splitn(2, is_one)) == [0b1_0, 0b1_001, 0, 0]);
+    assert!(rt; numbers(view.rsplitn(2, is_one)) == [0b1, 0b1_0100, 0, 0]);
+    assert!(rt; view.splitn(0, is_one).next().is_none());
+}
+
+// The bits are 0, 1, 0, 0, 1.
+#[test]
+fn how_many_pieces_may_come(rt: HostRuntime) {
+    let cells = [0x12u8];
+    let view = BitSlice::<u8, Lsb0>::from_slice(&cells).into_part(0..5);
+    let mut pieces = view.split(is_one);
+    let hint = pieces.size_hint();
+    let _piece = pieces.next();
+    assert!(rt; hint == (1, Some(6)) && pieces.size_hint() == (1, Some(4)));
+    assert!(rt; shows(rt.alloc(), &pieces, "Splits([0, 0, 1])"));
+    assert!(rt; view.splitn(2, |_, bit| *bit).size_hint() == (1, Some(2)));
+    assert!(rt; view.splitn(0, |_, bit| *bit).size_hint() == (0, Some(0)));
+    assert!(rt;
+        shows(
+            rt.alloc(),
+            &view.rsplitn(1, is_one),
+            "SplitsN([0, 1, 0, 0, 1], 1)"
+        )
+    );
+}
+
+/// The indices about which some pieces from the front ask a predicate that says yes at ones, as digits, each one
+/// greater.
+fn asked_in_front(view: BitSlice<'_, u8, Lsb0>, calls: usize) -> usize {
+    let mut asked = 0usize;
+    let mut pieces = view.split(|index, bit| {
+        asked = asked.wrapping_mul(10).wrapping_add(index).wrapping_add(1);
+        *bit
+    });
+    for _ in 0..calls {
+        let _piece = pieces.next();
+    }
+    asked
+}
+
+// The bits are 0, 1, 0, 0, 1.
+#[test]
+fn indices_begin_at_0_in_what_is_left(rt: HostRuntime) {
+    let view = BitSlice::<u8, Lsb0>::from_slice(&[0x90]).into_part(3..8);
+    for (calls, asked) in [(1, 12), (2, 12_123), (3, 12_123)] {
+        assert!(rt; asked_in_front(view, calls) == asked);
+    }
+}
+
+/// The places of the first six pieces of six zeros, from the front, or by turns from the front and the back, where
+/// the predicate says yes at each second asking.
+fn places_of_six(by_turns: bool) -> [Option<(usize, usize)>; 6] {
+    let mut asked = 0usize;
+    let view = BitSlice::<u8, Lsb0>::from_slice(&[0]).into_part(0..6);
+    let mut pieces = view.split(|_index, _bit| {
+        asked = asked.wrapping_add(1);
+        asked % 2 == 0
+    });
+    let mut places = [None; 6];
+    for call in 0..6 {
+        places[call] = if by_turns && call % 2 == 1 {
+            place(pieces.next_back())
+        } else {
+            place(pieces.next())
+        };
+    }
+    places
+}
+
+// The predicate is asked through its own states.
+#[test]
+fn the_predicate_is_asked_through_its_own_states(rt: HostRuntime) {
+    let front = [
+        Some((0, 1)),
+        Some((2, 1)),
+        Some((4, 1)),
+        Some((6, 0)),
+        None,
+        None,
+    ];
+    assert!(rt; places_of_six(false) == front);
+    let from_both_ends = [
+        Some((0, 1)),
+        Some((5, 1)),
+        Some((2, 1)),
+        Some((4, 0)),
+        None,
+        None,
+    ];
+    assert!(rt; places_of_six(true) == from_both_ends);
+}

@@ -1,9 +1,0 @@
-pub mod Arity
-pub mod Kept
-pub mod Lender
-pub mod Middle
-pub mod PartLender
-pub mod Refill
-pub mod RefillLaws
-pub mod Steps
-pub mod Through

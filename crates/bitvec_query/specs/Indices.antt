@@ -1,0 +1,22 @@
+-- What a walk over the places of a bit has still to give.
+use Rattle.std.specs.Prelude.{ℕ, List}
+use Rattle.std.specs.Iterator.{YieldsFirst, YieldsLast}
+use Rattle.std.specs.Iterator.Runs.{YieldsInOrder, YieldsInReverse}
+use Rattle.bitvec_slice.specs.store.declared.store.BitStore.{Ghosts as Store}
+use Rattle.bitvec_slice.specs.base.declared.order.BitOrder.{Ghosts as Order}
+use Rattle.bitvec_slice.specs.Views.{seen}
+use Rattle.bitvec_query.specs.Places.{places_left}
+use Rattle.bitvec_query.specs.declared.places.Places.{Places}
+use Rattle.bitvec_query.specs.declared.wanted.Wanted.{Ghosts as Bits}
+
+module _ {T O W : Type 0} {t : Store T} {o : Order O} {w : Bits W} where
+  -- the indices that are left
+  unfoldable pub remaining_indices : Places T O W t o w → List ℕ
+  remaining_indices walk = places_left w.BIT (seen walk.view).bits walk.rest
+
+  -- calls give them in order from the front, and in reverse from the back
+  abbrev pub RunsInOrder : Places T O W t o w → Type 0
+  RunsInOrder walk = YieldsInOrder (YieldsFirst remaining_indices) remaining_indices
+
+  abbrev pub RunsInReverse : Places T O W t o w → Type 0
+  RunsInReverse walk = YieldsInReverse (YieldsLast remaining_indices) remaining_indices

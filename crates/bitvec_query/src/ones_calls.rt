@@ -1,0 +1,43 @@
+//! The calls that make walks over the ones and the zeros of a view.
+ghost use Rattle.std.specs.Prelude.{◌≡◌, ◌≤◌, false, length, true};
+ghost use Rattle.bitvec_slice.specs.base.Lists.{places_of};
+ghost use Rattle.bitvec_slice.specs.base.Window.{max_bits};
+
+use crate::IndexWalk;
+use bitvec_slice::Shows;
+
+/// Walks over the indices of the bits of a view that are 1, or 0, for both view types: of a `BitSlice`
+/// they live as long as its elements, of a `&BitSliceMut` as long as that borrow.
+pub trait OnesCalls<T>: Shows<T> {
+    /// What `iter_ones` makes.
+    type Ones: IndexWalk;
+
+    /// What `iter_zeros` makes.
+    type Zeros: IndexWalk;
+
+    /// The indices of the bits that are 1, ascending.
+    ///
+    /// ```
+    /// let view = BitSlice::<u8, Lsb0>::from_slice(&cells);
+    /// let mut ones = view.iter_ones();
+    /// assert!(rt; (ones.next(), ones.next_back()) == (Some(0), Some(5)));
+    /// ```
+    fn iter_ones(self) -> Self::Ones
+        ensures indices { Self.Ones.left result ≡ places_of true (Self.shows self).bits }
+        ensures few { length (Self.Ones.left result) ≤ max_bits }
+        ensures runs { Self.Ones.Ascends result }
+        ensures runs_back { Self.Ones.Descends result };
+
+    /// The indices of the bits that are 0, ascending.
+    ///
+    /// ```
+    /// let view = BitSliceMut::<u8, Msb0>::from_slice_mut(&mut cells);
+    /// let mut zeros = view.iter_zeros();
+    /// assert!(rt; (zeros.next_back(), zeros.next()) == (Some(15), Some(4)));
+    /// ```
+    fn iter_zeros(self) -> Self::Zeros
+        ensures indices { Self.Zeros.left result ≡ places_of false (Self.shows self).bits }
+        ensures few { length (Self.Zeros.left result) ≤ max_bits }
+        ensures runs { Self.Zeros.Ascends result }
+        ensures runs_back { Self.Zeros.Descends result };
+}

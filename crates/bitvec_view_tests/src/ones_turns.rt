@@ -1,0 +1,47 @@
+//! Turns of a walk from both ends, and the loads that they take.
+ghost use Rattle.std.specs.Prelude.{◌≡◌, length};
+ghost use Rattle.bitvec_query.specs.base.Memory.{HasWindow};
+
+use bitvec_query::End::{Back, Front};
+use bitvec_query::base::{HiLo, Lsb0, Window};
+use bitvec_query::cells::Shared;
+use bitvec_query::engine::SliceOrder;
+use bitvec_query::{End, scan_turns};
+use bitvec_test_support::Counted;
+
+/// What the turns give of a window of some bytes, in `out`, and how many loads they take.
+fn walk<O: SliceOrder>(
+    bytes: &[u8],
+    window: Window,
+    want: bool,
+    turns: &[End],
+    out: &mut [Option<usize>],
+) -> u64
+    requires window { HasWindow 8 bytes.now window }
+    requires lengths { length turns.now ≡ length out.old }
+{
+    let mut cells = Counted::new(Shared::new(bytes));
+    scan_turns::<O, _>(&mut cells, window, want, turns, out);
+    cells.loads()
+}
+
+#[test]
+fn turns_from_both_ends(rt: HostRuntime) {
+    let all = Window { start: 0, len: 24 };
+    let mut ones = [None; 5];
+    let turns = [Front, Back, Front, Back, Front];
+    let loads = walk::<Lsb0>(&[0x21, 0x00, 0x80], all, true, &turns, &mut ones);
+    assert!(rt; (ones, loads <= 6) == ([Some(0), Some(23), Some(5), None, None], true));
+    let three = Window { start: 2, len: 3 };
+    let mut zeros = [Some(0); 2];
+    let loads = walk::<Lsb0>(&[0xF7], three, false, &[Back, Back], &mut zeros);
+    assert!(rt; (zeros, loads <= 2) == ([Some(1), None], true));
+}
+
+#[test]
+fn turns_under_another_order(rt: HostRuntime) {
+    let window = Window { start: 0, len: 8 };
+    let mut out = [None; 3];
+    let loads = walk::<HiLo>(&[0xA5], window, true, &[Back, Front, Front], &mut out);
+    assert!(rt; (out, loads <= 4) == ([Some(6), Some(1), Some(3)], true));
+}

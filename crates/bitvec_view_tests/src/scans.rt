@@ -1,0 +1,188 @@
+//! Searches of a view, and comparisons of two.
+ghost use Rattle.std.specs.Prelude.{◌*◌, ◌≤◌, length};
+ghost use Rattle.bitvec_query.specs.base.Window.{max_bits};
+
+use bitvec_query::BitQueries;
+use bitvec_query::base::{Lsb0, Msb0};
+use bitvec_query::engine::SliceOrder;
+use bitvec_query::slice::{BitSlice, BitSliceMut};
+use bitvec_query::store::BitStore;
+
+/// The ones before the first zero, the zeros before the first one, and the same behind the last.
+fn runs(view: BitSlice<'_, u8, Lsb0>) -> [usize; 4] {
+    [
+        view.leading_ones(),
+        view.leading_zeros(),
+        view.trailing_ones(),
+        view.trailing_zeros(),
+    ]
+}
+
+/// Where the first one is, the first zero, the last one and the last zero.
+fn places<T: BitStore, O: SliceOrder, V: BitQueries<T, O>>(view: &V) -> [Option<usize>; 4] {
+    [
+        view.first_one(),
+        view.first_zero(),
+        view.last_one(),
+        view.last_zero(),
+    ]
+}
+
+/// Whether any bit is 1, all are, none is, not all are, and some are and some are not.
+fn answers(view: BitSlice<'_, u8, Lsb0>) -> [bool; 5] {
+    [
+        view.any(),
+        view.all(),
+        view.not_any(),
+        view.not_all(),
+        view.some(),
+    ]
+}
+
+#[test]
+fn runs_of_ones_and_zeros(rt: HostRuntime) {
+    let view = BitSlice::<u8, Lsb0>::from_slice(&[0x0B]).into_part(0..5);
+    assert!(rt; runs(view) == [2, 0, 0, 1]);
+    assert!(rt; places(&view) == [Some(0), Some(2), Some(3), Some(4)]);
+    assert!(rt; answers(view) == [true, false, false, true, true]);
+    assert!(rt; answers(BitSlice::empty()) == [false, true, true, false, false]);
+}
+
+/// Where the first and the last of each bit are in two elements alike.
+fn places_of_two(element: u8) -> [Option<usize>; 4] {
+    let mut cells = [element; 2];
+    places(&BitSliceMut::<u8, Msb0>::from_slice_mut(&mut cells))
+}
+
+#[test]
+fn the_last_of_no_bit_is_none(rt: HostRuntime) {
+    assert!(rt; places_of_two(0xFF) == [Some(0), None, Some(15), None]);
+    assert!(rt; places_of_two(0x00) == [None, Some(0), None, Some(15)]);
+}
+
+/// Where the first one is of the bits from one index up to another, and of those and the next.
+fn first_of<T: BitStore, O: SliceOrder>(
+    cells: &[T],
+    from: usize,
+    to: usize,
+) -> Option<[Option<usize>; 2]>
+    requires { T.BITS * length cells.now ≤ max_bits }
+{
+    let view = BitSlice::<T, O>::from_slice(cells);
+    let shorter = view.get(from..to)?;
+    let longer = view.get(from..to.wrapping_add(1))?;
+    Some([shorter.first_one(), longer.first_one()])
+}
+
+#[test]
+fn a_one_behind_the_last_bit_is_not_found(rt: HostRuntime) {
+    let (mut bytes, mut words) = ([0u8; 34], [0u64; 6]);
+    let (mut halves, mut pairs) = ([0u16; 18], [0u128; 4]);
+    (bytes[0], halves[0], words[0], pairs[0]) = (16, 16, 16, 16);
+    (bytes[33], halves[17], words[5], pairs[3]) = (8, 8, 8, 8);
+    assert!(rt; first_of::<_, Lsb0>(&bytes, 5, 267) == Some([None, Some(262)]));
+    assert!(rt; first_of::<_, Msb0>(&bytes, 4, 268) == Some([None, Some(264)]));
+    assert!(rt; first_of::<_, Lsb0>(&halves, 5, 275) == Some([None, Some(270)]));
+    assert!(rt; first_of::<_, Msb0>(&halves, 12, 284) == Some([None, Some(272)]));
+    assert!(rt; first_of::<_, Lsb0>(&words, 5, 323) == Some([None, Some(318)]));
+    assert!(rt; first_of::<_, Msb0>(&words, 60, 380) == Some([None, Some(320)]));
+    assert!(rt; first_of::<_, Lsb0>(&pairs, 5, 387) == Some([None, Some(382)]));
+    assert!(rt; first_of::<_, Msb0>(&pairs, 124, 508) == Some([None, Some(384)]));
+}
+
+/// Whether 0, 1, 0, 0, 1, 0, 1, 1, 0, 1 contains a part of 0, 1, 0, 1, 1 and eleven zeros, begins with it, and ends
+/// with it.
+fn stands(from: usize, to: usize) -> Option<[bool; 3]> {
+    let view = BitSlice::<u8, Msb0>::from_slice(&[0x4B, 0x40]).into_part(0..10);
+    match BitSlice::<u8, Lsb0>::from_slice(&[0x1A, 0x00]).get(from..to) {
+        Some(needle) => Some([
+            view.contains(needle),
+            view.starts_with(needle),
+            view.ends_with(needle),
+        ]),
+        None => None,
+    }
+}
+
+#[test]
+fn needles_of_another_order_are_found(rt: HostRuntime) {
+    for (from, to, found) in [
+        (0, 4, [true, false, false]),
+        (0, 3, [true, true, false]),
+        (1, 4, [true, false, true]),
+        (4, 4, [true, true, true]),
+        (5, 9, [false, false, false]),
+        (2, 5, [true, false, false]),
+        (0, 16, [false, false, false]),
+    ] {
+        assert!(rt; stands(from, to) == Some(found), "{from} {to}");
+    }
+}
+
+/// How many bits a piece has, and the number that they write, the first bit highest.
+fn read(piece: Option<BitSlice<'_, u8, Msb0>>) -> Option<(usize, u32)> {
+    match piece {
+        Some(bits) => {
+            let mut number = 0u32;
+            for bit in bits.iter().by_vals() {
+                number = number.wrapping_mul(2).wrapping_add(bit as u32);
+            }
+            Some((bits.len(), number))
+        }
+        None => None,
+    }
+}
+
+/// What is left of 0, 1, 0, 0, 1 behind a needle, and before it: how many bits, and the number that they write.
+fn stripped(needle: BitSlice<'_, u8, Lsb0>) -> [Option<(usize, u32)>; 2] {
+    let view = BitSlice::<u8, Msb0>::from_slice(&[0x48]).into_part(0..5);
+    [
+        read(view.strip_prefix(needle)),
+        read(view.strip_suffix(needle)),
+    ]
+}
+
+#[test]
+fn what_a_needle_leaves_of_five_bits(rt: HostRuntime) {
+    let needles = BitSlice::<u8, Lsb0>::from_slice(&[0x12]);
+    assert!(rt; stripped(needles.into_part(1..3)) == [None, None]);
+    assert!(rt; stripped(needles.into_part(0..2)) == [Some((3, 1)), Some((3, 2))]);
+}
+
+/// Whether what is left of a view has these bits.
+fn is_left(
+    rest: Option<BitSlice<'_, u8, Lsb0>>,
+    bits: Option<BitSlice<'_, u8, Lsb0>>,
+) -> Option<bool> {
+    match (rest, bits) {
+        (Some(rest), Some(bits)) => Some(rest.eq_bits(bits)),
+        _ => None,
+    }
+}
+
+/// The bits of a byte from one index up to another, the lowest first.
+fn part(byte: &[u8; 1], from: usize, to: usize) -> Option<BitSlice<'_, u8, Lsb0>> {
+    BitSlice::from_slice(byte).get(from..to)
+}
+
+// The view is 0, 1, 0, 0, 1, 0, 0, 0.
+#[test]
+fn a_writable_view_is_stripped_of_its_ends(rt: HostRuntime) {
+    let mut cells = [0x12u8];
+    let view = BitSliceMut::<u8, Lsb0>::from_slice_mut(&mut cells);
+    let zero_one = BitSlice::<u8, Lsb0>::from_slice(&[0x02]).into_part(0..2);
+    let rest = view.strip_prefix(zero_one);
+    assert!(rt; is_left(rest, part(&[0x04], 0, 6)) == Some(true));
+    let rest = view.strip_suffix(BitSlice::<u8, Lsb0>::empty());
+    assert!(rt; is_left(rest, part(&[0x12], 0, 8)) == Some(true));
+}
+
+#[test]
+fn views_of_two_lengths_and_orders_are_compared(rt: HostRuntime) {
+    let zero_one_zero = BitSlice::<u8, Lsb0>::from_slice(&[0x02]).into_part(0..3);
+    let zero_one = zero_one_zero.into_part(0..2);
+    let one = zero_one_zero.into_part(1..2);
+    assert!(rt; zero_one.cmp_bits(zero_one_zero).is_lt() && one.cmp_bits(zero_one).is_gt());
+    let view = BitSlice::<u8, Lsb0>::from_slice(&[0x21]);
+    assert!(rt; view.eq_bits(BitSlice::<u8, Msb0>::from_slice(&[0x84])));
+}

@@ -1,0 +1,127 @@
+-- Bits that are held aside, combined with others.
+use Rattle.std.specs.Prelude.{◌≡◌, ℕ, ◌+◌, ◌-◌, ◌*◌, ◌/◌, ◌%◌, ◌^◌, ◌<◌, ◌≤◌, ◌⊎◌, Bool, List, length, map, min, slice_range, refl}
+use Rattle.std.proofs.Common.{arith, ap, inl, inr, sym, ◌∙◌, ⊎_elim}
+use Rattle.std.proofs.Math.Nat.{div-add-mod, mul-le-mul_left}
+use Rattle.std.proofs.lemmas.Bool.{cases_lt}
+use Rattle.std.proofs.lemmas.List.{length-map}
+use Rattle.bitvec_elements.specs.base.Lists.{combined}
+use Rattle.bitvec_elements.specs.base.Memory.{HasWindow, Writes, list_in, memory_bits}
+use Rattle.bitvec_elements.specs.base.MemoryLaws.{length-memory_bits, memory-range}
+use Rattle.bitvec_elements.specs.base.SliceLaws.{range-map}
+use Rattle.bitvec_elements.specs.base.Window.{window_of, window_range}
+use Rattle.bitvec_elements.specs.base.WriteLaws.{range-range}
+use Rattle.bitvec_elements.specs.base.WritesLaws.{Writes-is, Writes-next, Writes-range, length-list, list-range}
+use Rattle.bitvec_elements.specs.base.declared.window.Window.{Window}
+use Rattle.bitvec_elements.specs.store.Width.{IsWidth}
+use Rattle.bitvec_elements.specs.store.WidthLaws.{at_each_width}
+use Rattle.bitvec_within.specs.Combined.{combined_within}
+use Rattle.bitvec_within.specs.CombinedLaws.{combined_within-before, combined_within-next}
+
+-- some bits of the few elements that are held aside
+pub held-inside : (b : ℕ) (xs : List ℕ) (n : ℕ) (window : Window) → IsWidth b → length xs ≡ n → n ≤ 512 → window.start + window.len ≤ b * n → HasWindow b xs window
+held-inside b xs n window width long few fits =
+    let most : b ≤ 128 = at_each_width (λ m. m ≤ 128) (omega arith) (omega arith) (omega arith) (omega arith) (omega arith) b width in
+    let room = mul-le-mul_left b few in
+    let all : b * length xs ≡ b * n = ap (λ (m : ℕ). b * m) long in
+    record { fits = omega arith; within = record { start = omega arith; len = omega arith } }
+
+-- the first of the elements that are held aside: it stands at the place or before it, and they end at the memory's end or before it
+pub first-before : (b place first top : ℕ) → first ≡ min (place / b) top → first * b ≤ place
+first-before b place first top is =
+    let cut = div-add-mod place b in
+    let most : first ≤ place / b = omega arith in
+    let rows : b * first ≤ b * (place / b) = mul-le-mul_left b most in
+    omega arith
+
+-- the bits that are read lie in those
+pub held-room : (b n count place first held : ℕ) → first ≡ min (place / b) (count - held) → held ≤ count → place + n ≤ b * count → place % b + n ≤ b * held → place - first * b + n ≤ b * held
+held-room b n count place first held is many inside room = ⊎_elim
+    (λ (low : place / b < count - held).
+    let first-is : first ≡ place / b = omega arith in
+    let cut = div-add-mod place b in
+    let rows : b * first ≡ b * (place / b) = ap (λ (m : ℕ). b * m) first-is in
+    omega arith)
+    (λ (high : count - held ≤ place / b).
+    let first-is : first ≡ count - held = omega arith in
+    let sum : b * first + b * held ≡ b * (first + held) = omega arith in
+    let rows : b * (first + held) ≡ b * count = ap (λ (m : ℕ). b * m) (let all : first + held ≡ count = omega arith in all) in
+    omega arith)
+    (cases_lt (place / b) (count - held))
+
+-- a window of those
+pub held-window : {A : Type 0} (b : ℕ) (value : A → ℕ) (cells held : List A) (start len count : ℕ) → b * length (map value cells) ≤ (2 ^ 64 - 1) / 8 → count ≤ length cells → length held ≡ count → start + len ≤ b * count
+    → HasWindow b (map value held) (record { start = start; len = len })
+held-window b value cells held start len count fits many long inside =
+    let most : b * count ≤ b * length (map value cells) = mul-le-mul_left b (let more : count ≤ length (map value cells) = omega (arith, length-map cells value) in more) in
+    let all : b * length (map value held) ≡ b * count = ap (λ (m : ℕ). b * m) (length-map held value ∙ long) in
+    record { fits = omega arith; within = record { start = omega arith; len = omega arith } }
+
+-- and its bits
+pub held-list : {A : Type 0} (b : ℕ) (at : ℕ → ℕ → ℕ) (value : A → ℕ) (cells held : List A) (place first count n : ℕ) → 0 < b → held ≡ slice_range cells first (first + count) → first + count ≤ length cells → first * b ≤ place → place - first * b + n ≤ b * count
+    → list_in b at (map value held) (record { start = place - first * b; len = n }) ≡ list_in b at (map value cells) (record { start = place; len = n })
+unfolding window_of
+held-list b at value cells held place first count n some is fits before inside =
+    let xs = map value cells in
+    let long = length-map cells value in
+    let all = length-memory_bits b at xs in
+    let skip = place - first * b in
+    let end : (first + count) * b ≡ first * b + b * count = omega arith in
+    let rows : b * (first + count) ≤ b * length xs = mul-le-mul_left b (let inside : first + count ≤ length xs = omega arith in inside) in
+    let product : (first + count) * b ≡ b * (first + count) = omega arith in
+    let place-is : first * b + skip ≡ place = omega arith in
+    let place-end : first * b + (skip + n) ≡ place + n = omega arith in
+    let held-bits : memory_bits b at (map value held) ≡ slice_range (memory_bits b at xs) (first * b) ((first + count) * b) =
+    ap (memory_bits b at) (ap (map value) is ∙ range-map value cells first (first + count)) ∙ memory-range b at xs first (first + count) some (omega arith) (omega arith) in
+    ap (λ (l : List Bool). slice_range l skip (skip + n)) held-bits
+    ∙ range-range (memory_bits b at xs) (first * b) ((first + count) * b) skip (skip + n) (omega arith) (omega arith)
+    ∙ ap (λ (s : ℕ). slice_range (memory_bits b at xs) s (first * b + (skip + n))) place-is ∙ ap (λ (e : ℕ). slice_range (memory_bits b at xs) place e) place-end
+
+-- what is held aside, combined with as many bits from the place d on
+pub aside-combined : (b : ℕ) (at : ℕ → ℕ → ℕ) (g : Bool → Bool → Bool) (old new held : List ℕ) (window aside source : Window) (f d n : ℕ) → HasWindow b old window
+    → f + n ≤ window.len → d + n ≤ window.len → source ≡ window_range window f (f + n)
+    → list_in b at held aside ≡ list_in b at old source
+    → Writes b at old new (window_range window d (d + n)) (combined g (list_in b at old (window_range window d (d + n))) (list_in b at held aside))
+    → Writes b at old new window (combined_within g f (f + n) d (list_in b at old window))
+unfolding combined_within
+aside-combined b at g old new held window aside source f d n has from-fits dest-fits is same writes =
+    let held-is = same ∙ ap (list_in b at old) is ∙ list-range b at old window f (f + n) has (omega arith) from-fits in
+    let dest-list = list-range b at old window d (d + n) has (omega arith) dest-fits in
+    let count : f + n - f ≡ n = omega arith in
+    Writes-is b at old new window _ _ (Writes-range b at old new window d (d + n) _ has (omega arith) dest-fits writes)
+    (rw (held-is, dest-list, count) refl)
+
+-- some bits, and then those behind them
+pub piece-next : (b : ℕ) (at : ℕ → ℕ → ℕ) (g : Bool → Bool → Bool) (old mid new : List ℕ) (window : Window) (f d n m all : ℕ) → n + m ≡ all → HasWindow b old window
+    → f + all ≤ window.len → d + all ≤ window.len → (d ≤ f) ⊎ (f + all ≤ d)
+    → Writes b at old mid window (combined_within g f (f + n) d (list_in b at old window)) → Writes b at mid new window (combined_within g (f + n) (f + n + m) (d + n) (list_in b at mid window))
+    → Writes b at old new window (combined_within g f (f + all) d (list_in b at old window))
+piece-next b at g old mid new window f d n m all sum has source room kept first second =
+    let list = list_in b at old window in
+    let long = length-list b at old window has in
+    let apart : (d ≤ f) ⊎ (f + (n + m) ≤ d) = ⊎_elim (λ (before : d ≤ f). inl before) (λ (behind : f + all ≤ d). inr (omega arith)) kept in
+    Writes-next (λ (l : List Bool). combined_within g (f + n) (f + n + m) (d + n) l) has first second
+    (combined_within-next g list f d n m (omega arith) (omega arith) apart ∙ ap (λ (k : ℕ). combined_within g f (f + k) d list) sum)
+
+-- some bits, and then those before them
+pub piece-before : (b : ℕ) (at : ℕ → ℕ → ℕ) (g : Bool → Bool → Bool) (old mid new : List ℕ) (window : Window) (f d n m f2 d2 e : ℕ) → f2 ≡ f + n → d2 ≡ d + n → e ≡ f + n + m → HasWindow b old window
+    → f + (n + m) ≤ window.len → d + (n + m) ≤ window.len → f ≤ d
+    → Writes b at old mid window (combined_within g f2 e d2 (list_in b at old window)) → Writes b at mid new window (combined_within g f (f + n) d (list_in b at mid window))
+    → Writes b at old new window (combined_within g f e d (list_in b at old window))
+piece-before b at g old mid new window f d n m f2 d2 e from-is dest-is end-is has source room kept first second =
+    let list = list_in b at old window in
+    let long = length-list b at old window has in
+    let end : f + (n + m) ≡ e = omega arith in
+    let was = ap (λ (k : ℕ). combined_within g k e d2 list) from-is ∙ ap (λ (k : ℕ). combined_within g (f + n) e k list) dest-is ∙ ap (λ (k : ℕ). combined_within g (f + n) k (d + n) list) end-is in
+    Writes-next (λ (l : List Bool). combined_within g f (f + n) d l) has (Writes-is b at old mid window _ _ first was) second
+    (combined_within-before g list f d n m (omega arith) (omega arith) kept ∙ ap (λ (k : ℕ). combined_within g f k d list) end)
+
+-- the bits of some elements
+pub room-fits : (b n : ℕ) → IsWidth b → n ≤ 4096 → b * (n - 1) < 2 ^ 64
+room-fits b n width few =
+    let most : b ≤ 128 = at_each_width (λ m. m ≤ 128) (omega arith) (omega arith) (omega arith) (omega arith) (omega arith) b width in
+    let room : b * (n - 1) ≤ b * 4096 = mul-le-mul_left b (let less : n - 1 ≤ 4096 = omega arith in less) in
+    omega arith
+
+-- those of all but one
+pub but-one : (b n : ℕ) → 1 < n → b + b * (n - 1) ≡ b * n
+but-one b n some = let whole : 1 + (n - 1) ≡ n = omega arith in let product : b + b * (n - 1) ≡ b * (1 + (n - 1)) = omega arith in product ∙ ap (λ (k : ℕ). b * k) whole

@@ -1,0 +1,5 @@
+mod Aside
+mod Edges
+mod FewLemmas
+mod Rotated
+mod Swapped

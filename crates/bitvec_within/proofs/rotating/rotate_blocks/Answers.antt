@@ -1,0 +1,142 @@
+use Rattle.std.proofs.Common.{◌≡◌, ◌+◌, ◌≤◌, length, map, arith, rules, sym, ◌∙◌, refl}
+use Rattle.bitvec_elements.specs.base.Memory.{list_in}
+use Rattle.bitvec_elements.specs.base.WritesLaws.{HasWindow-kept, HasWindow-range, Writes-holds, Writes-is, Writes-nothing, Writes-then, length-list}
+use Rattle.bitvec_within.specs.Swaps.{swapped_within}
+use Rattle.bitvec_within.proofs.Rotated.{Writes-behind, behind-none, first-exchanged, last-exchanged, rotated_behind}
+use Rattle.bitvec_within.proofs.rotating.rotate_blocks.Goals.{then-count-left, else-count-left}
+use Rattle.bitvec_within.proofs.rotating.rotate_blocks.Goals as goal
+
+pub loop-count-init : goal.loop-count-init
+loop-count-init g c =
+    let b = g.T.BitStore.BITS in
+    let at = g.O.BitOrder.at in
+    let now = map g.T.BitStore.value c.args.elements.now in
+    record {
+      within = let fits = c.requires.bound in omega arith;
+      shorter = let count = c.min-count.ensures in omega arith;
+      writes = Writes-nothing b at now now c.args.window c.requires.window refl;
+      rotated = behind-none (list_in b at now c.args.window) c.args.by;
+    }
+
+pub overflow_add-done : goal.overflow_add-done
+overflow_add-done g c = let within = c.loop-count.invariant.within in search rules
+
+pub swap_ranges-requires-clause-order : goal.swap_ranges-requires-clause-order
+swap_ranges-requires-clause-order g c = let count = c.loop-count.invariant.shorter in omega arith
+
+pub swap_ranges-requires-clause-bound : goal.swap_ranges-requires-clause-bound
+swap_ranges-requires-clause-bound g c =
+    let within = c.loop-count.invariant.within in
+    let count = c.loop-count.invariant.shorter in
+    omega arith
+
+pub overflow_add-done-in-loop-count : goal.overflow_add-done-in-loop-count
+overflow_add-done-in-loop-count g c =
+    let within = c.loop-count.invariant.within in
+    let count = c.loop-count.invariant.shorter in
+    search rules
+
+pub overflow_sub-window-in-loop-count : goal.overflow_sub-window-in-loop-count
+overflow_sub-window-in-loop-count g c =
+    let within = c.loop-count.invariant.within in
+    let count = c.loop-count.invariant.shorter in
+    omega arith
+
+pub overflow_sub-window-in-loop-count-2 : goal.overflow_sub-window-in-loop-count-2
+overflow_sub-window-in-loop-count-2 g c =
+    let within = c.loop-count.invariant.within in
+    let count = c.loop-count.invariant.shorter in
+    elim c.if-count-left.branch [
+      | then-count-left w ↦ let less = w.if-count-left in let is = w.left-is in omega arith
+      | else-count-left w ↦ let most = w.if-count-left in let is = w.left-is in omega arith
+    ]
+
+pub loop-count-smaller : goal.loop-count-smaller
+loop-count-smaller g c =
+    let within = c.loop-count.invariant.within in
+    let count = c.loop-count.invariant.shorter in
+    let some = c.loop-count-test.true in
+    omega arith
+
+pub loop-count-preserved : goal.loop-count-preserved
+loop-count-preserved g c =
+    let b = g.T.BitStore.BITS in
+    let at = g.O.BitOrder.at in
+    let value = g.T.BitStore.value in
+    let window = c.args.window in
+    let inv = c.loop-count.invariant in
+    let before = map value c.args.elements.now in
+    let now = map value c.loop-count.elements in
+    let new = map value c.swap_ranges.new.elements in
+    let list = list_in b at now window in
+    let done = c.loop-count.done in
+    let left = c.loop-count.left in
+    let count = c.loop-count.count in
+    let has = HasWindow-kept b before now window c.requires.window inv.writes.elements in
+    let long : length list ≡ window.len = length-list b at now window has in
+    let within = inv.within in
+    let shorter = inv.shorter in
+    let swapped = c.swap_ranges.ensures.writes in
+    let holds = Writes-holds b at now new window _ has swapped in
+    let same : rotated_behind (done + count) c.if-count-left.left (swapped_within done (done + count) (done + left) list) ≡ rotated_behind done left list =
+    elim c.if-count-left.branch [
+      | then-count-left w ↦ let less = w.if-count-left in rw w.left-is (last-exchanged list done left count (omega arith) (omega arith))
+      | else-count-left w ↦ let most = w.if-count-left in let is : count ≡ left = omega arith in rw (w.left-is, is) (first-exchanged list done left (omega arith))
+    ] in
+    let rest : done + count + c.if-count-left.left ≤ window.len =
+    elim c.if-count-left.branch [
+      | then-count-left w ↦ let less = w.if-count-left in let is = w.left-is in omega arith
+      | else-count-left w ↦ let most = w.if-count-left in let is = w.left-is in omega arith
+    ] in
+    record {
+      within = rest;
+      shorter = c.min-count-in-loop-count.ensures;
+      writes = Writes-is b at before new window _ _ (Writes-then b at before now new window _ _ c.requires.window inv.writes swapped) (sym holds);
+      rotated = rw holds (same ∙ inv.rotated);
+    }
+
+pub after-rest-requires-clause-bound : goal.after-rest-requires-clause-bound
+after-rest-requires-clause-bound g c = let within = c.loop-count.invariant.within in omega arith
+
+pub rotate_front-requires-clause-window : goal.rotate_front-requires-clause-window
+rotate_front-requires-clause-window g c =
+    let inv = c.loop-count.invariant in
+    let within = inv.within in
+    rw c.after-rest.ensures (HasWindow-range _ _ c.args.window c.loop-count.done c.args.window.len (HasWindow-kept _ _ _ _ c.requires.window inv.writes.elements) (omega arith) (omega arith))
+
+pub rotate_front-requires-clause-bound : goal.rotate_front-requires-clause-bound
+rotate_front-requires-clause-bound g c = let within = c.loop-count.invariant.within in rw c.after-rest.ensures (omega arith)
+
+pub rotate_back-requires-clause-window : goal.rotate_back-requires-clause-window
+rotate_back-requires-clause-window g c =
+    let inv = c.loop-count.invariant in
+    let within = inv.within in
+    rw c.after-rest.ensures (HasWindow-range _ _ c.args.window c.loop-count.done c.args.window.len (HasWindow-kept _ _ _ _ c.requires.window inv.writes.elements) (omega arith) (omega arith))
+
+pub rotate_back-requires-clause-bound : goal.rotate_back-requires-clause-bound
+rotate_back-requires-clause-bound g c = let within = c.loop-count.invariant.within in rw c.after-rest.ensures (omega arith)
+
+pub rotate_back-requires-clause-room : goal.rotate_back-requires-clause-room
+rotate_back-requires-clause-room g c =
+    let shorter = c.loop-count.invariant.shorter in
+    let few = rw c.BITS.ensures at c.loop-count-test.false in
+    let other = c.if-count-left-2.false in
+    rw c.after-rest.ensures (omega arith)
+
+pub rotate_front-requires-clause-room : goal.rotate_front-requires-clause-room
+rotate_front-requires-clause-room g c =
+    let few = rw c.BITS.ensures at c.loop-count-test.false in
+    let is = c.if-count-left-2.true in
+    omega arith
+
+pub returns-then-count-left-2 : goal.returns-then-count-left-2
+returns-then-count-left-2 g c =
+    let inv = c.loop-count.invariant in
+    let within = inv.within in
+    record { writes = Writes-behind _ _ _ _ _ c.args.window c.loop-count.done c.loop-count.left _ c.requires.window (omega arith) inv.writes (rw c.after-rest.ensures at c.rotate_front.ensures.writes) inv.rotated }
+
+pub returns-else-count-left-2 : goal.returns-else-count-left-2
+returns-else-count-left-2 g c =
+    let inv = c.loop-count.invariant in
+    let within = inv.within in
+    record { writes = Writes-behind _ _ _ _ _ c.args.window c.loop-count.done c.loop-count.left _ c.requires.window (omega arith) inv.writes (rw c.after-rest.ensures at c.rotate_back.ensures.writes) inv.rotated }

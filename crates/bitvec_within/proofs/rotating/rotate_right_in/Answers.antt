@@ -1,0 +1,15 @@
+use Rattle.std.proofs.Common.{ℕ, ◌-◌, ap, sym, ◌∙◌, map}
+use Rattle.bitvec_elements.specs.base.Lists.{rotated_left}
+use Rattle.bitvec_elements.specs.base.Memory.{list_in}
+use Rattle.bitvec_elements.specs.base.RotationLaws.{rotated_right-left}
+use Rattle.bitvec_elements.specs.base.WritesLaws.{Writes-is, length-list}
+use Rattle.bitvec_within.proofs.rotating.rotate_right_in.Goals as goal
+
+pub returns : goal.returns
+returns g c =
+    let by = c.args.by in
+    let list = list_in g.T.BitStore.BITS g.O.BitOrder.at (map g.T.BitStore.value c.args.elements.now) c.args.window in
+    record {
+      writes = Writes-is _ _ _ _ _ _ _ c.rotate_left_in.ensures.writes
+          (sym (rotated_right-left by list ∙ ap (λ (n : ℕ). rotated_left (n - by) list) (length-list _ g.O.BitOrder.at _ _ c.requires.window)));
+    }

@@ -1,0 +1,42 @@
+use Rattle.std.proofs.Common.{◌≡◌, ◌+◌, ◌-◌, ◌<◌, ◌∙◌, ap, arith, map, inl}
+use Rattle.std.proofs.lemmas.Nat.{mod_below}
+use Rattle.bitvec_elements.specs.base.Memory.{list_in}
+use Rattle.bitvec_elements.specs.base.WritesLaws.{Writes-next, length-list}
+use Rattle.bitvec_elements.specs.store.WidthLaws.{width_some}
+use Rattle.bitvec_within.specs.Swaps.{swapped_within}
+use Rattle.bitvec_within.proofs.Swapped.{swapped-next}
+use Rattle.bitvec_within.proofs.swapping_within.swap_ranges.Goals as goal
+
+pub swap_stretch-requires-clause-bound : goal.swap_stretch-requires-clause-bound
+swap_stretch-requires-clause-bound g c =
+    let some : 0 < c.BITS.result = rw c.BITS.ensures (width_some _ g.met.T.BitStore.width_law) in
+    let below = mod_below (c.args.window.start + c.args.second) _ some in
+    omega arith
+
+pub swap_stretch-requires-2-clause-bound : goal.swap_stretch-requires-2-clause-bound
+swap_stretch-requires-2-clause-bound g c =
+    let some : 0 < c.BITS.result = rw c.BITS.ensures (width_some _ g.met.T.BitStore.width_law) in
+    let below = mod_below (c.args.window.start + c.args.second) _ some in
+    omega arith
+
+pub swap_sides-requires-clause-edge : goal.swap_sides-requires-clause-edge
+swap_sides-requires-clause-edge g c =
+    let some : 0 < c.BITS.result = rw c.BITS.ensures (width_some _ g.met.T.BitStore.width_law) in
+    let below = mod_below (c.args.window.start + c.args.second) _ some in
+    rw (← c.BITS.ensures) (omega arith)
+
+pub returns : goal.returns
+returns g c =
+    let list = list_in g.T.BitStore.BITS g.O.BitOrder.at (map g.T.BitStore.value c.args.elements.now) c.args.window in
+    let long = length-list g.T.BitStore.BITS g.O.BitOrder.at (map g.T.BitStore.value c.args.elements.now) c.args.window c.requires.window in
+    let first = c.args.first in
+    let second = c.args.second in
+    let len = c.args.len in
+    let before = c.min-before.result in
+    let all : before + (len - before) ≡ len = omega (arith, c.min-before.ensures) in
+    let order = c.requires.order in
+    let bound = c.requires.bound in
+    record {
+      writes = Writes-next (swapped_within (first + before) (first + before + (len - before)) (second + before)) c.requires.window c.swap_sides.ensures.writes c.swap_stretch-2.ensures.writes
+          (swapped-next list first second before (len - before) (omega arith) (omega arith) (inl (omega arith)) ∙ ap (λ n. swapped_within first (first + n) second list) all);
+    }

@@ -1,0 +1,4 @@
+pub mod Combined
+pub mod CombinedLaws
+pub mod Held
+pub mod Swaps

@@ -1,0 +1,57 @@
+//! The bits of a window of a slice of elements copied to another place of it.
+ghost use Rattle.std.specs.Prelude.{◌-◌, ◌≤◌, map};
+ghost use Rattle.bitvec_elements.specs.base.Lists.{FitsWithin, copied_within};
+ghost use Rattle.bitvec_elements.specs.base.Memory.{Edits, HasWindow};
+
+use crate::few::is_few;
+use bitvec_elements::base::{Lsb0, Msb0, Window};
+use bitvec_elements::cells::Exclusive;
+use bitvec_elements::engine::{Direction, SliceOrder, direction_of, store_few};
+use bitvec_elements::few_word;
+use bitvec_elements::store::BitStore;
+use bitvec_elements::words::WordOrder;
+use std::ops::Range;
+
+/// Copies the bits of a range of a window to `dest` on, also where they overlap. Condition: the
+/// memory has at most `MAX_BITS` bits, the window lies in it, and both the bits read and those
+/// written lie in the window. The bits of an element, or 64, are copied as a word, under an order
+/// that runs from one end of an element to the other.
+pub fn copy_within_in<T: BitStore, O: SliceOrder>(
+    elements: &mut [T],
+    window: Window,
+    src: Range<usize>,
+    dest: usize,
+)
+    requires window { HasWindow T.BITS (map T.value elements.old) window }
+    requires fits { FitsWithin src.start src.end dest window.len }
+    ensures writes { Edits T.BITS O.at (map T.value elements.old) (map T.value elements.new) window (copied_within src.start src.end dest) }
+{
+    if is_few::<T>(src.end - src.start) {
+        match direction_of::<O, T>() {
+            Direction::Up => return copy_within_few::<Lsb0, T>(elements, window, src, dest),
+            Direction::Down => return copy_within_few::<Msb0, T>(elements, window, src, dest),
+            Direction::Other => {}
+        }
+    }
+    let mut accessor = Exclusive::new(elements);
+    O::block_copy_within::<Exclusive<T>>(&mut accessor, window, src.start, src.end, dest);
+}
+
+/// [`copy_within_in`] of few bits, as a word.
+fn copy_within_few<W: WordOrder, T: BitStore>(
+    elements: &mut [T],
+    window: Window,
+    src: Range<usize>,
+    dest: usize,
+)
+    requires window { HasWindow T.BITS (map T.value elements.old) window }
+    requires fits { FitsWithin src.start src.end dest window.len }
+    requires few { src.end - src.start ≤ 64 }
+    ensures writes { Edits T.BITS W.at (map T.value elements.old) (map T.value elements.new) window (copied_within src.start src.end dest) }
+{
+    let source = window.range(src.start, src.end);
+    let target = window.range(dest, dest + (src.end - src.start));
+    let word = few_word::<W, T>(&*elements, source);
+    let mut accessor = Exclusive::new(elements);
+    store_few::<W, Exclusive<T>>(&mut accessor, target, word);
+}

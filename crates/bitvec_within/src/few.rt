@@ -1,0 +1,14 @@
+//! Which windows are loaded and stored as a word.
+ghost use Rattle.std.specs.Prelude.{◌≡◌, ◌≤◌, true};
+
+use bitvec_elements::store::BitStore;
+use bitvec_elements::words::WORD_BITS;
+
+/// Whether so many bits are loaded and stored as a word with no loop: those of a window that is no longer
+/// than an element, or 64.
+#[inline(always)]
+pub(crate) fn is_few<T: BitStore>(len: usize) -> bool
+    ensures { result ≡ true → len ≤ 64 }
+{
+    len == WORD_BITS || len <= WORD_BITS.min(T::BITS as usize)
+}

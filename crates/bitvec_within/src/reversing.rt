@@ -1,0 +1,42 @@
+//! The bits of a window of a slice of elements in the opposite order.
+ghost use Rattle.std.specs.Prelude.{◌≤◌, map, reverse as reversal};
+ghost use Rattle.bitvec_elements.specs.base.Memory.{Edits, HasWindow};
+
+use crate::few::is_few;
+use bitvec_elements::base::{Lsb0, Msb0, Window};
+use bitvec_elements::cells::Exclusive;
+use bitvec_elements::engine::{Direction, SliceOrder, direction_of, reverse, store_few};
+use bitvec_elements::few_word;
+use bitvec_elements::store::BitStore;
+use bitvec_elements::words::{WORD_BITS, WordOrder, moved, reversed};
+
+/// Reverses the bits of a window, as the order does it. Condition: the memory has at most
+/// `MAX_BITS` bits, and the window lies in it. The bits of an element, or 64, are reversed as a word,
+/// under an order that runs from one end of an element to the other.
+pub fn reverse_in<T: BitStore, O: SliceOrder>(elements: &mut [T], window: Window)
+    requires window { HasWindow T.BITS (map T.value elements.old) window }
+    ensures writes { Edits T.BITS O.at (map T.value elements.old) (map T.value elements.new) window reversal }
+{
+    if is_few::<T>(window.len) {
+        match direction_of::<O, T>() {
+            Direction::Up => return reverse_few::<Lsb0, T>(elements, window),
+            Direction::Down => return reverse_few::<Msb0, T>(elements, window),
+            Direction::Other => {}
+        }
+    }
+    let mut accessor = Exclusive::new(elements);
+    reverse::<O, Exclusive<T>>(&mut accessor, window);
+}
+
+/// [`reverse_in`] of few bits, as a word.
+fn reverse_few<W: WordOrder, T: BitStore>(elements: &mut [T], window: Window)
+    requires window { HasWindow T.BITS (map T.value elements.old) window }
+    requires few { window.len ≤ 64 }
+    ensures writes { Edits T.BITS W.at (map T.value elements.old) (map T.value elements.new) window reversal }
+{
+    let word = reversed::<W, u64>(few_word::<W, T>(&*elements, window));
+    // the bits of the window are the last ones now
+    let mirrored = moved::<W, u64, u64>(word, WORD_BITS - window.len, window.len, 0);
+    let mut accessor = Exclusive::new(elements);
+    store_few::<W, Exclusive<T>>(&mut accessor, window, mirrored);
+}
