@@ -57,6 +57,20 @@ pub fn told_each(number: u64) -> [u8; 8]
     drawn(number)
 }
 
+/// Two bits exchanged beside a number: it stays, and what was zero before is zero at any place.
+#[tactic(auto, using(bitvec::specs::Laws::bitwise, bitvec::specs::Laws::fields))]
+pub fn exchanged_beside(number: u64) -> [u16; 3]
+    ensures number { number_in false true 16 (msb0_bits 16 result) 20 31 ≡ number % 2048 }
+    ensures first { slice_index_or (msb0_bits 16 result) 3 false ≡ false }
+    ensures second { slice_index_or (msb0_bits 16 result) 40 false ≡ true }
+{
+    let mut words = [0u16; 3];
+    in_place::store_le::<u16, Msb0, u64>(&mut words, 20..31, number);
+    in_place::set::<u16, Msb0>(&mut words, 3, true);
+    in_place::swap::<u16, Msb0>(&mut words, 3, 40);
+    words
+}
+
 /// Four registers with five fields of different widths.
 #[derive(Drop)]
 pub struct Port {
@@ -189,6 +203,7 @@ fn invert_range(view: &mut BitSliceMut<'_, u8, Lsb0>, range: Range<usize>)
 fn arrays_have_their_bits(rt: HostRuntime) {
     assert!(rt; drawn(0xABC) == [0x88, 0x57, 0xF1, 0x3F, 0x00, 0x7F, 0x00, 0x0E]);
     assert!(rt; one_at(0, 29));
+    assert!(rt; exchanged_beside(677) == [0, 0x054A, 0x0080]);
     assert!(rt; fives() == [0x00, 0x44, 0x32, 0x14, 0xC7, 0x42, 0x54, 0xB0]);
     assert!(rt; every_third() == [0x9249, 0x2492, 0x4924, 0x9248]);
 }

@@ -2,6 +2,8 @@
 use Rattle.std.specs.Prelude.{◌≡◌, ◌≢◌, ℕ, ◌+◌, ◌-◌, ◌*◌, ◌<◌, ◌≤◌, ◌⊎◌, Bool, false, not, List, drop, length, map, replicate, slice_index_or, slice_range, take}
 use Rattle.std.specs.List.{swap}
 use Rattle.std.proofs.Common.{arith, sym, ◌∙◌, ap, ⊎_elim, inl, inr, length-append, length-drop}
+use Rattle.std.proofs.Math.ListN.{get_or-eq_default}
+use Rattle.std.proofs.lemmas.Bool.{cases_lt}
 use Rattle.std.proofs.lemmas.Grind.{get_or-set_at}
 use Rattle.std.proofs.lemmas.List.{get_or-map, get_or-replicate, get_or-set_other, length-map, length-replicate, length-set, length-take, places}
 use Rattle.std.proofs.lemmas.List.Edits.{swap_is}
@@ -164,3 +166,9 @@ module _ {X : Type 0} (from to dest : ℕ) (list : List X) (order : from ≤ to)
 -- a memory of zeros
 pub get-zeros : (b : ℕ) (at : ℕ → ℕ → ℕ) (words : List ℕ) (k : ℕ) (d : Bool) → words ≡ replicate (length words) 0 → k < b * length words → slice_index_or (memory_bits b at words) k d ≡ false
 get-zeros b at words k d zeros inside = ap (λ (l : List Bool). slice_index_or l k d) (bits-zeros b at words zeros) ∙ get_or-replicate (b * length words) k false d inside
+
+-- with the default that std's rules have, at any index
+pub get-zero : (b : ℕ) (at : ℕ → ℕ → ℕ) (words : List ℕ) (k : ℕ) → words ≡ replicate (length words) 0 → slice_index_or (memory_bits b at words) k false ≡ false
+get-zero b at words k zeros =
+    let long = length-memory_bits b at words in
+    ⊎_elim (λ (inside : k < b * length words). get-zeros b at words k false zeros inside) (λ (past : b * length words ≤ k). get_or-eq_default (memory_bits b at words) false (omega arith)) (cases_lt k (b * length words))

@@ -1,13 +1,16 @@
 -- The number of a range: of one that a number was stored in, of one beside what was edited, and its bound.
 use Rattle.std.specs.Prelude.{◌≡◌, ℕ, ◌+◌, ◌-◌, ◌%◌, ◌^◌, ◌<◌, ◌≤◌, ◌⊎◌, Bool, List, drop, length, slice_range, slice_set, take}
+use Rattle.std.specs.List.{swap}
 use Rattle.std.proofs.Common.{arith, sym, ◌∙◌, ap, ⊎_elim, length-drop}
 use Rattle.std.proofs.lemmas.List.{same_lists, get_or-set_other, length-set, length-take}
+use Rattle.std.proofs.lemmas.List.Edits.{length-swap}
 use Rattle.bitvec_field.specs.base.Lists.{copied_within}
 use Rattle.bitvec_field.specs.base.Window.{write_at}
 use Rattle.bitvec_field.specs.base.WriteLaws.{get-slice_range, length-slice_range, range-write_at}
 use Rattle.bitvec_field.specs.segments.LoadLaws.{loaded-below}
 use Rattle.bitvec_field.specs.segments.Segments.{loaded, stored}
 use Rattle.bitvec_field.specs.segments.StoreLaws.{length-stored, stored-loads}
+use Rattle.bitvec_in_place.specs.MovedLaws.{get-swap_other}
 use Rattle.bitvec_in_place.specs.RangesLaws.{number-put}
 use Rattle.bitvec_in_place.specs.Ranges.{number_in, numbered}
 
@@ -59,6 +62,18 @@ number-set big high b list i bit a e within apart =
     let short : a + k < e = omega arith in
     let other : a + k ≡ i → ⊥ = (λ (same : a + k ≡ i). ⊎_elim (λ (low : i < a). omega arith) (λ (above : e ≤ i). omega arith) apart) in
     get-slice_range (slice_set list i bit) a e k d short ∙ get_or-set_other list i (a + k) bit d other ∙ sym (get-slice_range list a e k d short)))
+
+-- of two bits that were exchanged
+pub number-swap : (big high : Bool) (b : ℕ) (list : List Bool) (i j a e : ℕ) → i < length list → j < length list → e ≤ length list → (i < a) ⊎ (e ≤ i) → (j < a) ⊎ (e ≤ j) → number_in big high b (swap list i j) a e ≡ number_in big high b list a e
+number-swap big high b list i j a e first second within apart beside =
+    let kept = length-swap list i j in
+    let old = length-slice_range list a e within in
+    let new = length-slice_range (swap list i j) a e (omega arith) in
+    number-same big high b list (swap list i j) a e (same_lists _ _ (omega arith) (λ k d inside.
+    let short : a + k < e = omega arith in
+    let one : a + k ≡ i → ⊥ = (λ (same : a + k ≡ i). ⊎_elim (λ (low : i < a). omega arith) (λ (above : e ≤ i). omega arith) apart) in
+    let other : a + k ≡ j → ⊥ = (λ (same : a + k ≡ j). ⊎_elim (λ (low : j < a). omega arith) (λ (above : e ≤ j). omega arith) beside) in
+    get-slice_range (swap list i j) a e k d short ∙ get-swap_other list i j (a + k) d one other first second ∙ sym (get-slice_range list a e k d short)))
 
 -- of a list written at another place, and of values copied there
 pub number-written : (big high : Bool) (b : ℕ) (list : List Bool) (from : ℕ) (new : List Bool) (a e : ℕ) → from + length new ≤ length list → a ≤ e → e ≤ length list → (e ≤ from) ⊎ (from + length new ≤ a) → number_in big high b (write_at list from new) a e ≡ number_in big high b list a e

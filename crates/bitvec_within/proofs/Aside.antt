@@ -1,6 +1,6 @@
 -- Bits that are held aside, combined with others.
 use Rattle.std.specs.Prelude.{◌≡◌, ℕ, ◌+◌, ◌-◌, ◌*◌, ◌/◌, ◌%◌, ◌^◌, ◌<◌, ◌≤◌, ◌⊎◌, Bool, List, length, map, min, slice_range, refl}
-use Rattle.std.proofs.Common.{arith, ap, inl, inr, sym, ◌∙◌, ⊎_elim}
+use Rattle.std.proofs.Common.{arith, ap, inl, inr, ◌∙◌, ⊎_elim}
 use Rattle.std.proofs.Math.Nat.{div-add-mod, mul-le-mul_left}
 use Rattle.std.proofs.lemmas.Bool.{cases_lt}
 use Rattle.std.proofs.lemmas.List.{length-map}
@@ -48,15 +48,7 @@ held-room b n count place first held is many inside room = ⊎_elim
     omega arith)
     (cases_lt (place / b) (count - held))
 
--- a window of those
-pub held-window : {A : Type 0} (b : ℕ) (value : A → ℕ) (cells held : List A) (start len count : ℕ) → b * length (map value cells) ≤ (2 ^ 64 - 1) / 8 → count ≤ length cells → length held ≡ count → start + len ≤ b * count
-    → HasWindow b (map value held) (record { start = start; len = len })
-held-window b value cells held start len count fits many long inside =
-    let most : b * count ≤ b * length (map value cells) = mul-le-mul_left b (let more : count ≤ length (map value cells) = omega (arith, length-map cells value) in more) in
-    let all : b * length (map value held) ≡ b * count = ap (λ (m : ℕ). b * m) (length-map held value ∙ long) in
-    record { fits = omega arith; within = record { start = omega arith; len = omega arith } }
-
--- and its bits
+-- the bits of a window of those
 pub held-list : {A : Type 0} (b : ℕ) (at : ℕ → ℕ → ℕ) (value : A → ℕ) (cells held : List A) (place first count n : ℕ) → 0 < b → held ≡ slice_range cells first (first + count) → first + count ≤ length cells → first * b ≤ place → place - first * b + n ≤ b * count
     → list_in b at (map value held) (record { start = place - first * b; len = n }) ≡ list_in b at (map value cells) (record { start = place; len = n })
 unfolding window_of
@@ -115,13 +107,9 @@ piece-before b at g old mid new window f d n m f2 d2 e from-is dest-is end-is ha
     Writes-next (λ (l : List Bool). combined_within g f (f + n) d l) has (Writes-is b at old mid window _ _ first was) second
     (combined_within-before g list f d n m (omega arith) (omega arith) kept ∙ ap (λ (k : ℕ). combined_within g f k d list) end)
 
--- the bits of some elements
+-- all but one of some elements have so many bits that their number is a word
 pub room-fits : (b n : ℕ) → IsWidth b → n ≤ 4096 → b * (n - 1) < 2 ^ 64
 room-fits b n width few =
     let most : b ≤ 128 = at_each_width (λ m. m ≤ 128) (omega arith) (omega arith) (omega arith) (omega arith) (omega arith) b width in
     let room : b * (n - 1) ≤ b * 4096 = mul-le-mul_left b (let less : n - 1 ≤ 4096 = omega arith in less) in
     omega arith
-
--- those of all but one
-pub but-one : (b n : ℕ) → 1 < n → b + b * (n - 1) ≡ b * n
-but-one b n some = let whole : 1 + (n - 1) ≡ n = omega arith in let product : b + b * (n - 1) ≡ b * (1 + (n - 1)) = omega arith in product ∙ ap (λ (k : ℕ). b * k) whole

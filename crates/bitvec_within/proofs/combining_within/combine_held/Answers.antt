@@ -1,6 +1,5 @@
 use Rattle.std.proofs.Common.{ℕ, ◌≡◌, ◌+◌, ◌-◌, ◌*◌, ◌≤◌, ap, arith, length, map}
 use Rattle.std.proofs.lemmas.List.{length-map}
-use Rattle.bitvec_elements.specs.base.Window.{window_range}
 use Rattle.bitvec_elements.specs.base.declared.window.Window.{Window}
 use Rattle.bitvec_elements.specs.store.WidthLaws.{width_some}
 use Rattle.bitvec_within.proofs.Aside.{aside-combined, first-before, held-list, held-room}

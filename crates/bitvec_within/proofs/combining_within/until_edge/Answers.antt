@@ -1,4 +1,3 @@
-use Rattle.std.proofs.Common.{◌<◌}
 use Rattle.std.proofs.lemmas.Nat.{mod_below}
 use Rattle.bitvec_elements.specs.store.WidthLaws.{width_some}
 use Rattle.bitvec_within.proofs.Edges.{edge-next}
