@@ -2,7 +2,7 @@
 # Wrong bodies that clauses leave to tests: most are of calls that say nothing of what their lender is afterwards. The
 # first line of each patch in compile_fail/mutants names a tests' crate and the tests that must fail with it. The patches of a
 # crate are applied together, to a copy of the tree, and one run of its tests, with no proofs, has to show each named
-# test as failed. Patches of one crate change different functions, and no test that one names makes a call that another
+# test as failed. Patches of one crate change different lines, and no test that one names makes a call that another
 # breaks. With names as arguments these patches alone are tried, each in a run of its own.
 set -euo pipefail
 cd "$(dirname "$0")/.."

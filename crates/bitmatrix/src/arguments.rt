@@ -10,7 +10,7 @@ pub enum Request {
     Rows,
     /// The closure of pairs of the sixteen digits.
     Pairs(Graph),
-    /// How many ones the closure of a chain of so many places has.
+    /// How many ones the closure of a chain of that many places has.
     Chain(usize),
 }
 
@@ -22,7 +22,8 @@ fn parse_digit(byte: u8) -> Option<usize>
     Some(digit as usize)
 }
 
-/// The relation of pairs: in the word `3a` place 3 leads to place 10. None, if a word is no pair.
+/// The relation of pairs: in the word `3a` place 3 leads to place 10. `None` if a word isn't a
+/// pair.
 fn parse_pairs(words: &[String]) -> Option<Graph> {
     let mut graph = Graph::new();
     for word in words {
@@ -35,7 +36,8 @@ fn parse_pairs(words: &[String]) -> Option<Graph> {
 }
 
 impl Request {
-    /// Reads the words: `rows`, `pairs` and any number of pairs, or `chain N`. None, if they are others.
+    /// Reads the words: `rows`, `pairs` and any number of pairs, or `chain N`. `None` if they are
+    /// anything else.
     pub fn parse(words: &[String]) -> Option<Request> {
         let [verb, given @ ..] = words else {
             return None;

@@ -15,7 +15,7 @@ use bitvec::prelude::*;
 use std::alloc::{AllocError, Allocator};
 use std::io::{Read, Write};
 
-/// Zeros that have at least so many bits.
+/// Zeros of at least that many bits.
 fn zeros<A: Allocator>(alloc: A, bits: usize) -> Result<Vec<u64, A>, AllocError>
     ensures room { IfOk result (λ zeros. bits ≤ 64 * length zeros.items) }
     ensures bound { IfOk result (λ zeros. 64 * length zeros.items ≤ max_bits) }
@@ -27,7 +27,7 @@ fn zeros<A: Allocator>(alloc: A, bits: usize) -> Result<Vec<u64, A>, AllocError>
     vec![in alloc; 0; count]
 }
 
-/// Closes the relation of a text of n rows, and prints the rows of its closure. Unless the text is that of n
+/// Closes the relation of a text of n rows, and prints the rows of its closure. If the text isn't n such
 /// rows, nothing is printed. Conditions: the elements have n by n bits, and at most `MAX_BITS`.
 fn close_text<A: Allocator, W: Write>(
     alloc: A,
@@ -51,7 +51,7 @@ fn close_text<A: Allocator, W: Write>(
     print_rows(output, matrix.as_ref(), n).or(Err(Fault::Output))
 }
 
-/// Reads rows of 0 and 1, as many as each has characters, and prints those of the closure.
+/// Reads rows of 0 and 1, as many as each has characters, and prints the rows of their closure.
 pub fn close_rows<A: Allocator + Copy, R: Read, W: Write>(
     alloc: A,
     input: &mut R,

@@ -9,9 +9,9 @@ use std::fmt::{self, Display, Formatter};
 /// What ends the program early. Its text is the line that is printed then.
 #[derive(Clone, Copy)]
 pub enum Fault {
-    /// The words are none that the program knows.
+    /// The program doesn't know the words.
     Arguments,
-    /// The input is no square of 0 and 1, or can't be read.
+    /// The input isn't a square of 0 and 1, or can't be read.
     Input,
     /// There was no room for the words, the input or the bits.
     Memory,

@@ -63,8 +63,8 @@ pub fn connect<T: BitStore, O: SliceOrder>(
     matrix.set(i * n + j, true);
 }
 
-/// Makes each bit of row `target` 1 where the one of row `source` in its column is. Condition: the matrix
-/// has both rows.
+/// Makes each bit of row `target` 1 where the bit of row `source` in its column is 1. Condition: the
+/// matrix has both rows.
 #[tactic(auto, using(bitvec::specs::Laws::lengths, crate::proofs::RowLaws::rows))]
 pub fn or_row<T: BitStore, O: SliceOrder>(
     matrix: &mut BitSliceMut<'_, T, O>,
@@ -81,8 +81,8 @@ pub fn or_row<T: BitStore, O: SliceOrder>(
     matrix.or_within(source * n..source * n + n, target * n);
 }
 
-/// Makes each bit 1 where one in its row leads to place `k`, and one in row `k` from there on. Condition:
-/// there is such a place.
+/// Makes a bit 1 where its row leads to place `k`, and row `k` on to its column. Condition: there is such
+/// a place.
 #[tactic(auto, using(bitvec::specs::Laws::composed, crate::proofs::PathLaws::passing))]
 fn pass<T: BitStore, O: SliceOrder>(matrix: &mut BitSliceMut<'_, T, O>, n: usize, k: usize)
     requires size { (seen_mut matrix.old).window.len ≡ n * n }

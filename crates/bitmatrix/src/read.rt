@@ -21,8 +21,7 @@ pub fn read_text<A: Allocator, R: Read>(alloc: A, input: &mut R) -> Result<Vec<u
     }
 }
 
-/// How many rows a text has that is as long as so many rows of as many characters and a line feed each.
-/// None, if it isn't.
+/// The number n, if a text is as long as n rows of n characters with a line feed each.
 pub fn rows_in(text: &[u8]) -> Option<usize>
     ensures { IfSome result (λ n. n * n + n ≡ length text.now) }
 {
@@ -34,7 +33,7 @@ pub fn rows_in(text: &[u8]) -> Option<usize>
     }
 }
 
-/// Writes a bit for each character but line feeds, 1 for `1`, as far as there are bits.
+/// Writes a bit for each character but line feeds, 1 for `1`, as long as there is room.
 #[tactic(auto, using(bitvec::specs::Laws::composed))]
 pub fn fill_from<T: BitStore, O: SliceOrder>(matrix: &mut BitSliceMut<'_, T, O>, text: &[u8])
     ensures { WritesBits matrix.old matrix.new (seen_mut matrix.new).bits }

@@ -1,5 +1,5 @@
 -- Numbers read one after the other: what the list of them is.
-use Rattle.std.specs.Prelude.{◌≡◌, ℕ, ◌+◌, ◌-◌, ◌/◌, ◌%◌, ◌^◌, ◌<◌, ◌≤◌, ◌⊎◌, if◌then◌else◌, Bool, List, length, slice_index, slice_set, refl}
+use Rattle.std.specs.Prelude.{◌≡◌, ℕ, ◌+◌, ◌-◌, ◌/◌, ◌%◌, ◌^◌, ◌<◌, ◌≤◌, if◌then◌else◌, Bool, List, length, slice_index, slice_set, refl}
 use Rattle.std.proofs.Common.{arith, sym, ◌∙◌, ap, ⊎_elim}
 use Rattle.std.proofs.lemmas.List.{get_or-set_other, get_or-set_same, get_or_default, length-map, same_lists}
 use Rattle.bitvec.specs.ShowingLaws.{length-seen}
@@ -13,9 +13,6 @@ use Rattle.bitrecord.specs.RecordLaws.{earlier_or_this, number-of-record, record
 use Rattle.bitrecord.specs.Records.{AreEncodable, Fits, number_in, record_in}
 use Rattle.bitrecord.specs.Runs.{IsRun, IsSeamless, SplitsOff, across, aligned, end_of, plain_number}
 use Rattle.bitrecord.specs.declared.endian.Endian.{Endian}
-
-pub earlier_or_not : (k n : ℕ) → (k < n) ⊎ (n ≤ k)
-earlier_or_not k n = grind arith
 
 -- one number more is written
 pub read-next : (f : ℕ → ℕ) (out : List ℕ) (n v : ℕ) → n < length out → v ≡ f n → ((k : ℕ) → k < n → slice_index out k ≡ f k) → (k : ℕ) → k < n + 1 → slice_index (slice_set out n v) k ≡ f k

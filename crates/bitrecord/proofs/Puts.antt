@@ -3,6 +3,7 @@ use Rattle.std.specs.Prelude.{◌≡◌, ℕ, ◌+◌, ◌*◌, ◌%◌, ◌^◌
 use Rattle.std.proofs.Common.{arith, inl, inr, sym, ◌∙◌, ap, ⊎_elim, subst}
 use Rattle.std.proofs.Math.Nat.{mod-eq_of_lt, mod-mod}
 use Rattle.std.proofs.Math.Pow.{pow_mono}
+use Rattle.std.proofs.lemmas.Bool.{cases_lt}
 use Rattle.bitvec.specs.LoadLaws.{loaded_be-phase, loaded_le-phase}
 use Rattle.bitvec.specs.Segments.{loaded_be, loaded_le, stored_be, stored_le}
 use Rattle.bitvec.specs.ShowingLaws.{length-seen_mut}
@@ -15,7 +16,6 @@ use Rattle.bitvec.specs.WriteLaws.{get-write_at_above, get-write_at_below, lengt
 use Rattle.bitvec.specs.Writes.{WritesBits}
 use Rattle.bitvec.specs.WritesLaws.{written-then}
 use Rattle.bitrecord.proofs.Digits.{number-joined, seamless-number}
-use Rattle.bitrecord.proofs.Numbers.{earlier_or_not}
 use Rattle.bitrecord.proofs.RunLaws.{run-apart, run-beside}
 use Rattle.bitrecord.specs.FieldLaws.{window-kept}
 use Rattle.bitrecord.specs.Layouts.{AreApart, IsLayout, field_at}
@@ -153,7 +153,7 @@ module _ {T O : Type 0} {t : Store T} {o : Order O} (high : Bool) (first now aft
         numbers = λ k low. ⊎_elim
             (λ (earlier : k < n). other-field high now after endian (across fields n last) (field_at fields k) _ (run-apart bits k n last fields layout run earlier) (rw width (layout.inside k (omega arith)))
             (record { number = refl; others = wrote.others; written = wrote.written }) ∙ far.numbers k earlier)
-            (λ (from : n ≤ k). wrote.numbers k from (omega arith)) (earlier_or_not k n);
+            (λ (from : n ≤ k). wrote.numbers k from (omega arith)) (cases_lt k n);
         others = λ place d outside. wrote.others place d (run-beside fields n last place run (λ k from low. outside k (omega arith))) ∙ far.others place d outside;
         written = written-then first now after _ _ far.written wrote.written;
       }

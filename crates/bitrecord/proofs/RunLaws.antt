@@ -1,6 +1,7 @@
 -- Runs of fields: how one grows, and what lies in one.
 use Rattle.std.specs.Prelude.{◌≡◌, ℕ, ◌+◌, ◌-◌, ◌<◌, ◌≤◌, ◌⊎◌, List, refl}
 use Rattle.std.proofs.Common.{arith, inl, inr, suc, zero, ⊎_elim}
+use Rattle.std.proofs.lemmas.Bool.{cases_lt}
 use Rattle.bitvec.specs.Types.{Window}
 use Rattle.bitrecord.specs.Layouts.{AreApart, EachField, HasWidth, IsLayout, field_at}
 use Rattle.bitrecord.specs.RecordLaws.{beside-or-in}
@@ -30,9 +31,6 @@ run-narrow fields first last k widths run several from low =
     let some = (widths (last - 1) (omega arith)).some in
     rw this (omega arith)) (earlier_or_last k last low)
 
-less_or_not : (m n : ℕ) → (m < n) ⊎ (n ≤ m)
-less_or_not m n = grind arith
-
 -- a place behind the first bit of a run that is in none of the first fields is behind them
 reach : (fields : List Window) (first last place d j : ℕ) → IsRun fields first last → ((k : ℕ) → first ≤ k → k ≤ last → IsBeside (field_at fields k) place) → (field_at fields first).start ≤ place
     → j ≡ first + d → j ≤ last → end_of fields j ≤ place
@@ -53,7 +51,7 @@ run-beside fields first last place run beside =
     ⊎_elim (λ (front : place < (field_at fields first).start). inl front)
     (λ (from : (field_at fields first).start ≤ place).
     let end = reach fields first last place (last - first) last run beside from (omega arith) (omega arith) in
-    inr (omega arith)) (less_or_not place (field_at fields first).start)
+    inr (omega arith)) (cases_lt place (field_at fields first).start)
 
 -- so a field of a layout that is in front of the run's in the list is apart from it
 shared-place : (bits k first last p : ℕ) (fields : List Window) → IsLayout bits fields → IsRun fields first last → k < first → (field_at fields k).start ≤ p → p < end_of fields k
@@ -76,4 +74,4 @@ run-apart bits k first last fields layout run earlier over =
     let some = (layout.widths k (omega arith)).some in
     ⊎_elim (λ (front : (field_at fields k).start < (field_at fields first).start). shared-place bits k first last (field_at fields first).start fields layout run earlier (omega arith) (omega arith) (omega arith) (omega arith))
     (λ (behind : (field_at fields first).start ≤ (field_at fields k).start). shared-place bits k first last (field_at fields k).start fields layout run earlier (omega arith) (omega arith) (omega arith) (omega arith))
-    (less_or_not (field_at fields k).start (field_at fields first).start)
+    (cases_lt (field_at fields k).start (field_at fields first).start)

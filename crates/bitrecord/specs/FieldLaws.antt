@@ -1,6 +1,7 @@
 -- One field of a list of bits written: what the numbers of all fields are then. For callers.
 use Rattle.std.specs.Prelude.{◌≡◌, ℕ, ◌+◌, ◌^◌, ◌<◌, ◌≤◌, ◌⊎◌, Bool, List, length, slice_index_or, slice_set}
 use Rattle.std.proofs.Common.{arith, sym, ◌∙◌, ap, inl, inr, ⊎_elim}
+use Rattle.std.proofs.lemmas.Bool.{cases_lt}
 use Rattle.std.proofs.lemmas.List.{get_or-map, get_or-set_other, get_or-set_same, length-map, length-set, same_lists}
 use Rattle.bitvec.specs.Types.{Window}
 use Rattle.bitvec.specs.Window.{IsWithin, window_of}
@@ -9,9 +10,6 @@ use Rattle.bitrecord.specs.Layouts.{AreApart, IsLayout, field_at, no_field}
 use Rattle.bitrecord.specs.RecordLaws.{number-fits}
 use Rattle.bitrecord.specs.Records.{IsBeside, number_in, number_of, record_in}
 use Rattle.bitrecord.specs.declared.endian.Endian.{Endian}
-
-less_or_not : (m n : ℕ) → (m < n) ⊎ (n ≤ m)
-less_or_not m n = grind arith
 
 three_ways : (k n : ℕ) → (k < n) ⊎ ((k ≡ n) ⊎ (n < k))
 three_ways k n = grind arith
@@ -24,8 +22,8 @@ apart-sides : (x y : Window) → AreApart x y → (x.start + x.len ≤ y.start) 
 apart-sides x y apart =
     ⊎_elim (λ (front : y.start < x.start + x.len).
     ⊎_elim (λ (behind : x.start < y.start + y.len). absurd (apart (record { first = front; second = behind })))
-    (λ (ends : y.start + y.len ≤ x.start). inr ends) (less_or_not x.start (y.start + y.len)))
-    (λ (ends : x.start + x.len ≤ y.start). inl ends) (less_or_not y.start (x.start + x.len))
+    (λ (ends : y.start + y.len ≤ x.start). inr ends) (cases_lt x.start (y.start + y.len)))
+    (λ (ends : x.start + x.len ≤ y.start). inl ends) (cases_lt y.start (x.start + x.len))
 
 beside-side : (other field : Window) (i : ℕ) → i < other.len → (other.start + other.len ≤ field.start) ⊎ (field.start + field.len ≤ other.start) → IsBeside field (other.start + i)
 beside-side other field i low sides =

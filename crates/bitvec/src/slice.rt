@@ -1,8 +1,9 @@
 //! Views of bits, their indices, their walks and pieces, and the traits of their questions and edits.
 pub use bitvec_closures::split::{
-    Forward, Inclusive, LimitedSplitWalk, RSplit, RSplitMut, RSplitN, RSplitNMut, Reversed, Split,
-    SplitCalls, SplitCalls as PieceCalls, SplitCallsMut, SplitInclusive, SplitInclusiveMut,
-    SplitKind, SplitMut, SplitN, SplitNMut, SplitWalk, Splits, SplitsMut, SplitsN, SplitsNMut,
+    AtMost, Every, Forward, Inclusive, LimitedSplitWalk, RSplit, RSplitMut, RSplitN, RSplitNMut,
+    Reversed, Split, SplitCalls, SplitCalls as PieceCalls, SplitCallsMut, SplitInclusive,
+    SplitInclusiveMut, SplitKind, SplitLimit, SplitMut, SplitN, SplitNMut, SplitWalk, Splits,
+    SplitsMut, SplitsN, SplitsNMut,
 };
 pub use bitvec_closures::{EditElements, EditParts, EditSplits};
 pub use bitvec_in_place::field::{Binary, LowerHex, Octal, UpperHex};

@@ -1,8 +1,9 @@
 -- The bits of a memory fix its numbers: equal bits are of equal elements, and elements outside a write are kept.
-use Rattle.std.specs.Prelude.{◌≡◌, ℕ, ◌+◌, ◌*◌, ◌/◌, ◌^◌, ◌<◌, ◌≤◌, ◌⊎◌, ◌==◌, zero, suc, Bool, false, List, length, slice_index, slice_index_or, slice_range, refl}
+use Rattle.std.specs.Prelude.{◌≡◌, ℕ, ◌+◌, ◌*◌, ◌/◌, ◌^◌, ◌<◌, ◌≤◌, ◌⊎◌, ◌==◌, Bool, false, List, length, slice_index, slice_index_or, slice_range}
 use Rattle.std.specs.Int.{bit_at}
 use Rattle.std.proofs.Common.{arith, sym, ◌∙◌, ap, subst, ⊎_elim}
 use Rattle.std.proofs.lemmas.Bool.{cases_lt}
+use Rattle.std.proofs.lemmas.Bool.Decides.{nat_tests}
 use Rattle.std.proofs.Math.Nat.{mul-div_cancel_left}
 use Rattle.std.proofs.lemmas.Grind.{same_number_lists}
 use Rattle.std.proofs.lemmas.List.{get_or_past}
@@ -16,13 +17,7 @@ use Rattle.bitvec_base.specs.Window.{write_at}
 use Rattle.bitvec_base.specs.WriteLaws.{length-write_at, range-write_at_before, range-write_at_after}
 
 same_bit : (c d : ℕ) → c < 2 → d < 2 → (c == 1) ≡ (d == 1) → c ≡ d
-same_bit zero zero hc hd e = refl
-same_bit zero (suc zero) hc hd e = cc
-same_bit (suc zero) zero hc hd e = cc
-same_bit (suc zero) (suc zero) hc hd e = refl
-same_bit zero (suc (suc d)) hc hd e = absurd (omega arith)
-same_bit (suc zero) (suc (suc d)) hc hd e = absurd (omega arith)
-same_bit (suc (suc c)) d hc hd e = absurd (omega arith)
+same_bit c d hc hd e = grind (arith, nat_tests)
 
 -- an element is fixed by its bits
 pub element_bits-fix : (b : ℕ) (at : ℕ → ℕ → ℕ) → Permutes b (at b) → (v w : ℕ) → v < 2 ^ b → w < 2 ^ b → element_bits b at v ≡ element_bits b at w → v ≡ w

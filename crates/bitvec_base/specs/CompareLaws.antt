@@ -30,11 +30,11 @@ same-stretch a b n m before told k h =
     (cases_lt k n)
 
 -- what a test of two bits has told
-apart : (x y : Bool) → differs x y ≡ true → x ≢ y
-apart false false told e = absurd cc
-apart false true told e = absurd cc
-apart true false told e = absurd cc
-apart true true told e = absurd cc
+pub differs-apart : (x y : Bool) → differs x y ≡ true → x ≢ y
+differs-apart false false told e = absurd cc
+differs-apart false true told e = absurd cc
+differs-apart true false told e = absurd cc
+differs-apart true true told e = absurd cc
 
 -- ---- equality
 
@@ -45,7 +45,7 @@ same-equal a b n a-long b-long same =
 
 pub same-differ : (a b : List Bool) (i : ℕ) (x y : Bool) → x ≡ slice_index_or a i false → y ≡ slice_index_or b i false → differs x y ≡ true → false ≡ same_bits a b
 same-differ a b i x y left right told =
-    sym (false_from_ne_true _ (λ e. apart x y told (left ∙ ap (λ l. slice_index_or l i false) ((same_bits-decides a b).0 e) ∙ sym right)))
+    sym (false_from_ne_true _ (λ e. differs-apart x y told (left ∙ ap (λ l. slice_index_or l i false) ((same_bits-decides a b).0 e) ∙ sym right)))
 
 pub same-unequal : (a b : List Bool) (m n : ℕ) → length a ≡ m → length b ≡ n → m ≢ n → false ≡ same_bits a b
 same-unequal a b m n a-long b-long apart = sym (unequal beq a b (λ e. apart (sym a-long ∙ e ∙ b-long)))
@@ -85,7 +85,7 @@ order-behind (x ∷ a) (y ∷ b) (suc n) left right same = order-behind a b n (o
 -- the first bits that differ decide
 pub order-differ : (a b : List Bool) (i : ℕ) (x y : Bool) → i < length a → i < length b → SameBelow a b i → x ≡ slice_index_or a i false → y ≡ slice_index_or b i false → differs x y ≡ true → bool_cmp x y ≡ slice_cmp bool_cmp a b
 order-differ a b i x y a-long b-long same left right told =
-    rw (left, right) (first_apart a b i a-long b-long same (λ e. apart x y told (left ∙ e ∙ sym right)))
+    rw (left, right) (first_apart a b i a-long b-long same (λ e. differs-apart x y told (left ∙ e ∙ sym right)))
 
 longer_same : (m n : ℕ) → nat_cmp m n ≡ nat_cmp (suc m) (suc n)
 longer_same m n = grind (arith, nat_tests)

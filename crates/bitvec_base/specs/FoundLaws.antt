@@ -48,18 +48,25 @@ kept_none zero w n h more is none = refl
 kept_none (suc zero) w n h more is none = absurd (omega arith)
 kept_none (suc (suc c)) w n h more is none = absurd (omega arith)
 
+-- a bit that a mask of it leaves, and one that it doesn't
+pub masked-one : (v p n : ℕ) → n ≡ bit_and v (2 ^ p) → n ≢ 0 → bit_at v p ≡ 1
+masked-one v p n is some = kept_one _ (2 ^ p) n (bit_at-lt v p) (is ∙ and_pow v p) some
+
+pub masked-none : (v p n : ℕ) → n ≡ bit_and v (2 ^ p) → n ≡ 0 → bit_at v p ≡ 0
+masked-none v p n is none = kept_none _ (2 ^ p) n (bit_at-lt v p) (pow_pos p) (is ∙ and_pow v p) none
+
 pub first-one_here : (b : ℕ) (at : ℕ → ℕ → ℕ) (v i n : ℕ) → i < b → first_place true (slice_range (element_bits b at v) 0 i) ≡ None → n ≡ bit_and v (2 ^ at b i) → n ≢ 0 → Some i ≡ first_place true (element_bits b at v)
 first-one_here b at v i n below none is some =
     let long = length-element_bits b at v in
     let all : slice_range (element_bits b at v) 0 b ≡ element_bits b at v = range-all (element_bits b at v) b (omega arith) in
     let place : i - 0 ≡ i = omega arith in
-    let one = kept_one _ (2 ^ at b i) n (bit_at-lt v (at b i)) (is ∙ and_pow v (at b i)) some in
+    let one = masked-one v (at b i) n is some in
     sym (ap (first_place true) (sym all) ∙ first-here true (element_bits b at v) 0 i b (omega arith) below (omega arith) none true (sym (bit-set b at v i below one)) refl ∙ ap Some place)
 
 pub first-one_not_here : (b : ℕ) (at : ℕ → ℕ → ℕ) (v i n : ℕ) → i < b → first_place true (slice_range (element_bits b at v) 0 i) ≡ None → n ≡ bit_and v (2 ^ at b i) → n ≡ 0 → first_place true (slice_range (element_bits b at v) 0 (i + 1)) ≡ None
 first-one_not_here b at v i n below none is clear =
     let long = length-element_bits b at v in
-    let zero = kept_none _ (2 ^ at b i) n (bit_at-lt v (at b i)) (pow_pos (at b i)) (is ∙ and_pow v (at b i)) clear in
+    let zero = masked-none v (at b i) n is clear in
     first-not_here true (element_bits b at v) 0 i (omega arith) (omega arith) none false (sym (bit-clear b at v i below zero)) refl
 
 pub last-one_here : (b : ℕ) (at : ℕ → ℕ → ℕ) (v m n : ℕ) → 0 < m → m ≤ b → last_place true (slice_range (element_bits b at v) m b) ≡ None → n ≡ bit_and v (2 ^ at b (m - 1)) → n ≢ 0 → Some (m - 1) ≡ last_place true (element_bits b at v)
@@ -67,13 +74,13 @@ last-one_here b at v m n more order none is some =
     let long = length-element_bits b at v in
     let all : slice_range (element_bits b at v) 0 b ≡ element_bits b at v = range-all (element_bits b at v) b (omega arith) in
     let place : m - 1 - 0 ≡ m - 1 = omega arith in
-    let one = kept_one _ (2 ^ at b (m - 1)) n (bit_at-lt v (at b (m - 1))) (is ∙ and_pow v (at b (m - 1))) some in
+    let one = masked-one v (at b (m - 1)) n is some in
     sym (ap (last_place true) (sym all) ∙ last-here true (element_bits b at v) 0 m b more order (omega arith) none true (sym (bit-set b at v (m - 1) (omega arith) one)) refl ∙ ap Some place)
 
 pub last-one_not_here : (b : ℕ) (at : ℕ → ℕ → ℕ) (v m n : ℕ) → 0 < m → m ≤ b → last_place true (slice_range (element_bits b at v) m b) ≡ None → n ≡ bit_and v (2 ^ at b (m - 1)) → n ≡ 0 → last_place true (slice_range (element_bits b at v) (m - 1) b) ≡ None
 last-one_not_here b at v m n more order none is clear =
     let long = length-element_bits b at v in
-    let zero = kept_none _ (2 ^ at b (m - 1)) n (bit_at-lt v (at b (m - 1))) (pow_pos (at b (m - 1))) (is ∙ and_pow v (at b (m - 1))) clear in
+    let zero = masked-none v (at b (m - 1)) n is clear in
     last-not_here true (element_bits b at v) m b more order (omega arith) none false (sym (bit-clear b at v (m - 1) (omega arith) zero)) refl
 
 -- after all of them

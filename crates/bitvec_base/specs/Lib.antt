@@ -1,3 +1,4 @@
+pub mod Apart
 pub mod BitsFixMemory
 pub mod CompareLaws
 pub mod CopyLaws

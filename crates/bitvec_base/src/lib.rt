@@ -1,6 +1,7 @@
-//! Bit addressing: elements, bit orders, windows of a memory, and parts of its elements.
+//! Bit addressing: elements, bit orders, windows of a memory and where they come apart, and parts of its elements.
 #![tactic(auto)]
 
+mod apart;
 mod hi_lo;
 mod lsb0;
 mod msb0;
@@ -15,6 +16,7 @@ pub mod store {
     pub use bitvec_store::BitStore;
 }
 
+pub use apart::comes_apart;
 pub use hi_lo::HiLo;
 pub use lsb0::Lsb0;
 pub use msb0::Msb0;

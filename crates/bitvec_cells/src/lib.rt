@@ -13,8 +13,8 @@ mod swap;
 /// Items of `bitvec_base` that crates above use.
 pub mod base {
     pub use bitvec_base::{
-        BitOrder, BitSpanError, HiLo, Lsb0, MAX_BITS, Msb0, Part, Window, first_part, last_part,
-        tail_part, whole_elements,
+        BitOrder, BitSpanError, HiLo, Lsb0, MAX_BITS, Msb0, Part, Window, comes_apart, first_part,
+        last_part, tail_part, whole_elements,
     };
 }
 

@@ -8,9 +8,9 @@ use Rattle.bitvec_split.specs.slice.SeenLaws.{covered_bits}
 use Rattle.bitvec_split.specs.slice.Showing.{ShowsElements}
 use Rattle.bitvec_closures.specs.InPlace.{StaysInPlace}
 
-module _ {V T : Type 0} {shows : V → Seen T} {named : V → GName} {b : ℕ} {at : ℕ → ℕ → ℕ} {value : T → ℕ} (sound : (v : V) → ShowsElements b at value (shows v)) {cells : List T} {piece left : V}
-    (is : IsWhole b at value cells (shows piece)) (stays : StaysInPlace shows named piece left) where
-  pub length-whole : length (shows left).elements ≡ length cells
+module _ {V T : Type 0} {shows : V → Seen T} {named : V → GName} {b : ℕ} {at : ℕ → ℕ → ℕ} {value : T → ℕ} (sound : (v : V) → ShowsElements b at value (shows v)) {elements : List T} {piece left : V}
+    (is : IsWhole b at value elements (shows piece)) (stays : StaysInPlace shows named piece left) where
+  pub length-whole : length (shows left).elements ≡ length elements
   length-whole = stays.elements ∙ ap length is.elements
 
   pub whole-left : IsWhole b at value (shows left).elements (shows left)

@@ -9,9 +9,9 @@ use Rattle.bitvec_closures.specs.InTurnLaws.{in_turn-keep}
 use Rattle.bitvec_split.specs.store.declared.store.BitStore.{Ghosts as Store}
 use Rattle.bitvec_split.specs.base.declared.order.BitOrder.{Ghosts as Order}
 use Rattle.bitvec_split.specs.slice.Seen.{Seen}
+use Rattle.bitvec_split.specs.slice.ShowingLaws.{shows-seen_mut}
 use Rattle.bitvec_split.specs.slice.Views.{name_of, seen_mut}
 use Rattle.bitvec_split.specs.slice.declared.view_mut.BitSliceMut.{BitSliceMut}
-use Rattle.bitvec_closures.specs.ViewInPlace.{view_elements}
 use Rattle.bitvec_closures.specs.InPlaceLaws.{length-shown}
 
 module _ {V T F : Type 0} {shows : V → Seen T} {named : V → GName} {pre : F → ℕ → MutBor V → Type 0} {step : F → ℕ → MutBor V → ⊤ → MutBor V → F → Type 0} {edit : F} {view : Seen T} {way : WayToCut} where
@@ -48,8 +48,8 @@ module _ {T O F : Type 0} {t : Store T} {o : Order O} {writes : BitSliceMut T O 
       → (seen_mut p.now).bits ≡ slice_range (seen_mut before).bits (k * size) (k * size + size) → step f k p tt q g → (seen_mut q.now).bits ≡ left)
       → slice_range (seen_mut after).bits (k * size) (k * size + size) ≡ left
   chunk_kept {size} Holds k left some edits begins first keeps same =
-      sym (chunk-range (seen_mut after).bits size k (length-shown (view_elements after) ∙ ap (λ w. w.len) edits.stays.window))
-      ∙ piece_kept Holds k left edits (chunk-counted size k some begins) first keeps (λ f g p q holds is. same f g p q holds is (is.part.bits ∙ chunk-range (seen_mut before).bits size k (length-shown (view_elements before))))
+      sym (chunk-range (seen_mut after).bits size k (length-shown (shows-seen_mut after) ∙ ap (λ w. w.len) edits.stays.window))
+      ∙ piece_kept Holds k left edits (chunk-counted size k some begins) first keeps (λ f g p q holds is. same f g p q holds is (is.part.bits ∙ chunk-range (seen_mut before).bits size k (length-shown (shows-seen_mut before))))
 
   -- so it is of a piece that each call at its number leaves so
   pub piece_left : {way : WayToCut} (k : ℕ) (left : List Bool) → EditsPieces seen_mut name_of writes step edit before way after → k < way.count (seen_mut before).window.len

@@ -13,9 +13,9 @@ use Rattle.bitvec_split.specs.slice.Showing.{ShowsElements}
 use Rattle.bitvec_closures.specs.InPlaceLaws.{length-left, length-shown}
 use Rattle.bitvec_split.specs.store.declared.store.BitStore.{Ghosts as Store}
 use Rattle.bitvec_split.specs.base.declared.order.BitOrder.{Ghosts as Order}
+use Rattle.bitvec_split.specs.slice.ShowingLaws.{shows-seen_mut}
 use Rattle.bitvec_split.specs.slice.Views.{name_of, seen_mut}
 use Rattle.bitvec_split.specs.slice.declared.view_mut.BitSliceMut.{BitSliceMut}
-use Rattle.bitvec_closures.specs.ViewInPlace.{view_elements}
 use Rattle.bitvec_closures.specs.SplitEdits.{Editing, EditsInTurn, EditsNext}
 
 -- `now`, with each of the pieces, from this number on, made what `leaves` makes of its number and of the bits that it has in `bits`
@@ -101,9 +101,9 @@ module _ {T O F : Type 0} {t : Store T} {o : Order O} {step : F → ℕ → MutB
       → (i : ℕ) → Related (slice_index_or (seen_mut view).bits i false) (slice_index_or bits i false)
   each-bit {edit} {pieces} Related edits same leaves i =
       subst (λ (l : List Bool). Related (slice_index_or (seen_mut view).bits i false) (slice_index_or l i false)) (sym edits.bits)
-      (related-from seen_mut name_of view_elements step view Related leaves i (record { bits = (seen_mut view).bits; edit = edit; number = 0 }) pieces edits.last (length-shown (view_elements view)) (same _) edits.edits)
+      (related-from seen_mut name_of shows-seen_mut step view Related leaves i (record { bits = (seen_mut view).bits; edit = edit; number = 0 }) pieces edits.last (length-shown (shows-seen_mut view)) (same _) edits.edits)
 
   -- a bit in no piece is as before
   pub bit-kept : {edit : F} {pieces : List (Range ℕ)} {bits : List Bool} (i : ℕ) (d : Bool) → EditsInTurn seen_mut name_of step view edit pieces bits → IsInNone i pieces → slice_index_or bits i d ≡ slice_index_or (seen_mut view).bits i d
   bit-kept {edit} {pieces} i d edits out =
-      ap (λ (l : List Bool). slice_index_or l i d) edits.bits ∙ kept-from seen_mut name_of view_elements step view i d (record { bits = (seen_mut view).bits; edit = edit; number = 0 }) pieces edits.last (length-shown (view_elements view)) out edits.edits
+      ap (λ (l : List Bool). slice_index_or l i d) edits.bits ∙ kept-from seen_mut name_of shows-seen_mut step view i d (record { bits = (seen_mut view).bits; edit = edit; number = 0 }) pieces edits.last (length-shown (shows-seen_mut view)) out edits.edits

@@ -1,10 +1,9 @@
--- A writable view of bits: what it shows, and that what was written in its place was written.
+-- A writable view of bits: what was written in its place was written.
 use Rattle.std.specs.Prelude.{Bool, List}
 use Rattle.std.proofs.Common.{ap, ◌∙◌}
 use Rattle.bitvec_split.specs.store.declared.store.BitStore.{Ghosts as Store}
 use Rattle.bitvec_split.specs.base.Window.{write_window}
 use Rattle.bitvec_split.specs.base.declared.order.BitOrder.{Ghosts as Order}
-use Rattle.bitvec_split.specs.slice.Showing.{ShowsElements}
 use Rattle.bitvec_split.specs.slice.ShowingLaws.{shows-seen_mut}
 use Rattle.bitvec_split.specs.slice.Views.{name_of, seen_mut}
 use Rattle.bitvec_split.specs.slice.Writes.{WritesBits}
@@ -13,14 +12,11 @@ use Rattle.bitvec_closures.specs.InPlace.{WritesInPlace}
 use Rattle.bitvec_closures.specs.InPlaceLaws.{kept-memory}
 
 module _ {T O : Type 0} {t : Store T} {o : Order O} where
-  pub view_elements : (v : BitSliceMut T O t o) → ShowsElements t.BITS o.at t.value (seen_mut v)
-  view_elements v = shows-seen_mut v
-
   pub written_so : (before after : BitSliceMut T O t o) (new : List Bool) → WritesInPlace seen_mut name_of before after new → WritesBits before after new
   written_so before after new is = record {
     bits = is.bits;
     outside = is.stays.outside;
-    memory = kept-memory view_elements is.stays ∙ ap (write_window (seen_mut before).memory (seen_mut before).window) is.bits;
+    memory = kept-memory shows-seen_mut is.stays ∙ ap (write_window (seen_mut before).memory (seen_mut before).window) is.bits;
     window = is.stays.window;
     length = is.stays.elements;
     name = is.stays.name;

@@ -11,9 +11,10 @@ mod views;
 /// Items of `bitvec_split` that crates above use.
 pub mod split {
     pub use bitvec_split::{
-        Forward, Inclusive, LimitedSplitWalk, RSplit, RSplitMut, RSplitN, RSplitNMut, Reversed,
-        Split, SplitCalls, SplitCallsMut, SplitInclusive, SplitInclusiveMut, SplitKind, SplitMut,
-        SplitN, SplitNMut, SplitWalk, Splits, SplitsMut, SplitsN, SplitsNMut,
+        AtMost, Every, Forward, Inclusive, LimitedSplitWalk, RSplit, RSplitMut, RSplitN,
+        RSplitNMut, Reversed, Split, SplitCalls, SplitCallsMut, SplitInclusive, SplitInclusiveMut,
+        SplitKind, SplitLimit, SplitMut, SplitN, SplitNMut, SplitWalk, Splits, SplitsMut, SplitsN,
+        SplitsNMut,
     };
 }
 

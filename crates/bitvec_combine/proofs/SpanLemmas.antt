@@ -14,6 +14,7 @@ use Rattle.bitvec_move.specs.words.FieldLaws.{element_of}
 use Rattle.bitvec_move.specs.words.Spans.{HasShiftedElements, HasShiftedSpan}
 use Rattle.bitvec_move.specs.words.WholeLaws.{HasWindow-part, behind-mod, whole_fits}
 use Rattle.bitvec_move.specs.WaitingLaws.{behind-element}
+use Rattle.bitvec_move.proofs.MoveLemmas.{after-span}
 use Rattle.bitvec_combine.specs.Spans.{HasPartBeside, HasShiftedShorter, HasShorter}
 
 -- ---- numbers: n bits by b a whole element, and these by k a group
@@ -49,16 +50,6 @@ group-word b xs window m width has fits =
 -- ---- windows
 
 -- what is behind t bits, where the first memory may have changed
-pub after-span : (b : ℕ) (xs now ys : List ℕ) (left right : Window) (t : ℕ) → HasSpan b xs ys left right → length now ≡ length xs → t ≤ left.len
-    → HasSpan b now ys (window_after t left) (window_after t right)
-after-span b xs now ys left right t has long fits =
-    let lengths = has.lengths in
-    record {
-      window = HasWindow-kept b xs now (window_after t left) (HasWindow-part b xs left (window_after t left) has.window (omega arith) (omega arith)) long;
-      beside = HasWindow-part b ys right (window_after t right) has.beside (omega arith) (omega arith);
-      lengths = omega arith;
-    }
-
 pub after-shorter : (b : ℕ) (xs now ys : List ℕ) (left right : Window) (t m : ℕ) → HasShorter b xs ys left right → length now ≡ length xs → t ≤ left.len → m ≡ min t right.len
     → HasShorter b now ys (window_after t left) (window_after m right)
 after-shorter b xs now ys left right t m has long fits least =
@@ -169,7 +160,7 @@ pub behind-shifted : (b : ℕ) (xs ys : List ℕ) (left right : Window) (first c
 behind-shifted b xs ys left right first carry m width has fits carried =
     let some = width_some b width in
     record {
-      span = after-span b xs xs ys left right (m * b) has.span refl fits;
+      span = after-span b xs xs ys ys left right (m * b) has.span refl refl fits;
       edge = behind-mod b left.start m some ∙ has.edge;
       inside = rw (behind-mod b right.start m some) has.inside;
       carried = carried ∙ ap (slice_index ys) (sym (behind-element b right.start m some));

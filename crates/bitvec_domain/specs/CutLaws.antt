@@ -112,11 +112,11 @@ module _ (b : ℕ) (at : ℕ → ℕ → ℕ) (xs : List ℕ) (window : Window) 
       (eqb_tells first.from 0)))
       (eqb_tells window.len 0)
 
--- ---- the same of the pieces of elements that contracts see
+-- ---- the pieces of elements that contracts see
 
 module _ {T : Type 0} (b : ℕ) (at : ℕ → ℕ → ℕ) (value : T → ℕ) (xs : List T) where
   -- the bits of a part of an element are those of its window
-  part-bits : (part : Part) → IsPartWithin b (length (map value xs)) part → (part_in b at value xs part).bits ≡ list_in b at (map value xs) (part_window b part)
+  pub part-bits : (part : Part) → IsPartWithin b (length (map value xs)) part → (part_in b at value xs part).bits ≡ list_in b at (map value xs) (part_window b part)
   unfolding window_of
   part-bits part within =
       let order = within.order in

@@ -1,4 +1,3 @@
-pub mod Apart
 pub mod Arity
 pub mod Asked
 pub mod AskedLaws

@@ -1,4 +1,4 @@
-//! Edits of a window of a slice of elements whose bits a closure answers.
+//! Edits of a window of a slice: a closure answers what each bit becomes.
 ghost use Rattle.std.specs.Prelude.{Bool, List, map};
 ghost use Rattle.bitvec_cells.specs.base.Memory.{HasWindow, Writes, list_in};
 ghost use Rattle.bitvec_domain.specs.Asked.{CallableBelow, CallableOnBits, FillsWith, RefillsWith};

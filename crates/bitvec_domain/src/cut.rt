@@ -25,8 +25,8 @@ pub enum Cut {
 }
 
 impl Cut {
-    /// The window of some elements. Condition: they have at most `MAX_BITS` bits, and the window lies
-    /// in them.
+    /// The cut of a window of some elements. Condition: they have at most `MAX_BITS` bits, and the
+    /// window lies in them.
     pub fn of_elements<T: BitStore>(_elements: &[T], window: Window) -> Cut
         requires { HasWindow T.BITS (map T.value _elements.now) window }
         ensures value { result ≡ cut_of T.BITS window }
@@ -35,8 +35,8 @@ impl Cut {
         Cut::of(T::BITS as usize, window)
     }
 
-    /// The window of a memory of elements of that many bits. Condition: the window's end is a
-    /// `usize`.
+    /// The cut of a window of a memory whose elements have that many bits. Condition: the window's
+    /// end fits a `usize`.
     pub fn of(bits: usize, window: Window) -> Cut
         requires some { 0 < bits }
         requires end { window.start + window.len < 2 ^ 64 }

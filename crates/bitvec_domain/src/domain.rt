@@ -27,8 +27,8 @@ pub enum Domain<'a, T: BitStore, O: BitOrder> {
     },
 }
 
-/// What a [`Domain`] has where it isn't within one element: the part before the whole elements, if there is
-/// one, these, and the part behind them.
+/// What a [`Domain`] has unless it is an enclave: the part before the whole elements, if there is one, the
+/// whole elements, and the part behind them.
 pub type Region<'a, T, O> = (
     Option<PartialElement<'a, T, O>>,
     &'a [T],
@@ -36,8 +36,8 @@ pub type Region<'a, T, O> = (
 );
 
 impl<'a, T: BitStore, O: BitOrder> Domain<'a, T, O> {
-    /// The part of an element, where the view touches neither edge of the one element that it lies in:
-    /// `enclave` of bitvec.
+    /// The part of an element, if the view lies in one element and touches neither of its edges:
+    /// `bitvec`'s `enclave`.
     pub fn enclave(self) -> Option<PartialElement<'a, T, O>>
         ensures { seen_part_if result ≡ enclave_of (pieces_of self.entry) }
     {
@@ -51,8 +51,8 @@ impl<'a, T: BitStore, O: BitOrder> Domain<'a, T, O> {
         }
     }
 
-    /// The part before the whole elements, these, and the part behind them, where the view isn't within one
-    /// element: `region` of bitvec.
+    /// The part before the whole elements, the whole elements, and the part behind them, unless the view is
+    /// an enclave: `bitvec`'s `region`.
     pub fn region(self) -> Option<Region<'a, T, O>>
         ensures { option_map (λ given. (seen_part_if given.0, (given.1.now, seen_part_if given.2))) result ≡ region_of (pieces_of self.entry) }
     {

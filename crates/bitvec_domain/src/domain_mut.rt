@@ -29,8 +29,8 @@ pub enum DomainMut<'a, T: BitStore, O: BitOrder> {
     },
 }
 
-/// What a [`DomainMut`] has where it isn't within one element: the part before the whole elements, if there is
-/// one, these, and the part behind them.
+/// What a [`DomainMut`] has unless it is an enclave: the part before the whole elements, if there is one, the
+/// whole elements, and the part behind them.
 pub type RegionMut<'a, T, O> = (
     Option<PartialElementMut<'a, T, O>>,
     &'a mut [T],
@@ -38,8 +38,8 @@ pub type RegionMut<'a, T, O> = (
 );
 
 impl<'a, T: BitStore, O: BitOrder> DomainMut<'a, T, O> {
-    /// The part of an element, where the view touches neither edge of the one element that it lies in:
-    /// `enclave` of bitvec.
+    /// The part of an element, if the view lies in one element and touches neither of its edges:
+    /// `bitvec`'s `enclave`.
     pub fn enclave(self) -> Option<PartialElementMut<'a, T, O>>
         ensures { seen_part_if_mut result ≡ enclave_of (pieces_of_mut self.entry) }
     {
@@ -53,8 +53,8 @@ impl<'a, T: BitStore, O: BitOrder> DomainMut<'a, T, O> {
         }
     }
 
-    /// The part before the whole elements, these, and the part behind them, where the view isn't within one
-    /// element: `region` of bitvec.
+    /// The part before the whole elements, the whole elements, and the part behind them, unless the view is
+    /// an enclave: `bitvec`'s `region`.
     pub fn region(self) -> Option<RegionMut<'a, T, O>>
         ensures { option_map (λ given. (seen_part_if_mut given.0, (given.1.now, seen_part_if_mut given.2))) result ≡ region_of (pieces_of_mut self.entry) }
     {
@@ -85,7 +85,7 @@ pub fn domain_mut_of<T: BitStore, O: BitOrder>(
     }
 }
 
-/// A part of one element, whole elements, and again a part of one.
+/// A part of an element, whole elements, and another part of one.
 fn region<T: BitStore, O: BitOrder>(
     elements: &mut [T],
     head: Option<Part>,
@@ -106,7 +106,7 @@ fn region<T: BitStore, O: BitOrder>(
     DomainMut::Region { head, body, tail }
 }
 
-/// The bits of a part, where `cells` are the elements from the element `first` on.
+/// The bits of a part, where `elements` begin with the element `first`.
 fn part_of<T: BitStore, O: BitOrder>(
     elements: &mut [T],
     first: usize,
@@ -119,7 +119,7 @@ fn part_of<T: BitStore, O: BitOrder>(
     PartialElementMut::new(&mut elements[part.element - first], part.from, part.to)
 }
 
-/// The bits of a part, if there is one, where `cells` are the elements from the element `first` on.
+/// The bits of a part, if there is one, where `elements` begin with the element `first`.
 fn part_if<T: BitStore, O: BitOrder>(
     elements: &mut [T],
     first: usize,

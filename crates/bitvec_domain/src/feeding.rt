@@ -9,7 +9,7 @@ use bitvec_cells::store::BitStore;
 use std::hash::{Hash, Hasher};
 
 #[tactic(auto, using(crate::proofs::Steps::steps), unfolding(crate::specs::Feeding::bits_fed))]
-/// Feeds each bit of a window as a truth value, in their order, without their number. Condition: the
+/// Feeds each bit of a window in order as a truth value, and not how many there are. Condition: the
 /// memory has at most `MAX_BITS` bits, and the window lies in it.
 pub fn hash_in<T: BitStore, O: BitOrder, H: Hasher>(elements: &[T], window: Window, state: &mut H)
     requires { HasWindow T.BITS (map T.value elements.now) window }

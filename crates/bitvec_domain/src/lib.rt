@@ -1,5 +1,6 @@
-//! What a borrowed slice of elements falls into: the elements that a range of bits touches, cut at their edges, and their
-//! parts; where it comes apart; single bits of a window, references to one; and what views' hash and texts stand on.
+//! The pieces of a borrowed slice of elements: those that a range of bits touches, cut at the edges of
+//! elements, and parts of one element. Single bits of a window, and references to them.
+//! What the hashes and texts of views stand on.
 //!
 //! A struct with a first field `elements: &'a mut [T]` and ghost fields lends these elements, or a range of them, by a
 //! method of one expression. No proof of that is generated, so it stands here once for all such structs: a lender above
@@ -7,7 +8,6 @@
 #![tactic(auto)]
 
 mod answering;
-mod apart;
 mod bits;
 mod cut;
 mod domain;
@@ -22,8 +22,12 @@ mod reference_mut;
 mod reference_texts;
 mod values;
 
+/// Items of `bitvec_base` that crates above use.
+pub mod base {
+    pub use bitvec_cells::base::comes_apart;
+}
+
 pub use answering::{fill_with_in, for_each_in};
-pub use apart::comes_apart;
 pub use bits::{bit_in, replace_in, set_in, swap_in};
 pub use cut::Cut;
 pub use domain::{Domain, Region, domain_of};

@@ -1,4 +1,4 @@
-//! Parts of one element that is written.
+//! Parts of one element that is borrowed for writing.
 ghost use Rattle.std.specs.Prelude.{◌≡◌, ◌≤◌, bit_and, false, map, not, replicate, slice_range};
 ghost use Rattle.bitvec_cells.specs.base.Memory.{element_bits};
 ghost use Rattle.bitvec_cells.specs.base.Order.{mask_of};
@@ -51,8 +51,8 @@ impl<'a, T: BitStore, O: BitOrder> PartialElementMut<'a, T, O> {
         self.element.and(self.mask)
     }
 
-    /// Gives the part the bits that `value` has at its indices; all other bits of the element
-    /// stay, and all others of `value` are passed over.
+    /// Gives the part the bits that `value` has at its indices; all other bits of the element stay,
+    /// and all others of `value` are ignored.
     pub fn store_value(&mut self, value: T)
         ensures { WritesPart self.old self.new
             (slice_range (element_bits T.BITS O.at (T.value value)) (seen_part_mut self.old).head (seen_part_mut self.old).tail) }

@@ -28,8 +28,8 @@ impl<'a, T: BitStore, O: BitOrder> Clone for BitRef<'a, T, O> {
 impl<'a, T: BitStore, O: BitOrder> BitRef<'a, T, O> {
     ghost use Rattle.bitvec_domain.specs.References.{bit_of_ref};
 
-    /// A reference to a bit that is this. `bitvec` has no such call: views make their references by
-    /// it.
+    /// A reference to a bit of this value. `bitvec` has no such call; views make their references
+    /// by it.
     #[doc(hidden)]
     pub fn new(bit: bool) -> Self
         ensures { bit_of_ref result ≡ bit }

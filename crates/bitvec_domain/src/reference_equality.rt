@@ -1,4 +1,4 @@
-//! `==` of references to a bit: that of the bits.
+//! `==` of references to a bit compares the bits.
 ghost use Rattle.std.proofs.Common.{rules};
 ghost use Rattle.std.specs.Bool.{beq};
 ghost use Rattle.std.specs.Cmp.Rules.{comparing};

@@ -25,7 +25,7 @@ impl<'a, T: BitStore, O: BitOrder> BitRefMut<'a, T, O> {
     ghost use Rattle.bitvec_domain.specs.References.{WritesBit, bit_of_ref_mut, elements_left, elements_of_ref_mut, name_of_ref_mut, place_of_ref_mut, window_of_ref_mut};
 
     /// The bit at a place of the elements' bits. Condition: the place is one of them, and they are at
-    /// most `MAX_BITS`. `bitvec` has no such call: views make their references by it.
+    /// most `MAX_BITS`. `bitvec` has no such call; views make their references by it.
     #[tactic(auto, unfolding(crate::specs::References::memory_of_ref_mut, crate::specs::References::bit_of_ref_mut))]
     #[doc(hidden)]
     pub fn new(elements: &'a mut [T], place: usize) -> Self

@@ -1,4 +1,4 @@
-//! The texts of references to a bit: those of the bit.
+//! The texts of a reference to a bit are those of the bit.
 ghost use Rattle.std.specs.Prelude.{Some};
 ghost use Rattle.bitvec_domain.specs.References.{bit_of_ref, bit_of_ref_mut, truth_text};
 

@@ -9,9 +9,9 @@ use bitvec_cells::base::BitOrder;
 use bitvec_cells::store::BitStore;
 use std::iter::FusedIterator;
 
-/// The values of the elements that a view touches, in their order and from both ends; of an element
-/// that it touches in part the bits outside the part are 0. `values` and `into_iter` of [`Domain`]
-/// make it.
+/// The values of the elements that a view touches, in their order and from both ends; in an element
+/// that it touches in part, the bits outside the part are 0. `values` and `into_iter` of [`Domain`]
+/// return it.
 ///
 /// Contracts see it as `values_left`, the numbers of the values that are still to come.
 #[derive(Drop)]
@@ -55,7 +55,7 @@ impl<'a, T: BitStore, O: BitOrder> IntoIterator for Domain<'a, T, O> {
     }
 }
 
-// the value of the part, if there is one, which is none afterwards
+// takes the part, if there is one, and gives its value
 fn take_value<'a, T: BitStore, O: BitOrder>(
     part: &mut Option<PartialElement<'a, T, O>>,
 ) -> Option<T>

@@ -32,7 +32,7 @@ pub trait BitEdits<T: BitStore, O: SliceOrder>: ViewMut<T, O> {
     /// Makes the bit at an index `bit`. Condition: the index is below `len`.
     ///
     /// ```
-    /// let mut view = BitSliceMut::<u16, Lsb0>::from_slice_unchecked_mut(&mut cells);
+    /// let mut view = BitSliceMut::<u16, Lsb0>::from_slice_unchecked_mut(&mut elements);
     /// view.set(17, true);
     /// assert!(rt; view.into_slice()[1] == 2);
     /// ```
@@ -72,8 +72,8 @@ pub trait BitEdits<T: BitStore, O: SliceOrder>: ViewMut<T, O> {
     /// Makes each bit `bit`.
     ///
     /// ```
-    /// let mut cells = [0u8];
-    /// let mut slots = BitSliceMut::<u8, Lsb0>::from_slice_mut(&mut cells);
+    /// let mut elements = [0u8];
+    /// let mut slots = BitSliceMut::<u8, Lsb0>::from_slice_mut(&mut elements);
     /// slots.fill(true);
     /// ```
     final fn fill(&mut self, bit: bool)

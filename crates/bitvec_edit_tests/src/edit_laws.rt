@@ -188,9 +188,9 @@ fn bits_by_closures(rt: HostRuntime) {
 
 #[test]
 fn edits_that_undo_one_another(rt: HostRuntime) {
-    let mut cells = [0x34u8, 0x56];
-    inverted_twice::<u8, Lsb0>(&mut cells);
-    reversed_twice::<u8, Lsb0>(&mut cells);
-    rotated_back::<u8, Lsb0>(&mut cells, 11);
-    assert!(rt; cells == [0x34, 0x56]);
+    let mut elements = [0x34u8, 0x56];
+    inverted_twice::<u8, Lsb0>(&mut elements);
+    reversed_twice::<u8, Lsb0>(&mut elements);
+    rotated_back::<u8, Lsb0>(&mut elements, 11);
+    assert!(rt; elements == [0x34, 0x56]);
 }

@@ -8,8 +8,8 @@ use bitvec_owned::query::engine::SliceOrder;
 use bitvec_owned::query::slice::{BitSlice, BitSliceMut};
 
 /// Fills the bits `from` up to `to`, if there are as many.
-fn fill_range<O: SliceOrder>(cells: &mut [u8; 3], from: usize, to: usize) -> bool {
-    let mut view = BitSliceMut::<u8, O>::from_slice_mut(cells);
+fn fill_range<O: SliceOrder>(elements: &mut [u8; 3], from: usize, to: usize) -> bool {
+    let mut view = BitSliceMut::<u8, O>::from_slice_mut(elements);
     match view.get_mut(from..to) {
         Some(mut part) => {
             part.fill(true);
@@ -21,20 +21,20 @@ fn fill_range<O: SliceOrder>(cells: &mut [u8; 3], from: usize, to: usize) -> boo
 
 #[test]
 fn fill_leaves_the_neighbours(rt: HostRuntime) {
-    let mut cells = [0u8, 0, 0];
-    assert!(rt; fill_range::<Lsb0>(&mut cells, 3, 21));
-    assert!(rt; cells == [0xF8, 0xFF, 0x1F]);
-    let mut cells = [0u8, 0, 0];
-    assert!(rt; fill_range::<Msb0>(&mut cells, 3, 21));
-    assert!(rt; cells == [0x1F, 0xFF, 0xF8]);
-    let mut cells = [0u8, 0, 0];
-    assert!(rt; fill_range::<HiLo>(&mut cells, 0, 3));
-    assert!(rt; cells == [0x70, 0, 0]);
+    let mut elements = [0u8, 0, 0];
+    assert!(rt; fill_range::<Lsb0>(&mut elements, 3, 21));
+    assert!(rt; elements == [0xF8, 0xFF, 0x1F]);
+    let mut elements = [0u8, 0, 0];
+    assert!(rt; fill_range::<Msb0>(&mut elements, 3, 21));
+    assert!(rt; elements == [0x1F, 0xFF, 0xF8]);
+    let mut elements = [0u8, 0, 0];
+    assert!(rt; fill_range::<HiLo>(&mut elements, 0, 3));
+    assert!(rt; elements == [0x70, 0, 0]);
 }
 
 /// Flips the bits 16 to 79, and of these flips 24 to 39 again.
-fn invert_twice(cells: &mut [u32; 3]) {
-    let view = BitSliceMut::<u32, Lsb0>::from_slice_mut(cells).into_part(16..80);
+fn invert_twice(elements: &mut [u32; 3]) {
+    let view = BitSliceMut::<u32, Lsb0>::from_slice_mut(elements).into_part(16..80);
     let mut part = !view;
     if let Some(middle) = part.get_mut(24..40) {
         let _middle = !middle;
@@ -43,18 +43,18 @@ fn invert_twice(cells: &mut [u32; 3]) {
 
 #[test]
 fn bits_flipped_twice_are_as_before(rt: HostRuntime) {
-    let mut cells = [0u32; 3];
-    invert_twice(&mut cells);
-    assert!(rt; cells == [0xFFFF_0000, 0xFF00_00FF, 0x0000_FFFF]);
-    let view = BitSlice::<u32, Lsb0>::from_slice(&cells);
+    let mut elements = [0u32; 3];
+    invert_twice(&mut elements);
+    assert!(rt; elements == [0xFFFF_0000, 0xFF00_00FF, 0x0000_FFFF]);
+    let view = BitSlice::<u32, Lsb0>::from_slice(&elements);
     assert!(rt; (view.count_ones(), view.count_zeros()) == (48, 48));
 }
 
 /// Fills the bits before an index, flips the second byte, and then sets its first bit.
-fn edit_parts(cells: &mut [u8; 2], index: usize)
+fn edit_parts(elements: &mut [u8; 2], index: usize)
     requires { index ≤ 16 }
 {
-    let mut view = BitSliceMut::<u8, Lsb0>::from_slice_mut(cells);
+    let mut view = BitSliceMut::<u8, Lsb0>::from_slice_mut(elements);
     {
         let mut front = view.part_mut(0..index);
         front.fill(true);
@@ -67,9 +67,9 @@ fn edit_parts(cells: &mut [u8; 2], index: usize)
 
 #[test]
 fn a_part_for_writing_leaves_the_others(rt: HostRuntime) {
-    let mut cells = [0x00u8, 0x80];
-    edit_parts(&mut cells, 10);
-    assert!(rt; cells == [0xFF, 0x7D]);
+    let mut elements = [0x00u8, 0x80];
+    edit_parts(&mut elements, 10);
+    assert!(rt; elements == [0xFF, 0x7D]);
 }
 
 /// Edits the first five bits, by one call a number.

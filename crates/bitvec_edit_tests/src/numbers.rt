@@ -21,11 +21,11 @@ fn load_middle<O: FieldOrder>(bytes: &[u8; 2], le: bool) -> u8 {
 
 #[test]
 fn a_number_is_read_from_either_end(rt: HostRuntime) {
-    let cells = [0xB4u8, 0x6E];
+    let elements = [0xB4u8, 0x6E];
     for (le, by_lsb0, by_msb0) in [(true, 0xEB, 0x64), (false, 0xBE, 0x46)] {
         let found = [
-            load_middle::<Lsb0>(&cells, le),
-            load_middle::<Msb0>(&cells, le),
+            load_middle::<Lsb0>(&elements, le),
+            load_middle::<Msb0>(&elements, le),
         ];
         assert!(rt; found == [by_lsb0, by_msb0]);
     }
@@ -58,29 +58,29 @@ fn load_and_store(bytes: &mut [u8; 2]) {
 #[test]
 fn a_number_comes_back(rt: HostRuntime) {
     for (le, bytes) in [(true, [0x01, 0xC0]), (false, [0x03, 0x40])] {
-        let mut cells = [0u8, 0];
-        assert!(rt; (store_negative(&mut cells, le), cells) == (-3, bytes));
+        let mut elements = [0u8, 0];
+        assert!(rt; (store_negative(&mut elements, le), elements) == (-3, bytes));
     }
-    let mut cells = [0x23, 0x45];
-    load_and_store(&mut cells);
-    assert!(rt; cells == [0x23, 0x45]);
+    let mut elements = [0x23, 0x45];
+    load_and_store(&mut elements);
+    assert!(rt; elements == [0x23, 0x45]);
 }
 
 #[test]
 fn load_and_store_are_the_lower_end_first(rt: HostRuntime) {
-    let mut cells = [0u16, 0];
-    let mut view = BitSliceMut::<u16, Lsb0>::from_slice_mut(&mut cells);
+    let mut elements = [0u16, 0];
+    let mut view = BitSliceMut::<u16, Lsb0>::from_slice_mut(&mut elements);
     view.store::<u32>(0x0123_4567);
     assert!(rt; view.load::<u32>() == 0x0123_4567);
-    assert!(rt; cells == [0x4567, 0x0123]);
+    assert!(rt; elements == [0x4567, 0x0123]);
 }
 
 /// Stores an integer in seven bits, the first of them the last of an element, and loads it.
 fn through_seven_bits<I: Integral>(value: I) -> I
     requires { 7 ≤ I.BITS }
 {
-    let mut cells = [0u8; 2];
-    let mut part = BitSliceMut::<u8, Lsb0>::from_slice_mut(&mut cells).into_part(7..14);
+    let mut elements = [0u8; 2];
+    let mut part = BitSliceMut::<u8, Lsb0>::from_slice_mut(&mut elements).into_part(7..14);
     stored_then_loaded_le::<u8, Lsb0, I>(&mut part, value)
 }
 
@@ -98,8 +98,8 @@ fn integers_of_each_type_keep_their_lowest_bits(rt: HostRuntime) {
 const NUMBERS: [u8; 8] = [0, 4, 8, 12, 16, 20, 24, 28];
 
 /// Stores the numbers in the chunks of five bits, the first segment highest, and gives what these held.
-fn store_numbers(cells: &mut [u8; 5]) -> [u8; 8] {
-    let mut view = BitSliceMut::<u8, Msb0>::from_slice_mut(cells);
+fn store_numbers(elements: &mut [u8; 5]) -> [u8; 8] {
+    let mut view = BitSliceMut::<u8, Msb0>::from_slice_mut(elements);
     let mut chunks = view.chunks_mut(5);
     let mut held = [0xFF; 8];
     for (old, number) in held.iter_mut().zip(NUMBERS) {
@@ -115,8 +115,8 @@ fn store_numbers(cells: &mut [u8; 5]) -> [u8; 8] {
 
 #[test]
 fn chunks_of_five_bits_hold_their_numbers(rt: HostRuntime) {
-    let mut cells = [0u8; 5];
-    assert!(rt; store_numbers(&mut cells) == [0; 8]);
-    assert!(rt; cells == [0x01, 0x10, 0xC8, 0x53, 0x1C]);
-    assert!(rt; store_numbers(&mut cells) == NUMBERS);
+    let mut elements = [0u8; 5];
+    assert!(rt; store_numbers(&mut elements) == [0; 8]);
+    assert!(rt; elements == [0x01, 0x10, 0xC8, 0x53, 0x1C]);
+    assert!(rt; store_numbers(&mut elements) == NUMBERS);
 }

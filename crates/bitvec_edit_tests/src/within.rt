@@ -20,15 +20,15 @@ fn made(kind: usize, bit: bool, other: bool) -> bool {
 /// Whether the bits `from` up to `to`, combined with those from `dest` on by the call of a number, leave of 128
 /// bits what a plain list has then.
 fn is_plain<T: BitStore, O: SliceOrder>(
-    cells: &mut [T],
+    elements: &mut [T],
     kind: usize,
     from: usize,
     to: usize,
     dest: usize,
 ) -> bool
-    requires { T.BITS * length cells.old ≤ max_bits }
+    requires { T.BITS * length elements.old ≤ max_bits }
 {
-    let mut view = BitSliceMut::<T, O>::from_slice_mut(cells);
+    let mut view = BitSliceMut::<T, O>::from_slice_mut(elements);
     let mut plain = [false; 128];
     for index in 0..128 {
         plain[index] = index % 7 < 3 || index % 11 == 5;

@@ -1,16 +1,14 @@
 -- Which places of two words are left, bit after bit of the needle.
-use Rattle.std.specs.Prelude.{◌≡◌, ◌≢◌, ℕ, ◌+◌, ◌-◌, ◌*◌, ◌^◌, ◌<◌, ◌≤◌, ◌&&◌, ◌==◌, zero, suc, not, Bool, true, false, List, ◌++◌, length, replicate, slice_index_or, bit_and, drop, take, refl}
-use Rattle.std.specs.Int.{bit_at}
+use Rattle.std.specs.Prelude.{◌≡◌, ◌≢◌, ℕ, ◌+◌, ◌-◌, ◌^◌, ◌<◌, ◌≤◌, ◌&&◌, not, Bool, true, false, List, ◌++◌, length, replicate, slice_index_or, bit_and, drop, take, refl}
 use Rattle.std.proofs.Common.{arith, sym, ◌∙◌, ap, ⊎_elim}
 use Rattle.std.proofs.lemmas.Bool.{cases_lt}
 use Rattle.std.proofs.lemmas.List.{get_or-append_right, get_or-map, get_or-replicate, get_or_append_left, places}
-use Rattle.std.proofs.lemmas.Nat.{pow_pos}
-use Rattle.std.proofs.lemmas.Nat.Bits.{and_pow, bit_at-lt}
 use Rattle.std.proofs.Math.ListN.{get_or-eq_default}
+use Rattle.bitvec_elements.specs.base.FoundLaws.{bit-clear, bit-set, masked-none, masked-one}
 use Rattle.bitvec_elements.specs.base.Lists.{shifted_start}
 use Rattle.bitvec_elements.specs.base.ListsLaws.{get-combined}
 use Rattle.bitvec_elements.specs.base.Memory.{element_bits}
-use Rattle.bitvec_elements.specs.base.MemoryLaws.{get-element_bits, length-element_bits}
+use Rattle.bitvec_elements.specs.base.MemoryLaws.{length-element_bits}
 use Rattle.bitvec_elements.specs.base.Order.{Permutes}
 use Rattle.bitvec_elements.specs.base.PartLaws.{element-all, element-none}
 use Rattle.bitvec_elements.specs.cells.ElementLaws.{element-flipped}
@@ -19,24 +17,12 @@ use Rattle.bitvec_elements.specs.Candidates.{HasBitsFrom, HasStarts}
 
 -- ---- the bit of a word that a mask has
 
-tested_one : (c w : ℕ) → c < 2 → 0 < w → c * w ≢ 0 → (c == 1) ≡ true
-tested_one zero w h some told = let none : 0 * w ≡ 0 = omega arith in absurd (told none)
-tested_one (suc zero) w h some told = refl
-tested_one (suc (suc c)) w h some told = absurd (omega arith)
-
-tested_none : (c w : ℕ) → c < 2 → 0 < w → c * w ≡ 0 → (c == 1) ≡ false
-tested_none zero w h some told = refl
-tested_none (suc zero) w h some told = absurd (omega arith)
-tested_none (suc (suc c)) w h some told = absurd (omega arith)
-
 module _ (at : ℕ → ℕ → ℕ) (word i : ℕ) (below : i < 64) where
   pub bit-tested : bit_and word (2 ^ at 64 i) ≢ 0 → slice_index_or (element_bits 64 at word) i false ≡ true
-  bit-tested told =
-      get-element_bits 64 at word i false below ∙ tested_one (bit_at word (at 64 i)) (2 ^ at 64 i) (bit_at-lt word (at 64 i)) (pow_pos (at 64 i)) (λ none. told (and_pow word (at 64 i) ∙ none))
+  bit-tested told = bit-set 64 at word i below (masked-one word (at 64 i) (bit_and word (2 ^ at 64 i)) refl told)
 
   pub bit-not_tested : bit_and word (2 ^ at 64 i) ≡ 0 → slice_index_or (element_bits 64 at word) i false ≡ false
-  bit-not_tested told =
-      get-element_bits 64 at word i false below ∙ tested_none (bit_at word (at 64 i)) (2 ^ at 64 i) (bit_at-lt word (at 64 i)) (pow_pos (at 64 i)) (sym (and_pow word (at 64 i)) ∙ told)
+  bit-not_tested told = bit-clear 64 at word i below (masked-none word (at 64 i) (bit_and word (2 ^ at 64 i)) refl told)
 
 -- no bit of 0 is 1
 pub no-bit : (at : ℕ → ℕ → ℕ) (word i : ℕ) → i < 64 → word ≡ 0 → slice_index_or (element_bits 64 at word) i false ≡ false

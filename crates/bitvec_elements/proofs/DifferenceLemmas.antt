@@ -7,7 +7,7 @@ use Rattle.std.proofs.lemmas.Bool.{cases_lt, false_from_ne_true}
 use Rattle.std.proofs.lemmas.Bool.Decides.{nat_tests}
 use Rattle.std.proofs.lemmas.List.{places}
 use Rattle.bitvec_elements.specs.Difference.{DiffersFrom}
-use Rattle.bitvec_elements.specs.base.CompareLaws.{SameBelow, order-differ, same-equal}
+use Rattle.bitvec_elements.specs.base.CompareLaws.{SameBelow, differs-apart, order-differ, same-equal}
 use Rattle.bitvec_elements.specs.base.declared.window.Window.{Window}
 use Rattle.bitvec_elements.specs.base.Lists.{differs, first_place, same_bits}
 use Rattle.bitvec_elements.specs.base.ListsLaws.{get-combined, same_bits-decides}
@@ -27,12 +27,6 @@ alike false false same = refl
 alike false true same = absurd (same refl)
 alike true false same = absurd (same refl)
 alike true true same = refl
-
-unlike : (x y : Bool) → differs x y ≡ true → x ≢ y
-unlike false false told e = absurd cc
-unlike false true told e = absurd cc
-unlike true false told e = absurd cc
-unlike true true told e = absurd cc
 
 -- ---- lists with zeros behind them
 
@@ -76,7 +70,7 @@ module _ (at : ℕ → ℕ → ℕ) (v w n : ℕ) (xs ys : List Bool) (xs-long :
         omega arith
 
     found_apart : slice_index_or (padded 64 xs) i false ≢ slice_index_or (padded 64 ys) i false
-    found_apart = unlike _ _ (sym (word_bit i found_below) ∙ first_place-bit true (element_bits 64 at (bit_xor v w)) i found)
+    found_apart = differs-apart _ _ (sym (word_bit i found_below) ∙ first_place-bit true (element_bits 64 at (bit_xor v w)) i found)
 
     pub words-inside : i < n
     words-inside =

@@ -2,7 +2,7 @@
 use borrow.Rule.Slice.PartMut.{post_of, put_mid}
 use Rattle.std.specs.Prelude.{◌≡◌, ◌≢◌, ℕ, ◌+◌, ◌-◌, ◌*◌, ◌/◌, ◌%◌, ◌<◌, ◌≤◌, Bool, List, ◌++◌, length, map, take, drop, slice_index, slice_index_or, slice_range, refl}
 use Rattle.std.proofs.Common.{arith, sym, ap, ◌∙◌}
-use Rattle.std.proofs.Math.Nat.{add-mul, le_of_mul-le-mul_right, mul-le-mul_right}
+use Rattle.std.proofs.Math.Nat.{add-mul, mul-le-mul_right}
 use Rattle.std.proofs.Math.Seq.{drop-drop}
 use Rattle.std.proofs.lemmas.List.{drop-map, get_or-map, length-map, map-append, take-map}
 use Rattle.std.proofs.lemmas.Nat.{div-add-mod'}
@@ -16,7 +16,9 @@ use Rattle.bitvec_elements.specs.base.Spans.{HasSpan}
 use Rattle.bitvec_elements.specs.base.Window.{window_of, write_at}
 use Rattle.bitvec_elements.specs.base.WriteLaws.{length-slice_range, length-write_at, range-write_at, range-write_at_after, range-write_at_before}
 use Rattle.bitvec_elements.specs.base.WritesLaws.{Writes-is, length-list}
+use Rattle.bitvec_elements.specs.words.Elements.{elements_window}
 use Rattle.bitvec_elements.specs.words.FieldLaws.{Writes-none, element_of, list-part}
+use Rattle.bitvec_elements.specs.words.WholeLaws.{HasWindow-part, Writes-same, elements-inside, list-same}
 
 -- elements that two memories have in common
 same-part : (b : ℕ) (at : ℕ → ℕ → ℕ) (xs zs : List ℕ) (a e : ℕ) → 0 < b → a ≤ e → e ≤ length xs → e ≤ length zs → slice_range zs a e ≡ slice_range xs a e
@@ -58,14 +60,11 @@ memory-write_at b at xs new first some fits =
     ∙ ap (λ (l : List Bool). take (first * b) old ++ (memory_bits b at new ++ l)) back
 
 -- whole elements from a window's first bit on lie in the memory
-elements-inside : (b : ℕ) (xs : List ℕ) (window : Window) (n : ℕ) → 0 < b → HasWindow b xs window → window.start % b ≡ 0 → n % b ≡ 0 → n ≤ window.len → window.start / b + n / b ≤ length xs
-elements-inside b xs window n some has edge whole short =
+whole-inside : (b : ℕ) (xs : List ℕ) (window : Window) (n : ℕ) → 0 < b → HasWindow b xs window → window.start % b ≡ 0 → n % b ≡ 0 → n ≤ window.len → window.start / b + n / b ≤ length xs
+whole-inside b xs window n some has edge whole short =
     let place = div-add-mod' window.start b in
     let parts = div-add-mod' n b in
-    let start = has.within.start in
-    let len = has.within.len in
-    let ends = add-mul (window.start / b) (n / b) b in
-    le_of_mul-le-mul_right {m = window.start / b + n / b} {n = length xs} {k = b} (omega arith) some
+    elements-inside b xs (window.start / b) (n / b) some (HasWindow-part b xs window (elements_window b (window.start / b) (n / b)) has (omega arith) (omega arith))
 
 -- whole elements of a window hold those of another
 pub Writes-elements : (b : ℕ) (at : ℕ → ℕ → ℕ) (xs ys : List ℕ) (to from : Window) → 0 < b → HasSpan b xs ys to from → to.start % b ≡ 0 → from.start % b ≡ 0 → to.len % b ≡ 0
@@ -80,8 +79,8 @@ Writes-elements b at xs ys to from some span edge right_edge whole =
     let parts = div-add-mod' to.len b in
     let lengths = span.lengths in
     let ends = add-mul source count b in
-    let inside = elements-inside b ys from to.len some span.beside right_edge whole (omega arith) in
-    let fits = elements-inside b xs to to.len some span.window edge whole (omega arith) in
+    let inside = whole-inside b ys from to.len some span.beside right_edge whole (omega arith) in
+    let fits = whole-inside b xs to to.len some span.window edge whole (omega arith) in
     let new = slice_range ys source (source + count) in
     let long = length-slice_range ys source (source + count) inside in
     let room : first + length new ≤ length xs = omega arith in
@@ -112,7 +111,7 @@ pub elements-copied : {A : Type 0} (value : A → ℕ) (b w : ℕ) (at : ℕ →
     → Writes b at (map value left) (map value (put_mid (to.start / w) (to.start / w + to.len / w - to.start / w) left new)) to (list_in b at (map value right) from)
 elements-copied value b w at left right new to from some same span edge right_edge whole is =
     let wrote = Writes-elements b at (map value left) (map value right) to from some span edge right_edge whole in
-    let inside = elements-inside b (map value right) from to.len some span.beside right_edge whole (let lengths = span.lengths in omega arith) in
+    let inside = whole-inside b (map value right) from to.len some span.beside right_edge whole (let lengths = span.lengths in omega arith) in
     let ends = length-map right value in
     rw same (
     let long = ap length is ∙ ap (λ (n : ℕ). length (slice_range right (from.start / n) (from.start / n + to.len / n))) same ∙ length-slice_range right (from.start / b) (from.start / b + to.len / b) (omega arith) in
@@ -121,11 +120,6 @@ elements-copied value b w at left right new to from some same span edge right_ed
     rw (numbers, part) wrote)
 
 -- ---- the bits of one element
-
--- the same windows, told in another way
-copied-same : (b : ℕ) (at : ℕ → ℕ → ℕ) (old new other : List ℕ) (part source to from : Window) → to.start ≡ part.start → to.len ≡ part.len → from.start ≡ source.start → from.len ≡ source.len
-    → Writes b at old new part (list_in b at other source) → Writes b at old new to (list_in b at other from)
-copied-same b at old new other part source to from start len source_start source_len copies = rw (start, len, source_start, source_len) copies
 
 -- none
 pub none-copied : (b : ℕ) (at : ℕ → ℕ → ℕ) (xs ys : List ℕ) (to from : Window) → HasSpan b xs ys to from → to.len ≡ 0 → Writes b at xs xs to (list_in b at ys from)
@@ -148,5 +142,5 @@ part-copied value b w at xs mid right to from part v some same span more phases 
     let piece : Part = record (first_part_of b to) { element = from.start / b } in
     let source = list-part b at ys piece (record { element = inside; order = omega arith; bound = omega arith }) in
     let stored : Writes b at xs mid (part_window b (first_part_of b to)) (slice_range (element_bits b at (slice_index ys (from.start / b))) (first_part_of b to).from (first_part_of b to).to) = rw (is, same, number) at writes in
-    copied-same b at xs mid ys (part_window b (first_part_of b to)) (part_window b piece) to from (omega arith) (omega arith) (omega arith) (omega arith)
-    (Writes-is b at xs mid (part_window b (first_part_of b to)) _ _ stored (sym source))
+    Writes-same (part_window b (first_part_of b to)) to (omega arith) (omega arith)
+    (Writes-is b at xs mid (part_window b (first_part_of b to)) _ _ stored (sym (list-same b at ys (part_window b piece) from (omega arith) (omega arith) ∙ source)))

@@ -1,4 +1,4 @@
-//! Where some bits may stand among others, 64 indices at a time.
+//! Where a needle's bits may occur among others, 64 indices at a time.
 ghost use Rattle.std.specs.Prelude.{◌≡◌, ℕ, ◌<◌, ◌≤◌, false, slice_index_or, true};
 ghost use Rattle.bitvec_engine.specs.base.Memory.{element_bits};
 ghost use Rattle.bitvec_elements.specs.Candidates.{HasStarts};
@@ -9,8 +9,8 @@ use bitvec_engine::words::{WordOrder, joined, toward_start};
 /// How many bits of the needle [`candidates`] compares before it asks whether any place is left.
 const PASSES_PER_TEST: usize = 8;
 
-/// A word in which each of the first 64 indices of two words side by side is 1 from which they have
-/// the first `count` bits of the needle. Condition: `count` is at most 64.
+/// A word with a 1 at each of 64 indices from which two words side by side have the first `count`
+/// bits of the needle. Condition: `count` is at most 64.
 #[inline(always)]
 pub(crate) fn candidates<W: WordOrder>(low: u64, high: u64, needle: u64, count: usize) -> u64
     requires { count ≤ 64 }
@@ -30,7 +30,7 @@ pub(crate) fn candidates<W: WordOrder>(low: u64, high: u64, needle: u64, count: 
     starts
 }
 
-/// A word in which each bit is 1 that is as the first bit of another.
+/// A word with a 1 for each bit that equals the first bit of another.
 #[inline(always)]
 fn alike<W: BitOrder>(bits: u64, wanted: u64) -> u64
     ensures { (i : ℕ) → i < 64 → slice_index_or (element_bits 64 W.at bits) i false ≡ slice_index_or (element_bits 64 W.at wanted) 0 false

@@ -1,4 +1,4 @@
-//! Each bit of a window of a slice of elements with the one at its index in another.
+//! Each bit of a window of a slice combined with the bit at its index in another window.
 ghost use Rattle.std.specs.Prelude.{map};
 ghost use Rattle.bitvec_engine.specs.base.Lists.{combined};
 ghost use Rattle.bitvec_engine.specs.base.Memory.{HasWindow, Writes, list_in};
@@ -11,9 +11,10 @@ use bitvec_engine::store::BitStore;
 use bitvec_engine::words::WordOrder;
 use bitvec_engine::{BitOp, Direction, SliceOrder, bits_op, direction_of, load_bits, store_bits};
 
-/// Replaces each bit of the left window by what the operator makes of it and the one at its index in
-/// the right window, of elements of any type and order, which counts as 0 past that window's end.
-/// Condition: each memory has at most `MAX_BITS` bits, and each window lies in its memory.
+/// Replaces each bit of the left window by what the operator makes of it and the bit at its index in
+/// the right window, which may have elements of any type and order. Past its end the right window
+/// counts as 0. Condition: each memory has at most `MAX_BITS` bits, and each window lies in its
+/// memory.
 pub fn combine_in<T: BitStore, O: BitOrder, U: BitStore, P: BitOrder>(
     left: &mut [T],
     left_window: Window,
@@ -75,9 +76,9 @@ fn combine_words<W: WordOrder, T: BitStore, U: BitStore, P: BitOrder>(
     }
 }
 
-/// Replaces each bit of the left window by what the operator makes of it and the one at its index in
-/// the right window, of elements of the same type and order, as the order does it. Condition: as for
-/// [`combine_in`].
+/// Replaces each bit of the left window by what the operator makes of it and the bit at its index in
+/// the right window, whose elements have the same type and order, as the order does it. Condition:
+/// as for [`combine_in`].
 #[inline(always)]
 pub fn combine_block_in<T: BitStore, O: SliceOrder>(
     left: &mut [T],

@@ -16,15 +16,15 @@ use bitvec_engine::words::{WORD_BITS, WordOrder};
 use bitvec_engine::{Direction, SliceOrder, direction_of, elements_eq, get_bit};
 use std::cmp::Ordering;
 
-/// How many bits [`compare_block_in`] passes at a time where they are equal.
+/// How many equal bits [`compare_block_in`] passes at a time.
 const STRETCH: usize = 4096;
 
-/// Below how many bits a window is a short one to [`eq_blocks_in`].
+/// Windows of fewer bits are short ones to [`eq_blocks_in`].
 const SHORT_BITS: usize = 2048;
 
-/// Whether two windows have the same bits: by whole elements where both have elements of one width and
-/// orders that run the same way, as of one type, and else by words. Condition: each memory has at most
-/// `MAX_BITS` bits, and each window lies in its memory.
+/// Whether two windows have the same bits. Where both have elements of one width and orders that run
+/// the same way, they are compared by whole elements, as of one type; otherwise by words. Condition:
+/// each memory has at most `MAX_BITS` bits, and each window lies in its memory.
 pub fn eq_in<T: BitStore, O: BitOrder, U: BitStore, P: BitOrder>(
     left: &[T],
     left_window: Window,
@@ -53,7 +53,7 @@ pub fn eq_in<T: BitStore, O: BitOrder, U: BitStore, P: BitOrder>(
     common_bits::<T, O, U, P>(left, left_window, right, right_window) == left_window.len
 }
 
-/// Whether two windows have the same bits, of elements of the same type and order, as the order
+/// Whether two windows of elements of the same type and order have the same bits, as the order
 /// compares them. Condition: as for [`eq_in`].
 #[inline(always)]
 pub fn eq_block_in<T: BitStore, O: SliceOrder>(
@@ -109,7 +109,7 @@ pub fn eq_blocks_in<T: BitStore, O: SliceOrder>(
     O::block_eq::<Shared<T>, Shared<T>>(&mut left, left_window, &mut right, right_window)
 }
 
-/// [`eq_block_in`] of windows of as many bits, at most 64, as words.
+/// [`eq_block_in`] of two windows of the same length, at most 64 bits, as words.
 #[inline(always)]
 fn eq_few<W: WordOrder, T: BitStore>(
     left: &[T],
@@ -125,7 +125,8 @@ fn eq_few<W: WordOrder, T: BitStore>(
     few_word::<W, T>(left, left_window) == few_word::<W, T>(right, right_window)
 }
 
-/// How the bits of two windows compare, as lists of truth values do. Condition: as for [`eq_in`].
+/// How the bits of two windows compare, in the order of lists of truth values. Condition: as for
+/// [`eq_in`].
 pub fn compare_in<T: BitStore, O: BitOrder, U: BitStore, P: BitOrder>(
     left: &[T],
     left_window: Window,
@@ -148,9 +149,9 @@ pub fn compare_in<T: BitStore, O: BitOrder, U: BitStore, P: BitOrder>(
     left_window.len.cmp(&right_window.len)
 }
 
-/// How the bits of two windows compare, as lists of truth values do, of elements of the same type
-/// and order. It passes equal stretches as the order compares them, and goes by words from the first
-/// stretch on that differs. Condition: as for [`eq_in`].
+/// How the bits of two windows of elements of the same type and order compare, in the order of lists
+/// of truth values. The order's own comparison passes equal stretches; from the first stretch that
+/// differs it goes by words. Condition: as for [`eq_in`].
 pub fn compare_block_in<T: BitStore, O: SliceOrder>(
     left: &[T],
     left_window: Window,

@@ -10,8 +10,8 @@ use bitvec_engine::store::BitStore;
 use bitvec_engine::{Direction, SliceOrder, direction_of};
 use std::marker::PhantomData;
 
-/// The accessor of a slice whose elements are read as those of another type of as many bits. Where
-/// the two types are one, the machine code has no conversion, and it reads as [`Shared`] does.
+/// An accessor that reads the elements of a slice as those of another type with as many bits. Where
+/// the two types are the same, the machine code has no conversion, and it reads as [`Shared`] does.
 #[derive(Drop)]
 pub(crate) struct Converted<'a, T: BitStore, U: BitStore> {
     cells: Shared<'a, U>,
@@ -59,7 +59,7 @@ impl<'a, T: BitStore, U: BitStore> CellsRead for Converted<'a, T, U> {
     }
 }
 
-/// Which way both orders run through elements of a type; `Other` where they run apart.
+/// Which way both orders run through elements of a type; `Other` where they don't run the same way.
 #[inline(always)]
 #[tactic(auto, unfolding(bitvec_engine::specs::Direction::Runs))]
 pub(crate) fn common_direction<T: BitStore, O: BitOrder, P: BitOrder>() -> Direction
@@ -73,7 +73,7 @@ pub(crate) fn common_direction<T: BitStore, O: BitOrder, P: BitOrder>() -> Direc
     }
 }
 
-/// Whether two windows have the same bits, of elements of two types of one width, as the order compares
+/// Whether two windows of elements of two types of one width have the same bits, as the order compares
 /// them. Condition: each memory has at most `MAX_BITS` bits, and each window lies in its memory.
 pub(crate) fn eq_converted<O: SliceOrder, T: BitStore, U: BitStore>(
     left: &[T],

@@ -13,8 +13,9 @@ use bitvec_engine::store::BitStore;
 use bitvec_engine::words::{WORD_BITS, WordOrder};
 use bitvec_engine::{Direction, SliceOrder, bits_copy, direction_of, store_bits, store_few};
 
-/// Copies the bits of the right window, of elements of any type and order. Condition: each memory
-/// has at most `MAX_BITS` bits, each window lies in its memory, and the windows are as long.
+/// Copies the bits of the right window, which may have elements of any type and order, to the left
+/// one. Condition: each memory has at most `MAX_BITS` bits, each window lies in its memory, and
+/// both are equally long.
 pub fn copy_from_in<T: BitStore, O: BitOrder, U: BitStore, P: BitOrder>(
     left: &mut [T],
     left_window: Window,
@@ -61,8 +62,8 @@ fn copy_words<W: WordOrder, T: BitStore, U: BitStore, P: BitOrder>(
     }
 }
 
-/// Copies the bits of the right window, of elements of the same type and order, as the order does
-/// it. Condition: as for [`copy_from_in`].
+/// Copies the bits of the right window, whose elements have the same type and order, to the left
+/// one as the order does it. Condition: as for [`copy_from_in`].
 #[inline(always)]
 pub fn copy_from_block_in<T: BitStore, O: SliceOrder>(
     left: &mut [T],
@@ -110,8 +111,8 @@ pub fn copy_from_long_block_in<T: BitStore, O: SliceOrder>(
     copy_parted_in::<T, O>(left, left_window, right, right_window);
 }
 
-/// Copies a window. Many bits that begin at the same index of an element are copied by whole elements at once, others
-/// by the order's block function. Condition: as for [`copy_from_in`].
+/// Copies a window. Many bits that begin at the same index of an element are copied as whole elements at once,
+/// all others by the order's block function. Condition: as for [`copy_from_in`].
 fn copy_parted_in<T: BitStore, O: SliceOrder>(left: &mut [T], to: Window, right: &[T], from: Window)
     requires { HasSpan T.BITS (map T.value left.old) (map T.value right.now) to from }
     ensures { Copies T.BITS O.at (map T.value left.old) (map T.value left.new) to (map T.value right.now) from }

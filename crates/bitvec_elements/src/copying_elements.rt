@@ -52,7 +52,7 @@ pub(crate) fn copy_whole_in<T: BitStore, O: BitOrder>(
     left[first..first + count].copy_from_slice(&right[source..source + count]);
 }
 
-/// Copies bits of one element, which may be none, to the same indices of another.
+/// Copies bits of one element, possibly none, to the same indices of another.
 fn copy_part_in<T: BitStore, O: BitOrder>(left: &mut [T], to: Window, right: &[T], from: Window)
     requires span { HasSpan T.BITS (map T.value left.old) (map T.value right.now) to from }
     requires phases { to.start % T.BITS ≡ from.start % T.BITS }

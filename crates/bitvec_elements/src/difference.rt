@@ -1,4 +1,4 @@
-//! How many first bits two windows of slices of elements have in common.
+//! How many of their first bits two windows of slices have in common.
 ghost use Rattle.std.specs.Prelude.{map};
 ghost use Rattle.bitvec_engine.specs.base.Memory.{HasWindow, list_in};
 ghost use Rattle.bitvec_elements.specs.Difference.{DiffersFrom};
@@ -9,8 +9,8 @@ use bitvec_engine::store::BitStore;
 use bitvec_engine::words::{WORD_BITS, WordOrder};
 use bitvec_engine::{Direction, direction_of};
 
-/// How many first bits two windows have in common, of those that both have. Condition: each memory
-/// has at most `MAX_BITS` bits, and each window lies in its memory.
+/// How many of their first bits two windows have in common, up to the length of the shorter one.
+/// Condition: each memory has at most `MAX_BITS` bits, and each window lies in its memory.
 pub(crate) fn common_bits<T: BitStore, O: BitOrder, U: BitStore, P: BitOrder>(
     left: &[T],
     left_window: Window,

@@ -54,7 +54,7 @@ pub mod walk {
     };
 }
 
-/// What crates above name of `bitvec_words`, and of the word kernels over two windows or one.
+/// Items of `bitvec_words`, and of the word kernels over one window or two, that crates above use.
 pub mod words {
     pub use bitvec_engine::combine::combine;
     pub use bitvec_engine::comparisons::equal;

@@ -1,4 +1,4 @@
-//! Whether the bits of one window of a slice of elements stand in those of another.
+//! Whether the bits of one window of a slice occur in those of another.
 ghost use Rattle.std.specs.Prelude.{◌≡◌, ℕ, ◌+◌, ◌<◌, ◌≤◌, false, map, slice_index_or, true};
 ghost use Rattle.bitvec_engine.specs.base.Lists.{is_prefix, is_suffix, stands_at, stands_in};
 ghost use Rattle.bitvec_engine.specs.base.Memory.{HasWindow, element_bits, list_in};
@@ -11,8 +11,8 @@ use bitvec_engine::store::BitStore;
 use bitvec_engine::words::{WORD_BITS, WordOrder};
 use bitvec_engine::{Direction, direction_of};
 
-/// Whether the bits of the right window begin those of the left one. Condition: each memory has at
-/// most `MAX_BITS` bits, and each window lies in its memory.
+/// Whether the left window's bits begin with the right window's. Condition: each memory has at most
+/// `MAX_BITS` bits, and each window lies in its memory.
 pub fn starts_with_in<T: BitStore, O: BitOrder, U: BitStore, P: BitOrder>(
     left: &[T],
     left_window: Window,
@@ -31,7 +31,7 @@ pub fn starts_with_in<T: BitStore, O: BitOrder, U: BitStore, P: BitOrder>(
     eq_in::<T, O, U, P>(left, head, right, right_window)
 }
 
-/// Whether the bits of the right window end those of the left one. Condition: as for
+/// Whether the left window's bits end with the right window's. Condition: as for
 /// [`starts_with_in`].
 pub fn ends_with_in<T: BitStore, O: BitOrder, U: BitStore, P: BitOrder>(
     left: &[T],
@@ -51,8 +51,9 @@ pub fn ends_with_in<T: BitStore, O: BitOrder, U: BitStore, P: BitOrder>(
     eq_in::<T, O, U, P>(left, tail, right, right_window)
 }
 
-/// Whether the bits of the right window stand in those of the left one, from some index on: 64 indices at
-/// a time by words, and then bit by bit where they may. Condition: as for [`starts_with_in`].
+/// Whether the right window's bits occur in the left one's, from some index on. Words rule out most of
+/// 64 indices at a time; at those that remain the bits are compared one by one. Condition: as for
+/// [`starts_with_in`].
 pub fn contains_in<T: BitStore, O: BitOrder, U: BitStore, P: BitOrder>(
     left: &[T],
     left_window: Window,
@@ -107,9 +108,9 @@ fn contains_by<W: WordOrder, T: BitStore, O: BitOrder, U: BitStore, P: BitOrder>
     false
 }
 
-/// Whether the bits of the right window stand in those of the left one from one of 64 indices on, of
-/// which `starts` has those that come into question. Condition: as for [`starts_with_in`], and the
-/// indices begin in the left window.
+/// Whether the right window's bits occur in the left one's from one of 64 indices on; `starts` has a
+/// 1 for each index that comes into question. Condition: as for [`starts_with_in`], and the indices
+/// begin in the left window.
 fn stands_from<W: WordOrder, T: BitStore, O: BitOrder, U: BitStore, P: BitOrder>(
     left: &[T],
     left_window: Window,
@@ -137,8 +138,8 @@ fn stands_from<W: WordOrder, T: BitStore, O: BitOrder, U: BitStore, P: BitOrder>
     false
 }
 
-/// Whether the bits of the right window stand in those of the left one from an index on. Condition: as
-/// of [`starts_with_in`], and the index is at most 64 behind the left window's end.
+/// Whether the right window's bits occur in the left one's from an index on. Condition: as for
+/// [`starts_with_in`], and the index is at most 64 behind the left window's end.
 fn stands_at_in<T: BitStore, O: BitOrder, U: BitStore, P: BitOrder>(
     left: &[T],
     left_window: Window,

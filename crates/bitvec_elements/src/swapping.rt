@@ -10,8 +10,8 @@ use bitvec_engine::store::BitStore;
 use bitvec_engine::words::WordOrder;
 use bitvec_engine::{Direction, SliceOrder, bits_swap, direction_of, load_bits, store_bits};
 
-/// Exchanges the bits of two windows, of elements of any types and orders. Condition: each memory
-/// has at most `MAX_BITS` bits, each window lies in its memory, and the windows are as long.
+/// Exchanges the bits of two windows of elements of any types and orders. Condition: each memory
+/// has at most `MAX_BITS` bits, each window lies in its memory, and both are equally long.
 pub fn swap_with_in<T: BitStore, O: BitOrder, U: BitStore, P: BitOrder>(
     left: &mut [T],
     left_window: Window,
@@ -89,7 +89,7 @@ fn swap_words<W: WordOrder, V: WordOrder, T: BitStore, U: BitStore>(
     }
 }
 
-/// Exchanges the bits of two windows, of elements of one type and order, as the order does it.
+/// Exchanges the bits of two windows of elements of one type and order, as the order does it.
 /// Condition: as for [`swap_with_in`].
 pub fn swap_with_block_in<T: BitStore, O: SliceOrder>(
     left: &mut [T],

@@ -16,9 +16,9 @@ use bitvec_engine::words::{
 };
 use bitvec_engine::{Direction, gathered};
 
-/// Where the word of 64 bits of the memory ends that has a window's index, or the window where that is
-/// before. Condition: the index is below the window's length, and the window ends in a memory of at
-/// most `MAX_BITS` bits.
+/// Where the memory's 64-bit word around a window's index ends, or where the window ends, if that
+/// comes first. Condition: the index is below the window's length, and the window ends in a memory of
+/// at most `MAX_BITS` bits.
 #[inline(always)]
 pub(crate) fn word_end(window: Window, from: usize) -> usize
     requires bound { from < window.len }
@@ -31,9 +31,9 @@ pub(crate) fn word_end(window: Window, from: usize) -> usize
     edge.min(window.len)
 }
 
-/// The 64 bits of a window from an index on as those of a word, with zeros behind the window's end.
-/// Conditions: the window lies in a memory of at most `MAX_BITS` bits, the index is at most 64 behind
-/// its end, and the order runs as said.
+/// The 64 bits of a window from an index on as a word, with zeros past the window's end. Conditions:
+/// the window lies in a memory of at most `MAX_BITS` bits, the index is at most 64 behind its end,
+/// and the order runs as said.
 #[inline(always)]
 pub(crate) fn word_from<W: WordOrder, O: BitOrder, T: BitStore>(
     elements: &[T],

@@ -19,7 +19,7 @@ use Rattle.bitvec_combine.specs.base.SliceLaws.{range-from_start}
 use Rattle.bitvec_combine.specs.base.Window.{write_at}
 use Rattle.bitvec_combine.specs.base.WriteLaws.{length-slice_range}
 use Rattle.bitvec_combine.specs.base.WritesLaws.{Writes-is, Writes-join}
-use Rattle.bitvec_combine.specs.moves.SettledLaws.{Writes-same}
+use Rattle.bitvec_combine.specs.words.WholeLaws.{Writes-same}
 use Rattle.bitvec_combine.specs.moves.WordLaws.{Writes-behind, first-values, length-first, padded-all, take-all, word-tail, word_whole}
 use Rattle.bitvec_combine.specs.store.Width.{IsWidth}
 use Rattle.bitvec_combine.specs.store.WidthLaws.{at_each_width, width_some}

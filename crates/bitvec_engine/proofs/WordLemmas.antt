@@ -1,8 +1,8 @@
 -- Words of a window: of two elements side by side, of whole elements, and of one part more.
-use Rattle.std.specs.Prelude.{◌≡◌, ◌≢◌, ℕ, ◌+◌, ◌-◌, ◌*◌, ◌/◌, ◌%◌, ◌<◌, ◌≤◌, Bool, false, List, [], ◌++◌, drop, length, replicate, slice_index, slice_range, take, bit_or, refl}
+use Rattle.std.specs.Prelude.{◌≡◌, ℕ, ◌+◌, ◌-◌, ◌*◌, ◌/◌, ◌%◌, ◌<◌, ◌≤◌, Bool, false, List, [], length, replicate, slice_index, slice_range, take, bit_or, refl}
 use Rattle.std.proofs.Common.{arith, rules, subst, sym, ◌∙◌, ap}
 use Rattle.std.proofs.lemmas.List.{places, same_lists}
-use Rattle.std.proofs.lemmas.Nat.{div-add-mod', mod_below}
+use Rattle.std.proofs.lemmas.Nat.{div-add-mod'}
 use Rattle.bitvec_combine.specs.base.declared.window.Window.{Window}
 use Rattle.bitvec_combine.specs.base.Memory.{HasWindow, Writes, element_bits, list_in, memory_bits}
 use Rattle.bitvec_combine.specs.base.MemoryLaws.{length-element_bits}
@@ -12,41 +12,16 @@ use Rattle.bitvec_combine.specs.base.WriteLaws.{length-slice_range}
 use Rattle.bitvec_combine.specs.base.WritesLaws.{Writes-is, length-list}
 use Rattle.bitvec_combine.specs.moves.WordLaws.{length-first, padded-all, take-all, word_whole}
 use Rattle.bitvec_combine.specs.store.Width.{IsWidth}
-use Rattle.bitvec_combine.specs.store.WidthLaws.{at_each_width, width_some}
+use Rattle.bitvec_combine.specs.store.WidthLaws.{at_each_width}
 use Rattle.bitvec_combine.specs.walk.Walk.{Walked, passed}
 use Rattle.bitvec_combine.specs.walk.WalkLaws.{first-len, length-first as length-first_part, length-passed, list-next}
 use Rattle.bitvec_combine.specs.words.Elements.{elements_window}
 use Rattle.bitvec_combine.specs.words.ShortWindow.{padded}
-use Rattle.bitvec_combine.specs.words.FieldLaws.{element_of, list-part}
+use Rattle.bitvec_combine.specs.words.FieldLaws.{list-part}
 use Rattle.bitvec_combine.specs.words.PartWalkLaws.{HasPart-first}
 use Rattle.bitvec_combine.specs.words.MovedLaws.{element-joined, take-range}
 
--- 64 values from the index `skip` of an element on, which is at most as wide as a word
-pub word-joined : (list : List Bool) (a b skip : ℕ) → skip < b → b ≤ 64 → a + 64 + b ≤ length list
-    → drop skip (slice_range list a (a + 64)) ++ take skip (write_at (replicate 64 false) 0 (slice_range (slice_range list (a + 64) (a + 64 + b)) 0 (0 + b))) ≡ slice_range list (a + skip) (a + skip + 64)
-unfolding write_at
-word-joined list a b skip below narrow fits = same_lists _ _ (search (rules, places)) (λ k d inside. grind (arith, places))
-
 -- ---- whole elements of 64 bits
-
--- the elements that begin with the one of a window's first bit, and hold a word, lie in the memory; so does the next one, where that bit isn't its element's first
-pub word-inside : (b : ℕ) (xs : List ℕ) (window : Window) → IsWidth b → b ≤ 64 → window.len ≡ 64 → HasWindow b xs window → HasWindow b xs (elements_window b (window.start / b) (64 / b))
-word-inside b xs window width narrow size has =
-    let start = has.within.start in
-    let len = has.within.len in
-    let whole = word_whole b width narrow in
-    let place = div-add-mod' window.start b in
-    record { fits = has.fits; within = record { start = omega arith; len = omega arith } }
-
-pub next-inside : (b : ℕ) (xs : List ℕ) (window : Window) → IsWidth b → b ≤ 64 → window.len ≡ 64 → HasWindow b xs window → window.start % b ≢ 0 → window.start / b + 64 / b < length xs
-next-inside b xs window width narrow size has left =
-    let start = has.within.start in
-    let len = has.within.len in
-    let whole = word_whole b width narrow in
-    let place = div-add-mod' window.start b in
-    let below = mod_below window.start b (width_some b width) in
-    let sum : (window.start / b + 64 / b) * b ≡ window.start / b * b + 64 = omega arith in
-    element_of b (window.start / b + 64 / b) (window.start % b - 1) (length xs) (omega arith)
 
 module _ (b : ℕ) (at : ℕ → ℕ → ℕ) (window : Window) (width : IsWidth b) (narrow : b ≤ 64) (size : window.len ≡ 64) (edge : window.start % b ≡ 0) where
   abbrev elements : Window

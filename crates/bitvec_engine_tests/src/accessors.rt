@@ -11,36 +11,36 @@ use bitvec_test_support::store::BitStore;
 use std::mem::size_of;
 
 /// Stores an element through an accessor.
-fn set_first_to<T: BitStore>(cells: &mut [T], element: T)
-    requires { 0 < length cells.old }
-    ensures { map T.value cells.new ≡ slice_set (map T.value cells.old) 0 (T.value element) }
+fn set_first_to<T: BitStore>(elements: &mut [T], element: T)
+    requires { 0 < length elements.old }
+    ensures { map T.value elements.new ≡ slice_set (map T.value elements.old) 0 (T.value element) }
 {
-    let mut accessor = Exclusive::new(cells);
+    let mut accessor = Exclusive::new(elements);
     accessor.store(0, element);
 }
 
 /// Stores an element, and says so by bits alone.
-fn store_first<T: BitStore, O: BitOrder>(cells: &mut [T], element: T)
-    requires { 0 < length cells.old }
-    ensures { memory_bits T.BITS O.at (map T.value cells.new)
-        ≡ write_at (memory_bits T.BITS O.at (map T.value cells.old)) 0
+fn store_first<T: BitStore, O: BitOrder>(elements: &mut [T], element: T)
+    requires { 0 < length elements.old }
+    ensures { memory_bits T.BITS O.at (map T.value elements.new)
+        ≡ write_at (memory_bits T.BITS O.at (map T.value elements.old)) 0
         (element_bits T.BITS O.at (T.value element)) }
 {
-    set_first_to(cells, element);
+    set_first_to(elements, element);
 }
 
 /// Tells a proof that the words are words; it does nothing when it runs.
-fn fit(cells: &[u32])
-    ensures { FitWidth 32 cells.now }
+fn fit(elements: &[u32])
+    ensures { FitWidth 32 elements.now }
 {}
 
 /// Stores a word: the others keep their numbers.
-fn store_first_word(cells: &mut [u32], word: u32)
-    requires { 0 < length cells.old }
-    ensures { (e : ℕ) → 0 < e → slice_index cells.new e ≡ slice_index cells.old e }
+fn store_first_word(elements: &mut [u32], word: u32)
+    requires { 0 < length elements.old }
+    ensures { (e : ℕ) → 0 < e → slice_index elements.new e ≡ slice_index elements.old e }
 {
-    fit(cells);
-    store_first::<u32, HiLo>(cells, word);
+    fit(elements);
+    store_first::<u32, HiLo>(elements, word);
 }
 
 #[test]

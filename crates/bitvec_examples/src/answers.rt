@@ -108,8 +108,8 @@ pub fn there_and_back<T: BitStore, O: SliceOrder>(view: &mut BitSliceMut<'_, T, 
 
 #[test]
 fn views_of_two_types_are_compared(rt: HostRuntime) {
-    let mut cells = [0xFFu8, 0xFF];
-    let view = BitSliceMut::<u8, Lsb0>::from_slice_mut(&mut cells);
+    let mut elements = [0xFFu8, 0xFF];
+    let view = BitSliceMut::<u8, Lsb0>::from_slice_mut(&mut elements);
     let words = [0xFFFFu16];
     let other = BitSlice::<u16, Msb0>::from_slice(&words);
     assert!(rt; same(view.as_ref(), other));

@@ -117,9 +117,9 @@ pub fn flip_first<T: BitStore, O: SliceOrder>(
 
 #[test]
 fn a_bit_and_the_last_chunk_are_lent(rt: HostRuntime) {
-    let mut cells = [0xFFu8, 0xF7];
-    let mut view = BitSliceMut::<u8, Lsb0>::from_slice_mut(&mut cells);
+    let mut elements = [0xFFu8, 0xF7];
+    let mut view = BitSliceMut::<u8, Lsb0>::from_slice_mut(&mut elements);
     set_in_place(&mut view, 11);
     assert!(rt; clear_last_chunk(&mut view, 3) == 5);
-    assert!(rt; cells == [0xFF, 0x7F]);
+    assert!(rt; elements == [0xFF, 0x7F]);
 }

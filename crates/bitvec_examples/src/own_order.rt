@@ -121,10 +121,10 @@ fn a_run_follows_an_own_order(rt: HostRuntime) {
 
 #[test]
 fn an_own_order_is_followed(rt: HostRuntime) {
-    let mut cells = [0u8, 0];
-    let view = BitSliceMut::<u8, Scattered>::from_slice_mut(&mut cells);
+    let mut elements = [0u8, 0];
+    let view = BitSliceMut::<u8, Scattered>::from_slice_mut(&mut elements);
     let mut part = view.into_part(3..10);
     part.fill(true);
     part.reverse();
-    assert!(rt; cells == [0xD6, 0x09]);
+    assert!(rt; elements == [0xD6, 0x09]);
 }

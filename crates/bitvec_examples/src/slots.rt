@@ -34,8 +34,8 @@ pub fn release<T: BitStore, O: SliceOrder>(slots: &mut BitSliceMut<'_, T, O>, sl
 
 #[test]
 fn all_slots_are_taken(rt: HostRuntime) {
-    let mut cells = [0u8];
-    let mut slots = BitSliceMut::<u8, Lsb0>::from_slice_mut(&mut cells);
+    let mut elements = [0u8];
+    let mut slots = BitSliceMut::<u8, Lsb0>::from_slice_mut(&mut elements);
     slots.fill(true);
     assert!(rt; allocate(&mut slots) == None);
 }

@@ -13,16 +13,15 @@ use Rattle.bitvec_slice.specs.Seen.{Seen}
 use Rattle.bitvec_slice.specs.Showing.{ShowsElements}
 use Rattle.bitvec_slice.specs.base.Memory.{HasWindow, element_bits, list_in, memory_bits}
 use Rattle.bitvec_slice.specs.base.MemoryLaws.{element-range, length-memory_bits}
-use Rattle.bitvec_slice.specs.base.PartLaws.{part-range}
 use Rattle.bitvec_slice.specs.base.Parts.{first_part_of, last_part_of, part_window}
 use Rattle.bitvec_slice.specs.base.SliceLaws.{range-front, range-from_start, range-map, range-none, range-same, range-to_end}
 use Rattle.bitvec_slice.specs.base.Window.{window_of}
 use Rattle.bitvec_slice.specs.base.WriteLaws.{length-slice_range, range-range}
 use Rattle.bitvec_slice.specs.base.declared.part.Part.{Part}
 use Rattle.bitvec_slice.specs.base.declared.window.Window.{Window}
-use Rattle.bitvec_slice.specs.domain.CutLaws.{cut_is}
+use Rattle.bitvec_slice.specs.domain.CutLaws.{cut_is, part-bits}
 use Rattle.bitvec_slice.specs.domain.Cuts.{IsCutWithin, IsPartWithin, cut_across, cut_of}
-use Rattle.bitvec_slice.specs.domain.Domains.{DomainPieces, part_in, part_in_if, pieces_in}
+use Rattle.bitvec_slice.specs.domain.Domains.{DomainPieces, part_in_if, pieces_in}
 use Rattle.bitvec_slice.specs.domain.declared.cut.Cut.{Cut}
 use Rattle.bitvec_slice.specs.domain.declared.cut.Cut.TheVariants.{Inside, Across}
 use Rattle.bitvec_field.specs.DomainParts.{lists_of_pieces, part_list_if}
@@ -176,21 +175,15 @@ module _ (b : ℕ) (at : ℕ → ℕ → ℕ) (xs : List ℕ) (window : Window) 
 -- ---- of the pieces of elements that contracts see
 
 module _ {T : Type 0} (b : ℕ) (at : ℕ → ℕ → ℕ) (value : T → ℕ) (xs : List T) where
-  part-list : (part : Part) → IsPartWithin b (length (map value xs)) part → (part_in b at value xs part).bits ≡ list_in b at (map value xs) (part_window b part)
-  unfolding window_of
-  part-list part within =
-      let order = within.order in
-      part-range b at (map value xs) part.element part.from part.to within.element within.bound ∙ range-same (memory_bits b at (map value xs)) _ _ _ _ refl (omega arith)
-
   part_if-list : (part : Option Part) → IfSome part (IsPartWithin b (length (map value xs))) → part_list_if (part_in_if b at value xs part) ≡ lists_if b at (map value xs) part
   part_if-list None within = refl
-  part_if-list (Some part) within = λ i. part-list part within i ∷ []
+  part_if-list (Some part) within = λ i. part-bits b at value xs part within i ∷ []
 
   body-lists : (start end : ℕ) → map (λ (element : T). element_bits b at (value element)) (slice_range xs start end) ≡ lists b at (map value xs) start end
   body-lists start end = sym (map-map (element_bits b at) value (slice_range xs start end)) ∙ ap (map (element_bits b at)) (range-map value xs start end)
 
   pieces-lists : (c : Cut) → IsCutWithin b (length (map value xs)) c → lists_of_pieces b at value (pieces_in b at value xs c) ≡ cut_lists b at (map value xs) c
-  pieces-lists (Inside part) within = λ i. part-list part within i ∷ []
+  pieces-lists (Inside part) within = λ i. part-bits b at value xs part within i ∷ []
   pieces-lists (Across before start end after) within =
       let head = part_if-list before (IfSome_then before within.0 (λ part is. is.within)) in
       let tail = part_if-list after (IfSome_then after within.3 (λ part is. is.within)) in

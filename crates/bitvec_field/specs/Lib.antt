@@ -7,6 +7,6 @@ pub mod words
 pub mod DomainParts
 pub mod DomainPartsLaws
 pub mod Fields
-pub mod Integers
 pub mod IntegersLaws
 pub mod Radix
+pub use Rattle.bitvec_segments.specs.Integers

@@ -43,7 +43,7 @@ pub trait BitField {
     /// Alias of [`BitField::load_le`]. `bitvec` takes the target's byte order.
     ///
     /// ```
-    /// let mut view = BitSliceMut::<u16, Lsb0>::from_slice_mut(&mut cells);
+    /// let mut view = BitSliceMut::<u16, Lsb0>::from_slice_mut(&mut elements);
     /// view.store::<u32>(0x0123_4567);
     /// assert!(rt; view.load::<u32>() == 0x0123_4567);
     /// ```
@@ -86,7 +86,7 @@ pub trait BitFieldMut: BitField {
     /// Alias of [`BitFieldMut::store_le`]. `bitvec` takes the target's byte order.
     ///
     /// ```
-    /// let mut view = BitSliceMut::<u16, Lsb0>::from_slice_mut(&mut cells);
+    /// let mut view = BitSliceMut::<u16, Lsb0>::from_slice_mut(&mut elements);
     /// view.store::<u32>(0x0123_4567);
     /// assert!(rt; view.load::<u32>() == 0x0123_4567);
     /// ```

@@ -24,15 +24,15 @@ same_seen b c e f m n s u k l bits elements memory start len = cc
 module _ {T O : Type 0} {t : Store T} {o : Order O} (view part : BitSlice T O t o) (places : Range ℕ) where
   pub part_seen : 0 < t.BITS → LiesIn (seen view).window.len places → IsRangeOf t.BITS (seen view) places.start places.end (seen part) → seen part ≡ subview t.BITS (seen view) places
   part_seen some lies is =
-      let cells = (seen view).elements in
+      let elements = (seen view).elements in
       let start = (seen view).window.start in
-      let xs = map t.value cells in
+      let xs = map t.value elements in
       let within = (shows-seen view).has.within in
       let order = within.start in
       let len = within.len in
       let are = touches t.BITS (length xs) (start + places.start) (start + places.end) some (omega arith) (omega arith) in
       same_seen _ _ _ _ _ _ _ _ _ _ is.bits is.elements
-      (ap (λ (cells : List T). memory_bits t.BITS o.at (map t.value cells)) is.elements
-      ∙ ap (memory_bits t.BITS o.at) (range-map t.value cells _ _)
+      (ap (λ (elements : List T). memory_bits t.BITS o.at (map t.value elements)) is.elements
+      ∙ ap (memory_bits t.BITS o.at) (range-map t.value elements _ _)
       ∙ memory-range t.BITS o.at xs _ _ some are.order are.bound)
       is.start is.len

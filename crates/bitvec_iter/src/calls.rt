@@ -45,7 +45,7 @@ pub trait IterCalls<T: BitStore>: Shows<T> {
     /// size is above 0.
     ///
     /// ```
-    /// let view = BitSlice::<u8, Msb0>::from_slice(&cells);
+    /// let view = BitSlice::<u8, Msb0>::from_slice(&elements);
     /// let mut chunks = view.chunks(3);
     /// assert!(rt; read(chunks.next()) == Some((3, 0)));
     /// ```
@@ -61,7 +61,7 @@ pub trait IterCalls<T: BitStore>: Shows<T> {
     /// the size is above 0.
     ///
     /// ```
-    /// let view = BitSliceMut::<u8, Msb0>::from_slice_mut(&mut cells);
+    /// let view = BitSliceMut::<u8, Msb0>::from_slice_mut(&mut elements);
     /// let mut front = view.chunks_exact(3);
     /// assert!(rt; (read(front.next_back()), front.len()) == (Some((3, 5)), 1));
     /// ```

@@ -246,8 +246,8 @@ impl<'a, T: BitStore, O: BitOrder> IterMut<'a, T, O> {
         ensures part { IsRangeOf T.BITS (bit_walk_of self.old).view from to (seen_mut result) }
     {
         let start = self.head + from;
-        let cells = touched_range::<T>(start, self.head + to);
-        let elements = self.elements_part_mut(cells.start, cells.end);
+        let touched = touched_range::<T>(start, self.head + to);
+        let elements = self.elements_part_mut(touched.start, touched.end);
         BitSliceMut::from_parts(elements, start % (T::BITS as usize), to - from)
     }
 

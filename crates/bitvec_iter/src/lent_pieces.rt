@@ -202,8 +202,8 @@ impl<'a, T: BitStore, O: BitOrder, C: Cutting> PiecesMut<'a, T, O, C> {
         ensures part { IsRangeOf T.BITS (walk_of self.old).view from to (seen_mut result) }
     {
         let start = self.head + from;
-        let cells = touched_range::<T>(start, self.head + to);
-        let elements = self.elements_part_mut(cells.start, cells.end);
+        let touched = touched_range::<T>(start, self.head + to);
+        let elements = self.elements_part_mut(touched.start, touched.end);
         BitSliceMut::from_parts(elements, start % (T::BITS as usize), to - from)
     }
 

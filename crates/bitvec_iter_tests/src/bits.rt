@@ -57,8 +57,8 @@ fn is_value(bit: Option<&bool>, wanted: bool) -> bool {
 
 #[test]
 fn bits_as_truth_values(rt: HostRuntime) {
-    let mut cells = [0x17u8];
-    let view = BitSliceMut::<u8, Msb0>::from_slice_mut(&mut cells);
+    let mut elements = [0x17u8];
+    let view = BitSliceMut::<u8, Msb0>::from_slice_mut(&mut elements);
     let mut refs = view.iter().by_refs();
     assert!(rt;
         is_value(refs.next(), false) && is_value(refs.next_back(), true) && refs.len() == 6

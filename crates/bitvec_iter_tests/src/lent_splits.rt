@@ -35,9 +35,9 @@ fn flip_between<T: BitStore, O: BitOrder>(elements: &mut [T], front: usize) -> u
 #[test]
 fn pieces_between_ones_are_flipped(rt: HostRuntime) {
     // 0, 1, 0, 0, 1, 0, 1, 0
-    let mut cells = [0x52u8];
-    assert!(rt; flip_between::<u8, Lsb0>(&mut cells, 2) == 4);
-    assert!(rt; cells == [0xDF]);
+    let mut elements = [0x52u8];
+    assert!(rt; flip_between::<u8, Lsb0>(&mut elements, 2) == 4);
+    assert!(rt; elements == [0xDF]);
 }
 
 /// Flips what a call lends, and notes how many bits it has, and one more, as two digits.
@@ -53,8 +53,8 @@ fn flip_lent(noted: u128, piece: Option<BitSliceMut<'_, u8, Lsb0>>) -> u128 {
 }
 
 /// Flips the first piece with the one at its end, and gives how many bits it has, and one more.
-fn flip_inclusive(cells: &mut [u8; 1]) -> u128 {
-    let mut view = BitSliceMut::<u8, Lsb0>::from_slice_mut(cells);
+fn flip_inclusive(elements: &mut [u8; 1]) -> u128 {
+    let mut view = BitSliceMut::<u8, Lsb0>::from_slice_mut(elements);
     let mut pieces = view.split_inclusive_mut(|_, bit| *bit);
     flip_lent(0, pieces.next_mut())
 }
@@ -62,9 +62,9 @@ fn flip_inclusive(cells: &mut [u8; 1]) -> u128 {
 // The bits are 0, 1, 0, 0, 1, 0, 1, 0.
 #[test]
 fn a_piece_is_flipped_with_the_one_at_its_end(rt: HostRuntime) {
-    let mut cells = [0x52u8];
-    assert!(rt; flip_inclusive(&mut cells) == 3);
-    assert!(rt; cells == [0x51]);
+    let mut elements = [0x52u8];
+    assert!(rt; flip_inclusive(&mut elements) == 3);
+    assert!(rt; elements == [0x51]);
 }
 
 /// How many pieces an inclusive split of no bits may lend, which come from either end, and how often its predicate is

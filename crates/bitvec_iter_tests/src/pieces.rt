@@ -54,8 +54,8 @@ fn pieces_from_both_ends(rt: HostRuntime) {
 
 #[test]
 fn a_clone_walks_alone(rt: HostRuntime) {
-    let cells = [0x17u8];
-    let view = BitSlice::<u8, Msb0>::from_slice(&cells);
+    let elements = [0x17u8];
+    let view = BitSlice::<u8, Msb0>::from_slice(&elements);
     let mut chunks = view.chunks(3);
     assert!(rt; read(chunks.next()) == Some((3, 0)));
     let hint = chunks.size_hint();
@@ -69,8 +69,8 @@ fn a_clone_walks_alone(rt: HostRuntime) {
 
 #[test]
 fn remainders_are_what_no_exact_chunk_has(rt: HostRuntime) {
-    let mut cells = [0x17u8];
-    let view = BitSliceMut::<u8, Msb0>::from_slice_mut(&mut cells);
+    let mut elements = [0x17u8];
+    let view = BitSliceMut::<u8, Msb0>::from_slice_mut(&mut elements);
     let mut front = view.chunks_exact(3);
     assert!(rt; (read(front.next_back()), front.len()) == (Some((3, 5)), 1));
     let mut chunks = view.rchunks(3);

@@ -61,8 +61,8 @@ fn is_one(_index: usize, bit: &bool) -> bool {
 // The bits are 0, 1, 0, 0, 1.
 #[test]
 fn splits_at_ones(rt: HostRuntime) {
-    let cells = [0x90u8];
-    let view = BitSlice::<u8, Lsb0>::from_slice(&cells).into_part(3..8);
+    let elements = [0x90u8];
+    let view = BitSlice::<u8, Lsb0>::from_slice(&elements).into_part(3..8);
     assert!(rt; numbers(view.split(|_, bit| *bit)) == [0b1_0, 0b1_00, 0b1, 0]);
     assert!(rt; numbers(view.rsplit(is_one)) == [0b1, 0b1_00, 0b1_0, 0]);
 }
@@ -70,8 +70,8 @@ fn splits_at_ones(rt: HostRuntime) {
 // The bits are 0, 1, 0, 0, 1, over two elements.
 #[test]
 fn inclusive_splits_at_ones(rt: HostRuntime) {
-    let mut cells = [0x40u8, 0x02];
-    let view = BitSliceMut::<u8, Lsb0>::from_slice_mut(&mut cells).into_part(5..10);
+    let mut elements = [0x40u8, 0x02];
+    let view = BitSliceMut::<u8, Lsb0>::from_slice_mut(&mut elements).into_part(5..10);
     let pieces = view.split_inclusive(|_, bit| *bit);
     assert!(rt; numbers(pieces) == [0b1_01, 0b1_001, 0, 0]);
     let mut pieces = view.split_inclusive(is_one);
@@ -91,8 +91,8 @@ fn splits_of_no_bits(rt: HostRuntime) {
 // The bits are 0, 1, 0, 0, 1.
 #[test]
 fn limited_splits_at_ones(rt: HostRuntime) {
-    let mut cells = [0x12u8];
-    let view = BitSliceMut::<u8, Lsb0>::from_slice_mut(&mut cells).into_part(0..5);
+    let mut elements = [0x12u8];
+    let view = BitSliceMut::<u8, Lsb0>::from_slice_mut(&mut elements).into_part(0..5);
     assert!(rt; numbers(view.splitn(2, is_one)) == [0b1_0, 0b1_001, 0, 0]);
     assert!(rt; numbers(view.rsplitn(2, is_one)) == [0b1, 0b1_0100, 0, 0]);
     assert!(rt; view.splitn(0, is_one).next().is_none());
@@ -101,8 +101,8 @@ fn limited_splits_at_ones(rt: HostRuntime) {
 // The bits are 0, 1, 0, 0, 1.
 #[test]
 fn how_many_pieces_may_come(rt: HostRuntime) {
-    let cells = [0x12u8];
-    let view = BitSlice::<u8, Lsb0>::from_slice(&cells).into_part(0..5);
+    let elements = [0x12u8];
+    let view = BitSlice::<u8, Lsb0>::from_slice(&elements).into_part(0..5);
     let mut pieces = view.split(is_one);
     let hint = pieces.size_hint();
     let _piece = pieces.next();

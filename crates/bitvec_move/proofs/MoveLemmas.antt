@@ -13,13 +13,13 @@ use Rattle.bitvec_words.specs.store.Width.{IsWidth}
 use Rattle.bitvec_words.specs.store.WidthLaws.{width_some}
 use Rattle.bitvec_words.specs.walk.Cost.{read_loads, touched_count, work_steps, write_loads, write_stores}
 use Rattle.bitvec_words.specs.walk.CostLaws.{touched_read, touched_stored}
+use Rattle.bitvec_words.specs.TouchedLaws.{next-inside}
 use Rattle.bitvec_words.specs.WholeLaws.{HasWindow-part}
-use Rattle.bitvec_words.specs.FieldLaws.{element_of}
 use Rattle.bitvec_words.specs.WordLaws.{fits-word}
 use Rattle.bitvec_words.specs.Elements.{elements_window}
 use Rattle.bitvec_move.specs.Moves.{Copies, Swaps}
 use Rattle.bitvec_move.specs.PlaceLaws.{tail-inside}
-use Rattle.bitvec_move.specs.WordLaws.{word_whole}
+use Rattle.bitvec_move.specs.WordLaws.{word-next}
 
 -- ---- numbers
 
@@ -120,40 +120,19 @@ HasWindow-touched b w xs window width is has edge left =
     let order = mul-le-mul_left b last in
     rw is (record { fits = has.fits; within = record { start = omega arith; len = omega arith } })
 
--- the elements of a word, from the first one that a window of 64 bits touches
-pub word-elements : (b w : ℕ) (xs : List ℕ) (window : Window) → IsWidth b → w ≡ b → HasWindow b xs window → window.len ≡ 64 → b < 64
-    → HasWindow b xs (elements_window b (window.start / w) (64 / b))
-word-elements b w xs window width is has size narrow =
-    let low = has.within.start in
-    let high = has.within.len in
-    let whole = word_whole b width (omega arith) in
-    let place = div-add-mod' window.start b in
-    rw is (record { fits = has.fits; within = record { start = omega arith; len = omega arith } })
-
--- and the one behind them, where the window begins inside an element
-pub word-next : (b w : ℕ) (xs ys : List ℕ) (window : Window) → IsWidth b → w ≡ b → HasWindow b xs window → window.len ≡ 64 → b < 64 → 0 < window.start % w → length ys ≡ length xs
-    → window.start / w + 64 / w < length ys
-word-next b w xs ys window width is has size narrow inside same =
-    let high = has.within.len in
-    let whole = word_whole b width (omega arith) in
-    let place = div-add-mod' window.start b in
-    let more = rw is at inside in
-    rw (is, same) (element_of b (window.start / b + 64 / b) (window.start % b - 1) (length xs) (omega arith))
-
+-- the element behind those of a word
 pub word-next_word : (b w : ℕ) (xs : List ℕ) (window : Window) → IsWidth b → w ≡ b → HasWindow b xs window → window.len ≡ 64 → b < 64 → 0 < window.start % w
     → window.start / w + 64 / w < 2 ^ 64
 word-next_word b w xs window width is has size narrow inside =
-    let here = word-next b w xs xs window width is has size narrow inside refl in
+    let here = word-next b w xs xs window width is has size (omega arith) inside refl in
     fits-word b (window.start / w + 64 / w) xs window width has (omega arith)
 
 -- the second element of a window that has bits behind its first one
 pub second-element : (b w : ℕ) (xs ys : List ℕ) (window : Window) → IsWidth b → w ≡ b → HasWindow b xs window → w < window.start % w + window.len → length ys ≡ length xs
     → window.start / w + 1 < length ys
 second-element b w xs ys window width is has over same =
-    let high = has.within.len in
-    let place = div-add-mod' window.start b in
     let more = rw is at over in
-    rw (is, same) (element_of b (window.start / b + 1) 0 (length xs) (omega arith))
+    rw (is, same) (next-inside b xs window has more)
 
 pub second-word : (b w : ℕ) (xs : List ℕ) (window : Window) → IsWidth b → w ≡ b → HasWindow b xs window → w < window.start % w + window.len → window.start / w + 1 < 2 ^ 64
 second-word b w xs window width is has over =

@@ -1,4 +1,5 @@
 -- Windows of whole elements that get their values from both ends, an element at a time.
+pub use Rattle.bitvec_words.specs.WholeLaws.{Writes-same, list-same}
 use Rattle.std.specs.Prelude.{◌≡◌, ℕ, ◌+◌, ◌-◌, ◌*◌, ◌<◌, ◌≤◌, zero, suc, Bool, List, ◌++◌, length, take, drop, reverse, slice_index, slice_range, slice_set, refl}
 use Rattle.std.proofs.Common.{arith, rules, sym, ◌∙◌, ap}
 use Rattle.std.proofs.lemmas.List.{same_lists, places, get_or-reverse, length-reverse, length-set}
@@ -184,16 +185,6 @@ Settled-rest b at old mid first count i e v low high target some has long inside
     (rw (made, is_low, is_high) (settled-rest target list (i * b) (i * b + b) (omega arith) (omega arith) (omega arith)))
 
 -- ---- windows
-
--- the same window, told in another way
-pub Writes-same : {b : ℕ} {at : ℕ → ℕ → ℕ} {old new : List ℕ} {list : List Bool} (window other : Window) → other.start ≡ window.start
-    → other.len ≡ window.len → Writes b at old new window list → Writes b at old new other list
-Writes-same {b} {at} {old} {new} {list} window other start len writes = rw (start, len) writes
-
-pub list-same : (b : ℕ) (at : ℕ → ℕ → ℕ) (xs : List ℕ) (window other : Window) → other.start ≡ window.start → other.len ≡ window.len
-    → list_in b at xs other ≡ list_in b at xs window
-unfolding window_of
-list-same b at xs window other start len = rw (start, len) refl
 
 length-taken : {X : Type 0} (list : List X) (n : ℕ) → n ≤ length list → length (take n list) ≡ n
 length-taken list n fits = search (rules, places)

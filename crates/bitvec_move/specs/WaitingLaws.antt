@@ -6,7 +6,7 @@ use Rattle.std.proofs.lemmas.List.{same_lists, places, take-append-drop, length-
 use Rattle.std.proofs.lemmas.Nat.{div-add-mod', div-mul-add, mod_below}
 use Rattle.bitvec_words.specs.base.declared.window.Window.{Window}
 use Rattle.bitvec_words.specs.base.Lists.{shifted_end, shifted_start}
-use Rattle.bitvec_words.specs.base.Memory.{HasWindow, Writes, element_bits, list_in, memory_bits}
+use Rattle.bitvec_words.specs.base.Memory.{HasWindow, Writes, element_bits, list_in}
 use Rattle.bitvec_words.specs.base.MemoryLaws.{element_fits, length-element_bits}
 use Rattle.bitvec_words.specs.base.PartLaws.{length-part, part-write}
 use Rattle.bitvec_words.specs.base.Window.{write_at}
@@ -15,7 +15,7 @@ use Rattle.bitvec_words.specs.Elements.{elements_window, elements_window_from}
 use Rattle.bitvec_words.specs.FieldLaws.{Writes-none, element_of, list-across, list-both, list-front, list-whole}
 use Rattle.bitvec_words.specs.TouchedLaws.{last-first, last-next, next-inside}
 use Rattle.bitvec_move.specs.SwapLaws.{Writes-exchanged, Writes-set, beside-element, beside-element_from, first_elements, next_element}
-use Rattle.bitvec_words.specs.WholeLaws.{HasWindow-part}
+use Rattle.bitvec_words.specs.WholeLaws.{HasWindow-part, Writes-same}
 
 -- ---- lists
 
@@ -116,15 +116,6 @@ waiting-both b at xs e skip p below next =
 
 -- ---- writes
 
--- the same write, where the window is told in another way
-same_window : (b : ℕ) (at : ℕ → ℕ → ℕ) (old new : List ℕ) (window other : Window) (list : List Bool) → window.start ≡ other.start → window.len ≡ other.len
-    → Writes b at old new window list → Writes b at old new other list
-same_window b at old new window other list start len writes = record {
-  bits = writes.bits ∙ ap (λ (s : ℕ). write_at (memory_bits b at old) s list) start;
-  long = writes.long ∙ len;
-  elements = writes.elements;
-}
-
 -- the element that waits takes these bits
 waiting-one : (b : ℕ) (at : ℕ → ℕ → ℕ) (xs : List ℕ) (e skip end p w : ℕ) (list : List Bool) → 0 < b → e < length xs → skip ≤ end → end ≤ b → length list ≡ end - skip
     → element_bits b at w ≡ write_at (element_bits b at p) skip list
@@ -143,7 +134,7 @@ pub waiting-inside : (b : ℕ) (at : ℕ → ℕ → ℕ) (xs : List ℕ) (windo
 waiting-inside b at xs window end p v w some has more is fits wrote =
     let place = div-add-mod' window.start b in
     rw (last-first b window.start window.len some more (omega arith))
-    (same_window b at _ _ (record { start = window.start / b * b + window.start % b; len = end - window.start % b }) window _ place (omega arith)
+    (Writes-same (record { start = window.start / b * b + window.start % b; len = end - window.start % b }) window (sym place) (omega arith)
     (waiting-one b at xs (window.start / b) (window.start % b) end p w _ some (first-inside b xs window has more) (omega arith) fits
     (length-part b at v (window.start % b) end fits) wrote))
 
@@ -173,7 +164,7 @@ waiting-beyond b at xs window end p v w t u some has is fits over wrote wrote_ne
     let head = mod_below window.start b some in
     let has' : HasWindow b xs (record { start = window.start / b * b + window.start % b; len = window.len }) = rw place has in
     rw (last-next b window.start window.len some fits (omega arith))
-    (same_window b at _ _ (record { start = window.start / b * b + window.start % b; len = window.len }) window _ place refl
+    (Writes-same (record { start = window.start / b * b + window.start % b; len = window.len }) window (sym place) refl
     (waiting-two b at xs (window.start / b) (window.start % b) window.len (end - b) p w u _ _ some has' (next-inside b xs window has (omega arith)) head
     (omega arith) (omega arith) (length-part b at v (window.start % b) b (omega arith)) (let long = length-part b at t 0 (end - b) (omega arith) in omega arith) wrote wrote_next))
 

@@ -1,9 +1,9 @@
 -- Words of 64 bits of a memory of elements of b bits.
 pub use Rattle.bitvec_words.specs.WordLaws.{padded-all, take-all, word_whole}
-use Rattle.std.specs.Prelude.{◌≡◌, ℕ, ◌+◌, ◌-◌, ◌*◌, ◌/◌, ◌<◌, ◌≤◌, true, Bool, false, List, ◌++◌, length, take, drop, replicate, slice_index, slice_range}
+use Rattle.std.specs.Prelude.{◌≡◌, ℕ, ◌+◌, ◌-◌, ◌*◌, ◌/◌, ◌%◌, ◌<◌, ◌≤◌, true, Bool, false, List, ◌++◌, length, take, drop, replicate, slice_index, slice_range}
 use Rattle.std.proofs.Common.{arith, rules, sym, ◌∙◌, ap}
 use Rattle.std.proofs.lemmas.List.{same_lists, places}
-use Rattle.std.proofs.lemmas.Nat.{le-div}
+use Rattle.std.proofs.lemmas.Nat.{div-add-mod', le-div}
 use Rattle.std.proofs.Math.Nat.{mul-le-mul_left}
 use Rattle.bitvec_words.specs.base.declared.window.Window.{Window}
 use Rattle.bitvec_words.specs.base.Lists.{shifted_end}
@@ -12,9 +12,11 @@ use Rattle.bitvec_words.specs.base.MemoryLaws.{element-range, length-memory_bits
 use Rattle.bitvec_words.specs.base.Window.{window_of, write_at}
 use Rattle.bitvec_words.specs.base.WindowLaws.{part-written}
 use Rattle.bitvec_words.specs.base.WritesLaws.{Writes-is, length-list, within-list}
+use Rattle.bitvec_words.specs.store.Width.{IsWidth}
 use Rattle.bitvec_words.specs.walk.Cost.{reverse_loads, reverse_stores, step_span, work_steps}
 use Rattle.bitvec_words.specs.walk.WalkLaws.{div-order}
 use Rattle.bitvec_words.specs.Elements.{elements_window}
+use Rattle.bitvec_words.specs.FieldLaws.{element_of}
 
 -- ---- numbers
 
@@ -66,7 +68,7 @@ words-enough b m n some narrow fewer =
 -- ---- lists
 
 -- 64 values from the index `skip` of an element on
-pub word-across : (list : List Bool) (a b skip : ℕ) → skip < b → b < 64 → a + 64 + b ≤ length list
+pub word-across : (list : List Bool) (a b skip : ℕ) → skip < b → b ≤ 64 → a + 64 + b ≤ length list
     → drop skip (slice_range list a (a + 64)) ++ take skip (write_at (replicate 64 false) 0 (slice_range (slice_range list (a + 64) (a + 64 + b)) 0 (0 + b))) ≡ slice_range list (a + skip) (a + skip + 64)
 unfolding write_at
 word-across list a b skip below narrow fits = same_lists _ _ (search (rules, places)) (λ k d inside. grind (arith, places))
@@ -88,6 +90,26 @@ unfolding write_at
 taken-front list new s all = same_lists _ _ (search (rules, places)) (λ k d inside. grind (arith, places))
 
 -- ---- memories
+
+-- the elements of a word, from the first one that a window of 64 bits touches
+pub word-elements : (b w : ℕ) (xs : List ℕ) (window : Window) → IsWidth b → w ≡ b → HasWindow b xs window → window.len ≡ 64 → b ≤ 64
+    → HasWindow b xs (elements_window b (window.start / w) (64 / b))
+word-elements b w xs window width is has size narrow =
+    let low = has.within.start in
+    let high = has.within.len in
+    let whole = word_whole b width narrow in
+    let place = div-add-mod' window.start b in
+    rw is (record { fits = has.fits; within = record { start = omega arith; len = omega arith } })
+
+-- and the one behind them, where the window begins inside an element
+pub word-next : (b w : ℕ) (xs ys : List ℕ) (window : Window) → IsWidth b → w ≡ b → HasWindow b xs window → window.len ≡ 64 → b ≤ 64 → 0 < window.start % w → length ys ≡ length xs
+    → window.start / w + 64 / w < length ys
+word-next b w xs ys window width is has size narrow inside same =
+    let high = has.within.len in
+    let whole = word_whole b width narrow in
+    let place = div-add-mod' window.start b in
+    let more = rw is at inside in
+    rw (is, same) (element_of b (window.start / b + 64 / b) (window.start % b - 1) (length xs) (omega arith))
 
 pub length-first : (list : List Bool) (n : ℕ) → n ≤ length list → length (take n list) ≡ n
 length-first list n fits = search (rules, places)

@@ -22,15 +22,15 @@ module _ {T : Type 0} (b : ℕ) (at : ℕ → ℕ → ℕ) (value : T → ℕ) (
       let long : length (replicate n 0) ≡ n = length-replicate {A = ℕ} n 0 in
       rw (numbers none n is) (rw long at (bits-zeros b at (replicate n 0) (rw long refl)))
 
-  holds : (cells : List T) (from n : ℕ) (list : List Bool) → n ≡ length list → length cells ≡ div_ceil (from + n) b
-      → memory_bits b at (map value cells) ≡ write_at (replicate (b * length cells) false) from list → Holds b list from (shown b at value cells from n)
+  holds : (elements : List T) (from n : ℕ) (list : List Bool) → n ≡ length list → length elements ≡ div_ceil (from + n) b
+      → memory_bits b at (map value elements) ≡ write_at (replicate (b * length elements) false) from list → Holds b list from (shown b at value elements from n)
   unfolding window_of
-  holds cells from n list long count written =
+  holds elements from n list long count written =
       let rounded = div_ceil_times (from + n) b some in
-      let places = length-replicate (b * length cells) false in
-      let fits : from + length list ≤ length (replicate (b * length cells) false) = rw (places, count) (omega arith) in
+      let places = length-replicate (b * length elements) false in
+      let fits : from + length list ≤ length (replicate (b * length elements) false) = rw (places, count) (omega arith) in
       record {
-        bits = rw (written, long) (range-write_at (replicate (b * length cells) false) from list fits);
+        bits = rw (written, long) (range-write_at (replicate (b * length elements) false) from list fits);
         start = refl;
         len = long;
         count = rw (← long) count;
@@ -38,10 +38,10 @@ module _ {T : Type 0} (b : ℕ) (at : ℕ → ℕ → ℕ) (value : T → ℕ) (
       }
 
   -- what such elements hold
-  pub held : (none : T) (old cells : List T) (count from n : ℕ) (list : List Bool) (sequence : Seen T) → value none ≡ 0 → old ≡ replicate count none → length cells ≡ length old
-      → count ≡ div_ceil (from + n) b → n ≡ length list → memory_bits b at (map value cells) ≡ write_at (memory_bits b at (map value old)) from list
-      → sequence ≡ shown b at value cells from n → Holds b list from sequence
-  held none old cells count from n list sequence is_zero filled many rounded long written is =
-      let size : length cells ≡ count = many ∙ ap length filled ∙ length-replicate count none in
-      let before : memory_bits b at (map value old) ≡ replicate (b * length cells) false = rw (size, filled) (zeros none count is_zero) in
-      rw is (holds cells from n list long (size ∙ rounded) (written ∙ ap (λ (memory : List Bool). write_at memory from list) before))
+  pub held : (none : T) (old elements : List T) (count from n : ℕ) (list : List Bool) (sequence : Seen T) → value none ≡ 0 → old ≡ replicate count none → length elements ≡ length old
+      → count ≡ div_ceil (from + n) b → n ≡ length list → memory_bits b at (map value elements) ≡ write_at (memory_bits b at (map value old)) from list
+      → sequence ≡ shown b at value elements from n → Holds b list from sequence
+  held none old elements count from n list sequence is_zero filled many rounded long written is =
+      let size : length elements ≡ count = many ∙ ap length filled ∙ length-replicate count none in
+      let before : memory_bits b at (map value old) ≡ replicate (b * length elements) false = rw (size, filled) (zeros none count is_zero) in
+      rw is (holds elements from n list long (size ∙ rounded) (written ∙ ap (λ (memory : List Bool). write_at memory from list) before))

@@ -29,9 +29,9 @@ module _ {T O : Type 0} {N : ℕ} {t : Store T} {o : Order O} (a : BitArray T O 
   array_elements = shows_elements t.BITS o.at t.value (elements_of a) 0 (t.BITS * length (elements_of a)) (omega arith) fits
 
   -- what was written is told by a slice and a window that are the array's
-  pub array_written : (now cells : List T) (window : Window) (made new : List Bool) → Writes t.BITS o.at (map t.value cells) (map t.value now) window made
-      → cells ≡ (in_array a).elements → window ≡ (in_array a).window → made ≡ new → WritesArray a (with_elements a now) new
-  array_written now cells window made new writes same place is =
+  pub array_written : (now elements : List T) (window : Window) (made new : List Bool) → Writes t.BITS o.at (map t.value elements) (map t.value now) window made
+      → elements ≡ (in_array a).elements → window ≡ (in_array a).window → made ≡ new → WritesArray a (with_elements a now) new
+  array_written now elements window made new writes same place is =
       let old = elements_of a in
       let len = t.BITS * length old in
       let wrote : Writes t.BITS o.at (map t.value old) (map t.value now) (in_array a).window new = rw (same, place, is) at writes in

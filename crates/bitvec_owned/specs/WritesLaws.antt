@@ -79,9 +79,9 @@ module _ {T O A : Type 0} {t : Store T} {o : Order O} (some : 0 < t.BITS) (v : B
       shows_elements t.BITS o.at t.value v.elements.items v.head v.len inside (subst (λ (n : ℕ). t.BITS * n ≤ max_bits) v.elements.ok.0 v.bounded)
 
   -- what was written is told by a slice and a window that are the sequence's
-  pub sequence_written : (now cells : List T) (window : Window) (made new : List Bool) → Writes t.BITS o.at (map t.value cells) (map t.value now) window made
-      → cells ≡ (owned v).elements → window ≡ (owned v).window → made ≡ new → WritesOwned v (with_elements v now) new
-  sequence_written now cells window made new writes same place is =
+  pub sequence_written : (now elements : List T) (window : Window) (made new : List Bool) → Writes t.BITS o.at (map t.value elements) (map t.value now) window made
+      → elements ≡ (owned v).elements → window ≡ (owned v).window → made ≡ new → WritesOwned v (with_elements v now) new
+  sequence_written now elements window made new writes same place is =
       let old = v.elements.items in
       let wrote : Writes t.BITS o.at (map t.value old) (map t.value now) (owned v).window new = rw (same, place, is) at writes in
       let count = many t.BITS o.at t.value old now v.head v.len new inside wrote in

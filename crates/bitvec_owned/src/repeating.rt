@@ -58,15 +58,15 @@ pub(crate) fn repeat_of<T: BitStore, O: SliceOrder, A: Allocator>(
 
 /// Writes a view's bits `copies` times, from the first place on. Condition: they have room.
 fn write_copies<T: BitStore, O: SliceOrder>(
-    cells: &mut [T],
+    elements: &mut [T],
     view: BitSlice<'_, T, O>,
     copies: usize,
 )
-    requires fits { T.BITS * length cells.old ≤ max_bits }
-    requires room { (seen view).window.len * copies ≤ T.BITS * length cells.old }
-    ensures bits { memory_bits T.BITS O.at (map T.value cells.new)
-        ≡ write_at (memory_bits T.BITS O.at (map T.value cells.old)) 0 (repeat copies (seen view.entry).bits) }
-    ensures elements { length cells.new ≡ length cells.old }
+    requires fits { T.BITS * length elements.old ≤ max_bits }
+    requires room { (seen view).window.len * copies ≤ T.BITS * length elements.old }
+    ensures bits { memory_bits T.BITS O.at (map T.value elements.new)
+        ≡ write_at (memory_bits T.BITS O.at (map T.value elements.old)) 0 (repeat copies (seen view.entry).bits) }
+    ensures len { length elements.new ≡ length elements.old }
 {
     let from = view.window();
     for number in 0..copies {
@@ -74,6 +74,6 @@ fn write_copies<T: BitStore, O: SliceOrder>(
             start: number * from.len,
             len: from.len,
         };
-        copy_from_block_in::<T, O>(cells, window, view.elements(), from);
+        copy_from_block_in::<T, O>(elements, window, view.elements(), from);
     }
 }

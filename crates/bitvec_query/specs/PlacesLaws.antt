@@ -42,18 +42,13 @@ pub places-none : (wanted : Bool) (list : List Bool) (a e : ℕ) → ((k : ℕ) 
 unfolding places_in
 places-none wanted list a e absent = filter-none (λ (i : ℕ). beq (slice_index_or list i false) wanted) a (e - a) (λ k h. other _ wanted (absent k h))
 
-is_wanted : (bit wanted : Bool) → bit ≡ wanted → beq bit wanted ≡ true
-is_wanted true true same = refl
-is_wanted false false same = refl
-is_wanted true false same = cc
-is_wanted false true same = cc
-
 -- one where the bit is
 pub places-one : (wanted : Bool) (list : List Bool) (i : ℕ) → slice_index_or list i false ≡ wanted → places_in wanted list i (i + 1) ≡ i ∷ []
 unfolding places_in
 places-one wanted list i here =
     let one : i + 1 - i ≡ suc zero = omega arith in
-    rw (one, is_wanted (slice_index_or list i false) wanted here) refl
+    let wants = (booleans_Decides (slice_index_or list i false) wanted).1 here in
+    rw (one, wants) refl
 
 -- where the bit is the wanted one at a place, and at none before it
 pub places-next : (wanted : Bool) (list : List Bool) (a i e : ℕ) → a ≤ i → i < e → ((k : ℕ) → k < i - a → slice_index_or list (a + k) false ≢ wanted) → slice_index_or list i false ≡ wanted → places_in wanted list a e ≡ i ∷ places_in wanted list (i + 1) e

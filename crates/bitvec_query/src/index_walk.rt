@@ -1,16 +1,16 @@
 //! What contracts see of a walk over indices.
 
-/// A walk over the indices of some bits of a view. It has no call; what contracts see of a walk is a
-/// member each, so that the clauses of [`OnesCalls`](crate::OnesCalls) can name it.
+/// A walk over the indices of some bits of a view. It has no method: each member is something that
+/// contracts see of a walk, so that the clauses of [`OnesCalls`](crate::OnesCalls) can name it.
 pub trait IndexWalk {
     ghost use Rattle.std.specs.Prelude.{ℕ, List};
 
     // The indices that are still to come.
     ghost left: { Self → List ℕ };
 
-    // That its calls give them ascending from the front.
+    // That its calls give them in ascending order from the front.
     ghost Ascends: { Self → Type 0 };
 
-    // That its calls give them descending from the back.
+    // That its calls give them in descending order from the back.
     ghost Descends: { Self → Type 0 };
 }

@@ -1,5 +1,5 @@
-//! What a walk from the front keeps of the elements that it loaded last: all down to the load is
-//! inlined into `next`, so that a loop over a walk keeps it in registers.
+//! What a walk from the front keeps of the elements that it loaded last. Everything down to the
+//! load is inlined into `next`, so that a loop over a walk keeps it in registers.
 ghost use Rattle.std.specs.Prelude.{◌<◌, ◌≤◌, map};
 ghost use Rattle.std.specs.Iterator.{YieldsFirst};
 ghost use Rattle.bitvec_slice.specs.base.Memory.{HasWindow, list_in};
@@ -14,10 +14,11 @@ use bitvec_slice::engine::SliceOrder;
 use bitvec_slice::store::BitStore;
 use bitvec_slice::walk::sought;
 
-/// The indices that a walk has still to give of the elements that it loaded last.
+/// The indices that a walk has yet to give of the elements that it loaded last.
 #[derive(Clone, Copy)]
 pub(crate) struct Kept {
-    /// The word whose bit number `i`, from the least significant one, is 1 where `base + i` is one.
+    /// The word whose bit `i`, counted from the least significant one, is 1 where `base + i` is
+    /// such an index.
     pub(crate) ones: u64,
     /// The index of the word's bit 0.
     pub(crate) base: usize,
@@ -26,8 +27,8 @@ pub(crate) struct Kept {
 }
 
 /// The first index of the rest whose bit is `want`, if there is one; the rest then begins behind
-/// it. Elements are loaded by words, and a word's bits are kept until all are given.
-/// Conditions: the memory has at most `MAX_BITS` bits, the window lies in it, the rest is of its
+/// it. Elements are loaded by words, and a word's bits are kept until all are given. Conditions:
+/// the memory has at most `MAX_BITS` bits, the window lies in it, the rest is a range of its
 /// indices, and what is kept is what the rest has before `edge`.
 #[inline(always)]
 pub(crate) fn take_kept<T: BitStore, O: SliceOrder>(
@@ -61,7 +62,7 @@ pub(crate) fn take_kept<T: BitStore, O: SliceOrder>(
 }
 
 /// What is kept of the first elements of a rest. Conditions: the memory has at most `MAX_BITS`
-/// bits, the window lies in it, and the rest is of its indices and not empty.
+/// bits, the window lies in it, and the rest is a range of its indices and not empty.
 #[inline(always)]
 fn load<T: BitStore, O: SliceOrder>(elements: &[T], window: Window, want: bool, rest: Rest) -> Kept
     requires window { HasWindow T.BITS (map T.value elements.now) window }
@@ -85,8 +86,8 @@ fn load<T: BitStore, O: SliceOrder>(elements: &[T], window: Window, want: bool, 
     }
 }
 
-/// The word whose ones are the first `count` bits of a word that are `want`. Condition: `count` is
-/// at most 64.
+/// The word that has a 1 for each of the first `count` bits of another that is `want`. Condition:
+/// `count` is at most 64.
 #[inline(always)]
 pub(crate) fn sought_first(word: u64, count: usize, want: bool) -> u64
     requires { count ≤ 64 }

@@ -1,5 +1,5 @@
-//! Questions about the bits of a view: how many, where, whether, and how they compare. The indices of its ones and of
-//! its zeros are walked from both ends, those of a window also through counted access to its elements.
+//! Questions about the bits of a view: how many, where, whether, and how they compare. Walks over the indices
+//! of its ones and zeros go from both ends; those of a window also go through counted access to its elements.
 #![tactic(auto)]
 
 mod index_walk;

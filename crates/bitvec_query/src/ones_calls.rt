@@ -6,19 +6,19 @@ ghost use Rattle.bitvec_slice.specs.base.Window.{max_bits};
 use crate::IndexWalk;
 use bitvec_slice::Shows;
 
-/// Walks over the indices of the bits of a view that are 1, or 0, for both view types: of a `BitSlice`
-/// they live as long as its elements, of a `&BitSliceMut` as long as that borrow.
+/// Walks over the indices of a view's ones or zeros, for both view types. A walk of a `BitSlice` lives
+/// as long as its elements, one of a `&BitSliceMut` as long as that borrow.
 pub trait OnesCalls<T>: Shows<T> {
-    /// What `iter_ones` makes.
+    /// What `iter_ones` returns.
     type Ones: IndexWalk;
 
-    /// What `iter_zeros` makes.
+    /// What `iter_zeros` returns.
     type Zeros: IndexWalk;
 
     /// The indices of the bits that are 1, ascending.
     ///
     /// ```
-    /// let view = BitSlice::<u8, Lsb0>::from_slice(&cells);
+    /// let view = BitSlice::<u8, Lsb0>::from_slice(&elements);
     /// let mut ones = view.iter_ones();
     /// assert!(rt; (ones.next(), ones.next_back()) == (Some(0), Some(5)));
     /// ```
@@ -31,7 +31,7 @@ pub trait OnesCalls<T>: Shows<T> {
     /// The indices of the bits that are 0, ascending.
     ///
     /// ```
-    /// let view = BitSliceMut::<u8, Msb0>::from_slice_mut(&mut cells);
+    /// let view = BitSliceMut::<u8, Msb0>::from_slice_mut(&mut elements);
     /// let mut zeros = view.iter_zeros();
     /// assert!(rt; (zeros.next_back(), zeros.next()) == (Some(15), Some(4)));
     /// ```

@@ -21,12 +21,11 @@ use std::marker::PhantomData;
 /// The indices of the bits of a view that `W` names, ascending from the front and descending from
 /// the back.
 ///
-/// A walk from the front loads each element once, narrow ones by as many as make a word of 64 bits, and
-/// one that is wider once for each 64 of its bits. It keeps a word's bits until their indices are
-/// given; nothing is loaded when the walk is made.
-/// Each call of `next_back` is a search of the bits that are left from the back, so that it loads an
-/// element once more for each index given. How many indices are left is counted at each call of
-/// `len` or `size_hint`.
+/// A walk from the front loads each element once: narrow ones together, as many as make a word of 64
+/// bits, and a wider one once for each 64 of its bits. It keeps a word's bits until their indices are
+/// given. Making the walk loads nothing. Each call of `next_back` searches the remaining bits from the
+/// back, so it loads an element once more for each index given. Each call of `len` or `size_hint`
+/// counts the remaining indices.
 pub struct Places<'a, T: BitStore, O: BitOrder, W: Wanted> {
     view: BitSlice<'a, T, O>,
     rest: Rest,
@@ -162,7 +161,7 @@ impl<'a, T: BitStore, O: SliceOrder, W: Wanted> DoubleEndedIterator for Places<'
         let mut rest = self.rest;
         let index = take_last::<O, Shared<T>>(&mut cells, self.view.window(), W::BIT, &mut rest);
         self.rest = rest;
-        // only indices before the end stay kept
+        // only indices before the end are kept
         let count = rest.back.saturating_sub(self.kept.base).min(64);
         self.kept.ones = sought_first(self.kept.ones, count, true);
         index

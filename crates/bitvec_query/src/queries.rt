@@ -18,14 +18,13 @@ use bitvec_slice::{BitSlice, View};
 use std::cmp::Ordering;
 
 /// The questions that `bitvec`'s `BitSlice` answers about its bits, for both view types. A needle,
-/// or what a view is compared with, may have any element type and order. Indices and counts are in
-/// bits.
+/// or a view to compare with, may have any element type and order. Indices and counts are in bits.
 pub trait BitQueries<T: BitStore, O: SliceOrder>: View<T, O> {
     /// How many bits are 1.
     ///
     /// ```
-    /// assert!(rt; cells == [0xFFFF_0000, 0xFF00_00FF, 0x0000_FFFF]);
-    /// let view = BitSlice::<u32, Lsb0>::from_slice(&cells);
+    /// assert!(rt; elements == [0xFFFF_0000, 0xFF00_00FF, 0x0000_FFFF]);
+    /// let view = BitSlice::<u32, Lsb0>::from_slice(&elements);
     /// assert!(rt; (view.count_ones(), view.count_zeros()) == (48, 48));
     /// ```
     #[inline(always)]
@@ -39,7 +38,7 @@ pub trait BitQueries<T: BitStore, O: SliceOrder>: View<T, O> {
     /// How many bits are 0.
     ///
     /// ```
-    /// let view = BitSlice::<u32, Lsb0>::from_slice(&cells);
+    /// let view = BitSlice::<u32, Lsb0>::from_slice(&elements);
     /// assert!(rt; (view.count_ones(), view.count_zeros()) == (48, 48));
     /// ```
     #[tactic(auto, using(bitvec_slice::specs::Cited::ones_and_zeros))]
@@ -136,7 +135,7 @@ pub trait BitQueries<T: BitStore, O: SliceOrder>: View<T, O> {
     /// Whether every bit is 1, as in an empty view.
     ///
     /// ```
-    /// let view = BitSliceMut::<u8, Lsb0>::from_slice_mut(&mut cells);
+    /// let view = BitSliceMut::<u8, Lsb0>::from_slice_mut(&mut elements);
     /// let (left, right) = view.split_at(4);
     /// assert!(rt; left.not_any() && right.all());
     /// ```
@@ -150,7 +149,7 @@ pub trait BitQueries<T: BitStore, O: SliceOrder>: View<T, O> {
     /// Whether no bit is 1, as in an empty view.
     ///
     /// ```
-    /// let view = BitSliceMut::<u8, Lsb0>::from_slice_mut(&mut cells);
+    /// let view = BitSliceMut::<u8, Lsb0>::from_slice_mut(&mut elements);
     /// let (left, right) = view.split_at(4);
     /// assert!(rt; left.not_any() && right.all());
     /// ```
@@ -178,7 +177,7 @@ pub trait BitQueries<T: BitStore, O: SliceOrder>: View<T, O> {
         self.any() && self.not_all()
     }
 
-    /// Whether the other view has the same bits: `==` of `bitvec`, which compares views of any types.
+    /// Whether the other view has the same bits: `bitvec`'s `==`, which compares views of any types.
     ///
     /// ```
     /// let view = BitSlice::<u8, Lsb0>::from_slice(&[0x21]);
@@ -196,8 +195,8 @@ pub trait BitQueries<T: BitStore, O: SliceOrder>: View<T, O> {
         )
     }
 
-    /// How the bits compare with the other view's, as lists of truth values do: `partial_cmp` of
-    /// `bitvec`, which always has an answer.
+    /// How the bits compare with the other view's, in the order of lists of truth values:
+    /// `bitvec`'s `partial_cmp`, which always has an answer.
     final fn cmp_bits<'b, U: BitStore, P: BitOrder>(&self, other: BitSlice<'b, U, P>) -> Ordering
         ensures { result ≡ slice_cmp bool_cmp (Self.shows self.now).bits (seen other.entry).bits }
     {
@@ -236,7 +235,7 @@ pub trait BitQueries<T: BitStore, O: SliceOrder>: View<T, O> {
         )
     }
 
-    /// Whether the needle's bits stand in these, from some index on; those of an empty needle
+    /// Whether the needle's bits occur in these, from some index on; those of an empty needle
     /// always do.
     final fn contains<'b, U: BitStore, P: BitOrder>(&self, needle: BitSlice<'b, U, P>) -> bool
         ensures { result ≡ stands_in (seen needle.entry).bits (Self.shows self.now).bits }

@@ -9,7 +9,7 @@ use bitvec_slice::elements::{find_first_in, find_last_in};
 use bitvec_slice::engine::SliceOrder;
 use bitvec_slice::store::BitStore;
 
-/// How many bits stand before the first that is `end`, or in all if none is.
+/// How many bits come before the first that is `end`: all of them, if none is.
 #[tactic(auto, using(bitvec_slice::specs::Cited::first_run))]
 pub(crate) fn before_first<T: BitStore, O: SliceOrder>(view: BitSlice<'_, T, O>, end: bool) -> usize
     ensures { result ≡ prefix_len (is_other end) (seen view.entry).bits }
@@ -17,7 +17,7 @@ pub(crate) fn before_first<T: BitStore, O: SliceOrder>(view: BitSlice<'_, T, O>,
     find_first_in::<T, O>(view.elements(), view.window(), end).unwrap_or(view.len())
 }
 
-/// How many bits stand behind the last that is `end`, or in all if none is.
+/// How many bits come after the last that is `end`: all of them, if none is.
 #[tactic(auto, using(bitvec_slice::specs::Cited::last_run))]
 pub(crate) fn behind_last<T: BitStore, O: SliceOrder>(view: BitSlice<'_, T, O>, end: bool) -> usize
     ensures { result ≡ suffix_len (is_other end) (seen view.entry).bits }

@@ -1,4 +1,4 @@
-//! The first and the last place of a bit that a walk has still to come to.
+//! The first and the last place of a bit that a walk has yet to reach.
 ghost use Rattle.std.specs.Prelude.{◌≡◌, ◌+◌, ◌-◌, length};
 ghost use Rattle.std.specs.Iterator.{YieldsFirst, YieldsLast};
 ghost use Rattle.bitvec_slice.specs.base.Memory.{HasWindow, list_in};
@@ -15,7 +15,7 @@ use bitvec_slice::store::BitStore;
 
 /// The first index of the rest whose bit is `want`, if there is one; the rest then begins behind
 /// it, or is empty. Condition: the memory has at most `MAX_BITS` bits, the window lies in it, and
-/// the rest is of its indices. It loads each element up to the index once.
+/// the rest is a range of its indices. It loads each element up to the index once.
 pub fn take_first<O: SliceOrder, C: CellsRead>(
     cells: &mut C,
     window: Window,

@@ -24,10 +24,10 @@ pub enum End {
     Back,
 }
 
-/// Entry `k` of `out` is the index that turn `k` of a walk over the indices of a window's bits that
-/// are `want` gives from that end, or `None` where none is left. Condition: the memory has at most
-/// `MAX_BITS` bits, the window lies in it, and there are as many turns as entries. It makes at most
-/// one load of each element that the window touches, and one more for each index given.
+/// Walks over the indices of a window's bits that are `want`: entry `k` of `out` becomes the index
+/// that turn `k` gives from its end, or `None` where none is left. Condition: the memory has at
+/// most `MAX_BITS` bits, the window lies in it, and there are as many turns as entries. It loads
+/// each element that the window touches at most once, and one element more for each index given.
 pub fn scan_turns<O: SliceOrder, C: CellsRead>(
     cells: &mut C,
     window: Window,

@@ -12,11 +12,11 @@ use bitvec_slice::store::BitStore;
 use bitvec_slice::walk::sought;
 use bitvec_slice::words::{WORD_BITS, WordOrder};
 
-/// Writes the indices, from `from` on, of a window's bits that are `want` to `indices`, ascending, as
-/// many as there is room for, and gives how many these are. Conditions: the memory has at most
-/// `MAX_BITS` bits, the window lies in it, and has at least `from` bits.
+/// Writes to `indices` the indices, from `from` on, of a window's bits that are `want`: in ascending
+/// order, as many as there is room for. It returns how many these are. Conditions: the memory has at
+/// most `MAX_BITS` bits, the window lies in it, and has at least `from` bits.
 ///
-/// It loads each element once, narrow ones by as many as make a word of 64 bits.
+/// It loads each element once, narrow ones together, as many as make a word of 64 bits.
 #[inline(always)]
 pub fn write_places<T: BitStore, O: SliceOrder + WordOrder>(
     elements: &[T],
@@ -46,9 +46,9 @@ pub fn write_places<T: BitStore, O: SliceOrder + WordOrder>(
     count
 }
 
-/// The first bits of a rest as a word, and how many they are: its ones, under the order, are those that
-/// are `want`. Conditions: the memory has at most `MAX_BITS` bits, the window lies in it, and the rest is
-/// of its indices and not empty.
+/// The first bits of a rest as a word, and how many they are. The word's ones, under the order, are those
+/// that are `want`. Conditions: the memory has at most `MAX_BITS` bits, the window lies in it, and the
+/// rest is a range of its indices and not empty.
 #[inline(always)]
 fn sought_front<T: BitStore, O: SliceOrder>(
     elements: &[T],
@@ -78,7 +78,7 @@ fn sought_front<T: BitStore, O: SliceOrder>(
 }
 
 /// Writes where the ones of a word stand under the order, counted from `base`, as many as there is room
-/// for, and gives how many these are.
+/// for, and returns how many these are.
 #[inline(always)]
 fn write_ones<O: SliceOrder + WordOrder>(word: u64, base: usize, indices: &mut [usize]) -> usize
     requires { base + 64 < 2 ^ 64 }
@@ -95,7 +95,7 @@ fn write_ones<O: SliceOrder + WordOrder>(word: u64, base: usize, indices: &mut [
 }
 
 /// Writes where the ones of a word stand from the least significant bit on, counted from `base`, as many
-/// as there is room for, and gives how many these are. It stands apart from the loop over words.
+/// as there is room for, and returns how many these are. It is kept out of the loop over words.
 #[inline(never)]
 fn write_few(mut ones: u64, base: usize, indices: &mut [usize]) -> usize
     requires { base + 64 < 2 ^ 64 }
@@ -111,7 +111,8 @@ fn write_few(mut ones: u64, base: usize, indices: &mut [usize]) -> usize
     count
 }
 
-/// Writes the places of a word's ones where there is room for all; none is tested. Condition: there are 64 places.
+/// Writes the places of a word's ones. There is room for all of them, so none is tested. Condition: there are
+/// 64 places.
 #[inline(always)]
 fn write_all(mut ones: u64, base: usize, indices: &mut [usize]) -> usize
     requires bound { base + 64 < 2 ^ 64 }
@@ -128,8 +129,8 @@ fn write_all(mut ones: u64, base: usize, indices: &mut [usize]) -> usize
     count
 }
 
-/// Writes them from the most significant bit on: the last is written first, so that no word is turned
-/// round. Condition: as for [`write_all`].
+/// Writes them from the most significant bit down: the last place is written first, so that no word
+/// has to be reversed. Condition: as for [`write_all`].
 #[inline(always)]
 fn write_back(mut ones: u64, base: usize, indices: &mut [usize]) -> usize
     requires bound { base + 64 < 2 ^ 64 }

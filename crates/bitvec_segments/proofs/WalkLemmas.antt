@@ -1,7 +1,7 @@
 -- A walk over a window that loads or stores a number, a part of one element at a time.
-use Rattle.std.specs.Prelude.{◌≡◌, ℕ, ◌+◌, ◌-◌, ◌*◌, ◌/◌, ◌%◌, ◌^◌, ◌<◌, ◌≤◌, ◌⊎◌, Bool, true, false, zero, suc, List, ◌++◌, length, take, drop, min, refl}
+use Rattle.std.specs.Prelude.{◌≡◌, ℕ, ◌+◌, ◌-◌, ◌*◌, ◌/◌, ◌%◌, ◌^◌, ◌<◌, ◌≤◌, Bool, true, false, List, ◌++◌, length, take, drop, min, refl}
 use Rattle.std.proofs.Common.{arith, sym, ◌∙◌, ap, ⊎_elim, eqb}
-use Rattle.std.proofs.lemmas.Bool.{cases_lt, cond-false, cond-true, eq-eqb, ne_eqb}
+use Rattle.std.proofs.lemmas.Bool.{cases_lt, cond-true, eq-eqb}
 use Rattle.std.proofs.lemmas.Nat.{div-add-mod', div-mul-add, mod-mul-add, mod_below, pow-add, shr-shr}
 use Rattle.std.proofs.lemmas.List.{drop-drop, take_all}
 use Rattle.std.proofs.Math.Nat.{add-mul-mod_self_right, mod-eq_of_lt, mul-le-mul_left}
@@ -13,7 +13,7 @@ use Rattle.bitvec_words.specs.base.Memory.{Edits, HasWindow, Writes, list_in}
 use Rattle.bitvec_words.specs.base.Parts.{first_part_of, part_window}
 use Rattle.bitvec_words.specs.base.Window.{window_after}
 use Rattle.bitvec_words.specs.base.WritesLaws.{Writes-is, Writes-join, length-list, list-behind, list-join}
-use Rattle.bitvec_words.specs.walk.Cost.{fill_loads, part_loads, touched_count}
+use Rattle.bitvec_words.specs.walk.Cost.{part_loads, touched_count}
 use Rattle.bitvec_words.specs.walk.Walk.{Walked, passed}
 use Rattle.bitvec_words.specs.walk.WalkLaws.{Walked-next, Walked-start, Writes-next_part, Writes-none_passed, div-order, first-len, first-place, touched-none, touched-until}
 use Rattle.bitvec_words.specs.PartWalkLaws.{HasWindow-rest}
@@ -241,10 +241,6 @@ Writes-all b at old new window rest target none long walk before =
 pub whole-none : (b : ℕ) (part : Part) → part.to - part.from ≡ b → part_loads b part ≡ 0
 whole-none b part all = cond-true (eqb (part.to - part.from) b) 0 1 (eq-eqb (part.to - part.from) b all)
 
-pub fill-two : (n : ℕ) → 0 < n → fill_loads n ≡ 2
-fill-two zero more = absurd (omega arith)
-fill-two (suc n) more = cond-false (eqb (suc n) 0) 0 2 (ne_eqb (suc n) 0 (λ e. omega arith))
-
 module _ (big high : Bool) (b : ℕ) (at : ℕ → ℕ → ℕ) (old : List ℕ) (window : Window) (t v : ℕ) (some : 0 < b) (more : 0 < window.len)
     (step : t ≡ (first_part_of b window).to - (first_part_of b window).from) (has : HasWindow b old window) where
   started : (mid : List ℕ) → Writes b at old mid (part_window b (first_part_of b window)) (segment_bits high ((first_part_of b window).to - (first_part_of b window).from) (v / 2 ^ lower_bits big 0 (window.len - t)))
@@ -307,12 +303,9 @@ edge-len b e window some edge =
 pub whole-elements : (b s : ℕ) → s % b ≡ 0 → s ≡ s / b * b
 whole-elements b s edge = let place = div-add-mod' s b in omega arith
 
-less_or_not : (m n : ℕ) → (m < n) ⊎ (n ≤ m)
-less_or_not m n = grind arith
-
 pub whole-some : (b n : ℕ) → 0 < n → n % b ≡ 0 → b ≤ n
 whole-some b n more whole =
-    ⊎_elim (λ (low : n < b). absurd (let all = mod-eq_of_lt low in omega arith)) (λ (most : b ≤ n). most) (less_or_not n b)
+    ⊎_elim (λ (low : n < b). absurd (let all = mod-eq_of_lt low in omega arith)) (λ (most : b ≤ n). most) (cases_lt n b)
 
 pub whole-less : (b n : ℕ) → b ≤ n → n % b ≡ 0 → (n - b) % b ≡ 0
 whole-less b n most whole =

@@ -1,3 +1,4 @@
+pub mod Integers
 pub mod LoadLaws
 pub mod NumberLaws
 pub mod PlainLaws

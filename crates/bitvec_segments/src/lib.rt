@@ -1,9 +1,10 @@
 //! Numbers in windows: the bits of a window, cut at the edges of elements, loaded and stored as one
-//! number.
+//! number; and integers as such numbers.
 #![tactic(auto)]
 
 mod cutting;
 mod field_order;
+mod integers;
 mod joining;
 mod loading;
 mod part;
@@ -12,3 +13,4 @@ mod storing;
 mod whole;
 
 pub use field_order::FieldOrder;
+pub use integers::{extended, reduced};

@@ -18,17 +18,17 @@ outside_of view = (take view.window.start view.memory, drop (view.window.start +
 module _ {T : Type 0} (b : ℕ) (at : ℕ → ℕ → ℕ) (value : T → ℕ) where
   -- what a view of `len` bits of these elements from the place `start` on shows
   abbrev pub shown : List T → ℕ → ℕ → Seen T
-  shown cells start len =
+  shown elements start len =
       let window : Window = record { start = start; len = len } in
-      record { bits = list_in b at (map value cells) window; elements = cells; memory = memory_bits b at (map value cells); window = window }
+      record { bits = list_in b at (map value elements) window; elements = elements; memory = memory_bits b at (map value elements); window = window }
 
   -- the view has all bits of the elements
-  pub record IsWhole (cells : List T) (view : Seen T) : Type 0 where
-    pub bits : view.bits ≡ memory_bits b at (map value cells)
-    pub elements : view.elements ≡ cells
-    pub memory : view.memory ≡ memory_bits b at (map value cells)
+  pub record IsWhole (xs : List T) (view : Seen T) : Type 0 where
+    pub bits : view.bits ≡ memory_bits b at (map value xs)
+    pub elements : view.elements ≡ xs
+    pub memory : view.memory ≡ memory_bits b at (map value xs)
     pub start : view.window.start ≡ 0
-    pub len : view.window.len ≡ b * length cells
+    pub len : view.window.len ≡ b * length xs
 
 -- the view has no bit, of no element
 pub record IsEmpty {T : Type 0} (view : Seen T) : Type 0 where

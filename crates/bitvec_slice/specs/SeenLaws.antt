@@ -21,15 +21,15 @@ halves-count view left right mid all are p =
     rw (are.front.bits, range-from_start view.bits mid mid refl, are.rest.bits, range-to_end view.bits mid view.window.len all) (sum_by-take-drop (λ (bit : Bool). cond (p bit) 1 0) view.bits mid)
 
 module _ {T : Type 0} (b : ℕ) (at : ℕ → ℕ → ℕ) (value : T → ℕ) where
-  pub length-memory : (cells : List T) → length (memory_bits b at (map value cells)) ≡ b * length cells
-  length-memory cells = length-memory_bits b at (map value cells) ∙ ap (λ (n : ℕ). b * n) (length-map cells value)
+  pub length-memory : (elements : List T) → length (memory_bits b at (map value elements)) ≡ b * length elements
+  length-memory elements = length-memory_bits b at (map value elements) ∙ ap (λ (n : ℕ). b * n) (length-map elements value)
 
   -- a view of all bits of some elements, and of no element
-  pub whole_view : (view : Seen T) (cells : List T) (n : ℕ) → view ≡ shown b at value cells 0 n → n ≡ b * length cells → IsWhole b at value cells view
+  pub whole_view : (view : Seen T) (elements : List T) (n : ℕ) → view ≡ shown b at value elements 0 n → n ≡ b * length elements → IsWhole b at value elements view
   unfolding window_of
-  whole_view view cells n is all =
-      let long = length-memory cells in
-      rw is (record { bits = range-all (memory_bits b at (map value cells)) (0 + n) (omega arith); elements = refl; memory = refl; start = refl; len = all })
+  whole_view view elements n is all =
+      let long = length-memory elements in
+      rw is (record { bits = range-all (memory_bits b at (map value elements)) (0 + n) (omega arith); elements = refl; memory = refl; start = refl; len = all })
 
   pub no_view : (view : Seen T) → IsWhole b at value [] view → IsEmpty view
   no_view view is =
@@ -37,36 +37,36 @@ module _ {T : Type 0} (b : ℕ) (at : ℕ → ℕ → ℕ) (value : T → ℕ) w
       record { bits = is.bits ∙ none; elements = is.elements; memory = is.memory ∙ none; start = is.start; len = is.len ∙ omega arith }
 
   -- the bits of a view of all bits of its elements are the memory's
-  pub covered_bits : (cells : List T) (start len : ℕ) → CoversElements b (shown b at value cells start len)
-      → memory_bits b at (map value cells) ≡ (shown b at value cells start len).bits
+  pub covered_bits : (elements : List T) (start len : ℕ) → CoversElements b (shown b at value elements start len)
+      → memory_bits b at (map value elements) ≡ (shown b at value elements start len).bits
   unfolding window_of
-  covered_bits cells start len covers =
-      let long = length-memory cells in
+  covered_bits elements start len covers =
+      let long = length-memory elements in
       let all = covers.len in
-      sym (rw (covers.start) (range-all (memory_bits b at (map value cells)) (0 + len) (omega arith)))
+      sym (rw (covers.start) (range-all (memory_bits b at (map value elements)) (0 + len) (omega arith)))
 
-  module _ (cells : List T) (start len : ℕ) (inside : start + len ≤ b * length cells) where
-    pub within_memory : IsWithin (shown b at value cells start len).window (length (memory_bits b at (map value cells)))
-    within_memory = let long = length-memory cells in record { start = omega arith; len = omega arith }
+  module _ (elements : List T) (start len : ℕ) (inside : start + len ≤ b * length elements) where
+    pub within_memory : IsWithin (shown b at value elements start len).window (length (memory_bits b at (map value elements)))
+    within_memory = let long = length-memory elements in record { start = omega arith; len = omega arith }
 
-    pub has_window : b * length cells ≤ max_bits → HasWindow b (map value cells) (shown b at value cells start len).window
+    pub has_window : b * length elements ≤ max_bits → HasWindow b (map value elements) (shown b at value elements start len).window
     has_window bounded =
-        let product = ap (λ (n : ℕ). b * n) (length-map cells value) in
+        let product = ap (λ (n : ℕ). b * n) (length-map elements value) in
         record { fits = omega arith; within = record { start = omega arith; len = omega arith } }
 
-    pub length_bits : length (shown b at value cells start len).bits ≡ len
-    length_bits = length-window (memory_bits b at (map value cells)) (shown b at value cells start len).window within_memory
+    pub length_bits : length (shown b at value elements start len).bits ≡ len
+    length_bits = length-window (memory_bits b at (map value elements)) (shown b at value elements start len).window within_memory
 
     -- a view of the elements that a range of the bits touches
     pub part_view : (part : Seen T) (from to : ℕ) → IsWidth b → from ≤ to → to ≤ len
-        → part ≡ shown b at value (touched_elements b cells (start + from) (start + to)) ((start + from) % b) (to - from) → IsRangeOf b (shown b at value cells start len) from to part
+        → part ≡ shown b at value (touched_elements b elements (start + from) (start + to)) ((start + from) % b) (to - from) → IsRangeOf b (shown b at value elements start len) from to part
     unfolding window_of
     part_view part from to wide order bound is =
-        let xs = map value cells in
-        let product = ap (λ (n : ℕ). b * n) (length-map cells value) in
-        let long = length-memory cells in
+        let xs = map value elements in
+        let product = ap (λ (n : ℕ). b * n) (length-map elements value) in
+        let long = length-memory elements in
         rw is (record {
-          bits = ap (λ (ys : List ℕ). slice_range (memory_bits b at ys) ((start + from) % b) ((start + from) % b + (to - from))) (range-map value cells _ _)
+          bits = ap (λ (ys : List ℕ). slice_range (memory_bits b at ys) ((start + from) % b) ((start + from) % b + (to - from))) (range-map value elements _ _)
               ∙ touched-bits b at xs (start + from) (start + to) (to - from) (width_some b wide) (omega arith) (omega arith)
               ∙ sym (range-range (memory_bits b at xs) start (start + len) from to (omega arith) (omega arith));
           elements = refl;

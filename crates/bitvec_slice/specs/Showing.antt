@@ -12,5 +12,5 @@ module _ {T : Type 0} (b : ℕ) (at : ℕ → ℕ → ℕ) (value : T → ℕ) w
     pub memory : view.memory ≡ memory_bits b at (map value view.elements)
     pub has : HasWindow b (map value view.elements) view.window
 
-  pub shows_elements : (cells : List T) (start len : ℕ) → start + len ≤ b * length cells → b * length cells ≤ max_bits → ShowsElements (shown b at value cells start len)
-  shows_elements cells start len inside bounded = record { bits = refl; memory = refl; has = has_window b at value cells start len inside bounded }
+  pub shows_elements : (elements : List T) (start len : ℕ) → start + len ≤ b * length elements → b * length elements ≤ max_bits → ShowsElements (shown b at value elements start len)
+  shows_elements elements start len inside bounded = record { bits = refl; memory = refl; has = has_window b at value elements start len inside bounded }

@@ -49,21 +49,21 @@ touched-bits b at xs start end n some sum bound =
     ∙ range-same memory _ _ _ _ begins (omega arith)
 
 -- the elements that a range of a view's bits touches are some of its own, and have room for the range
-module _ {X : Type 0} (b : ℕ) (cells : List X) (start len from to : ℕ) (some : 0 < b) (inside : start + len ≤ b * length cells) (order : from ≤ to) (bound : to ≤ len) where
-  touches_range : Touches b (length cells) (start + from) (start + to)
-  touches_range = touches b (length cells) (start + from) (start + to) some (omega arith) (omega arith)
+module _ {X : Type 0} (b : ℕ) (elements : List X) (start len from to : ℕ) (some : 0 < b) (inside : start + len ≤ b * length elements) (order : from ≤ to) (bound : to ≤ len) where
+  touches_range : Touches b (length elements) (start + from) (start + to)
+  touches_range = touches b (length elements) (start + from) (start + to) some (omega arith) (omega arith)
 
-  pub touched_end : end_touched b (start + to) ≤ length cells
+  pub touched_end : end_touched b (start + to) ≤ length elements
   touched_end = touches_range.bound
 
-  length-touched : length (touched_elements b cells (start + from) (start + to)) ≡ end_touched b (start + to) - first_touched b (start + from)
-  length-touched = length-slice_range cells (first_touched b (start + from)) (end_touched b (start + to)) touched_end
+  length-touched : length (touched_elements b elements (start + from) (start + to)) ≡ end_touched b (start + to) - first_touched b (start + from)
+  length-touched = length-slice_range elements (first_touched b (start + from)) (end_touched b (start + to)) touched_end
 
-  pub touched_holds : (start + from) % b + (to - from) ≤ b * length (touched_elements b cells (start + from) (start + to))
+  pub touched_holds : (start + from) % b + (to - from) ≤ b * length (touched_elements b elements (start + from) (start + to))
   touched_holds = let holds = touches_range.holds in rw length-touched (omega arith)
 
-  pub touched_few : (most : ℕ) → b * length cells ≤ most → b * length (touched_elements b cells (start + from) (start + to)) ≤ most
+  pub touched_few : (most : ℕ) → b * length elements ≤ most → b * length (touched_elements b elements (start + from) (start + to)) ≤ most
   touched_few most few =
       let within = touched_end in
-      let fewer = mul-le-mul_left {m = end_touched b (start + to) - first_touched b (start + from)} {n = length cells} b (omega arith) in
+      let fewer = mul-le-mul_left {m = end_touched b (start + to) - first_touched b (start + from)} {n = length elements} b (omega arith) in
       rw length-touched (omega arith)

@@ -19,6 +19,6 @@ module _ {T O : Type 0} {t : Store T} {o : Order O} where
   name_of v = v.elements.ghost_name
 
   -- it has all bits of the elements, which are borrowed under this name
-  pub record IsWholeOf (cells : List T) (lender : GName) (v : BitSliceMut T O t o) : Type 0 where
-    pub whole : IsWhole t.BITS o.at t.value cells (seen_mut v)
+  pub record IsWholeOf (elements : List T) (lender : GName) (v : BitSliceMut T O t o) : Type 0 where
+    pub whole : IsWhole t.BITS o.at t.value elements (seen_mut v)
     pub name : name_of v ≡ lender

@@ -44,15 +44,15 @@ module _ {T O : Type 0} {t : Store T} {o : Order O} where
       }
 
   -- the same, where what was written is told by a slice and a window that are the view's
-  pub written : (v : BitSliceMut T O t o) (xs cells : List T) (window : Window) (made new : List Bool) → Writes t.BITS o.at (map t.value cells) (map t.value xs) window made
-      → cells ≡ (seen_mut v).elements → window ≡ (seen_mut v).window → made ≡ new → WritesBits v (with_elements v xs) new
-  written v xs cells window made new writes same place is = writes_bits v xs new (rw (same, place, is) at writes)
+  pub written : (v : BitSliceMut T O t o) (xs elements : List T) (window : Window) (made new : List Bool) → Writes t.BITS o.at (map t.value elements) (map t.value xs) window made
+      → elements ≡ (seen_mut v).elements → window ≡ (seen_mut v).window → made ≡ new → WritesBits v (with_elements v xs) new
+  written v xs elements window made new writes same place is = writes_bits v xs new (rw (same, place, is) at writes)
 
   pub has_written : (before after : BitSliceMut T O t o) (new : List Bool) → WritesBits before after new → (seen_mut after).bits ≡ new
   has_written before after new wrote = wrote.bits
 
   -- a view of all bits of some elements, after they were written: its memory has the written bits, and no others
-  pub whole-written : (first last : BitSliceMut T O t o) (cells : List T) (new : List Bool) → WritesBits first last new → IsWhole t.BITS o.at t.value cells (seen_mut first) → length new ≡ t.BITS * length cells → (seen_mut last).memory ≡ new
-  whole-written first last cells new wrote whole long =
+  pub whole-written : (first last : BitSliceMut T O t o) (elements : List T) (new : List Bool) → WritesBits first last new → IsWhole t.BITS o.at t.value elements (seen_mut first) → length new ≡ t.BITS * length elements → (seen_mut last).memory ≡ new
+  whole-written first last elements new wrote whole long =
       let all = length-memory_bits t.BITS o.at (map t.value first.elements.now) ∙ ap (λ (n : ℕ). t.BITS * n) (length-map first.elements.now t.value ∙ ap length whole.elements) in
       wrote.memory ∙ ap (λ (s : ℕ). write_at (seen_mut first).memory s new) whole.start ∙ write_at-all (seen_mut first).memory new (long ∙ sym all)

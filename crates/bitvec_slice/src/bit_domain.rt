@@ -146,7 +146,7 @@ fn region<T: BitStore, O: BitOrder>(
     BitDomain::Region { head, body, tail }
 }
 
-/// The bits of a part, as a view of its element, where `cells` are the elements from the element
+/// The bits of a part, as a view of its element, where `elements` are the elements from the element
 /// `first` on.
 fn part_view_mut<T: BitStore, O: BitOrder>(
     elements: &mut [T],
@@ -164,7 +164,7 @@ fn part_view_mut<T: BitStore, O: BitOrder>(
     BitSliceMut::from_parts(cell, part.from, part.to - part.from)
 }
 
-/// The bits of a part, if there is one, where `cells` are the elements from the element `first` on.
+/// The bits of a part, if there is one, where `elements` are the elements from the element `first` on.
 fn part_view_if_mut<T: BitStore, O: BitOrder>(
     elements: &mut [T],
     first: usize,

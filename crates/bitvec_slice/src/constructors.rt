@@ -49,8 +49,8 @@ impl<'a, T: BitStore, O: BitOrder> BitSlice<'a, T, O> {
     /// `MAX_BITS` bits: so many, or `usize::MAX` where they are more than that.
     ///
     /// ```
-    /// let cells = [0x0Fu8, 0x01];
-    /// let view = BitSlice::<u8, Lsb0>::try_from_slice(&cells);
+    /// let elements = [0x0Fu8, 0x01];
+    /// let view = BitSlice::<u8, Lsb0>::try_from_slice(&elements);
     /// assert!(rt; found(view) == Some((16, Some(8))));
     /// ```
     pub fn try_from_slice(elements: &'a [T]) -> Result<Self, BitSpanError>

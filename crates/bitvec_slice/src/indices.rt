@@ -109,8 +109,8 @@ impl<'a, T: BitStore, O: BitOrder> BitSliceMut<'a, T, O> {
         ensures part { IsRangeOf T.BITS (seen_mut self.old) range.start range.end (seen_mut result) }
     {
         let start = self.window().start + range.start;
-        let cells = touched_range::<T>(start, self.window().start + range.end);
-        let elements = self.elements_part_mut(cells.start, cells.end);
+        let touched = touched_range::<T>(start, self.window().start + range.end);
+        let elements = self.elements_part_mut(touched.start, touched.end);
         BitSliceMut::from_parts(
             elements,
             start % (T::BITS as usize),

@@ -3,7 +3,7 @@ ghost use Rattle.std.specs.Prelude.{◌≡◌, ◌+◌, ◌%◌, ◌<◌, ◌≤
 
 use crate::BitSliceMut;
 use crate::touching::touched_range;
-use bitvec_domain::comes_apart;
+use bitvec_domain::base::comes_apart;
 use bitvec_elements::base::BitOrder;
 use bitvec_elements::store::BitStore;
 

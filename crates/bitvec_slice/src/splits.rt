@@ -12,8 +12,8 @@ impl<'a, T: BitStore, O: BitOrder> BitSlice<'a, T, O> {
     /// The bits before the index `mid`, and those from it on. Condition: `mid` is at most `len`.
     ///
     /// ```
-    /// let cells = [0xF0u8];
-    /// let view = BitSlice::<u8, Lsb0>::from_slice(&cells);
+    /// let elements = [0xF0u8];
+    /// let view = BitSlice::<u8, Lsb0>::from_slice(&elements);
     /// assert!(rt; counts(view.split_at(4)) == [(4, 0), (4, 4)]);
     /// ```
     pub fn split_at(self, mid: usize) -> (BitSlice<'a, T, O>, BitSlice<'a, T, O>)

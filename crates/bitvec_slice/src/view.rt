@@ -140,8 +140,8 @@ impl<'a, T: BitStore, O: BitOrder> BitSlice<'a, T, O> {
     /// The elements that the view touches, in their order.
     ///
     /// ```
-    /// let mut cells = [0u8, 0xFF, 0];
-    /// let view = BitSliceMut::<u8, Msb0>::from_slice_mut(&mut cells);
+    /// let mut elements = [0u8, 0xFF, 0];
+    /// let view = BitSliceMut::<u8, Msb0>::from_slice_mut(&mut elements);
     /// assert!(rt; whole_elements(view.domain()) == Some([0, 0xFF, 0].as_slice()));
     /// ```
     pub fn domain(self) -> Domain<'a, T, O>
@@ -161,7 +161,7 @@ impl<'a, T: BitStore, O: BitOrder> BitSlice<'a, T, O> {
     /// no such call.
     ///
     /// ```
-    /// let view = BitSlice::<u8, Lsb0>::from_slice(&cells).into_part(4..12);
+    /// let view = BitSlice::<u8, Lsb0>::from_slice(&elements).into_part(4..12);
     /// let copy = view.clone()?;
     /// assert!(rt; view == copy);
     /// ```
@@ -170,8 +170,8 @@ impl<'a, T: BitStore, O: BitOrder> BitSlice<'a, T, O> {
         ensures { IsRangeOf T.BITS (seen self.entry) range.start range.end (seen result) }
     {
         let start = self.head + range.start;
-        let cells = touched_range::<T>(start, self.head + range.end);
-        let elements = &self.elements[cells.start..cells.end];
+        let touched = touched_range::<T>(start, self.head + range.end);
+        let elements = &self.elements[touched.start..touched.end];
         BitSlice::from_parts(
             elements,
             start % (T::BITS as usize),

@@ -57,8 +57,8 @@ impl<'a, T: BitStore, O: BitOrder> BitSliceMut<'a, T, O> {
     /// A view of all bits of the elements. Condition: they are at most `MAX_BITS` bits.
     ///
     /// ```
-    /// let mut cells = [0u8];
-    /// let mut slots = BitSliceMut::<u8, Lsb0>::from_slice_mut(&mut cells);
+    /// let mut elements = [0u8];
+    /// let mut slots = BitSliceMut::<u8, Lsb0>::from_slice_mut(&mut elements);
     /// slots.fill(true);
     /// ```
     #[tactic(auto, using(crate::specs::SeenLaws::whole_view))]
@@ -91,7 +91,7 @@ impl<'a, T: BitStore, O: BitOrder> BitSliceMut<'a, T, O> {
     /// as a view that was made of a slice has, also after edits. `bitvec` has no such call.
     ///
     /// ```
-    /// let mut view = BitSliceMut::<u16, Lsb0>::from_slice_unchecked_mut(&mut cells);
+    /// let mut view = BitSliceMut::<u16, Lsb0>::from_slice_unchecked_mut(&mut elements);
     /// view.set(17, true);
     /// assert!(rt; view.into_slice()[1] == 2);
     /// ```
@@ -206,8 +206,8 @@ impl<'a, T: BitStore, O: BitOrder> BitSliceMut<'a, T, O> {
             mark: _,
         } = self;
         let start = head + range.start;
-        let cells = touched_range::<T>(start, head + range.end);
-        let elements = &mut elements[cells.start..cells.end];
+        let touched = touched_range::<T>(start, head + range.end);
+        let elements = &mut elements[touched.start..touched.end];
         BitSliceMut::from_parts(
             elements,
             start % (T::BITS as usize),
@@ -218,8 +218,8 @@ impl<'a, T: BitStore, O: BitOrder> BitSliceMut<'a, T, O> {
     /// Where the view stands among the elements that it touches. `bitvec` has no such call.
     ///
     /// ```
-    /// let mut cells = [0u8; 3];
-    /// let view = BitSliceMut::<u8, Lsb0>::from_slice_mut(&mut cells);
+    /// let mut elements = [0u8; 3];
+    /// let view = BitSliceMut::<u8, Lsb0>::from_slice_mut(&mut elements);
     /// assert!(rt; view.window() == Window { start: 0, len: 24 });
     /// ```
     #[tactic(auto, using(crate::specs::SeenLaws::has_window))]

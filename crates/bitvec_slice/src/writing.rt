@@ -28,8 +28,8 @@ pub trait ViewMut<T: BitStore, O: BitOrder>: View<T, O> {
         ensures elements { result.now ≡ (Self.shows self.old).elements };
 
     // Where its elements were written in its window, its bits were. What was written is told by a slice and a window that are its own.
-    ghost written: { (before : Self) (now cells : List T) (window : Window) (made new : List Bool) → Writes T.BITS O.at (map T.value cells) (map T.value now) window made
-        → cells ≡ (Self.shows before).elements → window ≡ (Self.shows before).window → made ≡ new → writes before (with_elements before now) new };
+    ghost written: { (before : Self) (now elements : List T) (window : Window) (made new : List Bool) → Writes T.BITS O.at (map T.value elements) (map T.value now) window made
+        → elements ≡ (Self.shows before).elements → window ≡ (Self.shows before).window → made ≡ new → writes before (with_elements before now) new };
 
     // The bits that were written are there.
     ghost has_written: { (before after : Self) (new : List Bool) → writes before after new → (Self.shows after).bits ≡ new };

@@ -1,5 +1,5 @@
 -- `elements_part_mut`, as `PartLender.antt` of `bitvec_domain` proves it, of a struct with fields whose machine value no denotation tells, as a predicate is one.
---     of_four        what four type parameters bring into a method's signature and code
+--     of_five        what five type parameters bring into a method's signature and code
 --     Begins         a struct's machine value begins with this one;  `begins`, where its fields' values are known to be some
 --     lends_range    the code meets the contract
 -- What it asks of the struct is what that file asks, but of its machine value the first field alone (`begun`). Assumes `Logic`.
@@ -61,15 +61,15 @@ use Rattle.bitvec_slice.specs.lends.PartLender.{function, signature, ended, clau
 use Rattle.bitvec_slice.specs.lends.Through.{parts, Flat, lends_part_of}
 use Rattle.bitvec_slice.specs.lends.Lender.{spelled}
 
-abbrev pub of_four : RattleType → RattleType → RattleType → RattleType → Arity
-of_four T O P W = record {
-  more = 4;
+abbrev pub of_five : RattleType → RattleType → RattleType → RattleType → RattleType → Arity
+of_five T O P W L = record {
+  more = 5;
   bounds = record { long = 2; long_ok = tt; short = named 0; short_ok = tt } ∷ record { long = 3; long_ok = tt; short = named 0; short_ok = tt }
       ∷ record { long = 4; long_ok = tt; short = named 0; short_ok = tt } ∷ record { long = 5; long_ok = tt; short = named 0; short_ok = tt }
-      ∷ record { long = 2; long_ok = tt; short = named 1; short_ok = tt } ∷ [];
-  coded = (2, 0) ∷ (3, 0) ∷ (4, 0) ∷ (5, 0) ∷ (2, 1) ∷ [];
-  facts = λ κs. (κs.1.1.0 ⊑ T.lives) ∷ (κs.1.1.1.0 ⊑ O.lives) ∷ (κs.1.1.1.1.0 ⊑ P.lives) ∷ (κs.1.1.1.1.1.0 ⊑ W.lives) ∷ [];
-  args = tcons (ty_param 0) (tcons (ty_param 1) (tcons (ty_param 2) (tcons (ty_param 3) tnil)));
+      ∷ record { long = 6; long_ok = tt; short = named 0; short_ok = tt } ∷ record { long = 2; long_ok = tt; short = named 1; short_ok = tt } ∷ [];
+  coded = (2, 0) ∷ (3, 0) ∷ (4, 0) ∷ (5, 0) ∷ (6, 0) ∷ (2, 1) ∷ [];
+  facts = λ κs. (κs.1.1.0 ⊑ T.lives) ∷ (κs.1.1.1.0 ⊑ O.lives) ∷ (κs.1.1.1.1.0 ⊑ P.lives) ∷ (κs.1.1.1.1.1.0 ⊑ W.lives) ∷ (κs.1.1.1.1.1.1.0 ⊑ L.lives) ∷ [];
+  args = tcons (ty_param 0) (tcons (ty_param 1) (tcons (ty_param 2) (tcons (ty_param 3) (tcons (ty_param 4) tnil))));
 }
 
 abbrev pub Begins : Val → List Val → Type 0

@@ -12,7 +12,7 @@ use Rattle.bitvec_split.specs.LentViews.{found_in, left_in}
 use Rattle.bitvec_split.specs.SplitsLending.{with_elements}
 use Rattle.bitvec_split.specs.declared.lending.SplitsMut.{SplitsMut}
 
-module _ {T O P W : Type 0} {t : Store T} {o : Order O} (s : SplitsMut T O P W t o) where
+module _ {T O P W L : Type 0} {t : Store T} {o : Order O} (s : SplitsMut T O P W L t o) where
   -- where the elements begin and end that the piece touches
   abbrev pub first_of_found : ℕ
   first_of_found = first_touched t.BITS ((left_in s).view.window.start + (found_in s).start)

@@ -1,6 +1,6 @@
 -- What is left of a split that lends its pieces, and what each call asks, lends and leaves. The bits that are
 -- left are a range of the view that was split.
-use Rattle.std.specs.Prelude.{◌≡◌, ℕ, ◌+◌, ◌-◌, ◌<◌, ◌==◌, ◌&&◌, ◌⊎◌, Bool, true, List, [], Option, Some, None, IfSome, MatchOption, if◌then◌else◌, min, not, slice_range}
+use Rattle.std.specs.Prelude.{◌≡◌, ℕ, ◌+◌, ◌-◌, ◌==◌, ◌&&◌, ◌⊎◌, Bool, true, List, [], Option, Some, None, IfSome, MatchOption, if◌then◌else◌, min, not, slice_range}
 use Rattle.std.specs.Bool.{MatchBool}
 use Rattle.std.specs.Borrow.{Bor}
 use Rattle.std.specs.Fn.{Mut, always_mut}
@@ -32,9 +32,6 @@ module _ {T P : Type 0} where
 
   abbrev pub most_in : LeftIn T P → ℕ
   most_in s = if s.finished then 0 else s.to - s.from + 1
-
-  abbrev pub limited_most_in : LimitedSplitIn T P → ℕ
-  limited_most_in s = min (most_in s.left) s.count
 
   -- the bits of which pieces are still to come
   abbrev pub uncut_in : LeftIn T P → List Bool
@@ -76,15 +73,17 @@ module _ {T P : Type 0} (g : Mut P (ℕ × (Bor Bool × Unit {0})) Bool) where
   abbrev pub SplitNextBackIn : Bool → Bool → LeftIn T P → Option (Range ℕ) → LeftIn T P → Type 0
   SplitNextBackIn inclusive reversed s result t = SplitStepIn inclusive (row_of inclusive (not reversed) (s.to - s.from)) s result t
 
-  -- of a split that may lend `count` pieces more, what a call makes of all but that number
-  abbrev pub LimitedStepIn : Bool → Bool → ℕ → LeftIn T P → Option (Range ℕ) → LeftIn T P → Type 0
-  LimitedStepIn inclusive reversed count s result t =
-      MatchOption result (((count ≡ 0) ⊎ (s.finished ≡ true)) × (t ≡ s))
-      (λ piece. (0 < count) × MatchBool (count == 1) (SplitRestIn s (Some piece) t) (SplitNextIn inclusive reversed s (Some piece) t))
-
   abbrev pub LimitedNextIn : Bool → Bool → LimitedSplitIn T P → Option (Range ℕ) → LimitedSplitIn T P → Type 0
   LimitedNextIn inclusive reversed s result t =
       LimitedBy (λ left. left.finished) (λ left piece rest. SplitRestIn left (Some piece) rest) (λ left piece rest. SplitNextIn inclusive reversed left (Some piece) rest) s result t
+
+  -- of a split that has a limit or none; without one nothing is said of the count
+  abbrev pub NextIn : Bool → Bool → Bool → LimitedSplitIn T P → Option (Range ℕ) → LimitedSplitIn T P → Type 0
+  NextIn inclusive reversed limited s result t = MatchBool limited (LimitedNextIn inclusive reversed s result t) (SplitNextIn inclusive reversed s.left result t.left)
+
+-- so many pieces, or as many as the count permits, of a split that has a limit
+abbrev pub capped : Bool → ℕ → ℕ → ℕ
+capped limited count pieces = if limited then min pieces count else pieces
 
 -- a range, where one was found
 abbrev pub piece_if : Bool → Range ℕ → Option (Range ℕ)
@@ -99,3 +98,8 @@ pub record StaysIn {T P : Type 0} (s : LeftIn T P) (result : Option (Range ℕ))
 abbrev pub Lends : {T S : Type 0} → ℕ → Seen T → (Option (Range ℕ) → S → Type 0) → Option (Seen T) → Type 0
 Lends {T} {S} b view step result =
     MatchOption result ((t : S) × step None t) (λ piece. (range : Range ℕ) × (t : S) × step (Some range) t × IsRangeOf b view range.start range.end piece)
+
+-- what a call lends, of a split that has a limit or none
+abbrev pub LendsNextIn : {T P : Type 0} → ℕ → Mut P (ℕ × (Bor Bool × Unit {0})) Bool → Bool → Bool → Bool → LimitedSplitIn T P → Option (Seen T) → Type 0
+LendsNextIn b g inclusive reversed limited s result =
+    MatchBool limited (Lends b s.left.view (LimitedNextIn g inclusive reversed s) result) (Lends b s.left.view (SplitNextIn g inclusive reversed s.left) result)

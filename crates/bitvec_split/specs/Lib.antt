@@ -10,7 +10,6 @@ pub mod FoundLaws
 pub mod Lent
 pub mod LentLaws
 pub mod LentViews
-pub mod LimitedLending
 pub mod SplitLaws
 pub mod Splits
 pub mod SplitsLending

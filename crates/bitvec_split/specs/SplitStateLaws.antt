@@ -3,10 +3,10 @@ use Rattle.std.specs.Prelude.{◌≡◌, ℕ, Option}
 use Rattle.std.specs.declared.ops.Range.{Range}
 use Rattle.std.proofs.Common.{subst}
 use Rattle.bitvec_slice.specs.Seen.{Seen}
-use Rattle.bitvec_split.specs.SplitStates.{left_on}
-use Rattle.bitvec_split.specs.Lent.{LeftIn}
+use Rattle.bitvec_split.specs.SplitStates.{limited_on}
+use Rattle.bitvec_split.specs.Lent.{LimitedSplitIn}
 use Rattle.bitvec_split.specs.declared.split_state.SplitState.{SplitState}
 
-pub step_on : {T P W : Type 0} (step : LeftIn T P → Option (Range ℕ) → LeftIn T P → Type 0) {view shown : Seen T} → view ≡ shown → (old new : SplitState P W) (result : Option (Range ℕ))
-    → step (left_on view old) result (left_on view new) → step (left_on shown old) result (left_on shown new)
-step_on step same old new result gave = subst (λ v. step (left_on v old) result (left_on v new)) same gave
+pub step_on : {T P W L : Type 0} (step : LimitedSplitIn T P → Option (Range ℕ) → LimitedSplitIn T P → Type 0) {view shown : Seen T} → view ≡ shown → (old new : SplitState P W L) (result : Option (Range ℕ))
+    → step (limited_on view old) result (limited_on view new) → step (limited_on shown old) result (limited_on shown new)
+step_on step same old new result gave = subst (λ v. step (limited_on v old) result (limited_on v new)) same gave

@@ -10,9 +10,9 @@ use Rattle.bitvec_slice.specs.Touched.{end_touched, first_touched}
 use Rattle.bitvec_split.specs.declared.lending.SplitsMut.{SplitsMut}
 use Rattle.bitvec_split.specs.contracts.lending.SplitsMut.{the_row}
 
-module _ {T O P W : Type 0} {t : Store T} {o : Order O} where
+module _ {T O P W L : Type 0} {t : Store T} {o : Order O} where
   -- the split as before, but for its elements, which are xs, cut or filled up to as many as before
-  abbrev pub with_elements : SplitsMut T O P W t o → List T → SplitsMut T O P W t o
+  abbrev pub with_elements : SplitsMut T O P W L t o → List T → SplitsMut T O P W L t o
   with_elements s xs =
       record s {
         elements = refilled s.elements xs;
@@ -20,15 +20,15 @@ module _ {T O P W : Type 0} {t : Store T} {o : Order O} where
         bounded = subst (λ (n : ℕ). t.BITS * n ≤ max_bits) (length_refilled s.elements xs) s.bounded;
       }
 
-module _ (T O P W : RattleType) {t : Store T.Denot} {o : Order O.Denot} where
+module _ (T O P W L : RattleType) {t : Store T.Denot} {o : Order O.Denot} where
   -- the elements from `start` up to `end` were lent under this name, and the split ends with what is left there and its other elements
-  abbrev pub lends_part : MutBor (SplitsMut T.Denot O.Denot P.Denot W.Denot t o) → ℕ → ℕ → GName → Fml
-  lends_part s start end name = follows (the_row of_lender T O P W t o) (Array T 0) s.ghost_name name (λ ws. with_elements s.now (with_range s.now.elements.now start end ws))
+  abbrev pub lends_part : MutBor (SplitsMut T.Denot O.Denot P.Denot W.Denot L.Denot t o) → ℕ → ℕ → GName → Fml
+  lends_part s start end name = follows (the_row of_lender T O P W L t o) (Array T 0) s.ghost_name name (λ ws. with_elements s.now (with_range s.now.elements.now start end ws))
 
   -- those that the bits from the index `from` up to `to` touch
-  abbrev pub lends_bits : MutBor (SplitsMut T.Denot O.Denot P.Denot W.Denot t o) → ℕ → ℕ → GName → Fml
+  abbrev pub lends_bits : MutBor (SplitsMut T.Denot O.Denot P.Denot W.Denot L.Denot t o) → ℕ → ℕ → GName → Fml
   lends_bits s from to name = lends_part s (first_touched t.BITS (s.now.head + from)) (end_touched t.BITS (s.now.head + to)) name
 
   -- those of the piece that was found last
-  abbrev pub lends_found : MutBor (SplitsMut T.Denot O.Denot P.Denot W.Denot t o) → GName → Fml
+  abbrev pub lends_found : MutBor (SplitsMut T.Denot O.Denot P.Denot W.Denot L.Denot t o) → GName → Fml
   lends_found s name = lends_bits s s.now.found.start s.now.found.end name

@@ -33,8 +33,8 @@ pub trait SplitCalls<T, P>: Shows<T> {
     /// With no yes all that is left is the last piece, also an empty one.
     ///
     /// ```
-    /// let cells = [0x90u8];
-    /// let view = BitSlice::<u8, Lsb0>::from_slice(&cells).into_part(3..8);
+    /// let elements = [0x90u8];
+    /// let view = BitSlice::<u8, Lsb0>::from_slice(&elements).into_part(3..8);
     /// assert!(rt; numbers(view.split(|_, bit| *bit)) == [0b1_0, 0b1_00, 0b1, 0]);
     /// ```
     fn split(self, pred: P) -> Self::Split

@@ -3,7 +3,7 @@ ghost use Rattle.std.specs.Prelude.{◌≡◌, false, true};
 ghost use Rattle.std.specs.Borrow.{Array, follows, sem};
 ghost use Rattle.bitvec_split.specs.Lent.{unsplit_in};
 
-use crate::{RSplitMut, RSplitNMut, SplitInclusiveMut, SplitMut, SplitNMut, SplitsMut, SplitsNMut};
+use crate::{RSplitMut, RSplitNMut, SplitInclusiveMut, SplitMut, SplitNMut};
 use bitvec_slice::base::BitOrder;
 use bitvec_slice::store::BitStore;
 use bitvec_slice::{BitSliceMut, ViewMut};
@@ -11,7 +11,7 @@ use bitvec_slice::{BitSliceMut, ViewMut};
 /// Splits of a writable view by a predicate, whose pieces are lent one at a time. The view is lent for as
 /// long as the split is; afterwards a caller knows its window and its number of elements.
 pub trait SplitCallsMut<T: BitStore, O: BitOrder>: ViewMut<T, O> {
-    ghost use Rattle.bitvec_split.specs.LentViews.{left_in, limited_in, name_of_limited, name_of_splits};
+    ghost use Rattle.bitvec_split.specs.LentViews.{left_in, limited_in, name_of_splits};
 
     /// The pieces between the bits at which `pred` says yes, from both ends; no piece has such a bit.
     ///
@@ -56,7 +56,7 @@ pub trait SplitCallsMut<T: BitStore, O: BitOrder>: ViewMut<T, O> {
         count: usize,
         pred: P,
     ) -> SplitNMut<'_, T, O, P>
-        ensures* writes_back { sem 𝓛 (follows Self.row (Array T.row 0) self.entry.ghost_name (name_of_limited result) (Self.with_elements self.old)) }
+        ensures* writes_back { sem 𝓛 (follows Self.row (Array T.row 0) self.entry.ghost_name (name_of_splits result) (Self.with_elements self.old)) }
         ensures left { limited_in result ≡ record { left = unsplit_in false (Self.shows self.old) pred; count = count } };
 
     /// The first pieces of `rsplit_mut`, `count` at most, as for `splitn_mut`.
@@ -70,24 +70,24 @@ pub trait SplitCallsMut<T: BitStore, O: BitOrder>: ViewMut<T, O> {
         count: usize,
         pred: P,
     ) -> RSplitNMut<'_, T, O, P>
-        ensures* writes_back { sem 𝓛 (follows Self.row (Array T.row 0) self.entry.ghost_name (name_of_limited result) (Self.with_elements self.old)) }
+        ensures* writes_back { sem 𝓛 (follows Self.row (Array T.row 0) self.entry.ghost_name (name_of_splits result) (Self.with_elements self.old)) }
         ensures left { limited_in result ≡ record { left = unsplit_in false (Self.shows self.old) pred; count = count } };
 }
 
 impl<'a, T: BitStore, O: BitOrder> SplitCallsMut<T, O> for BitSliceMut<'a, T, O> {
     fn split_mut<P: FnMut(usize, &bool) -> bool>(&mut self, pred: P) -> SplitMut<'_, T, O, P> {
-        SplitsMut::new(self, pred)
+        SplitMut::new(self, pred)
     }
 
     fn split_inclusive_mut<P: FnMut(usize, &bool) -> bool>(
         &mut self,
         pred: P,
     ) -> SplitInclusiveMut<'_, T, O, P> {
-        SplitsMut::new(self, pred)
+        SplitInclusiveMut::new(self, pred)
     }
 
     fn rsplit_mut<P: FnMut(usize, &bool) -> bool>(&mut self, pred: P) -> RSplitMut<'_, T, O, P> {
-        SplitsMut::new(self, pred)
+        RSplitMut::new(self, pred)
     }
 
     fn splitn_mut<P: FnMut(usize, &bool) -> bool>(
@@ -95,7 +95,7 @@ impl<'a, T: BitStore, O: BitOrder> SplitCallsMut<T, O> for BitSliceMut<'a, T, O>
         count: usize,
         pred: P,
     ) -> SplitNMut<'_, T, O, P> {
-        SplitsNMut::new(self, count, pred)
+        SplitNMut::new(self, count, pred)
     }
 
     fn rsplitn_mut<P: FnMut(usize, &bool) -> bool>(
@@ -103,6 +103,6 @@ impl<'a, T: BitStore, O: BitOrder> SplitCallsMut<T, O> for BitSliceMut<'a, T, O>
         count: usize,
         pred: P,
     ) -> RSplitNMut<'_, T, O, P> {
-        SplitsNMut::new(self, count, pred)
+        RSplitNMut::new(self, count, pred)
     }
 }

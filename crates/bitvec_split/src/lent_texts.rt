@@ -6,14 +6,14 @@ ghost use Rattle.bitvec_split.specs.Lent.{uncut_in};
 
 use crate::split_state::look;
 use crate::texts::write_limited;
-use crate::{SplitsMut, SplitsNMut};
+use crate::{AtMost, Every, SplitsMut};
 use bitvec_slice::base::BitOrder;
 use bitvec_slice::store::BitStore;
 use bitvec_slice::write_named;
 use std::fmt;
 
 /// The bits that no piece has yet, as `SplitsMut([0, 1, 0])`: none once the last piece was found.
-impl<'a, T: BitStore, O: BitOrder, P, W> fmt::Debug for SplitsMut<'a, T, O, P, W> {
+impl<'a, T: BitStore, O: BitOrder, P, W> fmt::Debug for SplitsMut<'a, T, O, P, W, Every> {
     ghost use Rattle.bitvec_split.specs.LentViews.{left_in};
 
     ghost debug_output = { λ s. debug_variant (codes "SplitsMut") (Some (bits_text (uncut_in (left_in s)))) };
@@ -25,13 +25,13 @@ impl<'a, T: BitStore, O: BitOrder, P, W> fmt::Debug for SplitsMut<'a, T, O, P, W
 }
 
 /// The bits that no piece has yet, and how many pieces may come, as `SplitsNMut([0, 1, 0], 2)`.
-impl<'a, T: BitStore, O: BitOrder, P, W> fmt::Debug for SplitsNMut<'a, T, O, P, W> {
+impl<'a, T: BitStore, O: BitOrder, P, W> fmt::Debug for SplitsMut<'a, T, O, P, W, AtMost> {
     ghost use Rattle.bitvec_split.specs.LentViews.{limited_in};
 
     ghost debug_output = { λ s. debug_variant (codes "SplitsNMut") (Some (bits_text (uncut_in (limited_in s).left) ++ (comma ++ decimal (limited_in s).count))) };
 
     fn fmt<V: fmt::Write>(&self, f: &mut fmt::Formatter<V>) -> fmt::Result {
         let bits = look::<T, O>(&self.elements, self.head, self.len);
-        write_limited("SplitsNMut", self.state.uncut(bits), self.count, f)
+        write_limited("SplitsNMut", self.state.uncut(bits), self.state.count, f)
     }
 }

@@ -7,7 +7,6 @@ mod calls_mut;
 mod kinds;
 mod lending;
 mod lent_texts;
-mod limited_lending;
 mod limiting;
 mod rows;
 mod split_state;
@@ -32,9 +31,10 @@ pub mod store {
 
 pub use calls::SplitCalls;
 pub use calls_mut::SplitCallsMut;
-pub use kinds::{Forward, Inclusive, Reversed, SplitKind};
-pub use lending::{RSplitMut, SplitInclusiveMut, SplitMut, SplitsMut};
-pub use limited_lending::{RSplitNMut, SplitNMut, SplitsNMut};
+pub use kinds::{AtMost, Every, Forward, Inclusive, Reversed, SplitKind, SplitLimit};
+pub use lending::{
+    RSplitMut, RSplitNMut, SplitInclusiveMut, SplitMut, SplitNMut, SplitsMut, SplitsNMut,
+};
 pub use limiting::{RSplitN, SplitN, SplitsN};
 #[doc(hidden)]
 pub use rows::{ask_row, cut_row};

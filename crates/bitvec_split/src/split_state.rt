@@ -1,31 +1,33 @@
 //! How far a split that lends its pieces has come, and its steps.
-ghost use Rattle.std.specs.Prelude.{◌≡◌, ◌+◌, ◌-◌, ◌<◌, ◌≤◌, ◌*◌, Some, length};
+ghost use Rattle.std.specs.Prelude.{◌≡◌, ◌+◌, ◌-◌, ◌≤◌, ◌*◌, length};
 ghost use Rattle.bitvec_slice.specs.Seen.{shown};
 ghost use Rattle.bitvec_slice.specs.Views.{seen};
 ghost use Rattle.bitvec_slice.specs.base.Window.{max_bits};
-ghost use Rattle.bitvec_split.specs.SplitStates.{left_on};
-ghost use Rattle.bitvec_split.specs.Lent.{LimitedStepIn, MayGoOnIn, SplitNextBackIn, SplitNextIn, SplitRestIn, SplitStepIn, StaysIn, least_in, most_in, uncut_in, unsplit_in};
+ghost use Rattle.bitvec_split.specs.SplitStates.{left_on, limited_on};
+ghost use Rattle.bitvec_split.specs.Lent.{MayGoOnIn, NextIn, SplitNextBackIn, SplitRestIn, SplitStepIn, StaysIn, capped, least_in, most_in, uncut_in, unsplit_in};
 ghost use Rattle.bitvec_split.specs.Splits.{row_of};
 
-use crate::SplitKind;
 use crate::rows::{ask_row, cut_row};
+use crate::{SplitKind, SplitLimit};
 use bitvec_slice::BitSlice;
 use bitvec_slice::base::BitOrder;
 use bitvec_slice::store::BitStore;
 use std::marker::PhantomData;
 use std::ops::Range;
 
-/// Which bits of a view no piece has yet, whether the last piece was lent, and the predicate.
+/// Which bits of a view no piece has yet, whether the last piece was lent, how many may still come where
+/// they are counted, and the predicate.
 #[derive(Drop)]
-pub(crate) struct SplitState<P, W> {
+pub(crate) struct SplitState<P, W, L> {
     pub(crate) from: usize,
     pub(crate) to: usize,
     pub(crate) finished: bool,
+    pub(crate) count: usize,
     pub(crate) pred: P,
-    pub(crate) way: PhantomData<W>,
+    pub(crate) way: PhantomData<(W, L)>,
 }
 
-impl<P, W> SplitState<P, W> {
+impl<P, W, L> SplitState<P, W, L> {
     // The range of the view that no piece has yet.
     fn range<T: BitStore, O: BitOrder>(&self, bits: BitSlice<'_, T, O>) -> Range<usize>
         ensures start { result.start ≡ (left_on (seen bits.entry) self.now).from }
@@ -51,16 +53,21 @@ impl<P, W> SplitState<P, W> {
     }
 }
 
-impl<P: FnMut(usize, &bool) -> bool, W: SplitKind> SplitState<P, W> {
-    /// All bits of a view are left.
-    pub(crate) fn of<T: BitStore, O: BitOrder>(bits: BitSlice<'_, T, O>, pred: P) -> Self
-        ensures { left_on (seen bits.entry) result ≡ unsplit_in W.INCLUSIVE (seen bits.entry) pred }
+impl<P: FnMut(usize, &bool) -> bool, W: SplitKind, L: SplitLimit> SplitState<P, W, L> {
+    /// All bits of a view are left, and so many pieces may come.
+    pub(crate) fn of<T: BitStore, O: BitOrder>(
+        bits: BitSlice<'_, T, O>,
+        count: usize,
+        pred: P,
+    ) -> Self
+        ensures { limited_on (seen bits.entry) result ≡ record { left = unsplit_in W.INCLUSIVE (seen bits.entry) pred; count = count } }
     {
         let to = bits.len();
         SplitState {
             from: 0,
             to,
             finished: W::INCLUSIVE && to == 0,
+            count,
             pred,
             way: PhantomData,
         }
@@ -76,6 +83,7 @@ impl<P: FnMut(usize, &bool) -> bool, W: SplitKind> SplitState<P, W> {
         requires { MayGoOnIn P.FnMut (left_on (seen bits) self.old) }
         ensures stays { StaysIn (left_on (seen bits.entry) self.old) result (left_on (seen bits.entry) self.new) }
         ensures piece { SplitStepIn P.FnMut W.INCLUSIVE (row_of W.INCLUSIVE back ((left_on (seen bits.entry) self.old).to - (left_on (seen bits.entry) self.old).from)) (left_on (seen bits.entry) self.old) result (left_on (seen bits.entry) self.new) }
+        ensures count { self.new.count ≡ self.old.count }
     {
         if self.finished {
             return None;
@@ -93,18 +101,6 @@ impl<P: FnMut(usize, &bool) -> bool, W: SplitKind> SplitState<P, W> {
         Some(start + piece.start..start + piece.end)
     }
 
-    /// The next piece, as a range of the view.
-    pub(crate) fn step<T: BitStore, O: BitOrder>(
-        &mut self,
-        bits: BitSlice<'_, T, O>,
-    ) -> Option<Range<usize>>
-        requires { MayGoOnIn P.FnMut (left_on (seen bits) self.old) }
-        ensures stays { StaysIn (left_on (seen bits.entry) self.old) result (left_on (seen bits.entry) self.new) }
-        ensures piece { SplitNextIn P.FnMut W.INCLUSIVE W.REVERSED (left_on (seen bits.entry) self.old) result (left_on (seen bits.entry) self.new) }
-    {
-        self.step_from(bits, W::REVERSED)
-    }
-
     /// A step from the other end.
     pub(crate) fn step_behind<T: BitStore, O: BitOrder>(
         &mut self,
@@ -117,13 +113,11 @@ impl<P: FnMut(usize, &bool) -> bool, W: SplitKind> SplitState<P, W> {
         self.step_from(bits, !W::REVERSED)
     }
 
-    /// All that is left, unasked, as a range of the view.
-    pub(crate) fn finish<T: BitStore, O: BitOrder>(
-        &mut self,
-        bits: BitSlice<'_, T, O>,
-    ) -> Option<Range<usize>>
+    // All that is left, unasked, as a range of the view.
+    fn finish<T: BitStore, O: BitOrder>(&mut self, bits: BitSlice<'_, T, O>) -> Option<Range<usize>>
         ensures stays { StaysIn (left_on (seen bits.entry) self.old) result (left_on (seen bits.entry) self.new) }
         ensures piece { SplitRestIn (left_on (seen bits.entry) self.old) result (left_on (seen bits.entry) self.new) }
+        ensures count { self.new.count ≡ self.old.count }
     {
         if self.finished {
             return None;
@@ -132,24 +126,29 @@ impl<P: FnMut(usize, &bool) -> bool, W: SplitKind> SplitState<P, W> {
         Some(self.range(bits))
     }
 
-    /// The next piece of a split that may lend `count` more, as a range of the view.
-    pub(crate) fn step_limited<T: BitStore, O: BitOrder>(
+    /// The next piece, as a range of the view: where pieces are counted the last that may come is all that is left,
+    /// unasked.
+    pub(crate) fn step<T: BitStore, O: BitOrder>(
         &mut self,
         bits: BitSlice<'_, T, O>,
-        count: usize,
     ) -> Option<Range<usize>>
         requires { MayGoOnIn P.FnMut (left_on (seen bits) self.old) }
         ensures stays { StaysIn (left_on (seen bits.entry) self.old) result (left_on (seen bits.entry) self.new) }
-        ensures piece { LimitedStepIn P.FnMut W.INCLUSIVE W.REVERSED count (left_on (seen bits.entry) self.old) result (left_on (seen bits.entry) self.new) }
+        ensures piece { NextIn P.FnMut W.INCLUSIVE W.REVERSED L.LIMITED (limited_on (seen bits.entry) self.old) result (limited_on (seen bits.entry) self.new) }
     {
-        match count {
+        if !L::LIMITED {
+            return self.step_from(bits, W::REVERSED);
+        }
+        let range = match self.count {
             0 => None,
             1 => self.finish(bits),
-            _ => self.step(bits),
-        }
+            _ => self.step_from(bits, W::REVERSED),
+        }?;
+        self.count -= 1;
+        Some(range)
     }
 
-    /// How many pieces come at least, and how many at most.
+    /// How many pieces come at least, and how many at most, where they are not counted.
     pub(crate) fn bounds<T: BitStore, O: BitOrder>(
         &self,
         bits: BitSlice<'_, T, O>,
@@ -161,6 +160,17 @@ impl<P: FnMut(usize, &bool) -> bool, W: SplitKind> SplitState<P, W> {
         }
         let Range { start, end } = self.range(bits);
         (1, end - start + 1)
+    }
+
+    /// So many pieces, or as many as may come where they are counted.
+    pub(crate) fn cap(&self, pieces: usize) -> usize
+        ensures { result ≡ capped L.LIMITED self.now.count pieces }
+    {
+        if L::LIMITED {
+            pieces.min(self.count)
+        } else {
+            pieces
+        }
     }
 }
 

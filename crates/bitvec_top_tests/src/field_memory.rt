@@ -9,10 +9,10 @@ use std::mem::size_of;
 /// How many replies a run through two bytes gives.
 fn count_replies(
     alloc: &Refusing<Global>,
-    cells: &mut [u8; 2],
+    elements: &mut [u8; 2],
     steps: &[FieldStep],
 ) -> Result<usize, RunError> {
-    let mut memory = Exclusive::new(cells);
+    let mut memory = Exclusive::new(elements);
     let mut right = Shared::new(&[]);
     let window = Window { start: 0, len: 16 };
     match run_fields::<Lsb0, _, _, _>(alloc, &mut memory, window, &mut right, steps) {
@@ -33,9 +33,9 @@ fn a_run_asks_once_and_changes_nothing_where_it_is_refused(rt: HostRuntime) {
         (1, Ok(2), [0xB0, 0x0E]),
     ] {
         let refusing = Refusing::new(rt.alloc(), granted);
-        let mut cells = [0x00, 0x00];
-        assert!(rt; count_replies(&refusing, &mut cells, &[step, step]) == count);
-        assert!(rt; cells == bytes);
+        let mut elements = [0x00, 0x00];
+        assert!(rt; count_replies(&refusing, &mut elements, &[step, step]) == count);
+        assert!(rt; elements == bytes);
         assert!(rt; refusing.bytes() == granted * 2 * size_of::<Reply>() as u64);
     }
 }
@@ -43,7 +43,7 @@ fn a_run_asks_once_and_changes_nothing_where_it_is_refused(rt: HostRuntime) {
 #[test]
 fn a_run_of_no_steps_asks_for_nothing(rt: HostRuntime) {
     let refusing = Refusing::new(rt.alloc(), 0);
-    let mut cells = [0x5A, 0xC3];
-    assert!(rt; count_replies(&refusing, &mut cells, &[]) == Ok(0));
-    assert!(rt; (cells, refusing.granted_all()) == ([0x5A, 0xC3], true));
+    let mut elements = [0x5A, 0xC3];
+    assert!(rt; count_replies(&refusing, &mut elements, &[]) == Ok(0));
+    assert!(rt; (elements, refusing.granted_all()) == ([0x5A, 0xC3], true));
 }

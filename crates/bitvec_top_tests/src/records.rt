@@ -20,14 +20,14 @@ fn codes(
     values: [u128; 3],
     bytes: [u8; 2],
 ) -> bool {
-    let mut cells = [0u8; 2];
+    let mut elements = [0u8; 2];
     let mut numbers = [0u128; 3];
     match Layout::new(alloc, 16, fields) {
         Ok(layout) => {
-            let mut view = BitSliceMut::<u8, Msb0>::from_slice_mut(&mut cells);
+            let mut view = BitSliceMut::<u8, Msb0>::from_slice_mut(&mut elements);
             let is_encoded = encode(&layout, endian, &values, &mut view).is_ok();
             decode(&layout, endian, view.as_ref(), &mut numbers);
-            is_encoded && cells == bytes && numbers == values
+            is_encoded && elements == bytes && numbers == values
         }
         Err(_) => false,
     }

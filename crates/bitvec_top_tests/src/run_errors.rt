@@ -14,11 +14,11 @@ fn a_window_outside_is_an_error(rt: HostRuntime) {
         (usize::MAX, 1),
         (1, usize::MAX),
     ] {
-        let mut cells = [0x5Au8, 0xC3];
+        let mut elements = [0x5Au8, 0xC3];
         let window = Window { start, len };
-        let outcome = answer::<_, Lsb0, _>(rt.alloc(), &mut cells, window, &[], &four_nibbles());
+        let outcome = answer::<_, Lsb0, _>(rt.alloc(), &mut elements, window, &[], &four_nibbles());
         assert!(rt; outcome.err() == Some(RunError::Window), "({start}, {len})");
-        assert!(rt; cells == [0x5A, 0xC3], "({start}, {len})");
+        assert!(rt; elements == [0x5A, 0xC3], "({start}, {len})");
     }
 }
 

@@ -11,14 +11,14 @@ const WINDOW: Window = Window { start: 0, len: 16 };
 /// Whether a run asks for as many bytes as its replies take, and makes them; or is refused, and changes
 /// nothing.
 fn asks_once(refusing: &Refusing<Global>, granted: u64) -> bool {
-    let mut cells = [0x00u8, 0x00];
-    match answer::<_, Lsb0, _>(refusing, &mut cells, WINDOW, &[], &four_nibbles()) {
+    let mut elements = [0x00u8, 0x00];
+    match answer::<_, Lsb0, _>(refusing, &mut elements, WINDOW, &[], &four_nibbles()) {
         Ok(replies) => {
             granted > 0
                 && replies.as_slice() == FOUR_NIBBLES_REPLIES.as_slice()
-                && cells == [0x21, 0x84]
+                && elements == [0x21, 0x84]
         }
-        Err(error) => granted == 0 && error == RunError::Memory && cells == [0x00, 0x00],
+        Err(error) => granted == 0 && error == RunError::Memory && elements == [0x00, 0x00],
     }
 }
 
@@ -35,9 +35,9 @@ fn a_run_asks_once_and_changes_nothing_where_it_is_refused(rt: HostRuntime) {
 
 /// Whether a run of no steps is made, and changes nothing.
 fn replies_nothing(alloc: &Refusing<Global>) -> bool {
-    let mut cells = [0x5Au8, 0xC3];
-    match answer::<_, Lsb0, _>(alloc, &mut cells, WINDOW, &[], &[]) {
-        Ok(replies) => replies.is_empty() && cells == [0x5A, 0xC3],
+    let mut elements = [0x5Au8, 0xC3];
+    match answer::<_, Lsb0, _>(alloc, &mut elements, WINDOW, &[], &[]) {
+        Ok(replies) => replies.is_empty() && elements == [0x5A, 0xC3],
         Err(_) => false,
     }
 }

@@ -23,24 +23,24 @@ fn replies_so(replies: Result<Vec<Reply>, RunError>, wanted: &[Reply]) -> bool {
     }
 }
 
-fn check<O: SliceOrder, R: Abort + AllocGlobal>(rt: &R, cells: &mut [u8], row: &Row) {
-    let replies = answer::<u8, O, _>(rt.alloc(), cells, row.window, row.right, row.steps);
+fn check<O: SliceOrder, R: Abort + AllocGlobal>(rt: &R, elements: &mut [u8], row: &Row) {
+    let replies = answer::<u8, O, _>(rt.alloc(), elements, row.window, row.right, row.steps);
     assert!(rt; replies_so(replies, row.replies));
-    assert!(rt; &*cells == row.after);
+    assert!(rt; &*elements == row.after);
 }
 
 /// The row of four nibbles in elements that are zero, and the numbers that it leaves there.
 fn check_four_nibbles<T: BitStore, R: Abort + AllocGlobal>(
     rt: &R,
-    cells: &mut [T],
+    elements: &mut [T],
     after: &[u128],
 ) {
     let window = Window { start: 0, len: 16 };
-    let replies = answer::<T, Lsb0, _>(rt.alloc(), cells, window, &[], &four_nibbles());
+    let replies = answer::<T, Lsb0, _>(rt.alloc(), elements, window, &[], &four_nibbles());
     assert!(rt; replies_so(replies, &FOUR_NIBBLES_REPLIES));
-    assert!(rt; cells.len() == after.len());
-    for (cell, number) in cells.iter().zip(after) {
-        assert!(rt; cell.to_u128() == *number);
+    assert!(rt; elements.len() == after.len());
+    for (element, number) in elements.iter().zip(after) {
+        assert!(rt; element.to_u128() == *number);
     }
 }
 

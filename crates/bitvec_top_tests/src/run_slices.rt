@@ -37,12 +37,12 @@ pub(crate) fn step(row: StepRow) -> Step {
 /// A run through a window of a slice; the right memory is a slice too.
 pub(crate) fn answer<T: BitStore, O: SliceOrder, A: Allocator>(
     alloc: A,
-    cells: &mut [T],
+    elements: &mut [T],
     window: Window,
     right: &[T],
     steps: &[Step],
 ) -> Result<Vec<Reply, A>, RunError> {
-    let mut left = Exclusive::new(cells);
+    let mut left = Exclusive::new(elements);
     let mut source = Shared::new(right);
     run::<O, A, _, _>(alloc, &mut left, window, &mut source, steps)
 }

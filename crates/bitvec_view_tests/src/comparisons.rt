@@ -65,8 +65,8 @@ pub fn equal_views_hash_alike<T: BitStore, O: SliceOrder>(
 }
 
 /// Asserts that a view's clone has the same bits, if one was made.
-fn is_cloned<R: Abort>(rt: &R, cells: [u8; 2]) -> Result<(), AllocError> {
-    let view = BitSlice::<u8, Lsb0>::from_slice(&cells).into_part(4..12);
+fn is_cloned<R: Abort>(rt: &R, elements: [u8; 2]) -> Result<(), AllocError> {
+    let view = BitSlice::<u8, Lsb0>::from_slice(&elements).into_part(4..12);
     let copy = view.clone()?;
     assert!(rt; view == copy);
     Ok(())

@@ -49,21 +49,21 @@ fn found<E: Drop>(view: Result<BitSlice<'_, u8, Lsb0>, E>) -> Option<(usize, Opt
 
 #[test]
 fn a_slice_that_is_short_enough_is_viewed(rt: HostRuntime) {
-    let cells = [0x0Fu8, 0x01];
-    let view = BitSlice::<u8, Lsb0>::try_from_slice(&cells);
+    let elements = [0x0Fu8, 0x01];
+    let view = BitSlice::<u8, Lsb0>::try_from_slice(&elements);
     assert!(rt; found(view) == Some((16, Some(8))));
-    let view: Result<BitSlice<'_, u8, Lsb0>, &[u8]> = BitSlice::try_from(&cells[..]);
+    let view: Result<BitSlice<'_, u8, Lsb0>, &[u8]> = BitSlice::try_from(&elements[..]);
     assert!(rt; found(view) == Some((16, Some(8))));
-    let view = BitSlice::<u8, Lsb0>::from_slice_unchecked(&cells);
+    let view = BitSlice::<u8, Lsb0>::from_slice_unchecked(&elements);
     assert!(rt; view.into_slice().len() == 2);
 }
 
 /// Fills the elements, and flips their bits, if they can be viewed.
-fn fill_and_invert(cells: &mut [u16]) {
-    if let Ok(mut view) = BitSliceMut::<u16, Lsb0>::try_from_slice_mut(cells) {
+fn fill_and_invert(elements: &mut [u16]) {
+    if let Ok(mut view) = BitSliceMut::<u16, Lsb0>::try_from_slice_mut(elements) {
         view.fill(true);
     }
-    let view: Result<BitSliceMut<'_, u16, Lsb0>, &mut [u16]> = BitSliceMut::try_from(cells);
+    let view: Result<BitSliceMut<'_, u16, Lsb0>, &mut [u16]> = BitSliceMut::try_from(elements);
     if let Ok(mut view) = view {
         view.invert();
     }
@@ -71,10 +71,10 @@ fn fill_and_invert(cells: &mut [u16]) {
 
 #[test]
 fn a_slice_that_is_short_enough_is_written(rt: HostRuntime) {
-    let mut cells = [3u16, 5];
-    fill_and_invert(&mut cells);
-    assert!(rt; cells == [0, 0]);
-    let mut view = BitSliceMut::<u16, Lsb0>::from_slice_unchecked_mut(&mut cells);
+    let mut elements = [3u16, 5];
+    fill_and_invert(&mut elements);
+    assert!(rt; elements == [0, 0]);
+    let mut view = BitSliceMut::<u16, Lsb0>::from_slice_unchecked_mut(&mut elements);
     view.set(17, true);
     assert!(rt; view.into_slice()[1] == 2);
 }

@@ -7,8 +7,8 @@ use bitvec_test_support::stays_ended_at_both;
 
 /// How many bits the one part has of a range that touches neither edge of its element, or else 0 and how many the
 /// head, the body and the tail have; nothing where there is no such range.
-fn cut_of(cells: &[u32; 3], from: usize, to: usize) -> Option<(usize, usize, usize, usize)> {
-    match BitSlice::<u32, Msb0>::from_slice(cells).get(from..to) {
+fn cut_of(elements: &[u32; 3], from: usize, to: usize) -> Option<(usize, usize, usize, usize)> {
+    match BitSlice::<u32, Msb0>::from_slice(elements).get(from..to) {
         Some(range) => match range.bit_domain() {
             BitDomain::Enclave(part) => Some((part.len(), 0, 0, 0)),
             BitDomain::Region { head, body, tail } => {
@@ -21,7 +21,7 @@ fn cut_of(cells: &[u32; 3], from: usize, to: usize) -> Option<(usize, usize, usi
 
 #[test]
 fn a_range_is_cut_at_the_edges_of_elements(rt: HostRuntime) {
-    let cells = [0u32; 3];
+    let elements = [0u32; 3];
     for (from, to, cut) in [
         (2, 94, (0, 30, 32, 30)),
         (34, 62, (28, 0, 0, 0)),
@@ -30,14 +30,14 @@ fn a_range_is_cut_at_the_edges_of_elements(rt: HostRuntime) {
         (32, 64, (0, 0, 32, 0)),
         (5, 5, (0, 0, 0, 0)),
     ] {
-        assert!(rt; cut_of(&cells, from, to) == Some(cut), "{from} {to}");
+        assert!(rt; cut_of(&elements, from, to) == Some(cut), "{from} {to}");
     }
 }
 
 /// Reads the part that the bits 2 up to 6 of a byte are, its value, its two indices and its mask, and then stores a
 /// value's bits, or else flips them.
-fn write_part(cells: &mut [u8; 1], value: Option<u8>) -> Option<(u8, usize, usize, u8)> {
-    let mut range = BitSliceMut::<u8, Lsb0>::from_slice_mut(cells).into_part(2..6);
+fn write_part(elements: &mut [u8; 1], value: Option<u8>) -> Option<(u8, usize, usize, u8)> {
+    let mut range = BitSliceMut::<u8, Lsb0>::from_slice_mut(elements).into_part(2..6);
     match range.domain_mut().enclave() {
         Some(mut part) => {
             let read = (part.load_value(), part.head(), part.tail(), part.mask());
@@ -53,17 +53,17 @@ fn write_part(cells: &mut [u8; 1], value: Option<u8>) -> Option<(u8, usize, usiz
 
 #[test]
 fn an_enclave_is_written_alone(rt: HostRuntime) {
-    let mut cells = [0xB4u8];
+    let mut elements = [0xB4u8];
     for (value, read, after) in [(Some(0xFF), 0x34, 0xBC), (None, 0x3C, 0x80)] {
-        assert!(rt; write_part(&mut cells, value) == Some((read, 2, 6, 0x3C)));
-        assert!(rt; cells == [after]);
+        assert!(rt; write_part(&mut elements, value) == Some((read, 2, 6, 0x3C)));
+        assert!(rt; elements == [after]);
     }
 }
 
 #[test]
 fn an_enclave_has_its_bits_alone(rt: HostRuntime) {
-    let cells = [0xB4u8];
-    let view = BitSlice::<u8, Lsb0>::from_slice(&cells).into_part(2..6);
+    let elements = [0xB4u8];
+    let view = BitSlice::<u8, Lsb0>::from_slice(&elements).into_part(2..6);
     match view.domain().enclave() {
         Some(part) => {
             let read = (part.load_value(), part.head(), part.tail(), part.mask());
@@ -83,16 +83,16 @@ fn whole_elements<'a>(domain: Domain<'a, u8, Msb0>) -> Option<&'a [u8]> {
 
 #[test]
 fn a_writable_view_shows_its_elements(rt: HostRuntime) {
-    let mut cells = [0u8, 0xFF, 0];
-    let view = BitSliceMut::<u8, Msb0>::from_slice_mut(&mut cells);
+    let mut elements = [0u8, 0xFF, 0];
+    let view = BitSliceMut::<u8, Msb0>::from_slice_mut(&mut elements);
     assert!(rt; whole_elements(view.domain()) == Some([0, 0xFF, 0].as_slice()));
     assert!(rt; view.bit_domain().enclave().is_none());
 }
 
 #[test]
 fn values_and_parts_come_from_both_ends(rt: HostRuntime) {
-    let cells = [0xFFu8, 0x12, 0xFF];
-    let view = BitSlice::<u8, Lsb0>::from_slice(&cells).into_part(4..20);
+    let elements = [0xFFu8, 0x12, 0xFF];
+    let view = BitSlice::<u8, Lsb0>::from_slice(&elements).into_part(4..20);
     assert!(rt; view.domain().into_iter().next() == Some(0xF0));
     assert!(rt; view.domain().values().next_back() == Some(0x0F));
     let mut parts = view.bit_domain().parts();
@@ -100,8 +100,8 @@ fn values_and_parts_come_from_both_ends(rt: HostRuntime) {
 }
 
 /// Flips the parts of the bits 4 up to 20, each in turn.
-fn flip_each_part(cells: &mut [u8; 3]) {
-    let mut view = BitSliceMut::<u8, Lsb0>::from_slice_mut(cells).into_part(4..20);
+fn flip_each_part(elements: &mut [u8; 3]) {
+    let mut view = BitSliceMut::<u8, Lsb0>::from_slice_mut(elements).into_part(4..20);
     for mut part in view.bit_domain_mut() {
         part.invert();
     }
@@ -109,9 +109,9 @@ fn flip_each_part(cells: &mut [u8; 3]) {
 
 #[test]
 fn parts_are_written_in_a_loop(rt: HostRuntime) {
-    let mut cells = [0u8; 3];
-    flip_each_part(&mut cells);
-    assert!(rt; cells == [0xF0, 0xFF, 0x0F]);
+    let mut elements = [0u8; 3];
+    flip_each_part(&mut elements);
+    assert!(rt; elements == [0xF0, 0xFF, 0x0F]);
 }
 
 #[test]

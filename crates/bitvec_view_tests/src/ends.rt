@@ -26,8 +26,8 @@ fn has(
 
 #[test]
 fn first_and_last_bits_are_read_and_split_off(rt: HostRuntime) {
-    let mut cells = [0xF9u8];
-    let view = BitSliceMut::<u8, Lsb0>::from_slice_mut(&mut cells).into_part(0..3);
+    let mut elements = [0xF9u8];
+    let view = BitSliceMut::<u8, Lsb0>::from_slice_mut(&mut elements).into_part(0..3);
     assert!(rt; reads(view.first(), true) && reads(view.last(), false));
     assert!(rt; has(view.split_first(), true, 2) && has(view.split_last(), false, 2));
     let view = view.as_ref();
@@ -46,16 +46,16 @@ fn counts(parts: (BitSlice<'_, u8, Lsb0>, BitSlice<'_, u8, Lsb0>)) -> [(usize, u
 
 #[test]
 fn a_view_is_read_in_two_parts(rt: HostRuntime) {
-    let cells = [0xF0u8];
-    let view = BitSlice::<u8, Lsb0>::from_slice(&cells);
+    let elements = [0xF0u8];
+    let view = BitSlice::<u8, Lsb0>::from_slice(&elements);
     assert!(rt; counts(view.split_at(4)) == [(4, 0), (4, 4)]);
     assert!(rt; counts(view.split_at_unchecked(5)) == [(5, 1), (3, 3)]);
 }
 
 #[test]
 fn a_writable_view_is_read_in_two_parts(rt: HostRuntime) {
-    let mut cells = [0xF0u8];
-    let view = BitSliceMut::<u8, Lsb0>::from_slice_mut(&mut cells);
+    let mut elements = [0xF0u8];
+    let view = BitSliceMut::<u8, Lsb0>::from_slice_mut(&mut elements);
     let (left, right) = view.split_at(4);
     assert!(rt; left.not_any() && right.all());
     assert!(rt; counts(view.split_at_unchecked(5)) == [(5, 1), (3, 3)]);

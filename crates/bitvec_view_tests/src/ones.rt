@@ -37,8 +37,8 @@ pub fn ones_in_turn<T: BitStore, O: SliceOrder, A: Allocator>(
 
 #[test]
 fn ones_from_both_ends(rt: HostRuntime) {
-    let cells = [0x21u8];
-    let view = BitSlice::<u8, Lsb0>::from_slice(&cells);
+    let elements = [0x21u8];
+    let view = BitSlice::<u8, Lsb0>::from_slice(&elements);
     let mut ones = view.iter_ones();
     assert!(rt; (ones.next(), ones.next_back()) == (Some(0), Some(5)));
     assert!(rt; (ones.next(), ones.next_back()) == (None, None));
@@ -46,8 +46,8 @@ fn ones_from_both_ends(rt: HostRuntime) {
 
 #[test]
 fn zeros_from_both_ends(rt: HostRuntime) {
-    let mut cells = [0xF7u8, 0xFE];
-    let view = BitSliceMut::<u8, Msb0>::from_slice_mut(&mut cells);
+    let mut elements = [0xF7u8, 0xFE];
+    let view = BitSliceMut::<u8, Msb0>::from_slice_mut(&mut elements);
     let mut zeros = view.iter_zeros();
     assert!(rt; (zeros.next_back(), zeros.next()) == (Some(15), Some(4)));
 }
@@ -73,8 +73,8 @@ fn holds(list: Result<Vec<usize>, AllocError>, wanted: &[usize]) -> bool {
 
 #[test]
 fn a_list_of_ones(rt: HostRuntime) {
-    let cells = [0x00u8, 0x80, 0x01, 0x01];
-    let view = BitSlice::<u8, Lsb0>::from_slice(&cells).into_part(3..30);
+    let elements = [0x00u8, 0x80, 0x01, 0x01];
+    let view = BitSlice::<u8, Lsb0>::from_slice(&elements).into_part(3..30);
     assert!(rt; holds(ones_of(rt.alloc(), view), &[12, 13, 21]));
     assert!(rt; holds(ones_in_turn(rt.alloc(), view), &[12, 13, 21]));
 }

@@ -6,8 +6,8 @@ use bitvec_query::slice::{BitSlice, BitSliceIndex, BitSliceMut, Viewed, ViewedMu
 use std::process::Abort;
 
 /// The view 0, 1, 0, 0, 1 of a byte.
-fn five_bits(cells: &[u8; 1]) -> BitSlice<'_, u8, Lsb0> {
-    BitSlice::from_slice(cells).into_part(0..5)
+fn five_bits(elements: &[u8; 1]) -> BitSlice<'_, u8, Lsb0> {
+    BitSlice::from_slice(elements).into_part(0..5)
 }
 
 /// How many bits a range has, and how many of them are 1.
@@ -67,27 +67,27 @@ fn a_pair_of_bits_is_read_by_get_and_brackets(rt: HostRuntime) {
 
 #[test]
 fn bits_and_ranges_are_there_by_index(rt: HostRuntime) {
-    let cells = [0x12u8];
-    let view = BitSlice::<u8, Lsb0>::from_slice(&cells);
+    let elements = [0x12u8];
+    let view = BitSlice::<u8, Lsb0>::from_slice(&elements);
     assert!(rt; *4.index(view) && (2..).index(view).len() == 6 && !*view.get_unchecked(3));
     assert!(rt; BitSliceIndex::<BitSlice<u8, Lsb0>>::fits(&2, 3));
 }
 
 #[test]
 fn a_writable_view_is_read_by_brackets(rt: HostRuntime) {
-    let mut cells = [0x01u8];
+    let mut elements = [0x01u8];
     {
-        let view = BitSliceMut::<u8, Lsb0>::from_slice_mut(&mut cells);
+        let view = BitSliceMut::<u8, Lsb0>::from_slice_mut(&mut elements);
         2.index_mut(view).commit(true);
     }
-    let view = BitSliceMut::<u8, Lsb0>::from_slice_mut(&mut cells);
+    let view = BitSliceMut::<u8, Lsb0>::from_slice_mut(&mut elements);
     assert!(rt; view[0] && !view[1] && *view.get_unchecked(2));
 }
 
 #[test]
 fn a_view_says_where_it_stands(rt: HostRuntime) {
-    let mut cells = [0u8; 3];
-    let view = BitSliceMut::<u8, Lsb0>::from_slice_mut(&mut cells);
+    let mut elements = [0u8; 3];
+    let view = BitSliceMut::<u8, Lsb0>::from_slice_mut(&mut elements);
     assert!(rt; view.window() == Window { start: 0, len: 24 });
     assert!(rt; view.bit_len() == 24 && view.as_ref().bit_len() == 24);
 }

@@ -6,8 +6,8 @@ use bitvec_test_support::{prints, shows};
 
 /// Writes the bit 2 to 1, to 0 and to 1 again: gives the bit before the first write, and those after
 /// the first and the second.
-fn write_thrice(cells: &mut [u8; 1]) -> Option<(bool, bool, bool)> {
-    let mut view = BitSliceMut::<u8, Lsb0>::from_slice_mut(cells);
+fn write_thrice(elements: &mut [u8; 1]) -> Option<(bool, bool, bool)> {
+    let mut view = BitSliceMut::<u8, Lsb0>::from_slice_mut(elements);
     match view.get_mut(2) {
         Some(mut bit) => {
             let before = bit.replace(true);
@@ -23,9 +23,9 @@ fn write_thrice(cells: &mut [u8; 1]) -> Option<(bool, bool, bool)> {
 
 #[test]
 fn a_reference_writes_at_once(rt: HostRuntime) {
-    let mut cells = [0x00];
-    assert!(rt; write_thrice(&mut cells) == Some((false, true, false)));
-    assert!(rt; cells == [0x04]);
+    let mut elements = [0x00];
+    assert!(rt; write_thrice(&mut elements) == Some((false, true, false)));
+    assert!(rt; elements == [0x04]);
 }
 
 /// Whether a reference's copy and its clone read as the reference itself.
@@ -39,16 +39,16 @@ fn reads_alike(bit: &BitRef<'_, u8, Lsb0>) -> bool {
 
 #[test]
 fn a_shared_reference_is_copied_and_printed(rt: HostRuntime) {
-    let cells = [0x12u8];
-    let bit = BitSlice::<u8, Lsb0>::from_slice(&cells).into_bit(1);
+    let elements = [0x12u8];
+    let bit = BitSlice::<u8, Lsb0>::from_slice(&elements).into_bit(1);
     assert!(rt; reads_alike(&bit));
     assert!(rt; prints(rt.alloc(), &bit, "true") && shows(rt.alloc(), &bit, "true"));
 }
 
 #[test]
 fn writing_references_print_and_compare(rt: HostRuntime) {
-    let (mut cells, mut others) = ([0x01u8], [0x03u8]);
-    let bit = BitSliceMut::<u8, Lsb0>::from_slice_mut(&mut cells).into_bit(0);
+    let (mut elements, mut others) = ([0x01u8], [0x03u8]);
+    let bit = BitSliceMut::<u8, Lsb0>::from_slice_mut(&mut elements).into_bit(0);
     assert!(rt; prints(rt.alloc(), &bit, "true") && shows(rt.alloc(), &bit, "true"));
     assert!(rt; bit == BitSliceMut::<u8, Lsb0>::from_slice_mut(&mut others).into_bit(1));
 }

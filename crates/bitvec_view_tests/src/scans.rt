@@ -50,8 +50,8 @@ fn runs_of_ones_and_zeros(rt: HostRuntime) {
 
 /// Where the first and the last of each bit are in two elements alike.
 fn places_of_two(element: u8) -> [Option<usize>; 4] {
-    let mut cells = [element; 2];
-    places(&BitSliceMut::<u8, Msb0>::from_slice_mut(&mut cells))
+    let mut elements = [element; 2];
+    places(&BitSliceMut::<u8, Msb0>::from_slice_mut(&mut elements))
 }
 
 #[test]
@@ -62,13 +62,13 @@ fn the_last_of_no_bit_is_none(rt: HostRuntime) {
 
 /// Where the first one is of the bits from one index up to another, and of those and the next.
 fn first_of<T: BitStore, O: SliceOrder>(
-    cells: &[T],
+    elements: &[T],
     from: usize,
     to: usize,
 ) -> Option<[Option<usize>; 2]>
-    requires { T.BITS * length cells.now ≤ max_bits }
+    requires { T.BITS * length elements.now ≤ max_bits }
 {
-    let view = BitSlice::<T, O>::from_slice(cells);
+    let view = BitSlice::<T, O>::from_slice(elements);
     let shorter = view.get(from..to)?;
     let longer = view.get(from..to.wrapping_add(1))?;
     Some([shorter.first_one(), longer.first_one()])
@@ -168,8 +168,8 @@ fn part(byte: &[u8; 1], from: usize, to: usize) -> Option<BitSlice<'_, u8, Lsb0>
 // The view is 0, 1, 0, 0, 1, 0, 0, 0.
 #[test]
 fn a_writable_view_is_stripped_of_its_ends(rt: HostRuntime) {
-    let mut cells = [0x12u8];
-    let view = BitSliceMut::<u8, Lsb0>::from_slice_mut(&mut cells);
+    let mut elements = [0x12u8];
+    let view = BitSliceMut::<u8, Lsb0>::from_slice_mut(&mut elements);
     let zero_one = BitSlice::<u8, Lsb0>::from_slice(&[0x02]).into_part(0..2);
     let rest = view.strip_prefix(zero_one);
     assert!(rt; is_left(rest, part(&[0x04], 0, 6)) == Some(true));

@@ -6,8 +6,8 @@ use bitvec_test_support::{prints, shows};
 
 #[test]
 fn writable_views_print_and_compare(rt: HostRuntime) {
-    let (mut cells, mut others) = ([0xA1u8], [0xA1u8]);
-    let view = BitSliceMut::<u8, Lsb0>::from_slice_mut(&mut cells);
+    let (mut elements, mut others) = ([0xA1u8], [0xA1u8]);
+    let view = BitSliceMut::<u8, Lsb0>::from_slice_mut(&mut elements);
     let text = "[1, 0, 0, 0, 0, 1, 0, 1]";
     assert!(rt; prints(rt.alloc(), &view, text) && shows(rt.alloc(), &view, text));
     assert!(rt; view == BitSliceMut::from_slice_mut(&mut others));

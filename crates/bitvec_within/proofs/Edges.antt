@@ -190,7 +190,7 @@ cut-inside b bits value cells front rest window near f s n same has joined count
     let end = has.within.len in
     rw range (record { fits = omega arith; within = record { start = omega arith; len = omega arith } }, record { fits = omega arith; within = record { start = omega arith; len = omega arith } })
 
--- the same where the place is the edge of an element
+-- a memory cut in two where the place is the edge of an element
 pub edge-place : {A : Type 0} (b bits : ℕ) (value : A → ℕ) (front : List A) (window : Window) (s : ℕ) → bits ≡ b → length front ≡ (window.start + s) / bits → (window.start + s) % b ≡ 0 → b * length (map value front) + 0 ≡ window.start + s
 edge-place b bits value front window s same count edge =
     let cut = cut-place b bits value front window s same count in

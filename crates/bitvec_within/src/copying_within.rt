@@ -12,10 +12,10 @@ use bitvec_elements::store::BitStore;
 use bitvec_elements::words::WordOrder;
 use std::ops::Range;
 
-/// Copies the bits of a range of a window to `dest` on, also where they overlap. Condition: the
-/// memory has at most `MAX_BITS` bits, the window lies in it, and both the bits read and those
-/// written lie in the window. The bits of an element, or 64, are copied as a word, under an order
-/// that runs from one end of an element to the other.
+/// Copies the bits of a range of a window to the places from `dest` on; the two may overlap.
+/// Condition: the memory has at most `MAX_BITS` bits, the window lies in it, and both the bits read
+/// and those written lie in the window. A range no longer than an element, or of 64 bits, is copied
+/// as a word under an order that runs from one end of an element to the other.
 pub fn copy_within_in<T: BitStore, O: SliceOrder>(
     elements: &mut [T],
     window: Window,

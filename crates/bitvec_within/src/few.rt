@@ -4,8 +4,8 @@ ghost use Rattle.std.specs.Prelude.{◌≡◌, ◌≤◌, true};
 use bitvec_elements::store::BitStore;
 use bitvec_elements::words::WORD_BITS;
 
-/// Whether so many bits are loaded and stored as a word with no loop: those of a window that is no longer
-/// than an element, or 64.
+/// Whether that many bits are loaded and stored as a word with no loop: no more than an element and a
+/// word have, or 64.
 #[inline(always)]
 pub(crate) fn is_few<T: BitStore>(len: usize) -> bool
     ensures { result ≡ true → len ≤ 64 }

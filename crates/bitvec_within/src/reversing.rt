@@ -10,9 +10,9 @@ use bitvec_elements::few_word;
 use bitvec_elements::store::BitStore;
 use bitvec_elements::words::{WORD_BITS, WordOrder, moved, reversed};
 
-/// Reverses the bits of a window, as the order does it. Condition: the memory has at most
-/// `MAX_BITS` bits, and the window lies in it. The bits of an element, or 64, are reversed as a word,
-/// under an order that runs from one end of an element to the other.
+/// Reverses the bits of a window, as the order does it. Condition: the memory has at most `MAX_BITS`
+/// bits, and the window lies in it. A window no longer than an element, or of 64 bits, is reversed as
+/// a word under an order that runs from one end of an element to the other.
 pub fn reverse_in<T: BitStore, O: SliceOrder>(elements: &mut [T], window: Window)
     requires window { HasWindow T.BITS (map T.value elements.old) window }
     ensures writes { Edits T.BITS O.at (map T.value elements.old) (map T.value elements.new) window reversal }

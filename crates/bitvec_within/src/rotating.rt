@@ -67,9 +67,9 @@ fn rotated_word<W: WordOrder>(word: u64, len: usize, by: usize) -> u64
     first | last
 }
 
-/// [`rotate_left_in`] of any length. Blocks are exchanged until the rest can be held aside: as many
-/// elements as the memory has, by powers of two, but of no more than 1,024 bits, or 16. A memory of fewer
-/// than four elements takes three reversals.
+/// [`rotate_left_in`] of any length. Blocks are exchanged until the rest can be held aside. What holds it
+/// is a power of two of elements: no more than the memory has, and no more than 16 or than have 1,024
+/// bits. A memory of fewer than four elements takes three reversals.
 fn rotate_many<T: BitStore, O: SliceOrder>(elements: &mut [T], window: Window, by: usize)
     requires window { HasWindow T.BITS (map T.value elements.old) window }
     requires bound { by ≤ window.len }

@@ -13,10 +13,10 @@ use bitvec_elements::few_word;
 use bitvec_elements::store::BitStore;
 use bitvec_elements::words::{WordOrder, moved};
 
-/// Shifts the bits of a window towards its start: as many zeros as were lost follow the others.
-/// Condition: the memory has at most `MAX_BITS` bits, the window lies in it, and `by` is at most
-/// the window's length. The bits of an element, or 64, are shifted as a word, under an order that runs from
-/// one end of an element to the other.
+/// Shifts the bits of a window towards its start, and zeros in at its end. Condition: the memory has at
+/// most `MAX_BITS` bits, the window lies in it, and `by` is at most the window's length. A window no longer
+/// than an element, or of 64 bits, is shifted as a word under an order that runs from one end of an element
+/// to the other.
 pub fn shift_start_in<T: BitStore, O: SliceOrder>(elements: &mut [T], window: Window, by: usize)
     requires window { HasWindow T.BITS (map T.value elements.old) window }
     requires bound { by ≤ window.len }
@@ -33,8 +33,8 @@ pub fn shift_start_in<T: BitStore, O: SliceOrder>(elements: &mut [T], window: Wi
     shift_start::<O, Exclusive<T>>(&mut accessor, window, by);
 }
 
-/// Shifts the bits of a window towards its end: as many zeros as were lost stand before the others.
-/// Condition: as for [`shift_start_in`].
+/// Shifts the bits of a window towards its end, and zeros in at its start. Condition: as for
+/// [`shift_start_in`].
 pub fn shift_end_in<T: BitStore, O: SliceOrder>(elements: &mut [T], window: Window, by: usize)
     requires window { HasWindow T.BITS (map T.value elements.old) window }
     requires bound { by ≤ window.len }

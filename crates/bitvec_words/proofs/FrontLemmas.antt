@@ -1,11 +1,11 @@
 -- The first bits of a window as a word: a whole word of elements, a part of one, and one bit after the other.
-use Rattle.std.specs.Prelude.{◌≡◌, ◌≢◌, ℕ, zero, suc, ◌+◌, ◌-◌, ◌*◌, ◌/◌, ◌%◌, ◌^◌, ◌<◌, ◌≤◌, ◌==◌, Bool, true, false, List, [], ◌∷◌, ◌++◌, length, replicate, slice_index, slice_range, bit_and, bit_or, refl}
+use Rattle.std.specs.Prelude.{◌≡◌, ◌≢◌, ℕ, ◌+◌, ◌-◌, ◌/◌, ◌%◌, ◌^◌, ◌<◌, ◌≤◌, ◌==◌, Bool, true, false, List, [], ◌∷◌, ◌++◌, length, replicate, slice_index, slice_range, bit_and, bit_or}
 use Rattle.std.specs.Int.{bit_at}
 use Rattle.std.proofs.Common.{arith, rules, sym, ◌∙◌, ap}
 use Rattle.std.proofs.lemmas.List.{places, same_lists}
-use Rattle.std.proofs.lemmas.Nat.{div-add-mod', pow_pos}
-use Rattle.std.proofs.lemmas.Nat.Bits.{and_pow, bit_at-lt}
+use Rattle.std.proofs.lemmas.Nat.{div-add-mod'}
 use Rattle.bitvec_cells.specs.base.declared.window.Window.{Window}
+use Rattle.bitvec_cells.specs.base.FoundLaws.{masked-none, masked-one}
 use Rattle.bitvec_cells.specs.base.Memory.{HasWindow, element_bits, list_in}
 use Rattle.bitvec_cells.specs.base.MemoryLaws.{element-or_mask, get-element_bits, length-element_bits}
 use Rattle.bitvec_cells.specs.base.Order.{Permutes}
@@ -13,7 +13,7 @@ use Rattle.bitvec_cells.specs.base.PartLaws.{length-part}
 use Rattle.bitvec_cells.specs.base.SliceLaws.{range-push}
 use Rattle.bitvec_cells.specs.ElementLaws.{single_mask}
 use Rattle.bitvec_cells.specs.base.Parts.{first_part_of, part_window}
-use Rattle.bitvec_cells.specs.base.Window.{window_of, window_range, write_at}
+use Rattle.bitvec_cells.specs.base.Window.{window_range, write_at}
 use Rattle.bitvec_cells.specs.store.Width.{IsWidth}
 use Rattle.bitvec_cells.specs.store.WidthLaws.{width_some}
 use Rattle.bitvec_cells.specs.base.WritesLaws.{length-list}
@@ -24,14 +24,9 @@ use Rattle.bitvec_words.specs.ShortWindow.{padded}
 use Rattle.bitvec_words.specs.FieldLaws.{list-part}
 use Rattle.bitvec_words.specs.PartWalkLaws.{HasPart-first}
 use Rattle.bitvec_words.specs.TouchedLaws.{head_edge, touched-head}
-use Rattle.bitvec_words.specs.WholeLaws.{HasWindow-part, behind-mod}
+use Rattle.bitvec_words.specs.WholeLaws.{HasWindow-part, behind-mod, list-same}
 use Rattle.bitvec_cells.specs.Cost.{touched_count}
 use Rattle.bitvec_words.specs.Front.{IsFront, front_window}
-
--- the same places, told in another way
-pub list-same : (b : ℕ) (at : ℕ → ℕ → ℕ) (xs : List ℕ) (window other : Window) → window.start ≡ other.start → window.len ≡ other.len → list_in b at xs window ≡ list_in b at xs other
-unfolding window_of
-list-same b at xs window other start len = rw (start, len) refl
 
 pub touched-part : (b : ℕ) (window : Window) → IsWidth b → 0 < window.len → touched_count b window.start ((first_part_of b window).to - (first_part_of b window).from) ≡ 1
 touched-part b window width some =
@@ -52,7 +47,7 @@ module _ (b : ℕ) (at : ℕ → ℕ → ℕ) (xs : List ℕ) (window : Window) 
         most = omega arith;
         within = long;
         edge = λ few more. ap (λ (n : ℕ). (window.start + n) % b) (sym whole) ∙ behind-mod b window.start (64 / b) (width_some b width) ∙ edge;
-        bits = bits ∙ sym (padded-all 64 _ (len ∙ whole)) ∙ ap (padded 64) (list-same b at xs elements (window_range window 0 64) (omega arith) (omega arith));
+        bits = bits ∙ sym (padded-all 64 _ (len ∙ whole)) ∙ ap (padded 64) (list-same b at xs (window_range window 0 64) elements (omega arith) (omega arith));
       }
 
   -- the part of the first element, up to 64 bits of it
@@ -67,7 +62,7 @@ module _ (b : ℕ) (at : ℕ → ℕ → ℕ) (xs : List ℕ) (window : Window) 
       let start = has.within.start in
       let end = has.within.len in
       let has_front : HasWindow b xs front = record { fits = has.fits; within = record { start = start; len = omega arith } } in
-      let same = list-same b at xs (part_window b part) (window_range window 0 (part.to - part.from)) (omega arith) (omega arith) in
+      let same = list-same b at xs (window_range window 0 (part.to - part.from)) (part_window b part) (omega arith) (omega arith) in
       let holds = list-part b at xs part (HasPart-first b xs front front wide (omega arith) has_front (Walked-start b front)) in
       record {
         some = omega arith;
@@ -78,15 +73,6 @@ module _ (b : ℕ) (at : ℕ → ℕ → ℕ) (xs : List ℕ) (window : Window) 
       }
 
 -- ---- one bit more, n being what an element has of it
-
-tested : (c w n : ℕ) → 0 < w → n ≡ c * w → n ≡ 0 → (c == 1) ≡ false
-tested zero w n some is none = refl
-tested (suc c) w n some is none = absurd (omega arith)
-
-tested_one : (c w n : ℕ) → c < 2 → n ≡ c * w → n ≢ 0 → (c == 1) ≡ true
-tested_one zero w n below is some = absurd (some (omega arith))
-tested_one (suc zero) w n below is some = refl
-tested_one (suc (suc c)) w n below is some = absurd (omega arith)
 
 more_padded : (b n : ℕ) (list : List Bool) → n ≡ length list → n < b → write_at (padded b list) n (replicate (n + 1 - n) true) ≡ padded b (list ++ (true ∷ []))
 unfolding write_at padded
@@ -108,7 +94,7 @@ module _ (b c : ℕ) (at to : ℕ → ℕ → ℕ) (v word from i n : ℕ) (orde
   pub gathered-none : n ≡ 0 → element_bits c to word ≡ padded c (slice_range (element_bits b at v) from (i + 1))
   gathered-none none =
       let size = long in
-      held ∙ none_padded c _ (omega arith) ∙ ap (padded c) (next false (tested _ (2 ^ at b i) n (pow_pos (at b i)) (is ∙ and_pow v (at b i)) none))
+      held ∙ none_padded c _ (omega arith) ∙ ap (padded c) (next false (ap (λ (c : ℕ). c == 1) (masked-none v (at b i) n is none)))
 
   pub gathered-one : Permutes c (to c) → n ≢ 0 → element_bits c to (bit_or word (2 ^ to c (i - from))) ≡ padded c (slice_range (element_bits b at v) from (i + 1))
   gathered-one p some =
@@ -116,4 +102,4 @@ module _ (b c : ℕ) (at to : ℕ → ℕ → ℕ) (v word from i n : ℕ) (orde
       rw (single_mask (to c) (i - from)) (element-or_mask c to p word (i - from) (i - from + 1) (omega arith) (omega arith))
       ∙ ap (λ (l : List Bool). write_at l (i - from) (replicate (i - from + 1 - (i - from)) true)) held
       ∙ more_padded c (i - from) _ (sym size) (omega arith)
-      ∙ ap (padded c) (next true (tested_one _ (2 ^ at b i) n (bit_at-lt v (at b i)) (is ∙ and_pow v (at b i)) some))
+      ∙ ap (padded c) (next true (ap (λ (c : ℕ). c == 1) (masked-one v (at b i) n is some)))

@@ -1,8 +1,7 @@
 -- Elements in a word from its least significant bit on, and the same ones under an order.
 use Rattle.std.specs.Prelude.{◌≡◌, ◌≢◌, ℕ, ◌+◌, ◌*◌, ◌/◌, ◌%◌, ◌<◌, ◌≤◌, Bool, false, not, List, ◌++◌, length, replicate, slice_index, slice_index_or, slice_range, bit_or, Option, None, refl}
-use Rattle.std.proofs.Common.{arith, sym, ◌∙◌, ap, subst, ⊎_elim}
+use Rattle.std.proofs.Common.{arith, sym, ◌∙◌, ap, subst}
 use Rattle.std.proofs.Math.Nat.{add-mul, mul-le-mul_left}
-use Rattle.std.proofs.lemmas.Bool.{cases_lt}
 use Rattle.std.proofs.lemmas.List.{length-replicate, same_lists}
 use Rattle.std.proofs.lemmas.Nat.{div-add-mod', div_below, mod_below}
 use Rattle.bitvec_cells.specs.store.Width.{IsWidth}
@@ -20,6 +19,7 @@ use Rattle.bitvec_words.specs.Elements.{HasElements, elements_window}
 use Rattle.bitvec_words.specs.ShortWindow.{padded}
 use Rattle.bitvec_words.specs.FieldLaws.{element_of, list-element}
 use Rattle.bitvec_words.specs.MovedLaws.{element-joined}
+use Rattle.bitvec_words.specs.WholeLaws.{elements-inside}
 use Rattle.bitvec_words.specs.WordLaws.{padded-all, word_whole}
 use Rattle.bitvec_words.proofs.ScanLemmas.{lacks_filled}
 use Rattle.bitvec_words.proofs.WordScanLemmas.{HasWindow-elements, block_words, list-block}
@@ -64,17 +64,6 @@ lacks-same b at p some xs want none =
     rw (all, first_place-other want n) refl
 
 -- elements of a memory
-elements-inside : (b : ℕ) (xs : List ℕ) (first n : ℕ) → 0 < b → HasWindow b xs (elements_window b first n) → first + n ≤ length xs
-elements-inside b xs first n some has =
-    let start = has.within.start in
-    let len = has.within.len in
-    let ends = add-mul first n b in
-    let more = add-mul (length xs) 1 b in
-    ⊎_elim
-    (λ (less : first + n < length xs + 1). omega arith)
-    (λ (most : length xs + 1 ≤ first + n). let order = mul-le-mul_left b most in absurd (omega arith))
-    (cases_lt (first + n) (length xs + 1))
-
 list-elements_at : (b : ℕ) (at : ℕ → ℕ → ℕ) (xs : List ℕ) (first n : ℕ) → 0 < b → HasWindow b xs (elements_window b first n) → memory_bits b at (slice_range xs first (first + n)) ≡ list_in b at xs (elements_window b first n)
 unfolding window_of
 list-elements_at b at xs first n some has =

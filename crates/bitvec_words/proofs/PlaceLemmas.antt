@@ -18,15 +18,12 @@ use Rattle.bitvec_words.specs.PartWalkLaws.{HasPart-first}
 use Rattle.bitvec_words.specs.Front.{front_window}
 use Rattle.bitvec_words.specs.TouchedLaws.{head_edge, touched-head, touched-rest}
 use Rattle.bitvec_words.specs.WholeLaws.{HasWindow-part}
-use Rattle.bitvec_words.specs.WordLaws.{word_whole}
+use Rattle.bitvec_words.specs.WordLaws.{width-some, word_whole}
 use Rattle.bitvec_words.proofs.ScanLemmas.{HasWindow-after}
 
--- the width as a word, and an index
-pub bits-some : (b w : ℕ) → IsWidth b → w ≡ b → 0 < w
-bits-some b w width is = rw is (width_some b width)
-
+-- an index of an element
 pub index-within : (b w s : ℕ) → IsWidth b → w ≡ b → s % w ≤ w
-index-within b w s width is = let below = mod_below s w (bits-some b w width is) in omega arith
+index-within b w s width is = let below = mod_below s w (width-some b w width is) in omega arith
 
 pub index-below : (b w s : ℕ) → IsWidth b → w ≡ b → s % w < b
 index-below b w s width is = rw is (mod_below s b (width_some b width))

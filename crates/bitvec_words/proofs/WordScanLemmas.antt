@@ -23,8 +23,7 @@ use Rattle.bitvec_words.specs.Elements.{elements_window}
 use Rattle.bitvec_words.specs.FieldLaws.{element_of, list-whole}
 use Rattle.bitvec_words.specs.SameLaws.{or_none, or_none_right}
 use Rattle.bitvec_words.specs.TouchedLaws.{touched-full, touched-more}
-use Rattle.bitvec_words.specs.WholeLaws.{HasWindow-part, list-empty}
-use Rattle.bitvec_words.proofs.FrontLemmas.{list-same}
+use Rattle.bitvec_words.specs.WholeLaws.{HasWindow-part, list-empty, list-same}
 use Rattle.bitvec_words.proofs.ScanLemmas.{first-behind, first-elements_front, first-lacks, first-must, first-passed}
 
 -- ---- elements, some at a time
@@ -257,7 +256,7 @@ module _ (b : ℕ) (at : ℕ → ℕ → ℕ) (xs : List ℕ) (window : Window) 
       (λ (more : 0 < window.len).
       let first = edge more in
       let place = div-add-mod' window.start b in
-      list-same b at xs window from_edge (omega arith) refl)
+      list-same b at xs from_edge window (omega arith) refl)
       (λ (empty : window.len ≤ 0). list-empty b at xs window (omega arith) ∙ sym (list-empty b at xs from_edge (omega arith)))
       (cases_lt 0 window.len)
 

@@ -1,12 +1,12 @@
 -- Whole elements of a window, from its first bit on, and what is behind them.
-use Rattle.std.specs.Prelude.{◌≡◌, ℕ, ◌+◌, ◌-◌, ◌*◌, ◌/◌, ◌%◌, ◌^◌, ◌<◌, ◌≤◌, true, List, [], ◌++◌, length, refl}
+use Rattle.std.specs.Prelude.{◌≡◌, ℕ, ◌+◌, ◌-◌, ◌*◌, ◌/◌, ◌%◌, ◌^◌, ◌<◌, ◌≤◌, true, Bool, List, [], ◌++◌, length, refl}
 use Rattle.std.proofs.Common.{arith, sym, ◌∙◌, ap, ⊎_elim}
 use Rattle.std.proofs.lemmas.Bool.{cases_lt}
 use Rattle.std.proofs.lemmas.Nat.{div-add-mod', mod_below, mod-mul-add}
-use Rattle.std.proofs.Math.Nat.{mul-le-mul_left}
+use Rattle.std.proofs.Math.Nat.{add-mul, le_of_mul-le-mul_right, mul-le-mul_left}
 use Rattle.bitvec_cells.specs.base.declared.window.Window.{Window}
 use Rattle.bitvec_cells.specs.base.Lists.{same_bits}
-use Rattle.bitvec_cells.specs.base.Memory.{HasWindow, list_in, memory_bits}
+use Rattle.bitvec_cells.specs.base.Memory.{HasWindow, Writes, list_in, memory_bits}
 use Rattle.bitvec_cells.specs.base.Parts.{first_part_of, part_window}
 use Rattle.bitvec_cells.specs.base.SliceLaws.{range-none}
 use Rattle.bitvec_cells.specs.base.Window.{window_after, window_of, window_until}
@@ -67,6 +67,14 @@ pub window-same : (window other : Window) → window.start ≡ other.start → w
 window-same window other start len =
     ap (λ (s : ℕ). (let w : Window = record { start = s; len = window.len } in w)) start ∙ ap (λ (n : ℕ). (let w : Window = record { start = other.start; len = n } in w)) len
 
+pub Writes-same : {b : ℕ} {at : ℕ → ℕ → ℕ} {old new : List ℕ} {list : List Bool} (window other : Window) → other.start ≡ window.start → other.len ≡ window.len
+    → Writes b at old new window list → Writes b at old new other list
+Writes-same {b} {at} {old} {new} {list} window other start len writes = rw (start, len) writes
+
+pub list-same : (b : ℕ) (at : ℕ → ℕ → ℕ) (xs : List ℕ) (window other : Window) → other.start ≡ window.start → other.len ≡ window.len → list_in b at xs other ≡ list_in b at xs window
+unfolding window_of
+list-same b at xs window other start len = rw (start, len) refl
+
 -- a window's end is a `usize`
 pub window-end : (b : ℕ) (xs : List ℕ) (window : Window) → HasWindow b xs window → window.start + window.len < 2 ^ 64
 window-end b xs window has =
@@ -94,6 +102,14 @@ HasWindow-part b xs window part has low high =
     let start = has.within.start in
     let len = has.within.len in
     record { fits = has.fits; within = record { start = omega arith; len = omega arith } }
+
+-- the elements of a window of them lie in the memory
+pub elements-inside : (b : ℕ) (xs : List ℕ) (first n : ℕ) → 0 < b → HasWindow b xs (elements_window b first n) → first + n ≤ length xs
+elements-inside b xs first n some has =
+    let start = has.within.start in
+    let len = has.within.len in
+    let ends = add-mul first n b in
+    le_of_mul-le-mul_right {m = first + n} {n = length xs} {k = b} (omega arith) some
 
 -- ---- n whole elements behind m others
 

@@ -51,7 +51,7 @@ impl Bloom {
         }
     }
 
-    /// Whether a key may have been inserted: of one that was it is true.
+    /// Whether a key may have been inserted; it is true of each that was.
     pub fn maybe_has(&self, key: u64) -> bool
         ensures { IsTrue result ↔ Has ROUNDS self.now key }
     {

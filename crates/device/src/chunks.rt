@@ -6,8 +6,8 @@ ghost use Rattle.device.specs.Chunks.{HaveNumbers};
 use bitvec::in_place;
 use bitvec::prelude::*;
 
-/// Stores in each chunk of five bits its number, in the last one as far as it fits. Condition: the bytes have at most
-/// `MAX_BITS` bits.
+/// Stores in each chunk of five bits its number, in the last one as much of it as fits. Condition: the bytes
+/// have at most `MAX_BITS` bits.
 #[tactic(auto, using(bitvec::specs::Laws::fields))]
 pub fn number_chunks(bytes: &mut [u8])
     requires { 8 * length bytes.old ≤ max_bits }

@@ -1,5 +1,5 @@
 //! `device uart BAUD PARITY DATA`, `device bloom KEY OTHER ..`, `device pattern NUMBER` and
-//! `device chunks COUNT` set bits of arrays in place, and print what these hold then.
+//! `device chunks COUNT` set bits of arrays in place, and print what they hold then.
 #![tactic(auto)]
 
 mod bloom;

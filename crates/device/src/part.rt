@@ -13,13 +13,13 @@ pub enum Part {
     Bloom(Bloom, u64),
     /// Bytes with a pattern.
     Pattern([u8; 8]),
-    /// Bytes whose chunks have their numbers.
+    /// Bytes whose chunks hold their numbers.
     Chunks([u8; 8]),
 }
 
 impl Part {
-    /// Reads the words: `uart BAUD PARITY DATA`, `bloom KEY OTHER ..`, `pattern NUMBER` or `chunks COUNT`. None, if they
-    /// are others.
+    /// Reads the words: `uart BAUD PARITY DATA`, `bloom KEY OTHER ..`, `pattern NUMBER` or `chunks COUNT`.
+    /// `None` if they are anything else.
     pub fn parse(words: &[String]) -> Option<Part> {
         let [part, numbers @ ..] = words else {
             return None;
@@ -71,7 +71,7 @@ fn parse_pattern(words: &[String]) -> Option<Part> {
     }
 }
 
-/// Eight bytes, of which the chunks of the first COUNT have their numbers; the bits of the others are ones.
+/// Eight bytes. The chunks of the first COUNT hold their numbers; the bits of the others are ones.
 fn parse_chunks(words: &[String]) -> Option<Part> {
     let [count] = words else {
         return None;

@@ -18,7 +18,7 @@ fn print_uart<W: Write>(output: &mut W, uart: &Uart) -> io::Result<()> {
     Ok(())
 }
 
-/// What a filter says of a key that it may have, or has not.
+/// What a filter says of a key: that it may have it, or that it doesn't.
 fn answer(maybe: bool) -> &'static str {
     if maybe { "maybe" } else { "no" }
 }

@@ -55,7 +55,7 @@ impl Uart {
         in_place::store_le::<u32, Lsb0, u16>(&mut self.registers, 4..20, baud);
     }
 
-    /// Sets the parity, to the lowest two bits of a number; every other bit stays.
+    /// Sets the parity to the lowest two bits of a number; every other bit stays.
     pub fn set_parity(&mut self, parity: u8)
         ensures { SetsField 32 34 parity self.old self.new }
     {

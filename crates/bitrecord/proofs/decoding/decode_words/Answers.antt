@@ -1,6 +1,7 @@
 use Rattle.std.specs.Prelude.{◌<◌, ◌≤◌}
 use Rattle.std.proofs.Common.{arith, ◌∙◌, ⊎_elim}
-use Rattle.bitrecord.proofs.Numbers.{earlier_or_not, read-all, read-next}
+use Rattle.std.proofs.lemmas.Bool.{cases_lt}
+use Rattle.bitrecord.proofs.Numbers.{read-all, read-next}
 use Rattle.bitrecord.proofs.decoding.decode_words.Goals.{else-last-number, then-last-number}
 use Rattle.bitrecord.proofs.decoding.decode_words.Goals as goal
 
@@ -20,7 +21,7 @@ loop-number-preserved g c =
             rw w.out-is (λ k low. read-next _ c.loop-number.out c.loop-number.number w.take_alone.result (omega arith) (rw w.field.ensures at w.take_alone.ensures) inv.numbers k (omega arith))
         | else-last-number w ↦
             rw w.out-is (λ k low. ⊎_elim (λ (earlier : k < c.loop-number.number). w.decode_run.ensures.kept k earlier ∙ inv.numbers k earlier)
-            (λ (from : c.loop-number.number ≤ k). w.decode_run.ensures.done k from (omega arith)) (earlier_or_not k c.loop-number.number))
+            (λ (from : c.loop-number.number ≤ k). w.decode_run.ensures.done k from (omega arith)) (cases_lt k c.loop-number.number))
       ];
     }
 

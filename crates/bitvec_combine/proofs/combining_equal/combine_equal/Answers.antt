@@ -14,7 +14,7 @@ use Rattle.bitvec_move.specs.words.FieldLaws.{first_part-long, list-head}
 use Rattle.bitvec_move.specs.words.Operator.{operator}
 use Rattle.bitvec_move.specs.words.TouchedLaws.{touched-head, touched-rest}
 use Rattle.bitvec_move.specs.PlaceLaws.{behind-edge, head-element, head-part, width-some}
-use Rattle.bitvec_combine.proofs.SpanLemmas.{after-span}
+use Rattle.bitvec_move.proofs.MoveLemmas.{after-span}
 use Rattle.bitvec_combine.proofs.combining_equal.combine_equal.Goals as goal
 
 pub nonzero_div-from : goal.nonzero_div-from
@@ -36,7 +36,7 @@ pub combine_unpadded-requires-2-clause-span : goal.combine_unpadded-requires-2-c
 combine_unpadded-requires-2-clause-span g c =
     let b = g.C.Elem.BitStore.BITS in
     let step = first_part-long c.len-passed.result b c.BITS-bits.result c.args.to c.first_part-head.result c.len-passed.ensures c.first_part-head.ensures c.BITS-bits.ensures in
-    rw (c.after.ensures, c.after-2.ensures, c.combine_element.ensures.right.numbers) (after-span _ _ _ _ _ _ _ c.requires.span c.combine_element.ensures.writes.elements (omega arith))
+    rw (c.after.ensures, c.after-2.ensures) (after-span _ _ _ _ _ _ _ _ c.requires.span c.combine_element.ensures.writes.elements (ap length c.combine_element.ensures.right.numbers) (omega arith))
 
 pub combine_unpadded-requires-2-clause-edge : goal.combine_unpadded-requires-2-clause-edge
 combine_unpadded-requires-2-clause-edge g c =

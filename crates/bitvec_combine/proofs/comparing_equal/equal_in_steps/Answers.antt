@@ -5,7 +5,8 @@ use Rattle.bitvec_move.specs.words.SameLaws.{same-apart, same-then}
 use Rattle.bitvec_move.specs.words.TouchedLaws.{touched-after}
 use Rattle.bitvec_move.specs.words.WholeLaws.{list-elements, long-elements, behind-mod}
 use Rattle.bitvec_move.specs.PlaceLaws.{width-some}
-use Rattle.bitvec_combine.proofs.SpanLemmas.{few, group-fits, group-word, groups-fit, after-span, some-span}
+use Rattle.bitvec_move.proofs.MoveLemmas.{after-span}
+use Rattle.bitvec_combine.proofs.SpanLemmas.{few, group-fits, group-word, groups-fit, some-span}
 use Rattle.bitvec_combine.proofs.comparing_equal.equal_in_steps.Goals as goal
 
 pub whole_elements-first-requires : goal.whole_elements-first-requires
@@ -79,7 +80,7 @@ equal_aligned_rest-requires-clause-span g c =
     let inv = c.loop-test.invariant in
     let k = c.elements_per_test-span.result in
     let fits = groups-fit k b c.args.left_window.len in
-    rw (c.after.ensures, c.after-2.ensures, c.whole_elements-first.ensures, c.BITS-bits.ensures, inv.reads.numbers, inv.right.numbers) (after-span _ _ _ _ _ _ _ c.requires.span refl fits)
+    rw (c.after.ensures, c.after-2.ensures, c.whole_elements-first.ensures, c.BITS-bits.ensures, inv.reads.numbers, inv.right.numbers) (after-span _ _ _ _ _ _ _ _ c.requires.span refl refl fits)
 
 pub equal_aligned_rest-requires-clause-edge : goal.equal_aligned_rest-requires-clause-edge
 equal_aligned_rest-requires-clause-edge g c =

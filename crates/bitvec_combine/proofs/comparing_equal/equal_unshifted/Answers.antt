@@ -9,7 +9,7 @@ use Rattle.bitvec_move.specs.words.SameLaws.{same-apart, same-then}
 use Rattle.bitvec_move.specs.words.TouchedLaws.{touched-first, touched-rest}
 use Rattle.bitvec_move.specs.words.WholeLaws.{long-head}
 use Rattle.bitvec_move.specs.PlaceLaws.{behind-edge, head-element, head-part, width-some}
-use Rattle.bitvec_combine.proofs.SpanLemmas.{after-span}
+use Rattle.bitvec_move.proofs.MoveLemmas.{after-span}
 use Rattle.bitvec_combine.proofs.comparing_equal.equal_unshifted.Goals as goal
 use Rattle.bitvec_combine.proofs.comparing_equal.equal_unshifted.Goals.{then-left_window-bits+else-not-equal_part+else-passed-left_window, else-left_window-bits+else-left_window-bits-gt0}
 
@@ -77,7 +77,7 @@ equal_aligned-requires-clause-span g c =
     elim c.if-left_window-bits.branch [
       | then-left_window-bits+else-not-equal_part+else-passed-left_window w ↦
           let step = first_part-long w.len-passed.result b c.BITS-bits.result c.args.left_window w.first_part-head.result w.len-passed.ensures w.first_part-head.ensures c.BITS-bits.ensures in
-          rw (c.after.ensures, c.after-2.ensures, w.passed-is, w.left-is, w.right-is, w.equal_part.ensures.reads.numbers, w.equal_part.ensures.right.numbers) (after-span _ _ _ _ _ _ _ c.requires.span refl (omega arith))
+          rw (c.after.ensures, c.after-2.ensures, w.passed-is, w.left-is, w.right-is, w.equal_part.ensures.reads.numbers, w.equal_part.ensures.right.numbers) (after-span _ _ _ _ _ _ _ _ c.requires.span refl refl (omega arith))
       | else-left_window-bits+else-left_window-bits-gt0 w ↦
           rw (c.after.ensures, c.after-2.ensures, w.passed-is, w.left-is, w.right-is, after-none c.args.left_window, after-none c.args.right_window) c.requires.span
     ]

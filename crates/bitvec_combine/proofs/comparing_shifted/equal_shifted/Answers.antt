@@ -9,7 +9,7 @@ use Rattle.bitvec_move.specs.words.SameLaws.{same-apart, same-then}
 use Rattle.bitvec_move.specs.words.TouchedLaws.{apart_edge, inside_element, touched-first, touched-inside, touched-rest}
 use Rattle.bitvec_move.specs.words.WholeLaws.{long-parted}
 use Rattle.bitvec_move.specs.PlaceLaws.{behind-edge, head-element, head-part, width-some}
-use Rattle.bitvec_combine.proofs.SpanLemmas.{after-span}
+use Rattle.bitvec_move.proofs.MoveLemmas.{after-span}
 use Rattle.bitvec_combine.proofs.comparing_shifted.equal_shifted.Goals as goal
 
 pub nonzero_rem-left_window : goal.nonzero_rem-left_window
@@ -101,7 +101,7 @@ equal_carried-requires-2 g c =
     let fits : c.len-passed.result ≤ c.args.left_window.len = omega arith in
     rw (c.after.ensures, c.after-2.ensures, c.equal_shifted_head-same.ensures.reads.numbers, c.equal_shifted_head-same.ensures.right.numbers)
     (record {
-      span = after-span _ _ _ _ _ _ _ c.requires.span refl fits;
+      span = after-span _ _ _ _ _ _ _ _ c.requires.span refl refl fits;
       edge = behind-edge _ _ c.args.left_window _ g.met.C.Elem.BitStore.width_law refl step c.if-passed-left_window.false;
       inside = inside;
       carried = last ∙ ap (λ (m : ℕ). slice_index ys (m / b)) end ∙ ap (slice_index ys) same;

@@ -1,21 +1,21 @@
-use Rattle.std.proofs.Common.{◌≡◌, ℕ, ◌+◌, ◌*◌, ◌/◌, ◌%◌, ◌≤◌, arith, ap, sym, ◌∙◌, length, map, slice_range}
+use Rattle.std.proofs.Common.{◌≡◌, ℕ, ◌+◌, ◌*◌, ◌/◌, ◌%◌, ◌≤◌, arith, ap, sym, ◌∙◌, length, map, slice_range, refl}
 use Rattle.std.proofs.lemmas.Nat.{div-add-mod', mod_below}
 use Rattle.bitvec_elements.specs.base.Memory.{element_bits, memory_bits}
 use Rattle.bitvec_elements.specs.base.MemoryLaws.{element-range, element_fits, length-memory_bits}
 use Rattle.bitvec_elements.specs.base.Window.{window_of}
 use Rattle.bitvec_elements.specs.base.WritesLaws.{length-list}
-use Rattle.bitvec_elements.specs.moves.WordLaws.{padded-all, word_whole}
+use Rattle.bitvec_elements.specs.moves.WordLaws.{padded-all, word-across, word-elements, word-next, word_whole}
 use Rattle.bitvec_elements.specs.store.WidthLaws.{width_some}
-use Rattle.bitvec_engine.proofs.WordLemmas.{loaded-whole, next-inside, word-inside, word-joined}
+use Rattle.bitvec_engine.proofs.WordLemmas.{loaded-whole}
 use Rattle.bitvec_elements.proofs.window_words.run_word.Goals as goal
 
 pub load_elements-word-requires-clause-window : goal.load_elements-word-requires-clause-window
 load_elements-word-requires-clause-window g c =
-    rw (c.BITS-bits.ensures, c.new-cells.ensures.numbers) (word-inside _ _ c.args.window g.met.T.BitStore.width_law (rw c.BITS-bits.ensures at c.if-bits-gt-WORD_BITS.false) (omega arith) c.requires.window)
+    rw c.new-cells.ensures.numbers (word-elements _ _ _ c.args.window g.met.T.BitStore.width_law c.BITS-bits.ensures c.requires.window (let most = c.requires.bound in omega arith) (rw c.BITS-bits.ensures at c.if-bits-gt-WORD_BITS.false))
 
 pub load-next-requires : goal.load-next-requires
 load-next-requires g c =
-    rw (c.BITS-bits.ensures, c.load_elements-word.ensures.reads.numbers, c.new-cells.ensures.numbers) (next-inside _ _ c.args.window g.met.T.BitStore.width_law (rw c.BITS-bits.ensures at c.if-bits-gt-WORD_BITS.false) (omega arith) c.requires.window (rw c.BITS-bits.ensures at c.if-skip-eq0.false))
+    rw (c.load_elements-word.ensures.reads.numbers, c.new-cells.ensures.numbers) (word-next _ _ _ _ c.args.window g.met.T.BitStore.width_law c.BITS-bits.ensures c.requires.window (let most = c.requires.bound in omega arith) (rw c.BITS-bits.ensures at c.if-bits-gt-WORD_BITS.false) (let left = c.if-skip-eq0.false in omega arith) refl)
 
 pub returns-then-skip-eq0 : goal.returns-then-skip-eq0
 returns-then-skip-eq0 g c =
@@ -46,7 +46,7 @@ returns g c =
     let long = length-memory_bits b at xs in
     let listed = length-list b at xs window has in
     let sum : (first + 64 / b) * b ≡ first * b + 64 = omega arith in
-    let inside = next-inside b xs window g.met.T.BitStore.width_law narrow size has left in
+    let inside = word-next b b xs xs window g.met.T.BitStore.width_law refl has size narrow (omega arith) refl in
     let fits : first * b + 64 + b ≤ b * length xs = omega (arith, element_fits b (first + 64 / b) (length xs) inside) in
     let word = (rw (c.BITS-bits.ensures, c.new-cells.ensures.numbers) at c.load_elements-word.ensures.value) ∙ ap (λ (n : ℕ). slice_range bits (first * b) (first * b + n)) whole in
     let next = rw (c.BITS-bits.ensures, c.load_elements-word.ensures.reads.numbers, c.new-cells.ensures.numbers) at c.load-next.ensures.value in
@@ -54,7 +54,7 @@ returns g c =
     let behind = rw (c.BITS-bits.ensures, next_bits) at c.moved-behind.ensures in
     let joined = rw (c.BITS-bits.ensures, word, behind) at c.joined.ensures in
     joined
-    ∙ word-joined bits (first * b) b skip below narrow (omega arith)
+    ∙ word-across bits (first * b) b skip below narrow (omega arith)
     ∙ ap (λ (s : ℕ). slice_range bits s (s + 64)) place
     ∙ ap (λ (n : ℕ). slice_range bits window.start (window.start + n)) (sym size)
     ∙ sym (padded-all 64 _ (listed ∙ size))

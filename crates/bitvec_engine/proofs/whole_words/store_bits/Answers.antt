@@ -1,11 +1,12 @@
 use Rattle.std.proofs.Common.{arith}
+use Rattle.bitvec_combine.specs.moves.WordLaws.{word-elements}
 use Rattle.bitvec_combine.specs.words.TouchedLaws.{touched-word}
-use Rattle.bitvec_engine.proofs.WordLemmas.{stored-whole, word-inside}
+use Rattle.bitvec_engine.proofs.WordLemmas.{stored-whole}
 use Rattle.bitvec_engine.proofs.whole_words.store_bits.Goals as goal
 
 pub store_elements-requires-clause-window : goal.store_elements-requires-clause-window
 store_elements-requires-clause-window g c =
-    rw c.BITS-bits.ensures (word-inside _ _ c.args.window g.met.C.Elem.BitStore.width_law (rw c.BITS-bits.ensures at c.if-bits-le-WORD_BITS.true) c.if-window-eq-WORD_BITS.true c.requires.window)
+    word-elements _ _ _ c.args.window g.met.C.Elem.BitStore.width_law c.BITS-bits.ensures c.requires.window c.if-window-eq-WORD_BITS.true (rw c.BITS-bits.ensures at c.if-bits-le-WORD_BITS.true)
 
 pub returns-then-window-bits-eq0 : goal.returns-then-window-bits-eq0
 returns-then-window-bits-eq0 g c =

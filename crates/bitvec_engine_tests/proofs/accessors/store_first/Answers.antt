@@ -10,8 +10,8 @@ pub returns : goal.returns
 returns g c =
     let b = g.T.BitStore.BITS in
     let at = g.O.BitOrder.at in
-    let xs = map g.T.BitStore.value c.args.cells.now in
-    let long = length-map c.args.cells.now g.T.BitStore.value in
+    let xs = map g.T.BitStore.value c.args.elements.now in
+    let long = length-map c.args.elements.now g.T.BitStore.value in
     let start : 0 * b ≡ 0 = omega arith in
     ap (memory_bits b at) c.set_first_to.ensures
     ∙ set-element b at xs 0 (g.T.BitStore.value c.args.element) (width_some b g.met.T.BitStore.width_law) (omega arith)

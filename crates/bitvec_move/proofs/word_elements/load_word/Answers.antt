@@ -5,11 +5,11 @@ use Rattle.bitvec_words.specs.base.Memory.{element_bits, memory_bits}
 use Rattle.bitvec_words.specs.base.MemoryLaws.{element-range, element_fits, length-memory_bits}
 use Rattle.bitvec_words.specs.base.Window.{window_of}
 use Rattle.bitvec_words.specs.FieldLaws.{element_of}
-use Rattle.bitvec_move.specs.WordLaws.{word-across, word_span, word_whole}
+use Rattle.bitvec_move.specs.WordLaws.{word-across, word-elements, word-next, word_span, word_whole}
 use Rattle.bitvec_move.specs.PlaceLaws.{width-some}
 use Rattle.bitvec_words.specs.Elements.{elements_window}
-use Rattle.bitvec_move.specs.SettledLaws.{list-same}
-use Rattle.bitvec_move.proofs.MoveLemmas.{word-elements, word-next, word-next_word}
+use Rattle.bitvec_words.specs.WholeLaws.{list-same}
+use Rattle.bitvec_move.proofs.MoveLemmas.{word-next_word}
 use Rattle.bitvec_move.proofs.word_elements.load_word.Goals as goal
 
 pub returns-then-skip-eq0-clause-reads : goal.returns-then-skip-eq0-clause-reads
@@ -48,7 +48,7 @@ returns-clause-value g c =
     let behind = rw (c.BITS-bits.ensures, next_bits) at c.moved-behind.ensures in
     let joined = rw (c.BITS-bits.ensures, word, behind) at c.joined.ensures in
     joined
-    ∙ word-across bits (first * b) b skip below narrow (omega arith)
+    ∙ word-across bits (first * b) b skip below (omega arith) (omega arith)
     ∙ ap (λ (s : ℕ). slice_range bits s (s + 64)) place
     ∙ ap (λ (n : ℕ). slice_range bits window.start (window.start + n)) (sym size)
 
@@ -66,7 +66,7 @@ pub nonzero_rem-skip : goal.nonzero_rem-skip
 nonzero_rem-skip g c = let some = width-some _ _ g.met.C.Elem.BitStore.width_law c.BITS-bits.ensures in omega arith
 
 pub load_elements-word-requires-clause-window : goal.load_elements-word-requires-clause-window
-load_elements-word-requires-clause-window g c = word-elements _ _ _ c.args.window g.met.C.Elem.BitStore.width_law c.BITS-bits.ensures c.requires.window c.requires.size c.requires.narrow
+load_elements-word-requires-clause-window g c = word-elements _ _ _ c.args.window g.met.C.Elem.BitStore.width_law c.BITS-bits.ensures c.requires.window c.requires.size (let narrow = c.requires.narrow in omega arith)
 
 pub returns-then-skip-eq0-clause-value : goal.returns-then-skip-eq0-clause-value
 returns-then-skip-eq0-clause-value g c =
@@ -87,7 +87,7 @@ overflow_add-first g c =
     omega arith
 
 pub load-next-requires : goal.load-next-requires
-load-next-requires g c = word-next _ _ _ _ c.args.window g.met.C.Elem.BitStore.width_law c.BITS-bits.ensures c.requires.window c.requires.size c.requires.narrow (let left = c.if-skip-eq0.false in omega arith) (ap length c.load_elements-word.ensures.reads.numbers)
+load-next-requires g c = word-next _ _ _ _ c.args.window g.met.C.Elem.BitStore.width_law c.BITS-bits.ensures c.requires.window c.requires.size (let narrow = c.requires.narrow in omega arith) (let left = c.if-skip-eq0.false in omega arith) (ap length c.load_elements-word.ensures.reads.numbers)
 
 pub moved-behind-requires-clause-target : goal.moved-behind-requires-clause-target
 moved-behind-requires-clause-target g c =

@@ -10,10 +10,10 @@ use Rattle.bitvec_words.specs.base.WritesLaws.{Writes-is, Writes-join}
 use Rattle.bitvec_words.specs.Elements.{elements_window}
 use Rattle.bitvec_words.specs.FieldLaws.{element_of}
 use Rattle.bitvec_words.specs.TouchedLaws.{part_loads-most}
-use Rattle.bitvec_move.specs.WordLaws.{Writes-behind, first-values, length-first, word-behind, word-tail, word_span, word_whole}
+use Rattle.bitvec_move.specs.WordLaws.{Writes-behind, first-values, length-first, word-behind, word-elements, word-next, word-tail, word_span, word_whole}
 use Rattle.bitvec_move.specs.PlaceLaws.{width-some}
-use Rattle.bitvec_move.specs.SettledLaws.{Writes-same}
-use Rattle.bitvec_move.proofs.MoveLemmas.{place-element, word-elements, word-next, word-next_word}
+use Rattle.bitvec_words.specs.WholeLaws.{Writes-same}
+use Rattle.bitvec_move.proofs.MoveLemmas.{place-element, word-next_word}
 use Rattle.bitvec_move.proofs.word_elements.store_word.Goals as goal
 
 pub returns-then-skip-eq0-clause-cost : goal.returns-then-skip-eq0-clause-cost
@@ -83,7 +83,7 @@ pub nonzero_rem-skip : goal.nonzero_rem-skip
 nonzero_rem-skip g c = let some = width-some _ _ g.met.C.Elem.BitStore.width_law c.BITS-bits.ensures in omega arith
 
 pub store_elements-requires-clause-window : goal.store_elements-requires-clause-window
-store_elements-requires-clause-window g c = word-elements _ _ _ c.args.window g.met.C.Elem.BitStore.width_law c.BITS-bits.ensures c.requires.window c.requires.size c.requires.narrow
+store_elements-requires-clause-window g c = word-elements _ _ _ c.args.window g.met.C.Elem.BitStore.width_law c.BITS-bits.ensures c.requires.window c.requires.size (let narrow = c.requires.narrow in omega arith)
 
 pub returns-then-skip-eq0-clause-writes : goal.returns-then-skip-eq0-clause-writes
 returns-then-skip-eq0-clause-writes g c =
@@ -118,7 +118,7 @@ merged-front-requires-clause-bound g c =
     omega arith
 
 pub store_elements-requires-2-clause-window : goal.store_elements-requires-2-clause-window
-store_elements-requires-2-clause-window g c = rw c.load-head.ensures.numbers (word-elements _ _ _ c.args.window g.met.C.Elem.BitStore.width_law c.BITS-bits.ensures c.requires.window c.requires.size c.requires.narrow)
+store_elements-requires-2-clause-window g c = rw c.load-head.ensures.numbers (word-elements _ _ _ c.args.window g.met.C.Elem.BitStore.width_law c.BITS-bits.ensures c.requires.window c.requires.size (let narrow = c.requires.narrow in omega arith))
 
 pub nonzero_div-tail : goal.nonzero_div-tail
 nonzero_div-tail g c = let some = width-some _ _ g.met.C.Elem.BitStore.width_law c.BITS-bits.ensures in omega arith
@@ -152,4 +152,4 @@ store_part-requires g c =
     let is = c.BITS-bits.ensures in
     let kept = ap length c.load-head.ensures.numbers in
     let stored = c.store_elements-2.ensures.writes.elements in
-    record { element = word-next _ _ _ _ c.args.window g.met.C.Elem.BitStore.width_law c.BITS-bits.ensures c.requires.window c.requires.size c.requires.narrow (let left = c.if-skip-eq0.false in omega arith) (stored ∙ kept); order = omega arith; bound = omega arith }
+    record { element = word-next _ _ _ _ c.args.window g.met.C.Elem.BitStore.width_law c.BITS-bits.ensures c.requires.window c.requires.size (let narrow = c.requires.narrow in omega arith) (let left = c.if-skip-eq0.false in omega arith) (stored ∙ kept); order = omega arith; bound = omega arith }

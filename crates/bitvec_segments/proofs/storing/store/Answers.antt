@@ -1,4 +1,5 @@
 use Rattle.std.proofs.Common.{◌≡◌, ◌<◌, ℕ, ◌-◌, arith, ap, sym, refl, ◌∙◌}
+use Rattle.bitvec_words.specs.FillingLaws.{fill_loads-some}
 use Rattle.bitvec_words.specs.TouchedLaws.{part_loads-most}
 use Rattle.bitvec_words.specs.WholeLaws.{list-empty}
 use Rattle.bitvec_words.specs.base.Parts.{first_part_of}
@@ -7,7 +8,7 @@ use Rattle.bitvec_words.specs.store.WidthLaws.{width_some}
 use Rattle.bitvec_words.specs.walk.WalkLaws.{first-len}
 use Rattle.bitvec_segments.specs.Segments.{stored}
 use Rattle.bitvec_segments.specs.StoreLaws.{stored-none}
-use Rattle.bitvec_segments.proofs.WalkLemmas.{fill-two, stored-one, touched-first}
+use Rattle.bitvec_segments.proofs.WalkLemmas.{stored-one, touched-first}
 use Rattle.bitvec_segments.proofs.storing.store.Goals as goal
 
 pub returns-then-window-eq0-clause-writes : goal.returns-then-window-eq0-clause-writes
@@ -35,7 +36,7 @@ returns-then-window-head-clause-cost g c =
     let some = width_some _ g.met.C.Elem.BitStore.width_law in
     let more : 0 < window.len = let filled = c.if-window-eq0.false in omega arith in
     let each = touched-first b window _ some more refl in
-    let filled = fill-two window.len more in
+    let filled = fill_loads-some window.len (λ none. omega arith) in
     let edge = part_loads-most b c.only_part.result in
     let cost = c.store_part_number.ensures.cost in
     let loads = cost.loads in

@@ -1,10 +1,11 @@
 use Rattle.std.proofs.Common.{◌≡◌, ℕ, ◌-◌, ◌%◌, arith, ap, ◌∙◌}
+use Rattle.bitvec_words.specs.FillingLaws.{fill_loads-some}
 use Rattle.bitvec_words.specs.TouchedLaws.{part_loads-most}
 use Rattle.bitvec_words.specs.base.Parts.{first_part_of}
 use Rattle.bitvec_words.specs.base.Window.{window_after}
 use Rattle.bitvec_words.specs.store.WidthLaws.{width_some}
 use Rattle.bitvec_words.specs.walk.WalkLaws.{first-len}
-use Rattle.bitvec_segments.proofs.WalkLemmas.{fill-two, stored-joined, touched-first}
+use Rattle.bitvec_segments.proofs.WalkLemmas.{stored-joined, touched-first}
 use Rattle.bitvec_segments.proofs.storing.store_parts.Goals as goal
 
 pub returns-clause-writes : goal.returns-clause-writes
@@ -34,7 +35,7 @@ returns-clause-cost g c =
     let step : head ≡ (first_part_of b window).to - (first_part_of b window).from = omega arith in
     let after : c.after-rest.result ≡ window_after head window = c.after-rest.ensures ∙ ap (λ (n : ℕ). window_after (n - window.start % n) window) c.BITS-bits.ensures in
     let each = touched-first b window head some more step in
-    let filled = fill-two window.len more in
+    let filled = fill_loads-some window.len (λ none. omega arith) in
     let edge = part_loads-most b c.head_part.result in
     let first = c.store_part_number.ensures.cost in
     let later = rw after at c.store_few.ensures.cost in

@@ -8,7 +8,8 @@ use Rattle.bitvec_words.specs.FieldLaws.{first_part-long}
 use Rattle.bitvec_words.specs.TouchedLaws.{touched-head, touched-rest}
 use Rattle.bitvec_words.specs.WholeLaws.{list-empty, window-end}
 use Rattle.bitvec_words.proofs.CountLemmas.{count-head, count-within}
-use Rattle.bitvec_words.proofs.PlaceLemmas.{HasPart-head, HasWindow-behind, bits-some, head-behind, head-order, head-start, head-within}
+use Rattle.bitvec_words.specs.WordLaws.{width-some}
+use Rattle.bitvec_words.proofs.PlaceLemmas.{HasPart-head, HasWindow-behind, head-behind, head-order, head-start, head-within}
 use Rattle.bitvec_words.proofs.counting.count.Goals as goal
 
 pub returns-then-window-eq0 : goal.returns-then-window-eq0
@@ -62,7 +63,7 @@ returns g c =
     }
 
 pub first_part-head-requires-clause-bits : goal.first_part-head-requires-clause-bits
-first_part-head-requires-clause-bits g c = bits-some _ _ g.met.C.Elem.BitStore.width_law c.BITS-bits.ensures
+first_part-head-requires-clause-bits g c = width-some _ _ g.met.C.Elem.BitStore.width_law c.BITS-bits.ensures
 
 pub first_part-head-requires-clause-some : goal.first_part-head-requires-clause-some
 first_part-head-requires-clause-some g c = omega arith

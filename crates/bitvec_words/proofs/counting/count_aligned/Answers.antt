@@ -3,7 +3,8 @@ use Rattle.bitvec_cells.specs.store.WidthLaws.{width_some}
 use Rattle.bitvec_words.specs.TouchedLaws.{touched-full, touched-more}
 use Rattle.bitvec_words.specs.WholeLaws.{window-end}
 use Rattle.bitvec_words.proofs.CountLemmas.{count-tail, count-within}
-use Rattle.bitvec_words.proofs.PlaceLemmas.{HasPart-tail, bits-some, whole-all}
+use Rattle.bitvec_words.specs.WordLaws.{width-some}
+use Rattle.bitvec_words.proofs.PlaceLemmas.{HasPart-tail, whole-all}
 use Rattle.bitvec_words.proofs.ScanLemmas.{HasWindow-whole}
 use Rattle.bitvec_words.proofs.counting.count_aligned.Goals as goal
 
@@ -39,13 +40,13 @@ returns g c =
     }
 
 pub whole_elements-first-requires : goal.whole_elements-first-requires
-whole_elements-first-requires g c = bits-some _ _ g.met.C.Elem.BitStore.width_law c.BITS-bits.ensures
+whole_elements-first-requires g c = width-some _ _ g.met.C.Elem.BitStore.width_law c.BITS-bits.ensures
 
 pub count_whole-ones-requires : goal.count_whole-ones-requires
 count_whole-ones-requires g c = rw (c.whole_elements-first.ensures, c.BITS-bits.ensures) (HasWindow-whole _ _ c.args.window c.requires.window c.requires.edge)
 
 pub tail_part-tail-requires-clause-bits : goal.tail_part-tail-requires-clause-bits
-tail_part-tail-requires-clause-bits g c = bits-some _ _ g.met.C.Elem.BitStore.width_law c.BITS-bits.ensures
+tail_part-tail-requires-clause-bits g c = width-some _ _ g.met.C.Elem.BitStore.width_law c.BITS-bits.ensures
 
 pub tail_part-tail-requires-clause-end : goal.tail_part-tail-requires-clause-end
 tail_part-tail-requires-clause-end g c = window-end _ _ c.args.window c.requires.window

@@ -8,7 +8,8 @@ use Rattle.bitvec_words.specs.FieldLaws.{Writes-head}
 use Rattle.bitvec_words.specs.FillingLaws.{fill_loads-some, replicate-is, replicate-parts}
 use Rattle.bitvec_words.specs.TouchedLaws.{part_loads-most}
 use Rattle.bitvec_words.specs.WholeLaws.{window-end}
-use Rattle.bitvec_words.proofs.PlaceLemmas.{HasPart-head, HasWindow-behind, bits-some, head-all, head-behind, head-order, head-parts, head-rest, head-start, head-within}
+use Rattle.bitvec_words.specs.WordLaws.{width-some}
+use Rattle.bitvec_words.proofs.PlaceLemmas.{HasPart-head, HasWindow-behind, head-all, head-behind, head-order, head-parts, head-rest, head-start, head-within}
 use Rattle.bitvec_words.proofs.CostLemmas.{fill-head, fill-part, loads-head, loads-part, stores-sum}
 use Rattle.bitvec_words.proofs.filling.fill.Goals as goal
 
@@ -61,7 +62,7 @@ pub returns-then-window-eq0-clause-loads : goal.returns-then-window-eq0-clause-l
 returns-then-window-eq0-clause-loads g c = omega arith
 
 pub first_part-head-requires-clause-bits : goal.first_part-head-requires-clause-bits
-first_part-head-requires-clause-bits g c = bits-some _ _ g.met.C.Elem.BitStore.width_law c.BITS-bits.ensures
+first_part-head-requires-clause-bits g c = width-some _ _ g.met.C.Elem.BitStore.width_law c.BITS-bits.ensures
 
 pub first_part-head-requires-clause-some : goal.first_part-head-requires-clause-some
 first_part-head-requires-clause-some g c = omega arith

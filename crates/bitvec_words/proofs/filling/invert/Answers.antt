@@ -6,7 +6,8 @@ use Rattle.bitvec_cells.specs.store.WidthLaws.{width_some}
 use Rattle.bitvec_cells.specs.WalkLaws.{touched-none}
 use Rattle.bitvec_words.specs.FillingLaws.{Writes-flipped_head}
 use Rattle.bitvec_words.specs.WholeLaws.{list-empty, window-end}
-use Rattle.bitvec_words.proofs.PlaceLemmas.{HasPart-head, HasWindow-behind, bits-some, head-all, head-behind, head-order, head-rest, head-start, head-within}
+use Rattle.bitvec_words.specs.WordLaws.{width-some}
+use Rattle.bitvec_words.proofs.PlaceLemmas.{HasPart-head, HasWindow-behind, head-all, head-behind, head-order, head-rest, head-start, head-within}
 use Rattle.bitvec_words.proofs.CostLemmas.{stores-sum}
 use Rattle.bitvec_words.proofs.filling.invert.Goals as goal
 
@@ -41,7 +42,7 @@ returns g c =
     }
 
 pub first_part-head-requires-clause-bits : goal.first_part-head-requires-clause-bits
-first_part-head-requires-clause-bits g c = bits-some _ _ g.met.C.Elem.BitStore.width_law c.BITS-bits.ensures
+first_part-head-requires-clause-bits g c = width-some _ _ g.met.C.Elem.BitStore.width_law c.BITS-bits.ensures
 
 pub first_part-head-requires-clause-some : goal.first_part-head-requires-clause-some
 first_part-head-requires-clause-some g c = omega arith

@@ -2,7 +2,8 @@ use Rattle.std.proofs.Common.{◌≡◌, ℕ, arith, rules, ap, ◌∙◌, refl}
 use Rattle.bitvec_cells.specs.base.Parts.{first_part_of}
 use Rattle.bitvec_words.specs.Front.{front_window}
 use Rattle.bitvec_words.proofs.FrontLemmas.{part-front, touched-part}
-use Rattle.bitvec_words.proofs.PlaceLemmas.{HasPart-head, HasWindow-front, bits-some, head-last, head-order, head-within}
+use Rattle.bitvec_words.specs.WordLaws.{width-some}
+use Rattle.bitvec_words.proofs.PlaceLemmas.{HasPart-head, HasWindow-front, head-last, head-order, head-within}
 use Rattle.bitvec_words.proofs.fronts.bits_load_front.Goals as goal
 
 pub returns-clause-value : goal.returns-clause-value
@@ -22,7 +23,7 @@ returns-clause-reads g c =
     rw (c.len.ensures, part, one) (search rules)
 
 pub first_part-part-requires-clause-bits : goal.first_part-part-requires-clause-bits
-first_part-part-requires-clause-bits g c = bits-some _ _ g.met.C.Elem.BitStore.width_law c.BITS.ensures
+first_part-part-requires-clause-bits g c = width-some _ _ g.met.C.Elem.BitStore.width_law c.BITS.ensures
 
 pub first_part-part-requires-clause-some : goal.first_part-part-requires-clause-some
 first_part-part-requires-clause-some g c = let some = c.requires.some in rw c.front_window.ensures (omega arith)

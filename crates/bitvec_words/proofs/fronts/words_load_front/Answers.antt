@@ -8,7 +8,8 @@ use Rattle.bitvec_words.specs.Front.{front_window}
 use Rattle.bitvec_words.specs.MovedLaws.{written-padded}
 use Rattle.bitvec_words.specs.TouchedLaws.{touched-word}
 use Rattle.bitvec_words.proofs.FrontLemmas.{part-front, touched-part, word-front}
-use Rattle.bitvec_words.proofs.PlaceLemmas.{HasPart-head, HasWindow-front, HasWindow-word, bits-some, head-inside, head-order, head-within}
+use Rattle.bitvec_words.specs.WordLaws.{width-some}
+use Rattle.bitvec_words.proofs.PlaceLemmas.{HasPart-head, HasWindow-front, HasWindow-word, head-inside, head-order, head-within}
 use Rattle.bitvec_words.proofs.fronts.words_load_front.Goals as goal
 
 pub returns-then-window-bits-eq0-clause-value : goal.returns-then-window-bits-eq0-clause-value
@@ -47,10 +48,10 @@ returns-clause-reads g c =
     rw (c.len-count.ensures, part, one) (search rules)
 
 pub nonzero_rem-window : goal.nonzero_rem-window
-nonzero_rem-window g c = bits-some _ _ g.met.C.Elem.BitStore.width_law c.BITS-bits.ensures
+nonzero_rem-window g c = width-some _ _ g.met.C.Elem.BitStore.width_law c.BITS-bits.ensures
 
 pub nonzero_div-window : goal.nonzero_div-window
-nonzero_div-window g c = bits-some _ _ g.met.C.Elem.BitStore.width_law c.BITS-bits.ensures
+nonzero_div-window g c = width-some _ _ g.met.C.Elem.BitStore.width_law c.BITS-bits.ensures
 
 pub load_elements-word-requires-clause-window : goal.load_elements-word-requires-clause-window
 load_elements-word-requires-clause-window g c =
@@ -61,7 +62,7 @@ pub load_elements-word-requires-clause-narrow : goal.load_elements-word-requires
 load_elements-word-requires-clause-narrow g c = omega arith
 
 pub first_part-part-requires-clause-bits : goal.first_part-part-requires-clause-bits
-first_part-part-requires-clause-bits g c = bits-some _ _ g.met.C.Elem.BitStore.width_law c.BITS-bits.ensures
+first_part-part-requires-clause-bits g c = width-some _ _ g.met.C.Elem.BitStore.width_law c.BITS-bits.ensures
 
 pub first_part-part-requires-clause-some : goal.first_part-part-requires-clause-some
 first_part-part-requires-clause-some g c = let some = c.requires.some in rw c.front_window.ensures (omega arith)

@@ -3,7 +3,8 @@ use Rattle.std.proofs.lemmas.Nat.{mod_below}
 use Rattle.bitvec_cells.specs.store.WidthLaws.{width_some}
 use Rattle.bitvec_words.specs.FieldLaws.{list-across, list-front}
 use Rattle.bitvec_words.specs.TouchedLaws.{last-first, last-next, next-inside, touched-one, touched-two}
-use Rattle.bitvec_words.proofs.PlaceLemmas.{bits-some, index-below, index-within}
+use Rattle.bitvec_words.specs.WordLaws.{width-some}
+use Rattle.bitvec_words.proofs.PlaceLemmas.{index-below, index-within}
 use Rattle.std.proofs.Math.Nat.{div-le_self}
 use Rattle.bitvec_words.proofs.part.load_element_after.Goals as goal
 
@@ -40,7 +41,7 @@ returns-clause-reads g c =
     record { numbers = search rules; borrow = search rules; loads = omega arith; stores = search rules }
 
 pub nonzero_rem-skip : goal.nonzero_rem-skip
-nonzero_rem-skip g c = bits-some _ _ g.met.C.Elem.BitStore.width_law c.BITS-bits.ensures
+nonzero_rem-skip g c = width-some _ _ g.met.C.Elem.BitStore.width_law c.BITS-bits.ensures
 
 pub overflow_sub-bits : goal.overflow_sub-bits
 overflow_sub-bits g c = index-within _ _ _ g.met.C.Elem.BitStore.width_law c.BITS-bits.ensures
@@ -56,7 +57,7 @@ returns-then-window-bits-clause-last g c =
     rw (last-first g.C.Elem.BitStore.BITS c.args.window.start c.args.window.len some c.requires.short.some (omega arith)) c.requires.first
 
 pub nonzero_div-window : goal.nonzero_div-window
-nonzero_div-window g c = bits-some _ _ g.met.C.Elem.BitStore.width_law c.BITS-bits.ensures
+nonzero_div-window g c = width-some _ _ g.met.C.Elem.BitStore.width_law c.BITS-bits.ensures
 
 pub overflow_add-window : goal.overflow_add-window
 overflow_add-window g c =

@@ -10,7 +10,8 @@ use Rattle.bitvec_words.specs.FieldLaws.{first_part-long, list-head}
 use Rattle.bitvec_words.specs.TouchedLaws.{touched-first, touched-rest}
 use Rattle.bitvec_words.specs.WholeLaws.{list-empty, window-end}
 use Rattle.bitvec_words.proofs.ScanLemmas.{HasWindow-after, HasWindow-head, first-behind, first-front, first-inside, first-lacks, touched-behind_head}
-use Rattle.bitvec_words.proofs.PlaceLemmas.{HasPart-head, HasWindow-behind, bits-some, head-behind, head-order, head-start, head-within}
+use Rattle.bitvec_words.specs.WordLaws.{width-some}
+use Rattle.bitvec_words.proofs.PlaceLemmas.{HasPart-head, HasWindow-behind, head-behind, head-order, head-start, head-within}
 use Rattle.bitvec_words.proofs.CostLemmas.{reads-head}
 use Rattle.bitvec_words.proofs.scanning.bits_scan_first.Goals as goal
 
@@ -89,7 +90,7 @@ returns g c =
     }
 
 pub nonzero_rem-window : goal.nonzero_rem-window
-nonzero_rem-window g c = bits-some _ _ g.met.C.Elem.BitStore.width_law c.BITS-bits.ensures
+nonzero_rem-window g c = width-some _ _ g.met.C.Elem.BitStore.width_law c.BITS-bits.ensures
 
 pub first_aligned-requires-clause-window : goal.first_aligned-requires-clause-window
 first_aligned-requires-clause-window g c = c.requires
@@ -107,7 +108,7 @@ pub returns-then-window-eq0-clause-reads : goal.returns-then-window-eq0-clause-r
 returns-then-window-eq0-clause-reads g c = record { numbers = refl; borrow = refl; loads = omega arith; stores = refl }
 
 pub first_part-head-requires-clause-bits : goal.first_part-head-requires-clause-bits
-first_part-head-requires-clause-bits g c = bits-some _ _ g.met.C.Elem.BitStore.width_law c.BITS-bits.ensures
+first_part-head-requires-clause-bits g c = width-some _ _ g.met.C.Elem.BitStore.width_law c.BITS-bits.ensures
 
 pub first_part-head-requires-clause-some : goal.first_part-head-requires-clause-some
 first_part-head-requires-clause-some g c = omega arith

@@ -9,7 +9,8 @@ use Rattle.bitvec_cells.specs.WalkLaws.{first-len}
 use Rattle.bitvec_words.specs.FieldLaws.{first_part-long, list-head}
 use Rattle.bitvec_words.specs.WholeLaws.{list-empty, window-end}
 use Rattle.bitvec_words.proofs.ScanLemmas.{HasWindow-after, HasWindow-head, last-behind, last-front, last-inside, last_loads-head, last_loads-some}
-use Rattle.bitvec_words.proofs.PlaceLemmas.{HasPart-head, HasWindow-behind, bits-some, head-behind, head-order, head-start, head-within}
+use Rattle.bitvec_words.specs.WordLaws.{width-some}
+use Rattle.bitvec_words.proofs.PlaceLemmas.{HasPart-head, HasWindow-behind, head-behind, head-order, head-start, head-within}
 use Rattle.bitvec_words.proofs.scanning.bits_scan_last.Goals as goal
 
 pub returns-then-window-eq0-clause-value : goal.returns-then-window-eq0-clause-value
@@ -78,7 +79,7 @@ pub returns-then-window-eq0-clause-reads : goal.returns-then-window-eq0-clause-r
 returns-then-window-eq0-clause-reads g c = record { numbers = refl; borrow = refl; loads = omega arith; stores = refl }
 
 pub first_part-head-requires-clause-bits : goal.first_part-head-requires-clause-bits
-first_part-head-requires-clause-bits g c = bits-some _ _ g.met.C.Elem.BitStore.width_law c.BITS-bits.ensures
+first_part-head-requires-clause-bits g c = width-some _ _ g.met.C.Elem.BitStore.width_law c.BITS-bits.ensures
 
 pub first_part-head-requires-clause-some : goal.first_part-head-requires-clause-some
 first_part-head-requires-clause-some g c = omega arith

@@ -7,7 +7,7 @@ use Rattle.bitvec_words.specs.Elements.{elements_window}
 use Rattle.bitvec_words.specs.WholeLaws.{list-empty}
 use Rattle.bitvec_words.proofs.ScanLemmas.{first-inside}
 use Rattle.bitvec_words.proofs.WordScanLemmas.{HasWindow-elements, block_whole, blocks-few, elements-bound, first-block_has, first-block_lacks}
-use Rattle.bitvec_words.proofs.PlaceLemmas.{bits-some}
+use Rattle.bitvec_words.specs.WordLaws.{width-some}
 use Rattle.bitvec_words.proofs.scanning_words.first_in_blocks.Goals as goal
 
 pub loop-step-init : goal.loop-step-init
@@ -65,7 +65,7 @@ overflow_add-first g c =
     rw c.BITS.ensures (omega arith)
 
 pub nonzero_div-elements : goal.nonzero_div-elements
-nonzero_div-elements g c = bits-some _ _ g.met.C.Elem.BitStore.width_law c.BITS.ensures
+nonzero_div-elements g c = width-some _ _ g.met.C.Elem.BitStore.width_law c.BITS.ensures
 
 pub overflow_mul-result : goal.overflow_mul-result
 overflow_mul-result g c =

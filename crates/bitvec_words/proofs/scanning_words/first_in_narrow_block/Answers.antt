@@ -2,7 +2,7 @@ use Rattle.std.proofs.Common.{◌+◌, ◌*◌, ◌/◌, arith, sym, ◌∙◌}
 use Rattle.bitvec_cells.specs.store.WidthLaws.{width_some}
 use Rattle.bitvec_words.proofs.OrderedLemmas.{block-found, block-lacks}
 use Rattle.bitvec_words.proofs.WordScanLemmas.{HasWindow-elements, block_words, elements-bound, none_from}
-use Rattle.bitvec_words.proofs.PlaceLemmas.{bits-some}
+use Rattle.bitvec_words.specs.WordLaws.{width-some}
 use Rattle.std.proofs.Math.Nat.{div-le_self}
 use Rattle.bitvec_words.proofs.scanning_words.first_in_narrow_block.Goals as goal
 
@@ -78,7 +78,7 @@ overflow_add-first-3 g c =
     rw c.BITS.ensures (omega arith)
 
 pub nonzero_div-elements : goal.nonzero_div-elements
-nonzero_div-elements g c = bits-some _ _ g.met.C.Elem.BitStore.width_law c.BITS.ensures
+nonzero_div-elements g c = width-some _ _ g.met.C.Elem.BitStore.width_law c.BITS.ensures
 
 pub overflow_mul-elements : goal.overflow_mul-elements
 overflow_mul-elements g c = let few = div-le_self 64 c.BITS.result in omega arith

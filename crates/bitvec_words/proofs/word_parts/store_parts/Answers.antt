@@ -7,7 +7,8 @@ use Rattle.bitvec_cells.specs.store.WidthLaws.{width_some}
 use Rattle.bitvec_cells.specs.WalkLaws.{Walked-start, Walked-next, Writes-none_passed, edge_loads-next, first-len, touched-next, touched-none}
 use Rattle.bitvec_words.specs.PartWalkLaws.{HasWindow-rest, Writes-next_field}
 use Rattle.bitvec_words.specs.WholeLaws.{window-end}
-use Rattle.bitvec_words.proofs.PlaceLemmas.{HasPart-head, bits-some, head-inside, head-order, head-some, head-within}
+use Rattle.bitvec_words.specs.WordLaws.{width-some}
+use Rattle.bitvec_words.proofs.PlaceLemmas.{HasPart-head, head-inside, head-order, head-some, head-within}
 use Rattle.bitvec_words.proofs.word_parts.store_parts.Goals as goal
 
 pub loop-rest-init : goal.loop-rest-init
@@ -44,7 +45,7 @@ loop-rest-preserved g c =
     })
 
 pub first_part-part-requires-clause-bits : goal.first_part-part-requires-clause-bits
-first_part-part-requires-clause-bits g c = bits-some _ _ g.met.C.Elem.BitStore.width_law c.BITS-bits.ensures
+first_part-part-requires-clause-bits g c = width-some _ _ g.met.C.Elem.BitStore.width_law c.BITS-bits.ensures
 
 pub first_part-part-requires-clause-some : goal.first_part-part-requires-clause-some
 first_part-part-requires-clause-some g c = c.loop-rest-test.true

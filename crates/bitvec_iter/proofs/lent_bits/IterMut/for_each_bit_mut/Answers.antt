@@ -12,9 +12,9 @@ use Rattle.bitvec_slice.specs.domain.Asked.{CallableOnBits, RefillsWith}
 use Rattle.bitvec_iter.specs.LentBits.{BitsLeft, WritesLeft, bits_in_place, bits_to_come, start_of}
 use Rattle.bitvec_iter.proofs.lent_bits.IterMut.for_each_bit_mut.Goals as goal
 
-module _ {T : Type 0} (b : ℕ) (at : ℕ → ℕ → ℕ) (value : T → ℕ) (cells : List T) (head len front back : ℕ) (inside : head + len ≤ b * length cells) (bounded : b * length cells ≤ max_bits) (bound : back ≤ len) where
+module _ {T : Type 0} (b : ℕ) (at : ℕ → ℕ → ℕ) (value : T → ℕ) (elements : List T) (head len front back : ℕ) (inside : head + len ≤ b * length elements) (bounded : b * length elements ≤ max_bits) (bound : back ≤ len) where
   abbrev walk : BitsLeft T
-  walk = record { view = shown b at value cells head len; front = front; back = back }
+  walk = record { view = shown b at value elements head len; front = front; back = back }
 
   abbrev part : Window
   part = record { start = head + min front back; len = back - front }
@@ -22,22 +22,22 @@ module _ {T : Type 0} (b : ℕ) (at : ℕ → ℕ → ℕ) (value : T → ℕ) (
   part-is : part ≡ window_range walk.view.window (start_of walk) back
   part-is = ap (λ (n : ℕ). record { start = head + min front back; len = n }) (omega arith)
 
-  part-bits : list_in b at (map value cells) part ≡ bits_to_come walk
-  part-bits = ap (list_in b at (map value cells)) part-is ∙ list-range b at (map value cells) walk.view.window (start_of walk) back (has_window b at value cells head len inside bounded) (omega arith) bound
+  part-bits : list_in b at (map value elements) part ≡ bits_to_come walk
+  part-bits = ap (list_in b at (map value elements)) part-is ∙ list-range b at (map value elements) walk.view.window (start_of walk) back (has_window b at value elements head len inside bounded) (omega arith) bound
 
-  module _ (xs : List T) (new : List Bool) (wrote : Writes b at (map value cells) (map value xs) part new) where
+  module _ (xs : List T) (new : List Bool) (wrote : Writes b at (map value elements) (map value xs) part new) where
     abbrev after : BitsLeft T
     after = record { view = shown b at value xs head len; front = back; back = back }
 
     all-bits : after.view.bits ≡ write_at walk.view.bits (start_of walk) new
     all-bits =
-        let has = has_window b at value cells head len inside bounded in
-        let there = subst (λ (w : Window). Writes b at (map value cells) (map value xs) w new) part-is wrote in
-        Writes-holds b at (map value cells) (map value xs) walk.view.window _ has (Writes-range b at (map value cells) (map value xs) walk.view.window (start_of walk) back new has (omega arith) bound there)
+        let has = has_window b at value elements head len inside bounded in
+        let there = subst (λ (w : Window). Writes b at (map value elements) (map value xs) w new) part-is wrote in
+        Writes-holds b at (map value elements) (map value xs) walk.view.window _ has (Writes-range b at (map value elements) (map value xs) walk.view.window (start_of walk) back new has (omega arith) bound there)
 
     in-place : bits_in_place walk after ≡ new
     in-place =
-        let long = length-list b at (map value cells) walk.view.window (has_window b at value cells head len inside bounded) in
+        let long = length-list b at (map value elements) walk.view.window (has_window b at value elements head len inside bounded) in
         let end : back ≡ start_of walk + length new = omega (arith, wrote.long) in
         ap (λ (l : List Bool). slice_range l (start_of walk) back) all-bits
         ∙ ap (λ (e : ℕ). slice_range (write_at walk.view.bits (start_of walk) new) (start_of walk) e) end
@@ -48,14 +48,14 @@ module _ {T : Type 0} (b : ℕ) (at : ℕ → ℕ → ℕ) (value : T → ℕ) (
       bits = all-bits;
       memory = wrote.bits;
       window = refl;
-      elements = sym (length-map xs value) ∙ wrote.elements ∙ length-map cells value;
+      elements = sym (length-map xs value) ∙ wrote.elements ∙ length-map elements value;
       long = omega (arith, wrote.long);
       front = refl;
       back = refl;
     }
 
     -- what R says of the old and the new bits of the part, and what was written
-    refilled : (R : List Bool → List Bool → Type 0) → R (list_in b at (map value cells) part) new → R (bits_to_come walk) (bits_in_place walk after) × WritesLeft walk after (bits_in_place walk after)
+    refilled : (R : List Bool → List Bool → Type 0) → R (list_in b at (map value elements) part) new → R (bits_to_come walk) (bits_in_place walk after) × WritesLeft walk after (bits_in_place walk after)
     refilled R told =
         (subst (R (bits_to_come walk)) (sym in-place) (subst (λ (l : List Bool). R l new) part-bits told), subst (WritesLeft walk after) (sym in-place) left-written)
 

@@ -7,28 +7,28 @@ use Rattle.bitvec_iter.proofs.lent_halves.HalvesMut.part_mut.Goals as goal
 pub elements_part_mut-elements-requires-clause-bound : goal.elements_part_mut-elements-requires-clause-bound
 elements_part_mut-elements-requires-clause-bound g c =
     let h = c.args.self.now in
-    rw c.touched_range-cells.ensures.end
+    rw c.touched_range-touched.ensures.end
     (touched_end g.T.BitStore.BITS h.elements.now h.head h.len c.args.from c.args.to (width_some _ g.met.T.BitStore.width_law) h.inside c.requires.order c.requires.bound)
 
 pub from_parts-requires-clause-inside : goal.from_parts-requires-clause-inside
 from_parts-requires-clause-inside g c =
     let h = c.args.self.now in
-    rw (c.elements_part_mut-elements.ensures.elements, c.touched_range-cells.ensures.first, c.touched_range-cells.ensures.end, c.BITS.ensures)
+    rw (c.elements_part_mut-elements.ensures.elements, c.touched_range-touched.ensures.first, c.touched_range-touched.ensures.end, c.BITS.ensures)
     (touched_holds g.T.BitStore.BITS h.elements.now h.head h.len c.args.from c.args.to (width_some _ g.met.T.BitStore.width_law) h.inside c.requires.order c.requires.bound)
 
 pub from_parts-requires-clause-fits : goal.from_parts-requires-clause-fits
 from_parts-requires-clause-fits g c =
     let h = c.args.self.now in
-    rw (c.elements_part_mut-elements.ensures.elements, c.touched_range-cells.ensures.first, c.touched_range-cells.ensures.end)
+    rw (c.elements_part_mut-elements.ensures.elements, c.touched_range-touched.ensures.first, c.touched_range-touched.ensures.end)
     (touched_few g.T.BitStore.BITS h.elements.now h.head h.len c.args.from c.args.to (width_some _ g.met.T.BitStore.width_law) h.inside c.requires.order c.requires.bound _ h.bounded)
 
 pub returns : goal.returns
 returns g c =
     let h = c.args.self.now in (
-      (sym c.from_parts.ensures.name, λ w. rw (c.touched_range-cells.ensures.first, c.touched_range-cells.ensures.end) refl),
+      (sym c.from_parts.ensures.name, λ w. rw (c.touched_range-touched.ensures.first, c.touched_range-touched.ensures.end) refl),
       record {
         writes_back = tt;
         part = part_view _ _ _ h.elements.now h.head h.len h.inside _ c.args.from c.args.to g.met.T.BitStore.width_law c.requires.order c.requires.bound
-            (rw (c.elements_part_mut-elements.ensures.elements, c.touched_range-cells.ensures.first, c.touched_range-cells.ensures.end, c.BITS.ensures) at c.from_parts.ensures.view);
+            (rw (c.elements_part_mut-elements.ensures.elements, c.touched_range-touched.ensures.first, c.touched_range-touched.ensures.end, c.BITS.ensures) at c.from_parts.ensures.view);
       },
     )

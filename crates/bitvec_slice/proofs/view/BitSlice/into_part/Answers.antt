@@ -10,26 +10,26 @@ overflow_add-start g c = omega arith
 pub overflow_add-self : goal.overflow_add-self
 overflow_add-self g c = omega arith
 
-pub touched_range-cells-requires : goal.touched_range-cells-requires
-touched_range-cells-requires g c = omega arith
+pub touched_range-touched-requires : goal.touched_range-touched-requires
+touched_range-touched-requires g c = omega arith
 
-pub offset_bounds-self-cells : goal.offset_bounds-self-cells
-offset_bounds-self-cells g c =
+pub offset_bounds-self-touched : goal.offset_bounds-self-touched
+offset_bounds-self-touched g c =
     let v = c.args.self in
-    let last = rw (← c.touched_range-cells.ensures.end) at
+    let last = rw (← c.touched_range-touched.ensures.end) at
     (touched_end g.T.BitStore.BITS v.elements.now v.head v.len c.args.range.start c.args.range.end (width_some _ g.met.T.BitStore.width_law) v.inside c.requires.0 c.requires.1) in
     omega arith
 
 pub slice_bounds-elements-count : goal.slice_bounds-elements-count
-slice_bounds-elements-count g c = c.touched_range-cells.ensures.order
+slice_bounds-elements-count g c = c.touched_range-touched.ensures.order
 
 pub slice_bounds-elements-start : goal.slice_bounds-elements-start
-slice_bounds-elements-start g c = c.touched_range-cells.ensures.order
+slice_bounds-elements-start g c = c.touched_range-touched.ensures.order
 
 pub slice_bounds-elements-end : goal.slice_bounds-elements-end
 slice_bounds-elements-end g c =
     let v = c.args.self in
-    rw c.touched_range-cells.ensures.end
+    rw c.touched_range-touched.ensures.end
     (touched_end g.T.BitStore.BITS v.elements.now v.head v.len c.args.range.start c.args.range.end (width_some _ g.met.T.BitStore.width_law) v.inside c.requires.0 c.requires.1)
 
 pub nonzero_rem-start : goal.nonzero_rem-start
@@ -41,17 +41,17 @@ overflow_sub-range g c = omega arith
 pub from_parts-requires-clause-inside : goal.from_parts-requires-clause-inside
 from_parts-requires-clause-inside g c =
     let v = c.args.self in
-    rw (c.touched_range-cells.ensures.first, c.touched_range-cells.ensures.end, c.BITS.ensures)
+    rw (c.touched_range-touched.ensures.first, c.touched_range-touched.ensures.end, c.BITS.ensures)
     (touched_holds g.T.BitStore.BITS v.elements.now v.head v.len c.args.range.start c.args.range.end (width_some _ g.met.T.BitStore.width_law) v.inside c.requires.0 c.requires.1)
 
 pub from_parts-requires-clause-fits : goal.from_parts-requires-clause-fits
 from_parts-requires-clause-fits g c =
     let v = c.args.self in
-    rw (c.touched_range-cells.ensures.first, c.touched_range-cells.ensures.end)
+    rw (c.touched_range-touched.ensures.first, c.touched_range-touched.ensures.end)
     (touched_few g.T.BitStore.BITS v.elements.now v.head v.len c.args.range.start c.args.range.end (width_some _ g.met.T.BitStore.width_law) v.inside c.requires.0 c.requires.1 _ v.bounded)
 
 pub returns : goal.returns
 returns g c =
     let v = c.args.self in
     part_view _ _ _ v.elements.now v.head v.len v.inside _ c.args.range.start c.args.range.end g.met.T.BitStore.width_law c.requires.0 c.requires.1
-    (rw (c.touched_range-cells.ensures.first, c.touched_range-cells.ensures.end, c.BITS.ensures) at c.from_parts.ensures)
+    (rw (c.touched_range-touched.ensures.first, c.touched_range-touched.ensures.end, c.BITS.ensures) at c.from_parts.ensures)

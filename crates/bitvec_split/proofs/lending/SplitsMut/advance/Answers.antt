@@ -1,19 +1,19 @@
 use Rattle.std.specs.Prelude.{Some, None}
 use Rattle.bitvec_split.specs.SplitStateLaws.{step_on}
-use Rattle.bitvec_split.specs.Lent.{SplitNextIn, StaysIn}
+use Rattle.bitvec_split.specs.Lent.{NextIn, StaysIn}
 use Rattle.bitvec_split.proofs.lending.SplitsMut.advance.Goals as goal
 
 pub returns-in_default-clause-stays : goal.returns-in_default-clause-stays
-returns-in_default-clause-stays g c = step_on StaysIn c.look-bits.ensures c.args.self.now.state c.step.new.self None c.in_default.ensures.stays
+returns-in_default-clause-stays g c = step_on (λ s r t. StaysIn s.left r t.left) c.look-bits.ensures c.args.self.now.state c.step.new.self None c.in_default.ensures.stays
 
 pub returns-in_default-clause-piece : goal.returns-in_default-clause-piece
 returns-in_default-clause-piece g c =
-    step_on (SplitNextIn g.P.FnMut g.W.SplitKind.INCLUSIVE g.W.SplitKind.REVERSED) c.look-bits.ensures c.args.self.now.state c.step.new.self None c.in_default.ensures.piece
+    step_on (NextIn g.P.FnMut g.W.SplitKind.INCLUSIVE g.W.SplitKind.REVERSED g.L.SplitLimit.LIMITED) c.look-bits.ensures c.args.self.now.state c.step.new.self None c.in_default.ensures.piece
 
 pub returns-clause-stays : goal.returns-clause-stays
-returns-clause-stays g c = step_on StaysIn c.look-bits.ensures c.args.self.now.state c.step.new.self (Some c.in-Some.range) c.in-Some.ensures.stays
+returns-clause-stays g c = step_on (λ s r t. StaysIn s.left r t.left) c.look-bits.ensures c.args.self.now.state c.step.new.self (Some c.in-Some.range) c.in-Some.ensures.stays
 
 pub returns-clause-piece : goal.returns-clause-piece
 returns-clause-piece g c =
-    step_on (SplitNextIn g.P.FnMut g.W.SplitKind.INCLUSIVE g.W.SplitKind.REVERSED) c.look-bits.ensures c.args.self.now.state c.step.new.self (Some c.in-Some.range)
+    step_on (NextIn g.P.FnMut g.W.SplitKind.INCLUSIVE g.W.SplitKind.REVERSED g.L.SplitLimit.LIMITED) c.look-bits.ensures c.args.self.now.state c.step.new.self (Some c.in-Some.range)
     c.in-Some.ensures.piece

@@ -1,6 +1,6 @@
 use Rattle.std.proofs.Common.{◌≡◌, ℕ, ◌-◌, ◌^◌, arith, ap, ◌∙◌}
 use Rattle.std.proofs.lemmas.Nat.Bits.{ones_shr}
-use Rattle.bitvec_field.proofs.signed.greatest.Goals as goal
+use Rattle.bitvec_segments.proofs.integers.greatest.Goals as goal
 
 pub returns : goal.returns
 returns c =

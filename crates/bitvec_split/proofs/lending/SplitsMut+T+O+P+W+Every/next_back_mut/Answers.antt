@@ -1,7 +1,7 @@
 use Rattle.bitvec_split.specs.Lent.{SplitNextBackIn}
 use Rattle.bitvec_split.specs.LentLaws.{lends_so}
 use Rattle.bitvec_split.specs.LentViews.{found_in, left_in}
-use Rattle.bitvec_split.proofs.lending.SplitsMut.next_back_mut.Goals as goal
+use Rattle.bitvec_split.proofs.lending.SplitsMut+T+O+P+W+Every.next_back_mut.Goals as goal
 
 pub returns-then-advance_back : goal.returns-then-advance_back
 returns-then-advance_back g c =

@@ -2,8 +2,8 @@ use Rattle.std.proofs.Common.{◌≡◌, ℕ, ◌-◌, ◌^◌, ℤ, pos, negsuc
 use Rattle.std.specs.Int.{w128}
 use Rattle.std.proofs.lemmas.Int.{ints, to_z-of_z}
 use Rattle.std.proofs.lemmas.Nat.{and_mask}
-use Rattle.bitvec_field.specs.Integers.{remainder_of}
-use Rattle.bitvec_field.proofs.signed.reduced.Goals as goal
+use Rattle.bitvec_segments.specs.Integers.{remainder_of}
+use Rattle.bitvec_segments.proofs.integers.reduced.Goals as goal
 
 masked : (z : ℤ) (n : ℕ) → pos 0 ≤ℤ z → bit_and (nat_abs z) (2 ^ n - 1) ≡ remainder_of n z
 masked (pos v) n low = and_mask v n

@@ -1,13 +1,13 @@
 //! Where the bits of a window come apart into two sides that share no element.
 ghost use Rattle.std.specs.Prelude.{◌+◌, ◌≤◌, ◌↔◌, IsTrue};
-ghost use Rattle.bitvec_cells.specs.base.Window.{max_bits};
-ghost use Rattle.bitvec_domain.specs.Apart.{ComesApart};
+ghost use Rattle.bitvec_base.specs.Window.{max_bits};
+ghost use Rattle.bitvec_base.specs.Apart.{ComesApart};
 
-use bitvec_cells::base::Window;
-use bitvec_cells::store::BitStore;
+use crate::window::Window;
+use bitvec_store::BitStore;
 
 /// Whether the bits of a window before the index `mid` share no element with those from it on: the
-/// latter begin an element, or there are none of the ones or the others. Condition: `mid` is at most
+/// latter begin with an element, or one of the two sides has no bits. Condition: `mid` is at most
 /// `len`, and the window ends in a memory of at most `MAX_BITS` bits.
 #[inline(always)]
 pub fn comes_apart<T: BitStore>(window: Window, mid: usize) -> bool
