@@ -66,14 +66,22 @@ static std::pair<double, std::string> run(const char *program, const Task &task,
     return {taken, said};
 }
 
-// The time of one call in nanoseconds: of runs of `times` calls and of none, the best of 7 each.
+// The times of one call of each task in nanoseconds: of runs of `times` calls and of none, the best of 7 each. The tasks take
+// turns.
+static std::vector<double> time_by_turns(const char *program, const std::vector<Task> &tasks, size_t times) {
+    std::vector<double> none(tasks.size(), std::numeric_limits<double>::infinity()), all = none;
+    for (int round = 0; round < 7; ++round)
+        for (size_t i = 0; i < tasks.size(); ++i) {
+            none[i] = std::min(none[i], run(program, tasks[i], 0).first);
+            all[i] = std::min(all[i], run(program, tasks[i], times).first);
+        }
+    for (size_t i = 0; i < tasks.size(); ++i)
+        all[i] = 1e9 * (all[i] - none[i]) / double(times);
+    return all;
+}
+
 static double time_runs(const char *program, const Task &task, size_t times) {
-    double none = std::numeric_limits<double>::infinity(), all = none;
-    for (int round = 0; round < 7; ++round) {
-        none = std::min(none, run(program, task, 0).first);
-        all = std::min(all, run(program, task, times).first);
-    }
-    return 1e9 * (all - none) / double(times);
+    return time_by_turns(program, {task}, times)[0];
 }
 
 // The best of 7 rounds of as many calls, a call in nanoseconds.
@@ -291,25 +299,23 @@ static void windows(const char *program) {
     window(program, "rotate_left", 0, 0, "by 525", peers.rotate_left(525));
 }
 
-// One range of a view or-ed into another one of it, beside `|=` with another memory, of as many bits: apart, with so many
-// bits between the places in an element, and all but the last bit one place on.
+// A row of a matrix or-ed into another one of it, beside `|=` with a row of another matrix. Which rows they are changes from
+// call to call. Rows that overlap lie so many bits apart as the places in an element, or 64.
 static void within(const char *program) {
-    std::printf("\n### One range of a view or-ed into another, under `Lsb0`, in bits per ns\n\n"
-                "| bits | elements | phase | `\\|=` with another memory | apart | overlapping | apart / `\\|=` | overlapping / `\\|=` |\n"
+    std::printf("\n### A row of bits or-ed into another one, in bits per ns\n\n"
+                "| bits | elements | phase | `\\|=` with another matrix | apart | overlapping | apart / `\\|=` | overlapping / `\\|=` |\n"
                 "|---|---|---|---|---|---|---|---|\n");
-    for (size_t bits : {1024, 262144})
-        for (size_t width : {8, 64})
-            for (size_t phase : {0, 29}) {
-                const auto speed = [&](const char *operation, size_t right, size_t len) {
-                    const Task task{operation, {width}, {"lsb0", std::to_string(right), "0", std::to_string(len)}};
-                    return bits / time_runs(program, task, 4'000'000'000 / bits / 100);
-                };
-                const double other = speed("or", phase, bits);
-                const double apart = speed("or_within", 0, 2 * (bits + phase));
-                const double overlapping = speed("or_overlapping", 0, bits);
-                std::printf("| %zu | u%zu | %zu | %.3g | %.3g | %.3g | %.3g | %.3g |\n", bits, width, phase, other, apart, overlapping,
-                            apart / other, overlapping / other);
-            }
+    for (size_t bits : {1024, 4096, 262144})
+        for (bool high : {false, true})
+            for (size_t width : {8, 16, 64})
+                for (size_t phase : {0, 29}) {
+                    std::vector<Task> tasks;
+                    for (const char *operation : {"or_rows", "or_rows_within", "or_rows_overlapping"})
+                        tasks.push_back({operation, {width}, {high ? "msb0" : "lsb0", std::to_string(phase), "0", std::to_string(bits)}});
+                    const std::vector<double> taken = time_by_turns(program, tasks, 4'000'000'000 / (bits + 512));
+                    std::printf("| %zu | u%zu %s | %zu | %.3g | %.3g | %.3g | %.3g | %.3g |\n", bits, width, high ? "Msb0" : "Lsb0", phase,
+                                bits / taken[0], bits / taken[1], bits / taken[2], taken[0] / taken[1], taken[0] / taken[2]);
+                }
 }
 
 int main(int, char **words) {

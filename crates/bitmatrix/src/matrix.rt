@@ -82,8 +82,9 @@ pub fn or_row<T: BitStore, O: SliceOrder>(
 }
 
 /// Makes a bit 1 where its row leads to place `k`, and row `k` on to its column. Condition: there is such
-/// a place.
+/// a place. It is not inlined, so that its loop has the registers to itself.
 #[tactic(auto, using(bitvec::specs::Laws::composed, crate::proofs::PathLaws::passing))]
+#[inline(never)]
 fn pass<T: BitStore, O: SliceOrder>(matrix: &mut BitSliceMut<'_, T, O>, n: usize, k: usize)
     requires size { (seen_mut matrix.old).window.len ≡ n * n }
     requires place { k < n }

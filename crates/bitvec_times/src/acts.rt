@@ -41,12 +41,6 @@ pub(crate) struct Inverted;
 /// The left view gets the ones of the right one too.
 pub(crate) struct Joined;
 
-/// The second half of the left view gets the ones of the first half too.
-pub(crate) struct JoinedWithin;
-
-/// The left view gets its own ones one place nearer to its end too.
-pub(crate) struct JoinedOverlapping;
-
 /// The bits of the left view go in the opposite order.
 pub(crate) struct Reversed;
 
@@ -168,32 +162,6 @@ impl Act for Joined {
         right: &mut BitSliceMut<'_, T, O>,
     ) -> usize {
         *left |= right.as_ref();
-        0
-    }
-}
-
-impl Act for JoinedWithin {
-    #[inline(always)]
-    fn act<T: BitStore, O: SliceOrder>(
-        left: &mut BitSliceMut<'_, T, O>,
-        _: &mut BitSliceMut<'_, T, O>,
-    ) -> usize {
-        let half = left.len() / 2;
-        left.or_within(0..half, half);
-        0
-    }
-}
-
-impl Act for JoinedOverlapping {
-    #[inline(always)]
-    fn act<T: BitStore, O: SliceOrder>(
-        left: &mut BitSliceMut<'_, T, O>,
-        _: &mut BitSliceMut<'_, T, O>,
-    ) -> usize {
-        let len = left.len();
-        if len > 0 {
-            left.or_within(0..len - 1, 1);
-        }
         0
     }
 }

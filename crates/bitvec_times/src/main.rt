@@ -1,14 +1,16 @@
 //! `bitvec_times OPERATION WIDTH PHASE TIMES` carries an operation out so many times, and prints the
 //! sum of what it gave: the benchmark times its runs.
 //!
-//! OPERATION is `copy`, `or`, `or_within`, `or_overlapping`, `swap`, `equality`, `compare`, `starts_with`,
-//! `ends_with`, `copy_within`, `shift_start`, `rotate_left`, `reverse`, `fill`, `invert`, `count_ones` or
-//! `first_one`, of 2^20 bits in elements of WIDTH bits, under `Lsb0`; the right side begins PHASE bits into
-//! an element. By
+//! OPERATION is `copy`, `or`, `swap`, `equality`, `compare`, `starts_with`, `ends_with`, `copy_within`,
+//! `shift_start`, `rotate_left`, `reverse`, `fill`, `invert`, `count_ones` or `first_one`, of 2^20 bits in
+//! elements of WIDTH bits, under `Lsb0`; the right side begins PHASE bits into an element. By
 //! `OPERATION WIDTH ORDER PHASE LEFT BITS TIMES` it is under the order `lsb0` or `msb0` and of so many bits,
 //! and the left side begins LEFT bits into an element. Or it is `eq_bits`, `cmp_bits`, `or_bits` or
 //! `clone_from_bitslice`, whose right side has elements of 16 bits. Or it is `walk`, over the ones of as many
 //! bits, of which one in PHASE is 1. Or it is `encode` or `decode`, of the header of a packet, in bytes.
+//!
+//! Or it is `or_rows`, `or_rows_within` or `or_rows_overlapping`, of rows of so many bits of two matrices or of
+//! one, which change from round to round and begin at indices of an element that lie PHASE apart.
 //!
 //! Or it is `index`, `get`, `set` or `by_vals`, of each of 2^20 bits in a row, or `index_at_random` or
 //! `set_at_random`, of each in another order, under `Lsb0` where PHASE is 0 and else under `Msb0`. Or it
@@ -22,6 +24,7 @@ mod few;
 mod mixed;
 mod operation;
 mod record;
+mod rows;
 mod single;
 mod walk;
 

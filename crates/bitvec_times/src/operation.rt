@@ -1,9 +1,10 @@
 //! Operations on the bits of two views in loops, each in one of its own.
 use crate::acts::{
     Act, Compared, Copied, CopiedWithin, Counted, Ended, Equal, Filled, Found, Inverted, Joined,
-    JoinedOverlapping, JoinedWithin, Reversed, Rotated, Shifted, Started, Swapped,
+    Reversed, Rotated, Shifted, Started, Swapped,
 };
 use crate::bits::{BITS, Place, zeros_and_one};
+use crate::rows::rows_times;
 use bitrecord::bits::{BitEdits, BitQueries, BitSliceMut, BitStore, SliceOrder};
 use std::alloc::Allocator;
 
@@ -29,14 +30,12 @@ pub(crate) fn operation_times<T: BitStore, O: SliceOrder, A: Allocator + Copy>(
         "first_one" => act_times::<Found, T, O, A>(alloc, place, times),
         "invert" => act_times::<Inverted, T, O, A>(alloc, place, times),
         "or" => act_times::<Joined, T, O, A>(alloc, place, times),
-        "or_overlapping" => act_times::<JoinedOverlapping, T, O, A>(alloc, place, times),
-        "or_within" => act_times::<JoinedWithin, T, O, A>(alloc, place, times),
         "reverse" => act_times::<Reversed, T, O, A>(alloc, place, times),
         "rotate_left" => act_times::<Rotated, T, O, A>(alloc, place, times),
         "shift_start" => act_times::<Shifted, T, O, A>(alloc, place, times),
         "starts_with" => act_times::<Started, T, O, A>(alloc, place, times),
         "swap" => act_times::<Swapped, T, O, A>(alloc, place, times),
-        _ => None,
+        _ => rows_times::<T, O, A>(alloc, name, place, times),
     }
 }
 

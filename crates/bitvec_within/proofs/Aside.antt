@@ -108,8 +108,8 @@ piece-before b at g old mid new window f d n m f2 d2 e from-is dest-is end-is ha
     (combined_within-before g list f d n m (omega arith) (omega arith) kept ∙ ap (λ (k : ℕ). combined_within g f k d list) end)
 
 -- all but one of some elements have so many bits that their number is a word
-pub room-fits : (b n : ℕ) → IsWidth b → n ≤ 4096 → b * (n - 1) < 2 ^ 64
+pub room-fits : (b n : ℕ) → IsWidth b → n ≤ 8192 → b * (n - 1) < 2 ^ 64
 room-fits b n width few =
     let most : b ≤ 128 = at_each_width (λ m. m ≤ 128) (omega arith) (omega arith) (omega arith) (omega arith) (omega arith) b width in
-    let room : b * (n - 1) ≤ b * 4096 = mul-le-mul_left b (let less : n - 1 ≤ 4096 = omega arith in less) in
+    let room : b * (n - 1) ≤ b * 8192 = mul-le-mul_left b (let less : n - 1 ≤ 8192 = omega arith in less) in
     omega arith

@@ -3,3 +3,4 @@ mod Edges
 mod FewLemmas
 mod Rotated
 mod Swapped
+mod Turns

@@ -1,4 +1,3 @@
 pub mod Combined
 pub mod CombinedLaws
-pub mod Held
 pub mod Swaps

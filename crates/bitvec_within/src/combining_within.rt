@@ -5,7 +5,6 @@ ghost use Rattle.bitvec_elements.specs.base.Lists.{FitsWithin, combined};
 ghost use Rattle.bitvec_elements.specs.base.Memory.{Edits, HasWindow, Writes, list_in};
 ghost use Rattle.bitvec_elements.specs.words.Operator.{operator};
 ghost use Rattle.bitvec_within.specs.Combined.{combined_within};
-ghost use Rattle.bitvec_within.specs.Held.{Holds};
 
 use bitvec_elements::base::Window;
 use bitvec_elements::combine_block_in;
@@ -63,7 +62,7 @@ fn combine_later<T: BitStore, O: SliceOrder>(
         let start = whole::<T>(source) - window.start;
         combine_rest::<T, O>(elements, window, start, dest, whole::<T>(len), op);
     } else {
-        combine_later_parts::<T, O>(elements, window, from, dest, len, op);
+        combine_later_any::<T, O>(elements, window, from, dest, len, op);
     }
 }
 
@@ -91,7 +90,7 @@ fn combine_earlier<T: BitStore, O: SliceOrder>(
         let start = whole::<T>(target) - window.start;
         combine_front::<T, O>(elements, window, from, start, whole::<T>(len), op);
     } else {
-        combine_earlier_parts::<T, O>(elements, window, from, dest, len, op);
+        combine_earlier_any::<T, O>(elements, window, from, dest, len, op);
     }
 }
 
@@ -105,7 +104,31 @@ fn whole<T: BitStore>(bits: usize) -> usize
     bits / each * each
 }
 
-/// [`combine_later`] of any bits.
+/// [`combine_later`] of any bits, with loops for each operator. It is not inlined, so that loops in which whole
+/// elements are combined have few values to keep.
+#[inline(never)]
+fn combine_later_any<T: BitStore, O: SliceOrder>(
+    elements: &mut [T],
+    window: Window,
+    from: usize,
+    dest: usize,
+    len: usize,
+    op: BitOp,
+)
+    requires window { HasWindow T.BITS (map T.value elements.old) window }
+    requires order { from + len ≤ dest }
+    requires bound { dest + len ≤ window.len }
+    ensures writes { Edits T.BITS O.at (map T.value elements.old) (map T.value elements.new) window
+        (combined_within (operator op) from (from + len) dest) }
+{
+    match op {
+        BitOp::And => combine_later_parts::<T, O>(elements, window, from, dest, len, BitOp::And),
+        BitOp::Or => combine_later_parts::<T, O>(elements, window, from, dest, len, BitOp::Or),
+        BitOp::Xor => combine_later_parts::<T, O>(elements, window, from, dest, len, BitOp::Xor),
+    }
+}
+
+/// [`combine_later_any`] by an operator that is known at the call.
 ///
 /// The two ranges share one element at most. The bits up to its end are written first, and then all others as for
 /// two memories.
@@ -132,7 +155,31 @@ fn combine_later_parts<T: BitStore, O: SliceOrder>(
     }
 }
 
-/// [`combine_earlier`] of any bits. The bits up to the end of a shared element are read first.
+/// [`combine_earlier`] of any bits, as [`combine_later_any`].
+#[inline(never)]
+fn combine_earlier_any<T: BitStore, O: SliceOrder>(
+    elements: &mut [T],
+    window: Window,
+    from: usize,
+    dest: usize,
+    len: usize,
+    op: BitOp,
+)
+    requires window { HasWindow T.BITS (map T.value elements.old) window }
+    requires order { dest + len ≤ from }
+    requires bound { from + len ≤ window.len }
+    ensures writes { Edits T.BITS O.at (map T.value elements.old) (map T.value elements.new) window
+        (combined_within (operator op) from (from + len) dest) }
+{
+    match op {
+        BitOp::And => combine_earlier_parts::<T, O>(elements, window, from, dest, len, BitOp::And),
+        BitOp::Or => combine_earlier_parts::<T, O>(elements, window, from, dest, len, BitOp::Or),
+        BitOp::Xor => combine_earlier_parts::<T, O>(elements, window, from, dest, len, BitOp::Xor),
+    }
+}
+
+/// [`combine_earlier_any`] by an operator that is known at the call. The bits up to the end of a shared element are
+/// read first.
 #[inline(always)]
 fn combine_earlier_parts<T: BitStore, O: SliceOrder>(
     elements: &mut [T],
@@ -215,10 +262,37 @@ fn combine_front<T: BitStore, O: SliceOrder>(
 /// Combines `len` bits of a window from `dest` on with as many from `from` on, which overlap. Conditions: as for
 /// [`combine_within_in`].
 ///
-/// The source is held aside by stretches, in an array of about as many elements as it has: at most 512, or 4096
-/// of at most 16 bits.
-#[inline(never)]
+/// The source is held aside in an array of at least as many elements as it touches; the memory has to have as many.
+#[inline(always)]
 fn combine_overlapping<T: BitStore, O: SliceOrder>(
+    elements: &mut [T],
+    window: Window,
+    from: usize,
+    dest: usize,
+    len: usize,
+    op: BitOp,
+)
+    requires window { HasWindow T.BITS (map T.value elements.old) window }
+    requires fits { FitsWithin from (from + len) dest window.len }
+    ensures writes { Edits T.BITS O.at (map T.value elements.old) (map T.value elements.new) window
+        (combined_within (operator op) from (from + len) dest) }
+{
+    let bits = T::BITS as usize;
+    let (most, touched) = (elements.len(), (window.start + from) % bits + len);
+    if most >= 18 && touched <= 18 * bits {
+        combine_stretch::<T, O, 18>(elements, window, from, dest, len, op);
+    } else if most >= 64 && touched <= 64 * bits {
+        combine_stretch::<T, O, 64>(elements, window, from, dest, len, op);
+    } else if most >= 128 && touched <= 128 * bits {
+        combine_stretch::<T, O, 128>(elements, window, from, dest, len, op);
+    } else {
+        combine_long::<T, O>(elements, window, from, dest, len, op);
+    }
+}
+
+/// [`combine_overlapping`] where the source touches many elements, or the memory has few.
+#[inline(never)]
+fn combine_long<T: BitStore, O: SliceOrder>(
     elements: &mut [T],
     window: Window,
     from: usize,
@@ -235,27 +309,29 @@ fn combine_overlapping<T: BitStore, O: SliceOrder>(
     if len <= bits {
         return combine_few::<T, O>(elements, window, from, dest, len, op);
     }
-    let count = elements.len().min(len.div_ceil(bits));
-    if bits <= 16 && count >= 4096 {
-        combine_holding::<T, O, 4096>(elements, window, from, dest, len, op);
-    } else if count >= 512 {
-        combine_holding::<T, O, 512>(elements, window, from, dest, len, op);
-    } else if count >= 128 {
-        combine_holding::<T, O, 128>(elements, window, from, dest, len, op);
-    } else if count >= 64 {
-        combine_holding::<T, O, 64>(elements, window, from, dest, len, op);
-    } else if count >= 16 {
-        combine_holding::<T, O, 16>(elements, window, from, dest, len, op);
-    } else if count >= 4 {
-        combine_holding::<T, O, 4>(elements, window, from, dest, len, op);
+    let (most, touched) = (elements.len(), (window.start + from) % bits + len);
+    if most >= 258 && touched <= 258 * bits {
+        combine_stretch::<T, O, 258>(elements, window, from, dest, len, op);
+    } else if most >= 4098 && bits <= 16 && len >= 4097 * bits {
+        combine_blocks::<T, O, 4098>(elements, window, from, dest, len, op);
+    } else if most >= 514 {
+        combine_blocks::<T, O, 514>(elements, window, from, dest, len, op);
+    } else if most >= 258 {
+        combine_blocks::<T, O, 258>(elements, window, from, dest, len, op);
+    } else if most >= 64 {
+        combine_blocks::<T, O, 64>(elements, window, from, dest, len, op);
+    } else if most >= 18 {
+        combine_blocks::<T, O, 18>(elements, window, from, dest, len, op);
+    } else if most >= 4 {
+        combine_blocks::<T, O, 4>(elements, window, from, dest, len, op);
     } else {
-        combine_holding::<T, O, 2>(elements, window, from, dest, len, op);
+        combine_blocks::<T, O, 2>(elements, window, from, dest, len, op);
     }
 }
 
-/// [`combine_overlapping`] with up to `HELD` elements held aside. Condition: the memory has as many, which are
-/// from 2 to 4096.
-fn combine_holding<T: BitStore, O: SliceOrder, const HELD: usize>(
+/// [`combine_overlapping`] by blocks of one element fewer than `HELD`, from the end at which no bit is written over before it
+/// is read. Conditions: `HELD` is from 2 to 8192, the memory has as many elements, and there are bits.
+fn combine_blocks<T: BitStore, O: SliceOrder, const HELD: usize>(
     elements: &mut [T],
     window: Window,
     from: usize,
@@ -265,79 +341,41 @@ fn combine_holding<T: BitStore, O: SliceOrder, const HELD: usize>(
 )
     requires window { HasWindow T.BITS (map T.value elements.old) window }
     requires fits { FitsWithin from (from + len) dest window.len }
-    requires some { 1 < HELD }
-    requires few { HELD ≤ 4096 }
+    requires some { 0 < len }
+    requires held { 1 < HELD }
+    requires few { HELD ≤ 8192 }
     requires many { HELD ≤ length elements.old }
     ensures writes { Edits T.BITS O.at (map T.value elements.old) (map T.value elements.new) window
         (combined_within (operator op) from (from + len) dest) }
 {
-    let bits = T::BITS as usize;
-    if (window.start + from) % bits + len <= bits * HELD {
-        combine_stretch::<T, O, HELD>(elements, window, from, dest, len, op);
-    } else if dest <= from {
-        combine_ascending::<T, O, HELD>(elements, window, from, dest, len, op);
-    } else {
-        combine_descending::<T, O, HELD>(elements, window, from, dest, len, op);
+    let size = room_beside::<T>(HELD);
+    let count = (len - 1) / size + 1;
+    for turn in 0..count {
+        let index = in_turn(from, dest, turn, count);
+        let done = index * size;
+        let block = size.min(len - done);
+        combine_stretch::<T, O, HELD>(elements, window, from + done, dest + done, block, op);
     }
 }
 
-/// [`combine_overlapping`] where the source doesn't stand before what is written: its first bits first, so that
-/// none is written over before it is read. Condition: as for [`combine_holding`].
-fn combine_ascending<T: BitStore, O: SliceOrder, const HELD: usize>(
-    elements: &mut [T],
-    window: Window,
-    from: usize,
-    dest: usize,
-    len: usize,
-    op: BitOp,
-)
-    requires window { HasWindow T.BITS (map T.value elements.old) window }
-    requires fits { FitsWithin from (from + len) dest window.len }
-    requires towards_start { dest ≤ from }
-    requires holds { Holds HELD (length elements.old) }
-    ensures writes { Edits T.BITS O.at (map T.value elements.old) (map T.value elements.new) window
-        (combined_within (operator op) from (from + len) dest) }
-{
-    let mut done = 0;
-    while done < len {
-        let count = room_beside::<T>(HELD).min(len - done);
-        combine_stretch::<T, O, HELD>(elements, window, from + done, dest + done, count, op);
-        done += count;
-    }
-}
-
-/// [`combine_overlapping`] where the source doesn't stand behind what is written: its last bits first, so that
-/// none is written over before it is read. Condition: as for [`combine_holding`].
-fn combine_descending<T: BitStore, O: SliceOrder, const HELD: usize>(
-    elements: &mut [T],
-    window: Window,
-    from: usize,
-    dest: usize,
-    len: usize,
-    op: BitOp,
-)
-    requires window { HasWindow T.BITS (map T.value elements.old) window }
-    requires fits { FitsWithin from (from + len) dest window.len }
-    requires towards_end { from ≤ dest }
-    requires holds { Holds HELD (length elements.old) }
-    ensures writes { Edits T.BITS O.at (map T.value elements.old) (map T.value elements.new) window
-        (combined_within (operator op) from (from + len) dest) }
-{
-    let mut left = len;
-    while left > 0 {
-        let count = room_beside::<T>(HELD).min(left);
-        left -= count;
-        combine_stretch::<T, O, HELD>(elements, window, from + left, dest + left, count, op);
-    }
-}
-
-/// How many bits all but one of some elements have. Condition: they are from 1 to 4096.
+/// How many bits all but one of some elements have. Condition: they are from 1 to 8192.
 fn room_beside<T: BitStore>(count: usize) -> usize
     requires some { 0 < count }
-    requires few { count ≤ 4096 }
+    requires few { count ≤ 8192 }
     ensures { result ≡ T.BITS * (count - 1) }
 {
     T::BITS as usize * (count - 1)
+}
+
+/// Which of `count` blocks has its turn, where each is read before another one is written over it.
+#[inline(always)]
+fn in_turn(from: usize, dest: usize, turn: usize, count: usize) -> usize
+    requires { turn < count }
+    ensures inside { result < count }
+    ensures up { dest ≤ from → result ≡ turn }
+    ensures down { from < dest → result ≡ count - 1 - turn }
+{
+    if from < dest { count - 1 - turn } else { turn }
 }
 
 /// Combines as many bits of a window from `dest` on with those from `from` on as an element has, or fewer.
@@ -367,7 +405,7 @@ fn combine_few<T: BitStore, O: SliceOrder>(
     }
 }
 
-/// [`combine_held`], not inlined: the loops are not made once more for each call.
+/// [`combine_held`], not inlined, with loops for each operator: they are not made once more for each call.
 #[inline(never)]
 fn combine_stretch<T: BitStore, O: SliceOrder, const HELD: usize>(
     elements: &mut [T],
@@ -384,7 +422,11 @@ fn combine_stretch<T: BitStore, O: SliceOrder, const HELD: usize>(
     ensures writes { Edits T.BITS O.at (map T.value elements.old) (map T.value elements.new) window
         (combined_within (operator op) from (from + len) dest) }
 {
-    combine_held::<T, O, HELD>(elements, window, from, dest, len, op);
+    match op {
+        BitOp::And => combine_held::<T, O, HELD>(elements, window, from, dest, len, BitOp::And),
+        BitOp::Or => combine_held::<T, O, HELD>(elements, window, from, dest, len, BitOp::Or),
+        BitOp::Xor => combine_held::<T, O, HELD>(elements, window, from, dest, len, BitOp::Xor),
+    }
 }
 
 /// Combines `len` bits of a window from `dest` on with as many from `from` on, of which the elements are held
