@@ -6,7 +6,7 @@ use Rattle.std.proofs.lemmas.Nat.{shr-shr, shr_split, pow_pos}
 use Rattle.std.proofs.lemmas.Nat.Bits.{bit_at_cat_low, bit_at_cat_high, bit_at-zero}
 
 -- what stands within the b bits is the same without the cut
-bit_at_cut : (b v p : ℕ) → p < b → bit_at (v % 2 ^ b) p ≡ bit_at v p
+pub bit_at_cut : (b v p : ℕ) → p < b → bit_at (v % 2 ^ b) p ≡ bit_at v p
 bit_at_cut b v p h = sym (bit_at_cat_low (v / 2 ^ b) b (v % 2 ^ b) p h) ∙ ap (λ (n : ℕ). bit_at n p) (shr_split v b)
 
 -- bits moved up within b bits, and the places that they left

@@ -137,5 +137,5 @@ fn contains_in<T: BitStore, O: SliceOrder>(
     requires right_window { HasWindow T.BITS (map T.value right.now) right_window }
     ensures { result ≡ stands_in (list_in T.BITS O.at (map T.value right.now) right_window) (list_in T.BITS O.at (map T.value elements.now) window) }
 {
-    bitvec_within::elements::contains_in::<T, O, T, O>(elements, window, right, right_window)
+    bitvec_within::contains_in::<T, O, T, O>(elements, window, right, right_window)
 }

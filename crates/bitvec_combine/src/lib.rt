@@ -44,9 +44,9 @@ pub mod words {
     pub use bitvec_move::words::{
         BitOp, WORD_BITS, WordOrder, bits_load_front, bits_lowest_first, bits_scan_first,
         bits_scan_last, count, count_zeros, fill, gathered, invert, joined, load_element,
-        load_element_after, load_elements, load_parts, merged, moved, reversed, same_between,
-        store_elements, store_part, store_parts, toward_end, toward_start, words_load_front,
-        words_scan_first,
+        load_element_after, load_elements, load_parts, load_slice_word, merged, moved, reversed,
+        same_between, store_elements, store_part, store_parts, store_slice_word, toward_end,
+        toward_start, words_load_front, words_scan_first,
     };
 }
 

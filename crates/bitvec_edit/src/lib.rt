@@ -34,8 +34,8 @@ pub mod store {
 /// Items of `bitvec_within` that crates above use.
 pub mod within {
     pub use bitvec_within::{
-        combine_within_in, copy_within_in, reverse_in, rotate_left_in, rotate_right_in,
-        shift_end_in, shift_start_in, swap_within_in,
+        combine_within_in, contains_in, copy_within_in, reverse_in, rotate_left_in,
+        rotate_right_in, shift_end_in, shift_start_in, swap_within_in,
     };
 }
 

@@ -1,5 +1,5 @@
 //! What loads and stores of a view come to together.
-ghost use Rattle.std.specs.Prelude.{◌≡◌, ◌+◌, ◌%◌, ◌<◌, ◌≤◌};
+ghost use Rattle.std.specs.Prelude.{◌≡◌, ◌<◌, ◌≤◌};
 ghost use Rattle.bitvec_field.specs.DomainParts.{lists_of_pieces};
 ghost use Rattle.bitvec_field.specs.Integers.{integer_of, remainder_of};
 ghost use Rattle.bitvec_field.specs.domain.Domains.{pieces_of};
@@ -48,19 +48,6 @@ pub fn loaded_then_stored_be<T: BitStore, O: FieldOrder>(view: &mut BitSliceMut<
     let _bits = view.len();
     let number = view.load_be::<u128>();
     view.store_be::<u128>(number);
-}
-
-/// Loads a view that lies in one element both ways: the integers are the same.
-pub fn same_in_one_element<T: BitStore, O: FieldOrder, I: Integral>(
-    view: BitSlice<'_, T, O>,
-) -> (I, I)
-    requires some { 0 < (seen view).window.len }
-    requires bound { (seen view).window.len ≤ I.BITS }
-    requires one { (seen view).window.start % T.BITS + (seen view).window.len ≤ T.BITS }
-    ensures { I.value result.0 ≡ I.value result.1 }
-{
-    let _bits = view.len();
-    (view.load_le::<I>(), view.load_be::<I>())
 }
 
 /// The elements that a view touches: the bits of its parts are the segments that loads and stores go by.

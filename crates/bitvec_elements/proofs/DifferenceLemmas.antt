@@ -1,11 +1,11 @@
 -- Where two words first differ, and the lists whose bits they have.
-use Rattle.std.specs.Prelude.{◌≡◌, ◌≢◌, ℕ, ◌+◌, ◌-◌, ◌<◌, ◌≤◌, ◌==◌, min, Bool, true, false, Some, None, List, length, slice_index_or, slice_range, bit_xor, refl}
+use Rattle.std.specs.Prelude.{◌≡◌, ◌≢◌, ℕ, ◌+◌, ◌-◌, ◌<◌, ◌≤◌, ◌==◌, min, Bool, true, false, Some, None, List, drop, length, slice_index_or, slice_range, bit_xor, refl}
 use Rattle.std.proofs.Common.{arith, sym, ◌∙◌, ap, ⊎_elim, subst}
 use Rattle.std.specs.Cmp.Lexicographic.{slice_cmp}
 use Rattle.std.specs.Ordering.{bool_cmp}
 use Rattle.std.proofs.lemmas.Bool.{cases_lt, false_from_ne_true}
 use Rattle.std.proofs.lemmas.Bool.Decides.{nat_tests}
-use Rattle.std.proofs.lemmas.List.{places}
+use Rattle.std.proofs.lemmas.List.{get_or-drop, length-drop, places}
 use Rattle.bitvec_elements.specs.Difference.{DiffersFrom}
 use Rattle.bitvec_elements.specs.base.CompareLaws.{SameBelow, differs-apart, order-differ, same-equal}
 use Rattle.bitvec_elements.specs.base.declared.window.Window.{Window}
@@ -168,3 +168,19 @@ told true true apart = absurd (apart refl)
 pub common-differ : (xs ys : List Bool) (n : ℕ) (x y : Bool) → DiffersFrom xs ys n → n < min (length xs) (length ys) → x ≡ slice_index_or xs n false → y ≡ slice_index_or ys n false → bool_cmp x y ≡ slice_cmp bool_cmp xs ys
 common-differ xs ys n x y from more left right =
     order-differ xs ys n x y (omega arith) (omega arith) from.same left right (told x y (λ e. from.differs more (sym left ∙ e ∙ right)))
+
+-- what is behind equal bits differs as far on
+pub differs-behind : (xs ys : List Bool) (from n : ℕ) → from ≤ min (length xs) (length ys) → SameBelow xs ys from → DiffersFrom (drop from xs) (drop from ys) n → DiffersFrom xs ys (from + n)
+differs-behind xs ys from n inside same behind =
+    let most = behind.bound in
+    let left = length-drop from xs in
+    let right = length-drop from ys in
+    record {
+      same = λ k below. ⊎_elim (λ (before : k < from). same k before)
+          (λ (after : from ≤ k).
+          let place : from + (k - from) ≡ k = omega arith in
+          ap (λ (m : ℕ). slice_index_or xs m false) (sym place) ∙ sym (get_or-drop from xs (k - from) false) ∙ behind.same (k - from) (omega arith) ∙ get_or-drop from ys (k - from) false ∙ ap (λ (m : ℕ). slice_index_or ys m false) place)
+          (cases_lt k from);
+      bound = omega arith;
+      differs = λ more e. behind.differs (omega arith) (get_or-drop from xs n false ∙ e ∙ sym (get_or-drop from ys n false));
+    }

@@ -1,6 +1,6 @@
-mod CandidateLemmas
 mod ConvertedLemmas
 mod DifferenceLemmas
 mod ElementLemmas
-mod StandingLemmas
+mod FromLemmas
+mod RecutLemmas
 pub mod StoreLemmas

@@ -1,21 +1,16 @@
 -- Windows written a stretch at a time.
-use Rattle.std.specs.Prelude.{◌≡◌, ℕ, ◌+◌, ◌-◌, ◌<◌, ◌≤◌, min, Bool, false, List, length, slice_index_or, slice_range, take, refl}
-use Rattle.std.proofs.Common.{arith, sym, ◌∙◌, ap, subst, ⊎_elim}
-use Rattle.std.proofs.lemmas.Bool.{cases_lt}
-use Rattle.std.proofs.lemmas.List.{places, same_lists}
+use Rattle.std.specs.Prelude.{◌≡◌, ℕ, ◌-◌, ◌<◌, ◌≤◌, Bool, List, length, slice_range, take, refl}
+use Rattle.std.proofs.Common.{arith, sym, ◌∙◌, ap, subst}
 use Rattle.bitvec_engine.specs.Direction.{Agrees}
+use Rattle.bitvec_engine.specs.Pairs.{HasPair}
 use Rattle.bitvec_elements.specs.base.declared.window.Window.{Window}
-use Rattle.bitvec_elements.specs.base.Lists.{combined}
-use Rattle.bitvec_elements.specs.base.ListsLaws.{get-combined, length-combined}
 use Rattle.bitvec_elements.specs.base.Memory.{Edits, HasWindow, Writes, element_bits, list_in}
-use Rattle.bitvec_elements.specs.base.Spans.{HasSpan}
 use Rattle.bitvec_elements.specs.base.Window.{window_range, write_window}
-use Rattle.bitvec_elements.specs.base.WriteLaws.{get-slice_range, length-slice_range}
+use Rattle.bitvec_elements.specs.base.WriteLaws.{length-slice_range}
 use Rattle.bitvec_elements.specs.base.WritesLaws.{HasWindow-kept, HasWindow-range, Writes-empty, Writes-is, Writes-join, length-list, list-behind, list-range}
 use Rattle.bitvec_elements.specs.moves.WordLaws.{take-all}
 use Rattle.bitvec_elements.specs.words.ShortWindow.{padded}
-use Rattle.bitvec_elements.specs.words.MovedLaws.{length-padded, take-word, take-range}
-use Rattle.bitvec_elements.proofs.DifferenceLemmas.{in_padded, past_padded}
+use Rattle.bitvec_elements.specs.words.MovedLaws.{take-word, take-range}
 use Rattle.bitvec_engine.proofs.DirectionLemmas.{list-agrees, memory-agrees}
 
 -- the first n places of a window
@@ -78,16 +73,16 @@ stretch-all b at old new window list n all long writes =
     Writes-is b at old new window _ _ (subst (λ (k : ℕ). Writes b at old new (until window k) (take k list)) all writes) (take-all list window.len (omega arith))
 
 -- three stretches of a window of another memory
-pub stretches-copied : (b : ℕ) (at : ℕ → ℕ → ℕ) (old mid next new ys : List ℕ) (to from head source body right tail rest : Window) (f l : ℕ) → HasSpan b old ys to from → f ≤ l → l ≤ to.len
-    → head ≡ window_range to 0 f → source ≡ window_range from 0 f → Writes b at old mid head (list_in b at ys source)
-    → body ≡ window_range to f l → right ≡ window_range from f l → Writes b at mid next body (list_in b at ys right)
-    → tail ≡ window_range to l to.len → rest ≡ window_range from l to.len → Writes b at next new tail (list_in b at ys rest)
-    → Writes b at old new to (list_in b at ys from)
-stretches-copied b at old mid next new ys to from head source body right tail rest f l span order bound head-is source-is first body-is right-is second tail-is rest-is third =
+pub stretches-copied : (b d : ℕ) (at way : ℕ → ℕ → ℕ) (old mid next new ys : List ℕ) (to from head source body right tail rest : Window) (f l : ℕ) → HasPair b old to d ys from → f ≤ l → l ≤ to.len
+    → head ≡ window_range to 0 f → source ≡ window_range from 0 f → Writes b at old mid head (list_in d way ys source)
+    → body ≡ window_range to f l → right ≡ window_range from f l → Writes b at mid next body (list_in d way ys right)
+    → tail ≡ window_range to l to.len → rest ≡ window_range from l to.len → Writes b at next new tail (list_in d way ys rest)
+    → Writes b at old new to (list_in d way ys from)
+stretches-copied b d at way old mid next new ys to from head source body right tail rest f l span order bound head-is source-is first body-is right-is second tail-is rest-is third =
     let lengths = span.lengths in
-    let list = list_in b at ys from in
-    let long = length-list b at ys from span.beside ∙ sym lengths in
-    let part = λ (a e : ℕ) (up : a ≤ e) (fits : e ≤ to.len). list-range b at ys from a e span.beside up (omega arith) in
+    let list = list_in d way ys from in
+    let long = length-list d way ys from span.beside ∙ sym lengths in
+    let part = λ (a e : ℕ) (up : a ≤ e) (fits : e ≤ to.len). list-range d way ys from a e span.beside up (omega arith) in
     let one = stretch-next b at old old mid to list _ 0 f span.window (omega arith) (omega arith) long (part 0 f (omega arith) (omega arith)) (stretch-none b at old old to list span.window refl) (rw (head-is, source-is) at first) in
     let two = stretch-next b at old mid next to list _ f l span.window order bound long (part f l order bound) one (rw (body-is, right-is) at second) in
     let three = stretch-next b at old next new to list _ l to.len span.window bound (omega arith) long (part l to.len bound (omega arith)) two (rw (tail-is, rest-is) at third) in
@@ -103,56 +98,6 @@ copied-stretch at d other ys right from to n word has order bound size is =
     let part = length-slice_range (list_in d other ys right) from to (omega arith) in
     take-word 64 n _ (slice_range (list_in d other ys right) from to) (is ∙ ap (padded 64) (list-range d other ys right from to has order bound)) (omega arith)
 
--- those of a stretch of another window, loaded under another order
-pub stored-stretch : (at to_at : ℕ → ℕ → ℕ) (list : List Bool) (from to n word made : ℕ) → from ≤ to → to ≤ length list → n ≡ to - from → element_bits 64 at word ≡ padded 64 (slice_range list from to) → element_bits 64 to_at made ≡ element_bits 64 at word
-    → take n (element_bits 64 to_at made) ≡ slice_range list from to
-stored-stretch at to_at list from to n word made order bound size loaded same =
-    let part = length-slice_range list from to bound in
-    take-word 64 n _ (slice_range list from to) (same ∙ loaded) (omega arith)
-
--- ---- what an operator makes of a stretch
-
-in_taken : (list : List Bool) (n k : ℕ) (d : Bool) → k < n → slice_index_or (take n list) k d ≡ slice_index_or list k d
-in_taken list n k d inside = grind (arith, places)
-
-past_end : (list : List Bool) (k : ℕ) → length list ≤ k → slice_index_or list k false ≡ false
-past_end list k behind = grind (arith, places)
-
-module _ (f : Bool → Bool → Bool) (xs ys : List Bool) (from to r : ℕ) (long : r ≡ length ys) (order : from ≤ to) (bound : to ≤ length xs) (size : to ≤ from + 64) where
-  abbrev other : List Bool
-  other = slice_range ys (min from r) (min to r)
-
-  other_bit : (k : ℕ) → k < to - from → slice_index_or (padded 64 other) k false ≡ slice_index_or ys (from + k) false
-  other_bit k inside =
-      let wide = length-slice_range ys (min from r) (min to r) (omega arith) in
-      ⊎_elim
-      (λ (within : k < length other).
-      let place : min from r + k ≡ from + k = omega arith in
-      in_padded 64 other k within ∙ get-slice_range ys (min from r) (min to r) k false (omega arith) ∙ ap (λ (n : ℕ). slice_index_or ys n false) place)
-      (λ (behind : length other ≤ k). past_padded 64 other k behind (omega arith) ∙ sym (past_end ys (from + k) (omega arith)))
-      (cases_lt k (length other))
-
-  one_bit : (k : ℕ) → k < to - from → slice_index_or (padded 64 (slice_range xs from to)) k false ≡ slice_index_or xs (from + k) false
-  one_bit k inside =
-      let wide = length-slice_range xs from to bound in
-      in_padded 64 (slice_range xs from to) k (omega arith) ∙ get-slice_range xs from to k false (omega arith)
-
-  pub combined-stretch : (a b made : List Bool) → a ≡ padded 64 (slice_range xs from to) → b ≡ padded 64 other → made ≡ combined f a b → take (to - from) made ≡ slice_range (combined f xs ys) from to
-  combined-stretch a b made left right is =
-      let wide = length-slice_range xs from to bound in
-      let word = ap length left ∙ length-padded 64 (slice_range xs from to) (omega arith) in
-      let all : length made ≡ 64 = ap length is ∙ length-combined f a b ∙ word in
-      let whole = length-combined f xs ys in
-      let part = length-slice_range (combined f xs ys) from to (omega arith) in
-      let first : length (take (to - from) made) ≡ to - from = grind (arith, places) in
-      same_lists _ _ (omega arith) (λ k d inside.
-      in_taken made (to - from) k d (omega arith)
-      ∙ ap (λ (l : List Bool). slice_index_or l k d) is
-      ∙ get-combined f a b k d (omega arith)
-      ∙ ap (λ (x : Bool). f x (slice_index_or b k false)) (ap (λ (l : List Bool). slice_index_or l k false) left ∙ one_bit k (omega arith))
-      ∙ ap (f (slice_index_or xs (from + k) false)) (ap (λ (l : List Bool). slice_index_or l k false) right ∙ other_bit k (omega arith))
-      ∙ sym (get-slice_range (combined f xs ys) from to k d (omega arith) ∙ get-combined f xs ys (from + k) d (omega arith)))
-
 -- the stretch of the window that is not yet written
 pub stretch-old : (b : ℕ) (at : ℕ → ℕ → ℕ) (old mid : List ℕ) (window : Window) (list : List Bool) (from to : ℕ) → HasWindow b old window → from ≤ to → to ≤ window.len → Writes b at old mid (until window from) list
     → list_in b at mid (window_range window from to) ≡ slice_range (list_in b at old window) from to
@@ -163,19 +108,8 @@ stretch-old b at old mid window list from to has order bound writes =
     list-behind b at old mid (until window from) (window_range window from to) list whole (HasWindow-range b old window from to has order bound) (omega arith) writes
     ∙ list-range b at old window from to has order bound
 
--- the word that is loaded of it
-pub stretch-loaded : (b : ℕ) (at : ℕ → ℕ → ℕ) (old mid : List ℕ) (window part : Window) (list : List Bool) (from to word : ℕ) → HasWindow b old window → from ≤ to → to ≤ window.len → part ≡ window_range window from to → Writes b at old mid (until window from) list
-    → element_bits 64 at word ≡ padded 64 (list_in b at mid part) → element_bits 64 at word ≡ padded 64 (slice_range (list_in b at old window) from to)
-stretch-loaded b at old mid window part list from to word has order bound is writes loaded = (rw is at loaded) ∙ ap (padded 64) (stretch-old b at old mid window list from to has order bound writes)
-
--- a stretch more, of a word's first bits; of a word that was loaded under another order
+-- a stretch more, of a word's first bits
 pub stretch-stored : (b : ℕ) (at : ℕ → ℕ → ℕ) (old mid now new : List ℕ) (window part : Window) (list made : List Bool) (from to : ℕ) → HasWindow b old window → from ≤ to → to ≤ window.len → length list ≡ window.len → part ≡ window_range window from to → now ≡ mid → take (to - from) made ≡ slice_range list from to
     → Writes b at old mid (until window from) (take from list) → Writes b at now new part (take part.len made) → Writes b at old new (until window to) (take to list)
 stretch-stored b at old mid now new window part list made from to has order bound long is same fits before after =
     stretch-next b at old mid new window list (take (to - from) made) from to has order bound long fits before (rw (is, same) at after)
-
-pub stretch-reordered : (b : ℕ) (at other : ℕ → ℕ → ℕ) (old mid now new : List ℕ) (window part : Window) (list : List Bool) (from to word made : ℕ) → HasWindow b old window → from ≤ to → to ≤ window.len → length list ≡ window.len → part ≡ window_range window from to → now ≡ mid
-    → element_bits 64 other word ≡ padded 64 (slice_range list from to) → element_bits 64 at made ≡ element_bits 64 other word
-    → Writes b at old mid (until window from) (take from list) → Writes b at now new part (take part.len (element_bits 64 at made)) → Writes b at old new (until window to) (take to list)
-stretch-reordered b at other old mid now new window part list from to word made has order bound long is same loaded reordered before after =
-    stretch-stored b at old mid now new window part list (element_bits 64 at made) from to has order bound long is same (stored-stretch other at list from to (to - from) word made order (omega arith) refl loaded reordered) before after

@@ -1,4 +1,4 @@
-pub mod Candidates
+pub mod BitsFrom
 pub mod Cited
 pub mod Converting
 pub mod Difference

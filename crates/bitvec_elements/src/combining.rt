@@ -1,15 +1,16 @@
 //! Each bit of a window of a slice combined with the bit at its index in another window.
-ghost use Rattle.std.specs.Prelude.{map};
+ghost use Rattle.std.specs.Mem.{type_size};
+ghost use Rattle.std.specs.Prelude.{◌≤◌, map};
 ghost use Rattle.bitvec_engine.specs.base.Lists.{combined};
 ghost use Rattle.bitvec_engine.specs.base.Memory.{HasWindow, Writes, list_in};
 ghost use Rattle.bitvec_engine.specs.words.Operator.{operator};
 
-use crate::window_words::{window_word, word_end};
+use crate::recutting::{SHORT_BITS, fits_blocks, hold};
 use bitvec_engine::base::{BitOrder, Lsb0, Msb0, Window};
 use bitvec_engine::cells::{Exclusive, Shared};
 use bitvec_engine::store::BitStore;
 use bitvec_engine::words::WordOrder;
-use bitvec_engine::{BitOp, Direction, SliceOrder, bits_op, direction_of, load_bits, store_bits};
+use bitvec_engine::{BitOp, Direction, SliceOrder, bits_op, direction_of};
 
 /// Replaces each bit of the left window by what the operator makes of it and the bit at its index in
 /// the right window, which may have elements of any type and order. Past its end the right window
@@ -29,14 +30,8 @@ pub fn combine_in<T: BitStore, O: BitOrder, U: BitStore, P: BitOrder>(
         (list_in U.BITS P.at (map U.value right.now) right_window)) }
 {
     match direction_of::<O, T>() {
-        Direction::Up => combine_words::<Lsb0, T, U, P>(left, left_window, right, right_window, op),
-        Direction::Down => combine_words::<Msb0, T, U, P>(
-            left,
-            left_window,
-            right,
-            right_window,
-            op,
-        ),
+        Direction::Up => combine_run::<Lsb0, T, U, P>(left, left_window, right, right_window, op),
+        Direction::Down => combine_run::<Msb0, T, U, P>(left, left_window, right, right_window, op),
         Direction::Other => {
             let mut cells = Exclusive::new(left);
             let mut source = Shared::new(right);
@@ -45,9 +40,9 @@ pub fn combine_in<T: BitStore, O: BitOrder, U: BitStore, P: BitOrder>(
     }
 }
 
-/// [`combine_in`] under an order that runs from one end of an element to the other, up to 64 bits at
-/// a time as a word.
-fn combine_words<W: WordOrder, T: BitStore, U: BitStore, P: BitOrder>(
+/// [`combine_in`] under an order that runs from one end of an element to the other. The right bits are recut to
+/// blocks of the left type, and combined as these.
+fn combine_run<W: WordOrder + SliceOrder, T: BitStore, U: BitStore, P: BitOrder>(
     left: &mut [T],
     left_window: Window,
     right: &[U],
@@ -60,18 +55,48 @@ fn combine_words<W: WordOrder, T: BitStore, U: BitStore, P: BitOrder>(
         (combined (operator op) (list_in T.BITS W.at (map T.value left.old) left_window)
         (list_in U.BITS P.at (map U.value right.now) right_window)) }
 {
-    let direction = direction_of::<P, U>();
+    let bits = T::BITS as usize;
+    if !fits_blocks::<T>() {
+        let mut cells = Exclusive::new(left);
+        let mut source = Shared::new(right);
+        bits_op::<W, P, _, _>(&mut cells, left_window, &mut source, right_window, op);
+    } else if left_window.len <= 8 * bits {
+        combine_blocks::<W, T, U, P, 8>(left, left_window, right, right_window, op);
+    } else if bits > 16 || left_window.len <= SHORT_BITS {
+        combine_blocks::<W, T, U, P, 258>(left, left_window, right, right_window, op);
+    } else {
+        combine_blocks::<W, T, U, P, 2050>(left, left_window, right, right_window, op);
+    }
+}
+
+/// [`combine_run`] by blocks of `HELD` elements. Conditions: as for [`combine_in`]; an element has at most 16
+/// bytes, and `HELD` is from 1 to 8192.
+fn combine_blocks<
+    W: WordOrder + SliceOrder,
+    T: BitStore,
+    U: BitStore,
+    P: BitOrder,
+    const HELD: usize,
+>(left: &mut [T], left_window: Window, right: &[U], right_window: Window, op: BitOp)
+    requires window { HasWindow T.BITS (map T.value left.old) left_window }
+    requires right_window { HasWindow U.BITS (map U.value right.now) right_window }
+    requires size { type_size T.row ≤ 16 }
+    requires few { HELD ≤ 8192 }
+    requires some { 1 ≤ HELD }
+    ensures writes { Writes T.BITS W.at (map T.value left.old) (map T.value left.new) left_window
+        (combined (operator op) (list_in T.BITS W.at (map T.value left.old) left_window)
+        (list_in U.BITS P.at (map U.value right.now) right_window)) }
+{
+    T::fits_in_memory();
+    let mut block = [T::ZERO; HELD];
+    let room = T::BITS as usize * HELD;
     let right_len = right_window.len;
-    let mut cells = Exclusive::new(left);
     let mut from = 0;
     while from < left_window.len {
-        let to = word_end(left_window, from);
-        let part = left_window.range(from, to);
-        let word = load_bits::<W, Exclusive<T>>(&mut cells, part);
+        let to = from + room.min(left_window.len - from);
         let other = right_window.range(from.min(right_len), to.min(right_len));
-        let right_word = window_word::<W, P, U>(right, other, direction);
-        let made = op.of_elements::<W, u64>(word, right_word);
-        store_bits::<W, Exclusive<T>>(&mut cells, part, made);
+        let held = hold::<W, P, T, U>(&mut block, right, other);
+        combine_block_in::<T, W>(left, left_window.range(from, to), &block, held, op);
         from = to;
     }
 }

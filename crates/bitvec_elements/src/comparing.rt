@@ -5,9 +5,10 @@ ghost use Rattle.std.specs.Ordering.{bool_cmp};
 ghost use Rattle.bitvec_engine.specs.base.Lists.{same_bits};
 ghost use Rattle.bitvec_engine.specs.base.Memory.{HasWindow, list_in};
 ghost use Rattle.bitvec_engine.specs.base.Spans.{HasSpan};
+ghost use Rattle.bitvec_elements.specs.Difference.{DiffersFrom};
 
 use crate::converting::{common_direction, eq_converted};
-use crate::difference::common_bits;
+use crate::difference::{common_bits, common_words};
 use crate::window_words::few_word;
 use bitvec_engine::base::{BitOrder, Lsb0, Msb0, Window};
 use bitvec_engine::cells::Shared;
@@ -23,7 +24,7 @@ const STRETCH: usize = 4096;
 const SHORT_BITS: usize = 2048;
 
 /// Whether two windows have the same bits. Where both have elements of one width and orders that run
-/// the same way, they are compared by whole elements, as of one type; otherwise by words. Condition:
+/// the same way, they are compared by whole elements, as of one type; otherwise by blocks. Condition:
 /// each memory has at most `MAX_BITS` bits, and each window lies in its memory.
 pub fn eq_in<T: BitStore, O: BitOrder, U: BitStore, P: BitOrder>(
     left: &[T],
@@ -139,6 +140,24 @@ pub fn compare_in<T: BitStore, O: BitOrder, U: BitStore, P: BitOrder>(
         (list_in U.BITS P.at (map U.value right.now) right_window) }
 {
     let common = common_bits::<T, O, U, P>(left, left_window, right, right_window);
+    compare_at::<T, O, U, P>(left, left_window, right, right_window, common)
+}
+
+/// [`compare_in`], where as many first bits as is said are the same.
+fn compare_at<T: BitStore, O: BitOrder, U: BitStore, P: BitOrder>(
+    left: &[T],
+    left_window: Window,
+    right: &[U],
+    right_window: Window,
+    common: usize,
+) -> Ordering
+    requires window { HasWindow T.BITS (map T.value left.now) left_window }
+    requires right_window { HasWindow U.BITS (map U.value right.now) right_window }
+    requires common { DiffersFrom (list_in T.BITS O.at (map T.value left.now) left_window)
+        (list_in U.BITS P.at (map U.value right.now) right_window) common }
+    ensures { result ≡ slice_cmp bool_cmp (list_in T.BITS O.at (map T.value left.now) left_window)
+        (list_in U.BITS P.at (map U.value right.now) right_window) }
+{
     if common < left_window.len.min(right_window.len) {
         let mut left = Shared::new(left);
         let mut right = Shared::new(right);
@@ -172,7 +191,8 @@ pub fn compare_block_in<T: BitStore, O: SliceOrder>(
         if !eq_blocks_in::<T, O>(left, part, right, other) {
             let rest = left_window.after(from);
             let other = right_window.after(from);
-            return compare_in::<T, O, T, O>(left, rest, right, other);
+            let common = common_words::<T, O, T, O>(left, rest, right, other);
+            return compare_at::<T, O, T, O>(left, rest, right, other, common);
         }
         from = to;
     }

@@ -6,7 +6,8 @@ ghost use Rattle.bitvec_engine.specs.base.Spans.{HasSpan};
 ghost use Rattle.bitvec_engine.specs.moves.Moves.{Copies};
 
 use crate::copying_elements::{AT_ONCE_BITS, copy_elements_in, copy_whole_in};
-use crate::window_words::{few_word, window_word, word_end};
+use crate::recutting::recut;
+use crate::window_words::{few_word, window_word};
 use bitvec_engine::base::{BitOrder, Lsb0, Msb0, Window};
 use bitvec_engine::cells::{Exclusive, Shared};
 use bitvec_engine::store::BitStore;
@@ -29,8 +30,8 @@ pub fn copy_from_in<T: BitStore, O: BitOrder, U: BitStore, P: BitOrder>(
         (list_in U.BITS P.at (map U.value right.now) right_window) }
 {
     match direction_of::<O, T>() {
-        Direction::Up => copy_words::<Lsb0, T, U, P>(left, left_window, right, right_window),
-        Direction::Down => copy_words::<Msb0, T, U, P>(left, left_window, right, right_window),
+        Direction::Up => recut::<Lsb0, P, T, U>(left, left_window, right, right_window),
+        Direction::Down => recut::<Msb0, P, T, U>(left, left_window, right, right_window),
         Direction::Other => {
             let mut cells = Exclusive::new(left);
             let mut source = Shared::new(right);
@@ -41,7 +42,7 @@ pub fn copy_from_in<T: BitStore, O: BitOrder, U: BitStore, P: BitOrder>(
 
 /// [`copy_from_in`] under an order that runs from one end of an element to the other, up to 64 bits
 /// at a time as a word.
-fn copy_words<W: WordOrder, T: BitStore, U: BitStore, P: BitOrder>(
+pub(crate) fn copy_words<W: WordOrder, T: BitStore, U: BitStore, P: BitOrder>(
     left: &mut [T],
     left_window: Window,
     right: &[U],
@@ -55,7 +56,7 @@ fn copy_words<W: WordOrder, T: BitStore, U: BitStore, P: BitOrder>(
     let mut cells = Exclusive::new(left);
     let mut from = 0;
     while from < left_window.len {
-        let to = word_end(left_window, from);
+        let to = from + WORD_BITS.min(left_window.len - from);
         let word = window_word::<W, P, U>(right, right_window.range(from, to), direction);
         store_bits::<W, Exclusive<T>>(&mut cells, left_window.range(from, to), word);
         from = to;

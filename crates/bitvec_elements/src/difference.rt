@@ -1,17 +1,106 @@
 //! How many of their first bits two windows of slices have in common.
-ghost use Rattle.std.specs.Prelude.{map};
+ghost use Rattle.std.specs.Mem.{type_size};
+ghost use Rattle.std.specs.Prelude.{◌≤◌, map};
 ghost use Rattle.bitvec_engine.specs.base.Memory.{HasWindow, list_in};
 ghost use Rattle.bitvec_elements.specs.Difference.{DiffersFrom};
 
+use crate::comparing::eq_blocks_in;
+use crate::recutting::{FEW_BITS, fits_blocks, hold};
 use crate::window_words::window_word;
 use bitvec_engine::base::{BitOrder, Lsb0, Msb0, Window};
 use bitvec_engine::store::BitStore;
 use bitvec_engine::words::{WORD_BITS, WordOrder};
-use bitvec_engine::{Direction, direction_of};
+use bitvec_engine::{Direction, SliceOrder, direction_of};
 
 /// How many of their first bits two windows have in common, up to the length of the shorter one.
 /// Condition: each memory has at most `MAX_BITS` bits, and each window lies in its memory.
 pub(crate) fn common_bits<T: BitStore, O: BitOrder, U: BitStore, P: BitOrder>(
+    left: &[T],
+    left_window: Window,
+    right: &[U],
+    right_window: Window,
+) -> usize
+    requires window { HasWindow T.BITS (map T.value left.now) left_window }
+    requires right_window { HasWindow U.BITS (map U.value right.now) right_window }
+    ensures { DiffersFrom (list_in T.BITS O.at (map T.value left.now) left_window)
+        (list_in U.BITS P.at (map U.value right.now) right_window) result }
+{
+    if fits_blocks::<T>() && left_window.len.min(right_window.len) > FEW_BITS {
+        match direction_of::<O, T>() {
+            Direction::Up => return common_run::<Lsb0, T, U, P>(
+                left,
+                left_window,
+                right,
+                right_window,
+            ),
+            Direction::Down => return common_run::<Msb0, T, U, P>(
+                left,
+                left_window,
+                right,
+                right_window,
+            ),
+            Direction::Other => {}
+        }
+    }
+    common_words::<T, O, U, P>(left, left_window, right, right_window)
+}
+
+/// [`common_bits`] under an order that runs from one end of an element to the other. The right bits are recut to
+/// blocks of the left type, and compared as these. Condition: an element has at most 16 bytes.
+fn common_run<W: WordOrder + SliceOrder, T: BitStore, U: BitStore, P: BitOrder>(
+    left: &[T],
+    left_window: Window,
+    right: &[U],
+    right_window: Window,
+) -> usize
+    requires window { HasWindow T.BITS (map T.value left.now) left_window }
+    requires right_window { HasWindow U.BITS (map U.value right.now) right_window }
+    requires size { type_size T.row ≤ 16 }
+    ensures { DiffersFrom (list_in T.BITS W.at (map T.value left.now) left_window)
+        (list_in U.BITS P.at (map U.value right.now) right_window) result }
+{
+    if T::BITS > 16 {
+        return common_blocks::<W, T, U, P, 258>(left, left_window, right, right_window);
+    }
+    common_blocks::<W, T, U, P, 2050>(left, left_window, right, right_window)
+}
+
+/// [`common_run`] by blocks of `HELD` elements, and at first of fewer bits, since views often differ early.
+/// From a block that differs it goes by words. Condition: `HELD` is from 1 to 8192.
+fn common_blocks<
+    W: WordOrder + SliceOrder,
+    T: BitStore,
+    U: BitStore,
+    P: BitOrder,
+    const HELD: usize,
+>(left: &[T], left_window: Window, right: &[U], right_window: Window) -> usize
+    requires window { HasWindow T.BITS (map T.value left.now) left_window }
+    requires right_window { HasWindow U.BITS (map U.value right.now) right_window }
+    requires size { type_size T.row ≤ 16 }
+    requires few { HELD ≤ 8192 }
+    requires some { 1 ≤ HELD }
+    ensures { DiffersFrom (list_in T.BITS W.at (map T.value left.now) left_window)
+        (list_in U.BITS P.at (map U.value right.now) right_window) result }
+{
+    T::fits_in_memory();
+    let mut block = [T::ZERO; HELD];
+    let room = T::BITS as usize * HELD;
+    let most = left_window.len.min(right_window.len);
+    let mut from = 0;
+    while from < most {
+        let to = from + room.min(from * 4 + WORD_BITS).min(most - from);
+        let held = hold::<W, P, T, U>(&mut block, right, right_window.range(from, to));
+        if !eq_blocks_in::<T, W>(left, left_window.range(from, to), &block, held) {
+            let (rest, other) = (left_window.after(from), right_window.after(from));
+            return from + common_words::<T, W, U, P>(left, rest, right, other);
+        }
+        from = to;
+    }
+    most
+}
+
+/// [`common_bits`], by words under every order.
+pub(crate) fn common_words<T: BitStore, O: BitOrder, U: BitStore, P: BitOrder>(
     left: &[T],
     left_window: Window,
     right: &[U],
@@ -30,7 +119,7 @@ pub(crate) fn common_bits<T: BitStore, O: BitOrder, U: BitStore, P: BitOrder>(
     }
 }
 
-/// [`common_bits`], 64 bits at a time as words of the order `W`.
+/// [`common_words`], 64 bits at a time as words of the order `W`.
 fn common_bits_by<W: WordOrder, T: BitStore, O: BitOrder, U: BitStore, P: BitOrder>(
     left: &[T],
     left_window: Window,

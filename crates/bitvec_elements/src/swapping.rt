@@ -1,14 +1,16 @@
 //! The bits of two windows of slices of elements, exchanged.
-ghost use Rattle.std.specs.Prelude.{◌≡◌, map};
+ghost use Rattle.std.specs.Mem.{type_size};
+ghost use Rattle.std.specs.Prelude.{◌≡◌, ◌≤◌, map};
 ghost use Rattle.bitvec_engine.specs.Pairs.{HasPair};
 ghost use Rattle.bitvec_engine.specs.base.Memory.{HasWindow, Writes, list_in};
 
-use crate::window_words::{reordered, word_end};
+use crate::copying::copy_from_in;
+use crate::recutting::{SHORT_BITS, fits_blocks, hold};
 use bitvec_engine::base::{BitOrder, Lsb0, Msb0, Window};
 use bitvec_engine::cells::Exclusive;
 use bitvec_engine::store::BitStore;
 use bitvec_engine::words::WordOrder;
-use bitvec_engine::{Direction, SliceOrder, bits_swap, direction_of, load_bits, store_bits};
+use bitvec_engine::{Direction, SliceOrder, bits_swap, direction_of};
 
 /// Exchanges the bits of two windows of elements of any types and orders. Condition: each memory
 /// has at most `MAX_BITS` bits, each window lies in its memory, and both are equally long.
@@ -27,8 +29,8 @@ pub fn swap_with_in<T: BitStore, O: BitOrder, U: BitStore, P: BitOrder>(
         (list_in T.BITS O.at (map T.value left.old) left_window) }
 {
     match direction_of::<O, T>() {
-        Direction::Up => swap_with_any::<Lsb0, T, U, P>(left, left_window, right, right_window),
-        Direction::Down => swap_with_any::<Msb0, T, U, P>(left, left_window, right, right_window),
+        Direction::Up => swap_run::<Lsb0, T, U, P>(left, left_window, right, right_window),
+        Direction::Down => swap_run::<Msb0, T, U, P>(left, left_window, right, right_window),
         Direction::Other => {
             let mut cells = Exclusive::new(left);
             let mut others = Exclusive::new(right);
@@ -37,8 +39,9 @@ pub fn swap_with_in<T: BitStore, O: BitOrder, U: BitStore, P: BitOrder>(
     }
 }
 
-/// [`swap_with_in`] where the left order runs from one end of an element to the other.
-fn swap_with_any<W: WordOrder, T: BitStore, U: BitStore, P: BitOrder>(
+/// [`swap_with_in`] where the left order runs from one end of an element to the other. The right bits are recut
+/// to blocks of the left type, exchanged with these, and copied back.
+fn swap_run<W: WordOrder + SliceOrder, T: BitStore, U: BitStore, P: BitOrder>(
     left: &mut [T],
     left_window: Window,
     right: &mut [U],
@@ -50,41 +53,47 @@ fn swap_with_any<W: WordOrder, T: BitStore, U: BitStore, P: BitOrder>(
     ensures right_writes { Writes U.BITS P.at (map U.value right.old) (map U.value right.new) right_window
         (list_in T.BITS W.at (map T.value left.old) left_window) }
 {
-    match direction_of::<P, U>() {
-        Direction::Up => swap_words::<W, Lsb0, T, U>(left, left_window, right, right_window),
-        Direction::Down => swap_words::<W, Msb0, T, U>(left, left_window, right, right_window),
-        Direction::Other => {
-            let mut cells = Exclusive::new(left);
-            let mut others = Exclusive::new(right);
-            bits_swap::<W, P, _, _>(&mut cells, left_window, &mut others, right_window);
-        }
+    let bits = T::BITS as usize;
+    if !fits_blocks::<T>() {
+        let mut cells = Exclusive::new(left);
+        let mut others = Exclusive::new(right);
+        bits_swap::<W, P, _, _>(&mut cells, left_window, &mut others, right_window);
+    } else if left_window.len <= 8 * bits {
+        swap_blocks::<W, T, U, P, 8>(left, left_window, right, right_window);
+    } else if bits > 16 || left_window.len <= SHORT_BITS {
+        swap_blocks::<W, T, U, P, 258>(left, left_window, right, right_window);
+    } else {
+        swap_blocks::<W, T, U, P, 2050>(left, left_window, right, right_window);
     }
 }
 
-/// Exchanges two windows where both orders run through an element: up to 64 bits at a time, as words.
-fn swap_words<W: WordOrder, V: WordOrder, T: BitStore, U: BitStore>(
+/// [`swap_run`] by blocks of `HELD` elements. Conditions: as for [`swap_with_in`]; an element has at most 16
+/// bytes, and `HELD` is from 1 to 8192.
+fn swap_blocks<W: WordOrder + SliceOrder, T: BitStore, U: BitStore, P: BitOrder, const HELD: usize>(
     left: &mut [T],
     left_window: Window,
     right: &mut [U],
     right_window: Window,
 )
-    requires { HasPair T.BITS (map T.value left.old) left_window U.BITS (map U.value right.old) right_window }
+    requires pair { HasPair T.BITS (map T.value left.old) left_window U.BITS (map U.value right.old) right_window }
+    requires size { type_size T.row ≤ 16 }
+    requires few { HELD ≤ 8192 }
+    requires some { 1 ≤ HELD }
     ensures writes { Writes T.BITS W.at (map T.value left.old) (map T.value left.new) left_window
-        (list_in U.BITS V.at (map U.value right.old) right_window) }
-    ensures right_writes { Writes U.BITS V.at (map U.value right.old) (map U.value right.new) right_window
+        (list_in U.BITS P.at (map U.value right.old) right_window) }
+    ensures right_writes { Writes U.BITS P.at (map U.value right.old) (map U.value right.new) right_window
         (list_in T.BITS W.at (map T.value left.old) left_window) }
 {
-    let mut cells = Exclusive::new(left);
-    let mut others = Exclusive::new(right);
+    T::fits_in_memory();
+    let mut block = [T::ZERO; HELD];
+    let room = T::BITS as usize * HELD;
     let mut from = 0;
     while from < left_window.len {
-        let to = word_end(left_window, from);
-        let part = left_window.range(from, to);
-        let other = right_window.range(from, to);
-        let word = load_bits::<W, Exclusive<T>>(&mut cells, part);
-        let right_word = load_bits::<V, Exclusive<U>>(&mut others, other);
-        store_bits::<W, Exclusive<T>>(&mut cells, part, reordered::<V, W>(right_word));
-        store_bits::<V, Exclusive<U>>(&mut others, other, reordered::<W, V>(word));
+        let to = from + room.min(left_window.len - from);
+        let (part, other) = (left_window.range(from, to), right_window.range(from, to));
+        let held = hold::<W, P, T, U>(&mut block, &*right, other);
+        swap_with_block_in::<T, W>(left, part, &mut block, held);
+        copy_from_in::<U, P, T, W>(right, other, &block, held);
         from = to;
     }
 }

@@ -1,41 +1,25 @@
 //! The bits of a window of a slice, up to 64 of them, as the first bits of a word under an order that
 //! runs from one end of it to the other.
-ghost use Rattle.std.specs.Prelude.{◌≡◌, ◌+◌, ◌<◌, ◌≤◌, map, slice_range};
+ghost use Rattle.std.specs.Prelude.{◌≡◌, ◌+◌, ◌/◌, ◌<◌, ◌≤◌, map, slice_range};
 ghost use Rattle.bitvec_engine.specs.base.Memory.{HasWindow, element_bits, list_in};
-ghost use Rattle.bitvec_engine.specs.base.Window.{max_bits};
+ghost use Rattle.bitvec_engine.specs.words.Elements.{elements_window_from};
 ghost use Rattle.bitvec_engine.specs.words.ShortWindow.{padded};
-ghost use Rattle.bitvec_elements.specs.Candidates.{HasBitsFrom};
+ghost use Rattle.bitvec_elements.specs.BitsFrom.{HasBitsFrom};
 ghost use Rattle.bitvec_engine.specs.Direction.{Runs};
 
 use bitvec_engine::base::{BitOrder, Lsb0, Msb0, Part, Window, first_part};
 use bitvec_engine::cells::{CellsRead, Shared};
-use bitvec_engine::copy::load_elements;
 use bitvec_engine::store::BitStore;
 use bitvec_engine::words::{
-    WORD_BITS, WordOrder, joined, load_element, load_parts, moved, reversed,
+    WORD_BITS, WordOrder, joined, load_element, load_parts, load_slice_word, moved, reversed,
 };
 use bitvec_engine::{Direction, gathered};
-
-/// Where the memory's 64-bit word around a window's index ends, or where the window ends, if that
-/// comes first. Condition: the index is below the window's length, and the window ends in a memory of
-/// at most `MAX_BITS` bits.
-#[inline(always)]
-pub(crate) fn word_end(window: Window, from: usize) -> usize
-    requires bound { from < window.len }
-    requires fits { window.start + window.len ≤ max_bits }
-    ensures further { from < result }
-    ensures bound { result ≤ window.len }
-    ensures size { result ≤ from + 64 }
-{
-    let edge = from + WORD_BITS - (window.start + from) % WORD_BITS;
-    edge.min(window.len)
-}
 
 /// The 64 bits of a window from an index on as a word, with zeros past the window's end. Conditions:
 /// the window lies in a memory of at most `MAX_BITS` bits, the index is at most 64 behind its end,
 /// and the order runs as said.
 #[inline(always)]
-pub(crate) fn word_from<W: WordOrder, O: BitOrder, T: BitStore>(
+pub fn word_from<W: WordOrder, O: BitOrder, T: BitStore>(
     elements: &[T],
     window: Window,
     from: usize,
@@ -85,7 +69,7 @@ pub(crate) fn reordered<V: WordOrder, W: WordOrder>(word: u64) -> u64
 }
 
 /// [`window_word`] of an order that runs from one end to the other: 64 bits of elements that aren't
-/// wider are loaded as one word, and what is left of them with the next element.
+/// wider are loaded as one word.
 #[inline(always)]
 fn run_word<W: WordOrder, T: BitStore>(elements: &[T], window: Window) -> u64
     requires window { HasWindow T.BITS (map T.value elements.now) window }
@@ -93,17 +77,34 @@ fn run_word<W: WordOrder, T: BitStore>(elements: &[T], window: Window) -> u64
     ensures { element_bits 64 W.at result
         ≡ padded 64 (list_in T.BITS W.at (map T.value elements.now) window) }
 {
-    let mut cells = Shared::new(elements);
     let bits = T::BITS as usize;
-    if window.len < WORD_BITS || bits > WORD_BITS {
-        return load_parts::<W, Shared<T>>(&mut cells, window);
+    if window.len == WORD_BITS && bits <= WORD_BITS {
+        return word_behind::<W, T>(elements, window.start / bits, window.start % bits);
     }
-    let (first, skip) = (window.start / bits, window.start % bits);
-    let word = load_elements::<W, Shared<T>>(&mut cells, first);
+    let mut cells = Shared::new(elements);
+    load_parts::<W, Shared<T>>(&mut cells, window)
+}
+
+/// The 64 bits from the index `skip` of an element on: those of one word, and what is left of them with the next
+/// element. Conditions: elements are not wider than a word, and the bits lie in a memory of at most `MAX_BITS` bits.
+#[inline(always)]
+pub(crate) fn word_behind<W: WordOrder, T: BitStore>(
+    elements: &[T],
+    first: usize,
+    skip: usize,
+) -> u64
+    requires window { HasWindow T.BITS (map T.value elements.now) (elements_window_from T.BITS first skip (64 / T.BITS)) }
+    requires inside { skip < T.BITS }
+    requires narrow { T.BITS ≤ 64 }
+    ensures { element_bits 64 W.at result
+        ≡ list_in T.BITS W.at (map T.value elements.now) (elements_window_from T.BITS first skip (64 / T.BITS)) }
+{
+    let bits = T::BITS as usize;
+    let word = load_slice_word::<W, T>(elements, first);
     if skip == 0 {
         return word;
     }
-    let next = cells.load(first + WORD_BITS / bits);
+    let next = elements[first + WORD_BITS / bits];
     let behind = moved::<W, T, u64>(next, 0, bits, 0);
     joined::<W, u64>(word, behind, skip)
 }

@@ -44,10 +44,9 @@ pub mod comparisons {
     pub use bitvec_combine::equal;
 }
 
-/// The copies of `bitvec_move`, and words of elements, that crates above name.
+/// The copies of `bitvec_move` that crates above name.
 pub mod copy {
     pub use bitvec_combine::moves::{copy, copy_within};
-    pub use bitvec_combine::words::load_elements;
 }
 
 /// The exchanges of `bitvec_move` that crates above name.
@@ -71,8 +70,9 @@ pub mod walk {
 /// Items of `bitvec_words` that crates above use.
 pub mod words {
     pub use bitvec_combine::words::{
-        WORD_BITS, WordOrder, joined, load_element, load_element_after, load_parts, merged, moved,
-        reversed, same_between, store_part, store_parts, toward_end, toward_start,
+        WORD_BITS, WordOrder, joined, load_element, load_element_after, load_parts,
+        load_slice_word, merged, moved, reversed, same_between, store_part, store_parts,
+        store_slice_word, toward_end, toward_start,
     };
 }
 

@@ -68,6 +68,7 @@ impl SliceOrder for Msb0 {
         combine::<Self, C, D>(left, to, right, from, op);
     }
 
+    #[inline(always)]
     fn block_reverse<C: Cells>(cells: &mut C, window: Window) {
         reverse::<Self, C>(cells, window);
     }

@@ -29,6 +29,7 @@ pub fn bits_reverse<O: BitOrder, C: Cells>(cells: &mut C, window: Window)
 
 /// Reverses the bits of a window, as the order does it; all other bits of the memory stay. Condition:
 /// as for [`bits_reverse`].
+#[inline(always)]
 pub fn reverse<O: SliceOrder, C: Cells>(cells: &mut C, window: Window)
     requires { HasWindow C.Elem.BITS (C.numbers cells.old) window }
     ensures writes { Edits C.Elem.BITS O.at (C.numbers cells.old) (C.numbers cells.new) window reversed }

@@ -1,6 +1,7 @@
 //! The operations of `BitStore` by value, at each width.
-ghost use Rattle.std.specs.Prelude.{◌<◌};
+ghost use Rattle.std.specs.Prelude.{◌/◌, ◌<◌, ◌≤◌, length};
 
+use crate::tally::Tally;
 use bitvec_test_support::store::BitStore;
 
 /// Two elements as numbers, a number of bits to move by, and what the operations are to give of them.
@@ -136,4 +137,39 @@ fn wide_agree() -> [bool; 3] {
 fn elements_are_operated_on(rt: HostRuntime) {
     assert!(rt; narrow_agree() == [true; 3]);
     assert!(rt; wide_agree() == [true; 3]);
+}
+
+/// The number that a slice's first elements make, before those of another are stored there.
+fn exchanged<T: BitStore>(elements: &mut [T], word: u64) -> u64
+    requires { 64 / T.BITS ≤ length elements.old }
+{
+    let old = T::load_word(elements);
+    T::store_word(elements, word);
+    old
+}
+
+#[test]
+fn elements_are_loaded_by_words(rt: HostRuntime) {
+    let mut bytes = [0x11u8, 0x22, 0x33, 0x44, 0x55, 0x66, 0x77, 0x88, 0x99];
+    assert!(rt; exchanged(&mut bytes, 0xF8E7_D6C5_B4A3_9281) == 0x8877_6655_4433_2211);
+    assert!(rt; bytes == [0x81, 0x92, 0xA3, 0xB4, 0xC5, 0xD6, 0xE7, 0xF8, 0x99]);
+    let mut shorts = [0x1122u16, 0x3344, 0x5566, 0x7788, 0x99AA];
+    assert!(rt; exchanged(&mut shorts, 0xF8E7_D6C5_B4A3_9281) == 0x7788_5566_3344_1122);
+    assert!(rt; shorts == [0x9281, 0xB4A3, 0xD6C5, 0xF8E7, 0x99AA]);
+    let mut halves = [0x1122_3344u32, 0x5566_7788, 0x99AA_BBCC];
+    assert!(rt; exchanged(&mut halves, 0xF8E7_D6C5_B4A3_9281) == 0x5566_7788_1122_3344);
+    assert!(rt; halves == [0xB4A3_9281, 0xF8E7_D6C5, 0x99AA_BBCC]);
+    let mut words = [0x1122_3344_5566_7788u64, 2];
+    assert!(rt; exchanged(&mut words, 3) == 0x1122_3344_5566_7788);
+    assert!(rt; words == [3, 2]);
+    let mut sizes = [4usize, 5];
+    assert!(rt; exchanged(&mut sizes, 6) == 4);
+    assert!(rt; sizes == [6, 5]);
+    let mut wide = [7u128];
+    assert!(rt; exchanged(&mut wide, 8) == 0);
+    assert!(rt; wide == [7]);
+    let mut tallies = [Tally::from_u128(9), Tally::from_u128(10)];
+    assert!(rt; exchanged(&mut tallies, 11) == 9);
+    let [first, second] = tallies;
+    assert!(rt; [first.to_u128(), second.to_u128()] == [11, 10]);
 }

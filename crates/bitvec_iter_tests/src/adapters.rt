@@ -1,9 +1,7 @@
 //! Walks over bits with the adapters of std.
-ghost use Rattle.std.specs.Prelude.{◌≡◌, ◌+◌, ◌-◌, ◌%◌, ◌<◌, ◌==◌, IfOk, count_by, map, min, reverse};
+ghost use Rattle.std.specs.Prelude.{◌≡◌, ◌+◌, ◌-◌, ◌%◌, ◌<◌, ◌==◌, IfOk, count_by, min, reverse};
 ghost use Rattle.std.specs.List.{enumerate_from};
 ghost use Rattle.bitvec_query.specs.slice.Views.{seen};
-ghost use Rattle.bitvec_iter.specs.Parts.{parts_of};
-ghost use Rattle.bitvec_iter.specs.cutting.Cutting.{chunk, chunk_count};
 
 use bitvec_iter::IterCalls;
 use bitvec_query::BitQueries;
@@ -27,7 +25,7 @@ pub fn backwards<T: BitStore, O: BitOrder>(
 ) -> Result<Vec<bool>, AllocError>
     ensures { IfOk result (λ bools. bools.items ≡ reverse (seen bits.entry).bits) }
 {
-    bits.iter().rev().map(|bit| *bit).collect(alloc)
+    bits.iter().by_vals().rev().collect(alloc)
 }
 
 /// The bits with their indices.
@@ -68,20 +66,6 @@ pub fn window_behind<T: BitStore, O: BitOrder>(bits: BitSlice<'_, T, O>, skipped
     let mut walk = bits.iter();
     let _bit = walk.nth(skipped);
     walk.as_bitslice().window()
-}
-
-/// How many ones each chunk has.
-pub fn ones_of_chunks<T: BitStore, O: SliceOrder>(
-    alloc: Global,
-    bits: BitSlice<'_, T, O>,
-    size: usize,
-) -> Result<Vec<usize>, AllocError>
-    requires { 0 < size }
-    ensures { IfOk result (λ counts. counts.items ≡ map (λ piece. count_by (λ bit. bit) piece.bits) (parts_of T.BITS (seen bits.entry) (chunk_count size) (chunk size))) }
-{
-    bits.chunks(size)
-        .map(|piece| piece.count_ones())
-        .collect(alloc)
 }
 
 /// At how many places a bit differs from the next.

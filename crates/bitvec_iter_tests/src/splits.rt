@@ -67,6 +67,11 @@ fn splits_at_ones(rt: HostRuntime) {
     assert!(rt; numbers(view.rsplit(is_one)) == [0b1, 0b1_00, 0b1_0, 0]);
 }
 
+/// The first five bits.
+fn five(element: &[u8; 1]) -> BitSlice<'_, u8, Lsb0> {
+    BitSlice::from_slice(element).into_part(0..5)
+}
+
 // The bits are 0, 1, 0, 0, 1, over two elements.
 #[test]
 fn inclusive_splits_at_ones(rt: HostRuntime) {
@@ -74,6 +79,11 @@ fn inclusive_splits_at_ones(rt: HostRuntime) {
     let view = BitSliceMut::<u8, Lsb0>::from_slice_mut(&mut elements).into_part(5..10);
     let pieces = view.split_inclusive(|_, bit| *bit);
     assert!(rt; numbers(pieces) == [0b1_01, 0b1_001, 0, 0]);
+}
+
+#[test]
+fn inclusive_splits_from_the_end(rt: HostRuntime) {
+    let view = BitSlice::<u8, Lsb0>::from_slice(&[0x40, 0x02]).into_part(5..10);
     let mut pieces = view.split_inclusive(is_one);
     assert!(rt; place(pieces.next_back()) == Some((7, 3)));
     assert!(rt; place(pieces.next_back()) == Some((5, 2)) && pieces.next_back().is_none());
@@ -98,25 +108,22 @@ fn limited_splits_at_ones(rt: HostRuntime) {
     assert!(rt; view.splitn(0, is_one).next().is_none());
 }
 
-// The bits are 0, 1, 0, 0, 1.
 #[test]
 fn how_many_pieces_may_come(rt: HostRuntime) {
-    let elements = [0x12u8];
-    let view = BitSlice::<u8, Lsb0>::from_slice(&elements).into_part(0..5);
-    let mut pieces = view.split(is_one);
+    let mut pieces = five(&[0x12]).split(is_one);
     let hint = pieces.size_hint();
     let _piece = pieces.next();
     assert!(rt; hint == (1, Some(6)) && pieces.size_hint() == (1, Some(4)));
     assert!(rt; shows(rt.alloc(), &pieces, "Splits([0, 0, 1])"));
+}
+
+#[test]
+fn how_many_pieces_of_a_limited_split_may_come(rt: HostRuntime) {
+    let view = five(&[0x12]);
     assert!(rt; view.splitn(2, |_, bit| *bit).size_hint() == (1, Some(2)));
     assert!(rt; view.splitn(0, |_, bit| *bit).size_hint() == (0, Some(0)));
-    assert!(rt;
-        shows(
-            rt.alloc(),
-            &view.rsplitn(1, is_one),
-            "SplitsN([0, 1, 0, 0, 1], 1)"
-        )
-    );
+    let text = "SplitsN([0, 1, 0, 0, 1], 1)";
+    assert!(rt; shows(rt.alloc(), &view.rsplitn(1, is_one), text));
 }
 
 /// The indices about which some pieces from the front ask a predicate that says yes at ones, as digits, each one

@@ -1,2 +1,3 @@
+pub mod MirroredLemmas
 pub mod MoveLemmas
-pub mod ReversedLemmas
+pub mod ReversalLemmas

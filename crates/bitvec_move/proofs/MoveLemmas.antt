@@ -1,10 +1,9 @@
 -- What proofs of copies, moves and exchanges need of windows and costs, said by plain numbers.
-use Rattle.std.proofs.Common.{◌≡◌, ℕ, zero, suc, ◌+◌, ◌-◌, ◌*◌, ◌/◌, ◌%◌, ◌^◌, ◌<◌, ◌≤◌, true, Bool, List, length, arith, refl}
-use Rattle.std.proofs.Math.Nat.{mul-le-mul_left}
-use Rattle.std.proofs.lemmas.Nat.{div-add-mod', div_below}
+use Rattle.std.proofs.Common.{◌≡◌, ℕ, ◌+◌, ◌-◌, ◌*◌, ◌/◌, ◌%◌, ◌^◌, ◌<◌, ◌≤◌, true, List, length, arith, refl}
+use Rattle.std.proofs.lemmas.Nat.{div_below}
 use Rattle.bitvec_words.specs.base.declared.part.Part.{Part}
 use Rattle.bitvec_words.specs.base.declared.window.Window.{Window}
-use Rattle.bitvec_words.specs.base.Memory.{Edits, HasWindow}
+use Rattle.bitvec_words.specs.base.Memory.{HasWindow}
 use Rattle.bitvec_words.specs.base.Parts.{first_part_of}
 use Rattle.bitvec_words.specs.base.Spans.{HasSpan}
 use Rattle.bitvec_words.specs.base.Window.{window_after, window_until}
@@ -16,10 +15,7 @@ use Rattle.bitvec_words.specs.walk.CostLaws.{touched_read, touched_stored}
 use Rattle.bitvec_words.specs.TouchedLaws.{next-inside}
 use Rattle.bitvec_words.specs.WholeLaws.{HasWindow-part}
 use Rattle.bitvec_words.specs.WordLaws.{fits-word}
-use Rattle.bitvec_words.specs.Elements.{elements_window}
 use Rattle.bitvec_move.specs.Moves.{Copies, Swaps}
-use Rattle.bitvec_move.specs.PlaceLaws.{tail-inside}
-use Rattle.bitvec_move.specs.WordLaws.{word-next}
 
 -- ---- numbers
 
@@ -29,23 +25,6 @@ place-element b w xs ys window e width is has below kept =
     let len = has.within.len in
     let all : e < length xs * b = omega arith in
     rw (is, kept) (div_below e b (length xs) (width_some b width) all)
-
--- the number of the elements that a window touches fits a `usize`
-pub count-word : (b w : ℕ) (xs : List ℕ) (window : Window) → IsWidth b → w ≡ b → HasWindow b xs window → window.len / w + 1 < 2 ^ 64
-count-word b w xs window width is has =
-    let fits = has.fits in
-    let len = has.within.len in
-    let parts = div-add-mod' window.len b in
-    let most = mul-le-mul_left (window.len / b) (width_some b width) in
-    rw is (omega arith)
-
-some-factor : (q w n : ℕ) → q * w ≡ n → 0 < n → 0 < q
-some-factor zero w n all more = absurd (omega arith)
-some-factor (suc q) w n all more = omega arith
-
--- bits of whole elements only
-pub whole-some : (w n : ℕ) → n % w ≡ 0 → 0 < n → 0 < n / w
-whole-some w n full more = let parts = div-add-mod' n w in some-factor (n / w) w n (omega arith) more
 
 pub head-order : (w : ℕ) (window : Window) (part : Part) → part ≡ first_part_of w window → part.from ≤ part.to
 head-order w window part is = rw is (omega arith)
@@ -76,10 +55,6 @@ pub Copies-same : (b : ℕ) (at : ℕ → ℕ → ℕ) (old new other : List ℕ
     → Copies b at old new part other source → Copies b at old new to other from
 Copies-same b at old new other part source to from start len source_start source_len copies = rw (start, len, source_start, source_len) copies
 
-pub Edits-same : (b : ℕ) (at : ℕ → ℕ → ℕ) (old new : List ℕ) (part window : Window) (edit : List Bool → List Bool) → window.start ≡ part.start → window.len ≡ part.len
-    → Edits b at old new part edit → Edits b at old new window edit
-Edits-same b at old new part window edit start len edits = rw (start, len) edits
-
 pub Swaps-same : (b : ℕ) (at : ℕ → ℕ → ℕ) (xs new_xs ys new_ys : List ℕ) (part source left right : Window)
     → left.start ≡ part.start → left.len ≡ part.len → right.start ≡ source.start → right.len ≡ source.len
     → Swaps b at xs new_xs ys new_ys part source → Swaps b at xs new_xs ys new_ys left right
@@ -109,23 +84,6 @@ until-span b xs now ys others left right t has kept right_kept fits =
       beside = HasWindow-part b others right (window_until t right) (HasWindow-kept b ys others right has.beside right_kept) (omega arith) (omega arith);
       lengths = omega arith;
     }
-
--- ---- the elements that a window touches, where it begins with one and ends inside one
-
-pub HasWindow-touched : (b w : ℕ) (xs : List ℕ) (window : Window) → IsWidth b → w ≡ b → HasWindow b xs window → window.start % b ≡ 0 → 0 < window.len % w
-    → HasWindow b xs (elements_window b (window.start / w) (window.len / w + 1))
-HasWindow-touched b w xs window width is has edge left =
-    let low = has.within.start in
-    let last = rw is at (tail-inside b w xs window window.len width is has (omega arith) left) in
-    let order = mul-le-mul_left b last in
-    rw is (record { fits = has.fits; within = record { start = omega arith; len = omega arith } })
-
--- the element behind those of a word
-pub word-next_word : (b w : ℕ) (xs : List ℕ) (window : Window) → IsWidth b → w ≡ b → HasWindow b xs window → window.len ≡ 64 → b < 64 → 0 < window.start % w
-    → window.start / w + 64 / w < 2 ^ 64
-word-next_word b w xs window width is has size narrow inside =
-    let here = word-next b w xs xs window width is has size (omega arith) inside refl in
-    fits-word b (window.start / w + 64 / w) xs window width has (omega arith)
 
 -- the second element of a window that has bits behind its first one
 pub second-element : (b w : ℕ) (xs ys : List ℕ) (window : Window) → IsWidth b → w ≡ b → HasWindow b xs window → w < window.start % w + window.len → length ys ≡ length xs

@@ -1,11 +1,7 @@
 pub mod Cited
 pub mod Ends
-pub mod MirrorLaws
 pub mod Moves
 pub mod PlaceLaws
-pub mod ReversalLaws
-pub mod Settled
-pub mod SettledLaws
 pub mod SwapLaws
 pub mod WaitingLaws
 pub mod WithinLaws

@@ -1,69 +1,18 @@
 -- Words of 64 bits of a memory of elements of b bits.
 pub use Rattle.bitvec_words.specs.WordLaws.{padded-all, take-all, word_whole}
-use Rattle.std.specs.Prelude.{◌≡◌, ℕ, ◌+◌, ◌-◌, ◌*◌, ◌/◌, ◌%◌, ◌<◌, ◌≤◌, true, Bool, false, List, ◌++◌, length, take, drop, replicate, slice_index, slice_range}
+use Rattle.std.specs.Prelude.{◌≡◌, ℕ, ◌+◌, ◌-◌, ◌*◌, ◌/◌, ◌%◌, ◌<◌, ◌≤◌, Bool, false, List, ◌++◌, length, take, drop, replicate, slice_index, slice_range}
 use Rattle.std.proofs.Common.{arith, rules, sym, ◌∙◌, ap}
 use Rattle.std.proofs.lemmas.List.{same_lists, places}
-use Rattle.std.proofs.lemmas.Nat.{div-add-mod', le-div}
-use Rattle.std.proofs.Math.Nat.{mul-le-mul_left}
+use Rattle.std.proofs.lemmas.Nat.{div-add-mod'}
 use Rattle.bitvec_words.specs.base.declared.window.Window.{Window}
-use Rattle.bitvec_words.specs.base.Lists.{shifted_end}
 use Rattle.bitvec_words.specs.base.Memory.{HasWindow, Writes, element_bits, list_in, memory_bits}
 use Rattle.bitvec_words.specs.base.MemoryLaws.{element-range, length-memory_bits}
 use Rattle.bitvec_words.specs.base.Window.{window_of, write_at}
 use Rattle.bitvec_words.specs.base.WindowLaws.{part-written}
 use Rattle.bitvec_words.specs.base.WritesLaws.{Writes-is, length-list, within-list}
 use Rattle.bitvec_words.specs.store.Width.{IsWidth}
-use Rattle.bitvec_words.specs.walk.Cost.{reverse_loads, reverse_stores, step_span, work_steps}
-use Rattle.bitvec_words.specs.walk.WalkLaws.{div-order}
 use Rattle.bitvec_words.specs.Elements.{elements_window}
 use Rattle.bitvec_words.specs.FieldLaws.{element_of}
-
--- ---- numbers
-
-pub word_span : (b : ℕ) → 0 < b → 64 / b + 1 ≤ step_span b true
-unfolding step_span
-word_span b some = let order = div-order b 64 (64 + b - 1) some (omega arith) in omega arith
-
--- pairs of words, and what is left
-pub steps-pairs : (n q : ℕ) → q * 128 ≤ n → 2 * q + work_steps true (n - q * 128) ≤ work_steps true n
-unfolding work_steps
-steps-pairs n q fits = omega arith
-
-pub pairs-cost : (steps left q span : ℕ) → 2 * q + left ≤ steps → (2 * q * (span + 2) ≤ steps * (span + 2)) × (2 * q * span ≤ steps * span)
-pairs-cost steps left q span fits =
-    let loads = mul-le-mul_left (span + 2) (let h : 2 * q ≤ steps = omega arith in h) in
-    let stores = mul-le-mul_left span (let h : 2 * q ≤ steps = omega arith in h) in
-    (omega arith, omega arith)
-
-pub words-cost : (steps left q span each : ℕ) → 2 * q + left ≤ steps → 1 ≤ left → each ≤ left * span
-    → (2 * q * (span + 2) + each + 1 ≤ steps * (span + 2)) × (2 * q * span + each ≤ steps * span)
-words-cost steps left q span each fits some within =
-    let loads : (2 * q + left) * (span + 2) ≤ steps * (span + 2) = omega (arith, mul-le-mul_left (span + 2) fits) in
-    let stores : (2 * q + left) * span ≤ steps * span = omega (arith, mul-le-mul_left span fits) in
-    let all : (2 * q + left) * (span + 2) ≡ 2 * q * (span + 2) + left * span + 2 * left = omega arith in
-    let stored : (2 * q + left) * span ≡ 2 * q * span + left * span = omega arith in
-    (omega arith, omega arith)
-
--- and the edges of a window
-narrow-span : (b : ℕ) → 0 < b → b < 64 → 3 ≤ step_span b true
-unfolding step_span
-narrow-span b some narrow = let two = le-div 2 (64 + b - 1) b some (omega arith) in omega arith
-
-fewer-steps : (m n : ℕ) → m ≤ n → work_steps true m ≤ work_steps true n
-unfolding work_steps
-fewer-steps m n fewer = omega arith
-
-pub words-enough : (b m n : ℕ) → 0 < b → b < 64 → m ≤ n
-    → (work_steps true m * (step_span b true + 2) + 5 ≤ reverse_loads b true n) × (work_steps true m * step_span b true + 3 ≤ reverse_stores b true n)
-unfolding reverse_loads reverse_stores
-words-enough b m n some narrow fewer =
-    let span = narrow-span b some narrow in
-    let steps = fewer-steps m n fewer in
-    let loads : work_steps true m * (step_span b true + 2) ≤ work_steps true n * (step_span b true + 2) = omega (arith, mul-le-mul_left (step_span b true + 2) steps) in
-    let stores : work_steps true m * step_span b true ≤ work_steps true n * step_span b true = omega (arith, mul-le-mul_left (step_span b true) steps) in
-    let all : (work_steps true n + 1) * (step_span b true + 2) ≡ work_steps true n * (step_span b true + 2) + step_span b true + 2 = omega arith in
-    let stored : (work_steps true n + 1) * step_span b true ≡ work_steps true n * step_span b true + step_span b true = omega arith in
-    (omega arith, omega arith)
 
 -- ---- lists
 
@@ -73,13 +22,7 @@ pub word-across : (list : List Bool) (a b skip : ℕ) → skip < b → b ≤ 64 
 unfolding write_at
 word-across list a b skip below narrow fits = same_lists _ _ (search (rules, places)) (λ k d inside. grind (arith, places))
 
--- a word moved to that index, behind the first values of that element
-pub word-behind : (word head : List Bool) (b skip : ℕ) → length word ≡ 64 → length head ≡ b → skip < b → b < 64
-    → write_at (shifted_end skip word) 0 (slice_range (write_at (replicate 64 false) 0 (slice_range head 0 (0 + b))) 0 skip) ≡ take skip head ++ take (64 - skip) word
-unfolding write_at shifted_end
-word-behind word head b skip long wide below narrow = same_lists _ _ (search (rules, places)) (λ k d inside. grind (arith, places))
-
--- and what is left of it, at the start of an element
+-- a word whose last bits were moved to the start of an element
 pub word-tail : (word : List Bool) (b skip : ℕ) → length word ≡ 64 → skip < b → b < 64
     → take (64 - skip) word ++ slice_range (write_at (replicate b false) 0 (slice_range word (64 - skip) (64 - skip + skip))) 0 skip ≡ word
 unfolding write_at

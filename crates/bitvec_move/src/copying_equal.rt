@@ -16,6 +16,7 @@ use bitvec_words::store_part;
 /// under any order. Condition: as for [`crate::copy`], and the windows aren't empty. On the left it
 /// stores each element that the window touches once, and loads at most the first and the last; on
 /// the right it loads each once.
+#[inline(always)]
 pub fn copy_equal<O: BitOrder, C: Cells, D: CellsRead<Elem = C::Elem>>(
     left: &mut C,
     to: Window,
@@ -44,6 +45,7 @@ pub fn copy_equal<O: BitOrder, C: Cells, D: CellsRead<Elem = C::Elem>>(
 }
 
 /// Copies a window that begins where an element does, and so does the other.
+#[inline(always)]
 fn copy_aligned<O: BitOrder, C: Cells, D: CellsRead<Elem = C::Elem>>(
     left: &mut C,
     to: Window,
@@ -69,6 +71,7 @@ fn copy_aligned<O: BitOrder, C: Cells, D: CellsRead<Elem = C::Elem>>(
 }
 
 /// Copies `count` whole elements, each with one load and one store.
+#[inline(always)]
 fn copy_whole<O: BitOrder, C: Cells, D: CellsRead<Elem = C::Elem>>(
     left: &mut C,
     first: usize,
@@ -89,6 +92,7 @@ fn copy_whole<O: BitOrder, C: Cells, D: CellsRead<Elem = C::Elem>>(
 }
 
 /// Copies a part from an element, from its same indices.
+#[inline(always)]
 fn copy_part<O: BitOrder, C: Cells, D: CellsRead<Elem = C::Elem>>(
     left: &mut C,
     part: Part,

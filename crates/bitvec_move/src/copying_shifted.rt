@@ -48,6 +48,7 @@ pub(crate) fn copy_shifted<O: WordOrder, C: Cells, D: CellsRead<Elem = C::Elem>>
 }
 
 /// Copies the bits of a window to a part of one element, and gives the last element loaded.
+#[inline(always)]
 fn shift_head<O: WordOrder, C: Cells, D: CellsRead<Elem = C::Elem>>(
     left: &mut C,
     part: Part,
@@ -94,6 +95,7 @@ fn copy_rest<O: WordOrder, C: Cells, D: CellsRead<Elem = C::Elem>>(
 
 /// Copies the bits of a window to a part at the beginning of an element, where the first element that
 /// the window touches was loaded before.
+#[inline(always)]
 fn shift_tail<O: WordOrder, C: Cells, D: CellsRead<Elem = C::Elem>>(
     left: &mut C,
     part: Part,

@@ -33,12 +33,9 @@ mod moving_edge;
 mod moving_to_end;
 mod moving_to_start;
 mod reversing;
-mod reversing_elements;
-mod reversing_words;
 mod swapping;
 mod swapping_equal;
 mod swapping_shifted;
-mod word_elements;
 
 /// Items of `bitvec_base` that crates above use.
 pub mod base {
@@ -71,9 +68,9 @@ pub mod words {
     pub use bitvec_words::{
         BitOp, Carried, Lanes, WORD_BITS, Whole, WordOrder, bits_load_front, bits_lowest_first,
         bits_scan_first, bits_scan_last, count, count_zeros, fill, gathered, invert, joined,
-        load_element, load_element_after, load_elements, load_parts, merged, moved, reversed,
-        same_between, store_elements, store_part, store_parts, toward_end, toward_start,
-        words_load_front, words_scan_first,
+        load_element, load_element_after, load_elements, load_parts, load_slice_word, merged,
+        moved, reversed, same_between, store_elements, store_part, store_parts, store_slice_word,
+        toward_end, toward_start, words_load_front, words_scan_first,
     };
 }
 

@@ -1,91 +1,189 @@
-//! The bits of a window in the opposite order, by whole elements from both ends.
-ghost use Rattle.std.specs.Prelude.{◌+◌, ◌%◌, ◌<◌, ◌≤◌, reverse as reversal, take, true};
-ghost use Rattle.bitvec_words.specs.base.Memory.{Edits, HasWindow, Writes, element_bits};
-ghost use Rattle.bitvec_words.specs.cells.Access.{CostsAtMost};
-ghost use Rattle.bitvec_words.specs.walk.Cost.{reverse_loads, reverse_stores};
-ghost use Rattle.bitvec_words.specs.ShortWindow.{HasShortWindow};
-ghost use Rattle.bitvec_move.specs.Ends.{ends_exchanged};
+//! The bits of a window in the opposite order, by blocks from both ends: the elements of each are loaded into an
+//! array in the opposite order, and their bits are copied from it to the other end.
+ghost use Rattle.std.specs.Mem.{type_size};
+ghost use Rattle.std.specs.Prelude.{◌≡◌, ◌+◌, ◌-◌, ◌*◌, ◌%◌, ◌<◌, ◌≤◌, ◌↔◌, IsTrue, length, map, reverse as reversal, true};
+ghost use Rattle.bitvec_words.specs.base.Memory.{Edits, HasWindow, list_in};
+ghost use Rattle.bitvec_words.specs.cells.Access.{CostsAtMost, OnlyReads};
+ghost use Rattle.bitvec_words.specs.walk.Cost.{reverse_loads, reverse_stores, step_span, touched_count, work_steps};
+ghost use Rattle.bitvec_move.specs.Ends.{HoldsBeside, IsBlock, ends_exchanged};
 
-use crate::reversing_elements::reverse_elements;
-use crate::reversing_words::reverse_words;
-use bitvec_words::base::{Part, Window, first_part};
-use bitvec_words::cells::{Cells, CellsRead};
+use crate::copying::copy;
+use bitvec_words::base::Window;
+use bitvec_words::cells::{Cells, CellsRead, Shared};
 use bitvec_words::store::BitStore;
-use bitvec_words::{
-    WORD_BITS, WordOrder, load_element, merged, reversed, store_part, toward_end, toward_start,
-};
+use bitvec_words::{WORD_BITS, WordOrder, load_parts, reversed, store_parts, toward_start};
+use std::mem::size_of;
 
 /// Reverses the bits of a window; all other bits of the memory stay. Condition: the memory has at
-/// most `MAX_BITS` bits, and the window lies in it. It goes from both ends, by words of 64 bits over
-/// elements that are narrower, and else by elements, each of which is loaded once and stored once,
-/// but for those at the two ends and one in the middle.
+/// most `MAX_BITS` bits, and the window lies in it.
+///
+/// Blocks of at most 1,024 bits a side are exchanged, or of some thousands in windows of more than 2,048. It loads
+/// each touched element of a block once, and at most four of them again.
+#[inline(always)]
 pub fn reverse<O: WordOrder, C: Cells>(cells: &mut C, window: Window)
     requires { HasWindow C.Elem.BITS (C.numbers cells.old) window }
     ensures writes { Edits C.Elem.BITS O.at (C.numbers cells.old) (C.numbers cells.new) window reversal }
     ensures cost { CostsAtMost C.CellsRead cells.old cells.new (reverse_loads C.Elem.BITS true window.len) (reverse_stores C.Elem.BITS true window.len) }
 {
-    if window.len < 2 {
-        return;
+    match C::Elem::BITS {
+        8 => reverse_ends::<O, C, 129, 513>(cells, window),
+        16 => reverse_ends::<O, C, 65, 257>(cells, window),
+        32 => reverse_ends::<O, C, 33, 129>(cells, window),
+        64 => reverse_ends::<O, C, 17, 65>(cells, window),
+        _ => reverse_ends::<O, C, 9, 65>(cells, window),
     }
-    // up to the edge of an element
-    let bits = C::Elem::BITS as usize;
-    let count = (bits - window.start % bits).min(window.len / 2);
-    exchange_edges::<O, C>(cells, window, count);
-    let rest = window.range(count, window.len - count);
-    if rest.len < 2 {
-        return;
-    }
-    if bits < WORD_BITS {
-        reverse_words::<O, C>(cells, rest);
-        return;
-    }
-    reverse_elements::<O, C>(cells, rest);
 }
 
-/// Exchanges the first `count` bits of a window with its last ones, each in the opposite order.
-/// Condition: as for [`reverse`]; the first ones lie in one element, and the last ones behind them.
-fn exchange_edges<O: WordOrder, C: Cells>(cells: &mut C, window: Window, count: usize)
+/// [`reverse`] with blocks of `FEW` elements in short windows, and of `MANY` in long ones.
+#[inline(always)]
+fn reverse_ends<O: WordOrder, C: Cells, const FEW: usize, const MANY: usize>(
+    cells: &mut C,
+    window: Window,
+)
+    requires window { HasWindow C.Elem.BITS (C.numbers cells.old) window }
+    requires few { IsBlock FEW }
+    requires many { IsBlock MANY }
+    ensures writes { Edits C.Elem.BITS O.at (C.numbers cells.old) (C.numbers cells.new) window reversal }
+    ensures cost { CostsAtMost C.CellsRead cells.old cells.new (reverse_loads C.Elem.BITS true window.len) (reverse_stores C.Elem.BITS true window.len) }
+{
+    if window.len <= 2048 {
+        reverse_blocks::<O, C, FEW>(cells, window);
+    } else {
+        reverse_blocks::<O, C, MANY>(cells, window);
+    }
+}
+
+/// [`reverse`] by blocks from each end, of the bits of one element fewer than `HELD`.
+#[inline(always)]
+fn reverse_blocks<O: WordOrder, C: Cells, const HELD: usize>(cells: &mut C, window: Window)
+    requires window { HasWindow C.Elem.BITS (C.numbers cells.old) window }
+    requires held { IsBlock HELD }
+    ensures writes { Edits C.Elem.BITS O.at (C.numbers cells.old) (C.numbers cells.new) window reversal }
+    ensures cost { CostsAtMost C.CellsRead cells.old cells.new (reverse_loads C.Elem.BITS true window.len) (reverse_stores C.Elem.BITS true window.len) }
+{
+    let mut first = [C::Elem::ZERO; HELD];
+    let mut last = [C::Elem::ZERO; HELD];
+    let room = room_beside::<C::Elem>(HELD);
+    let half = window.len / 2;
+    let mut low = 0;
+    while low < half {
+        let count = room.min(half - low);
+        if is_large::<C::Elem>() {
+            exchange_words::<O, C>(cells, window, low, count);
+            low += count;
+            continue;
+        }
+        exchange_ends::<O, C>(cells, window, low, count, &mut first, &mut last);
+        low += count;
+    }
+}
+
+/// How many bits are exchanged a side: those of all but one of `held` elements, or of a word, where the
+/// elements are too large to be held.
+#[inline(always)]
+fn room_beside<T: BitStore>(held: usize) -> usize
+    requires { IsBlock held }
+    ensures some { 0 < result }
+    ensures words { result % 64 ≡ 0 }
+    ensures large { 16 < type_size T.row → result ≡ 64 }
+    ensures room { type_size T.row ≤ 16 → result + T.BITS ≤ T.BITS * held }
+{
+    if is_large::<T>() {
+        return WORD_BITS;
+    }
+    T::BITS as usize * (held - 1)
+}
+
+/// Whether an element takes more than 16 bytes, as none of the library's do.
+#[inline(always)]
+fn is_large<T: BitStore>() -> bool
+    ensures { IsTrue result ↔ 16 < type_size T.row }
+{
+    T::fits_in_memory();
+    // a product, since the borrow checker takes the size of a type parameter as a factor alone
+    1 * size_of::<T>() > 16
+}
+
+/// Exchanges `count` bits of a window from `low` on with those that end as far before its end, each in
+/// the opposite order. Condition: as for [`reverse`]; they lie apart, and are at most 64 a side.
+fn exchange_words<O: WordOrder, C: Cells>(cells: &mut C, window: Window, low: usize, count: usize)
     requires window { HasWindow C.Elem.BITS (C.numbers cells.old) window }
     requires some { 0 < count }
-    requires bound { window.start % C.Elem.BITS + count ≤ C.Elem.BITS }
-    requires apart { count + count ≤ window.len }
-    ensures writes { Edits C.Elem.BITS O.at (C.numbers cells.old) (C.numbers cells.new) window (ends_exchanged 0 window.len count) }
-    ensures cost { CostsAtMost C.CellsRead cells.old cells.new 5 3 }
+    requires few { count ≤ 64 }
+    requires apart { low + count + (low + count) ≤ window.len }
+    ensures writes { Edits C.Elem.BITS O.at (C.numbers cells.old) (C.numbers cells.new) window (ends_exchanged low (window.len - low) count) }
+    ensures cost { let steps = 2 * work_steps true count in
+        CostsAtMost C.CellsRead cells.old cells.new (steps * (step_span C.Elem.BITS true + 2)) (steps * step_span C.Elem.BITS true) }
 {
-    let bits = C::Elem::BITS as usize;
-    let (element, from) = (window.start / bits, window.start % bits);
-    let back = window.range(window.len - count, window.len);
-    let (last, _) = load_element::<O, C>(cells, back);
-    let first = cells.load(element);
-    // of an element in the opposite order, the first bits come last
-    let skip = bits - from - count;
-    let mirrored = toward_start::<O, C::Elem>(reversed::<O, C::Elem>(last), skip);
-    cells.store(
-        element,
-        merged::<O, C::Elem>(first, mirrored, from, from + count),
-    );
-    let other = toward_start::<O, C::Elem>(reversed::<O, C::Elem>(first), skip);
-    store_front::<O, C>(cells, back, other);
+    let high = window.len - low;
+    let front = window.range(low, low + count);
+    let back = window.range(high - count, high);
+    let first = reversed::<O, u64>(load_parts::<O, C>(cells, front));
+    let last = reversed::<O, u64>(load_parts::<O, C>(cells, back));
+    let behind = WORD_BITS - count;
+    store_parts::<O, C>(cells, front, toward_start::<O, u64>(last, behind));
+    store_parts::<O, C>(cells, back, toward_start::<O, u64>(first, behind));
 }
 
-/// A window of at most an element's width gets the first bits of an element, as many as it has. It
-/// stores each element that the window touches once.
-fn store_front<O: WordOrder, C: Cells>(cells: &mut C, window: Window, element: C::Elem)
-    requires { HasShortWindow C.Elem.BITS (C.numbers cells.old) window }
-    ensures writes { Writes C.Elem.BITS O.at (C.numbers cells.old) (C.numbers cells.new) window
-        (take window.len (element_bits C.Elem.BITS O.at (C.Elem.value element))) }
-    ensures cost { CostsAtMost C.CellsRead cells.old cells.new 2 2 }
+/// Exchanges `count` bits of a window from `low` on with those that end as far before its end, each in
+/// the opposite order, which two arrays hold in between. Condition: as for [`reverse`]; they lie apart, and
+/// the arrays are as long, with room for them and one element more.
+#[inline(always)]
+fn exchange_ends<O: WordOrder, C: Cells>(
+    cells: &mut C,
+    window: Window,
+    low: usize,
+    count: usize,
+    first: &mut [C::Elem],
+    last: &mut [C::Elem],
+)
+    requires window { HasWindow C.Elem.BITS (C.numbers cells.old) window }
+    requires some { 0 < count }
+    requires apart { low + count + (low + count) ≤ window.len }
+    requires held { HoldsBeside C.Elem.BITS count (length first.old) }
+    requires lengths { length last.old ≡ length first.old }
+    ensures writes { Edits C.Elem.BITS O.at (C.numbers cells.old) (C.numbers cells.new) window (ends_exchanged low (window.len - low) count) }
+    ensures cost { let steps = 2 * work_steps true count in
+        CostsAtMost C.CellsRead cells.old cells.new (steps * (step_span C.Elem.BITS true + 2)) (steps * step_span C.Elem.BITS true) }
 {
-    let head = first_part(C::Elem::BITS as usize, window);
-    let passed = head.len();
-    store_part::<O, C>(cells, head, toward_end::<O, C::Elem>(element, head.from));
-    if passed == window.len {
-        return;
+    let high = window.len - low;
+    let front = window.range(low, low + count);
+    let back = window.range(high - count, high);
+    let from_first = load_mirrored::<O, C>(cells, front, first);
+    let from_last = load_mirrored::<O, C>(cells, back, last);
+    copy::<O, C, Shared<C::Elem>>(cells, front, &mut Shared::new(&*last), from_last);
+    copy::<O, C, Shared<C::Elem>>(cells, back, &mut Shared::new(&*first), from_first);
+}
+
+/// Loads the elements that a window touches into the last ones of some others, each in the opposite
+/// order, and gives the window of these that has the window's bits. Condition: as for [`reverse`]; the
+/// others have room for the window and one element more.
+#[inline(always)]
+fn load_mirrored<O: WordOrder, C: Cells>(
+    cells: &mut C,
+    window: Window,
+    held: &mut [C::Elem],
+) -> Window
+    requires window { HasWindow C.Elem.BITS (C.numbers cells.old) window }
+    requires some { 0 < window.len }
+    requires held { HoldsBeside C.Elem.BITS window.len (length held.old) }
+    ensures window { HasWindow C.Elem.BITS (map C.Elem.value held.new) result }
+    ensures len { result.len ≡ window.len }
+    ensures list { list_in C.Elem.BITS O.at (map C.Elem.value held.new) result
+        ≡ reversal (list_in C.Elem.BITS O.at (C.numbers cells.old) window) }
+    ensures length { length held.new ≡ length held.old }
+    ensures reads { OnlyReads C.CellsRead cells.old cells.new (touched_count C.Elem.BITS window.start window.len) }
+{
+    let bits = C::Elem::BITS as usize;
+    let (first, skip) = (window.start / bits, window.start % bits);
+    let most = held.len();
+    let count = (skip + window.len - 1) / bits + 1;
+    let (from, last) = (most - count, first + count - 1);
+    for step in 0..count {
+        held[from + step] = reversed::<O, C::Elem>(cells.load(last - step));
     }
-    let tail = Part {
-        element: head.element + 1,
-        from: 0,
-        to: window.len - passed,
-    };
-    store_part::<O, C>(cells, tail, toward_start::<O, C::Elem>(element, passed));
+    Window {
+        start: bits * most - skip - window.len,
+        len: window.len,
+    }
 }

@@ -9,12 +9,13 @@ ghost use Rattle.bitvec_slice.specs.Views.{seen};
 use crate::runs::{before_first, behind_last};
 use bitvec_slice::base::BitOrder;
 use bitvec_slice::elements::{
-    all_in, any_in, compare_in, contains_in, count_in, ends_with_in, eq_in, find_first_in,
-    find_last_in, starts_with_in,
+    all_in, any_in, compare_in, count_in, ends_with_in, eq_in, find_first_in, find_last_in,
+    starts_with_in,
 };
 use bitvec_slice::engine::SliceOrder;
 use bitvec_slice::store::BitStore;
 use bitvec_slice::{BitSlice, View};
+use bitvec_within::contains_in;
 use std::cmp::Ordering;
 
 /// The questions that `bitvec`'s `BitSlice` answers about its bits, for both view types. A needle,

@@ -1,30 +1,32 @@
 -- Whole elements that hold a window, and the number of its bits among theirs.
-use Rattle.std.specs.Prelude.{◌≡◌, ℕ, ◌+◌, ◌-◌, ◌*◌, ◌/◌, ◌%◌, ◌^◌, ◌<◌, ◌≤◌, if◌then◌else◌, Bool, true, false, List, ◌++◌, length, take, drop, slice_index, slice_range, refl}
-use Rattle.std.proofs.Common.{arith, sym, ◌∙◌, ap, ⊎_elim, length-append, length-drop}
-use Rattle.std.proofs.lemmas.Bool.{cases_lt}
-use Rattle.std.proofs.lemmas.List.{length-take, take-append-drop}
+use Rattle.std.specs.Prelude.{◌≡◌, ℕ, ◌+◌, ◌-◌, ◌*◌, ◌/◌, ◌%◌, ◌^◌, ◌<◌, ◌≤◌, ◌==◌, if◌then◌else◌, Bool, true, false, List, ◌++◌, length, take, drop, slice_index, slice_range, refl}
+use Rattle.std.specs.Int.{bit_at}
+use Rattle.std.proofs.Common.{arith, sym, ◌∙◌, ap, length-append, length-drop}
+use Rattle.std.proofs.lemmas.List.{length-take, same_lists, take-append-drop}
 use Rattle.std.proofs.lemmas.List.Folds.{drop_split}
-use Rattle.std.proofs.lemmas.Nat.{div-add-mod', div-mul-add, mod-mul-add, pow-add}
+use Rattle.std.proofs.lemmas.Nat.{div-add-mod', div-mul-add, mod-mul-add, mod_below, pow-add}
 use Rattle.std.proofs.Math.Nat.{mod-eq_of_lt, mul-le-mul_left}
 use Rattle.std.proofs.Math.Pow.{pow_mono}
 use Rattle.bitvec_words.specs.base.declared.window.Window.{Window}
 use Rattle.bitvec_words.specs.base.Memory.{HasWindow, element_bits, list_in}
-use Rattle.bitvec_words.specs.base.MemoryLaws.{length-element_bits}
+use Rattle.bitvec_words.specs.base.MemoryLaws.{get-element_bits, length-element_bits}
 use Rattle.bitvec_words.specs.base.Parts.{part_window}
 use Rattle.bitvec_words.specs.base.SliceLaws.{range-all}
-use Rattle.bitvec_words.specs.base.Window.{window_after, window_until}
 use Rattle.bitvec_words.specs.base.WriteLaws.{length-slice_range}
-use Rattle.bitvec_words.specs.base.WritesLaws.{length-list, list-join, list-range}
+use Rattle.bitvec_words.specs.base.WritesLaws.{length-list, list-range}
 use Rattle.bitvec_words.specs.walk.Cost.{touched_count}
 use Rattle.bitvec_words.specs.walk.WalkLaws.{touched-until}
 use Rattle.bitvec_words.specs.Elements.{elements_window}
 use Rattle.bitvec_words.specs.ShortWindow.{lowest_bit}
 use Rattle.bitvec_words.specs.FieldLaws.{element_of, list-element, list-part}
+use Rattle.bitvec_words.specs.OrderEnd.{RunsFrom}
 use Rattle.bitvec_words.specs.WholeLaws.{list-empty}
+use Rattle.bitvec_words.specs.WordLaws.{word_whole}
+use Rattle.bitvec_words.specs.store.Width.{IsWidth}
 use Rattle.bitvec_segments.specs.LoadLaws.{joined_below}
-use Rattle.bitvec_segments.specs.NumberLaws.{segment_number-below}
+use Rattle.bitvec_segments.specs.NumberLaws.{segment-number-is, segment_number-below}
 use Rattle.bitvec_segments.specs.PlainLaws.{append-highest, append-lowest}
-use Rattle.bitvec_segments.specs.Segments.{segment_number}
+use Rattle.bitvec_segments.specs.Segments.{bit_number, segment_bits, segment_number}
 
 -- the part that is a whole element
 pub list-whole : (b : ℕ) (at : ℕ → ℕ → ℕ) (xs : List ℕ) (e w : ℕ) → w ≡ b → e < length xs → list_in b at xs (part_window b (record { element = e; from = 0; to = w })) ≡ element_bits b at (slice_index xs e)
@@ -130,6 +132,24 @@ number-cut high b at xs window count v has inside is =
     rw is cut
     ∙ ap (segment_number high) (sym part ∙ rw (place, len) refl)
 
+-- of 64 bits of whole elements, by a word that has them
+bits-number : (high : Bool) (at : ℕ → ℕ → ℕ) (v : ℕ) → RunsFrom high 64 at → segment_bits high 64 v ≡ element_bits 64 at v
+bits-number high at v ends =
+    let long = length-element_bits 64 (bit_number high) v in
+    let wide = length-element_bits 64 at v in
+    same_lists _ _ (omega arith) (λ i d below.
+    get-element_bits 64 (bit_number high) v i d (omega arith)
+    ∙ ap (λ (p : ℕ). bit_at v p == 1) (sym (ends i (omega arith)))
+    ∙ sym (get-element_bits 64 at v i d (omega arith)))
+
+pub number-word : (high : Bool) (b : ℕ) (at : ℕ → ℕ → ℕ) (xs : List ℕ) (window : Window) (v : ℕ) → RunsFrom high 64 at → IsWidth b → b ≤ 64 → window.start % b ≡ 0 → window.len ≡ 64 → v < 2 ^ 64
+    → element_bits 64 at v ≡ list_in b at xs (elements_window b (window.start / b) (64 / b)) → v ≡ segment_number high (list_in b at xs window)
+number-word high b at xs window v ends width narrow edge size below is =
+    let place = div-add-mod' window.start b in
+    let start : window.start / b * b ≡ window.start = omega arith in
+    let long : 64 / b * b ≡ window.len = word_whole b width narrow ∙ sym size in
+    segment-number-is high 64 v _ below (bits-number high at v ends ∙ is ∙ rw (start, long) refl)
+
 -- the elements that the window touches are so many
 pub touched-elements : (b s n count : ℕ) → 0 < n → 0 < count → (count - 1) * b < s % b + n → s % b + n ≤ count * b → touched_count b s n ≡ count
 touched-elements b s n count more some last inside =
@@ -142,92 +162,14 @@ touched-elements b s n count more some last inside =
     let quotient : (s + n - 1) / b ≡ s / b + (count - 1) = ap (λ (m : ℕ). m / b) split ∙ div-mul-add (s / b + (count - 1)) b r below in
     omega arith
 
--- ---- whole elements, in two halves of h bits
-
-module _ (high : Bool) (b : ℕ) (at : ℕ → ℕ → ℕ) (xs : List ℕ) (window : Window) (h : ℕ) (has : HasWindow b xs window) (len : window.len ≡ h + h) where
-  pub first_half : HasWindow b xs (window_until h window)
-  first_half =
-      let start = has.within.start in
-      let end = has.within.len in
-      record { fits = has.fits; within = record { start = omega arith; len = omega arith } }
-
-  pub second_half : HasWindow b xs (window_after h window)
-  second_half =
-      let start = has.within.start in
-      let end = has.within.len in
-      record { fits = has.fits; within = record { start = omega arith; len = omega arith } }
-
-  pub first_half-below : (v : ℕ) → v ≡ segment_number high (list_in b at xs (window_until h window)) → v < 2 ^ h
-  first_half-below v is = rw (let e : window.len - h ≡ h = omega arith in e) at (number-below high b at xs (window_until h window) v first_half is)
-
-  pub second_half-below : (v : ℕ) → v ≡ segment_number high (list_in b at xs (window_after h window)) → v < 2 ^ h
-  second_half-below v is = rw (let e : window.len - h ≡ h = omega arith in e) at (number-below high b at xs (window_after h window) v second_half is)
-
-  halves : list_in b at xs (window_until h window) ++ list_in b at xs (window_after h window) ≡ list_in b at xs window
-  halves = list-join b at xs (window_until h window) (window_after h window) window has refl (omega arith) (omega arith)
-
-  length-first : length (list_in b at xs (window_until h window)) ≡ h
-  length-first = length-list b at xs (window_until h window) first_half ∙ omega arith
-
-  length-second : length (list_in b at xs (window_after h window)) ≡ h
-  length-second = length-list b at xs (window_after h window) second_half ∙ omega arith
-
--- their number
-pub number-halves : (high : Bool) (b : ℕ) (at : ℕ → ℕ → ℕ) (xs : List ℕ) (window : Window) (h v w : ℕ) → HasWindow b xs window → window.len ≡ h + h
-    → v ≡ segment_number high (list_in b at xs (window_until h window)) → w ≡ segment_number high (list_in b at xs (window_after h window))
-    → (if high then v * 2 ^ h + w else w * 2 ^ h + v) ≡ segment_number high (list_in b at xs window)
-number-halves true b at xs window h v w has len one two =
-    let first : List Bool = list_in b at xs (window_until h window) in
-    let second : List Bool = list_in b at xs (window_after h window) in
-    let whole : segment_number true (list_in b at xs window) ≡ segment_number true first * 2 ^ h + segment_number true second =
-    ap (segment_number true) (sym (halves true b at xs window h has len)) ∙ append-highest first second ∙ ap (λ (n : ℕ). segment_number true first * 2 ^ n + segment_number true second) (length-second true b at xs window h has len) in
-    rw (one, two) (sym whole)
-number-halves false b at xs window h v w has len one two =
-    let first : List Bool = list_in b at xs (window_until h window) in
-    let second : List Bool = list_in b at xs (window_after h window) in
-    let whole : segment_number false (list_in b at xs window) ≡ segment_number false second * 2 ^ h + segment_number false first =
-    ap (segment_number false) (sym (halves false b at xs window h has len)) ∙ append-lowest first second ∙ ap (λ (n : ℕ). segment_number false second * 2 ^ n + segment_number false first) (length-first false b at xs window h has len) in
-    rw (one, two) (sym whole)
-
--- their elements
-module _ (b : ℕ) (window : Window) (h : ℕ) (edge : window.start % b ≡ 0) (whole : h % b ≡ 0) (len : window.len ≡ h + h) where
-  pub first_half-elements : elements_window b (window.start / b) (h / b) ≡ window_until h window
-  first_half-elements =
-      let place = div-add-mod' window.start b in
-      let room = div-add-mod' h b in
-      let start : window.start / b * b ≡ window.start = omega arith in
-      let size : h / b * b ≡ window.len - h = omega arith in
-      rw (start, size) refl
-
-  pub second_half-elements : elements_window b (window.start / b + h / b) (h / b) ≡ window_after h window
-  second_half-elements =
-      let place = div-add-mod' window.start b in
-      let room = div-add-mod' h b in
-      let start : (window.start / b + h / b) * b ≡ window.start + h = omega arith in
-      let size : h / b * b ≡ window.len - h = omega arith in
-      rw (start, size) refl
-
-pub half-some : (b h : ℕ) → 0 < h → h % b ≡ 0 → 0 < h / b
-half-some b h more whole =
-    let room = div-add-mod' h b in
-    ⊎_elim (λ (few : h / b < 1). let none : h / b * b ≡ 0 * b = ap (λ (n : ℕ). n * b) (let e : h / b ≡ 0 = omega arith in e) in absurd (omega arith)) (λ (some : 1 ≤ h / b). some) (cases_lt (h / b) 1)
-
-pub touched-halves : (b : ℕ) (window : Window) (h : ℕ) → 0 < b → 0 < h → window.start % b ≡ 0 → h % b ≡ 0 → window.len ≡ h + h → touched_count b window.start window.len ≡ h / b + h / b
-touched-halves b window h some more edge whole len =
-    let k : ℕ = h / b in
-    let room : h / b * b + h % b ≡ h = div-add-mod' h b in
-    let count = half-some b h more whole in
-    let back : (k + k) * b ≡ (k + k - 1) * b + b = ap (λ (n : ℕ). n * b) (let e : k + k ≡ k + k - 1 + 1 = omega arith in e) ∙ omega arith in
-    let both : (k + k) * b ≡ h + h = omega arith in
-    touched-elements b window.start window.len (k + k) (omega arith) (omega arith) (omega arith) (omega arith)
-
--- the first of many elements
-pub HasWindow-first : (b : ℕ) (xs : List ℕ) (first count done : ℕ) → HasWindow b xs (elements_window b first count) → done ≤ count → HasWindow b xs (elements_window b first done)
-HasWindow-first b xs first count done has most =
-    let start = has.within.start in
-    let len = has.within.len in
-    let room = mul-le-mul_left b most in
-    record { fits = has.fits; within = record { start = omega arith; len = omega arith } }
+pub touched-last : (b s n : ℕ) → 0 < b → 0 < n → touched_count b s n ≡ (s % b + n - 1) / b + 1
+touched-last b s n some more =
+    let last : ℕ = s % b + n - 1 in
+    let place = div-add-mod' last b in
+    let below = mod_below last b some in
+    let back : last / b + 1 - 1 ≡ last / b = omega arith in
+    let before : (last / b + 1 - 1) * b < last + 1 = rw back (omega arith) in
+    touched-elements b s n (last / b + 1) (omega arith) (omega arith) (omega arith) (omega arith)
 
 -- ---- two numbers in one word
 

@@ -2,9 +2,10 @@
 use Rattle.std.specs.Prelude.{◌≡◌, ℕ, ◌+◌, ◌-◌, ◌*◌, ◌/◌, ◌%◌, ◌^◌, ◌<◌, ◌≤◌, Bool, true, false, List, ◌++◌, length, take, drop, min, refl}
 use Rattle.std.proofs.Common.{arith, sym, ◌∙◌, ap, ⊎_elim, eqb}
 use Rattle.std.proofs.lemmas.Bool.{cases_lt, cond-true, eq-eqb}
+use Rattle.std.proofs.lemmas.Grind.{common_steps}
 use Rattle.std.proofs.lemmas.Nat.{div-add-mod', div-mul-add, mod-mul-add, mod_below, pow-add, shr-shr}
 use Rattle.std.proofs.lemmas.List.{drop-drop, take_all}
-use Rattle.std.proofs.Math.Nat.{add-mul-mod_self_right, mod-eq_of_lt, mul-le-mul_left}
+use Rattle.std.proofs.Math.Nat.{mod-eq_of_lt, mul-le-mul_left}
 use Rattle.std.proofs.Math.Pow.{pow_mono}
 use Rattle.std.proofs.Math.Seq.{take-add}
 use Rattle.bitvec_words.specs.base.declared.part.Part.{Part}
@@ -13,12 +14,13 @@ use Rattle.bitvec_words.specs.base.Memory.{Edits, HasWindow, Writes, list_in}
 use Rattle.bitvec_words.specs.base.Parts.{first_part_of, part_window}
 use Rattle.bitvec_words.specs.base.Window.{window_after}
 use Rattle.bitvec_words.specs.base.WritesLaws.{Writes-is, Writes-join, length-list, list-behind, list-join}
-use Rattle.bitvec_words.specs.walk.Cost.{part_loads, touched_count}
-use Rattle.bitvec_words.specs.walk.Walk.{Walked, passed}
-use Rattle.bitvec_words.specs.walk.WalkLaws.{Walked-next, Walked-start, Writes-next_part, Writes-none_passed, div-order, first-len, first-place, touched-none, touched-until}
+use Rattle.bitvec_words.specs.walk.Cost.{fill_loads, part_loads, touched_count}
+use Rattle.bitvec_words.specs.walk.Walk.{Walked, edge_loads, passed}
+use Rattle.bitvec_words.specs.walk.WalkLaws.{Walked-next, Walked-start, Writes-next_part, Writes-none_passed, first-len, first-place, touched-none}
 use Rattle.bitvec_words.specs.PartWalkLaws.{HasWindow-rest}
+use Rattle.bitvec_words.specs.TouchedLaws.{touched-first}
 use Rattle.bitvec_words.specs.WholeLaws.{list-empty}
-use Rattle.bitvec_segments.specs.LoadLaws.{alone, loaded-below, loaded-first, loaded-none, lower_bits}
+use Rattle.bitvec_segments.specs.LoadLaws.{loaded-below, loaded-first, loaded-none, lower_bits}
 use Rattle.bitvec_segments.specs.Segments.{loaded, segment_bits, segment_number, stored}
 use Rattle.bitvec_segments.specs.SegmentsLaws.{first_len}
 use Rattle.bitvec_segments.specs.StoreLaws.{front-dropped, front-taken, length-segment_bits, length-stored, stored-first}
@@ -122,45 +124,6 @@ Loaded-all big high b at xs window rest number none is =
     let zero_left : loaded big high b rest.start (list_in b at xs rest) ≡ 0 = ap (loaded big high b rest.start) (list-empty b at xs rest none) ∙ loaded-none big high b rest.start in
     let same : number ≡ number + 0 * 2 ^ lower_bits big (window.len - rest.len) 0 = omega arith in
     same ∙ ap (λ (m : ℕ). number + m * 2 ^ lower_bits big (window.len - rest.len) 0) (sym zero_left) ∙ is
-
--- ---- loads in two steps
-
--- the first part takes one element, and what is left the others
-pub touched-first : (b : ℕ) (window : Window) (t : ℕ) → 0 < b → 0 < window.len → t ≡ (first_part_of b window).to - (first_part_of b window).from
-    → touched_count b window.start window.len ≡ touched_count b (window.start + t) (window.len - t) + 1
-touched-first b window t some more step =
-    let head = mod_below window.start b some in
-    let place = div-add-mod' window.start b in
-    let whole = rw (let e : window.start + window.len - window.start ≡ window.len = omega arith in e) at (touched-until b window.start (window.start + window.len) (omega arith)) in
-    ⊎_elim
-    (λ (left : t < window.len).
-    let later = rw (let e : window.start + window.len - (window.start + t) ≡ window.len - t = omega arith in e) at (touched-until b (window.start + t) (window.start + window.len) (omega arith)) in
-    let next : (window.start + t) / b ≡ window.start / b + 1 =
-    ap (λ (m : ℕ). m / b) (let e : window.start + t ≡ (window.start / b + 1) * b + 0 = omega arith in e) ∙ div-mul-add (window.start / b + 1) b 0 some in
-    let order = div-order b (window.start + t) (window.start + window.len - 1) some (omega arith) in
-    omega arith)
-    (λ (all : window.len ≤ t).
-    let none = rw (let e : 0 ≡ window.len - t = omega arith in e) at (touched-none b (window.start + t)) in
-    let last : (window.start + window.len - 1) / b ≡ window.start / b =
-    ap (λ (m : ℕ). m / b) (let e : window.start + window.len - 1 ≡ window.start / b * b + (window.start % b + (window.len - 1)) = omega arith in e)
-    ∙ div-mul-add (window.start / b) b (window.start % b + (window.len - 1)) (omega arith) in
-    omega arith)
-    (cases_lt t window.len)
-
-module _ (big high : Bool) (b : ℕ) (at : ℕ → ℕ → ℕ) (xs : List ℕ) (window : Window) (t : ℕ) (some : 0 < b) (more : 0 < window.len)
-    (step : t ≡ (first_part_of b window).to - (first_part_of b window).from) (has : HasWindow b xs window) where
-  -- the window is its first part
-  pub number-only : window.len ≤ t → segment_number high (list_in b at xs (part_window b (first_part_of b window))) ≡ loaded big high b window.start (list_in b at xs window)
-  number-only all =
-      let n : ℕ = segment_number high (list_in b at xs (part_window b (first_part_of b window))) in
-      let zero_left : loaded big high b (window.start + t) (list_in b at xs (window_after t window)) ≡ 0 = ap (loaded big high b (window.start + t)) (list-empty b at xs (window_after t window) (omega arith)) ∙ loaded-none big high b (window.start + t) in
-      let none : window.len - t ≡ 0 = omega arith in
-      sym (number-part big high b at xs window t some more step has ∙ rw (zero_left, none) (alone big n t))
-
-  -- its first part and what is left
-  pub number-joined : (n r : ℕ) → n ≡ segment_number high (list_in b at xs (part_window b (first_part_of b window))) → r ≡ loaded big high b (window.start + t) (list_in b at xs (window_after t window))
-      → n * 2 ^ lower_bits big 0 (window.len - t) + r * 2 ^ lower_bits big t 0 ≡ loaded big high b window.start (list_in b at xs window)
-  number-joined n r first later = rw (first, later) (sym (number-part big high b at xs window t some more step has))
 
 -- ---- stores
 
@@ -284,33 +247,47 @@ module _ (big high : Bool) (b : ℕ) (at : ℕ → ℕ → ℕ) (old : List ℕ)
 
 -- ---- the first part of a window that begins where an element does
 
-pub edge-part : (b e to : ℕ) (window : Window) → 0 < b → window.start ≡ e * b → to ≡ min window.len b → record { element = e; from = 0; to = to } ≡ first_part_of b window
-edge-part b e to window some edge is =
+pub edge-place : (b e : ℕ) (window : Window) → 0 < b → window.start ≡ e * b → (e ≡ window.start / b) × (0 ≡ window.start % b)
+edge-place b e window some edge =
     let start : window.start ≡ e * b + 0 = omega arith in
-    let place : window.start / b ≡ e = ap (λ (n : ℕ). n / b) start ∙ div-mul-add e b 0 some in
-    let phase : window.start % b ≡ 0 = ap (λ (n : ℕ). n % b) start ∙ mod-mul-add e b 0 some in
-    let len : 0 + min window.len (b - 0) ≡ min window.len b = omega arith in
-    rw (place, phase, is) (ap (λ (k : ℕ). let part : Part = record { element = e; from = 0; to = k } in part) (sym len))
+    (sym (ap (λ (n : ℕ). n / b) start ∙ div-mul-add e b 0 some), sym (ap (λ (n : ℕ). n % b) start ∙ mod-mul-add e b 0 some))
 
 pub edge-len : (b e : ℕ) (window : Window) → 0 < b → window.start ≡ e * b → min window.len b ≡ (first_part_of b window).to - (first_part_of b window).from
-edge-len b e window some edge =
-    let part = edge-part b e (min window.len b) window some edge refl in
-    let long : min window.len b ≡ min window.len b - 0 = omega arith in
-    long ∙ ap (λ (p : Part). p.to - p.from) part
+edge-len b e window some edge = let phase = (edge-place b e window some edge).1 in omega arith
 
--- ---- windows of whole elements
+-- ---- the first part of a window from a place on
 
-pub whole-elements : (b s : ℕ) → s % b ≡ 0 → s ≡ s / b * b
-whole-elements b s edge = let place = div-add-mod' s b in omega arith
+-- where the first bit of a window stands, if there is one
+abbrev pub Begins : ℕ → Window → ℕ → ℕ → Type 0
+Begins b rest element from = 0 < rest.len → (element ≡ rest.start / b) × (from ≡ rest.start % b)
 
-pub whole-some : (b n : ℕ) → 0 < n → n % b ≡ 0 → b ≤ n
-whole-some b n more whole =
-    ⊎_elim (λ (low : n < b). absurd (let all = mod-eq_of_lt low in omega arith)) (λ (most : b ≤ n). most) (cases_lt n b)
+pub Begins-next : (b : ℕ) (rest : Window) (t element : ℕ) → 0 < b → 0 < rest.len → t ≡ (first_part_of b rest).to - (first_part_of b rest).from → element ≡ rest.start / b
+    → Begins b (window_after t rest) (element + 1) 0
+Begins-next b rest t element some more step is = λ left.
+    let place = div-add-mod' rest.start b in
+    let head = mod_below rest.start b some in
+    rw is (edge-place b (rest.start / b + 1) (window_after t rest) some (omega arith))
 
-pub whole-less : (b n : ℕ) → b ≤ n → n % b ≡ 0 → (n - b) % b ≡ 0
-whole-less b n most whole =
-    let back : n - b + 1 * b ≡ n = omega arith in
-    sym (add-mul-mod_self_right (n - b) 1 b) ∙ ap (λ (m : ℕ). m % b) back ∙ whole
+-- bits are left as long as elements are
+pub some-left : (b s n left : ℕ) → left ≡ touched_count b s n → 0 < left → 0 < n
+some-left b s n left is more =
+    ⊎_elim (λ (few : n < 1). let none : touched_count b s n ≡ 0 = ap (touched_count b s) (let e : n ≡ 0 = omega arith in e) ∙ touched-none b s in absurd (omega arith)) (λ (some : 1 ≤ n). some) (cases_lt n 1)
+
+pub none-left : (b s n left : ℕ) → left ≡ touched_count b s n → left ≤ 0 → n ≡ 0
+none-left b s n left is none =
+    ⊎_elim (λ (few : n < 1). omega arith) (λ (some : 1 ≤ n). let first = touched-first b s n some in absurd (omega arith)) (cases_lt n 1)
+
+pub edges-all : (b : ℕ) (window rest : Window) → rest.len ≡ 0 → Walked b window rest → edge_loads window rest ≤ fill_loads window.len
+edges-all b window rest none walk =
+    let start = walk.start in
+    let end = walk.end in
+    grind (arith, common_steps)
+
+pub element-below : (b s : ℕ) → 0 < b → s / b ≤ s
+element-below b s some =
+    let place = div-add-mod' s b in
+    let most = mul-le-mul_left (s / b) some in
+    omega arith
 
 -- ---- what a turn needs of the rest
 
@@ -325,19 +302,4 @@ pub rest-fits : (b : ℕ) (window rest : Window) → Walked b window rest → re
 rest-fits b window rest walk =
     let start = walk.start in
     let end = walk.end in
-    omega arith
-
--- a part has at least one bit, and no more than the rest
-pub taken : (b w t : ℕ) (rest : Window) (part : Part) → 0 < b → w ≡ b → 0 < rest.len → part ≡ first_part_of w rest → t ≡ part.to - part.from → (0 < t) × (t ≤ rest.len)
-taken b w t rest part some is more made step =
-    let long = rw (made, is) at step in
-    let len = first-len b rest some more in
-    (omega arith, omega arith)
-
-pub element-word : (b e : ℕ) (xs : List ℕ) (window rest : Window) → 0 < b → HasWindow b xs window → Walked b window rest → rest.start ≡ e * b → e + 1 < 2 ^ 64
-element-word b e xs window rest some has walk edge =
-    let end = walk.end in
-    let fits = has.fits in
-    let len = has.within.len in
-    let most = mul-le-mul_left e some in
     omega arith

@@ -87,7 +87,7 @@ one_len : (b s n : ℕ) → s % b + n ≤ b → n ≡ first_len b s n
 one_len b s n inside = omega arith
 
 -- nothing is lower than what is alone
-pub alone : (big : Bool) (v n : ℕ) → v * 2 ^ lower_bits big 0 0 + 0 * 2 ^ lower_bits big n 0 ≡ v
+alone : (big : Bool) (v n : ℕ) → v * 2 ^ lower_bits big 0 0 + 0 * 2 ^ lower_bits big n 0 ≡ v
 alone true v n = omega arith
 alone false v n = omega arith
 

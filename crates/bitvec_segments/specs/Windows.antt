@@ -1,5 +1,5 @@
 -- Windows whose bits are a number.
-use Rattle.std.specs.Prelude.{◌≡◌, ℕ, ◌+◌, ◌%◌, ◌<◌, ◌≤◌, Bool, List}
+use Rattle.std.specs.Prelude.{ℕ, ◌+◌, ◌%◌, ◌<◌, ◌≤◌, Bool, List}
 use Rattle.bitvec_words.specs.base.declared.window.Window.{Window}
 use Rattle.bitvec_words.specs.base.Memory.{Edits, HasWindow, list_in}
 use Rattle.bitvec_segments.specs.Segments.{loaded, stored}
@@ -14,14 +14,6 @@ pub record FitsWord (b : ℕ) (field : Window) : Type 0 where
   pub some : 0 < field.len
   pub narrow : b ≤ 64
   pub fits : field.start % b + field.len ≤ 64
-
--- one of whole elements that make two halves of so many bits, at most those of half a word
-pub record HasHalves (b half : ℕ) (field : Window) : Type 0 where
-  pub some : 0 < half
-  pub bound : half ≤ 32
-  pub edge : field.start % b ≡ 0
-  pub whole : half % b ≡ 0
-  pub len : field.len ≡ half + half
 
 -- the number that a load of it gives
 abbrev pub loaded_in : Bool → Bool → ℕ → (ℕ → ℕ → ℕ) → List ℕ → Window → ℕ

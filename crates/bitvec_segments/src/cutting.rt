@@ -1,9 +1,25 @@
-//! The first part of a window where it is known how far the window reaches, so that the machine code has
-//! no minimum and no division.
-ghost use Rattle.std.specs.Prelude.{◌≡◌, ◌+◌, ◌*◌, ◌%◌, ◌<◌, ◌≤◌};
+//! The first part of a window whose place or end is known, so that the machine code has no division, or
+//! no minimum.
+ghost use Rattle.std.specs.Prelude.{◌≡◌, ◌+◌, ◌*◌, ◌/◌, ◌%◌, ◌^◌, ◌<◌, ◌≤◌};
 ghost use Rattle.bitvec_words.specs.base.Parts.{first_part_of};
 
 use bitvec_words::base::{Part, Window};
+
+/// The first part of a window that begins at the index `from` of the element `element`.
+#[inline(always)]
+pub(crate) fn part_at(bits: usize, window: Window, element: usize, from: usize) -> Part
+    requires some { 0 < bits }
+    requires element { element ≡ window.start / bits }
+    requires from { from ≡ window.start % bits }
+    requires end { window.start + window.len < 2 ^ 64 }
+    ensures { result ≡ first_part_of bits window }
+{
+    Part {
+        element,
+        from,
+        to: bits.min(from + window.len),
+    }
+}
 
 /// The first part of a window of one element.
 #[inline(always)]
@@ -30,36 +46,6 @@ pub(crate) fn head_part(bits: usize, window: Window) -> Part
     Part {
         element: window.start / bits,
         from: window.start % bits,
-        to: bits,
-    }
-}
-
-/// The first part of a window that begins where the element `element` does, and has no more bits.
-#[inline(always)]
-pub(crate) fn edge_part(bits: usize, window: Window, element: usize) -> Part
-    requires some { 0 < bits }
-    requires edge { window.start ≡ element * bits }
-    requires one { window.len ≤ bits }
-    ensures { result ≡ first_part_of bits window }
-{
-    Part {
-        element,
-        from: 0,
-        to: window.len,
-    }
-}
-
-/// The first part of a window that begins where the element `element` does, and has all its bits.
-#[inline(always)]
-pub(crate) fn whole_part(bits: usize, window: Window, element: usize) -> Part
-    requires some { 0 < bits }
-    requires edge { window.start ≡ element * bits }
-    requires reaches { bits ≤ window.len }
-    ensures { result ≡ first_part_of bits window }
-{
-    Part {
-        element,
-        from: 0,
         to: bits,
     }
 }

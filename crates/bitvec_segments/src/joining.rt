@@ -3,16 +3,15 @@ ghost use Rattle.std.specs.Prelude.{◌≡◌, ◌+◌, ◌-◌, ◌*◌, ◌/�
 ghost use Rattle.bitvec_words.specs.base.Memory.{HasWindow, element_bits, list_in};
 ghost use Rattle.bitvec_words.specs.cells.Access.{OnlyReads};
 ghost use Rattle.bitvec_segments.specs.Segments.{segment_number};
-ghost use Rattle.bitvec_segments.specs.Windows.{FitsWord, HasHalves};
+ghost use Rattle.bitvec_segments.specs.Windows.{FitsWord};
 ghost use Rattle.bitvec_words.specs.walk.Cost.{touched_count};
-ghost use Rattle.bitvec_words.specs.Elements.{elements_window};
 ghost use Rattle.bitvec_words.specs.ShortWindow.{lowest_bit};
 
 use crate::part::part_number;
 use bitvec_words::base::{Part, Window};
 use bitvec_words::cells::CellsRead;
 use bitvec_words::store::BitStore;
-use bitvec_words::{WORD_BITS, WordOrder};
+use bitvec_words::{WORD_BITS, WordOrder, load_elements};
 
 /// Whether a window isn't empty, and the elements that it touches have no more bits than a word, one
 /// alone and together.
@@ -24,6 +23,20 @@ pub(crate) fn fits_word<T: BitStore>(window: Window) -> bool
     T::BITS as usize <= WORD_BITS
         && window.len > 0
         && window.start % T::BITS as usize + window.len <= WORD_BITS
+}
+
+/// The number of a window's bits, taken as one segment. Condition: the window is one of whole elements
+/// of at most 64 bits, and has 64. It loads each element once, and the compiler makes one load of them.
+#[inline(always)]
+pub(crate) fn word_number<O: WordOrder, C: CellsRead>(cells: &mut C, window: Window) -> u64
+    requires window { HasWindow C.Elem.BITS (C.numbers cells.old) window }
+    requires narrow { C.Elem.BITS ≤ 64 }
+    requires edge { window.start % C.Elem.BITS ≡ 0 }
+    requires len { window.len ≡ 64 }
+    ensures value { result ≡ segment_number O.HIGH (list_in C.Elem.BITS O.at (C.numbers cells.old) window) }
+    ensures reads { OnlyReads C.CellsRead cells.old cells.new (touched_count C.Elem.BITS window.start window.len) }
+{
+    load_elements::<O, C>(cells, window.start / C::Elem::BITS as usize)
 }
 
 /// The number of a window's bits, taken as one segment. Condition: the window isn't empty, lies in a
@@ -50,60 +63,6 @@ pub(crate) fn joined_number<O: WordOrder, C: CellsRead>(cells: &mut C, window: W
         width += bits;
     }
     cut_out::<O>(word, width, from, window.len)
-}
-
-/// `joined_number`, for which the machine code has no loop where the bits are those of whole elements and as
-/// many as a word has.
-#[inline(always)]
-pub(crate) fn word_number<O: WordOrder, C: CellsRead>(cells: &mut C, window: Window) -> u64
-    requires window { HasWindow C.Elem.BITS (C.numbers cells.old) window }
-    requires word { FitsWord C.Elem.BITS window }
-    ensures value { result ≡ segment_number O.HIGH (list_in C.Elem.BITS O.at (C.numbers cells.old) window) }
-    ensures reads { OnlyReads C.CellsRead cells.old cells.new (touched_count C.Elem.BITS window.start window.len) }
-{
-    if window.len == 64 && 32 % C::Elem::BITS as usize == 0 {
-        return halves_number::<O, C>(cells, window, 32);
-    }
-    joined_number::<O, C>(cells, window)
-}
-
-/// `joined_number` of whole elements that make two halves of so many bits. Where the machine code knows how
-/// many, it has no loop.
-#[inline(always)]
-fn halves_number<O: WordOrder, C: CellsRead>(cells: &mut C, window: Window, half: usize) -> u64
-    requires window { HasWindow C.Elem.BITS (C.numbers cells.old) window }
-    requires halves { HasHalves C.Elem.BITS half window }
-    ensures value { result ≡ segment_number O.HIGH (list_in C.Elem.BITS O.at (C.numbers cells.old) window) }
-    ensures reads { OnlyReads C.CellsRead cells.old cells.new (touched_count C.Elem.BITS window.start window.len) }
-{
-    let bits = C::Elem::BITS as usize;
-    let element = window.start / bits;
-    let count = half / bits;
-    // the second half first, or the compiler takes the load of the first element out of it
-    let second = elements_number::<O, C>(cells, element + count, count);
-    let first = elements_number::<O, C>(cells, element, count);
-    with_next::<O>(first, half, second, half)
-}
-
-/// The number of all bits of so many elements. Condition: the memory has them, and they have at least one
-/// bit and at most 64. It takes one load an element.
-#[inline(always)]
-fn elements_number<O: WordOrder, C: CellsRead>(cells: &mut C, element: usize, count: usize) -> u64
-    requires window { HasWindow C.Elem.BITS (C.numbers cells.old) (elements_window C.Elem.BITS element count) }
-    requires some { 0 < count }
-    requires bound { count * C.Elem.BITS ≤ 64 }
-    ensures value { result ≡ segment_number O.HIGH (list_in C.Elem.BITS O.at (C.numbers cells.old) (elements_window C.Elem.BITS element count)) }
-    ensures reads { OnlyReads C.CellsRead cells.old cells.new count }
-{
-    let bits = C::Elem::BITS as usize;
-    let mut word = element_number::<O, C>(cells, element);
-    let mut done = 1;
-    while done < count {
-        let next = element_number::<O, C>(cells, element + done);
-        word = with_next::<O>(word, done * bits, next, bits);
-        done += 1;
-    }
-    word
 }
 
 /// The number of all bits of an element. Condition: the memory has the element, which has at most 64. It

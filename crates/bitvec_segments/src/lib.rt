@@ -10,7 +10,6 @@ mod loading;
 mod part;
 mod segment_order;
 mod storing;
-mod whole;
 
 pub use field_order::FieldOrder;
 pub use integers::{extended, reduced};

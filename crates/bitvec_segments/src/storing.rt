@@ -4,12 +4,11 @@ ghost use Rattle.bitvec_words.specs.cells.Access.{CostsAtMost};
 ghost use Rattle.bitvec_segments.specs.Windows.{HasNumber, StoresIn};
 ghost use Rattle.bitvec_words.specs.walk.Cost.{fill_loads, touched_count};
 
-use crate::cutting::{edge_part, head_part, only_part, whole_part};
+use crate::cutting::{head_part, only_part, part_at};
 use crate::part::store_part_number;
 use crate::segment_order::{SegmentOrder, lower_bits};
-use crate::whole::{of_len, store_whole};
 use bitvec_words::WordOrder;
-use bitvec_words::base::{Window, first_part};
+use bitvec_words::base::Window;
 use bitvec_words::cells::Cells;
 use bitvec_words::store::BitStore;
 
@@ -36,15 +35,15 @@ pub(crate) fn store<E: SegmentOrder, O: WordOrder, C: Cells>(
         return;
     }
     if from == 0 && window.len == 2 * bits {
-        store_whole::<E, O, C>(cells, of_len(window, 2 * bits), number);
+        store_in::<E, O, C>(cells, window, 2, number);
         return;
     }
     if from == 0 && window.len == 4 * bits {
-        store_whole::<E, O, C>(cells, of_len(window, 4 * bits), number);
+        store_in::<E, O, C>(cells, window, 4, number);
         return;
     }
     if from == 0 && window.len == 8 * bits {
-        store_whole::<E, O, C>(cells, of_len(window, 8 * bits), number);
+        store_in::<E, O, C>(cells, window, 8, number);
         return;
     }
     store_parts::<E, O, C>(cells, window, number);
@@ -62,7 +61,8 @@ fn store_parts<E: SegmentOrder, O: WordOrder, C: Cells>(cells: &mut C, window: W
     let head = bits - window.start % bits;
     let rest = window.after(head);
     if rest.len > 2 * bits {
-        store_many::<E, O, C>(cells, window, number);
+        let end = window.start % bits + window.len;
+        store_in::<E, O, C>(cells, window, (end - 1) / bits + 1, number);
         return;
     }
     let next = window.start / bits + 1;
@@ -88,29 +88,42 @@ fn store_few<E: SegmentOrder, O: WordOrder, C: Cells>(
 {
     let bits = C::Elem::BITS as usize;
     if window.len <= bits {
-        store_part_number::<O, C>(cells, edge_part(bits, window, element), number);
+        store_part_number::<O, C>(cells, part_at(bits, window, element, 0), number);
         return;
     }
     let rest = window.after(bits);
     let first = number >> lower_bits::<E>(0, rest.len);
     let second = number >> lower_bits::<E>(bits, 0);
-    store_part_number::<O, C>(cells, whole_part(bits, window, element), first);
-    store_part_number::<O, C>(cells, edge_part(bits, rest, element + 1), second);
+    store_part_number::<O, C>(cells, part_at(bits, window, element, 0), first);
+    store_part_number::<O, C>(cells, part_at(bits, rest, element + 1, 0), second);
 }
 
-/// `store` of any window, a part of one element at a time.
-fn store_many<E: SegmentOrder, O: WordOrder, C: Cells>(cells: &mut C, window: Window, number: u128)
-    requires { HasNumber C.Elem.BITS (C.numbers cells.old) window }
+/// `store` of a window that touches `count` elements, a part of one at a time. Where the compiler knows
+/// that these are few whole elements, the machine code has no loop, no mask and no test.
+#[inline(always)]
+fn store_in<E: SegmentOrder, O: WordOrder, C: Cells>(
+    cells: &mut C,
+    window: Window,
+    count: usize,
+    number: u128,
+)
+    requires number { HasNumber C.Elem.BITS (C.numbers cells.old) window }
+    requires count { count ≡ touched_count C.Elem.BITS window.start window.len }
     ensures writes { StoresIn E.BIG O.HIGH C.Elem.BITS O.at (C.numbers cells.old) (C.numbers cells.new) window number }
     ensures cost { CostsAtMost C.CellsRead cells.old cells.new (fill_loads window.len) (touched_count C.Elem.BITS window.start window.len) }
 {
     let bits = C::Elem::BITS as usize;
+    let (mut element, mut from) = (window.start / bits, window.start % bits);
     let mut rest = window;
-    while rest.len > 0 {
-        let part = first_part(bits, rest);
+    let mut left = count;
+    while left > 0 {
+        let part = part_at(bits, rest, element, from);
         let len = part.len();
         let below = lower_bits::<E>(window.len - rest.len, rest.len - len);
         store_part_number::<O, C>(cells, part, number >> below);
         rest = rest.after(len);
+        element += 1;
+        from = 0;
+        left -= 1;
     }
 }

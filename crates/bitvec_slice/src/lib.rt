@@ -68,9 +68,9 @@ pub mod walk {
 pub mod elements {
     pub use bitvec_domain::{bit_in, fill_with_in, for_each_in, replace_in, set_in, swap_in};
     pub use bitvec_elements::{
-        all_in, any_in, combine_in, compare_in, contains_in, copy_from_block_in, copy_from_in,
-        count_in, ends_with_in, eq_in, fill_in, find_first_in, find_last_in, invert_in,
-        starts_with_in, swap_with_in,
+        all_in, any_in, combine_in, compare_in, copy_from_block_in, copy_from_in, count_in,
+        ends_with_in, eq_in, fill_in, find_first_in, find_last_in, invert_in, starts_with_in,
+        swap_with_in,
     };
 }
 

@@ -1,7 +1,8 @@
 //! The elements that a memory is made of.
-ghost use Rattle.std.specs.Prelude.{◌≡◌, ℕ, ◌+◌, ◌-◌, ◌*◌, ◌/◌, ◌%◌, ◌^◌, ◌<◌, bit_and, bit_or, bit_xor, count_ones};
+ghost use Rattle.std.specs.Prelude.{◌≡◌, ℕ, ◌+◌, ◌-◌, ◌*◌, ◌/◌, ◌%◌, ◌^◌, ◌<◌, ◌≤◌, length, map, take, drop, bit_and, bit_or, bit_xor, count_ones};
 ghost use Rattle.std.specs.Int.Count.{count_leading_zeros, count_trailing_zeros};
 ghost use Rattle.std.specs.Mem.{FitsInMemory};
+ghost use Rattle.std.specs.Simd.Lanes.{digits_l};
 ghost use Rattle.bitvec_store.specs.Width.{IsWidth};
 
 /// An unsigned element of a memory, as `u8` or `usize`: `bitvec`'s `BitStore`.
@@ -83,6 +84,34 @@ pub trait BitStore: Copy + Drop {
     /// How many bits below the lowest 1 are 0; the width, if no bit is 1.
     fn trailing_zeros(self) -> u32
         ensures { result ≡ count_trailing_zeros BITS (value self) };
+
+    /// The number of a slice's first elements, as many as 64 bits hold: the first one is its least significant digit.
+    /// It is 0 if they are wider. Condition: the slice has as many.
+    fn load_word(elements: &[Self]) -> u64
+        requires { 64 / BITS ≤ length elements.now }
+        ensures digits { map value (take (64 / BITS) elements.now) ≡ digits_l (2 ^ BITS) (64 / BITS) result }
+        ensures wide { 64 < BITS → result ≡ 0 }
+    {
+        let mut word = 0;
+        for step in 0..64 / Self::BITS as usize {
+            let element = elements[step].to_u128() as u64;
+            word += element << (step as u32 * Self::BITS);
+        }
+        word
+    }
+
+    /// Makes the digits of a number a slice's first elements, as many as 64 bits hold: the least significant one the
+    /// first. The others stay. Condition: the slice has as many.
+    fn store_word(elements: &mut [Self], word: u64)
+        requires { 64 / BITS ≤ length elements.old }
+        ensures digits { map value (take (64 / BITS) elements.new) ≡ digits_l (2 ^ BITS) (64 / BITS) word }
+        ensures others { drop (64 / BITS) elements.new ≡ drop (64 / BITS) elements.old }
+    {
+        for step in 0..64 / Self::BITS as usize {
+            let shifted = word >> (step as u32 * Self::BITS);
+            elements[step] = Self::from_u128((shifted as u128) & Self::ALL.to_u128());
+        }
+    }
 
     ghost width_law: { IsWidth BITS };
 

@@ -114,15 +114,24 @@ fn parts_are_written_in_a_loop(rt: HostRuntime) {
     assert!(rt; elements == [0xF0, 0xFF, 0x0F]);
 }
 
+/// Whether walks over the elements of a domain give nothing behind their end.
+fn values_stay_ended(view: BitSlice<'_, u8, Lsb0>) -> bool {
+    let (mut values, mut other_values) = (view.domain().values(), view.domain().values());
+    let is_over = stays_ended_at_both(&mut values, &mut other_values);
+    let mut values = view.domain().values();
+    is_over && values.nth(usize::MAX).is_none() && values.next_back().is_none()
+}
+
+/// Whether walks over the parts of a domain of bits give nothing behind their end.
+fn parts_stay_ended(view: BitSlice<'_, u8, Lsb0>) -> bool {
+    let (mut parts, mut other_parts) = (view.bit_domain().parts(), view.bit_domain().parts());
+    let is_over = stays_ended_at_both(&mut parts, &mut other_parts);
+    let mut parts = view.bit_domain().parts();
+    is_over && parts.nth(usize::MAX).is_none() && parts.next_back().is_none()
+}
+
 #[test]
 fn nothing_comes_behind_the_end_of_a_domain(rt: HostRuntime) {
     let view = BitSlice::<u8, Lsb0>::from_slice(&[0xFF, 0x12, 0xFF]).into_part(4..20);
-    let (mut values, mut other_values) = (view.domain().values(), view.domain().values());
-    assert!(rt; stays_ended_at_both(&mut values, &mut other_values));
-    let (mut parts, mut other_parts) = (view.bit_domain().parts(), view.bit_domain().parts());
-    assert!(rt; stays_ended_at_both(&mut parts, &mut other_parts));
-    let mut values = view.domain().values();
-    let mut parts = view.bit_domain().parts();
-    assert!(rt; values.nth(usize::MAX).is_none() && values.next_back().is_none());
-    assert!(rt; parts.nth(usize::MAX).is_none() && parts.next_back().is_none());
+    assert!(rt; [values_stay_ended(view), parts_stay_ended(view)] == [true; 2]);
 }

@@ -60,18 +60,15 @@ fn the_last_of_no_bit_is_none(rt: HostRuntime) {
     assert!(rt; places_of_two(0x00) == [None, Some(0), None, Some(15)]);
 }
 
-/// Where the first one is of the bits from one index up to another, and of those and the next.
-fn first_of<T: BitStore, O: SliceOrder>(
-    elements: &[T],
-    from: usize,
-    to: usize,
-) -> Option<[Option<usize>; 2]>
+/// Where the first 1 of the bits `from` up to `to` and one more is, if none of them but the last is one.
+fn one_behind<T: BitStore, O: SliceOrder>(elements: &[T], from: usize, to: usize) -> Option<usize>
     requires { T.BITS * length elements.now ≤ max_bits }
 {
     let view = BitSlice::<T, O>::from_slice(elements);
-    let shorter = view.get(from..to)?;
-    let longer = view.get(from..to.wrapping_add(1))?;
-    Some([shorter.first_one(), longer.first_one()])
+    if view.get(from..to)?.first_one().is_some() {
+        return None;
+    }
+    view.get(from..to.wrapping_add(1))?.first_one()
 }
 
 #[test]
@@ -80,14 +77,20 @@ fn a_one_behind_the_last_bit_is_not_found(rt: HostRuntime) {
     let (mut halves, mut pairs) = ([0u16; 18], [0u128; 4]);
     (bytes[0], halves[0], words[0], pairs[0]) = (16, 16, 16, 16);
     (bytes[33], halves[17], words[5], pairs[3]) = (8, 8, 8, 8);
-    assert!(rt; first_of::<_, Lsb0>(&bytes, 5, 267) == Some([None, Some(262)]));
-    assert!(rt; first_of::<_, Msb0>(&bytes, 4, 268) == Some([None, Some(264)]));
-    assert!(rt; first_of::<_, Lsb0>(&halves, 5, 275) == Some([None, Some(270)]));
-    assert!(rt; first_of::<_, Msb0>(&halves, 12, 284) == Some([None, Some(272)]));
-    assert!(rt; first_of::<_, Lsb0>(&words, 5, 323) == Some([None, Some(318)]));
-    assert!(rt; first_of::<_, Msb0>(&words, 60, 380) == Some([None, Some(320)]));
-    assert!(rt; first_of::<_, Lsb0>(&pairs, 5, 387) == Some([None, Some(382)]));
-    assert!(rt; first_of::<_, Msb0>(&pairs, 124, 508) == Some([None, Some(384)]));
+    let found = [
+        one_behind::<_, Lsb0>(&bytes, 5, 267),
+        one_behind::<_, Msb0>(&bytes, 4, 268),
+        one_behind::<_, Lsb0>(&halves, 5, 275),
+        one_behind::<_, Msb0>(&halves, 12, 284),
+        one_behind::<_, Lsb0>(&words, 5, 323),
+        one_behind::<_, Msb0>(&words, 60, 380),
+        one_behind::<_, Lsb0>(&pairs, 5, 387),
+        one_behind::<_, Msb0>(&pairs, 124, 508),
+    ];
+    let wanted = [262, 264, 270, 272, 318, 320, 382, 384];
+    for index in 0..8 {
+        assert!(rt; found[index] == Some(wanted[index]));
+    }
 }
 
 /// Whether 0, 1, 0, 0, 1, 0, 1, 1, 0, 1 contains a part of 0, 1, 0, 1, 1 and eleven zeros, begins with it, and ends

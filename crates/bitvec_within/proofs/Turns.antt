@@ -1,9 +1,10 @@
 -- Bits combined by blocks, in the order in which no bit is written over before it is read.
-use Rattle.std.specs.Prelude.{◌≡◌, ℕ, ◌+◌, ◌-◌, ◌*◌, ◌/◌, ◌<◌, ◌≤◌, Bool, List, length, min, refl}
+use Rattle.std.specs.Prelude.{◌≡◌, ℕ, ◌+◌, ◌-◌, ◌*◌, ◌<◌, ◌≤◌, Bool, List, length, min, refl}
+use Rattle.std.specs.Int.{div_ceil}
 use Rattle.std.proofs.Common.{ap, arith, inl, sym, ◌∙◌, ⊎_elim}
-use Rattle.std.proofs.Math.Nat.{div-add-mod, mul-le-mul_left}
+use Rattle.std.proofs.Math.Nat.{mul-le-mul_left}
+use Rattle.std.proofs.lemmas.Grind.{div_ceil_times}
 use Rattle.std.proofs.lemmas.Bool.{cases_lt}
-use Rattle.std.proofs.lemmas.Nat.{mod_below}
 use Rattle.bitvec_elements.specs.base.Memory.{HasWindow, Writes, list_in}
 use Rattle.bitvec_elements.specs.base.WritesLaws.{Writes-start, length-list}
 use Rattle.bitvec_elements.specs.base.declared.window.Window.{Window}
@@ -73,18 +74,10 @@ module _ (b : ℕ) (at : ℕ → ℕ → ℕ) (g : Bool → Bool → Bool) (old 
       (cases_lt from dest)
 
 -- blocks of u bits, the last of which has some: together they have all, and each begins in them
-pub blocks-most : (u len count : ℕ) → 0 < u → 0 < len → count ≡ (len - 1) / u + 1 → len ≤ count * u
-blocks-most u len count some more is =
-    let cut = div-add-mod (len - 1) u in
-    let below = mod_below (len - 1) u some in
-    let all : count * u ≡ u * ((len - 1) / u) + u = ap (λ (n : ℕ). n * u) is ∙ omega arith in
-    omega arith
-
-pub block-begins : (u len count index : ℕ) → count ≡ (len - 1) / u + 1 → index < count → index * u ≤ len
-block-begins u len count index is inside =
-    let cut = div-add-mod (len - 1) u in
-    let rows : u * index ≤ u * ((len - 1) / u) = mul-le-mul_left u (let most : index ≤ (len - 1) / u = omega arith in most) in
-    let product : index * u ≡ u * index = omega arith in
+pub block-begins : (u len count index : ℕ) → 0 < u → count ≡ div_ceil len u → index < count → index * u ≤ len
+block-begins u len count index some is inside =
+    let rows = mul-le-mul_left {m = index + 1} {n = div_ceil len u} u (omega (is, arith)) in
+    let below = (div_ceil_times len u some).1 in
     omega arith
 
 -- all but one of some elements have bits

@@ -1,3 +1,4 @@
+pub mod Candidates
 pub mod Combined
 pub mod CombinedLaws
 pub mod Swaps

@@ -330,7 +330,7 @@ fn combine_long<T: BitStore, O: SliceOrder>(
 }
 
 /// [`combine_overlapping`] by blocks of one element fewer than `HELD`, from the end at which no bit is written over before it
-/// is read. Conditions: `HELD` is from 2 to 8192, the memory has as many elements, and there are bits.
+/// is read. Conditions: `HELD` is from 2 to 8192, and the memory has as many elements.
 fn combine_blocks<T: BitStore, O: SliceOrder, const HELD: usize>(
     elements: &mut [T],
     window: Window,
@@ -341,7 +341,6 @@ fn combine_blocks<T: BitStore, O: SliceOrder, const HELD: usize>(
 )
     requires window { HasWindow T.BITS (map T.value elements.old) window }
     requires fits { FitsWithin from (from + len) dest window.len }
-    requires some { 0 < len }
     requires held { 1 < HELD }
     requires few { HELD ≤ 8192 }
     requires many { HELD ≤ length elements.old }
@@ -349,7 +348,7 @@ fn combine_blocks<T: BitStore, O: SliceOrder, const HELD: usize>(
         (combined_within (operator op) from (from + len) dest) }
 {
     let size = room_beside::<T>(HELD);
-    let count = (len - 1) / size + 1;
+    let count = len.div_ceil(size);
     for turn in 0..count {
         let index = in_turn(from, dest, turn, count);
         let done = index * size;

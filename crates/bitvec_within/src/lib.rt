@@ -1,10 +1,12 @@
-//! The bits within one window of a borrowed slice moved, exchanged and combined, without counts: what views and slices
-//! call.
+//! The bits within one window of a borrowed slice moved, exchanged, combined and looked for, without counts: what views
+//! and slices call.
 #![tactic(auto)]
 
+mod candidates;
 mod combining_within;
 mod copying_within;
 mod few;
+mod needles;
 mod reversing;
 mod rotating;
 mod shifting;
@@ -25,7 +27,7 @@ pub mod cells {
 /// Items of `bitvec_elements` that crates above use.
 pub mod elements {
     pub use bitvec_elements::{
-        all_in, any_in, combine_block_in, compare_block_in, contains_in, copy_from_long_block_in,
+        all_in, any_in, combine_block_in, compare_block_in, copy_from_long_block_in,
         count_blocks_in, eq_blocks_in, fill_in, find_first_in, find_last_in, invert_in,
         swap_with_block_in,
     };
@@ -43,6 +45,7 @@ pub mod store {
 
 pub use combining_within::combine_within_in;
 pub use copying_within::copy_within_in;
+pub use needles::contains_in;
 pub use reversing::reverse_in;
 pub use rotating::{rotate_left_in, rotate_right_in};
 pub use shifting::{shift_end_in, shift_start_in};

@@ -5,5 +5,6 @@ pub mod LaneLemmas
 pub mod OrderedLemmas
 pub mod PlaceLemmas
 pub mod ScanLemmas
+pub mod SliceWordLemmas
 pub mod ExchangeLemmas
 pub mod WordScanLemmas

@@ -41,6 +41,20 @@ element-same b at p v w same =
     ∙ get-element_bits b low w (at b k) d there
     ∙ sym (get-element_bits b at w k d index))
 
+-- a place of a memory is one of those numbered from the least significant bit on
+pub place-low : (b : ℕ) (at : ℕ → ℕ → ℕ) → Permutes b (at b) → 0 < b → (xs : List ℕ) (k : ℕ) → k < b * length xs → (d : Bool)
+    → slice_index_or (memory_bits b at xs) k d ≡ slice_index_or (memory_bits b low xs) (k / b * b + at b (k % b)) d
+place-low b at p some xs k inside d =
+    let place = div-add-mod' k b in
+    let index = mod_below k b some in
+    let there = p.below (k % b) index in
+    let fits = element_fits b (k / b) (length xs) (div_below k b (length xs) some (omega arith)) in
+    get-memory_bits b at xs k d inside
+    ∙ ap (place_bit b at xs) (sym place)
+    ∙ place_bit-element b at xs (k / b) (k % b) index
+    ∙ sym (place_bit-element b low xs (k / b) (at b (k % b)) there)
+    ∙ sym (get-memory_bits b low xs (k / b * b + at b (k % b)) d (omega arith))
+
 -- elements that lack a bit lack it under every order
 pub lacks-same : (b : ℕ) (at : ℕ → ℕ → ℕ) → Permutes b (at b) → 0 < b → (xs : List ℕ) (want : Bool) → None ≡ first_place want (memory_bits b low xs) → None ≡ first_place want (memory_bits b at xs)
 lacks-same b at p some xs want none =
@@ -50,21 +64,13 @@ lacks-same b at p some xs want none =
     let absent = first_place-absent want (memory_bits b low xs) (sym none) in
     let all : memory_bits b at xs ≡ replicate n (not want) =
     lacks_filled n (memory_bits b at xs) want long (λ k inside.
-    let place = div-add-mod' k b in
-    let index = mod_below k b some in
-    let there = p.below (k % b) index in
+    let there = p.below (k % b) (mod_below k b some) in
     let fits = element_fits b (k / b) (length xs) (div_below k b (length xs) some (omega arith)) in
-    let here : slice_index_or (memory_bits b at xs) k false ≡ slice_index_or (memory_bits b low xs) (k / b * b + at b (k % b)) false =
-    get-memory_bits b at xs k false (omega arith)
-    ∙ ap (place_bit b at xs) (sym place)
-    ∙ place_bit-element b at xs (k / b) (k % b) index
-    ∙ sym (place_bit-element b low xs (k / b) (at b (k % b)) there)
-    ∙ sym (get-memory_bits b low xs (k / b * b + at b (k % b)) false (omega arith)) in
-    subst (λ (x : Bool). x ≢ want) (sym here) (absent (k / b * b + at b (k % b)) (omega arith))) in
+    subst (λ (x : Bool). x ≢ want) (sym (place-low b at p some xs k (omega arith) false)) (absent (k / b * b + at b (k % b)) (omega arith))) in
     rw (all, first_place-other want n) refl
 
 -- elements of a memory
-list-elements_at : (b : ℕ) (at : ℕ → ℕ → ℕ) (xs : List ℕ) (first n : ℕ) → 0 < b → HasWindow b xs (elements_window b first n) → memory_bits b at (slice_range xs first (first + n)) ≡ list_in b at xs (elements_window b first n)
+pub list-elements_at : (b : ℕ) (at : ℕ → ℕ → ℕ) (xs : List ℕ) (first n : ℕ) → 0 < b → HasWindow b xs (elements_window b first n) → memory_bits b at (slice_range xs first (first + n)) ≡ list_in b at xs (elements_window b first n)
 unfolding window_of
 list-elements_at b at xs first n some has =
     memory-range b at xs first (first + n) some (omega arith) (elements-inside b xs first n some has)

@@ -20,6 +20,7 @@ pub mod Spans
 pub mod TouchedLaws
 pub mod WholeLaws
 pub mod WordLaws
+pub mod WrittenLaws
 pub mod walk
 pub use Rattle.bitvec_cells.specs.base as base
 pub use Rattle.bitvec_cells.specs as cells

@@ -85,30 +85,16 @@ fn count_words<C: CellsRead>(cells: &mut C, first: usize, count: usize) -> usize
     ensures reads { OnlyReads C.CellsRead cells.old cells.new (count * (64 / C.Elem.BITS)) }
 {
     let elements = WORD_BITS / C::Elem::BITS as usize;
-    let blocks = count / BLOCK_WORDS;
-    let passed = blocks * (BLOCK_WORDS * elements);
-    let ones = count_blocks::<C>(cells, first, blocks);
+    let block = BLOCK_WORDS * elements;
+    let mut ones = 0;
+    for step in 0..count / BLOCK_WORDS {
+        ones += count_some_words::<C>(cells, first + step * block, BLOCK_WORDS);
+    }
+    let passed = count / BLOCK_WORDS * block;
     ones + count_some_words::<C>(cells, first + passed, count % BLOCK_WORDS)
 }
 
-/// Counts the ones of `count` blocks, whose words the compiler unrolls.
-#[inline(always)]
-fn count_blocks<C: CellsRead>(cells: &mut C, first: usize, count: usize) -> usize
-    requires window { HasWindow C.Elem.BITS (C.numbers cells.old) (elements_window C.Elem.BITS first (count * (4 * (64 / C.Elem.BITS)))) }
-    requires narrow { C.Elem.BITS ≤ 64 }
-    ensures value { result
-        ≡ count_by (λ bit. bit) (list_in C.Elem.BITS (λ b i. i) (C.numbers cells.old) (elements_window C.Elem.BITS first (count * (4 * (64 / C.Elem.BITS))))) }
-    ensures reads { OnlyReads C.CellsRead cells.old cells.new (count * (4 * (64 / C.Elem.BITS))) }
-{
-    let elements = BLOCK_WORDS * (WORD_BITS / C::Elem::BITS as usize);
-    let mut ones = 0;
-    for step in 0..count {
-        ones += count_some_words::<C>(cells, first + step * elements, BLOCK_WORDS);
-    }
-    ones
-}
-
-/// Counts the ones of some words, one after the other.
+/// Counts the ones of some words, one after the other: those of a block the compiler unrolls.
 #[inline(always)]
 fn count_some_words<C: CellsRead>(cells: &mut C, first: usize, count: usize) -> usize
     requires window { HasWindow C.Elem.BITS (C.numbers cells.old) (elements_window C.Elem.BITS first (count * (64 / C.Elem.BITS))) }

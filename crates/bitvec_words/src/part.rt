@@ -25,10 +25,8 @@ pub fn store_part<O: BitOrder, C: Cells>(cells: &mut C, part: Part, element: C::
         return;
     }
     let old = cells.load(part.element);
-    cells.store(
-        part.element,
-        merged::<O, C::Elem>(old, element, part.from, part.to),
-    );
+    let new = merged::<O, C::Elem>(old, element, part.from, part.to);
+    cells.store(part.element, new);
 }
 
 /// An element that begins with the bits of a window of at most an element's width, and the last element that the

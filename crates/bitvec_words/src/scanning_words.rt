@@ -234,8 +234,12 @@ fn first_in_ordered<O: WordOrder, T: BitStore>(
         → result ≡ first_place want ((memory_bits T.BITS O.at ws ++ memory_bits T.BITS O.at xs) ++ (memory_bits T.BITS O.at ys ++ memory_bits T.BITS O.at zs)) }
 {
     let (one, two) = (ordered::<O, T>(one), ordered::<O, T>(two));
+    if let Some(found) = first_of_two::<O, u64>(one, two, want) {
+        return Some(found);
+    }
     let (three, four) = (ordered::<O, T>(three), ordered::<O, T>(four));
-    first_in_words::<O>(one, two, three, four, want)
+    let found = first_of_two::<O, u64>(three, four, want)?;
+    Some(2 * WORD_BITS + found)
 }
 
 /// The first of two elements, which are passed by one comparison if they lack the bit.
@@ -248,25 +252,6 @@ fn first_in_pair<O: BitOrder, T: BitStore>(one: T, two: T, want: bool) -> Option
         return None;
     }
     first_of_two::<O, T>(one, two, want)
-}
-
-/// The first of four words.
-#[inline(always)]
-fn first_in_words<O: BitOrder>(
-    one: u64,
-    two: u64,
-    three: u64,
-    four: u64,
-    want: bool,
-) -> Option<usize>
-    ensures { result ≡ first_place want
-        ((element_bits 64 O.at one ++ element_bits 64 O.at two) ++ (element_bits 64 O.at three ++ element_bits 64 O.at four)) }
-{
-    if let Some(found) = first_of_two::<O, u64>(one, two, want) {
-        return Some(found);
-    }
-    let found = first_of_two::<O, u64>(three, four, want)?;
-    Some(2 * WORD_BITS + found)
 }
 
 /// The first of two elements.

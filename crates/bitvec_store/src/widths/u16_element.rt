@@ -3,6 +3,7 @@ ghost use Rattle.std.specs.Prelude.{◌-◌, ◌^◌, refl};
 ghost use Rattle.std.proofs.Common.{rules};
 
 use crate::BitStore;
+use std::simd::prelude::*;
 
 impl BitStore for u16 {
     ghost BITS = { 16 };
@@ -71,5 +72,16 @@ impl BitStore for u16 {
 
     fn trailing_zeros(self) -> u32 {
         self.trailing_zeros()
+    }
+
+    fn load_word(elements: &[Self]) -> u64 {
+        let few = u16x4::from_slice(elements).to_le_bytes();
+        let [word] = u64x1::from_le_bytes(few).to_array();
+        word
+    }
+
+    fn store_word(elements: &mut [Self], word: u64) {
+        let few = u64x1::from_array([word]).to_le_bytes();
+        u16x4::from_le_bytes(few).copy_to_slice(elements);
     }
 }

@@ -72,4 +72,12 @@ impl BitStore for usize {
     fn trailing_zeros(self) -> u32 {
         self.trailing_zeros()
     }
+
+    fn load_word(elements: &[Self]) -> u64 {
+        elements[0] as u64
+    }
+
+    fn store_word(elements: &mut [Self], word: u64) {
+        elements[0] = word as usize;
+    }
 }

@@ -12,7 +12,7 @@ unfolding Runs
 returns-in-Up g c =
     let other = list_in g.U.BitStore.BITS g.P.BitOrder.at (map g.U.BitStore.value c.args.right.now) c.args.right_window in
     record {
-      writes = Edits-agrees g.T.BitStore.BITS g.O.BitOrder.at (λ b i. i) _ _ c.args.left_window (λ list. combined (operator c.args.op) list other) (width_some _ g.met.T.BitStore.width_law) (rw c.in-Up.is at c.direction_of.ensures) c.combine_words.ensures.writes;
+      writes = Edits-agrees g.T.BitStore.BITS g.O.BitOrder.at (λ b i. i) _ _ c.args.left_window (λ list. combined (operator c.args.op) list other) (width_some _ g.met.T.BitStore.width_law) (rw c.in-Up.is at c.direction_of.ensures) c.combine_run.ensures.writes;
     }
 
 pub returns-in-Down : goal.returns-in-Down
@@ -20,5 +20,5 @@ unfolding Runs
 returns-in-Down g c =
     let other = list_in g.U.BitStore.BITS g.P.BitOrder.at (map g.U.BitStore.value c.args.right.now) c.args.right_window in
     record {
-      writes = Edits-agrees g.T.BitStore.BITS g.O.BitOrder.at (λ b i. b - 1 - i) _ _ c.args.left_window (λ list. combined (operator c.args.op) list other) (width_some _ g.met.T.BitStore.width_law) (rw c.in-Down.is at c.direction_of.ensures) c.combine_words-in-Down.ensures.writes;
+      writes = Edits-agrees g.T.BitStore.BITS g.O.BitOrder.at (λ b i. b - 1 - i) _ _ c.args.left_window (λ list. combined (operator c.args.op) list other) (width_some _ g.met.T.BitStore.width_law) (rw c.in-Down.is at c.direction_of.ensures) c.combine_run-in-Down.ensures.writes;
     }

@@ -10,11 +10,11 @@ eq_blocks_in-requires-clause-window g c = range-inside _ _ c.args.left_window _ 
 pub eq_blocks_in-requires-clause-right_window : goal.eq_blocks_in-requires-clause-right_window
 eq_blocks_in-requires-clause-right_window g c = range-inside _ _ c.args.right_window _ _ _ c.requires.right_window c.range-other.ensures (omega arith) (omega arith)
 
-pub compare_in-requires-clause-window : goal.compare_in-requires-clause-window
-compare_in-requires-clause-window g c = rw c.after-rest.ensures (HasWindow-range _ _ c.args.left_window c.loop-from.from c.args.left_window.len c.requires.window (omega arith) (omega arith))
+pub common_words-common-requires-clause-window : goal.common_words-common-requires-clause-window
+common_words-common-requires-clause-window g c = rw c.after-rest.ensures (HasWindow-range _ _ c.args.left_window c.loop-from.from c.args.left_window.len c.requires.window (omega arith) (omega arith))
 
-pub compare_in-requires-clause-right_window : goal.compare_in-requires-clause-right_window
-compare_in-requires-clause-right_window g c = rw c.after-other.ensures (HasWindow-range _ _ c.args.right_window c.loop-from.from c.args.right_window.len c.requires.right_window (omega arith) (omega arith))
+pub common_words-common-requires-clause-right_window : goal.common_words-common-requires-clause-right_window
+common_words-common-requires-clause-right_window g c = rw c.after-other.ensures (HasWindow-range _ _ c.args.right_window c.loop-from.from c.args.right_window.len c.requires.right_window (omega arith) (omega arith))
 
 pub returns-then-not-eq_blocks_in : goal.returns-then-not-eq_blocks_in
 returns-then-not-eq_blocks_in g c =
@@ -22,7 +22,7 @@ returns-then-not-eq_blocks_in g c =
     let inv = c.loop-from.invariant in
     let left = length-list _ at _ _ c.requires.window in
     let right = length-list _ at _ _ c.requires.right_window in
-    rw (c.compare_in.ensures, c.after-rest.ensures, c.after-other.ensures, list-after _ at _ _ c.loop-from.from c.requires.window (omega arith), list-after _ at _ _ c.loop-from.from c.requires.right_window (omega arith))
+    rw (c.compare_at.ensures, c.after-rest.ensures, c.after-other.ensures, list-after _ at _ _ c.loop-from.from c.requires.window (omega arith), list-after _ at _ _ c.loop-from.from c.requires.right_window (omega arith))
     (order-behind _ _ c.loop-from.from (omega arith) (omega arith) inv.same)
 
 pub loop-from-preserved : goal.loop-from-preserved

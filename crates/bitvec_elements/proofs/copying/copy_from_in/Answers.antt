@@ -7,11 +7,11 @@ use Rattle.bitvec_elements.proofs.copying.copy_from_in.Goals as goal
 pub returns-in-Up : goal.returns-in-Up
 unfolding Runs
 returns-in-Up g c = record {
-  writes = Writes-agrees g.T.BitStore.BITS g.O.BitOrder.at (λ b i. i) _ _ _ _ (width_some _ g.met.T.BitStore.width_law) (rw c.in-Up.is at c.direction_of.ensures) c.copy_words.ensures.writes;
+  writes = Writes-agrees g.T.BitStore.BITS g.O.BitOrder.at (λ b i. i) _ _ _ _ (width_some _ g.met.T.BitStore.width_law) (rw c.in-Up.is at c.direction_of.ensures) c.recut.ensures.writes;
 }
 
 pub returns-in-Down : goal.returns-in-Down
 unfolding Runs
 returns-in-Down g c = record {
-  writes = Writes-agrees g.T.BitStore.BITS g.O.BitOrder.at (λ b i. b - 1 - i) _ _ _ _ (width_some _ g.met.T.BitStore.width_law) (rw c.in-Down.is at c.direction_of.ensures) c.copy_words-in-Down.ensures.writes;
+  writes = Writes-agrees g.T.BitStore.BITS g.O.BitOrder.at (λ b i. b - 1 - i) _ _ _ _ (width_some _ g.met.T.BitStore.width_law) (rw c.in-Down.is at c.direction_of.ensures) c.recut-in-Down.ensures.writes;
 }

@@ -1,4 +1,4 @@
-use Rattle.std.proofs.Common.{arith, map, refl, rules, sym, ◌∙◌}
+use Rattle.std.proofs.Common.{◌+◌, ◌≤◌, arith, map, refl, rules, sym, ◌∙◌}
 use Rattle.bitvec_elements.specs.base.Memory.{list_in}
 use Rattle.bitvec_elements.specs.base.WritesLaws.{length-list}
 use Rattle.bitvec_elements.proofs.StoreLemmas.{copied-stretch, range-inside, range-kept, stretch-all, stretch-none, stretch-stored}
@@ -11,22 +11,21 @@ loop-from-init g c = record {
   borrow = search rules;
 }
 
-pub word_end-to-requires-clause-fits : goal.word_end-to-requires-clause-fits
-word_end-to-requires-clause-fits g c = omega arith
-
 pub window_word-word-requires-clause-window : goal.window_word-word-requires-clause-window
 window_word-word-requires-clause-window g c = range-inside _ _ c.args.right_window _ _ _ c.requires.beside c.range.ensures (omega arith) (omega arith)
 
+pub window_word-word-requires-clause-bound : goal.window_word-word-requires-clause-bound
+window_word-word-requires-clause-bound g c = rw c.range.ensures (omega arith)
+
 pub store_bits-requires-clause-window : goal.store_bits-requires-clause-window
-store_bits-requires-clause-window g c = range-kept _ _ _ c.args.left_window _ _ _ c.requires.window c.loop-from.invariant.writes.elements c.range-in-loop-from.ensures (omega arith) c.word_end-to.ensures.bound
+store_bits-requires-clause-window g c = range-kept _ _ _ c.args.left_window _ _ _ c.requires.window c.loop-from.invariant.writes.elements c.range-in-loop-from.ensures (omega arith) (omega arith)
 
 pub loop-from-preserved : goal.loop-from-preserved
 loop-from-preserved g c =
     let inv = c.loop-from.invariant in
     let from = c.loop-from.from in
-    let to = c.word_end-to.result in
-    let further = c.word_end-to.ensures.further in
-    let bound = c.word_end-to.ensures.bound in
+    let to = from + c.min.result in
+    let bound : to ≤ c.args.left_window.len = omega arith in
     let lengths = c.requires.lengths in
     let right = length-list _ g.P.BitOrder.at _ _ c.requires.beside in
     let word = rw c.range.ensures at c.window_word-word.ensures in

@@ -1,4 +1,4 @@
-use Rattle.bitvec_elements.proofs.StandingLemmas.{bits-from}
+use Rattle.bitvec_elements.proofs.FromLemmas.{bits-from}
 use Rattle.bitvec_elements.proofs.window_words.word_from.Goals as goal
 
 pub returns : goal.returns

@@ -1,6 +1,6 @@
 use Rattle.std.proofs.Common.{◌≡◌, ◌<◌, ℕ, ◌-◌, arith, ap, sym, refl, ◌∙◌}
 use Rattle.bitvec_words.specs.FillingLaws.{fill_loads-some}
-use Rattle.bitvec_words.specs.TouchedLaws.{part_loads-most}
+use Rattle.bitvec_words.specs.TouchedLaws.{part_loads-most, touched-one}
 use Rattle.bitvec_words.specs.WholeLaws.{list-empty}
 use Rattle.bitvec_words.specs.base.Parts.{first_part_of}
 use Rattle.bitvec_words.specs.base.WritesLaws.{Writes-empty, Writes-is}
@@ -8,7 +8,8 @@ use Rattle.bitvec_words.specs.store.WidthLaws.{width_some}
 use Rattle.bitvec_words.specs.walk.WalkLaws.{first-len}
 use Rattle.bitvec_segments.specs.Segments.{stored}
 use Rattle.bitvec_segments.specs.StoreLaws.{stored-none}
-use Rattle.bitvec_segments.proofs.WalkLemmas.{stored-one, touched-first}
+use Rattle.bitvec_segments.proofs.JoinedWindow.{touched-elements}
+use Rattle.bitvec_segments.proofs.WalkLemmas.{stored-one}
 use Rattle.bitvec_segments.proofs.storing.store.Goals as goal
 
 pub returns-then-window-eq0-clause-writes : goal.returns-then-window-eq0-clause-writes
@@ -35,10 +36,32 @@ returns-then-window-head-clause-cost g c =
     let b = g.C.Elem.BitStore.BITS in
     let some = width_some _ g.met.C.Elem.BitStore.width_law in
     let more : 0 < window.len = let filled = c.if-window-eq0.false in omega arith in
-    let each = touched-first b window _ some more refl in
+    let short = rw c.BITS-bits.ensures at c.if-window-head.true in
+    let each = touched-one b window.start window.len some more (omega arith) in
     let filled = fill_loads-some window.len (λ none. omega arith) in
     let edge = part_loads-most b c.only_part.result in
     let cost = c.store_part_number.ensures.cost in
     let loads = cost.loads in
     let stores = cost.stores in
     record { borrow = cost.borrow; loads = omega arith; stores = omega arith }
+
+pub store_in-requires-clause-count : goal.store_in-requires-clause-count
+store_in-requires-clause-count g c =
+    let some = width_some _ g.met.C.Elem.BitStore.width_law in
+    let edge = rw c.BITS-bits.ensures at c.if-from-eq0.true in
+    let len = rw c.BITS-bits.ensures at c.if-window-bits.true in
+    sym (touched-elements g.C.Elem.BitStore.BITS c.args.window.start c.args.window.len 2 (omega arith) (omega arith) (omega arith) (omega arith))
+
+pub store_in-requires-then-window-bits-2-clause-count : goal.store_in-requires-then-window-bits-2-clause-count
+store_in-requires-then-window-bits-2-clause-count g c =
+    let some = width_some _ g.met.C.Elem.BitStore.width_law in
+    let edge = rw c.BITS-bits.ensures at c.if-from-eq0-2.true in
+    let len = rw c.BITS-bits.ensures at c.if-window-bits-2.true in
+    sym (touched-elements g.C.Elem.BitStore.BITS c.args.window.start c.args.window.len 4 (omega arith) (omega arith) (omega arith) (omega arith))
+
+pub store_in-requires-then-window-bits-3-clause-count : goal.store_in-requires-then-window-bits-3-clause-count
+store_in-requires-then-window-bits-3-clause-count g c =
+    let some = width_some _ g.met.C.Elem.BitStore.width_law in
+    let edge = rw c.BITS-bits.ensures at c.if-from-eq0-3.true in
+    let len = rw c.BITS-bits.ensures at c.if-window-bits-3.true in
+    sym (touched-elements g.C.Elem.BitStore.BITS c.args.window.start c.args.window.len 8 (omega arith) (omega arith) (omega arith) (omega arith))

@@ -1,12 +1,12 @@
 use Rattle.std.proofs.Common.{◌≡◌, ℕ, ◌+◌, ◌-◌, arith, ap, sym, ◌∙◌, min}
-use Rattle.bitvec_words.specs.TouchedLaws.{part_loads-most}
+use Rattle.bitvec_words.specs.TouchedLaws.{part_loads-most, touched-parts}
 use Rattle.bitvec_words.specs.base.declared.part.Part.{Part}
 use Rattle.bitvec_words.specs.base.Memory.{HasWindow}
 use Rattle.bitvec_words.specs.base.Parts.{first_part_of}
 use Rattle.bitvec_words.specs.base.Window.{window_after}
 use Rattle.bitvec_words.specs.base.WritesLaws.{HasWindow-kept}
 use Rattle.bitvec_words.specs.store.WidthLaws.{width_some}
-use Rattle.bitvec_segments.proofs.WalkLemmas.{edge-len, stored-joined, stored-one, touched-first, whole-none}
+use Rattle.bitvec_segments.proofs.WalkLemmas.{edge-len, edge-place, stored-joined, stored-one, whole-none}
 use Rattle.bitvec_segments.proofs.storing.store_few.Goals as goal
 
 pub returns-then-window-bits-clause-writes : goal.returns-then-window-bits-clause-writes
@@ -15,7 +15,7 @@ returns-then-window-bits-clause-writes g c =
     let b = g.C.Elem.BitStore.BITS in
     let some = width_some _ g.met.C.Elem.BitStore.width_law in
     let short = rw c.BITS-bits.ensures at c.if-window-bits.true in
-    let part : c.edge_part.result ≡ first_part_of b window = c.edge_part.ensures ∙ ap (λ (n : ℕ). first_part_of n window) c.BITS-bits.ensures in
+    let part : c.part_at.result ≡ first_part_of b window = c.part_at.ensures ∙ ap (λ (n : ℕ). first_part_of n window) c.BITS-bits.ensures in
     let step = edge-len b c.args.element window some c.requires.edge in
     stored-one _ _ _ _ _ window (min window.len b) _ some c.requires.some step c.requires.number.window _ (omega arith) (rw part at c.store_part_number.ensures.writes)
 
@@ -24,8 +24,9 @@ returns-then-window-bits-clause-cost g c =
     let window = c.args.window in
     let b = g.C.Elem.BitStore.BITS in
     let some = width_some _ g.met.C.Elem.BitStore.width_law in
-    let each = touched-first b window (min window.len b) some c.requires.some (edge-len b c.args.element window some c.requires.edge) in
-    let edge = part_loads-most b c.edge_part.result in
+    let step = edge-len b c.args.element window some c.requires.edge in
+    let each = touched-parts b window.start (min window.len b) window.len some c.requires.some (omega arith) in
+    let edge = part_loads-most b c.part_at.result in
     let cost = c.store_part_number.ensures.cost in
     let loads = cost.loads in
     let stores = cost.stores in
@@ -43,8 +44,8 @@ returns-clause-writes g c =
     let after : c.after-rest.result ≡ rest = c.after-rest.ensures ∙ ap (λ (n : ℕ). window_after n window) c.BITS-bits.ensures in
     let whole : b ≡ min window.len b = omega arith in
     let step = whole ∙ edge-len b c.args.element window some edge in
-    let part : c.whole_part.result ≡ first_part_of b window = c.whole_part.ensures ∙ ap (λ (n : ℕ). first_part_of n window) c.BITS-bits.ensures in
-    let next : c.edge_part-2.result ≡ first_part_of b rest = rw after at c.edge_part-2.ensures ∙ ap (λ (n : ℕ). first_part_of n rest) c.BITS-bits.ensures in
+    let part : c.part_at-2.result ≡ first_part_of b window = c.part_at-2.ensures ∙ ap (λ (n : ℕ). first_part_of n window) c.BITS-bits.ensures in
+    let next : c.part_at-3.result ≡ first_part_of b rest = rw after at c.part_at-3.ensures ∙ ap (λ (n : ℕ). first_part_of n rest) c.BITS-bits.ensures in
     let start = c.requires.number.window.within.start in
     let end = c.requires.number.window.within.len in
     let has : HasWindow b _ rest = record { fits = c.requires.number.window.fits; within = record { start = omega arith; len = omega arith } } in
@@ -64,12 +65,12 @@ returns-clause-cost g c =
     let rest = window_after b window in
     let whole : b ≡ min window.len b = omega arith in
     let step = whole ∙ edge-len b c.args.element window some edge in
-    let part : c.whole_part.result ≡ first_part_of b window = c.whole_part.ensures ∙ ap (λ (n : ℕ). first_part_of n window) c.BITS-bits.ensures in
+    let part : c.part_at-2.result ≡ first_part_of b window = c.part_at-2.ensures ∙ ap (λ (n : ℕ). first_part_of n window) c.BITS-bits.ensures in
     let left = edge-len b (c.args.element + 1) rest some (omega arith) in
-    let each = touched-first b window b some c.requires.some step in
-    let last = touched-first b rest (min rest.len b) some (omega arith) left in
-    let none = whole-none b c.whole_part.result (ap (λ (p : Part). p.to - p.from) part ∙ sym step) in
-    let most = part_loads-most b c.edge_part-2.result in
+    let each = touched-parts b window.start b window.len some c.requires.some (omega arith) in
+    let last = touched-parts b rest.start (min rest.len b) rest.len some (omega arith) (omega arith) in
+    let none = whole-none b c.part_at-2.result (ap (λ (p : Part). p.to - p.from) part ∙ sym step) in
+    let most = part_loads-most b c.part_at-3.result in
     let first = c.store_part_number-2.ensures.cost in
     let second = c.store_part_number-3.ensures.cost in
     let first_loads = first.loads in
@@ -77,3 +78,7 @@ returns-clause-cost g c =
     let first_stores = first.stores in
     let second_stores = second.stores in
     record { borrow = second.borrow ∙ first.borrow; loads = omega arith; stores = omega arith }
+
+pub part_at-requires-clause-element : goal.part_at-requires-clause-element
+part_at-requires-clause-element g c =
+    rw c.BITS-bits.ensures (edge-place g.C.Elem.BitStore.BITS c.args.element c.args.window (width_some _ g.met.C.Elem.BitStore.width_law) c.requires.edge).0

@@ -1,11 +1,12 @@
-use Rattle.std.proofs.Common.{◌≡◌, ℕ, ◌-◌, ◌%◌, arith, ap, ◌∙◌}
+use Rattle.std.proofs.Common.{◌≡◌, ℕ, ◌-◌, ◌%◌, arith, ap, sym, ◌∙◌}
 use Rattle.bitvec_words.specs.FillingLaws.{fill_loads-some}
-use Rattle.bitvec_words.specs.TouchedLaws.{part_loads-most}
+use Rattle.bitvec_words.specs.TouchedLaws.{part_loads-most, touched-parts}
 use Rattle.bitvec_words.specs.base.Parts.{first_part_of}
 use Rattle.bitvec_words.specs.base.Window.{window_after}
 use Rattle.bitvec_words.specs.store.WidthLaws.{width_some}
 use Rattle.bitvec_words.specs.walk.WalkLaws.{first-len}
-use Rattle.bitvec_segments.proofs.WalkLemmas.{stored-joined, touched-first}
+use Rattle.bitvec_segments.proofs.JoinedWindow.{touched-last}
+use Rattle.bitvec_segments.proofs.WalkLemmas.{stored-joined}
 use Rattle.bitvec_segments.proofs.storing.store_parts.Goals as goal
 
 pub returns-clause-writes : goal.returns-clause-writes
@@ -34,7 +35,7 @@ returns-clause-cost g c =
     let len = first-len b window some more in
     let step : head ≡ (first_part_of b window).to - (first_part_of b window).from = omega arith in
     let after : c.after-rest.result ≡ window_after head window = c.after-rest.ensures ∙ ap (λ (n : ℕ). window_after (n - window.start % n) window) c.BITS-bits.ensures in
-    let each = touched-first b window head some more step in
+    let each = touched-parts b window.start head window.len some more (omega arith) in
     let filled = fill_loads-some window.len (λ none. omega arith) in
     let edge = part_loads-most b c.head_part.result in
     let first = c.store_part_number.ensures.cost in
@@ -44,3 +45,7 @@ returns-clause-cost g c =
     let first_stores = first.stores in
     let later_stores = later.stores in
     record { borrow = later.borrow ∙ first.borrow; loads = omega arith; stores = omega arith }
+
+pub store_in-requires-clause-count : goal.store_in-requires-clause-count
+store_in-requires-clause-count g c =
+    rw c.BITS-bits.ensures (sym (touched-last g.C.Elem.BitStore.BITS c.args.window.start c.args.window.len (width_some _ g.met.C.Elem.BitStore.width_law) c.requires.some))

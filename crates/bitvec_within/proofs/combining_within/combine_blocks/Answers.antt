@@ -1,11 +1,12 @@
-use Rattle.std.proofs.Common.{◌+◌, ◌-◌, ◌*◌, ◌/◌, ◌<◌, arith, refl}
+use Rattle.std.proofs.Common.{◌*◌, ◌<◌, arith, refl}
+use Rattle.std.proofs.lemmas.Grind.{div_ceil_times}
 use Rattle.bitvec_elements.specs.base.WritesLaws.{HasWindow-kept}
 use Rattle.bitvec_elements.specs.store.WidthLaws.{width_some}
-use Rattle.bitvec_within.proofs.Turns.{block-begins, block-some, blocks-most, done-all, done-next, done-none}
+use Rattle.bitvec_within.proofs.Turns.{block-begins, block-some, done-all, done-next, done-none}
 use Rattle.bitvec_within.proofs.combining_within.combine_blocks.Goals as goal
 
-pub nonzero_div-count : goal.nonzero_div-count
-nonzero_div-count g c =
+pub div_ceil-count-requires : goal.div_ceil-count-requires
+div_ceil-count-requires g c =
     let some = block-some _ _ (width_some _ g.met.T.BitStore.width_law) c.requires.held in
     omega (arith, c.room_beside-size.ensures)
 
@@ -15,19 +16,28 @@ loop-turn-init g c =
     let room = c.requires.fits.room in
     let size = c.room_beside-size.result in
     let some : 0 < size = rw c.room_beside-size.ensures (block-some _ _ (width_some _ g.met.T.BitStore.width_law) c.requires.held) in
-    done-none _ _ _ _ c.args.window c.args.from c.args.dest c.args.len c.requires.window source (omega arith) size _ (blocks-most size c.args.len _ some c.requires.some refl)
+    let most = (div_ceil_times c.args.len size some).0 in
+    done-none _ _ _ _ c.args.window c.args.from c.args.dest c.args.len c.requires.window source (omega arith) size _ (rw c.div_ceil-count.ensures most)
 
 pub overflow_mul-done : goal.overflow_mul-done
 overflow_mul-done g c =
-    let low = block-begins c.room_beside-size.result c.args.len _ c.in_turn-index.result refl c.in_turn-index.ensures.inside in
+    let size = c.room_beside-size.result in
+    let some : 0 < size = rw c.room_beside-size.ensures (block-some _ _ (width_some _ g.met.T.BitStore.width_law) c.requires.held) in
+    let low = block-begins size c.args.len _ c.in_turn-index.result some c.div_ceil-count.ensures c.in_turn-index.ensures.inside in
     omega arith
 
 pub overflow_sub-len : goal.overflow_sub-len
-overflow_sub-len g c = block-begins c.room_beside-size.result c.args.len _ c.in_turn-index.result refl c.in_turn-index.ensures.inside
+overflow_sub-len g c =
+    let size = c.room_beside-size.result in
+    let some : 0 < size = rw c.room_beside-size.ensures (block-some _ _ (width_some _ g.met.T.BitStore.width_law) c.requires.held) in
+    let low = block-begins size c.args.len _ c.in_turn-index.result some c.div_ceil-count.ensures c.in_turn-index.ensures.inside in
+    low
 
 pub overflow_add-from : goal.overflow_add-from
 overflow_add-from g c =
-    let low = block-begins c.room_beside-size.result c.args.len _ c.in_turn-index.result refl c.in_turn-index.ensures.inside in
+    let size = c.room_beside-size.result in
+    let some : 0 < size = rw c.room_beside-size.ensures (block-some _ _ (width_some _ g.met.T.BitStore.width_law) c.requires.held) in
+    let low = block-begins size c.args.len _ c.in_turn-index.result some c.div_ceil-count.ensures c.in_turn-index.ensures.inside in
     let fits = c.requires.window.fits in
     let source = c.requires.fits.source in
     let end = c.requires.window.within.len in
@@ -35,7 +45,9 @@ overflow_add-from g c =
 
 pub overflow_add-dest : goal.overflow_add-dest
 overflow_add-dest g c =
-    let low = block-begins c.room_beside-size.result c.args.len _ c.in_turn-index.result refl c.in_turn-index.ensures.inside in
+    let size = c.room_beside-size.result in
+    let some : 0 < size = rw c.room_beside-size.ensures (block-some _ _ (width_some _ g.met.T.BitStore.width_law) c.requires.held) in
+    let low = block-begins size c.args.len _ c.in_turn-index.result some c.div_ceil-count.ensures c.in_turn-index.ensures.inside in
     let fits = c.requires.window.fits in
     let room = c.requires.fits.room in
     let end = c.requires.window.within.len in
@@ -46,7 +58,9 @@ combine_stretch-requires-clause-window g c = HasWindow-kept _ _ _ _ c.requires.w
 
 pub combine_stretch-requires-clause-fits : goal.combine_stretch-requires-clause-fits
 combine_stretch-requires-clause-fits g c =
-    let low = block-begins c.room_beside-size.result c.args.len _ c.in_turn-index.result refl c.in_turn-index.ensures.inside in
+    let size = c.room_beside-size.result in
+    let some : 0 < size = rw c.room_beside-size.ensures (block-some _ _ (width_some _ g.met.T.BitStore.width_law) c.requires.held) in
+    let low = block-begins size c.args.len _ c.in_turn-index.result some c.div_ceil-count.ensures c.in_turn-index.ensures.inside in
     let source = c.requires.fits.source in
     let room = c.requires.fits.room in
     record { order = omega arith; source = omega arith; room = omega arith }
@@ -56,9 +70,10 @@ loop-turn-preserved g c =
     let source = c.requires.fits.source in
     let room = c.requires.fits.room in
     let size = c.room_beside-size.result in
+    let some : 0 < size = rw c.room_beside-size.ensures (block-some _ _ (width_some _ g.met.T.BitStore.width_law) c.requires.held) in
+    let low = block-begins size c.args.len _ c.in_turn-index.result some c.div_ceil-count.ensures c.in_turn-index.ensures.inside in
     let index = c.in_turn-index.result in
-    let low = block-begins size c.args.len ((c.args.len - 1) / size + 1) index refl c.in_turn-index.ensures.inside in
-    done-next _ _ _ _ c.args.window c.args.from c.args.dest c.args.len c.requires.window source (omega arith) _ _ size ((c.args.len - 1) / size + 1) c.loop-turn.turn index (index * size) c.min-block.result c.loop-turn-test.true c.in_turn-index.ensures.up c.in_turn-index.ensures.down low refl c.min-block.ensures
+    done-next _ _ _ _ c.args.window c.args.from c.args.dest c.args.len c.requires.window source (omega arith) _ _ size c.div_ceil-count.result c.loop-turn.turn index (index * size) c.min-block.result c.loop-turn-test.true c.in_turn-index.ensures.up c.in_turn-index.ensures.down low refl c.min-block.ensures
     c.loop-turn.invariant c.combine_stretch.ensures.writes
 
 pub returns : goal.returns
@@ -67,4 +82,5 @@ returns g c =
     let room = c.requires.fits.room in
     let size = c.room_beside-size.result in
     let some : 0 < size = rw c.room_beside-size.ensures (block-some _ _ (width_some _ g.met.T.BitStore.width_law) c.requires.held) in
-    record { writes = done-all _ _ _ _ c.args.window c.args.from c.args.dest c.args.len c.requires.window source (omega arith) _ size ((c.args.len - 1) / size + 1) c.loop-turn.turn (blocks-most size c.args.len _ some c.requires.some refl) (omega arith) c.loop-turn.invariant }
+    let most = (div_ceil_times c.args.len size some).0 in
+    record { writes = done-all _ _ _ _ c.args.window c.args.from c.args.dest c.args.len c.requires.window source (omega arith) _ size c.div_ceil-count.result c.loop-turn.turn (rw c.div_ceil-count.ensures most) (omega arith) c.loop-turn.invariant }

@@ -10,6 +10,6 @@ returns-then-len-BITS-clause-writes g c =
 
 pub returns-clause-writes : goal.returns-clause-writes
 returns-clause-writes g c =
-    let merged = rw c.load-old.ensures.value at c.merged.ensures in
+    let merged = rw c.load-old.ensures.value at c.merged-new.ensures in
     rw (c.store-2.ensures.numbers, c.load-old.ensures.numbers)
     (part-stored _ _ _ _ _ _ (width_some _ g.met.C.Elem.BitStore.width_law) c.requires merged)

@@ -1,0 +1,36 @@
+use Rattle.std.proofs.Common.{arith, map, refl, ◌∙◌}
+use Rattle.std.proofs.lemmas.List.{length-replicate}
+use Rattle.bitvec_elements.specs.base.Lists.{combined}
+use Rattle.bitvec_elements.specs.base.ListsLaws.{length-combined}
+use Rattle.bitvec_elements.specs.base.Memory.{list_in}
+use Rattle.bitvec_elements.specs.base.WritesLaws.{length-list}
+use Rattle.bitvec_elements.specs.words.Operator.{operator}
+use Rattle.bitvec_elements.proofs.RecutLemmas.{block-combined}
+use Rattle.bitvec_elements.proofs.StoreLemmas.{range-inside, range-kept, stretch-all, stretch-none}
+use Rattle.bitvec_elements.proofs.combining.combine_blocks.Goals as goal
+
+pub loop-from-init : goal.loop-from-init
+loop-from-init g c = record {
+  fits = omega arith;
+  count = length-replicate _ _;
+  writes = stretch-none _ _ _ _ c.args.left_window (combined (operator c.args.op) (list_in g.T.BitStore.BITS g.W.BitOrder.at (map g.T.BitStore.value c.args.left.now) c.args.left_window) (list_in g.U.BitStore.BITS g.P.BitOrder.at (map g.U.BitStore.value c.args.right.now) c.args.right_window)) c.requires.window refl;
+}
+
+pub hold-held-requires-clause-window : goal.hold-held-requires-clause-window
+hold-held-requires-clause-window g c = range-inside _ _ c.args.right_window _ _ _ c.requires.right_window c.range-other.ensures (omega arith) (omega arith)
+
+pub combine_block_in-requires-clause-window : goal.combine_block_in-requires-clause-window
+combine_block_in-requires-clause-window g c = range-kept _ _ _ c.args.left_window _ _ _ c.requires.window c.loop-from.invariant.writes.elements c.range.ensures (omega arith) (omega arith)
+
+pub loop-from-preserved : goal.loop-from-preserved
+loop-from-preserved g c =
+    record {
+      fits = omega arith;
+      count = c.hold-held.ensures.count ∙ c.loop-from.invariant.count;
+      writes = block-combined _ _ g.W.BitOrder.at g.P.BitOrder.at (operator c.args.op) _ _ _ _ c.args.left_window c.args.right_window _ _ _ c.loop-from.from _ c.args.right_window.len c.requires.window c.requires.right_window refl (omega arith) (omega arith) c.range.ensures (rw (c.min-in-loop-from.ensures, c.min-in-loop-from-2.ensures) at c.range-other.ensures) c.hold-held.ensures.bits c.loop-from.invariant.writes c.combine_block_in.ensures.writes;
+    }
+
+pub returns : goal.returns
+returns g c =
+    let long = length-list _ g.W.BitOrder.at _ _ c.requires.window in
+    record { writes = stretch-all _ g.W.BitOrder.at _ _ c.args.left_window _ c.loop-from.from (omega arith) (length-combined (operator c.args.op) _ _ ∙ long) c.loop-from.invariant.writes }

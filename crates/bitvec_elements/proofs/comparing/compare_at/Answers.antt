@@ -1,0 +1,23 @@
+use Rattle.std.proofs.Common.{arith}
+use Rattle.bitvec_elements.specs.base.CompareLaws.{order-same}
+use Rattle.bitvec_elements.specs.base.WritesLaws.{length-list}
+use Rattle.bitvec_elements.proofs.DifferenceLemmas.{common-differ}
+use Rattle.bitvec_elements.proofs.comparing.compare_at.Goals as goal
+
+pub get_bit-bit-requires-clause-window : goal.get_bit-bit-requires-clause-window
+get_bit-bit-requires-clause-window g c = rw c.new-left.ensures.numbers c.requires.window
+
+pub get_bit-other-requires-clause-window : goal.get_bit-other-requires-clause-window
+get_bit-other-requires-clause-window g c = rw c.new-right.ensures.numbers c.requires.right_window
+
+pub returns-then-common-min : goal.returns-then-common-min
+returns-then-common-min g c =
+    let left = length-list _ g.O.BitOrder.at _ _ c.requires.window in
+    let right = length-list _ g.P.BitOrder.at _ _ c.requires.right_window in
+    let bit = rw c.new-left.ensures.numbers at c.get_bit-bit.ensures.value in
+    let other = rw c.new-right.ensures.numbers at c.get_bit-other.ensures.value in
+    rw c.cmp.ensures (common-differ _ _ c.args.common _ _ c.requires.common (omega arith) bit other)
+
+pub returns : goal.returns
+returns g c =
+    rw c.cmp-2.ensures (order-same _ _ _ _ c.args.common (length-list _ _ _ _ c.requires.window) (length-list _ _ _ _ c.requires.right_window) (omega arith) c.requires.common.same)

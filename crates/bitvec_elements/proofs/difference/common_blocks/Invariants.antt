@@ -1,0 +1,17 @@
+use Rattle.std.proofs.Common.{◌≡◌, ◌-◌, ◌≤◌, length, map}
+use Rattle.bitvec_elements.specs.base.CompareLaws.{SameBelow}
+use Rattle.bitvec_elements.specs.base.Memory.{list_in}
+use Rattle.bitvec_elements.proofs.difference.common_blocks.Given as goal
+
+abbrev pub invariant-loop-from : goal.invariant-loop-from
+invariant-loop-from g l =
+    let list = list_in g.T.BitStore.BITS g.W.BitOrder.at (map g.T.BitStore.value l.left) l.left_window in
+    let right_list = list_in g.U.BitStore.BITS g.P.BitOrder.at (map g.U.BitStore.value l.right) l.right_window in
+    record {
+      fits : l.from ≤ l.most;
+      count : length l.block ≡ g.row.HELD;
+      same : SameBelow list right_list l.from;
+    }
+
+abbrev pub decreases-loop-from : goal.decreases-loop-from
+decreases-loop-from g l = l.most - l.from

@@ -1,0 +1,9 @@
+use Rattle.std.proofs.Common.{refl}
+use Rattle.std.proofs.lemmas.List.{length-map}
+use Rattle.bitvec_elements.specs.base.WritesLaws.{Writes-holds}
+use Rattle.bitvec_elements.proofs.RecutLemmas.{block-window}
+use Rattle.bitvec_elements.proofs.recutting.hold.Goals as goal
+
+pub returns-clause-bits : goal.returns-clause-bits
+returns-clause-bits g c =
+    Writes-holds _ _ _ _ _ _ (block-window _ _ _ _ g.met.T.BitStore.width_law (length-map c.args.block.now g.T.BitStore.value) c.requires.few refl c.requires.room) c.recut.ensures.writes

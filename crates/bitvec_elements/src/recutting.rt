@@ -1,0 +1,122 @@
+//! Bits of a slice as those of elements of another type and order: copied by whole words, and held in blocks.
+ghost use Rattle.std.specs.Mem.{type_size};
+ghost use Rattle.std.specs.Prelude.{◌≡◌, ◌+◌, ◌-◌, ◌*◌, ◌%◌, ◌<◌, ◌≤◌, length, map, true};
+ghost use Rattle.bitvec_engine.specs.Pairs.{HasPair};
+ghost use Rattle.bitvec_engine.specs.base.Memory.{HasWindow, Writes, list_in};
+
+use crate::copying::copy_words;
+use crate::window_words::{reordered, word_behind};
+use bitvec_engine::base::{BitOrder, Lsb0, Msb0, Window};
+use bitvec_engine::store::BitStore;
+use bitvec_engine::words::{WORD_BITS, WordOrder, store_slice_word};
+use bitvec_engine::{Direction, direction_of};
+
+/// So few bits are compared with no block.
+pub(crate) const FEW_BITS: usize = 2048;
+
+/// So many bits at most of elements of 8 or 16 bits take a short block.
+pub(crate) const SHORT_BITS: usize = 2048;
+
+/// Whether an element has at most 16 bytes, so that blocks of thousands of them are held. The compiler knows it.
+#[inline(always)]
+pub(crate) fn fits_blocks<T: BitStore>() -> bool
+    ensures { result ≡ true → type_size T.row ≤ 16 }
+{
+    T::fits_in_memory();
+    1 * std::mem::size_of::<T>() <= 16
+}
+
+/// Copies a window's bits to a block, and gives the window of the block that has them. Conditions: the window
+/// lies in a memory of at most `MAX_BITS` bits, and the block has at most 8192 elements and room for the bits.
+#[inline(always)]
+pub(crate) fn hold<W: WordOrder, P: BitOrder, T: BitStore, U: BitStore>(
+    block: &mut [T],
+    right: &[U],
+    window: Window,
+) -> Window
+    requires window { HasWindow U.BITS (map U.value right.now) window }
+    requires few { length block.old ≤ 8192 }
+    requires room { window.len ≤ T.BITS * length block.old }
+    ensures window { HasWindow T.BITS (map T.value block.new) result }
+    ensures lengths { result.len ≡ window.len }
+    ensures bits { list_in T.BITS W.at (map T.value block.new) result ≡ list_in U.BITS P.at (map U.value right.now) window }
+    ensures count { length block.new ≡ length block.old }
+{
+    let held = Window {
+        start: 0,
+        len: window.len,
+    };
+    recut::<W, P, T, U>(block, held, right, window);
+    held
+}
+
+/// [`copy_words`], many bits by whole words. Condition: as for [`crate::copy_from_in`].
+#[inline(always)]
+pub(crate) fn recut<W: WordOrder, P: BitOrder, T: BitStore, U: BitStore>(
+    left: &mut [T],
+    to: Window,
+    right: &[U],
+    from: Window,
+)
+    requires { HasPair T.BITS (map T.value left.old) to U.BITS (map U.value right.now) from }
+    ensures writes { Writes T.BITS W.at (map T.value left.old) (map T.value left.new) to
+        (list_in U.BITS P.at (map U.value right.now) from) }
+{
+    let narrow = T::BITS as usize <= WORD_BITS && U::BITS as usize <= WORD_BITS;
+    if narrow && to.len > WORD_BITS {
+        match direction_of::<P, U>() {
+            Direction::Up => return recut_run::<W, Lsb0, T, U>(left, to, right, from),
+            Direction::Down => return recut_run::<W, Msb0, T, U>(left, to, right, from),
+            Direction::Other => {}
+        }
+    }
+    copy_words::<W, T, U, P>(left, to, right, from);
+}
+
+/// [`recut`] where both orders run from one end of an element to the other. Conditions: as for [`recut`]; no element
+/// is wider than a word, and the windows have as many bits.
+fn recut_run<W: WordOrder, V: WordOrder, T: BitStore, U: BitStore>(
+    left: &mut [T],
+    to: Window,
+    right: &[U],
+    from: Window,
+)
+    requires pair { HasPair T.BITS (map T.value left.old) to U.BITS (map U.value right.now) from }
+    requires narrow { T.BITS ≤ 64 }
+    requires right_narrow { U.BITS ≤ 64 }
+    requires some { 64 ≤ to.len }
+    ensures writes { Writes T.BITS W.at (map T.value left.old) (map T.value left.new) to
+        (list_in U.BITS V.at (map U.value right.now) from) }
+{
+    let first = (WORD_BITS - to.start % WORD_BITS) % WORD_BITS;
+    let last = to.len - (to.len - first) % WORD_BITS;
+    copy_words::<W, T, U, V>(left, to.range(0, first), right, from.range(0, first));
+    recut_words::<W, V, T, U>(left, to.range(first, last), right, from.range(first, last));
+    let (place, source) = (to.range(last, to.len), from.range(last, to.len));
+    copy_words::<W, T, U, V>(left, place, right, source);
+}
+
+/// [`recut_run`] of whole words of the left memory.
+#[inline(always)]
+fn recut_words<W: WordOrder, V: WordOrder, T: BitStore, U: BitStore>(
+    left: &mut [T],
+    to: Window,
+    right: &[U],
+    from: Window,
+)
+    requires pair { HasPair T.BITS (map T.value left.old) to U.BITS (map U.value right.now) from }
+    requires narrow { T.BITS ≤ 64 }
+    requires right_narrow { U.BITS ≤ 64 }
+    requires edge { to.start % 64 ≡ 0 }
+    requires whole { to.len % 64 ≡ 0 }
+    ensures writes { Writes T.BITS W.at (map T.value left.old) (map T.value left.new) to
+        (list_in U.BITS V.at (map U.value right.now) from) }
+{
+    let (bits, others) = (T::BITS as usize, U::BITS as usize);
+    let (first, source, skip) = (to.start / bits, from.start / others, from.start % others);
+    for step in 0..to.len / WORD_BITS {
+        let word = word_behind::<V, U>(right, source + step * (WORD_BITS / others), skip);
+        let made = reordered::<V, W>(word);
+        store_slice_word::<W, T>(left, first + step * (WORD_BITS / bits), made);
+    }
+}

@@ -1,0 +1,96 @@
+use Rattle.std.proofs.Common.{◌≡◌, ℕ, ◌+◌, ◌-◌, ◌*◌, ◌/◌, ◌%◌, arith, rules, ap, sym, ◌∙◌, length, map, reverse, refl}
+use Rattle.std.proofs.lemmas.List.{length-map, map-set}
+use Rattle.std.proofs.lemmas.Nat.{div-add-mod', mod_below}
+use Rattle.bitvec_words.specs.store.WidthLaws.{width_some}
+use Rattle.bitvec_words.specs.base.declared.window.Window.{Window}
+use Rattle.bitvec_words.specs.base.WritesLaws.{HasWindow-kept, Writes-holds, Writes-is}
+use Rattle.bitvec_words.specs.FieldLaws.{Writes-no_element}
+use Rattle.bitvec_words.specs.Elements.{elements_window}
+use Rattle.bitvec_words.specs.WholeLaws.{list-empty}
+use Rattle.bitvec_move.proofs.MirroredLemmas.{last-has, mirrored-element, mirrored-room, mirrored-window, touched-has, touched-places, touched-window}
+use Rattle.bitvec_move.proofs.reversing.load_mirrored.Goals as goal
+
+pub loop-step-init : goal.loop-step-init
+loop-step-init g c =
+    let b = g.C.Elem.BitStore.BITS in
+    let at = g.O.BitOrder.at in
+    let value = g.C.Elem.BitStore.value in
+    let old = g.C.CellsRead.numbers c.args.cells.now in
+    let held = c.args.held.now in
+    let window = c.args.window in
+    let most = length held in
+    let some = width_some _ g.met.C.Elem.BitStore.width_law in
+    let first : ℕ = window.start / b in
+    let count : ℕ = (window.start % b + window.len - 1) / b + 1 in
+    let touched = touched-window b window.start window.len most some c.requires.some c.requires.held.room in
+    let room = mirrored-room b (map value held) most count touched.fits (length-map held value) c.requires.held.fits in
+    let none : Window = record { start = 0; len = 0 } in
+    record {
+      writes = rw c.BITS-bits.ensures
+          (Writes-is b at _ _ _ _ _
+          (Writes-no_element b at (map value held) old (most - count) count none room refl)
+          (list-empty b at old none refl ∙ sym (ap reverse (list-empty b at old (elements_window b (first + count - 1 + 1 - 0) 0) (omega arith)))));
+      reads = search rules;
+    }
+
+pub loop-step-preserved : goal.loop-step-preserved
+loop-step-preserved g c =
+    let b = g.C.Elem.BitStore.BITS in
+    let at = g.O.BitOrder.at in
+    let value = g.C.Elem.BitStore.value in
+    let old = g.C.CellsRead.numbers c.args.cells.now in
+    let held = c.args.held.now in
+    let window = c.args.window in
+    let most = length held in
+    let some = width_some _ g.met.C.Elem.BitStore.width_law in
+    let first : ℕ = window.start / b in
+    let count : ℕ = (window.start % b + window.len - 1) / b + 1 in
+    let touched = touched-window b window.start window.len most some c.requires.some c.requires.held.room in
+    let room = mirrored-room b (map value held) most count touched.fits (length-map held value) c.requires.held.fits in
+    let step = c.loop-step.step in
+    let below = rw c.BITS-bits.ensures at c.loop-step-test.true in
+    let next : ℕ = first + (count - (step + 1)) in
+    let now : first + count - 1 + 1 - (step + 1) ≡ next = omega arith in
+    let before = rw (c.BITS-bits.ensures, (let e : first + count - 1 + 1 - step ≡ next + 1 = omega arith in e)) at c.loop-step.invariant.writes in
+    let made = rw (c.load.ensures.value, c.loop-step.invariant.reads.numbers, c.BITS-bits.ensures, (let e : first + count - 1 - step ≡ next = omega arith in e)) at c.reversed.ensures in
+    let has = touched-has b old window count c.requires.window (omega arith) touched.least in
+    record {
+      writes = rw (c.BITS-bits.ensures, map-set value c.loop-step.held (most - count + step) c.reversed.result, now)
+          (mirrored-element b at (map value held) (map value c.loop-step.held) old (most - count) count step next (value c.reversed.result) some room below
+          (last-has b old first count (step + 1) has (omega arith)) made before);
+      reads = search rules;
+    }
+
+pub returns-clause-list : goal.returns-clause-list
+returns-clause-list g c =
+    let b = g.C.Elem.BitStore.BITS in
+    let at = g.O.BitOrder.at in
+    let value = g.C.Elem.BitStore.value in
+    let old = g.C.CellsRead.numbers c.args.cells.now in
+    let held = c.args.held.now in
+    let window = c.args.window in
+    let most = length held in
+    let some = width_some _ g.met.C.Elem.BitStore.width_law in
+    let first : ℕ = window.start / b in
+    let count : ℕ = (window.start % b + window.len - 1) / b + 1 in
+    let touched = touched-window b window.start window.len most some c.requires.some c.requires.held.room in
+    let room = mirrored-room b (map value held) most count touched.fits (length-map held value) c.requires.held.fits in
+    let place = div-add-mod' window.start b in
+    let below = mod_below window.start b some in
+    let end = rw c.BITS-bits.ensures at c.loop-step-test.false in
+    let bound = rw c.BITS-bits.ensures at c.loop-step.auto.step-end in
+    let all : c.loop-step.step ≡ count = omega arith in
+    let writes = rw (c.BITS-bits.ensures, all, (let e : first + count - 1 + 1 - count ≡ first = omega arith in e)) at c.loop-step.invariant.writes in
+    let has = touched-has b old window count c.requires.window (omega arith) touched.least in
+    let sum : most * b ≡ (most - count) * b + count * b = ap (λ (n : ℕ). n * b) (let e : most ≡ most - count + count = omega (arith, touched.fits) in e) ∙ omega arith in
+    let fits = c.requires.held.room in
+    rw c.BITS-bits.ensures
+    (mirrored-window b at (map value c.loop-step.held) old (most - count) first count window _
+    (HasWindow-kept b (map value held) _ _ room writes.elements) has touched.start touched.end refl (omega arith)
+    (Writes-holds b at (map value held) _ _ _ room writes))
+
+pub returns-clause-reads : goal.returns-clause-reads
+returns-clause-reads g c =
+    let count = touched-places g.C.Elem.BitStore.BITS c.args.window.start c.args.window.len (width_some _ g.met.C.Elem.BitStore.width_law) c.requires.some in
+    let all : c.loop-step.step ≡ (c.args.window.start % g.C.Elem.BitStore.BITS + c.args.window.len - 1) / g.C.Elem.BitStore.BITS + 1 = rw c.BITS-bits.ensures at (let e : c.loop-step.step ≡ (c.args.window.start % c.BITS-bits.result + c.args.window.len - 1) / c.BITS-bits.result + 1 = omega arith in e) in
+    rw (sym count, sym all) c.loop-step.invariant.reads

@@ -1,0 +1,42 @@
+use Rattle.std.proofs.Common.{◌≡◌, ℕ, ◌<◌, ◌||◌, nat_lt, List, [], ◌∷◌, ◌++◌, get_or, true, false, inr, refl, sym, subst, ◌∙◌, arith}
+use Rattle.std.specs.Char.{digit_value, is_ascii_whitespace}
+use Rattle.std.specs.Prelude.{All}
+use Rattle.std.proofs.lemmas.Grind.{common_steps}
+use Rattle.std.proofs.lemmas.List.Elements.{All-push}
+use Rattle.std.proofs.lemmas.List.Folds.{list_all_at}
+use Rattle.packet.proofs.DigitLaws.{digits_of-digit, digits_of-space, has_digits-more}
+use Rattle.packet.proofs.digits.parse_digits.Goals as goal
+
+pub loop-byte-preserved-then-is_ascii_whitespace : goal.loop-byte-preserved-then-is_ascii_whitespace
+loop-byte-preserved-then-is_ascii_whitespace g c =
+    let text : List ℕ = c.args.text.now in
+    let i : ℕ = c.loop-byte.byte-index in
+    let low = c.loop-byte-test.true in
+    let space : is_ascii_whitespace (get_or text i 0) ≡ true = sym c.if-is_ascii_whitespace.ensures.value in (
+      c.loop-byte.invariant.0 ∙ sym (digits_of-space text i low space),
+      has_digits-more text i low c.loop-byte.invariant.1 (λ k. space k || nat_lt (digit_value (get_or text i 0)) 16),
+      c.loop-byte.invariant.2,
+    )
+
+pub loop-byte-preserved : goal.loop-byte-preserved
+loop-byte-preserved g c =
+    let text : List ℕ = c.args.text.now in
+    let i : ℕ = c.loop-byte.byte-index in
+    let low = c.loop-byte-test.true in
+    let solid : is_ascii_whitespace (get_or text i 0) ≡ false = sym c.if-is_ascii_whitespace.ensures.value in
+    let some = c.in-Some.ensures.value in
+    let few : nat_lt (digit_value (get_or text i 0)) 16 ≡ true = grind (arith, common_steps) in
+    let items : c.push.new.self.items ≡ c.loop-byte.digits.items ++ digit_value (get_or text i 0) ∷ [] = c.in_ok-push-in-Some.ensures.items ∙ (λ k. c.loop-byte.digits.items ++ some.1 k ∷ []) in (
+      items ∙ (λ k. c.loop-byte.invariant.0 k ++ digit_value (get_or text i 0) ∷ []) ∙ sym (digits_of-digit text i low solid),
+      has_digits-more text i low c.loop-byte.invariant.1 ((λ k. solid k || nat_lt (digit_value (get_or text i 0)) 16) ∙ few),
+      subst (All (λ digit. digit < 16)) (sym items) (All-push (λ digit. digit < 16) c.loop-byte.digits.items (digit_value (get_or text i 0)) c.loop-byte.invariant.2 some.0),
+    )
+
+pub returns-in-None-clause-fault : goal.returns-in-None-clause-fault
+returns-in-None-clause-fault g c =
+    let text : List ℕ = c.args.text.now in
+    let i : ℕ = c.loop-byte.byte-index in
+    let solid : is_ascii_whitespace (get_or text i 0) ≡ false = sym c.if-is_ascii_whitespace.ensures.value in
+    let none = c.in-None.ensures.value in
+    let many : nat_lt (digit_value (get_or text i 0)) 16 ≡ false = grind (arith, common_steps) in
+    inr (refl, list_all_at (λ byte. is_ascii_whitespace byte || nat_lt (digit_value byte) 16) text i 0 c.loop-byte-test.true ((λ k. solid k || nat_lt (digit_value (get_or text i 0)) 16) ∙ many))
