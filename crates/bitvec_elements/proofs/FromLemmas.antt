@@ -1,13 +1,9 @@
 -- A word that has 64 bits of a window.
-use Rattle.std.specs.Prelude.{◌≡◌, ℕ, ◌+◌, ◌-◌, ◌<◌, ◌≤◌, min, Bool, true, false, List, ◌++◌, length, slice_index_or, slice_range}
+use Rattle.std.specs.Prelude.{◌≡◌, ℕ, ◌+◌, ◌<◌, ◌≤◌, min, Bool, false, List, slice_index_or, slice_range}
 use Rattle.std.proofs.Common.{arith, sym, ◌∙◌, ap, ⊎_elim}
-use Rattle.std.proofs.lemmas.Bool.{cases_lt, false_from_ne_true}
-use Rattle.std.proofs.lemmas.List.{get_or_append_left, get_or-append_right}
+use Rattle.std.proofs.lemmas.Bool.{cases_lt}
 use Rattle.bitvec_elements.specs.base.declared.window.Window.{Window}
-use Rattle.bitvec_elements.specs.base.Lists.{stands_at}
-use Rattle.bitvec_elements.specs.base.ListsLaws.{same_bits-decides, stands_at-fits, stands_at-long}
 use Rattle.bitvec_elements.specs.base.Memory.{HasWindow, element_bits, list_in, memory_bits}
-use Rattle.bitvec_elements.specs.base.MemoryLaws.{length-element_bits}
 use Rattle.bitvec_elements.specs.base.Window.{window_range}
 use Rattle.bitvec_elements.specs.base.WindowLaws.{window-past}
 use Rattle.bitvec_elements.specs.base.WriteLaws.{get-slice_range, length-slice_range}

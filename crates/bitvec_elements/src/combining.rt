@@ -1,11 +1,10 @@
 //! Each bit of a window of a slice combined with the bit at its index in another window.
-ghost use Rattle.std.specs.Mem.{type_size};
 ghost use Rattle.std.specs.Prelude.{◌≤◌, map};
 ghost use Rattle.bitvec_engine.specs.base.Lists.{combined};
 ghost use Rattle.bitvec_engine.specs.base.Memory.{HasWindow, Writes, list_in};
 ghost use Rattle.bitvec_engine.specs.words.Operator.{operator};
 
-use crate::recutting::{SHORT_BITS, fits_blocks, hold};
+use crate::recutting::hold;
 use bitvec_engine::base::{BitOrder, Lsb0, Msb0, Window};
 use bitvec_engine::cells::{Exclusive, Shared};
 use bitvec_engine::store::BitStore;
@@ -56,21 +55,16 @@ fn combine_run<W: WordOrder + SliceOrder, T: BitStore, U: BitStore, P: BitOrder>
         (list_in U.BITS P.at (map U.value right.now) right_window)) }
 {
     let bits = T::BITS as usize;
-    if !fits_blocks::<T>() {
-        let mut cells = Exclusive::new(left);
-        let mut source = Shared::new(right);
-        bits_op::<W, P, _, _>(&mut cells, left_window, &mut source, right_window, op);
-    } else if left_window.len <= 8 * bits {
+    if left_window.len <= 8 * bits {
         combine_blocks::<W, T, U, P, 8>(left, left_window, right, right_window, op);
-    } else if bits > 16 || left_window.len <= SHORT_BITS {
+    } else if bits > 16 || left_window.len <= 258 * bits {
         combine_blocks::<W, T, U, P, 258>(left, left_window, right, right_window, op);
     } else {
         combine_blocks::<W, T, U, P, 2050>(left, left_window, right, right_window, op);
     }
 }
 
-/// [`combine_run`] by blocks of `HELD` elements. Conditions: as for [`combine_in`]; an element has at most 16
-/// bytes, and `HELD` is from 1 to 8192.
+/// [`combine_run`] by blocks of `HELD` elements. Conditions: as for [`combine_in`], and `HELD` is from 1 to 8192.
 fn combine_blocks<
     W: WordOrder + SliceOrder,
     T: BitStore,
@@ -80,7 +74,6 @@ fn combine_blocks<
 >(left: &mut [T], left_window: Window, right: &[U], right_window: Window, op: BitOp)
     requires window { HasWindow T.BITS (map T.value left.old) left_window }
     requires right_window { HasWindow U.BITS (map U.value right.now) right_window }
-    requires size { type_size T.row ≤ 16 }
     requires few { HELD ≤ 8192 }
     requires some { 1 ≤ HELD }
     ensures writes { Writes T.BITS W.at (map T.value left.old) (map T.value left.new) left_window

@@ -1,16 +1,18 @@
 //! How many of their first bits two windows of slices have in common.
-ghost use Rattle.std.specs.Mem.{type_size};
 ghost use Rattle.std.specs.Prelude.{◌≤◌, map};
 ghost use Rattle.bitvec_engine.specs.base.Memory.{HasWindow, list_in};
 ghost use Rattle.bitvec_elements.specs.Difference.{DiffersFrom};
 
 use crate::comparing::eq_blocks_in;
-use crate::recutting::{FEW_BITS, fits_blocks, hold};
+use crate::recutting::hold;
 use crate::window_words::window_word;
 use bitvec_engine::base::{BitOrder, Lsb0, Msb0, Window};
 use bitvec_engine::store::BitStore;
 use bitvec_engine::words::{WORD_BITS, WordOrder};
 use bitvec_engine::{Direction, SliceOrder, direction_of};
+
+/// So few bits are compared with no block.
+const FEW_BITS: usize = 2048;
 
 /// How many of their first bits two windows have in common, up to the length of the shorter one.
 /// Condition: each memory has at most `MAX_BITS` bits, and each window lies in its memory.
@@ -25,28 +27,18 @@ pub(crate) fn common_bits<T: BitStore, O: BitOrder, U: BitStore, P: BitOrder>(
     ensures { DiffersFrom (list_in T.BITS O.at (map T.value left.now) left_window)
         (list_in U.BITS P.at (map U.value right.now) right_window) result }
 {
-    if fits_blocks::<T>() && left_window.len.min(right_window.len) > FEW_BITS {
-        match direction_of::<O, T>() {
-            Direction::Up => return common_run::<Lsb0, T, U, P>(
-                left,
-                left_window,
-                right,
-                right_window,
-            ),
-            Direction::Down => return common_run::<Msb0, T, U, P>(
-                left,
-                left_window,
-                right,
-                right_window,
-            ),
-            Direction::Other => {}
-        }
+    if left_window.len.min(right_window.len) <= FEW_BITS {
+        return common_words::<T, O, U, P>(left, left_window, right, right_window);
     }
-    common_words::<T, O, U, P>(left, left_window, right, right_window)
+    match direction_of::<O, T>() {
+        Direction::Up => common_run::<Lsb0, T, U, P>(left, left_window, right, right_window),
+        Direction::Down => common_run::<Msb0, T, U, P>(left, left_window, right, right_window),
+        Direction::Other => common_words::<T, O, U, P>(left, left_window, right, right_window),
+    }
 }
 
 /// [`common_bits`] under an order that runs from one end of an element to the other. The right bits are recut to
-/// blocks of the left type, and compared as these. Condition: an element has at most 16 bytes.
+/// blocks of the left type, and compared as these.
 fn common_run<W: WordOrder + SliceOrder, T: BitStore, U: BitStore, P: BitOrder>(
     left: &[T],
     left_window: Window,
@@ -55,7 +47,6 @@ fn common_run<W: WordOrder + SliceOrder, T: BitStore, U: BitStore, P: BitOrder>(
 ) -> usize
     requires window { HasWindow T.BITS (map T.value left.now) left_window }
     requires right_window { HasWindow U.BITS (map U.value right.now) right_window }
-    requires size { type_size T.row ≤ 16 }
     ensures { DiffersFrom (list_in T.BITS W.at (map T.value left.now) left_window)
         (list_in U.BITS P.at (map U.value right.now) right_window) result }
 {
@@ -76,7 +67,6 @@ fn common_blocks<
 >(left: &[T], left_window: Window, right: &[U], right_window: Window) -> usize
     requires window { HasWindow T.BITS (map T.value left.now) left_window }
     requires right_window { HasWindow U.BITS (map U.value right.now) right_window }
-    requires size { type_size T.row ≤ 16 }
     requires few { HELD ≤ 8192 }
     requires some { 1 ≤ HELD }
     ensures { DiffersFrom (list_in T.BITS W.at (map T.value left.now) left_window)

@@ -1,6 +1,5 @@
 //! Bits of a slice as those of elements of another type and order: copied by whole words, and held in blocks.
-ghost use Rattle.std.specs.Mem.{type_size};
-ghost use Rattle.std.specs.Prelude.{◌≡◌, ◌+◌, ◌-◌, ◌*◌, ◌%◌, ◌<◌, ◌≤◌, length, map, true};
+ghost use Rattle.std.specs.Prelude.{◌≡◌, ◌+◌, ◌-◌, ◌*◌, ◌%◌, ◌<◌, ◌≤◌, length, map};
 ghost use Rattle.bitvec_engine.specs.Pairs.{HasPair};
 ghost use Rattle.bitvec_engine.specs.base.Memory.{HasWindow, Writes, list_in};
 
@@ -10,21 +9,6 @@ use bitvec_engine::base::{BitOrder, Lsb0, Msb0, Window};
 use bitvec_engine::store::BitStore;
 use bitvec_engine::words::{WORD_BITS, WordOrder, store_slice_word};
 use bitvec_engine::{Direction, direction_of};
-
-/// So few bits are compared with no block.
-pub(crate) const FEW_BITS: usize = 2048;
-
-/// So many bits at most of elements of 8 or 16 bits take a short block.
-pub(crate) const SHORT_BITS: usize = 2048;
-
-/// Whether an element has at most 16 bytes, so that blocks of thousands of them are held. The compiler knows it.
-#[inline(always)]
-pub(crate) fn fits_blocks<T: BitStore>() -> bool
-    ensures { result ≡ true → type_size T.row ≤ 16 }
-{
-    T::fits_in_memory();
-    1 * std::mem::size_of::<T>() <= 16
-}
 
 /// Copies a window's bits to a block, and gives the window of the block that has them. Conditions: the window
 /// lies in a memory of at most `MAX_BITS` bits, and the block has at most 8192 elements and room for the bits.

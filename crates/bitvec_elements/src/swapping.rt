@@ -1,11 +1,10 @@
 //! The bits of two windows of slices of elements, exchanged.
-ghost use Rattle.std.specs.Mem.{type_size};
 ghost use Rattle.std.specs.Prelude.{◌≡◌, ◌≤◌, map};
 ghost use Rattle.bitvec_engine.specs.Pairs.{HasPair};
 ghost use Rattle.bitvec_engine.specs.base.Memory.{HasWindow, Writes, list_in};
 
 use crate::copying::copy_from_in;
-use crate::recutting::{SHORT_BITS, fits_blocks, hold};
+use crate::recutting::hold;
 use bitvec_engine::base::{BitOrder, Lsb0, Msb0, Window};
 use bitvec_engine::cells::Exclusive;
 use bitvec_engine::store::BitStore;
@@ -54,21 +53,16 @@ fn swap_run<W: WordOrder + SliceOrder, T: BitStore, U: BitStore, P: BitOrder>(
         (list_in T.BITS W.at (map T.value left.old) left_window) }
 {
     let bits = T::BITS as usize;
-    if !fits_blocks::<T>() {
-        let mut cells = Exclusive::new(left);
-        let mut others = Exclusive::new(right);
-        bits_swap::<W, P, _, _>(&mut cells, left_window, &mut others, right_window);
-    } else if left_window.len <= 8 * bits {
+    if left_window.len <= 8 * bits {
         swap_blocks::<W, T, U, P, 8>(left, left_window, right, right_window);
-    } else if bits > 16 || left_window.len <= SHORT_BITS {
+    } else if bits > 16 || left_window.len <= 258 * bits {
         swap_blocks::<W, T, U, P, 258>(left, left_window, right, right_window);
     } else {
         swap_blocks::<W, T, U, P, 2050>(left, left_window, right, right_window);
     }
 }
 
-/// [`swap_run`] by blocks of `HELD` elements. Conditions: as for [`swap_with_in`]; an element has at most 16
-/// bytes, and `HELD` is from 1 to 8192.
+/// [`swap_run`] by blocks of `HELD` elements. Conditions: as for [`swap_with_in`], and `HELD` is from 1 to 8192.
 fn swap_blocks<W: WordOrder + SliceOrder, T: BitStore, U: BitStore, P: BitOrder, const HELD: usize>(
     left: &mut [T],
     left_window: Window,
@@ -76,7 +70,6 @@ fn swap_blocks<W: WordOrder + SliceOrder, T: BitStore, U: BitStore, P: BitOrder,
     right_window: Window,
 )
     requires pair { HasPair T.BITS (map T.value left.old) left_window U.BITS (map U.value right.old) right_window }
-    requires size { type_size T.row ≤ 16 }
     requires few { HELD ≤ 8192 }
     requires some { 1 ≤ HELD }
     ensures writes { Writes T.BITS W.at (map T.value left.old) (map T.value left.new) left_window

@@ -2,17 +2,19 @@
 use Rattle.std.proofs.Common.{◌≡◌, ℕ, zero, suc, ◌+◌, ◌-◌, ◌*◌, ◌/◌, ◌%◌, ◌<◌, ◌≤◌, ◌++◌, Bool, List, length, reverse, slice_index, slice_range, slice_set, arith, rules, ap, sym, ◌∙◌, refl}
 use Rattle.std.proofs.lemmas.List.{same_lists, places, get_or-reverse, length-reverse, reverse-append}
 use Rattle.std.proofs.lemmas.Nat.{div-add-mod', div_below, mod_below}
-use Rattle.std.proofs.Math.Nat.{mul-add-div_right}
+use Rattle.std.proofs.Math.Nat.{mul-add-div_right, mul-le-mul_left}
 use Rattle.bitvec_words.specs.base.declared.window.Window.{Window}
 use Rattle.bitvec_words.specs.base.Memory.{HasWindow, Writes, element_bits, list_in}
 use Rattle.bitvec_words.specs.base.MemoryLaws.{element_fits}
 use Rattle.bitvec_words.specs.base.Window.{max_bits, window_range}
-use Rattle.bitvec_words.specs.base.WritesLaws.{Writes-is, length-list, list-join, list-range}
+use Rattle.bitvec_words.specs.base.WritesLaws.{HasWindow-kept, Writes-holds, Writes-is, length-list, list-join, list-range}
 use Rattle.bitvec_words.specs.walk.Cost.{touched_count}
 use Rattle.bitvec_words.specs.walk.WalkLaws.{touched-some}
-use Rattle.bitvec_words.specs.Elements.{elements_window}
+use Rattle.bitvec_words.specs.Elements.{elements_window, elements_window_from}
 use Rattle.bitvec_words.specs.FieldLaws.{Writes-element, element_of, list-whole}
 use Rattle.bitvec_words.specs.WholeLaws.{list-same}
+use Rattle.bitvec_move.specs.Ends.{HoldsBeside, IsAmid}
+use Rattle.bitvec_move.specs.Moves.{CopiesElements, HasSkippedElements}
 
 -- one element more, behind those that were, where that of the memory stands before those
 pub mirrored-element : (b : ℕ) (at : ℕ → ℕ → ℕ) (xs held old : List ℕ) (from count step first v : ℕ) → 0 < b → HasWindow b xs (elements_window b from count) → step < count
@@ -55,28 +57,56 @@ mirrored-window b at xs old k first n window mirrored room has from to long plac
     ∙ ap reverse (sym (list-same b at old (window_range (elements_window b first n) skip (skip + len)) window (omega arith) (omega arith)
     ∙ list-range b at old (elements_window b first n) skip (skip + len) has (omega arith) (omega arith)))
 
--- elements at the end of an array
-pub mirrored-room : (b : ℕ) (xs : List ℕ) (most n : ℕ) → n ≤ most → length xs ≡ most → b * most ≤ max_bits → HasWindow b xs (elements_window b (most - n) n)
-mirrored-room b xs most n bound long fits =
+pub held-some : (b n most : ℕ) → HoldsBeside b n most → 0 < n → 0 < most
+held-some b n zero held some = absurd (let room = held.room in omega arith)
+held-some b n (suc most) held some = omega arith
+
+-- elements of an array
+pub held-room : (b : ℕ) (xs : List ℕ) (k n most : ℕ) → k + n ≤ most → length xs ≡ most → b * most ≤ max_bits → HasWindow b xs (elements_window b k n)
+held-room b xs k n most inside long fits =
     let same = ap (λ (m : ℕ). b * m) long in
-    let sum : most * b ≡ (most - n) * b + n * b = ap (λ (m : ℕ). m * b) (let e : most ≡ most - n + n = omega arith in e) ∙ omega arith in
+    let order = mul-le-mul_left b inside in
     record { fits = omega arith; within = record { start = omega arith; len = omega arith } }
 
+-- a window of n bits that ends `skip` bits before the last element of an array
+pub held-amid : (b : ℕ) (xs : List ℕ) (n skip most : ℕ) (place : Window) → 0 < n → skip < b → length xs ≡ most → HoldsBeside b n most
+    → place.len ≡ n → place.start ≡ b * (most - 1) - skip - n → IsAmid b xs place
+held-amid b xs n skip most place some below long held len start =
+    let room = held.room in
+    let same = ap (λ (m : ℕ). b * m) long in
+    let positive : 0 < most = held-some b n most held some in
+    let sum : b * most ≡ b * (most - 1) + b = ap (λ (m : ℕ). b * m) (let e : most ≡ most - 1 + 1 = omega arith in e) ∙ omega arith in
+    let fits = held.fits in
+    record {
+      window = record { fits = omega arith; within = record { start = omega arith; len = omega arith } };
+      some = omega arith;
+      before = omega arith;
+      behind = omega arith;
+    }
+
 -- the elements that a window touches
-pub record IsTouched (b s n most count : ℕ) : Type 0 where
-  pub fits : count ≤ most
+pub record IsTouched (b s n count : ℕ) : Type 0 where
   pub start : s / b * b ≤ s
   pub end : s + n ≤ s / b * b + count * b
   pub least : s / b * b + count * b < s + n + b
 
-pub touched-window : (b s n most : ℕ) → 0 < b → 0 < n → n + b ≤ b * most → IsTouched b s n most ((s % b + n - 1) / b + 1)
-touched-window b s n most some more room =
+pub touched-window : (b s n : ℕ) → 0 < b → 0 < n → IsTouched b s n ((s % b + n - 1) / b + 1)
+touched-window b s n some more =
     let place = div-add-mod' s b in
     let below = mod_below s b some in
     let parts = div-add-mod' (s % b + n - 1) b in
     let last = mod_below (s % b + n - 1) b some in
-    let inside : (s % b + n - 1) / b < most = div_below (s % b + n - 1) b most some (omega arith) in
-    record { fits = omega arith; start = omega arith; end = omega arith; least = omega arith }
+    record { start = omega arith; end = omega arith; least = omega arith }
+
+-- with room for three elements more, at least one stays free
+pub touched-beside : (b s n most : ℕ) → 0 < b → 0 < n → HoldsBeside b n most → (s % b + n - 1) / b + 1 < most
+touched-beside b s n most some more held =
+    let room = held.room in
+    let below = mod_below s b some in
+    let positive = held-some b n most held more in
+    let sum : b * most ≡ b * (most - 1) + b = ap (λ (m : ℕ). b * m) (let e : most ≡ most - 1 + 1 = omega arith in e) ∙ omega arith in
+    let inside : (s % b + n - 1) / b < most - 1 = div_below (s % b + n - 1) b (most - 1) some (omega arith) in
+    omega arith
 
 pub touched-has : (b : ℕ) (xs : List ℕ) (window : Window) (count : ℕ) → HasWindow b xs window → 0 < count
     → window.start / b * b + count * b < window.start + window.len + b → HasWindow b xs (elements_window b (window.start / b) count)
@@ -107,3 +137,44 @@ touched-places b s (suc n) some more =
     let parts = mul-add-div_right some (s / b) (s % b + suc n - 1) in
     let all = touched-some b s n in
     omega arith
+
+-- ---- elements moved toward the start of an array
+
+-- the elements that a window will touch, `by` bits nearer to the start
+pub amid-elements : (b : ℕ) (xs : List ℕ) (place : Window) (s by : ℕ) → IsAmid b xs place → 0 < by → by < b → s + by ≡ place.start
+    → HasSkippedElements b xs xs (s / b) (s / b) by ((s % b + place.len - 1) / b + 1)
+amid-elements b xs place s by amid some below moved =
+    let behind = amid.behind in
+    let has = amid.window in
+    let touched = touched-window b s place.len (omega arith) amid.some in
+    let least = touched.least in
+    let within : Window = record { start = s / b * b + by; len = ((s % b + place.len - 1) / b + 1) * b } in
+    record {
+      span = record {
+        window = record { fits = has.fits; within = record { start = omega arith; len = omega arith } };
+        beside = record { fits = has.fits; within = record { start = omega arith; len = omega arith } };
+        lengths = refl;
+      };
+      inside = some;
+      bound = below;
+    }
+
+-- once they are moved, it has the bits that it had
+pub amid-moved : (b : ℕ) (at : ℕ → ℕ → ℕ) (xs new : List ℕ) (place to : Window) (s by : ℕ) → IsAmid b xs place → 0 < by → by < b → s + by ≡ place.start
+    → to.start ≡ s → to.len ≡ place.len → CopiesElements b at xs new xs (s / b) (s / b) by ((s % b + place.len - 1) / b + 1)
+    → list_in b at new to ≡ list_in b at xs place
+amid-moved b at xs new place to s by amid some below moved start len writes =
+    let first : ℕ = s / b in
+    let count : ℕ = (s % b + place.len - 1) / b + 1 in
+    let skipped = amid-elements b xs place s by amid some below moved in
+    let touched = touched-window b s place.len (omega arith) amid.some in
+    let low : ℕ = s - first * b in
+    let from = touched.start in
+    let end = touched.end in
+    let has = skipped.span.window in
+    let kept = HasWindow-kept b xs new (elements_window b first count) has writes.elements in
+    list-same b at new (window_range (elements_window b first count) low (low + to.len)) to (omega arith) (omega arith)
+    ∙ list-range b at new (elements_window b first count) low (low + to.len) kept (omega arith) (omega arith)
+    ∙ ap (λ (l : List Bool). slice_range l low (low + to.len)) (Writes-holds b at xs new (elements_window b first count) _ has writes)
+    ∙ sym (list-same b at xs (window_range (elements_window_from b first by count) low (low + to.len)) place (omega arith) (omega arith)
+    ∙ list-range b at xs (elements_window_from b first by count) low (low + to.len) skipped.span.beside (omega arith) (omega arith))

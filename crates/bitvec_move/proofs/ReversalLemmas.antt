@@ -1,16 +1,13 @@
 -- A window reversed from both ends, a block at a time.
-use Rattle.std.proofs.Common.{◌≡◌, ℕ, ◌+◌, ◌-◌, ◌*◌, ◌/◌, ◌%◌, ◌<◌, ◌≤◌, true, Bool, List, length, reverse, slice_range, take, refl, arith, rules, ap, ◌∙◌}
-use Rattle.std.proofs.Math.Nat.{mul-le-mul_left}
+use Rattle.std.proofs.Common.{◌≡◌, ℕ, ◌+◌, ◌-◌, ◌*◌, ◌/◌, ◌%◌, ◌<◌, ◌≤◌, true, Bool, List, length, reverse, slice_range, refl, arith, rules, ap, ◌∙◌}
 use Rattle.std.proofs.lemmas.List.{same_lists, places, get_or-reverse, length-reverse}
 use Rattle.bitvec_words.specs.base.declared.window.Window.{Window}
-use Rattle.bitvec_words.specs.base.Lists.{shifted_start}
 use Rattle.bitvec_words.specs.base.Memory.{Edits, HasWindow, Writes, list_in}
 use Rattle.bitvec_words.specs.base.Window.{window_range, write_at}
 use Rattle.bitvec_words.specs.base.WritesLaws.{HasWindow-kept, Writes-is, Writes-next, Writes-range, length-list, list-range}
 use Rattle.bitvec_words.specs.store.Width.{IsWidth}
 use Rattle.bitvec_words.specs.store.WidthLaws.{at_each_width}
 use Rattle.bitvec_words.specs.walk.Cost.{work_steps}
-use Rattle.bitvec_words.specs.ShortWindow.{padded}
 use Rattle.bitvec_move.specs.Ends.{ends_exchanged}
 
 -- at first all values are as they were
@@ -64,17 +61,14 @@ pub half-steps : (n : ℕ) → 2 * work_steps true (n / 2) ≤ work_steps true n
 unfolding work_steps
 half-steps n = omega arith
 
--- all but one of n elements have whole words, and not none
-pub room-words : (b n : ℕ) → IsWidth b → (n - 1) % 8 ≡ 0 → (b * (n - 1)) % 64 ≡ 0
-room-words b n width whole =
-    at_each_width (λ (w : ℕ). (w * (n - 1)) % 64 ≡ 0) (omega arith) (omega arith) (omega arith) (omega arith) (omega arith) b width
+pub work-some : (n : ℕ) → 0 < n → 0 < work_steps true n
+unfolding work_steps
+work-some n some = omega arith
 
-pub room-some : (b n : ℕ) → 0 < b → 1 < n → (0 < b * (n - 1)) × (b * (n - 1) + b ≤ b * n)
-room-some b n some more =
-    let rest : ℕ = n - 1 in
-    let all : b * n ≡ b * rest + b = ap (λ (m : ℕ). b * m) (let e : n ≡ rest + 1 = omega arith in e) ∙ omega arith in
-    let order = mul-le-mul_left b (let e : 1 ≤ rest = omega arith in e) in
-    (omega arith, omega arith)
+-- three fewer than n elements have whole words
+pub room-words : (b n : ℕ) → IsWidth b → (n - 3) % 8 ≡ 0 → (b * (n - 3)) % 64 ≡ 0
+room-words b n width whole =
+    at_each_width (λ (w : ℕ). (w * (n - 3)) % 64 ≡ 0) (omega arith) (omega arith) (omega arith) (omega arith) (omega arith) b width
 
 -- one block more
 pub block-words : (low k room : ℕ) → low % 64 ≡ 0 → room % 64 ≡ 0 → k ≡ room → (low + k) % 64 ≡ 0
@@ -83,10 +77,3 @@ block-words low k room words whole all = omega arith
 pub block-next : (low k m : ℕ) → low % 64 ≡ 0 → 2 * work_steps true (low + k) * m ≡ 2 * work_steps true low * m + 2 * work_steps true k * m
 unfolding work_steps
 block-next low k m words = ap (λ (n : ℕ). 2 * n * m) (let e : work_steps true (low + k) ≡ work_steps true low + work_steps true k = omega arith in e) ∙ omega arith
-
--- ---- words
-
--- the first bits of a word, which a list begins, are those of the list in the opposite order
-pub word-mirrored : (list : List Bool) (k : ℕ) → length list ≡ k → k ≤ 64 → take k (shifted_start (64 - k) (reverse (padded 64 list))) ≡ reverse list
-unfolding shifted_start padded
-word-mirrored list k long few = same_lists _ _ (search (rules, places, length-reverse)) (λ i d inside. grind (arith, places, get_or-reverse, length-reverse))

@@ -95,7 +95,7 @@ fn move_whole_to_start<O: BitOrder, C: Cells>(
 /// Moves the elements where `skip` is above 0: each stored element is joined of two that were loaded, and each
 /// element is loaded once.
 #[inline(always)]
-fn shift_whole_to_start<O: WordOrder, C: Cells>(
+pub(crate) fn shift_whole_to_start<O: WordOrder, C: Cells>(
     cells: &mut C,
     first: usize,
     source: usize,

@@ -1,59 +1,37 @@
 //! The bits of a window in the opposite order, by blocks from both ends: the elements of each are loaded into an
-//! array in the opposite order, and their bits are copied from it to the other end.
-ghost use Rattle.std.specs.Mem.{type_size};
-ghost use Rattle.std.specs.Prelude.{◌≡◌, ◌+◌, ◌-◌, ◌*◌, ◌%◌, ◌<◌, ◌≤◌, ◌↔◌, IsTrue, length, map, reverse as reversal, true};
+//! array in the opposite order, and copied from it to the other end.
+ghost use Rattle.std.specs.Prelude.{◌≡◌, ◌+◌, ◌-◌, ◌*◌, ◌%◌, ◌<◌, length, map, reverse as reversal, true};
 ghost use Rattle.bitvec_words.specs.base.Memory.{Edits, HasWindow, list_in};
 ghost use Rattle.bitvec_words.specs.cells.Access.{CostsAtMost, OnlyReads};
 ghost use Rattle.bitvec_words.specs.walk.Cost.{reverse_loads, reverse_stores, step_span, touched_count, work_steps};
-ghost use Rattle.bitvec_move.specs.Ends.{HoldsBeside, IsBlock, ends_exchanged};
+ghost use Rattle.bitvec_move.specs.Ends.{HasEnds, HoldsBeside, IsAmid, IsBlock, Mirrors, ends_exchanged};
 
-use crate::copying::copy;
+use crate::copying_equal::copy_equal;
+use crate::moving_to_start::shift_whole_to_start;
 use bitvec_words::base::Window;
-use bitvec_words::cells::{Cells, CellsRead, Shared};
+use bitvec_words::cells::{Cells, CellsRead, Exclusive, Shared};
 use bitvec_words::store::BitStore;
-use bitvec_words::{WORD_BITS, WordOrder, load_parts, reversed, store_parts, toward_start};
-use std::mem::size_of;
+use bitvec_words::{WordOrder, reversed};
 
 /// Reverses the bits of a window; all other bits of the memory stay. Condition: the memory has at
 /// most `MAX_BITS` bits, and the window lies in it.
 ///
-/// Blocks of at most 1,024 bits a side are exchanged, or of some thousands in windows of more than 2,048. It loads
-/// each touched element of a block once, and at most four of them again.
+/// It exchanges blocks of 16 elements a side, or of 128 in windows of more than 32 elements. It loads each touched
+/// element of a block once, and at most four of them again.
 #[inline(always)]
 pub fn reverse<O: WordOrder, C: Cells>(cells: &mut C, window: Window)
     requires { HasWindow C.Elem.BITS (C.numbers cells.old) window }
     ensures writes { Edits C.Elem.BITS O.at (C.numbers cells.old) (C.numbers cells.new) window reversal }
     ensures cost { CostsAtMost C.CellsRead cells.old cells.new (reverse_loads C.Elem.BITS true window.len) (reverse_stores C.Elem.BITS true window.len) }
 {
-    match C::Elem::BITS {
-        8 => reverse_ends::<O, C, 129, 513>(cells, window),
-        16 => reverse_ends::<O, C, 65, 257>(cells, window),
-        32 => reverse_ends::<O, C, 33, 129>(cells, window),
-        64 => reverse_ends::<O, C, 17, 65>(cells, window),
-        _ => reverse_ends::<O, C, 9, 65>(cells, window),
-    }
-}
-
-/// [`reverse`] with blocks of `FEW` elements in short windows, and of `MANY` in long ones.
-#[inline(always)]
-fn reverse_ends<O: WordOrder, C: Cells, const FEW: usize, const MANY: usize>(
-    cells: &mut C,
-    window: Window,
-)
-    requires window { HasWindow C.Elem.BITS (C.numbers cells.old) window }
-    requires few { IsBlock FEW }
-    requires many { IsBlock MANY }
-    ensures writes { Edits C.Elem.BITS O.at (C.numbers cells.old) (C.numbers cells.new) window reversal }
-    ensures cost { CostsAtMost C.CellsRead cells.old cells.new (reverse_loads C.Elem.BITS true window.len) (reverse_stores C.Elem.BITS true window.len) }
-{
-    if window.len <= 2048 {
-        reverse_blocks::<O, C, FEW>(cells, window);
+    if window.len <= 32 * C::Elem::BITS as usize {
+        reverse_blocks::<O, C, 19>(cells, window);
     } else {
-        reverse_blocks::<O, C, MANY>(cells, window);
+        reverse_blocks::<O, C, 131>(cells, window);
     }
 }
 
-/// [`reverse`] by blocks from each end, of the bits of one element fewer than `HELD`.
+/// [`reverse`] by blocks from each end, of the bits of three elements fewer than `HELD`.
 #[inline(always)]
 fn reverse_blocks<O: WordOrder, C: Cells, const HELD: usize>(cells: &mut C, window: Window)
     requires window { HasWindow C.Elem.BITS (C.numbers cells.old) window }
@@ -61,73 +39,22 @@ fn reverse_blocks<O: WordOrder, C: Cells, const HELD: usize>(cells: &mut C, wind
     ensures writes { Edits C.Elem.BITS O.at (C.numbers cells.old) (C.numbers cells.new) window reversal }
     ensures cost { CostsAtMost C.CellsRead cells.old cells.new (reverse_loads C.Elem.BITS true window.len) (reverse_stores C.Elem.BITS true window.len) }
 {
+    C::Elem::fits_in_memory();
     let mut first = [C::Elem::ZERO; HELD];
     let mut last = [C::Elem::ZERO; HELD];
-    let room = room_beside::<C::Elem>(HELD);
+    let room = C::Elem::BITS as usize * (HELD - 3);
     let half = window.len / 2;
     let mut low = 0;
     while low < half {
         let count = room.min(half - low);
-        if is_large::<C::Elem>() {
-            exchange_words::<O, C>(cells, window, low, count);
-            low += count;
-            continue;
-        }
         exchange_ends::<O, C>(cells, window, low, count, &mut first, &mut last);
         low += count;
     }
 }
 
-/// How many bits are exchanged a side: those of all but one of `held` elements, or of a word, where the
-/// elements are too large to be held.
-#[inline(always)]
-fn room_beside<T: BitStore>(held: usize) -> usize
-    requires { IsBlock held }
-    ensures some { 0 < result }
-    ensures words { result % 64 ≡ 0 }
-    ensures large { 16 < type_size T.row → result ≡ 64 }
-    ensures room { type_size T.row ≤ 16 → result + T.BITS ≤ T.BITS * held }
-{
-    if is_large::<T>() {
-        return WORD_BITS;
-    }
-    T::BITS as usize * (held - 1)
-}
-
-/// Whether an element takes more than 16 bytes, as none of the library's do.
-#[inline(always)]
-fn is_large<T: BitStore>() -> bool
-    ensures { IsTrue result ↔ 16 < type_size T.row }
-{
-    T::fits_in_memory();
-    // a product, since the borrow checker takes the size of a type parameter as a factor alone
-    1 * size_of::<T>() > 16
-}
-
 /// Exchanges `count` bits of a window from `low` on with those that end as far before its end, each in
-/// the opposite order. Condition: as for [`reverse`]; they lie apart, and are at most 64 a side.
-fn exchange_words<O: WordOrder, C: Cells>(cells: &mut C, window: Window, low: usize, count: usize)
-    requires window { HasWindow C.Elem.BITS (C.numbers cells.old) window }
-    requires some { 0 < count }
-    requires few { count ≤ 64 }
-    requires apart { low + count + (low + count) ≤ window.len }
-    ensures writes { Edits C.Elem.BITS O.at (C.numbers cells.old) (C.numbers cells.new) window (ends_exchanged low (window.len - low) count) }
-    ensures cost { let steps = 2 * work_steps true count in
-        CostsAtMost C.CellsRead cells.old cells.new (steps * (step_span C.Elem.BITS true + 2)) (steps * step_span C.Elem.BITS true) }
-{
-    let high = window.len - low;
-    let front = window.range(low, low + count);
-    let back = window.range(high - count, high);
-    let first = reversed::<O, u64>(load_parts::<O, C>(cells, front));
-    let last = reversed::<O, u64>(load_parts::<O, C>(cells, back));
-    let behind = WORD_BITS - count;
-    store_parts::<O, C>(cells, front, toward_start::<O, u64>(last, behind));
-    store_parts::<O, C>(cells, back, toward_start::<O, u64>(first, behind));
-}
-
-/// Exchanges `count` bits of a window from `low` on with those that end as far before its end, each in
-/// the opposite order, which two arrays hold in between. Condition: as for [`reverse`]; they lie apart, and
-/// the arrays are as long, with room for them and one element more.
+/// the opposite order, which two arrays hold in between. Condition: as for [`reverse`]; there are some, and they
+/// lie apart; the arrays are as long, with room for them and three elements more.
 #[inline(always)]
 fn exchange_ends<O: WordOrder, C: Cells>(
     cells: &mut C,
@@ -138,8 +65,7 @@ fn exchange_ends<O: WordOrder, C: Cells>(
     last: &mut [C::Elem],
 )
     requires window { HasWindow C.Elem.BITS (C.numbers cells.old) window }
-    requires some { 0 < count }
-    requires apart { low + count + (low + count) ≤ window.len }
+    requires ends { HasEnds window.len low count }
     requires held { HoldsBeside C.Elem.BITS count (length first.old) }
     requires lengths { length last.old ≡ length first.old }
     ensures writes { Edits C.Elem.BITS O.at (C.numbers cells.old) (C.numbers cells.new) window (ends_exchanged low (window.len - low) count) }
@@ -149,15 +75,17 @@ fn exchange_ends<O: WordOrder, C: Cells>(
     let high = window.len - low;
     let front = window.range(low, low + count);
     let back = window.range(high - count, high);
-    let from_first = load_mirrored::<O, C>(cells, front, first);
-    let from_last = load_mirrored::<O, C>(cells, back, last);
-    copy::<O, C, Shared<C::Elem>>(cells, front, &mut Shared::new(&*last), from_last);
-    copy::<O, C, Shared<C::Elem>>(cells, back, &mut Shared::new(&*first), from_first);
+    let mirrored = load_mirrored::<O, C>(cells, front, first);
+    let from_first = in_phase::<O, C::Elem>(first, mirrored, back.start);
+    let mirrored = load_mirrored::<O, C>(cells, back, last);
+    let from_last = in_phase::<O, C::Elem>(last, mirrored, front.start);
+    copy_equal::<O, C, Shared<C::Elem>>(cells, front, &mut Shared::new(&*last), from_last);
+    copy_equal::<O, C, Shared<C::Elem>>(cells, back, &mut Shared::new(&*first), from_first);
 }
 
-/// Loads the elements that a window touches into the last ones of some others, each in the opposite
-/// order, and gives the window of these that has the window's bits. Condition: as for [`reverse`]; the
-/// others have room for the window and one element more.
+/// Loads the elements that a window touches into the last ones but one of some others, each in the opposite
+/// order, and gives the window of these that has the window's bits. Condition: as for [`reverse`]; the window
+/// isn't empty, and the others have room for it and three elements more.
 #[inline(always)]
 fn load_mirrored<O: WordOrder, C: Cells>(
     cells: &mut C,
@@ -167,23 +95,43 @@ fn load_mirrored<O: WordOrder, C: Cells>(
     requires window { HasWindow C.Elem.BITS (C.numbers cells.old) window }
     requires some { 0 < window.len }
     requires held { HoldsBeside C.Elem.BITS window.len (length held.old) }
-    ensures window { HasWindow C.Elem.BITS (map C.Elem.value held.new) result }
-    ensures len { result.len ≡ window.len }
-    ensures list { list_in C.Elem.BITS O.at (map C.Elem.value held.new) result
-        ≡ reversal (list_in C.Elem.BITS O.at (C.numbers cells.old) window) }
-    ensures length { length held.new ≡ length held.old }
+    ensures mirrors { Mirrors C.Elem.BITS O.at (C.numbers cells.old) window (map C.Elem.value held.new) result }
     ensures reads { OnlyReads C.CellsRead cells.old cells.new (touched_count C.Elem.BITS window.start window.len) }
 {
     let bits = C::Elem::BITS as usize;
     let (first, skip) = (window.start / bits, window.start % bits);
     let most = held.len();
     let count = (skip + window.len - 1) / bits + 1;
-    let (from, last) = (most - count, first + count - 1);
+    let (from, last) = (most - 1 - count, first + count - 1);
     for step in 0..count {
         held[from + step] = reversed::<O, C::Elem>(cells.load(last - step));
     }
     Window {
-        start: bits * most - skip - window.len,
+        start: bits * (most - 1) - skip - window.len,
         len: window.len,
     }
+}
+
+/// Moves a window of some elements toward their start until it begins at the same index of an element as
+/// the bit `other`, and gives its new place. Condition: an element stands before the window, and one behind it.
+///
+/// It is left out of line, since it works on an array alone: so what is inlined into [`reverse`] stays small.
+fn in_phase<O: WordOrder, T: BitStore>(held: &mut [T], window: Window, other: usize) -> Window
+    requires { IsAmid T.BITS (map T.value held.old) window }
+    ensures window { HasWindow T.BITS (map T.value held.new) result }
+    ensures len { result.len ≡ window.len }
+    ensures phase { result.start % T.BITS ≡ other % T.BITS }
+    ensures list { list_in T.BITS O.at (map T.value held.new) result ≡ list_in T.BITS O.at (map T.value held.old) window }
+{
+    let bits = T::BITS as usize;
+    let by = (window.start - other % bits) % bits;
+    let start = window.start - by;
+    let len = window.len;
+    if by > 0 {
+        let first = start / bits;
+        let count = (start % bits + len - 1) / bits + 1;
+        let mut cells = Exclusive::new(held);
+        shift_whole_to_start::<O, Exclusive<T>>(&mut cells, first, first, by, count);
+    }
+    Window { start, len }
 }

@@ -1,7 +1,7 @@
 //! The elements that a memory is made of.
 ghost use Rattle.std.specs.Prelude.{◌≡◌, ℕ, ◌+◌, ◌-◌, ◌*◌, ◌/◌, ◌%◌, ◌^◌, ◌<◌, ◌≤◌, length, map, take, drop, bit_and, bit_or, bit_xor, count_ones};
 ghost use Rattle.std.specs.Int.Count.{count_leading_zeros, count_trailing_zeros};
-ghost use Rattle.std.specs.Mem.{FitsInMemory};
+ghost use Rattle.std.specs.Mem.{FitsInMemory, type_size};
 ghost use Rattle.std.specs.Simd.Lanes.{digits_l};
 ghost use Rattle.bitvec_store.specs.Width.{IsWidth};
 
@@ -31,9 +31,11 @@ pub trait BitStore: Copy + Drop {
     fn in_range(self)
         ensures { value self < 2 ^ BITS };
 
-    /// Tells a proof that an element takes fewer than `2^63` bytes; it does nothing when it runs.
+    /// Tells a proof that an element takes at most `2^32` bytes, so that arrays of thousands of them fit; it does
+    /// nothing when it runs.
     fn fits_in_memory()
-        ensures { FitsInMemory Self.row };
+        ensures memory { FitsInMemory Self.row }
+        ensures size { type_size Self.row ≤ 2 ^ 32 };
 
     /// The element of a number. Condition: the number fits the width.
     fn from_u128(number: u128) -> Self

@@ -7,7 +7,7 @@ use Rattle.bitvec_words.specs.base.WritesLaws.{HasWindow-kept, Writes-holds, Wri
 use Rattle.bitvec_words.specs.FieldLaws.{Writes-no_element}
 use Rattle.bitvec_words.specs.Elements.{elements_window}
 use Rattle.bitvec_words.specs.WholeLaws.{list-empty}
-use Rattle.bitvec_move.proofs.MirroredLemmas.{last-has, mirrored-element, mirrored-room, mirrored-window, touched-has, touched-places, touched-window}
+use Rattle.bitvec_move.proofs.MirroredLemmas.{held-amid, held-room, held-some, last-has, mirrored-element, mirrored-window, touched-beside, touched-has, touched-places, touched-window}
 use Rattle.bitvec_move.proofs.reversing.load_mirrored.Goals as goal
 
 pub loop-step-init : goal.loop-step-init
@@ -22,13 +22,13 @@ loop-step-init g c =
     let some = width_some _ g.met.C.Elem.BitStore.width_law in
     let first : ℕ = window.start / b in
     let count : ℕ = (window.start % b + window.len - 1) / b + 1 in
-    let touched = touched-window b window.start window.len most some c.requires.some c.requires.held.room in
-    let room = mirrored-room b (map value held) most count touched.fits (length-map held value) c.requires.held.fits in
+    let inside = touched-beside b window.start window.len most some c.requires.some c.requires.held in
+    let room = held-room b (map value held) (most - 1 - count) count most (omega arith) (length-map held value) c.requires.held.fits in
     let none : Window = record { start = 0; len = 0 } in
     record {
       writes = rw c.BITS-bits.ensures
           (Writes-is b at _ _ _ _ _
-          (Writes-no_element b at (map value held) old (most - count) count none room refl)
+          (Writes-no_element b at (map value held) old (most - 1 - count) count none room refl)
           (list-empty b at old none refl ∙ sym (ap reverse (list-empty b at old (elements_window b (first + count - 1 + 1 - 0) 0) (omega arith)))));
       reads = search rules;
     }
@@ -45,8 +45,9 @@ loop-step-preserved g c =
     let some = width_some _ g.met.C.Elem.BitStore.width_law in
     let first : ℕ = window.start / b in
     let count : ℕ = (window.start % b + window.len - 1) / b + 1 in
-    let touched = touched-window b window.start window.len most some c.requires.some c.requires.held.room in
-    let room = mirrored-room b (map value held) most count touched.fits (length-map held value) c.requires.held.fits in
+    let touched = touched-window b window.start window.len some c.requires.some in
+    let inside = touched-beside b window.start window.len most some c.requires.some c.requires.held in
+    let room = held-room b (map value held) (most - 1 - count) count most (omega arith) (length-map held value) c.requires.held.fits in
     let step = c.loop-step.step in
     let below = rw c.BITS-bits.ensures at c.loop-step-test.true in
     let next : ℕ = first + (count - (step + 1)) in
@@ -55,14 +56,14 @@ loop-step-preserved g c =
     let made = rw (c.load.ensures.value, c.loop-step.invariant.reads.numbers, c.BITS-bits.ensures, (let e : first + count - 1 - step ≡ next = omega arith in e)) at c.reversed.ensures in
     let has = touched-has b old window count c.requires.window (omega arith) touched.least in
     record {
-      writes = rw (c.BITS-bits.ensures, map-set value c.loop-step.held (most - count + step) c.reversed.result, now)
-          (mirrored-element b at (map value held) (map value c.loop-step.held) old (most - count) count step next (value c.reversed.result) some room below
+      writes = rw (c.BITS-bits.ensures, map-set value c.loop-step.held (most - 1 - count + step) c.reversed.result, now)
+          (mirrored-element b at (map value held) (map value c.loop-step.held) old (most - 1 - count) count step next (value c.reversed.result) some room below
           (last-has b old first count (step + 1) has (omega arith)) made before);
       reads = search rules;
     }
 
-pub returns-clause-list : goal.returns-clause-list
-returns-clause-list g c =
+pub returns-clause-mirrors : goal.returns-clause-mirrors
+returns-clause-mirrors g c =
     let b = g.C.Elem.BitStore.BITS in
     let at = g.O.BitOrder.at in
     let value = g.C.Elem.BitStore.value in
@@ -73,8 +74,10 @@ returns-clause-list g c =
     let some = width_some _ g.met.C.Elem.BitStore.width_law in
     let first : ℕ = window.start / b in
     let count : ℕ = (window.start % b + window.len - 1) / b + 1 in
-    let touched = touched-window b window.start window.len most some c.requires.some c.requires.held.room in
-    let room = mirrored-room b (map value held) most count touched.fits (length-map held value) c.requires.held.fits in
+    let positive = held-some b window.len most c.requires.held c.requires.some in
+    let touched = touched-window b window.start window.len some c.requires.some in
+    let inside = touched-beside b window.start window.len most some c.requires.some c.requires.held in
+    let room = held-room b (map value held) (most - 1 - count) count most (omega arith) (length-map held value) c.requires.held.fits in
     let place = div-add-mod' window.start b in
     let below = mod_below window.start b some in
     let end = rw c.BITS-bits.ensures at c.loop-step-test.false in
@@ -82,12 +85,19 @@ returns-clause-list g c =
     let all : c.loop-step.step ≡ count = omega arith in
     let writes = rw (c.BITS-bits.ensures, all, (let e : first + count - 1 + 1 - count ≡ first = omega arith in e)) at c.loop-step.invariant.writes in
     let has = touched-has b old window count c.requires.window (omega arith) touched.least in
-    let sum : most * b ≡ (most - count) * b + count * b = ap (λ (n : ℕ). n * b) (let e : most ≡ most - count + count = omega (arith, touched.fits) in e) ∙ omega arith in
-    let fits = c.requires.held.room in
-    rw c.BITS-bits.ensures
-    (mirrored-window b at (map value c.loop-step.held) old (most - count) first count window _
-    (HasWindow-kept b (map value held) _ _ room writes.elements) has touched.start touched.end refl (omega arith)
-    (Writes-holds b at (map value held) _ _ _ room writes))
+    let long = length-map held value in
+    let size = writes.elements in
+    let to : Window = record { start = b * (most - 1) - window.start % b - window.len; len = window.len } in
+    let amid = held-amid b (map value c.loop-step.held) window.len (window.start % b) most to c.requires.some below (size ∙ long) c.requires.held refl refl in
+    let sum : b * (most - 1) ≡ (most - 1 - count) * b + count * b = ap (λ (n : ℕ). b * n) (let e : most - 1 ≡ most - 1 - count + count = omega arith in e) ∙ omega arith in
+    let far = amid.before in
+    rw c.BITS-bits.ensures (record {
+      place = amid;
+      len = refl;
+      list = mirrored-window b at (map value c.loop-step.held) old (most - 1 - count) first count window to
+          (HasWindow-kept b (map value held) _ _ room writes.elements) has touched.start touched.end refl (omega arith)
+          (Writes-holds b at (map value held) _ _ _ room writes);
+    })
 
 pub returns-clause-reads : goal.returns-clause-reads
 returns-clause-reads g c =

@@ -1,8 +1,8 @@
-use Rattle.std.proofs.Common.{◌≡◌, ◌+◌, ◌/◌, arith, rules, sym, ◌∙◌, true}
+use Rattle.std.proofs.Common.{◌≡◌, ◌+◌, ◌-◌, ◌*◌, ◌/◌, arith, rules, sym, ◌∙◌, true}
 use Rattle.std.proofs.Math.Nat.{mul-le-mul_left}
 use Rattle.bitvec_words.specs.base.WritesLaws.{Writes-is, Writes-start, length-list}
 use Rattle.bitvec_words.specs.walk.Cost.{reverse_loads, reverse_stores, step_span}
-use Rattle.bitvec_move.proofs.ReversalLemmas.{Writes-mirrored, block-next, block-words, half-steps, mirrored-all, mirrored-none}
+use Rattle.bitvec_move.proofs.ReversalLemmas.{Writes-mirrored, block-next, block-words, half-steps, mirrored-all, mirrored-none, room-words}
 use Rattle.bitvec_move.proofs.reversing.reverse_blocks.Goals as goal
 
 pub loop-low-init : goal.loop-low-init
@@ -25,34 +25,15 @@ loop-low-preserved g c =
     let low = c.loop-low.low in
     let count = c.min-count.result in
     let words = c.loop-low.invariant.words c.loop-low-test.true in
-    let is = c.min-count.ensures in
+    let is = rw c.BITS.ensures at c.min-count.ensures in
     let before = c.loop-low.invariant.cost in
     let cost = c.exchange_ends.ensures.cost in
     let loads = block-next low count (step_span b true + 2) words in
     let stores = block-next low count (step_span b true) words in
     record {
       bound = omega arith;
-      words = λ left. block-words low count c.room_beside-room.result words c.room_beside-room.ensures.words (omega arith);
+      words = λ left. block-words low count (b * (g.row.HELD - 3)) words (room-words b g.row.HELD g.met.C.Elem.BitStore.width_law c.requires.held.words) (omega arith);
       writes = Writes-mirrored b at _ _ _ c.args.window low count c.requires.window (omega arith) c.loop-low.invariant.writes c.exchange_ends.ensures.writes;
-      cost = record { borrow = cost.borrow ∙ before.borrow; loads = omega arith; stores = omega arith };
-    }
-
-pub loop-low-preserved-then-is_large : goal.loop-low-preserved-then-is_large
-loop-low-preserved-then-is_large g c =
-    let b = g.C.Elem.BitStore.BITS in
-    let at = g.O.BitOrder.at in
-    let low = c.loop-low.low in
-    let count = c.min-count.result in
-    let words = c.loop-low.invariant.words c.loop-low-test.true in
-    let is = c.min-count.ensures in
-    let before = c.loop-low.invariant.cost in
-    let cost = c.exchange_words.ensures.cost in
-    let loads = block-next low count (step_span b true + 2) words in
-    let stores = block-next low count (step_span b true) words in
-    record {
-      bound = omega arith;
-      words = λ left. block-words low count c.room_beside-room.result words c.room_beside-room.ensures.words (omega arith);
-      writes = Writes-mirrored b at _ _ _ c.args.window low count c.requires.window (omega arith) c.loop-low.invariant.writes c.exchange_words.ensures.writes;
       cost = record { borrow = cost.borrow ∙ before.borrow; loads = omega arith; stores = omega arith };
     }
 
