@@ -1,2 +1,1 @@
-pub mod GroupLemmas
-pub mod SpanLemmas
+pub mod RoomLemmas

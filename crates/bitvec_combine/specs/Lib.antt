@@ -1,6 +1,7 @@
 pub mod Cited
+pub mod CombineLaws
+pub mod DifferLaws
 pub mod Sides
-pub mod Spans
 pub use Rattle.bitvec_move.specs.base as base
 pub use Rattle.bitvec_move.specs.cells as cells
 pub use Rattle.bitvec_move.specs as moves

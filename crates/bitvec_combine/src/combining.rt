@@ -1,28 +1,73 @@
-//! Each bit of a window with the one at its index in another, elements at a time. All down to the loops is
-//! inlined into the function that makes the accessors, so that each operator has loops of its own.
-ghost use Rattle.std.specs.Prelude.{◌≡◌, ◌-◌, ◌*◌, ◌/◌, ◌%◌, ◌<◌, true};
+//! Each bit of a window with the one at its index in another. All down to the loops is inlined into the function that
+//! makes the accessors, so that each operator has loops of its own.
+ghost use Rattle.std.specs.Prelude.{◌≡◌, ◌+◌, ◌-◌, ◌%◌, ◌^◌, ◌<◌, ◌≤◌, true, false, []};
+ghost use Rattle.std.proofs.Common.{rules};
 ghost use Rattle.bitvec_move.specs.base.Lists.{combined};
 ghost use Rattle.bitvec_move.specs.base.Memory.{HasWindow, Writes, list_in};
-ghost use Rattle.bitvec_move.specs.cells.Access.{CostsAtMost, OnlyReads, OnlyReadsAtMost};
+ghost use Rattle.bitvec_move.specs.base.Spans.{HasSpan};
+ghost use Rattle.bitvec_move.specs.cells.Access.{CostsAtMost, OnlyReadsAtMost};
 ghost use Rattle.bitvec_move.specs.walk.Cost.{edit_loads, read_loads, touched_count, write_stores};
 ghost use Rattle.bitvec_move.specs.words.Operator.{operator};
-ghost use Rattle.bitvec_combine.specs.Sides.{Combines};
-ghost use Rattle.bitvec_combine.specs.Spans.{HasShiftedShorter, HasShorter};
+ghost use Rattle.bitvec_move.specs.Acts.{HasMet};
+ghost use Rattle.bitvec_move.specs.store.WidthLaws.{width_some};
+ghost use Rattle.bitvec_combine.specs.CombineLaws.{combines-empty, combines-join};
+ghost use Rattle.bitvec_combine.specs.Sides.{Combines, CombinesBits};
 
-use crate::combining_elements::{
-    combine_end, combine_head, combine_joined, combine_whole, combine_zeros, padded,
-};
-use bitvec_move::base::{BitOrder, Window, first_part, whole_elements};
+use bitvec_move::base::{BitOrder, Part, Window};
 use bitvec_move::cells::{Cells, CellsRead};
 use bitvec_move::store::BitStore;
-use bitvec_move::words::{BitOp, WordOrder, load_element, load_element_after};
+use bitvec_move::words::{BitOp, WordOrder, fill, merged};
+use bitvec_move::{Act, act_equal, act_shifted};
+
+/// The act that replaces each bit by what an operator makes of it and the other one.
+#[derive(Clone, Copy)]
+struct Apply {
+    op: BitOp,
+}
+
+impl<C: Cells> Act<C> for Apply {
+    ghost Done = { λ at old new window list s t. CombinesBits C.CellsRead C.Elem.BITS at old new window list s.op t.op };
+
+    ghost stopped = { λ s. false };
+
+    #[inline(always)]
+    fn span(_bits: usize) -> usize {
+        0
+    }
+
+    #[inline(always)]
+    fn stops(&self) -> bool {
+        false
+    }
+
+    #[inline(always)]
+    fn whole<O: BitOrder>(&mut self, cells: &mut C, index: usize, other: C::Elem) {
+        let element = cells.load(index);
+        cells.store(index, self.op.of_elements::<O, C::Elem>(element, other));
+    }
+
+    fn part<O: BitOrder>(&mut self, cells: &mut C, part: Part, other: C::Elem) {
+        let old = cells.load(part.element);
+        let new = self.op.of_elements::<O, C::Elem>(old, other);
+        let made = merged::<O, C::Elem>(old, new, part.from, part.to);
+        cells.store(part.element, made);
+    }
+
+    ghost empty_law = { λ at c window s. combines-empty C.CellsRead C.Elem.BITS at c window s.op };
+
+    ghost join_law = { λ at c d e whole first second list other s t u. combines-join C.CellsRead C.Elem.BITS at c d e whole first second list other s.op t.op u.op (width_some C.Elem.BITS C.Elem.width_law) };
+
+    ghost stop_law = { Prim.search rules };
+
+    ghost kept_law = { λ at c d window list s t done. done.writes.elements };
+}
 
 /// Replaces each bit of a window by what the operator makes of it and the one at its index in a
 /// window of another memory of the same elements, which counts as 0 past that window's end.
 /// Condition: each memory has at most `MAX_BITS` bits, and each window lies in its memory. It loads
 /// and stores each element that the window touches at most once, and loads each element with a bit
 /// that both have on the right once.
-#[tactic(auto, using(bitvec_move::specs::Cited::in_steps, bitvec_move::specs::Cited::width_some))]
+#[tactic(auto, using(bitvec_move::specs::Cited::in_steps, bitvec_move::specs::Cited::width_some, crate::specs::CombineLaws::passed))]
 #[inline(always)]
 pub fn combine<O: WordOrder, C: Cells, D: CellsRead<Elem = C::Elem>>(
     left: &mut C,
@@ -43,11 +88,35 @@ pub fn combine<O: WordOrder, C: Cells, D: CellsRead<Elem = C::Elem>>(
         combine_zeros::<O, C>(left, to, op);
         return;
     }
-    combine_met::<O, C, D>(left, to, right, from.until(from.len - met), op);
+    let passed = reached(C::Elem::BITS as usize, to, met);
+    let first = to.until(to.len - passed);
+    combine_met::<O, C, D>(left, first, right, from.until(from.len - met), op);
+    combine_zeros::<O, C>(left, to.after(passed), op);
 }
 
-/// Combines where the other window is neither empty nor longer. No element is taken for itself before the others
-/// where both windows begin with one, so that a loop has all of them.
+/// How many bits of a window stand up to the end of the element in which its first `met` bits end.
+#[inline(always)]
+fn reached(bits: usize, window: Window, met: usize) -> usize
+    requires bits { 0 < bits }
+    requires bound { met ≤ window.len }
+    requires end { window.start + window.len < 2 ^ 64 }
+    ensures bound { result ≤ window.len }
+    ensures met { met ≤ result }
+    ensures inside { met < result → 0 < (window.start + met) % bits }
+    ensures reach { (window.start + met) % bits + (result - met) ≤ bits }
+    ensures edge { result < window.len → (window.start + result) % bits ≡ 0 }
+{
+    if met == window.len {
+        return met;
+    }
+    let end = (window.start + met) % bits;
+    if end == 0 {
+        return met;
+    }
+    met + (window.len - met).min(bits - end)
+}
+
+/// Combines a window with one that isn't empty, and ends in the last element that the window touches.
 #[inline(always)]
 fn combine_met<O: WordOrder, C: Cells, D: CellsRead<Elem = C::Elem>>(
     left: &mut C,
@@ -56,108 +125,52 @@ fn combine_met<O: WordOrder, C: Cells, D: CellsRead<Elem = C::Elem>>(
     from: Window,
     op: BitOp,
 )
-    requires span { HasShorter C.Elem.BITS (C.numbers left.old) (D.numbers right.old) to from }
-    requires some { 0 < from.len }
+    requires { HasMet C.Elem.BITS (C.numbers left.old) (D.numbers right.old) to from }
     ensures writes { Combines C.Elem.BITS O.at op (C.numbers left.old) (C.numbers left.new) (D.numbers right.old) to from }
     ensures cost { let each = touched_count C.Elem.BITS to.start to.len in CostsAtMost C.CellsRead left.old left.new each each }
-    ensures right { OnlyReads D.CellsRead right.old right.new (touched_count C.Elem.BITS from.start from.len) }
+    ensures right { OnlyReadsAtMost D.CellsRead right.old right.new (touched_count C.Elem.BITS from.start from.len) }
 {
     let bits = C::Elem::BITS as usize;
-    if to.len > bits && to.start % bits == 0 && from.start % bits == 0 {
-        combine_aligned::<O, C, D>(left, to, right, from, op);
-        return;
+    let mut act = Apply { op };
+    if to.start % bits == from.start % bits {
+        act_equal::<O, C, D, Apply>(left, to, right, from, &mut act);
+    } else {
+        act_shifted::<O, C, D, Apply>(left, to, right, from, &mut act);
     }
-    combine_behind_part::<O, C, D>(left, to, right, from, op);
 }
 
-/// Combines a part of one element first, then what is left.
-#[inline(always)]
-fn combine_behind_part<O: WordOrder, C: Cells, D: CellsRead<Elem = C::Elem>>(
+/// Replaces each bit of a window by what the operator makes of it and the one at its index in a
+/// window that is as long and begins at the same index of an element, under any order. Condition: as
+/// of [`crate::combine`], and the windows aren't empty. It loads and stores each element that the
+/// window touches at most once, and loads each on the right once.
+pub fn combine_equal<O: BitOrder, C: Cells, D: CellsRead<Elem = C::Elem>>(
     left: &mut C,
     to: Window,
     right: &mut D,
     from: Window,
     op: BitOp,
 )
-    requires span { HasShorter C.Elem.BITS (C.numbers left.old) (D.numbers right.old) to from }
-    requires some { 0 < from.len }
+    requires span { HasSpan C.Elem.BITS (C.numbers left.old) (D.numbers right.old) to from }
+    requires some { 0 < to.len }
+    requires phases { to.start % C.Elem.BITS ≡ from.start % C.Elem.BITS }
     ensures writes { Combines C.Elem.BITS O.at op (C.numbers left.old) (C.numbers left.new) (D.numbers right.old) to from }
     ensures cost { let each = touched_count C.Elem.BITS to.start to.len in CostsAtMost C.CellsRead left.old left.new each each }
-    ensures right { OnlyReads D.CellsRead right.old right.new (touched_count C.Elem.BITS from.start from.len) }
+    ensures right { OnlyReadsAtMost D.CellsRead right.old right.new (touched_count C.Elem.BITS from.start from.len) }
 {
-    let bits = C::Elem::BITS as usize;
-    let head = first_part(bits, to);
-    let passed = head.len();
-    let met = passed.min(from.len);
-    let carry = combine_head::<O, C, D>(left, head, right, from.until(from.len - met), op);
-    if passed == to.len {
-        return;
-    }
-    let rest = to.after(passed);
-    let behind = from.after(met);
-    if behind.start % bits == 0 {
-        combine_aligned::<O, C, D>(left, rest, right, behind, op);
-        return;
-    }
-    combine_shifted::<O, C, D>(left, rest, right, behind, carry, op);
+    act_equal::<O, C, D, Apply>(left, to, right, from, &mut Apply { op });
 }
 
-/// Combines two windows that begin where elements do, of which the other may be empty.
-#[inline(always)]
-fn combine_aligned<O: WordOrder, C: Cells, D: CellsRead<Elem = C::Elem>>(
-    left: &mut C,
-    to: Window,
-    right: &mut D,
-    from: Window,
-    op: BitOp,
-)
-    requires span { HasShorter C.Elem.BITS (C.numbers left.old) (D.numbers right.old) to from }
-    requires edge { to.start % C.Elem.BITS ≡ 0 }
-    requires right_edge { from.start % C.Elem.BITS ≡ 0 }
-    ensures writes { Combines C.Elem.BITS O.at op (C.numbers left.old) (C.numbers left.new) (D.numbers right.old) to from }
-    ensures cost { let each = touched_count C.Elem.BITS to.start to.len in CostsAtMost C.CellsRead left.old left.new each each }
-    ensures right { OnlyReads D.CellsRead right.old right.new (touched_count C.Elem.BITS from.start from.len) }
+/// Replaces the bits of a window by what the operator makes of them and zeros. Condition: the memory
+/// has at most `MAX_BITS` bits, and the window lies in it. It loads and stores each element that the
+/// window touches at most once.
+pub fn combine_zeros<O: BitOrder, C: Cells>(cells: &mut C, window: Window, op: BitOp)
+    requires { HasWindow C.Elem.BITS (C.numbers cells.old) window }
+    ensures writes { Writes C.Elem.BITS O.at (C.numbers cells.old) (C.numbers cells.new) window
+        (combined (operator op) (list_in C.Elem.BITS O.at (C.numbers cells.old) window) []) }
+    ensures cost { let each = touched_count C.Elem.BITS window.start window.len in CostsAtMost C.CellsRead cells.old cells.new each each }
 {
-    let bits = C::Elem::BITS as usize;
-    let (source, count) = whole_elements(bits, from);
-    let first = to.start / bits;
-    combine_whole::<O, C, D>(left, first, right, source, count, op);
-    let passed = count * bits;
-    let (rest, tail) = (to.after(passed), from.after(passed));
-    if tail.len == 0 {
-        combine_zeros::<O, C>(left, rest, op);
-        return;
+    match op {
+        BitOp::And => fill::<O, C>(cells, window, false),
+        BitOp::Or | BitOp::Xor => {}
     }
-    let (front, _) = load_element::<O, D>(right, tail);
-    combine_end::<O, C>(left, rest, padded::<O, C::Elem>(front, tail.len), op);
-}
-
-/// Combines a window that begins where an element does and another that doesn't, whose first
-/// element was loaded before.
-#[inline(always)]
-fn combine_shifted<O: WordOrder, C: Cells, D: CellsRead<Elem = C::Elem>>(
-    left: &mut C,
-    to: Window,
-    right: &mut D,
-    from: Window,
-    carry: C::Elem,
-    op: BitOp,
-)
-    requires { HasShiftedShorter C.Elem.BITS (C.numbers left.old) (D.numbers right.old) to from (C.Elem.value carry) }
-    ensures writes { Combines C.Elem.BITS O.at op (C.numbers left.old) (C.numbers left.new) (D.numbers right.old) to from }
-    ensures cost { let each = touched_count C.Elem.BITS to.start to.len in CostsAtMost C.CellsRead left.old left.new each each }
-    ensures right { OnlyReads D.CellsRead right.old right.new (touched_count C.Elem.BITS from.start from.len - 1) }
-{
-    let bits = C::Elem::BITS as usize;
-    let count = from.len / bits;
-    let (first, source, skip) = (to.start / bits, from.start / bits, from.start % bits);
-    let last = combine_joined::<O, C, D>(left, first, right, source, carry, skip, count, op);
-    let passed = count * bits;
-    let (rest, tail) = (to.after(passed), from.after(passed));
-    if tail.len == 0 {
-        combine_zeros::<O, C>(left, rest, op);
-        return;
-    }
-    let (front, _) = load_element_after::<O, D>(right, tail, last);
-    combine_end::<O, C>(left, rest, padded::<O, C::Elem>(front, tail.len), op);
 }

@@ -1,21 +1,91 @@
 //! The bits of two windows compared, many at a time.
-ghost use Rattle.std.specs.Prelude.{◌≡◌, true};
+ghost use Rattle.std.specs.Prelude.{◌≡◌, ◌≢◌, ◌%◌, ◌<◌, ◌==◌, true, not, length};
+ghost use Rattle.std.proofs.Common.{ap};
 ghost use Rattle.bitvec_move.specs.base.Lists.{same_bits};
 ghost use Rattle.bitvec_move.specs.base.Memory.{HasWindow, list_in};
+ghost use Rattle.bitvec_move.specs.base.Spans.{HasSpan};
 ghost use Rattle.bitvec_move.specs.cells.Access.{OnlyReadsAtMost};
-ghost use Rattle.bitvec_move.specs.walk.Cost.{equal_loads};
+ghost use Rattle.bitvec_move.specs.walk.Cost.{equal_loads, touched_count};
+ghost use Rattle.bitvec_combine.specs.DifferLaws.{finds-both, finds-early, finds-none};
+ghost use Rattle.bitvec_combine.specs.Sides.{FindsDifference};
 
-use crate::comparing_equal::equal_unshifted;
-use crate::comparing_shifted::equal_shifted;
-use bitvec_move::base::{BitOrder, Window};
+use bitvec_move::base::{BitOrder, Part, Window};
 use bitvec_move::cells::CellsRead;
 use bitvec_move::store::BitStore;
-use bitvec_move::words::WordOrder;
+use bitvec_move::words::{WORD_BITS, WordOrder};
+use bitvec_move::{Act, act_equal, act_shifted};
+
+/// How many bits are compared before each test. A test after each single element would keep the loop
+/// from vector instructions; LLVM doesn't unroll longer loops over the widest elements, so they have none.
+const BITS_PER_TEST: usize = 2048;
+
+/// Compares windows that are shorter than that.
+const BITS_PER_SHORT_TEST: usize = 1024;
+
+/// The act that gathers in an element each bit that differs, and stops soon after one.
+#[derive(Clone, Copy)]
+struct Differ<T: BitStore, const TESTED: usize> {
+    found: T,
+}
+
+impl<T: BitStore, C: CellsRead<Elem = T>, const TESTED: usize> Act<C> for Differ<T, TESTED> {
+    ghost Done = { λ at old new window list s t. FindsDifference C.CellsRead T.BITS at old new window list (T.value s.found) (T.value t.found) };
+
+    ghost stopped = { λ s. not (T.value s.found == 0) };
+
+    #[inline(always)]
+    fn span(bits: usize) -> usize {
+        (TESTED / bits).max(1)
+    }
+
+    #[inline(always)]
+    fn stops(&self) -> bool {
+        !is_zero::<T>(self.found)
+    }
+
+    #[inline(always)]
+    fn whole<O: BitOrder>(&mut self, cells: &mut C, index: usize, other: T) {
+        other.in_range();
+        let element = cells.load(index);
+        self.found = self.found.or(element.xor(other));
+    }
+
+    #[inline(always)]
+    fn part<O: BitOrder>(&mut self, cells: &mut C, part: Part, other: T) {
+        other.in_range();
+        let element = cells.load(part.element);
+        let differing = element.xor(other).and(O::mask::<T>(part.from, part.to));
+        self.found = self.found.or(differing);
+    }
+
+    ghost empty_law = { λ at c window s has none. finds-none C.CellsRead T.BITS at c window (T.value s.found) none };
+
+    ghost join_law = { λ at c d e whole first second list other s t u.
+        finds-both C.CellsRead T.BITS at c d e whole first second list other (T.value s.found) (T.value t.found) (T.value u.found) T.width_law };
+
+    ghost stop_law = { λ at c d whole first list other s t.
+        finds-early C.CellsRead T.BITS at c d whole first list other (T.value s.found) (T.value t.found) T.width_law };
+
+    ghost kept_law = { λ at c d window list s t done. ap length done.reads.numbers };
+}
+
+/// Whether an element is 0, by its halves: a test of 128 bits as one number would keep a loop over
+/// elements of 128 bits from vector instructions.
+#[inline(always)]
+fn is_zero<T: BitStore>(element: T) -> bool
+    ensures { result ≡ (T.value element == 0) }
+{
+    let number = element.to_u128();
+    let low = (number % (1 << WORD_BITS)) as u64;
+    let high = (number >> WORD_BITS) as u64;
+    low | high == 0
+}
 
 /// Whether two windows have the same bits. Condition: each memory has at most `MAX_BITS` bits, and
 /// each window lies in its memory. On each side it loads each element that the window touches at
 /// most once, and none where the windows aren't as long; it stops soon after the first bits that
 /// differ.
+#[tactic(auto, using(crate::specs::DifferLaws::compared))]
 pub fn equal<O: WordOrder, C: CellsRead, D: CellsRead<Elem = C::Elem>>(
     left: &mut C,
     left_window: Window,
@@ -40,4 +110,88 @@ pub fn equal<O: WordOrder, C: CellsRead, D: CellsRead<Elem = C::Elem>>(
         return equal_unshifted::<O, C, D>(left, left_window, right, right_window);
     }
     equal_shifted::<O, C, D>(left, left_window, right, right_window)
+}
+
+/// Whether a window has the bits of one whose first bit has another index in its element.
+#[tactic(auto, using(crate::specs::DifferLaws::found_same))]
+fn equal_shifted<O: WordOrder, C: CellsRead, D: CellsRead<Elem = C::Elem>>(
+    left: &mut C,
+    left_window: Window,
+    right: &mut D,
+    right_window: Window,
+) -> bool
+    requires span { HasSpan C.Elem.BITS (C.numbers left.old) (D.numbers right.old) left_window right_window }
+    requires some { 0 < left_window.len }
+    requires phases { left_window.start % C.Elem.BITS ≢ right_window.start % C.Elem.BITS }
+    ensures value { result ≡ same_bits (list_in C.Elem.BITS O.at (C.numbers left.old) left_window)
+        (list_in C.Elem.BITS O.at (D.numbers right.old) right_window) }
+    ensures reads { OnlyReadsAtMost C.CellsRead left.old left.new (touched_count C.Elem.BITS left_window.start left_window.len) }
+    ensures right { OnlyReadsAtMost D.CellsRead right.old right.new (touched_count C.Elem.BITS right_window.start right_window.len) }
+{
+    C::Elem::fits_in_memory();
+    let mut act = Differ::<C::Elem, BITS_PER_TEST> {
+        found: C::Elem::ZERO,
+    };
+    act_shifted::<O, C, D, Differ<C::Elem, BITS_PER_TEST>>(
+        left,
+        left_window,
+        right,
+        right_window,
+        &mut act,
+    );
+    is_zero::<C::Elem>(act.found)
+}
+
+/// Whether a window has the bits of one whose first bit has the same index in its element, under any
+/// order. Condition: as for [`crate::equal`], the windows are as long, and aren't empty. It loads each
+/// element that a window touches at most once.
+#[inline(always)]
+pub fn equal_unshifted<O: BitOrder, C: CellsRead, D: CellsRead<Elem = C::Elem>>(
+    left: &mut C,
+    left_window: Window,
+    right: &mut D,
+    right_window: Window,
+) -> bool
+    requires span { HasSpan C.Elem.BITS (C.numbers left.old) (D.numbers right.old) left_window right_window }
+    requires some { 0 < left_window.len }
+    requires phases { left_window.start % C.Elem.BITS ≡ right_window.start % C.Elem.BITS }
+    ensures value { result ≡ same_bits (list_in C.Elem.BITS O.at (C.numbers left.old) left_window)
+        (list_in C.Elem.BITS O.at (D.numbers right.old) right_window) }
+    ensures reads { OnlyReadsAtMost C.CellsRead left.old left.new (touched_count C.Elem.BITS left_window.start left_window.len) }
+    ensures right { OnlyReadsAtMost D.CellsRead right.old right.new (touched_count C.Elem.BITS right_window.start right_window.len) }
+{
+    if left_window.len < BITS_PER_TEST {
+        return equal_in_spans::<O, C, D, BITS_PER_SHORT_TEST>(
+            left,
+            left_window,
+            right,
+            right_window,
+        );
+    }
+    equal_in_spans::<O, C, D, BITS_PER_TEST>(left, left_window, right, right_window)
+}
+
+/// [`equal_unshifted`] with a test after each so many bits.
+#[tactic(auto, using(crate::specs::DifferLaws::found_same))]
+#[inline(always)]
+fn equal_in_spans<O: BitOrder, C: CellsRead, D: CellsRead<Elem = C::Elem>, const TESTED: usize>(
+    left: &mut C,
+    left_window: Window,
+    right: &mut D,
+    right_window: Window,
+) -> bool
+    requires span { HasSpan C.Elem.BITS (C.numbers left.old) (D.numbers right.old) left_window right_window }
+    requires some { 0 < left_window.len }
+    requires phases { left_window.start % C.Elem.BITS ≡ right_window.start % C.Elem.BITS }
+    ensures value { result ≡ same_bits (list_in C.Elem.BITS O.at (C.numbers left.old) left_window)
+        (list_in C.Elem.BITS O.at (D.numbers right.old) right_window) }
+    ensures reads { OnlyReadsAtMost C.CellsRead left.old left.new (touched_count C.Elem.BITS left_window.start left_window.len) }
+    ensures right { OnlyReadsAtMost D.CellsRead right.old right.new (touched_count C.Elem.BITS right_window.start right_window.len) }
+{
+    C::Elem::fits_in_memory();
+    let mut act = Differ::<C::Elem, TESTED> {
+        found: C::Elem::ZERO,
+    };
+    act_equal::<O, C, D, Differ<C::Elem, TESTED>>(left, left_window, right, right_window, &mut act);
+    is_zero::<C::Elem>(act.found)
 }

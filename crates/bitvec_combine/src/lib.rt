@@ -2,11 +2,7 @@
 #![tactic(auto)]
 
 mod combining;
-mod combining_elements;
-mod combining_equal;
 mod comparing;
-mod comparing_equal;
-mod comparing_shifted;
 
 /// Items of `bitvec_base` that crates above use.
 pub mod base {
@@ -50,8 +46,5 @@ pub mod words {
     };
 }
 
-pub use combining::combine;
-pub use combining_elements::combine_zeros;
-pub use combining_equal::combine_equal;
-pub use comparing::equal;
-pub use comparing_equal::equal_unshifted;
+pub use combining::{combine, combine_equal, combine_zeros};
+pub use comparing::{equal, equal_unshifted};

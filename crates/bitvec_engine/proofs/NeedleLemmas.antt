@@ -1,5 +1,5 @@
 -- A needle that is looked for at one index after the other.
-use Rattle.std.specs.Prelude.{◌≡◌, ◌==◌, ℕ, ◌+◌, ◌*◌, ◌≤◌, if◌then◌else◌, Bool, List}
+use Rattle.std.specs.Prelude.{◌≡◌, ℕ, ◌+◌, ◌*◌, ◌≤◌, Bool, List}
 use Rattle.std.proofs.Common.{arith, sym}
 use Rattle.std.proofs.lemmas.Bool.Decides.{nat_tests}
 use Rattle.bitvec_combine.specs.base.declared.window.Window.{Window}
@@ -21,7 +21,3 @@ stands-found {b} {r} at other_at {xs} {now} {ys} {right} {window} {needle} {part
 -- one index more, at the cost of one equality
 pub cost-more : (b : ℕ) (words : Bool) (old before after i m n : ℕ) → m ≡ n → before ≤ old + i * read_loads b words n → after ≤ before + equal_loads b words m n → after ≤ old + (i + 1) * read_loads b words n
 cost-more b words old before after i m n same so_far next = grind (arith, nat_tests)
-
--- the same bit by bit
-pub bit-cost-more : (old before after i m n : ℕ) → m ≡ n → before ≤ old + i * n → after ≤ before + (if m == n then m else 0) → after ≤ old + (i + 1) * n
-bit-cost-more old before after i m n same so_far next = grind (arith, nat_tests)

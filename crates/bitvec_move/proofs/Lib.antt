@@ -1,3 +1,5 @@
+pub mod MetActs
 pub mod MirroredLemmas
 pub mod MoveLemmas
 pub mod ReversalLemmas
+pub mod ShiftedActs

@@ -10,7 +10,7 @@ use Rattle.bitvec_words.specs.base.Window.{window_after, window_until}
 use Rattle.bitvec_words.specs.base.WritesLaws.{HasWindow-kept}
 use Rattle.bitvec_words.specs.store.Width.{IsWidth}
 use Rattle.bitvec_words.specs.store.WidthLaws.{width_some}
-use Rattle.bitvec_words.specs.walk.Cost.{read_loads, touched_count, work_steps, write_loads, write_stores}
+use Rattle.bitvec_words.specs.walk.Cost.{read_loads, touched_count, write_stores}
 use Rattle.bitvec_words.specs.walk.CostLaws.{touched_read, touched_stored}
 use Rattle.bitvec_words.specs.TouchedLaws.{next-inside}
 use Rattle.bitvec_words.specs.WholeLaws.{HasWindow-part}
@@ -33,12 +33,6 @@ head-order w window part is = rw is (omega arith)
 pub head-fits : (t w : ℕ) (window : Window) (part : Part) → t ≡ part.to - part.from → part ≡ first_part_of w window → t ≤ window.len
 head-fits t w window part step is =
     let long = rw is at step in
-    omega arith
-
-pub edges-loads : (b n : ℕ) → 0 < n → 2 ≤ write_loads b true n
-unfolding write_loads work_steps
-edges-loads b n more =
-    let some : 1 ≤ (n + 63) / 64 = omega arith in
     omega arith
 
 -- the elements that n bits touch are some of the loads and stores of as many bits

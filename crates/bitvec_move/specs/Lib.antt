@@ -1,7 +1,10 @@
+pub mod ActLaws
+pub mod Acts
 pub mod Cited
 pub mod Ends
 pub mod Moves
 pub mod PlaceLaws
+pub mod PutLaws
 pub mod SwapLaws
 pub mod WaitingLaws
 pub mod WithinLaws

@@ -25,9 +25,10 @@ macro_rules! at_known_skip {
     };
 }
 
+mod acting;
+mod acting_equal;
+mod acting_shifted;
 mod copying;
-mod copying_equal;
-mod copying_shifted;
 mod copying_within;
 mod moving_edge;
 mod moving_to_end;
@@ -74,8 +75,10 @@ pub mod words {
     };
 }
 
-pub use copying::copy;
-pub use copying_equal::copy_equal;
+pub use acting::Act;
+pub use acting_equal::act_equal;
+pub use acting_shifted::act_shifted;
+pub use copying::{copy, copy_equal};
 pub use copying_within::copy_within;
 pub use reversing::reverse;
 pub use swapping::swap;

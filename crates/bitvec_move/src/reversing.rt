@@ -6,7 +6,7 @@ ghost use Rattle.bitvec_words.specs.cells.Access.{CostsAtMost, OnlyReads};
 ghost use Rattle.bitvec_words.specs.walk.Cost.{reverse_loads, reverse_stores, step_span, touched_count, work_steps};
 ghost use Rattle.bitvec_move.specs.Ends.{HasEnds, HoldsBeside, IsAmid, IsBlock, Mirrors, ends_exchanged};
 
-use crate::copying_equal::copy_equal;
+use crate::copying::copy_equal;
 use crate::moving_to_start::shift_whole_to_start;
 use bitvec_words::base::Window;
 use bitvec_words::cells::{Cells, CellsRead, Exclusive, Shared};

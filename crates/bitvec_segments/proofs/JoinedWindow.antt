@@ -1,10 +1,9 @@
 -- Whole elements that hold a window, and the number of its bits among theirs.
-use Rattle.std.specs.Prelude.{◌≡◌, ℕ, ◌+◌, ◌-◌, ◌*◌, ◌/◌, ◌%◌, ◌^◌, ◌<◌, ◌≤◌, ◌==◌, if◌then◌else◌, Bool, true, false, List, ◌++◌, length, take, drop, slice_index, slice_range, refl}
+use Rattle.std.specs.Prelude.{◌≡◌, ℕ, ◌+◌, ◌-◌, ◌*◌, ◌/◌, ◌%◌, ◌^◌, ◌<◌, ◌≤◌, ◌==◌, if◌then◌else◌, Bool, true, false, List, length, slice_index, refl}
 use Rattle.std.specs.Int.{bit_at}
-use Rattle.std.proofs.Common.{arith, sym, ◌∙◌, ap, length-append, length-drop}
-use Rattle.std.proofs.lemmas.List.{length-take, same_lists, take-append-drop}
-use Rattle.std.proofs.lemmas.List.Folds.{drop_split}
-use Rattle.std.proofs.lemmas.Nat.{div-add-mod', div-mul-add, mod-mul-add, mod_below, pow-add}
+use Rattle.std.proofs.Common.{arith, sym, ◌∙◌, ap}
+use Rattle.std.proofs.lemmas.List.{same_lists}
+use Rattle.std.proofs.lemmas.Nat.{div-add-mod', div-mul-add, mod_below}
 use Rattle.std.proofs.Math.Nat.{mod-eq_of_lt, mul-le-mul_left}
 use Rattle.std.proofs.Math.Pow.{pow_mono}
 use Rattle.bitvec_words.specs.base.declared.window.Window.{Window}
@@ -12,7 +11,6 @@ use Rattle.bitvec_words.specs.base.Memory.{HasWindow, element_bits, list_in}
 use Rattle.bitvec_words.specs.base.MemoryLaws.{get-element_bits, length-element_bits}
 use Rattle.bitvec_words.specs.base.Parts.{part_window}
 use Rattle.bitvec_words.specs.base.SliceLaws.{range-all}
-use Rattle.bitvec_words.specs.base.WriteLaws.{length-slice_range}
 use Rattle.bitvec_words.specs.base.WritesLaws.{length-list, list-range}
 use Rattle.bitvec_words.specs.walk.Cost.{touched_count}
 use Rattle.bitvec_words.specs.walk.WalkLaws.{touched-until}
@@ -27,6 +25,7 @@ use Rattle.bitvec_segments.specs.LoadLaws.{joined_below}
 use Rattle.bitvec_segments.specs.NumberLaws.{segment-number-is, segment_number-below}
 use Rattle.bitvec_segments.specs.PlainLaws.{append-highest, append-lowest}
 use Rattle.bitvec_segments.specs.Segments.{bit_number, segment_bits, segment_number}
+use Rattle.bitvec_segments.proofs.PartLemmas.{number-range}
 
 -- the part that is a whole element
 pub list-whole : (b : ℕ) (at : ℕ → ℕ → ℕ) (xs : List ℕ) (e w : ℕ) → w ≡ b → e < length xs → list_in b at xs (part_window b (record { element = e; from = 0; to = w })) ≡ element_bits b at (slice_index xs e)
@@ -78,44 +77,6 @@ pub number-below : (high : Bool) (b : ℕ) (at : ℕ → ℕ → ℕ) (xs : List
 number-below high b at xs window v has is =
     let below = rw (length-list b at xs window has) at (segment_number-below high (list_in b at xs window)) in
     rw is below
-
--- ---- the number of some bits among others
-
-number-range : (high : Bool) (list : List Bool) (from n : ℕ) → from + n ≤ length list → segment_number high list / 2 ^ lowest_bit high (length list) from n % 2 ^ n ≡ segment_number high (slice_range list from (from + n))
-number-range false list from n inside =
-    let some_bits : List Bool = slice_range list from (from + n) in
-    let behind : List Bool = drop (from + n) list in
-    let before : List Bool = take from list in
-    let long : length before ≡ from = length-take from list ∙ omega arith in
-    let wide : length some_bits ≡ n = length-slice_range list from (from + n) inside ∙ omega arith in
-    let low = rw long at (segment_number-below false before) in
-    let middle = rw wide at (segment_number-below false some_bits) in
-    let whole : segment_number false list ≡ segment_number false (some_bits ++ behind) * 2 ^ from + segment_number false before =
-    ap (segment_number false) (sym (take-append-drop from list) ∙ ap (λ (l : List Bool). before ++ l) (drop_split list from (from + n) (omega arith)))
-    ∙ append-lowest before (some_bits ++ behind) ∙ rw long refl in
-    let rest : segment_number false (some_bits ++ behind) ≡ segment_number false behind * 2 ^ n + segment_number false some_bits = append-lowest some_bits behind ∙ rw wide refl in
-    ap (λ (m : ℕ). m / 2 ^ from % 2 ^ n) whole
-    ∙ ap (λ (m : ℕ). m % 2 ^ n) (div-mul-add _ (2 ^ from) _ low ∙ rest)
-    ∙ mod-mul-add _ (2 ^ n) _ middle
-number-range true list from n inside =
-    let some_bits : List Bool = slice_range list from (from + n) in
-    let behind : List Bool = drop (from + n) list in
-    let before : List Bool = take from list in
-    let d : ℕ = length list - (from + n) in
-    let wide : length some_bits ≡ n = length-slice_range list from (from + n) inside ∙ omega arith in
-    let left : length behind ≡ d = length-drop (from + n) list in
-    let both : length (some_bits ++ behind) ≡ n + d = length-append some_bits behind ∙ omega arith in
-    let low = rw left at (segment_number-below true behind) in
-    let middle = rw wide at (segment_number-below true some_bits) in
-    let rest : segment_number true (some_bits ++ behind) ≡ segment_number true some_bits * 2 ^ d + segment_number true behind = append-highest some_bits behind ∙ rw left refl in
-    let power = pow-add 2 n d in
-    let whole : segment_number true list ≡ segment_number true before * 2 ^ (n + d) + (segment_number true some_bits * 2 ^ d + segment_number true behind) =
-    ap (segment_number true) (sym (take-append-drop from list) ∙ ap (λ (l : List Bool). before ++ l) (drop_split list from (from + n) (omega arith)))
-    ∙ append-highest before (some_bits ++ behind) ∙ rw (both, rest) refl in
-    let split : segment_number true before * 2 ^ (n + d) + (segment_number true some_bits * 2 ^ d + segment_number true behind) ≡ (segment_number true before * 2 ^ n + segment_number true some_bits) * 2 ^ d + segment_number true behind = rw power (omega arith) in
-    ap (λ (m : ℕ). m / 2 ^ d % 2 ^ n) (whole ∙ split)
-    ∙ ap (λ (m : ℕ). m % 2 ^ n) (div-mul-add _ (2 ^ d) _ low)
-    ∙ mod-mul-add _ (2 ^ n) _ middle
 
 -- of the window's bits among those of the elements
 pub number-cut : (high : Bool) (b : ℕ) (at : ℕ → ℕ → ℕ) (xs : List ℕ) (window : Window) (count v : ℕ) → HasWindow b xs (elements_window b (window.start / b) count) → window.start % b + window.len ≤ count * b

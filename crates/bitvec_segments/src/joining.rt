@@ -85,6 +85,7 @@ fn element_number<O: WordOrder, C: CellsRead>(cells: &mut C, element: usize) -> 
 
 /// The number of `width` bits and of `bits` more behind them. Condition: they are at least one each and
 /// at most 64, and the numbers have no more bits.
+#[tactic(auto, using(crate::proofs::JoinedWindow::moved_kept, crate::proofs::JoinedWindow::joined_fits))]
 #[inline(always)]
 fn with_next<O: WordOrder>(word: u64, width: usize, next: u64, bits: usize) -> u64
     requires some { 0 < width }

@@ -1,59 +1,62 @@
--- What two calls cost together, one after the other.
-use Rattle.std.specs.Prelude.{◌≡◌, ℕ, ◌+◌, ◌≤◌}
+-- What one call costs, and two calls together, one after the other.
+use Rattle.std.specs.Prelude.{◌≡◌, ℕ, ◌+◌, ◌≤◌, refl}
 use Rattle.std.proofs.Common.{arith, ◌∙◌}
 use Rattle.bitvec_cells.specs.Access.{Costs, CostsAtMost, OnlyReads, OnlyReadsAtMost}
 use Rattle.bitvec_cells.specs.declared.cells.CellsRead.{Ghosts as Access}
 
-module _ {E C : Type 0} (access : Access C E) (old mid : C) where
-  -- a fill of one part
-  pub fill-part : (p n all : ℕ) → p ≤ 1 → n ≡ 2 → all ≡ 1 → Costs access old mid p 1 → CostsAtMost access old mid n all
-  fill-part p n all few edges sum cost =
+module _ {E C : Type 0} {access : Access C E} {old : C} where
+  -- ---- loads alone
+
+  pub reads-most : {new : C} {m n : ℕ} → OnlyReadsAtMost access old new m → m ≤ n → OnlyReadsAtMost access old new n
+  reads-most reads few =
+      let loads = reads.loads in
+      record { numbers = reads.numbers; borrow = reads.borrow; loads = omega arith; stores = reads.stores }
+
+  pub reads-exact : {new : C} {m : ℕ} → OnlyReads access old new m → OnlyReadsAtMost access old new m
+  reads-exact reads =
+      let loads = reads.loads in
+      record { numbers = reads.numbers; borrow = reads.borrow; loads = omega arith; stores = reads.stores }
+
+  pub reads-is : {new : C} {m n : ℕ} → OnlyReads access old new m → n ≡ m → OnlyReads access old new n
+  reads-is reads same =
+      let loads = reads.loads in
+      record { numbers = reads.numbers; borrow = reads.borrow; loads = omega arith; stores = reads.stores }
+
+  pub reads-sum : {mid new : C} {m n all : ℕ} → OnlyReads access old mid m → OnlyReads access mid new n → all ≡ m + n → OnlyReads access old new all
+  reads-sum first second sum =
+      let loads = first.loads in
+      let more = second.loads in
+      record { numbers = second.numbers ∙ first.numbers; borrow = second.borrow ∙ first.borrow; loads = omega arith; stores = second.stores ∙ first.stores }
+
+  pub reads-before : {mid new : C} {m n all : ℕ} → OnlyReads access old mid m → OnlyReads access mid new n → m + n ≤ all → OnlyReadsAtMost access old new all
+  reads-before first second few = reads-most (reads-exact (reads-sum first second refl)) few
+
+  pub reads-both : {mid new : C} {m n all : ℕ} → OnlyReadsAtMost access old mid m → OnlyReadsAtMost access mid new n → m + n ≤ all → OnlyReadsAtMost access old new all
+  reads-both first second few =
+      let loads = first.loads in
+      let more = second.loads in
+      record { numbers = second.numbers ∙ first.numbers; borrow = second.borrow ∙ first.borrow; loads = omega arith; stores = second.stores ∙ first.stores }
+
+  -- ---- loads and stores
+
+  pub costs-most : {new : C} {l s m n : ℕ} → Costs access old new l s → l ≤ m → n ≡ s → CostsAtMost access old new m n
+  costs-most cost few sum =
       let loads = cost.loads in
       let stores = cost.stores in
       record { borrow = cost.borrow; loads = omega arith; stores = omega arith }
 
-  -- or of whole elements
-  pub fill-whole : (count all : ℕ) → all ≡ count → Costs access old mid 0 count → CostsAtMost access old mid 1 all
-  fill-whole count all sum cost =
-      let loads = cost.loads in
-      let stores = cost.stores in
-      record { borrow = cost.borrow; loads = omega arith; stores = omega arith }
+  pub costs-sum : {mid new : C} {l s k t m n : ℕ} → Costs access old mid l s → Costs access mid new k t → m ≡ l + k → n ≡ s + t → Costs access old new m n
+  costs-sum first second loaded stored =
+      let loads = first.loads in
+      let stores = first.stores in
+      let more = second.loads in
+      let others = second.stores in
+      record { borrow = second.borrow ∙ first.borrow; loads = omega arith; stores = omega arith }
 
-  module _ (new : C) where
-    -- of that and what is behind it; and of whole elements, and the part behind them
-    pub fill-head : (p n rest all : ℕ) → p ≤ 1 → n ≡ 2 → all ≡ 1 + rest → Costs access old mid p 1 → CostsAtMost access mid new 1 rest → CostsAtMost access old new n all
-    fill-head p n rest all few edges sum first second =
-        let loads = first.loads in
-        let stores = first.stores in
-        let more = second.loads in
-        let others = second.stores in
-        record { borrow = second.borrow ∙ first.borrow; loads = omega arith; stores = omega arith }
-
-    pub fill-tail : (p count all : ℕ) → p ≤ 1 → all ≡ count + 1 → Costs access old mid 0 count → Costs access mid new p 1 → CostsAtMost access old new 1 all
-    fill-tail p count all few sum first second =
-        let loads = first.loads in
-        let stores = first.stores in
-        let more = second.loads in
-        let others = second.stores in
-        record { borrow = second.borrow ∙ first.borrow; loads = omega arith; stores = omega arith }
-
-    -- a search of one part, and of what is behind it
-    pub reads-head : (rest all : ℕ) → all ≡ 1 + rest → OnlyReads access old mid 1 → OnlyReadsAtMost access mid new rest → OnlyReadsAtMost access old new all
-    reads-head rest all sum first second =
-        let loads = first.loads in
-        let more = second.loads in
-        record { numbers = second.numbers ∙ first.numbers; borrow = second.borrow ∙ first.borrow; loads = omega arith; stores = second.stores ∙ first.stores }
-
--- ---- numbers of stores and loads
-
-pub stores-sum : (l m n p q all : ℕ) → m ≡ l + p → n ≡ m + q → all ≡ p + q → n ≡ l + all
-stores-sum l m n p q all first second sum = omega arith
-
-pub loads-head : (l m n p q all : ℕ) → p ≤ 1 → m ≡ l + p → n ≤ m + q → all ≡ 1 + q → n ≤ l + all
-loads-head l m n p q all few first second sum = omega arith
-
-pub loads-part : (l m p : ℕ) → p ≤ 1 → m ≡ l + p → m ≤ l + 1
-loads-part l m p few is = omega arith
-
-pub loads-tail : (l m n p count all : ℕ) → p ≤ 1 → m ≡ l + 0 → n ≡ m + p → all ≡ count + 1 → n ≤ l + all
-loads-tail l m n p count all few first second sum = omega arith
+  pub costs-both : {mid new : C} {l s k t m n : ℕ} → Costs access old mid l s → CostsAtMost access mid new k t → l + k ≤ m → n ≡ s + t → CostsAtMost access old new m n
+  costs-both first second loaded stored =
+      let loads = first.loads in
+      let stores = first.stores in
+      let more = second.loads in
+      let others = second.stores in
+      record { borrow = second.borrow ∙ first.borrow; loads = omega arith; stores = omega arith }

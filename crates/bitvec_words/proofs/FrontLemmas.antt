@@ -23,16 +23,9 @@ use Rattle.bitvec_words.specs.Elements.{elements_window}
 use Rattle.bitvec_words.specs.ShortWindow.{padded}
 use Rattle.bitvec_words.specs.FieldLaws.{list-part}
 use Rattle.bitvec_words.specs.PartWalkLaws.{HasPart-first}
-use Rattle.bitvec_words.specs.TouchedLaws.{head_edge, touched-head}
+use Rattle.bitvec_words.specs.TouchedLaws.{head_edge}
 use Rattle.bitvec_words.specs.WholeLaws.{HasWindow-part, behind-mod, list-same}
-use Rattle.bitvec_cells.specs.Cost.{touched_count}
 use Rattle.bitvec_words.specs.Front.{IsFront, front_window}
-
-pub touched-part : (b : ℕ) (window : Window) → IsWidth b → 0 < window.len → touched_count b window.start ((first_part_of b window).to - (first_part_of b window).from) ≡ 1
-touched-part b window width some =
-    let wide = width_some b width in
-    let len = first-len b window wide some in
-    touched-head b window.start _ window.len wide some (omega arith)
 
 module _ (b : ℕ) (at : ℕ → ℕ → ℕ) (xs : List ℕ) (window : Window) (word : ℕ) (width : IsWidth b) where
   -- the elements of a word

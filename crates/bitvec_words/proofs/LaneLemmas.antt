@@ -51,49 +51,45 @@ two_words P p (x ∷ []) h = absurd (omega (arith, h.two))
 two_words P p (x ∷ y ∷ []) h = p x y h.low h.high
 two_words P p (x ∷ y ∷ z ∷ words) h = absurd (omega (arith, h.two))
 
--- the words that the shifts make, where the order starts at the least significant bit, and where at the most
-abbrev low_words : ℕ → List ℕ → List ℕ → List ℕ
-low_words k first second = zip2 bit_or (zip2 (λ x n. x / 2 ^ n) first (k ∷ k ∷ []))
-    (zip2 (λ x n. x * 2 ^ n % 2 ^ 64) (zip2 (λ x n. x * 2 ^ n % 2 ^ 64) second (1 ∷ 1 ∷ [])) ((63 - k) ∷ (63 - k) ∷ []))
+-- the words that two shifts make
+abbrev shifted_words : (ℕ → ℕ → ℕ) → (ℕ → ℕ → ℕ) → ℕ → List ℕ → List ℕ → List ℕ
+shifted_words one other k first second = zip2 bit_or (zip2 one first (k ∷ k ∷ [])) (zip2 other (zip2 other second (1 ∷ 1 ∷ [])) ((63 - k) ∷ (63 - k) ∷ []))
 
-abbrev high_words : ℕ → List ℕ → List ℕ → List ℕ
-high_words k first second = zip2 bit_or (zip2 (λ x n. x * 2 ^ n % 2 ^ 64) first (k ∷ k ∷ []))
-    (zip2 (λ x n. x / 2 ^ n) (zip2 (λ x n. x / 2 ^ n) second (1 ∷ 1 ∷ [])) ((63 - k) ∷ (63 - k) ∷ []))
+abbrev down : ℕ → ℕ → ℕ
+down x n = x / 2 ^ n
+
+abbrev up : ℕ → ℕ → ℕ
+up x n = x * 2 ^ n % 2 ^ 64
 
 -- those words
 abbrev Joins : (ℕ → ℕ → ℕ) → ℕ → List ℕ → List ℕ → List ℕ → Type 0
 Joins at k first second words = AreWords words × AreJoined at k first second words
 
-down : (x n : ℕ) → x < 2 ^ 64 → x / 2 ^ n < 2 ^ 64
-down x n small = let less = shr_le x n in omega arith
+down-few : (x n : ℕ) → x < 2 ^ 64 → down x n < 2 ^ 64
+down-few x n small = let less = shr_le x n in omega arith
 
-up : (x : ℕ) → x % 2 ^ 64 < 2 ^ 64
-up x = mod_below x (2 ^ 64) (pow_pos 64)
+up-few : (x n : ℕ) → x < 2 ^ 64 → up x n < 2 ^ 64
+up-few x n small = mod_below (x * 2 ^ n) (2 ^ 64) (pow_pos 64)
 
-words_of-two : (v w : ℕ) → v < 2 ^ 64 → w < 2 ^ 64 → AreWords (v ∷ w ∷ [])
-words_of-two v w hv hw = record { two = refl; low = hv; high = hw }
-
-pub words-joined-low : (high : Bool) (at : ℕ → ℕ → ℕ) → RunsFrom high 64 at → high ≡ false → (k : ℕ) → k < 64 → (first second : List ℕ) → AreWords first → AreWords second → Joins at k first second (low_words k first second)
-words-joined-low high at ends is k bound first second one other =
-    two_words (λ first. Joins at k first second (low_words k first second))
-    (λ x y hx hy. two_words (λ second. Joins at k (x ∷ y ∷ []) second (low_words k (x ∷ y ∷ []) second))
+words-joined : (one other : ℕ → ℕ → ℕ) → ((x n : ℕ) → x < 2 ^ 64 → one x n < 2 ^ 64) → ((x n : ℕ) → x < 2 ^ 64 → other x n < 2 ^ 64)
+    → (at : ℕ → ℕ → ℕ) (k : ℕ) → ((x y : ℕ) → x < 2 ^ 64 → y < 2 ^ 64 → IsJoined at k x y (bit_or (one x k) (other (other y 1) (63 - k))))
+    → (first second : List ℕ) → AreWords first → AreWords second → Joins at k first second (shifted_words one other k first second)
+words-joined one other few fewer at k joined first second words more =
+    two_words (λ first. Joins at k first second (shifted_words one other k first second))
+    (λ x y hx hy. two_words (λ second. Joins at k (x ∷ y ∷ []) second (shifted_words one other k (x ∷ y ∷ []) second))
     (λ z w hz hw. (
-      words_of-two _ _ (or_lt 64 _ _ (down x k hx) (up _)) (or_lt 64 _ _ (down y k hy) (up _)),
-      record { low = joined-low high at ends is k x z bound hx; high = joined-low high at ends is k y w bound hy },
+      record { two = refl; low = or_lt 64 _ _ (few x k hx) (fewer _ (63 - k) (fewer z 1 hz)); high = or_lt 64 _ _ (few y k hy) (fewer _ (63 - k) (fewer w 1 hw)) },
+      record { low = joined x z hx hz; high = joined y w hy hw },
     ))
-    second other)
-    first one
+    second more)
+    first words
 
-pub words-joined-high : (high : Bool) (at : ℕ → ℕ → ℕ) → RunsFrom high 64 at → high ≡ true → (k : ℕ) → k < 64 → (first second : List ℕ) → AreWords first → AreWords second → Joins at k first second (high_words k first second)
-words-joined-high high at ends is k bound first second one other =
-    two_words (λ first. Joins at k first second (high_words k first second))
-    (λ x y hx hy. two_words (λ second. Joins at k (x ∷ y ∷ []) second (high_words k (x ∷ y ∷ []) second))
-    (λ z w hz hw. (
-      words_of-two _ _ (or_lt 64 _ _ (up _) (down _ (63 - k) (down z 1 hz))) (or_lt 64 _ _ (up _) (down _ (63 - k) (down w 1 hw))),
-      record { low = joined-high high at ends is k x z bound hz; high = joined-high high at ends is k y w bound hw },
-    ))
-    second other)
-    first one
+-- where the order starts at the least significant bit, and where at the most
+pub words-joined-low : (high : Bool) (at : ℕ → ℕ → ℕ) → RunsFrom high 64 at → high ≡ false → (k : ℕ) → k < 64 → (first second : List ℕ) → AreWords first → AreWords second → Joins at k first second (shifted_words down up k first second)
+words-joined-low high at ends is k bound = words-joined down up down-few up-few at k (λ x y hx hy. joined-low high at ends is k x y bound hx)
+
+pub words-joined-high : (high : Bool) (at : ℕ → ℕ → ℕ) → RunsFrom high 64 at → high ≡ true → (k : ℕ) → k < 64 → (first second : List ℕ) → AreWords first → AreWords second → Joins at k first second (shifted_words up down k first second)
+words-joined-high high at ends is k bound = words-joined up down up-few down-few at k (λ x y hx hy. joined-high high at ends is k x y bound hy)
 
 -- ---- the bits of two words
 

@@ -6,5 +6,6 @@ pub mod OrderedLemmas
 pub mod PlaceLemmas
 pub mod ScanLemmas
 pub mod SliceWordLemmas
+pub mod SplitLemmas
 pub mod ExchangeLemmas
 pub mod WordScanLemmas

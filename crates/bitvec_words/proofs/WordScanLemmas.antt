@@ -4,12 +4,12 @@ use Rattle.std.specs.Bool.{then_some}
 use Rattle.std.specs.Int.{div_ceil}
 use Rattle.std.specs.Option.{option_or}
 use Rattle.std.proofs.Common.{arith, lit≤, sym, ◌∙◌, ap, ⊎_elim, length-append}
-use Rattle.std.proofs.Math.Nat.{add-mul, lt_of_mul-lt-mul_right, mul-le-mul_left, mul_assoc}
+use Rattle.std.proofs.Math.Nat.{add-mul, div-mul-le_self, lt_of_mul-lt-mul_right, mul-le-mul_left, mul_assoc}
 use Rattle.std.proofs.lemmas.Bool.{cases_eq, cases_lt, eq-eqb, le-ltb, lt-ltb, ne_eqb}
 use Rattle.std.proofs.lemmas.Grind.{div_ceil_times}
 use Rattle.std.proofs.lemmas.Nat.{div-add-mod'}
 use Rattle.bitvec_cells.specs.store.Width.{IsWidth}
-use Rattle.bitvec_cells.specs.store.WidthLaws.{at_each_width}
+use Rattle.bitvec_cells.specs.store.WidthLaws.{at_each_width, width_some}
 use Rattle.bitvec_cells.specs.base.Lists.{first_place}
 use Rattle.bitvec_cells.specs.base.Memory.{HasWindow, element_bits, list_in}
 use Rattle.bitvec_cells.specs.base.MemoryLaws.{length-element_bits}
@@ -17,14 +17,16 @@ use Rattle.bitvec_cells.specs.base.Order.{Permutes}
 use Rattle.bitvec_cells.specs.base.declared.window.Window.{Window}
 use Rattle.bitvec_cells.specs.base.PlacesLaws.{first_place-append, first_place-below}
 use Rattle.bitvec_cells.specs.base.WritesLaws.{length-list, list-join}
-use Rattle.bitvec_cells.specs.Cost.{touched_count}
+use Rattle.bitvec_cells.specs.Cost.{first_loads, touched_count}
 use Rattle.bitvec_cells.specs.WalkLaws.{touched-none}
 use Rattle.bitvec_words.specs.Elements.{elements_window}
 use Rattle.bitvec_words.specs.FieldLaws.{element_of, list-whole}
 use Rattle.bitvec_words.specs.SameLaws.{or_none, or_none_right}
-use Rattle.bitvec_words.specs.TouchedLaws.{touched-full, touched-more}
-use Rattle.bitvec_words.specs.WholeLaws.{HasWindow-part, list-empty, list-same}
-use Rattle.bitvec_words.proofs.ScanLemmas.{first-behind, first-elements_front, first-lacks, first-must, first-passed}
+use Rattle.bitvec_words.specs.TouchedLaws.{touched-full, touched-more, touched-whole}
+use Rattle.bitvec_words.specs.WholeLaws.{HasWindow-part, list-empty, list-same, window-end}
+use Rattle.bitvec_words.specs.Split.{Split}
+use Rattle.bitvec_words.proofs.SplitLemmas.{HasWindow-behind, HasWindow-front, elements-split, split-behind, split-few, split-found, split-lacks}
+use Rattle.bitvec_words.proofs.ScanLemmas.{first-lacks, first-must, first-passed, first_loads-elements}
 
 -- ---- elements, some at a time
 
@@ -56,6 +58,63 @@ module _ (b : ℕ) (at : ℕ → ℕ → ℕ) (xs : List ℕ) (first n : ℕ) (h
   list-elements_join place next k m all low high behind sum =
       list-join b at xs (elements_window b place k) (elements_window b next m) (elements_window b place all) (HasWindow-elements place all low high)
       refl (ap (λ (i : ℕ). i * b) behind ∙ add-mul place k b) (ap (λ (i : ℕ). i * b) sum ∙ add-mul k m b)
+
+-- ---- the first n of some elements, and those behind them
+
+pub record Parted (b : ℕ) (xs : List ℕ) (first count n : ℕ) : Type 0 where
+  pub split : Split b (elements_window b first n) (elements_window b (first + n) (count - n)) (elements_window b first count)
+  pub all : HasWindow b xs (elements_window b first count)
+  pub front : HasWindow b xs (elements_window b first n)
+  pub rest : HasWindow b xs (elements_window b (first + n) (count - n))
+  pub within : n ≤ count
+  pub few : first + count < 2 ^ 64
+  pub few_bits : n * b < 2 ^ 64
+
+pub parted : (b : ℕ) {xs : List ℕ} (first count n : ℕ) → IsWidth b → HasWindow b xs (elements_window b first count) → n ≤ count → Parted b xs first count n
+parted b {xs} first count n width has order =
+    let split = elements-split b first count n (width_some b width) order in
+    let end = window-end b xs _ (HasWindow-front split has) in
+    record {
+      split = split;
+      all = has;
+      front = HasWindow-front split has;
+      rest = HasWindow-behind split has;
+      within = order;
+      few = elements-bound b (λ e i. i) xs first count has (width_some b width);
+      few_bits = omega arith;
+    }
+
+-- in blocks of s bits
+pub parted-blocks : (b s : ℕ) {xs : List ℕ} (first count : ℕ) → IsWidth b → HasWindow b xs (elements_window b first count) → Parted b xs first count (count / (s / b) * (s / b))
+parted-blocks b s first count width has = parted b first count _ width has (div-mul-le_self count (s / b))
+
+-- ---- one of some blocks of `size` elements, behind `step` others
+
+pub record Block (b : ℕ) (xs : List ℕ) (first count size step : ℕ) : Type 0 where
+  pub next : Split b (elements_window b first (step * size)) (elements_window b (first + step * size) size) (elements_window b first ((step + 1) * size))
+  pub upto : Parted b xs first (count * size) ((step + 1) * size)
+  pub here : HasWindow b xs (elements_window b (first + step * size) size)
+  pub few_bits : step * size * b < 2 ^ 64
+
+pub block : (b : ℕ) {xs : List ℕ} (first count size step : ℕ) → IsWidth b → HasWindow b xs (elements_window b first (count * size)) → step < count → Block b xs first count size step
+block b {xs} first count size step width has more =
+    let upto = parted b first (count * size) ((step + 1) * size) width has (let order = mul-le-mul_left size more in omega arith) in
+    let sum : (step + 1) * size - step * size ≡ size = omega arith in
+    let next = rw sum at (elements-split b first ((step + 1) * size) (step * size) (width_some b width) (omega arith)) in
+    let end = window-end b xs _ (HasWindow-front next upto.front) in
+    record { next = next; upto = upto; here = HasWindow-behind next upto.front; few_bits = omega arith }
+
+-- where those before it lack the bit
+module _ {b : ℕ} {xs : List ℕ} {first count size step : ℕ} (block : Block b xs first count size step) (at : ℕ → ℕ → ℕ) (want : Bool) (none : None ≡ first_place want (list_in b at xs (elements_window b first (step * size)))) where
+  pub first-block_lacks : None ≡ first_place want (list_in b at xs (elements_window b (first + step * size) size)) → None ≡ first_place want (list_in b at xs (elements_window b first ((step + 1) * size)))
+  first-block_lacks here = split-lacks block.next at block.upto.front want none here
+
+  module _ (bits i : ℕ) (is : size * b ≡ bits) (here : Some i ≡ first_place want (list_in b at xs (elements_window b (first + step * size) size))) where
+    pub first-block_has : Some (step * bits + i) ≡ first_place want (list_in b at xs (elements_window b first (count * size)))
+    first-block_has = rw (← blocks-bits step size b bits is) (split-found block.upto.split at block.upto.all want _ (split-behind block.next at block.upto.front want _ none here))
+
+    pub first-block_few : step * bits + i < 2 ^ 64
+    first-block_few = rw (← blocks-bits step size b bits is) (split-few block.next at block.upto.front want _ none here)
 
 -- ---- what two lists lack together, each of them lacks
 
@@ -133,6 +192,9 @@ length-two at v w =
 pub block_whole : (b : ℕ) → IsWidth b → 256 / b * b ≡ 256
 block_whole b w = at_each_width (λ n. 256 / n * n ≡ 256) refl refl refl refl refl b w
 
+pub blocks-some : (b : ℕ) → IsWidth b → 0 < 256 / b
+blocks-some b w = at_each_width (λ n. 0 < 256 / n) (lit≤ tt) (lit≤ tt) (lit≤ tt) (lit≤ tt) (lit≤ tt) b w
+
 -- are those of four words, if they are not wider than a word
 pub block_words : (b : ℕ) → IsWidth b → b ≤ 64 → 256 / b ≡ 4 * (64 / b)
 block_words b w = at_each_width (λ n. n ≤ 64 → 256 / n ≡ 4 * (64 / n)) (λ _. refl) (λ _. refl) (λ _. refl) (λ _. refl) (λ narrow. absurd (omega arith)) b w
@@ -141,18 +203,41 @@ block_words b w = at_each_width (λ n. n ≤ 64 → 256 / n ≡ 4 * (64 / n)) (�
 pub block_pair : (b : ℕ) → IsWidth b → 64 < b → 256 / b ≡ 2
 block_pair b w = at_each_width (λ n. 64 < n → 256 / n ≡ 2) (λ wide. absurd (omega arith)) (λ wide. absurd (omega arith)) (λ wide. absurd (omega arith)) (λ wide. absurd (omega arith)) (λ _. refl) b w
 
-module _ (b : ℕ) (at : ℕ → ℕ → ℕ) (xs : List ℕ) (first : ℕ) (width : IsWidth b) (wide : 64 < b) (has : HasWindow b xs (elements_window b first (256 / b))) where
+module _ (b : ℕ) {xs : List ℕ} (first : ℕ) (width : IsWidth b) (wide : 64 < b) (has : HasWindow b xs (elements_window b first (256 / b))) where
   pub pair-inside : first + 1 < length xs
   pair-inside =
       let two = block_pair b width wide in
       let len = rw two at has.within.len in
       element_of b (first + 1) 0 (length xs) (omega arith)
 
-  pub list-pair : element_bits b at (slice_index xs first) ++ element_bits b at (slice_index xs (first + 1)) ≡ list_in b at xs (elements_window b first (256 / b))
-  list-pair =
+  pub list-pair : (at : ℕ → ℕ → ℕ) → element_bits b at (slice_index xs first) ++ element_bits b at (slice_index xs (first + 1)) ≡ list_in b at xs (elements_window b first (256 / b))
+  list-pair at =
       let inside = pair-inside in
       rw (← list-whole b at xs first (omega arith), ← list-whole b at xs (first + 1) inside)
       (list-join b at xs (record { start = first * b; len = b }) (record { start = (first + 1) * b; len = b }) (elements_window b first (256 / b)) has refl (omega arith) (rw (block_pair b width wide) (omega arith)))
+
+-- the four words, e being the elements of each
+pub record Words (b : ℕ) (xs : List ℕ) (first e : ℕ) : Type 0 where
+  pub sum : 256 / b ≡ 4 * e
+  pub few : first + 4 * e < 2 ^ 64
+  pub one : HasWindow b xs (elements_window b first e)
+  pub two : HasWindow b xs (elements_window b (first + e) e)
+  pub three : HasWindow b xs (elements_window b (first + 2 * e) e)
+  pub four : HasWindow b xs (elements_window b (first + 3 * e) e)
+
+pub words : (b : ℕ) {xs : List ℕ} (first : ℕ) → IsWidth b → b ≤ 64 → HasWindow b xs (elements_window b first (256 / b)) → Words b xs first (64 / b)
+words b {xs} first width narrow has =
+    let sum = block_words b width narrow in
+    let inside = HasWindow-elements b (λ e i. i) xs first (256 / b) has in
+    let bound = elements-bound b (λ e i. i) xs first (256 / b) has (width_some b width) in
+    record {
+      sum = sum;
+      few = omega arith;
+      one = inside first (64 / b) (omega arith) (omega arith);
+      two = inside (first + 64 / b) (64 / b) (omega arith) (omega arith);
+      three = inside (first + 2 * (64 / b)) (64 / b) (omega arith) (omega arith);
+      four = inside (first + 3 * (64 / b)) (64 / b) (omega arith) (omega arith);
+    }
 
 pub list-block : (b : ℕ) (at : ℕ → ℕ → ℕ) (xs : List ℕ) (first : ℕ) → IsWidth b → b ≤ 64 → HasWindow b xs (elements_window b first (256 / b))
     → (list_in b at xs (elements_window b first (64 / b)) ++ list_in b at xs (elements_window b (first + 64 / b) (64 / b)))
@@ -165,38 +250,6 @@ list-block b at xs first width narrow has =
     let high : ℕ = first + 2 * e in
     rw (join first (first + e) e e (2 * e) (omega arith) (omega arith) refl (omega arith), join high (first + 3 * e) e e (2 * e) (omega arith) (omega arith) (omega arith) (omega arith))
     (join first high (2 * e) (2 * e) (256 / b) (omega arith) (omega arith) refl (omega arith))
-
--- ---- blocks of `size` elements, which have `bits` bits
-
-module _ (b : ℕ) (at : ℕ → ℕ → ℕ) (xs : List ℕ) (first count step size bits : ℕ) (whole : size * b ≡ bits) (has : HasWindow b xs (elements_window b first (count * size))) (more : step < count) where
-  below : (step + 1) * size ≤ count * size
-  below = let order = mul-le-mul_left size more in omega arith
-
-  before : step * size * b ≡ step * bits
-  before = blocks-bits step size b bits whole
-
-  -- fewer than a number may be
-  pub blocks-few : step * bits < 2 ^ 64
-  blocks-few =
-      let passed = before in
-      let order = mul-le-mul_left b below in
-      let fits = has.fits in
-      let len = has.within.len in
-      omega arith
-
-  module _ (want : Bool) (none : None ≡ first_place want (list_in b at xs (elements_window b first (step * size)))) where
-    next : list_in b at xs (elements_window b first (step * size)) ++ list_in b at xs (elements_window b (first + step * size) size) ≡ list_in b at xs (elements_window b first ((step + 1) * size))
-    next = let bound = below in list-elements_join b at xs first (count * size) has first (first + step * size) (step * size) size ((step + 1) * size) (omega arith) (omega arith) refl (omega arith)
-
-    pub first-block_lacks : None ≡ first_place want (list_in b at xs (elements_window b (first + step * size) size)) → None ≡ first_place want (list_in b at xs (elements_window b first ((step + 1) * size)))
-    first-block_lacks here = first-lacks want _ _ _ none here next
-
-    pub first-block_has : (i : ℕ) → Some i ≡ first_place want (list_in b at xs (elements_window b (first + step * size) size)) → Some (step * bits + i) ≡ first_place want (list_in b at xs (elements_window b first (count * size)))
-    first-block_has i here =
-        let bound = below in
-        let long = length-list b at xs (elements_window b first (step * size)) (HasWindow-elements b at xs first (count * size) has first (step * size) (omega arith) (omega arith)) in
-        first-elements_front b at xs first (count * size) ((step + 1) * size) (step * bits + i) want has bound
-        (first-behind want _ _ _ (step * bits) i none here (sym (long ∙ before)) next)
 
 -- ---- the elements that a window touches, where it is empty or begins at one
 
@@ -228,7 +281,7 @@ touched-ceil b s n some edge =
     (cases_lt 0 n)
 
 module _ (b : ℕ) (at : ℕ → ℕ → ℕ) (xs : List ℕ) (window : Window) (want : Bool) (some : 0 < b) (has : HasWindow b xs window) (edge : 0 < window.len → window.start % b ≡ 0) where
-  HasWindow-touched : HasWindow b xs (elements_window b (window.start / b) (div_ceil window.len b))
+  pub HasWindow-touched : HasWindow b xs (elements_window b (window.start / b) (div_ceil window.len b))
   HasWindow-touched =
       let place = div-add-mod' window.start b in
       let rounded = div_ceil_times window.len b some in
@@ -286,3 +339,26 @@ module _ (b : ℕ) (at : ℕ → ℕ → ℕ) (xs : List ℕ) (window : Window) 
   first-touched_lacks none =
       none_front (first_place want (list_in b at xs window)) (first_place want behind) (length (list_in b at xs window))
       (none ∙ ap (first_place want) (sym list-touched) ∙ first_place-append want (list_in b at xs window) behind)
+
+  -- loads of a search of them
+  pub first-touched_loads : (i : ℕ) → Some i ≡ first_place want (list_in b at xs (elements_window b (window.start / b) (div_ceil window.len b)))
+      → first_loads b (elements_window b (window.start / b) (div_ceil window.len b)) (Some i) ≤ first_loads b window (then_some (nat_lt i window.len) i)
+  first-touched_loads i here =
+      ⊎_elim
+      (λ (less : i < window.len).
+      let first = edge (omega arith) in
+      let place : window.start / b * b ≡ window.start = (let parts = div-add-mod' window.start b in omega arith) in
+      let inside : then_some (nat_lt i window.len) i ≡ Some i = ap (λ (here : Bool). then_some here i) (lt-ltb i window.len less) in
+      rw (inside, place) (omega arith))
+      (λ (more : window.len ≤ i).
+      let outside : then_some (nat_lt i window.len) i ≡ None = ap (λ (here : Bool). then_some here i) (le-ltb i window.len more) in
+      let most = first_loads-elements b at xs (window.start / b) (div_ceil window.len b) want _ some HasWindow-touched here in
+      let all = touched-ceil b window.start window.len some edge in
+      rw outside (omega arith))
+      (cases_lt i window.len)
+
+  pub first-touched_all : first_loads b (elements_window b (window.start / b) (div_ceil window.len b)) None ≤ first_loads b window None
+  first-touched_all =
+      let all = touched-ceil b window.start window.len some edge in
+      let whole = touched-whole b (window.start / b) (div_ceil window.len b) some in
+      omega arith

@@ -11,13 +11,13 @@ use Rattle.bitvec_cells.specs.base.Lists.{shifted_end, shifted_start}
 use Rattle.bitvec_cells.specs.base.Memory.{HasWindow, Writes, element_bits, list_in, memory_bits}
 use Rattle.bitvec_cells.specs.base.MemoryLaws.{element-range, element_fits, length-element_bits, length-memory_bits, set-element}
 use Rattle.bitvec_cells.specs.base.PartLaws.{part-range, part-write}
-use Rattle.bitvec_cells.specs.base.Parts.{HasPart, first_part_of, part_window, tail_part_of}
+use Rattle.bitvec_cells.specs.base.Parts.{HasPart, first_part_of, part_window}
 use Rattle.bitvec_cells.specs.base.SliceLaws.{range-all, range-none}
 use Rattle.bitvec_cells.specs.base.Window.{window_after, window_of, window_until, write_at}
 use Rattle.bitvec_cells.specs.base.WriteLaws.{length-slice_range, write_at-all}
 use Rattle.bitvec_cells.specs.base.WritesLaws.{Writes-empty, Writes-is, Writes-join, list-join}
 use Rattle.bitvec_cells.specs.WalkLaws.{first-len, first-place}
-use Rattle.bitvec_words.specs.Elements.{elements_window, elements_window_from, whole_of}
+use Rattle.bitvec_words.specs.Elements.{elements_window, elements_window_from}
 
 -- ---- lists
 
@@ -202,27 +202,6 @@ list-joined b at xs first skip count step some below has more =
 
 -- ---- a window that begins where an element does: its whole elements, and what is left
 
-pub Writes-tail : (b : ℕ) (at : ℕ → ℕ → ℕ) (old mid new : List ℕ) (window : Window) (list other : List Bool) → HasWindow b old window → window.start % b ≡ 0
-    → Writes b at old mid (whole_of b window) list → Writes b at mid new (part_window b (tail_part_of b window)) other → Writes b at old new window (list ++ other)
-Writes-tail b at old mid new window list other has edge before after =
-    let place = div-add-mod' window.start b in
-    let all = div-add-mod' window.len b in
-    Writes-join b at old mid new (whole_of b window) (part_window b (tail_part_of b window)) window list other has (omega arith) (omega arith) (omega arith) before after
-
-pub list-tail : (b : ℕ) (at : ℕ → ℕ → ℕ) (xs : List ℕ) (window : Window) (n : ℕ) → HasWindow b xs window → window.start % b ≡ 0 → n ≡ window.len
-    → list_in b at xs (elements_window b (window.start / b) (n / b)) ++ list_in b at xs (part_window b (record { element = window.start / b + n / b; from = 0; to = n % b })) ≡ list_in b at xs window
-list-tail b at xs window n has edge all =
-    let place = div-add-mod' window.start b in
-    let parts = div-add-mod' n b in
-    list-join b at xs (elements_window b (window.start / b) (n / b)) (part_window b (record { element = window.start / b + n / b; from = 0; to = n % b })) window has (omega arith) (omega arith) (omega arith)
-
--- the bits of as many elements from an index on, and what is left
-pub list-rest : (b : ℕ) (at : ℕ → ℕ → ℕ) (xs : List ℕ) (window : Window) (count rest : ℕ) → HasWindow b xs window → window.len ≡ count * b + rest
-    → list_in b at xs (elements_window_from b (window.start / b) (window.start % b) count) ++ list_in b at xs (record { start = window.start + count * b; len = rest }) ≡ list_in b at xs window
-list-rest b at xs window count rest has all =
-    let place = div-add-mod' window.start b in
-    list-join b at xs (elements_window_from b (window.start / b) (window.start % b) count) (record { start = window.start + count * b; len = rest }) window has (omega arith) (omega arith) all
-
 -- ---- a window by the part of its first element, of t places, and what is left
 
 pub Writes-head : (b : ℕ) (at : ℕ → ℕ → ℕ) (old mid new : List ℕ) (window : Window) (t : ℕ) (list other : List Bool) → 0 < b → 0 < window.len → t ≡ (first_part_of b window).to - (first_part_of b window).from → HasWindow b old window
@@ -231,14 +210,6 @@ Writes-head b at old mid new window t list other some more part has before after
     let place = first-place b window in
     let len = first-len b window some more in
     Writes-join b at old mid new (part_window b (first_part_of b window)) (window_after t window) window list other has place (omega arith) (omega arith) before after
-
--- the same indices of another element
-pub list-head : (b : ℕ) (at : ℕ → ℕ → ℕ) (xs : List ℕ) (to window : Window) (t : ℕ) → 0 < b → 0 < to.len → t ≡ (first_part_of b to).to - (first_part_of b to).from → to.len ≡ window.len → to.start % b ≡ window.start % b → HasWindow b xs window
-    → list_in b at xs (part_window b (record (first_part_of b to) { element = window.start / b })) ++ list_in b at xs (window_after t window) ≡ list_in b at xs window
-list-head b at xs to window t some more part same phases has =
-    let place = div-add-mod' window.start b in
-    let len = first-len b to some more in
-    list-join b at xs (part_window b (record (first_part_of b to) { element = window.start / b })) (window_after t window) window has (omega arith) (omega arith) (omega arith)
 
 -- the first t bits of a window, and the others
 pub list-parted : (b : ℕ) (at : ℕ → ℕ → ℕ) (xs : List ℕ) (window : Window) (t : ℕ) → HasWindow b xs window → t ≤ window.len

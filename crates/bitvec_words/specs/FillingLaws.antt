@@ -1,22 +1,17 @@
 -- Whole elements that are filled, or flipped, one after the other.
-use Rattle.std.specs.Prelude.{◌≡◌, ◌≢◌, ℕ, ◌+◌, ◌-◌, ◌*◌, ◌%◌, ◌^◌, ◌<◌, if◌then◌else◌, Bool, not, List, ◌++◌, map, replicate, slice_index, slice_set, refl}
+use Rattle.std.specs.Prelude.{◌≡◌, ◌≢◌, ℕ, ◌+◌, ◌-◌, ◌*◌, ◌^◌, ◌<◌, if◌then◌else◌, Bool, not, List, ◌++◌, map, replicate, slice_index, slice_set, refl}
 use Rattle.std.proofs.Common.{arith, sym, ◌∙◌, ap}
 use Rattle.std.proofs.lemmas.Bool.{cond-false, ne_eqb}
 use Rattle.std.proofs.lemmas.List.{map-append, replicate-append-replicate}
-use Rattle.std.proofs.lemmas.Nat.{div-add-mod'}
-use Rattle.bitvec_cells.specs.base.declared.window.Window.{Window}
 use Rattle.bitvec_cells.specs.base.Memory.{HasWindow, Writes, element_bits, list_in}
 use Rattle.bitvec_cells.specs.base.Order.{Permutes}
-use Rattle.bitvec_cells.specs.base.Parts.{first_part_of, part_window, tail_part_of}
-use Rattle.bitvec_cells.specs.base.Window.{window_after}
-use Rattle.bitvec_cells.specs.base.WritesLaws.{Writes-empty, Writes-is, list-behind}
+use Rattle.bitvec_cells.specs.base.WritesLaws.{Writes-empty, Writes-is}
 use Rattle.bitvec_cells.specs.Cost.{fill_loads}
 use Rattle.bitvec_cells.specs.ElementLaws.{element-filled, element-flipped}
-use Rattle.bitvec_cells.specs.WalkLaws.{first-len, first-place}
 use Rattle.bitvec_words.specs.CombinedLaws.{element-kept}
-use Rattle.bitvec_words.specs.Elements.{elements_window, whole_of}
-use Rattle.bitvec_words.specs.FieldLaws.{Writes-element, Writes-head, Writes-tail, list-element, list-head, list-tail}
-use Rattle.bitvec_words.specs.WholeLaws.{HasWindow-part, list-empty}
+use Rattle.bitvec_words.specs.Elements.{elements_window}
+use Rattle.bitvec_words.specs.FieldLaws.{Writes-element, list-element}
+use Rattle.bitvec_words.specs.WholeLaws.{list-empty}
 
 -- n values of one kind, where n is told in another way
 pub replicate-is : (n m : ℕ) (bit : Bool) → n ≡ m → replicate n bit ≡ replicate m bit
@@ -68,48 +63,6 @@ Writes-flipped b at p old mid first count step v some has more is small before =
     ∙ ap (map not) (element-kept b at old mid first count step (map not front) some has more before))
     ∙ sym (map-append not front here)
     ∙ ap (map not) (list-element b at old first count step some has more))
-
--- ---- a window by two parts of it, side by side
-
--- the second part is as it was when it is flipped
-flip-parts : (before part kept whole : List Bool) → part ≡ kept → before ++ kept ≡ whole → map not before ++ map not part ≡ map not whole
-flip-parts before part kept whole same next = ap (λ (l : List Bool). map not before ++ map not l) same ∙ sym (map-append not before kept) ∙ ap (map not) next
-
--- its whole elements, and what is left
-pub Writes-flipped_tail : (b : ℕ) (at : ℕ → ℕ → ℕ) (old mid new : List ℕ) (window : Window) → HasWindow b old window → window.start % b ≡ 0
-    → Writes b at old mid (whole_of b window) (map not (list_in b at old (whole_of b window)))
-    → Writes b at mid new (part_window b (tail_part_of b window)) (map not (list_in b at mid (part_window b (tail_part_of b window))))
-    → Writes b at old new window (map not (list_in b at old window))
-Writes-flipped_tail b at old mid new window has edge before after =
-    let place = div-add-mod' window.start b in
-    let all = div-add-mod' window.len b in
-    let whole = whole_of b window in
-    let tail = part_window b (tail_part_of b window) in
-    let kept = list-behind b at old mid whole tail _
-    (HasWindow-part b old window whole has (omega arith) (omega arith))
-    (HasWindow-part b old window tail has (omega arith) (omega arith))
-    (omega arith) before in
-    Writes-is b at old new window _ _
-    (Writes-tail b at old mid new window _ _ has edge before after)
-    (flip-parts _ _ _ _ kept (list-tail b at old window window.len has edge refl))
-
--- the part of its first element, of t places, and what is left
-pub Writes-flipped_head : (b : ℕ) (at : ℕ → ℕ → ℕ) (old mid new : List ℕ) (window : Window) (t : ℕ) → 0 < b → 0 < window.len → t ≡ (first_part_of b window).to - (first_part_of b window).from → HasWindow b old window
-    → Writes b at old mid (part_window b (first_part_of b window)) (map not (list_in b at old (part_window b (first_part_of b window))))
-    → Writes b at mid new (window_after t window) (map not (list_in b at mid (window_after t window)))
-    → Writes b at old new window (map not (list_in b at old window))
-Writes-flipped_head b at old mid new window t some more part has before after =
-    let place = first-place b window in
-    let len = first-len b window some more in
-    let head = part_window b (first_part_of b window) in
-    let rest = window_after t window in
-    let kept = list-behind b at old mid head rest _
-    (HasWindow-part b old window head has (omega arith) (omega arith))
-    (HasWindow-part b old window rest has (omega arith) (omega arith))
-    (omega arith) before in
-    Writes-is b at old new window _ _
-    (Writes-head b at old mid new window t _ _ some more part has before after)
-    (flip-parts _ _ _ _ kept (list-head b at old window window t some more part refl refl has))
 
 -- ---- loads
 

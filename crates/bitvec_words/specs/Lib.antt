@@ -17,6 +17,7 @@ pub mod SameLaws
 pub mod ShiftedLaws
 pub mod ShortWindow
 pub mod Spans
+pub mod Split
 pub mod TouchedLaws
 pub mod WholeLaws
 pub mod WordLaws

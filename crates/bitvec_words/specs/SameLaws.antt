@@ -1,7 +1,7 @@
--- When lists have the same bits: by parts side by side, and by elements whose differing bits are gathered in one number.
-use Rattle.std.specs.Prelude.{◌≡◌, ℕ, ◌+◌, ◌-◌, ◌^◌, ◌<◌, ◌≤◌, ◌⊎◌, ◌==◌, Bool, true, false, ◌&&◌, List, ◌++◌, length, take, drop, slice_range, slice_index_or, bit_and, bit_or, bit_xor, refl}
+-- When lists have the same bits: by parts side by side, and by the differing bits of elements.
+use Rattle.std.specs.Prelude.{◌≡◌, ℕ, ◌+◌, ◌-◌, ◌^◌, ◌<◌, ◌≤◌, ◌⊎◌, ◌==◌, Bool, false, ◌&&◌, List, ◌++◌, length, take, drop, slice_range, slice_index_or, bit_and, bit_or, bit_xor, refl}
 use Rattle.std.specs.Int.{bit_at}
-use Rattle.std.specs.Int.Bits.{or_zero_l, xor_self}
+use Rattle.std.specs.Int.Bits.{xor_self}
 use Rattle.std.proofs.Common.{arith, sym, ◌∙◌, ap, subst, ⊎_elim, inl, inr}
 use Rattle.std.proofs.lemmas.Bool.{cases_lt}
 use Rattle.std.proofs.lemmas.Bool.Decides.{Decides-and, Decides-eqb, Decides-like, nat_tests, same_from_decides}
@@ -26,10 +26,6 @@ front_same a b c d long same = sym (take-append_seam a c) ∙ ap (take (length a
 rest_same : (a b c d : List Bool) → length a ≡ length b → a ++ c ≡ b ++ d → c ≡ d
 rest_same a b c d long same = sym (drop-append_seam a c) ∙ ap (drop (length a)) same ∙ ap (λ (n : ℕ). drop n (b ++ d)) long ∙ drop-append_seam b d
 
--- the lists told in another way
-pub same-lists : (a b c d : List Bool) → a ≡ c → b ≡ d → same_bits a b ≡ same_bits c d
-same-lists a b c d left right = rw (left, right) refl
-
 -- lists side by side, the first ones as long
 pub same-joined : (a b c d : List Bool) → length a ≡ length b → same_bits (a ++ c) (b ++ d) ≡ (same_bits a b && same_bits c d)
 same-joined a b c d long =
@@ -38,16 +34,6 @@ same-joined a b c d long =
     (λ h. ap (λ (l : List Bool). l ++ c) h.0 ∙ ap (λ (l : List Bool). b ++ l) h.1)
     (λ e. (front_same a b c d long e, rest_same a b c d long e))
     (Decides-and (same_bits a b) (same_bits c d) (same_bits-decides a b) (same_bits-decides c d)))
-
--- the first parts differ
-pub same-apart : (a b c d whole other : List Bool) → length a ≡ length b → a ++ c ≡ whole → b ++ d ≡ other → false ≡ same_bits a b → false ≡ same_bits whole other
-same-apart a b c d whole other long left right apart =
-    rw (← left, ← right) (sym (same-joined a b c d long ∙ ap (λ (s : Bool). s && same_bits c d) (sym apart)))
-
--- they don't, so the others decide
-pub same-then : (a b c d whole other : List Bool) → length a ≡ length b → a ++ c ≡ whole → b ++ d ≡ other → true ≡ same_bits a b → same_bits c d ≡ same_bits whole other
-same-then a b c d whole other long left right same =
-    rw (← left, ← right) (sym (same-joined a b c d long ∙ ap (λ (s : Bool). s && same_bits c d) (sym same)))
 
 -- ---- numbers
 
@@ -67,6 +53,12 @@ or_none_right a c none =
     let zero_bit = bit_at-zero i in
     omega arith)
 
+-- no bit is left in either of two numbers
+pub or_zero : (a c : ℕ) → (bit_or a c == 0) ≡ ((a == 0) && (c == 0))
+or_zero a c =
+    same_from_decides _ _ (Decides-eqb (bit_or a c) 0)
+    (Decides-like ((a == 0) && (c == 0)) (λ h. rw (h.0, h.1) refl) (λ e. (or_none a c e, or_none_right a c e)) (Decides-and (a == 0) (c == 0) (Decides-eqb a 0) (Decides-eqb c 0)))
+
 -- numbers with no differing bit
 pub xor_none : (v w : ℕ) → bit_xor v w ≡ 0 → v ≡ w
 xor_none v w none =
@@ -80,23 +72,11 @@ xor_none v w none =
 
 -- ---- elements
 
--- the differing bits of one element more
-both_none : (b : ℕ) (at : ℕ → ℕ → ℕ) → Permutes b (at b) → (found v w : ℕ) → v < 2 ^ b → w < 2 ^ b → (bit_or found (bit_xor v w) == 0) ≡ ((found == 0) && same_bits (element_bits b at v) (element_bits b at w))
-both_none b at p found v w hv hw =
-    same_from_decides _ _ (Decides-eqb (bit_or found (bit_xor v w)) 0)
-    (Decides-like ((found == 0) && same_bits (element_bits b at v) (element_bits b at w))
-    (λ h. rw (h.0, element_bits-fix b at p v w hv hw h.1) (or_zero_l (bit_xor w w) ∙ xor_self w))
-    (λ e. (or_none found (bit_xor v w) e, ap (element_bits b at) (xor_none v w (or_none_right found (bit_xor v w) e))))
-    (Decides-and (found == 0) _ (Decides-eqb found 0) (same_bits-decides (element_bits b at v) (element_bits b at w))))
-
-pub same-element : (b : ℕ) (at : ℕ → ℕ → ℕ) → Permutes b (at b) → (u found v w : ℕ) (front other whole other_whole : List Bool) → v < 2 ^ b → w < 2 ^ b → length front ≡ length other → u ≡ bit_or found (bit_xor v w)
-    → front ++ element_bits b at v ≡ whole → other ++ element_bits b at w ≡ other_whole → (found == 0) ≡ same_bits front other → (u == 0) ≡ same_bits whole other_whole
-same-element b at p u found v w front other whole other_whole hv hw long is left right before =
-    ap (λ (n : ℕ). n == 0) is
-    ∙ both_none b at p found v w hv hw
-    ∙ ap (λ (s : Bool). s && same_bits (element_bits b at v) (element_bits b at w)) before
-    ∙ sym (same-joined front other (element_bits b at v) (element_bits b at w) long)
-    ∙ same-lists _ _ _ _ left right
+-- elements with no differing bit
+pub same-whole : (b : ℕ) (at : ℕ → ℕ → ℕ) → Permutes b (at b) → (v w : ℕ) → v < 2 ^ b → w < 2 ^ b → (bit_xor v w == 0) ≡ same_bits (element_bits b at v) (element_bits b at w)
+same-whole b at p v w hv hw =
+    same_from_decides _ _ (Decides-eqb (bit_xor v w) 0)
+    (Decides-like (same_bits (element_bits b at v) (element_bits b at w)) (λ h. rw (element_bits-fix b at p v w hv hw h) (xor_self w)) (λ e. ap (element_bits b at) (xor_none v w e)) (same_bits-decides _ _))
 
 -- ---- the differing bits behind a mask
 

@@ -1,6 +1,5 @@
 -- Windows of two memories, the first of which begins where an element does and the other inside one.
-use Rattle.std.specs.Prelude.{◌≡◌, ℕ, ◌/◌, ◌%◌, ◌<◌, List, slice_index}
-use Rattle.bitvec_cells.specs.base.declared.window.Window.{Window}
+use Rattle.std.specs.Prelude.{◌≡◌, ℕ, ◌<◌, List, slice_index}
 use Rattle.bitvec_cells.specs.base.Spans.{HasSpan}
 use Rattle.bitvec_words.specs.Elements.{elements_window, elements_window_from}
 
@@ -10,10 +9,3 @@ pub record HasShiftedElements (b : ℕ) (xs ys : List ℕ) (first source skip co
   pub inside : 0 < skip
   pub bound : skip < b
   pub carried : carry ≡ slice_index ys source
-
--- such windows of any length, where `carry` is the number of the first element that the other touches
-pub record HasShiftedSpan (b : ℕ) (xs ys : List ℕ) (left right : Window) (carry : ℕ) : Type 0 where
-  pub span : HasSpan b xs ys left right
-  pub edge : left.start % b ≡ 0
-  pub inside : 0 < right.start % b
-  pub carried : carry ≡ slice_index ys (right.start / b)

@@ -1,20 +1,18 @@
 -- Whole elements of a window, from its first bit on, and what is behind them.
-use Rattle.std.specs.Prelude.{◌≡◌, ℕ, ◌+◌, ◌-◌, ◌*◌, ◌/◌, ◌%◌, ◌^◌, ◌<◌, ◌≤◌, true, Bool, List, [], ◌++◌, length, refl}
-use Rattle.std.proofs.Common.{arith, sym, ◌∙◌, ap, ⊎_elim}
+use Rattle.std.specs.Prelude.{◌≡◌, ℕ, ◌+◌, ◌-◌, ◌*◌, ◌/◌, ◌%◌, ◌^◌, ◌<◌, ◌≤◌, true, Bool, List, [], length, refl}
+use Rattle.std.proofs.Common.{arith, ◌∙◌, ap, ⊎_elim}
 use Rattle.std.proofs.lemmas.Bool.{cases_lt}
 use Rattle.std.proofs.lemmas.Nat.{div-add-mod', mod_below, mod-mul-add}
 use Rattle.std.proofs.Math.Nat.{add-mul, le_of_mul-le-mul_right, mul-le-mul_left}
 use Rattle.bitvec_cells.specs.base.declared.window.Window.{Window}
 use Rattle.bitvec_cells.specs.base.Lists.{same_bits}
 use Rattle.bitvec_cells.specs.base.Memory.{HasWindow, Writes, list_in, memory_bits}
-use Rattle.bitvec_cells.specs.base.Parts.{first_part_of, part_window}
 use Rattle.bitvec_cells.specs.base.SliceLaws.{range-none}
-use Rattle.bitvec_cells.specs.base.Window.{window_after, window_of, window_until}
-use Rattle.bitvec_cells.specs.base.WritesLaws.{length-list, list-join}
+use Rattle.bitvec_cells.specs.base.Window.{window_of}
 use Rattle.bitvec_cells.specs.Cost.{touched_count}
-use Rattle.bitvec_words.specs.Elements.{elements_window, elements_window_from}
+use Rattle.bitvec_words.specs.Elements.{elements_window}
 use Rattle.bitvec_words.specs.TouchedLaws.{touched-first, touched-from, touched-inside}
-use Rattle.bitvec_cells.specs.WalkLaws.{first-len, touched-none}
+use Rattle.bitvec_cells.specs.WalkLaws.{touched-none}
 
 -- m elements that a window of n bits has
 pub whole_fits : (b n m : ℕ) → m ≤ n / b → m * b ≤ n
@@ -93,9 +91,6 @@ unfolding window_of
 same-empty b at xs ys window other empty none =
     rw (range-none (memory_bits b at xs) window.start (window.start + window.len) (omega arith), range-none (memory_bits b at ys) other.start (other.start + other.len) (omega arith)) refl
 
-pub same-length : (b : ℕ) (at : ℕ → ℕ → ℕ) (xs ys : List ℕ) (window other : Window) → HasWindow b xs window → HasWindow b ys other → window.len ≡ other.len → length (list_in b at xs window) ≡ length (list_in b at ys other)
-same-length b at xs ys window other has is same = length-list b at xs window has ∙ same ∙ sym (length-list b at ys other is)
-
 -- a window that lies in another
 pub HasWindow-part : (b : ℕ) (xs : List ℕ) (window part : Window) → HasWindow b xs window → window.start ≤ part.start → part.start + part.len ≤ window.start + window.len → HasWindow b xs part
 HasWindow-part b xs window part has low high =
@@ -113,77 +108,4 @@ elements-inside b xs first n some has =
 
 -- ---- n whole elements behind m others
 
-pub list-elements : (b : ℕ) (at : ℕ → ℕ → ℕ) (xs : List ℕ) (window : Window) (m n : ℕ) → HasWindow b xs window → window.start % b ≡ 0 → (m + n) * b ≤ window.len
-    → list_in b at xs (elements_window b (window.start / b + m) n) ++ list_in b at xs (window_after ((m + n) * b) window) ≡ list_in b at xs (window_after (m * b) window)
-list-elements b at xs window m n has edge fits =
-    let place = div-add-mod' window.start b in
-    list-join b at xs (elements_window b (window.start / b + m) n) (window_after ((m + n) * b) window) (window_after (m * b) window)
-    (HasWindow-part b xs window (window_after (m * b) window) has (omega arith) (omega arith)) (omega arith) (omega arith) (omega arith)
-
-pub list-elements_from : (b : ℕ) (at : ℕ → ℕ → ℕ) (xs : List ℕ) (window : Window) (m n : ℕ) → HasWindow b xs window → (m + n) * b ≤ window.len
-    → list_in b at xs (elements_window_from b (window.start / b + m) (window.start % b) n) ++ list_in b at xs (window_after ((m + n) * b) window) ≡ list_in b at xs (window_after (m * b) window)
-list-elements_from b at xs window m n has fits =
-    let place = div-add-mod' window.start b in
-    list-join b at xs (elements_window_from b (window.start / b + m) (window.start % b) n) (window_after ((m + n) * b) window) (window_after (m * b) window)
-    (HasWindow-part b xs window (window_after (m * b) window) has (omega arith) (omega arith)) (omega arith) (omega arith) (omega arith)
-
--- both sides have as many bits there
-pub long-elements : (b : ℕ) (at : ℕ → ℕ → ℕ) (xs ys : List ℕ) (window other : Window) (m n : ℕ) → HasWindow b xs window → HasWindow b ys other → window.start % b ≡ 0 → other.start % b ≡ 0 → (m + n) * b ≤ window.len → (m + n) * b ≤ other.len
-    → length (list_in b at xs (elements_window b (window.start / b + m) n)) ≡ length (list_in b at ys (elements_window b (other.start / b + m) n))
-long-elements b at xs ys window other m n has is edge other_edge fits other_fits =
-    let place = div-add-mod' window.start b in
-    let other_place = div-add-mod' other.start b in
-    same-length b at xs ys (elements_window b (window.start / b + m) n) (elements_window b (other.start / b + m) n)
-    (HasWindow-part b xs window (elements_window b (window.start / b + m) n) has (omega arith) (omega arith))
-    (HasWindow-part b ys other (elements_window b (other.start / b + m) n) is (omega arith) (omega arith)) refl
-
-pub long-elements_from : (b : ℕ) (at : ℕ → ℕ → ℕ) (xs ys : List ℕ) (window other : Window) (m n : ℕ) → HasWindow b xs window → HasWindow b ys other → window.start % b ≡ 0 → (m + n) * b ≤ window.len → (m + n) * b ≤ other.len
-    → length (list_in b at xs (elements_window b (window.start / b + m) n)) ≡ length (list_in b at ys (elements_window_from b (other.start / b + m) (other.start % b) n))
-long-elements_from b at xs ys window other m n has is edge fits other_fits =
-    let place = div-add-mod' window.start b in
-    let other_place = div-add-mod' other.start b in
-    same-length b at xs ys (elements_window b (window.start / b + m) n) (elements_window_from b (other.start / b + m) (other.start % b) n)
-    (HasWindow-part b xs window (elements_window b (window.start / b + m) n) has (omega arith) (omega arith))
-    (HasWindow-part b ys other (elements_window_from b (other.start / b + m) (other.start % b) n) is (omega arith) (omega arith)) refl
-
--- and in all their whole elements
-pub long-whole : (b : ℕ) (at : ℕ → ℕ → ℕ) (xs ys : List ℕ) (window other : Window) → HasWindow b xs window → HasWindow b ys other → window.start % b ≡ 0 → other.start % b ≡ 0 → window.len ≡ other.len
-    → length (list_in b at xs (elements_window b (window.start / b) (window.len / b))) ≡ length (list_in b at ys (elements_window b (other.start / b) (window.len / b)))
-long-whole b at xs ys window other has is edge other_edge same =
-    let place = div-add-mod' window.start b in
-    let other_place = div-add-mod' other.start b in
-    let fits = whole_fits b window.len (window.len / b) (omega arith) in
-    same-length b at xs ys (elements_window b (window.start / b) (window.len / b)) (elements_window b (other.start / b) (window.len / b))
-    (HasWindow-part b xs window (elements_window b (window.start / b) (window.len / b)) has (omega arith) (omega arith))
-    (HasWindow-part b ys other (elements_window b (other.start / b) (window.len / b)) is (omega arith) (omega arith)) refl
-
-pub long-whole_from : (b : ℕ) (at : ℕ → ℕ → ℕ) (xs ys : List ℕ) (window other : Window) → HasWindow b xs window → HasWindow b ys other → window.start % b ≡ 0 → window.len ≡ other.len
-    → length (list_in b at xs (elements_window b (window.start / b) (window.len / b))) ≡ length (list_in b at ys (elements_window_from b (other.start / b) (other.start % b) (window.len / b)))
-long-whole_from b at xs ys window other has is edge same =
-    let place = div-add-mod' window.start b in
-    let other_place = div-add-mod' other.start b in
-    let fits = whole_fits b window.len (window.len / b) (omega arith) in
-    same-length b at xs ys (elements_window b (window.start / b) (window.len / b)) (elements_window_from b (other.start / b) (other.start % b) (window.len / b))
-    (HasWindow-part b xs window (elements_window b (window.start / b) (window.len / b)) has (omega arith) (omega arith))
-    (HasWindow-part b ys other (elements_window_from b (other.start / b) (other.start % b) (window.len / b)) is (omega arith) (omega arith)) refl
-
 -- ---- the part of a window's first element
-
-pub long-head : (b : ℕ) (at : ℕ → ℕ → ℕ) (xs ys : List ℕ) (window other : Window) → 0 < b → 0 < window.len → window.len ≡ other.len → window.start % b ≡ other.start % b → HasWindow b xs window → HasWindow b ys other
-    → length (list_in b at xs (part_window b (first_part_of b window))) ≡ length (list_in b at ys (part_window b (record (first_part_of b window) { element = other.start / b })))
-long-head b at xs ys window other some more same phases has is =
-    let place = div-add-mod' window.start b in
-    let other_place = div-add-mod' other.start b in
-    let len = first-len b window some more in
-    same-length b at xs ys (part_window b (first_part_of b window)) (part_window b (record (first_part_of b window) { element = other.start / b }))
-    (HasWindow-part b xs window (part_window b (first_part_of b window)) has (omega arith) (omega arith))
-    (HasWindow-part b ys other (part_window b (record (first_part_of b window) { element = other.start / b })) is (omega arith) (omega arith)) refl
-
-pub long-parted : (b : ℕ) (at : ℕ → ℕ → ℕ) (xs ys : List ℕ) (window other : Window) (t : ℕ) → 0 < b → 0 < window.len → t ≡ (first_part_of b window).to - (first_part_of b window).from → window.len ≡ other.len → HasWindow b xs window → HasWindow b ys other
-    → length (list_in b at xs (part_window b (first_part_of b window))) ≡ length (list_in b at ys (window_until (other.len - t) other))
-long-parted b at xs ys window other t some more part same has is =
-    let place = div-add-mod' window.start b in
-    let len = first-len b window some more in
-    same-length b at xs ys (part_window b (first_part_of b window)) (window_until (other.len - t) other)
-    (HasWindow-part b xs window (part_window b (first_part_of b window)) has (omega arith) (omega arith))
-    (HasWindow-part b ys other (window_until (other.len - t) other) is (omega arith) (omega arith)) (omega arith)

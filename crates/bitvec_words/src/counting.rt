@@ -5,9 +5,10 @@ ghost use Rattle.bitvec_cells.specs.Access.{OnlyReads};
 ghost use Rattle.bitvec_cells.specs.Cost.{touched_count};
 ghost use Rattle.bitvec_words.specs.Elements.{elements_window};
 
+use crate::split::{split_head, split_tail};
 use crate::word_elements::load_elements;
 use crate::word_parts::WORD_BITS;
-use bitvec_cells::base::{BitOrder, Lsb0, Window, first_part, tail_part, whole_elements};
+use bitvec_cells::base::{BitOrder, Lsb0, Window};
 use bitvec_cells::store::BitStore;
 use bitvec_cells::{CellsRead, count_part};
 
@@ -28,13 +29,12 @@ pub fn count<O: BitOrder, C: CellsRead>(cells: &mut C, window: Window) -> usize
     if window.len > bits && window.start % bits == 0 {
         return count_aligned::<O, C>(cells, window);
     }
-    let head = first_part(bits, window);
+    let (head, rest) = split_head::<C::Elem>(window);
     let ones = count_part::<O, C>(cells, head);
-    let passed = head.len();
-    if passed == window.len {
+    if rest.len == 0 {
         return ones;
     }
-    ones + count_aligned::<O, C>(cells, window.after(passed))
+    ones + count_aligned::<O, C>(cells, rest)
 }
 
 /// How many bits are 1 of a window that begins where an element does.
@@ -44,10 +44,8 @@ fn count_aligned<O: BitOrder, C: CellsRead>(cells: &mut C, window: Window) -> us
     ensures value { result ≡ count_by (λ bit. bit) (list_in C.Elem.BITS O.at (C.numbers cells.old) window) }
     ensures reads { OnlyReads C.CellsRead cells.old cells.new (touched_count C.Elem.BITS window.start window.len) }
 {
-    let bits = C::Elem::BITS as usize;
-    let (first, count) = whole_elements(bits, window);
+    let (first, count, tail) = split_tail::<C::Elem>(window);
     let ones = count_whole::<O, C>(cells, first, count);
-    let tail = tail_part(bits, window);
     if tail.to == 0 {
         return ones;
     }

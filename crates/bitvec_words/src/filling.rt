@@ -5,7 +5,8 @@ ghost use Rattle.bitvec_cells.specs.Access.{Costs, CostsAtMost};
 ghost use Rattle.bitvec_cells.specs.Cost.{fill_loads, touched_count};
 ghost use Rattle.bitvec_words.specs.Elements.{elements_window};
 
-use bitvec_cells::base::{BitOrder, Window, first_part, tail_part, whole_elements};
+use crate::split::{split_head, split_tail};
+use bitvec_cells::base::{BitOrder, Window};
 use bitvec_cells::store::BitStore;
 use bitvec_cells::{Cells, CellsRead, fill_part, invert_part};
 
@@ -23,14 +24,12 @@ pub fn fill<O: BitOrder, C: Cells>(cells: &mut C, window: Window, bit: bool)
     if window.len == 0 {
         return;
     }
-    let bits = C::Elem::BITS as usize;
-    let head = first_part(bits, window);
+    let (head, rest) = split_head::<C::Elem>(window);
     fill_part::<O, C>(cells, head, bit);
-    let passed = head.len();
-    if passed == window.len {
+    if rest.len == 0 {
         return;
     }
-    fill_aligned::<O, C>(cells, window.after(passed), bit);
+    fill_aligned::<O, C>(cells, rest, bit);
 }
 
 /// Fills a window that begins where an element does. It loads at most the last of its elements.
@@ -43,10 +42,8 @@ fn fill_aligned<O: BitOrder, C: Cells>(cells: &mut C, window: Window, bit: bool)
     ensures stores { C.stores cells.new ≡ C.stores cells.old + touched_count C.Elem.BITS window.start window.len }
     ensures loads { C.loads cells.new ≤ C.loads cells.old + touched_count C.Elem.BITS window.start window.len }
 {
-    let bits = C::Elem::BITS as usize;
-    let (first, count) = whole_elements(bits, window);
+    let (first, count, tail) = split_tail::<C::Elem>(window);
     fill_whole::<O, C>(cells, first, count, bit);
-    let tail = tail_part(bits, window);
     if tail.to == 0 {
         return;
     }
@@ -97,13 +94,12 @@ pub fn invert<O: BitOrder, C: Cells>(cells: &mut C, window: Window)
         invert_aligned::<O, C>(cells, window);
         return;
     }
-    let head = first_part(bits, window);
+    let (head, rest) = split_head::<C::Elem>(window);
     invert_part::<O, C>(cells, head);
-    let passed = head.len();
-    if passed == window.len {
+    if rest.len == 0 {
         return;
     }
-    invert_aligned::<O, C>(cells, window.after(passed));
+    invert_aligned::<O, C>(cells, rest);
 }
 
 /// Flips the bits of a window that begins where an element does.
@@ -114,10 +110,8 @@ fn invert_aligned<O: BitOrder, C: Cells>(cells: &mut C, window: Window)
     ensures cost { let each = touched_count C.Elem.BITS window.start window.len in
         Costs C.CellsRead cells.old cells.new each each }
 {
-    let bits = C::Elem::BITS as usize;
-    let (first, count) = whole_elements(bits, window);
+    let (first, count, tail) = split_tail::<C::Elem>(window);
     invert_whole::<O, C>(cells, first, count);
-    let tail = tail_part(bits, window);
     if tail.to == 0 {
         return;
     }

@@ -6,11 +6,12 @@ ghost use Rattle.bitvec_words.specs.Front.{IsFront, front_window};
 ghost use Rattle.bitvec_cells.specs.Cost.{touched_count};
 ghost use Rattle.bitvec_words.specs.ShortWindow.{padded};
 
+use crate::split::split_head;
 use crate::word_elements::load_elements;
 use crate::word_order::WordOrder;
 use crate::word_parts::{WORD_BITS, moved};
 use bitvec_cells::CellsRead;
-use bitvec_cells::base::{BitOrder, Lsb0, Part, Window, first_part};
+use bitvec_cells::base::{BitOrder, Lsb0, Part, Window};
 use bitvec_cells::store::BitStore;
 
 /// The first bits of a window as the first bits of a word, and how many they are: 64 where it begins with an
@@ -28,11 +29,10 @@ pub fn words_load_front<O: WordOrder, C: CellsRead>(cells: &mut C, window: Windo
         let word = load_elements::<O, C>(cells, window.start / bits);
         return (word, WORD_BITS);
     }
-    let part = first_part(bits, front_window(window));
-    let count = part.len();
+    let (part, _) = split_head::<C::Elem>(front_window(window));
     let element = cells.load(part.element);
-    let word = moved::<O, C::Elem, u64>(element, part.from, count, 0);
-    (word, count)
+    let word = moved::<O, C::Elem, u64>(element, part.from, part.len(), 0);
+    (word, part.len())
 }
 
 /// The first bits of a window under any order: those of the first element, up to 64.
@@ -42,7 +42,7 @@ pub fn bits_load_front<O: BitOrder, C: CellsRead>(cells: &mut C, window: Window)
     ensures value { IsFront C.Elem.BITS O.at (C.numbers cells.old) window result.0 result.1 }
     ensures reads { OnlyReads C.CellsRead cells.old cells.new (touched_count C.Elem.BITS window.start result.1) }
 {
-    let part = first_part(C::Elem::BITS as usize, front_window(window));
+    let (part, _) = split_head::<C::Elem>(front_window(window));
     let element = cells.load(part.element);
     let word = gathered::<O, O, C::Elem>(element, part);
     (word, part.len())

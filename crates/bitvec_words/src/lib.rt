@@ -13,6 +13,7 @@ mod part;
 mod scanning;
 mod scanning_words;
 mod slice_words;
+mod split;
 mod word_elements;
 mod word_order;
 mod word_parts;

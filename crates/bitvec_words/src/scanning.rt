@@ -1,12 +1,13 @@
 //! Searches of a window for a bit.
 ghost use Rattle.std.specs.Prelude.{◌≡◌, ◌+◌, ◌-◌, ◌*◌, ◌%◌, ◌<◌};
 ghost use Rattle.bitvec_cells.specs.base.Lists.{first_place, last_place};
-ghost use Rattle.bitvec_cells.specs.base.Memory.{HasWindow, list_in};
+ghost use Rattle.bitvec_cells.specs.base.Memory.{HasWindow, element_bits, list_in};
 ghost use Rattle.bitvec_cells.specs.Access.{OnlyReadsAtMost};
 ghost use Rattle.bitvec_cells.specs.Cost.{first_loads, last_loads};
 ghost use Rattle.bitvec_words.specs.Elements.{elements_window};
 
-use bitvec_cells::base::{BitOrder, Part, Window, first_part, tail_part, whole_elements};
+use crate::split::{split_head, split_tail};
+use bitvec_cells::base::{BitOrder, Part, Window};
 use bitvec_cells::store::BitStore;
 use bitvec_cells::{
     CellsRead, filled, first_in_element, first_in_part, last_in_element, last_in_part,
@@ -24,47 +25,33 @@ pub fn bits_scan_first<O: BitOrder, C: CellsRead>(
     ensures value { result ≡ first_place want (list_in C.Elem.BITS O.at (C.numbers cells.old) window) }
     ensures reads { OnlyReadsAtMost C.CellsRead cells.old cells.new (first_loads C.Elem.BITS window result) }
 {
-    let bits = C::Elem::BITS as usize;
-    if window.start % bits == 0 {
+    if window.len == 0 || window.start % C::Elem::BITS as usize == 0 {
         return first_aligned::<O, C>(cells, window, want);
     }
-    if window.len == 0 {
-        return None;
-    }
-    let head = first_part(bits, window);
+    let (head, rest) = split_head::<C::Elem>(window);
     if let Some(found) = first_in_part::<O, C>(cells, head, want) {
         return Some(found);
     }
-    let passed = head.len();
-    if passed == window.len {
-        return None;
-    }
-    let found = first_aligned::<O, C>(cells, window.after(passed), want)?;
-    Some(passed + found)
+    let found = first_aligned::<O, C>(cells, rest, want)?;
+    Some(head.len() + found)
 }
 
-/// The first of a window that begins where an element does.
+/// The first of a window that is empty or begins where an element does: of all elements that it touches, where it
+/// isn't behind the window's end.
 fn first_aligned<O: BitOrder, C: CellsRead>(
     cells: &mut C,
     window: Window,
     want: bool,
 ) -> Option<usize>
     requires window { HasWindow C.Elem.BITS (C.numbers cells.old) window }
-    requires edge { window.start % C.Elem.BITS ≡ 0 }
+    requires edge { 0 < window.len → window.start % C.Elem.BITS ≡ 0 }
     ensures value { result ≡ first_place want (list_in C.Elem.BITS O.at (C.numbers cells.old) window) }
     ensures reads { OnlyReadsAtMost C.CellsRead cells.old cells.new (first_loads C.Elem.BITS window result) }
 {
     let bits = C::Elem::BITS as usize;
-    let (first, count) = whole_elements(bits, window);
-    if let Some(found) = first_whole::<O, C>(cells, first, count, want) {
-        return Some(found);
-    }
-    let tail = tail_part(bits, window);
-    if tail.to == 0 {
-        return None;
-    }
-    let found = first_in_part::<O, C>(cells, tail, want)?;
-    Some(count * bits + found)
+    let count = window.len.div_ceil(bits);
+    let found = first_whole::<O, C>(cells, window.start / bits, count, want)?;
+    (found < window.len).then_some(found)
 }
 
 /// The first of `count` whole elements, each of which is passed by one comparison if it lacks the bit.
@@ -80,21 +67,28 @@ pub(crate) fn first_whole<O: BitOrder, C: CellsRead>(
     ensures reads { OnlyReadsAtMost C.CellsRead cells.old cells.new
         (first_loads C.Elem.BITS (elements_window C.Elem.BITS first count) result) }
 {
-    let bits = C::Elem::BITS as usize;
     let lacking = filled::<C::Elem>(!want);
     for step in 0..count {
         let element = cells.load(first + step);
         if element.xor(lacking).to_u128() != 0 {
-            let part = Part {
-                element: first + step,
-                from: 0,
-                to: bits,
-            };
-            let found = first_in_element::<O, C::Elem>(element, part, want)?;
-            return Some(step * bits + found);
+            let found = first_in_whole::<O, C::Elem>(element, want)?;
+            return Some(step * C::Elem::BITS as usize + found);
         }
     }
     None
+}
+
+/// The first of an element.
+#[inline(always)]
+pub(crate) fn first_in_whole<O: BitOrder, T: BitStore>(element: T, want: bool) -> Option<usize>
+    ensures { result ≡ first_place want (element_bits T.BITS O.at (T.value element)) }
+{
+    let whole = Part {
+        element: 0,
+        from: 0,
+        to: T::BITS as usize,
+    };
+    first_in_element::<O, T>(element, whole, want)
 }
 
 /// The index of a window's last bit that is `want`, if there is one. Condition: as for [`bits_scan_first`]. It
@@ -111,14 +105,12 @@ pub fn bits_scan_last<O: BitOrder, C: CellsRead>(
     if window.len == 0 {
         return None;
     }
-    let bits = C::Elem::BITS as usize;
-    let head = first_part(bits, window);
-    let kept = head.len();
-    if kept == window.len {
+    let (head, rest) = split_head::<C::Elem>(window);
+    if rest.len == 0 {
         return last_in_part::<O, C>(cells, head, want);
     }
-    if let Some(found) = last_aligned::<O, C>(cells, window.after(kept), want) {
-        return Some(kept + found);
+    if let Some(found) = last_aligned::<O, C>(cells, rest, want) {
+        return Some(head.len() + found);
     }
     last_in_part::<O, C>(cells, head, want)
 }
@@ -134,14 +126,12 @@ fn last_aligned<O: BitOrder, C: CellsRead>(
     ensures value { result ≡ last_place want (list_in C.Elem.BITS O.at (C.numbers cells.old) window) }
     ensures reads { OnlyReadsAtMost C.CellsRead cells.old cells.new (last_loads C.Elem.BITS window result) }
 {
-    let bits = C::Elem::BITS as usize;
-    let (first, count) = whole_elements(bits, window);
-    let tail = tail_part(bits, window);
+    let (first, count, tail) = split_tail::<C::Elem>(window);
     if tail.to == 0 {
         return last_whole::<O, C>(cells, first, count, want);
     }
     if let Some(found) = last_in_part::<O, C>(cells, tail, want) {
-        return Some(count * bits + found);
+        return Some(count * C::Elem::BITS as usize + found);
     }
     last_whole::<O, C>(cells, first, count, want)
 }
@@ -160,16 +150,16 @@ fn last_whole<O: BitOrder, C: CellsRead>(
         (last_loads C.Elem.BITS (elements_window C.Elem.BITS first count) result) }
 {
     let bits = C::Elem::BITS as usize;
+    let whole = Part {
+        element: 0,
+        from: 0,
+        to: bits,
+    };
     let lacking = filled::<C::Elem>(!want);
     for step in (0..count).rev() {
         let element = cells.load(first + step);
         if element.xor(lacking).to_u128() != 0 {
-            let part = Part {
-                element: first + step,
-                from: 0,
-                to: bits,
-            };
-            let found = last_in_element::<O, C::Elem>(element, part, want)?;
+            let found = last_in_element::<O, C::Elem>(element, whole, want)?;
             return Some(step * bits + found);
         }
     }

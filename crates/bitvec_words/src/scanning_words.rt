@@ -6,13 +6,14 @@ ghost use Rattle.bitvec_cells.specs.Access.{OnlyReads, OnlyReadsAtMost};
 ghost use Rattle.bitvec_cells.specs.Cost.{touched_count};
 ghost use Rattle.bitvec_words.specs.Elements.{HasElements, elements_window};
 
-use crate::scanning::first_whole;
+use crate::scanning::{first_in_whole, first_whole};
+use crate::split::split_head;
 use crate::word_elements::{load_elements, ordered};
 use crate::word_order::WordOrder;
 use crate::word_parts::WORD_BITS;
-use bitvec_cells::base::{BitOrder, Lsb0, Part, Window, first_part};
+use bitvec_cells::base::{BitOrder, Lsb0, Window};
 use bitvec_cells::store::BitStore;
-use bitvec_cells::{CellsRead, filled, first_in_element, first_in_part};
+use bitvec_cells::{CellsRead, filled, first_in_part};
 
 /// The bits of a block, which is four words.
 const BLOCK_BITS: usize = 4 * WORD_BITS;
@@ -30,17 +31,15 @@ pub fn words_scan_first<O: WordOrder, C: CellsRead>(
     ensures value { result ≡ first_place want (list_in C.Elem.BITS O.at (C.numbers cells.old) window) }
     ensures reads { OnlyReadsAtMost C.CellsRead cells.old cells.new (touched_count C.Elem.BITS window.start window.len) }
 {
-    let bits = C::Elem::BITS as usize;
-    if window.len == 0 || window.start % bits == 0 {
+    if window.len == 0 || window.start % C::Elem::BITS as usize == 0 {
         return first_from_edge::<O, C>(cells, window, want);
     }
-    let head = first_part(bits, window);
+    let (head, rest) = split_head::<C::Elem>(window);
     if let Some(found) = first_in_part::<O, C>(cells, head, want) {
         return Some(found);
     }
-    let passed = head.len();
-    let found = first_from_edge::<O, C>(cells, window.after(passed), want)?;
-    Some(passed + found)
+    let found = first_from_edge::<O, C>(cells, rest, want)?;
+    Some(head.len() + found)
 }
 
 /// The first of a window that is empty or begins where an element does: of all elements that it touches, where it
@@ -127,14 +126,9 @@ fn first_in_some_words<O: WordOrder, C: CellsRead>(
     ensures reads { OnlyReadsAtMost C.CellsRead cells.old cells.new (count * (64 / C.Elem.BITS)) }
 {
     let elements = WORD_BITS / C::Elem::BITS as usize;
-    let whole = Part {
-        element: 0,
-        from: 0,
-        to: WORD_BITS,
-    };
     for step in 0..count {
         let word = load_elements::<O, C>(cells, first + step * elements);
-        if let Some(found) = first_in_element::<O, u64>(word, whole, want) {
+        if let Some(found) = first_in_whole::<O, u64>(word, want) {
             return Some(step * WORD_BITS + found);
         }
     }
@@ -163,7 +157,8 @@ fn first_in_blocks<O: WordOrder, C: CellsRead>(
     None
 }
 
-/// The first of the elements of a block, which are two if they are wider than a word.
+/// The first of the elements of a block. If they are wider than a word they are two. Else the machine loads them as
+/// words from the least significant bit on, and they are put in the order only where the block has the bit.
 #[inline(always)]
 fn first_in_block<O: WordOrder, C: CellsRead>(
     cells: &mut C,
@@ -175,29 +170,13 @@ fn first_in_block<O: WordOrder, C: CellsRead>(
         (list_in C.Elem.BITS O.at (C.numbers cells.old) (elements_window C.Elem.BITS first (256 / C.Elem.BITS))) }
     ensures reads { OnlyReads C.CellsRead cells.old cells.new (256 / C.Elem.BITS) }
 {
-    if C::Elem::BITS as usize <= WORD_BITS {
-        return first_in_narrow_block::<O, C>(cells, first, want);
+    let bits = C::Elem::BITS as usize;
+    if bits > WORD_BITS {
+        let one = cells.load(first);
+        let two = cells.load(first + 1);
+        return first_in_pair::<O, C::Elem>(one, two, want);
     }
-    let one = cells.load(first);
-    let two = cells.load(first + 1);
-    first_in_pair::<O, C::Elem>(one, two, want)
-}
-
-/// The first of the elements of a block, which the machine loads as words from the least significant bit on: they
-/// are put in the order only where the block has the bit. Condition: they are not wider than a word.
-#[inline(always)]
-fn first_in_narrow_block<O: WordOrder, C: CellsRead>(
-    cells: &mut C,
-    first: usize,
-    want: bool,
-) -> Option<usize>
-    requires window { HasWindow C.Elem.BITS (C.numbers cells.old) (elements_window C.Elem.BITS first (256 / C.Elem.BITS)) }
-    requires narrow { C.Elem.BITS ≤ 64 }
-    ensures value { result ≡ first_place want
-        (list_in C.Elem.BITS O.at (C.numbers cells.old) (elements_window C.Elem.BITS first (256 / C.Elem.BITS))) }
-    ensures reads { OnlyReads C.CellsRead cells.old cells.new (256 / C.Elem.BITS) }
-{
-    let elements = WORD_BITS / C::Elem::BITS as usize;
+    let elements = WORD_BITS / bits;
     let one = load_elements::<Lsb0, C>(cells, first);
     let two = load_elements::<Lsb0, C>(cells, first + elements);
     let three = load_elements::<Lsb0, C>(cells, first + 2 * elements);
@@ -258,15 +237,9 @@ fn first_in_pair<O: BitOrder, T: BitStore>(one: T, two: T, want: bool) -> Option
 fn first_of_two<O: BitOrder, T: BitStore>(one: T, two: T, want: bool) -> Option<usize>
     ensures { result ≡ first_place want (element_bits T.BITS O.at (T.value one) ++ element_bits T.BITS O.at (T.value two)) }
 {
-    let bits = T::BITS as usize;
-    let element = Part {
-        element: 0,
-        from: 0,
-        to: bits,
-    };
-    if let Some(found) = first_in_element::<O, T>(one, element, want) {
+    if let Some(found) = first_in_whole::<O, T>(one, want) {
         return Some(found);
     }
-    let found = first_in_element::<O, T>(two, element, want)?;
-    Some(bits + found)
+    let found = first_in_whole::<O, T>(two, want)?;
+    Some(T::BITS as usize + found)
 }

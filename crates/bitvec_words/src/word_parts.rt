@@ -9,7 +9,8 @@ ghost use Rattle.bitvec_words.specs.ShortWindow.{lowest_bit, padded};
 
 use crate::WordOrder;
 use crate::part::store_part;
-use bitvec_cells::base::{Window, first_part};
+use crate::split::split_head;
+use bitvec_cells::base::Window;
 use bitvec_cells::store::BitStore;
 use bitvec_cells::{Cells, CellsRead};
 
@@ -62,15 +63,13 @@ pub fn load_parts<O: WordOrder, C: CellsRead>(cells: &mut C, window: Window) -> 
     ensures value { element_bits 64 O.at result ≡ padded 64 (list_in C.Elem.BITS O.at (C.numbers cells.old) window) }
     ensures reads { OnlyReads C.CellsRead cells.old cells.new (touched_count C.Elem.BITS window.start window.len) }
 {
-    let bits = C::Elem::BITS as usize;
     let mut word = 0;
     let mut rest = window;
     while rest.len > 0 {
-        let part = first_part(bits, rest);
-        let count = part.len();
+        let (part, behind) = split_head::<C::Elem>(rest);
         let element = cells.load(part.element);
-        word |= moved::<O, C::Elem, u64>(element, part.from, count, window.len - rest.len);
-        rest = rest.after(count);
+        word |= moved::<O, C::Elem, u64>(element, part.from, part.len(), window.len - rest.len);
+        rest = behind;
     }
     word
 }
@@ -84,13 +83,11 @@ pub fn store_parts<O: WordOrder, C: Cells>(cells: &mut C, window: Window, word: 
         (take window.len (element_bits 64 O.at word)) }
     ensures cost { CostsAtMost C.CellsRead cells.old cells.new (fill_loads window.len) (touched_count C.Elem.BITS window.start window.len) }
 {
-    let bits = C::Elem::BITS as usize;
     let mut rest = window;
     while rest.len > 0 {
-        let part = first_part(bits, rest);
-        let count = part.len();
-        let element = moved::<O, u64, C::Elem>(word, window.len - rest.len, count, part.from);
+        let (part, behind) = split_head::<C::Elem>(rest);
+        let element = moved::<O, u64, C::Elem>(word, window.len - rest.len, part.len(), part.from);
         store_part::<O, C>(cells, part, element);
-        rest = rest.after(count);
+        rest = behind;
     }
 }

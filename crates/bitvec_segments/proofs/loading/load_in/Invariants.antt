@@ -1,20 +1,22 @@
-use Rattle.std.proofs.Common.{◌≡◌}
+use Rattle.std.proofs.Common.{◌≡◌, ◌-◌, ◌≤◌}
+use Rattle.bitvec_words.specs.base.Memory.{HasWindow}
 use Rattle.bitvec_words.specs.cells.Access.{OnlyReads}
 use Rattle.bitvec_words.specs.walk.Cost.{touched_count}
-use Rattle.bitvec_words.specs.walk.Walk.{Walked, passed}
 use Rattle.bitvec_segments.proofs.WalkLemmas.{Begins, Loaded}
 use Rattle.bitvec_segments.proofs.loading.load_in.Given as goal
 
 abbrev pub invariant-loop-left : goal.invariant-loop-left
 invariant-loop-left g l =
     let b = g.C.Elem.BitStore.BITS in
-    let part = passed l.fn.window l.rest in
+    let xs = g.C.CellsRead.numbers l.fn.cells in
     record {
-      walk : Walked b l.fn.window l.rest;
+      has : HasWindow b xs l.rest;
+      fits : l.rest.len ≤ l.fn.window.len;
       left : l.left ≡ touched_count b l.rest.start l.rest.len;
-      place : Begins b l.rest l.element l.from;
-      value : Loaded g.E.SegmentOrder.BIG g.O.WordOrder.HIGH b g.O.BitOrder.at (g.C.CellsRead.numbers l.fn.cells) l.fn.window l.rest l.number;
-      reads : OnlyReads g.C.CellsRead l.fn.cells l.cells (touched_count b part.start part.len);
+      fewer : l.left ≤ l.fn.count;
+      place : Begins b l.rest l.element l.from l.left;
+      value : Loaded g.E.SegmentOrder.BIG g.O.WordOrder.HIGH b g.O.BitOrder.at xs l.fn.window l.rest l.number;
+      reads : OnlyReads g.C.CellsRead l.fn.cells l.cells (l.fn.count - l.left);
     }
 
 abbrev pub decreases-loop-left : goal.decreases-loop-left

@@ -1,7 +1,6 @@
-use Rattle.std.proofs.Common.{◌≡◌, ℕ, ◌+◌, ◌-◌, arith, ap, sym, ◌∙◌, min}
+use Rattle.std.proofs.Common.{◌≡◌, ℕ, ◌+◌, arith, ap, sym, ◌∙◌, min}
 use Rattle.bitvec_words.specs.TouchedLaws.{part_loads-most, touched-parts}
-use Rattle.bitvec_words.specs.base.declared.part.Part.{Part}
-use Rattle.bitvec_words.specs.base.Memory.{HasWindow}
+use Rattle.bitvec_words.specs.WholeLaws.{HasWindow-part}
 use Rattle.bitvec_words.specs.base.Parts.{first_part_of}
 use Rattle.bitvec_words.specs.base.Window.{window_after}
 use Rattle.bitvec_words.specs.base.WritesLaws.{HasWindow-kept}
@@ -9,31 +8,26 @@ use Rattle.bitvec_words.specs.store.WidthLaws.{width_some}
 use Rattle.bitvec_segments.proofs.WalkLemmas.{edge-len, edge-place, stored-joined, stored-one, whole-none}
 use Rattle.bitvec_segments.proofs.storing.store_few.Goals as goal
 
-pub returns-then-window-bits-clause-writes : goal.returns-then-window-bits-clause-writes
-returns-then-window-bits-clause-writes g c =
+pub returns-then-window-bits : goal.returns-then-window-bits
+returns-then-window-bits g c =
     let window = c.args.window in
     let b = g.C.Elem.BitStore.BITS in
     let some = width_some _ g.met.C.Elem.BitStore.width_law in
     let short = rw c.BITS-bits.ensures at c.if-window-bits.true in
     let part : c.part_at.result ≡ first_part_of b window = c.part_at.ensures ∙ ap (λ (n : ℕ). first_part_of n window) c.BITS-bits.ensures in
     let step = edge-len b c.args.element window some c.requires.edge in
-    stored-one _ _ _ _ _ window (min window.len b) _ some c.requires.some step c.requires.number.window _ (omega arith) (rw part at c.store_part_number.ensures.writes)
-
-pub returns-then-window-bits-clause-cost : goal.returns-then-window-bits-clause-cost
-returns-then-window-bits-clause-cost g c =
-    let window = c.args.window in
-    let b = g.C.Elem.BitStore.BITS in
-    let some = width_some _ g.met.C.Elem.BitStore.width_law in
-    let step = edge-len b c.args.element window some c.requires.edge in
     let each = touched-parts b window.start (min window.len b) window.len some c.requires.some (omega arith) in
     let edge = part_loads-most b c.part_at.result in
     let cost = c.store_part_number.ensures.cost in
     let loads = cost.loads in
     let stores = cost.stores in
-    record { borrow = cost.borrow; loads = omega arith; stores = omega arith }
+    record {
+      writes = stored-one _ _ _ _ _ window (min window.len b) some c.requires.some step c.requires.number.window _ _ (omega arith) (rw part at c.store_part_number.ensures.writes);
+      cost = record { borrow = cost.borrow; loads = omega arith; stores = omega arith };
+    }
 
-pub returns-clause-writes : goal.returns-clause-writes
-returns-clause-writes g c =
+pub returns : goal.returns
+returns g c =
     let window = c.args.window in
     let b = g.C.Elem.BitStore.BITS in
     let some = width_some _ g.met.C.Elem.BitStore.width_law in
@@ -46,38 +40,23 @@ returns-clause-writes g c =
     let step = whole ∙ edge-len b c.args.element window some edge in
     let part : c.part_at-2.result ≡ first_part_of b window = c.part_at-2.ensures ∙ ap (λ (n : ℕ). first_part_of n window) c.BITS-bits.ensures in
     let next : c.part_at-3.result ≡ first_part_of b rest = rw after at c.part_at-3.ensures ∙ ap (λ (n : ℕ). first_part_of n rest) c.BITS-bits.ensures in
-    let start = c.requires.number.window.within.start in
-    let end = c.requires.number.window.within.len in
-    let has : HasWindow b _ rest = record { fits = c.requires.number.window.fits; within = record { start = omega arith; len = omega arith } } in
-    let first = rw (part, c.lower_bits.ensures.bits, after) at c.store_part_number-2.ensures.writes in
-    let second = rw (next, c.lower_bits-2.ensures.bits, c.BITS-bits.ensures) at c.store_part_number-3.ensures.writes in
-    let left = edge-len b (c.args.element + 1) rest some (omega arith) in
-    stored-joined _ _ _ _ _ window b c.args.number some c.requires.some step c.requires.number.window _ _ first
-    (stored-one _ _ _ _ _ rest (min rest.len b) _ some (omega arith) left (HasWindow-kept _ _ _ rest has first.elements) _ (omega arith) second)
-
-pub returns-clause-cost : goal.returns-clause-cost
-returns-clause-cost g c =
-    let window = c.args.window in
-    let b = g.C.Elem.BitStore.BITS in
-    let some = width_some _ g.met.C.Elem.BitStore.width_law in
-    let long = rw c.BITS-bits.ensures at c.if-window-bits.false in
-    let edge = c.requires.edge in
-    let rest = window_after b window in
-    let whole : b ≡ min window.len b = omega arith in
-    let step = whole ∙ edge-len b c.args.element window some edge in
-    let part : c.part_at-2.result ≡ first_part_of b window = c.part_at-2.ensures ∙ ap (λ (n : ℕ). first_part_of n window) c.BITS-bits.ensures in
+    let has = HasWindow-part b _ window rest c.requires.number.window (omega arith) (omega arith) in
+    let first = rw (part, c.lower_bits.ensures.bits, after) at c.store_part_number-2.ensures in
+    let second = rw (next, c.lower_bits-2.ensures.bits, c.BITS-bits.ensures) at c.store_part_number-3.ensures in
     let left = edge-len b (c.args.element + 1) rest some (omega arith) in
     let each = touched-parts b window.start b window.len some c.requires.some (omega arith) in
     let last = touched-parts b rest.start (min rest.len b) rest.len some (omega arith) (omega arith) in
-    let none = whole-none b c.part_at-2.result (ap (λ (p : Part). p.to - p.from) part ∙ sym step) in
-    let most = part_loads-most b c.part_at-3.result in
-    let first = c.store_part_number-2.ensures.cost in
-    let second = c.store_part_number-3.ensures.cost in
-    let first_loads = first.loads in
-    let second_loads = second.loads in
-    let first_stores = first.stores in
-    let second_stores = second.stores in
-    record { borrow = second.borrow ∙ first.borrow; loads = omega arith; stores = omega arith }
+    let none = whole-none b (first_part_of b window) (sym step) in
+    let most = part_loads-most b (first_part_of b rest) in
+    let first_loads = first.cost.loads in
+    let second_loads = second.cost.loads in
+    let first_stores = first.cost.stores in
+    let second_stores = second.cost.stores in
+    record {
+      writes = stored-joined _ _ _ _ _ window b some c.requires.some step c.requires.number.window _ _ c.args.number first.writes
+          (stored-one _ _ _ _ _ rest (min rest.len b) some (omega arith) left (HasWindow-kept _ _ _ rest has first.writes.elements) _ _ (omega arith) second.writes);
+      cost = record { borrow = second.cost.borrow ∙ first.cost.borrow; loads = omega arith; stores = omega arith };
+    }
 
 pub part_at-requires-clause-element : goal.part_at-requires-clause-element
 part_at-requires-clause-element g c =

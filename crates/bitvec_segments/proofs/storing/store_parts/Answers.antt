@@ -9,8 +9,8 @@ use Rattle.bitvec_segments.proofs.JoinedWindow.{touched-last}
 use Rattle.bitvec_segments.proofs.WalkLemmas.{stored-joined}
 use Rattle.bitvec_segments.proofs.storing.store_parts.Goals as goal
 
-pub returns-clause-writes : goal.returns-clause-writes
-returns-clause-writes g c =
+pub returns : goal.returns
+returns g c =
     let window = c.args.window in
     let b = g.C.Elem.BitStore.BITS in
     let some = width_some _ g.met.C.Elem.BitStore.width_law in
@@ -21,30 +21,19 @@ returns-clause-writes g c =
     let step : head ≡ (first_part_of b window).to - (first_part_of b window).from = omega arith in
     let part : c.head_part.result ≡ first_part_of b window = c.head_part.ensures ∙ ap (λ (n : ℕ). first_part_of n window) c.BITS-bits.ensures in
     let after : c.after-rest.result ≡ window_after head window = c.after-rest.ensures ∙ ap (λ (n : ℕ). window_after (n - window.start % n) window) c.BITS-bits.ensures in
-    stored-joined _ _ _ _ _ window head c.args.number some more step c.requires.number.window _ _
-    (rw (part, c.lower_bits.ensures.bits, after) at c.store_part_number.ensures.writes) (rw (after, c.lower_bits-2.ensures.bits, c.BITS-bits.ensures) at c.store_few.ensures.writes)
-
-pub returns-clause-cost : goal.returns-clause-cost
-returns-clause-cost g c =
-    let window = c.args.window in
-    let b = g.C.Elem.BitStore.BITS in
-    let some = width_some _ g.met.C.Elem.BitStore.width_law in
-    let more = c.requires.some in
-    let long = c.requires.passes in
-    let head : ℕ = b - window.start % b in
-    let len = first-len b window some more in
-    let step : head ≡ (first_part_of b window).to - (first_part_of b window).from = omega arith in
-    let after : c.after-rest.result ≡ window_after head window = c.after-rest.ensures ∙ ap (λ (n : ℕ). window_after (n - window.start % n) window) c.BITS-bits.ensures in
     let each = touched-parts b window.start head window.len some more (omega arith) in
     let filled = fill_loads-some window.len (λ none. omega arith) in
-    let edge = part_loads-most b c.head_part.result in
-    let first = c.store_part_number.ensures.cost in
-    let later = rw after at c.store_few.ensures.cost in
-    let first_loads = first.loads in
-    let later_loads = later.loads in
-    let first_stores = first.stores in
-    let later_stores = later.stores in
-    record { borrow = later.borrow ∙ first.borrow; loads = omega arith; stores = omega arith }
+    let edge = part_loads-most b (first_part_of b window) in
+    let first = rw (part, c.lower_bits.ensures.bits, after) at c.store_part_number.ensures in
+    let later = rw (after, c.lower_bits-2.ensures.bits, c.BITS-bits.ensures) at c.store_few.ensures in
+    let first_loads = first.cost.loads in
+    let later_loads = later.cost.loads in
+    let first_stores = first.cost.stores in
+    let later_stores = later.cost.stores in
+    record {
+      writes = stored-joined _ _ _ _ _ window head some more step c.requires.number.window _ _ c.args.number first.writes later.writes;
+      cost = record { borrow = later.cost.borrow ∙ first.cost.borrow; loads = omega arith; stores = omega arith };
+    }
 
 pub store_in-requires-clause-count : goal.store_in-requires-clause-count
 store_in-requires-clause-count g c =

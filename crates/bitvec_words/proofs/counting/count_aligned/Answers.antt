@@ -1,62 +1,47 @@
-use Rattle.std.proofs.Common.{◌%◌, ◌<◌, arith, rules}
+use Rattle.std.proofs.Common.{arith, sym, ◌∙◌, ap, Bool, List, count_by}
 use Rattle.bitvec_cells.specs.store.WidthLaws.{width_some}
-use Rattle.bitvec_words.specs.TouchedLaws.{touched-full, touched-more}
+use Rattle.bitvec_words.specs.TouchedLaws.{touched-whole}
 use Rattle.bitvec_words.specs.WholeLaws.{window-end}
-use Rattle.bitvec_words.proofs.CountLemmas.{count-tail, count-within}
-use Rattle.bitvec_words.specs.WordLaws.{width-some}
-use Rattle.bitvec_words.proofs.PlaceLemmas.{HasPart-tail, whole-all}
-use Rattle.bitvec_words.proofs.ScanLemmas.{HasWindow-whole}
+use Rattle.bitvec_words.proofs.CostLemmas.{reads-is, reads-sum}
+use Rattle.bitvec_words.proofs.CountLemmas.{count-few}
+use Rattle.bitvec_words.proofs.SplitLemmas.{HasPart-is, HasWindow-behind, HasWindow-front, IsPart-tail, list-all, split-count, touched-all, touched-part, touched-split}
 use Rattle.bitvec_words.proofs.counting.count_aligned.Goals as goal
 
-pub returns-then-tail-eq0-clause-reads : goal.returns-then-tail-eq0-clause-reads
-returns-then-tail-eq0-clause-reads g c =
-    let full = rw (c.tail_part-tail.ensures, c.BITS-bits.ensures) at c.if-tail-eq0.true in
-    let all = touched-full g.C.Elem.BitStore.BITS c.args.window.start c.args.window.len (width_some _ g.met.C.Elem.BitStore.width_law) c.requires.edge full in
-    rw all (rw (c.whole_elements-first.ensures, c.BITS-bits.ensures) at c.count_whole-ones.ensures.reads)
+pub split_tail-first-requires : goal.split_tail-first-requires
+split_tail-first-requires g c = record { edge = c.requires.edge; end = window-end _ _ c.args.window c.requires.window }
+
+pub count_whole-ones-requires : goal.count_whole-ones-requires
+count_whole-ones-requires g c = HasWindow-front c.split_tail-first.ensures.split c.requires.window
+
+pub returns-then-tail-eq0 : goal.returns-then-tail-eq0
+returns-then-tail-eq0 g c =
+    let split = c.split_tail-first.ensures.split in
+    let whole = touched-whole g.C.Elem.BitStore.BITS c.split_tail-first.result.0 c.split_tail-first.result.1 (width_some _ g.met.C.Elem.BitStore.width_law) in
+    record {
+      value = c.count_whole-ones.ensures.value ∙ ap (λ (l : List Bool). count_by (λ (bit : Bool). bit) l) (list-all split (omega arith) g.O.BitOrder.at _);
+      reads = reads-is c.count_whole-ones.ensures.reads (sym (touched-all split (omega arith)) ∙ whole);
+    }
+
+pub count_part-requires : goal.count_part-requires
+count_part-requires g c =
+    let told = c.split_tail-first.ensures in
+    rw c.count_whole-ones.ensures.reads.numbers (HasPart-is (IsPart-tail _ c.split_tail-first.result.2 told.from told.bound c.if-tail-eq0.false) (HasWindow-behind told.split c.requires.window))
 
 pub overflow_add-result : goal.overflow_add-result
 overflow_add-result g c =
-    let b = g.C.Elem.BitStore.BITS in
-    let whole = rw (c.whole_elements-first.ensures, c.BITS-bits.ensures) at c.count_whole-ones.ensures.value in
-    let tail = rw (c.tail_part-tail.ensures, c.BITS-bits.ensures, c.count_whole-ones.ensures.reads.numbers) at c.count_part.ensures.value in
-    let sum = count-tail b g.O.BitOrder.at _ c.args.window _ _ c.requires.window c.requires.edge whole tail in
-    let most = count-within b g.O.BitOrder.at _ _ _ c.requires.window sum in
-    let fits = c.requires.window.fits in
-    let len = c.requires.window.within.len in
+    let tail = rw c.count_whole-ones.ensures.reads.numbers at c.count_part.ensures.value in
+    let few = count-few _ g.O.BitOrder.at _ c.args.window _ c.requires.window (split-count c.split_tail-first.ensures.split g.O.BitOrder.at c.requires.window _ _ c.count_whole-ones.ensures.value tail) in
     omega arith
 
 pub returns : goal.returns
 returns g c =
-    let b = g.C.Elem.BitStore.BITS in
-    let whole = rw (c.whole_elements-first.ensures, c.BITS-bits.ensures) at c.count_whole-ones.ensures.value in
-    let tail = rw (c.tail_part-tail.ensures, c.BITS-bits.ensures, c.count_whole-ones.ensures.reads.numbers) at c.count_part.ensures.value in
-    let first = rw (c.whole_elements-first.ensures, c.BITS-bits.ensures) at c.count_whole-ones.ensures.reads in
-    let left = rw (c.tail_part-tail.ensures, c.BITS-bits.ensures) at c.if-tail-eq0.false in
-    let more : 0 < c.args.window.len % b = omega arith in
-    let all = touched-more b c.args.window.start c.args.window.len (width_some _ g.met.C.Elem.BitStore.width_law) c.requires.edge more in
+    let told = c.split_tail-first.ensures in
+    let some = width_some _ g.met.C.Elem.BitStore.width_law in
+    let whole = touched-whole g.C.Elem.BitStore.BITS c.split_tail-first.result.0 c.split_tail-first.result.1 some in
+    let part = touched-part (IsPart-tail g.C.Elem.BitStore.BITS c.split_tail-first.result.2 told.from told.bound c.if-tail-eq0.false) in
+    let all = touched-split told.split some in
+    let tail = rw c.count_whole-ones.ensures.reads.numbers at c.count_part.ensures in
     record {
-      value = count-tail b g.O.BitOrder.at _ c.args.window _ _ c.requires.window c.requires.edge whole tail;
-      reads = record { numbers = search rules; borrow = search rules; loads = omega arith; stores = search rules };
+      value = split-count told.split g.O.BitOrder.at c.requires.window _ _ c.count_whole-ones.ensures.value tail.value;
+      reads = reads-sum c.count_whole-ones.ensures.reads tail.reads (omega arith);
     }
-
-pub whole_elements-first-requires : goal.whole_elements-first-requires
-whole_elements-first-requires g c = width-some _ _ g.met.C.Elem.BitStore.width_law c.BITS-bits.ensures
-
-pub count_whole-ones-requires : goal.count_whole-ones-requires
-count_whole-ones-requires g c = rw (c.whole_elements-first.ensures, c.BITS-bits.ensures) (HasWindow-whole _ _ c.args.window c.requires.window c.requires.edge)
-
-pub tail_part-tail-requires-clause-bits : goal.tail_part-tail-requires-clause-bits
-tail_part-tail-requires-clause-bits g c = width-some _ _ g.met.C.Elem.BitStore.width_law c.BITS-bits.ensures
-
-pub tail_part-tail-requires-clause-end : goal.tail_part-tail-requires-clause-end
-tail_part-tail-requires-clause-end g c = window-end _ _ c.args.window c.requires.window
-
-pub count_part-requires : goal.count_part-requires
-count_part-requires g c =
-    let left = rw (c.tail_part-tail.ensures, c.BITS-bits.ensures) at c.if-tail-eq0.false in
-    rw (c.tail_part-tail.ensures, c.BITS-bits.ensures, c.count_whole-ones.ensures.reads.numbers) (HasPart-tail _ _ c.args.window g.met.C.Elem.BitStore.width_law c.requires.window c.requires.edge left)
-
-pub returns-then-tail-eq0-clause-value : goal.returns-then-tail-eq0-clause-value
-returns-then-tail-eq0-clause-value g c =
-    let full = rw (c.tail_part-tail.ensures, c.BITS-bits.ensures) at c.if-tail-eq0.true in
-    rw (c.whole_elements-first.ensures, c.BITS-bits.ensures, whole-all _ c.args.window.start c.requires.edge, whole-all _ c.args.window.len full) at c.count_whole-ones.ensures.value

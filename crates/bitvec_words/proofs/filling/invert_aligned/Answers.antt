@@ -1,51 +1,37 @@
-use Rattle.std.proofs.Common.{arith, rules}
-use Rattle.bitvec_cells.specs.store.WidthLaws.{width_some}
-use Rattle.bitvec_words.specs.FillingLaws.{Writes-flipped_tail}
-use Rattle.bitvec_words.specs.TouchedLaws.{touched-full, touched-more}
-use Rattle.bitvec_words.specs.WholeLaws.{window-end}
-use Rattle.bitvec_words.specs.WordLaws.{width-some}
-use Rattle.bitvec_words.proofs.PlaceLemmas.{HasPart-tail, whole-all}
-use Rattle.bitvec_words.proofs.ScanLemmas.{HasWindow-whole}
+use Rattle.std.proofs.Common.{arith, sym, ◌∙◌}
 use Rattle.bitvec_cells.specs.base.WritesLaws.{HasWindow-kept}
+use Rattle.bitvec_cells.specs.store.WidthLaws.{width_some}
+use Rattle.bitvec_words.specs.TouchedLaws.{touched-whole}
+use Rattle.bitvec_words.specs.WholeLaws.{window-end}
+use Rattle.bitvec_words.proofs.CostLemmas.{costs-sum}
+use Rattle.bitvec_words.proofs.SplitLemmas.{HasPart-is, HasWindow-behind, HasWindow-front, IsPart-tail, Writes-flipped_all, Writes-flipped_split, touched-all, touched-part, touched-split}
 use Rattle.bitvec_words.proofs.filling.invert_aligned.Goals as goal
 
-pub returns-then-tail-eq0-clause-cost : goal.returns-then-tail-eq0-clause-cost
-returns-then-tail-eq0-clause-cost g c =
-    let full = rw (c.tail_part-tail.ensures, c.BITS-bits.ensures) at c.if-tail-eq0.true in
-    let all = touched-full g.C.Elem.BitStore.BITS c.args.window.start c.args.window.len (width_some _ g.met.C.Elem.BitStore.width_law) c.requires.edge full in
-    let cost = rw (c.whole_elements-first.ensures, c.BITS-bits.ensures) at c.invert_whole.ensures.cost in
-    record { borrow = search rules; loads = omega arith; stores = omega arith }
-
-pub returns : goal.returns
-returns g c =
-    let first = rw (c.whole_elements-first.ensures, c.BITS-bits.ensures) at c.invert_whole.ensures in
-    let second = rw (c.tail_part-tail.ensures, c.BITS-bits.ensures) at c.invert_part.ensures in
-    let left = rw (c.tail_part-tail.ensures, c.BITS-bits.ensures) at c.if-tail-eq0.false in
-    let all = touched-more g.C.Elem.BitStore.BITS c.args.window.start c.args.window.len (width_some _ g.met.C.Elem.BitStore.width_law) c.requires.edge (omega arith) in
-    let cost = first.cost in
-    record {
-      writes = Writes-flipped_tail _ _ _ _ _ _ c.requires.window c.requires.edge first.writes second.writes;
-      cost = record { borrow = search rules; loads = omega arith; stores = omega arith };
-    }
-
-pub whole_elements-first-requires : goal.whole_elements-first-requires
-whole_elements-first-requires g c = width-some _ _ g.met.C.Elem.BitStore.width_law c.BITS-bits.ensures
+pub split_tail-first-requires : goal.split_tail-first-requires
+split_tail-first-requires g c = record { edge = c.requires.edge; end = window-end _ _ c.args.window c.requires.window }
 
 pub invert_whole-requires : goal.invert_whole-requires
-invert_whole-requires g c = rw (c.whole_elements-first.ensures, c.BITS-bits.ensures) (HasWindow-whole _ _ c.args.window c.requires.window c.requires.edge)
+invert_whole-requires g c = HasWindow-front c.split_tail-first.ensures.split c.requires.window
 
-pub tail_part-tail-requires-clause-bits : goal.tail_part-tail-requires-clause-bits
-tail_part-tail-requires-clause-bits g c = width-some _ _ g.met.C.Elem.BitStore.width_law c.BITS-bits.ensures
-
-pub tail_part-tail-requires-clause-end : goal.tail_part-tail-requires-clause-end
-tail_part-tail-requires-clause-end g c = window-end _ _ c.args.window c.requires.window
+pub returns-then-tail-eq0 : goal.returns-then-tail-eq0
+returns-then-tail-eq0 g c =
+    let split = c.split_tail-first.ensures.split in
+    let whole = touched-whole g.C.Elem.BitStore.BITS c.split_tail-first.result.0 c.split_tail-first.result.1 (width_some _ g.met.C.Elem.BitStore.width_law) in
+    record { writes = Writes-flipped_all split (omega arith) c.invert_whole.ensures.writes; cost = rw (sym (touched-all split (omega arith)) ∙ whole) c.invert_whole.ensures.cost }
 
 pub invert_part-requires : goal.invert_part-requires
 invert_part-requires g c =
-    let left = rw (c.tail_part-tail.ensures, c.BITS-bits.ensures) at c.if-tail-eq0.false in
-    rw (c.tail_part-tail.ensures, c.BITS-bits.ensures) (HasPart-tail _ _ c.args.window g.met.C.Elem.BitStore.width_law (HasWindow-kept _ _ _ _ c.requires.window c.invert_whole.ensures.writes.elements) c.requires.edge left)
+    let told = c.split_tail-first.ensures in
+    HasPart-is (IsPart-tail _ c.split_tail-first.result.2 told.from told.bound c.if-tail-eq0.false) (HasWindow-kept _ _ _ _ (HasWindow-behind told.split c.requires.window) c.invert_whole.ensures.writes.elements)
 
-pub returns-then-tail-eq0-clause-writes : goal.returns-then-tail-eq0-clause-writes
-returns-then-tail-eq0-clause-writes g c =
-    let full = rw (c.tail_part-tail.ensures, c.BITS-bits.ensures) at c.if-tail-eq0.true in
-    rw (c.whole_elements-first.ensures, c.BITS-bits.ensures, whole-all _ c.args.window.start c.requires.edge, whole-all _ c.args.window.len full) at c.invert_whole.ensures.writes
+pub returns : goal.returns
+returns g c =
+    let told = c.split_tail-first.ensures in
+    let some = width_some _ g.met.C.Elem.BitStore.width_law in
+    let whole = touched-whole g.C.Elem.BitStore.BITS c.split_tail-first.result.0 c.split_tail-first.result.1 some in
+    let part = touched-part (IsPart-tail g.C.Elem.BitStore.BITS c.split_tail-first.result.2 told.from told.bound c.if-tail-eq0.false) in
+    let all = touched-split told.split some in
+    record {
+      writes = Writes-flipped_split told.split g.O.BitOrder.at c.requires.window c.invert_whole.ensures.writes c.invert_part.ensures.writes;
+      cost = costs-sum c.invert_whole.ensures.cost c.invert_part.ensures.cost (omega arith) (omega arith);
+    }

@@ -1,91 +1,61 @@
-use Rattle.std.proofs.Common.{ℕ, ◌+◌, ◌-◌, ◌*◌, ◌/◌, arith, rules, refl, sym}
-use Rattle.std.proofs.Math.Nat.{div-mul-le_self}
-use Rattle.std.proofs.lemmas.Nat.{div-add-mod'}
+use Rattle.std.proofs.Common.{arith, refl, ◌∙◌, ap}
+use Rattle.bitvec_cells.specs.base.Lists.{last_place}
 use Rattle.bitvec_cells.specs.store.WidthLaws.{width_some}
-use Rattle.bitvec_cells.specs.base.WritesLaws.{length-list}
-use Rattle.bitvec_words.specs.FieldLaws.{list-tail}
-use Rattle.bitvec_words.specs.TouchedLaws.{touched-first}
 use Rattle.bitvec_words.specs.WholeLaws.{window-end}
-use Rattle.bitvec_words.proofs.ScanLemmas.{HasWindow-tail, HasWindow-whole, last-behind, last-front, last-inside, last_loads-tail}
-use Rattle.bitvec_words.specs.WordLaws.{width-some}
-use Rattle.bitvec_words.proofs.PlaceLemmas.{HasPart-tail, whole-all}
+use Rattle.bitvec_words.proofs.CostLemmas.{reads-both, reads-exact, reads-most}
+use Rattle.bitvec_words.proofs.ScanLemmas.{last-inside, last_loads-some}
+use Rattle.bitvec_words.proofs.SplitLemmas.{HasPart-is, HasWindow-behind, HasWindow-front, IsPart-tail, last-loads_front, last_loads-all, list-all, split-last, split-last_few, split-last_front, touched-part}
 use Rattle.bitvec_words.proofs.scanning.last_aligned.Goals as goal
 
-pub overflow_add-result : goal.overflow_add-result
-overflow_add-result g c =
-    let b = g.C.Elem.BitStore.BITS in
-    let here = rw (c.tail_part-tail.ensures, c.BITS-bits.ensures) at c.in-Some.ensures.value in
-    let below = last-inside b g.O.BitOrder.at _ _ c.args.want _ (HasWindow-tail b _ _ c.requires.window c.requires.edge) here _ refl in
-    let parts = div-add-mod' c.args.window.len b in
-    let fits = c.requires.window.fits in
-    let len = c.requires.window.within.len in
-    rw (c.whole_elements-first.ensures, c.BITS-bits.ensures) (omega arith)
-
-pub returns-in-Some : goal.returns-in-Some
-returns-in-Some g c =
-    let b = g.C.Elem.BitStore.BITS in
-    let at = g.O.BitOrder.at in
-    let here = rw (c.tail_part-tail.ensures, c.BITS-bits.ensures) at c.in-Some.ensures.value in
-    let long = length-list b at _ _ (HasWindow-whole b _ _ c.requires.window c.requires.edge) in
-    let below = last-inside b at _ _ c.args.want _ (HasWindow-tail b _ _ c.requires.window c.requires.edge) here _ refl in
-    let parts = div-add-mod' c.args.window.len b in
-    let place : ℕ = c.args.window.len / b * b + c.in-Some.found in
-    let first = touched-first b (c.args.window.start + place) (c.args.window.len - place) (omega arith) in
-    let reads = c.in-Some.ensures.reads in
-    rw (c.whole_elements-first.ensures, c.BITS-bits.ensures) (record {
-      value = last-behind c.args.want _ _ _ _ _ here (sym long) (list-tail b at _ _ _ c.requires.window c.requires.edge refl);
-      reads = record { numbers = search rules; borrow = search rules; loads = omega arith; stores = search rules };
-    })
-
-pub returns : goal.returns
-returns g c =
-    let b = g.C.Elem.BitStore.BITS in
-    let at = g.O.BitOrder.at in
-    let left = rw (c.tail_part-tail.ensures, c.BITS-bits.ensures) at c.if-tail-eq0.false in
-    let none = rw (c.tail_part-tail.ensures, c.BITS-bits.ensures) at c.in_default.ensures.value in
-    let first = c.in_default.ensures.reads in
-    let whole = rw (c.whole_elements-first.ensures, c.BITS-bits.ensures, first.numbers) at c.last_whole-2.ensures in
-    let found = whole.value in
-    let second = whole.reads in
-    let most = last_loads-tail b c.args.window _ (width_some _ g.met.C.Elem.BitStore.width_law) c.requires.edge (omega arith)
-    (last-inside b at _ _ c.args.want _ (HasWindow-whole b _ _ c.requires.window c.requires.edge) found) in
-    record {
-      value = last-front c.args.want _ _ _ _ none found (list-tail b at _ _ _ c.requires.window c.requires.edge refl);
-      reads = record { numbers = search rules; borrow = search rules; loads = omega arith; stores = search rules };
-    }
-
-pub whole_elements-first-requires : goal.whole_elements-first-requires
-whole_elements-first-requires g c = width-some _ _ g.met.C.Elem.BitStore.width_law c.BITS-bits.ensures
+pub split_tail-first-requires : goal.split_tail-first-requires
+split_tail-first-requires g c = record { edge = c.requires.edge; end = window-end _ _ c.args.window c.requires.window }
 
 pub last_whole-requires : goal.last_whole-requires
-last_whole-requires g c = rw (c.whole_elements-first.ensures, c.BITS-bits.ensures) (HasWindow-whole _ _ c.args.window c.requires.window c.requires.edge)
+last_whole-requires g c = HasWindow-front c.split_tail-first.ensures.split c.requires.window
 
-pub tail_part-tail-requires-clause-bits : goal.tail_part-tail-requires-clause-bits
-tail_part-tail-requires-clause-bits g c = width-some _ _ g.met.C.Elem.BitStore.width_law c.BITS-bits.ensures
-
-pub tail_part-tail-requires-clause-end : goal.tail_part-tail-requires-clause-end
-tail_part-tail-requires-clause-end g c = window-end _ _ c.args.window c.requires.window
+pub returns-then-tail-eq0 : goal.returns-then-tail-eq0
+returns-then-tail-eq0 g c =
+    let split = c.split_tail-first.ensures.split in
+    let same = last_loads-all split (omega arith) c.last_whole.result in
+    record {
+      value = c.last_whole.ensures.value ∙ ap (last_place c.args.want) (list-all split (omega arith) g.O.BitOrder.at _);
+      reads = reads-most c.last_whole.ensures.reads (omega arith);
+    }
 
 pub last_in_part-requires : goal.last_in_part-requires
 last_in_part-requires g c =
-    let left = rw (c.tail_part-tail.ensures, c.BITS-bits.ensures) at c.if-tail-eq0.false in
-    rw (c.tail_part-tail.ensures, c.BITS-bits.ensures) (HasPart-tail _ _ c.args.window g.met.C.Elem.BitStore.width_law c.requires.window c.requires.edge left)
-
-pub returns-then-tail-eq0-clause-value : goal.returns-then-tail-eq0-clause-value
-returns-then-tail-eq0-clause-value g c =
-    let full = rw (c.tail_part-tail.ensures, c.BITS-bits.ensures) at c.if-tail-eq0.true in
-    rw (c.whole_elements-first.ensures, c.BITS-bits.ensures, whole-all _ c.args.window.start c.requires.edge, whole-all _ c.args.window.len full) at c.last_whole.ensures.value
-
-pub returns-then-tail-eq0-clause-reads : goal.returns-then-tail-eq0-clause-reads
-returns-then-tail-eq0-clause-reads g c =
-    let full = rw (c.tail_part-tail.ensures, c.BITS-bits.ensures) at c.if-tail-eq0.true in
-    rw (c.whole_elements-first.ensures, c.BITS-bits.ensures, whole-all _ c.args.window.start c.requires.edge, whole-all _ c.args.window.len full) at c.last_whole.ensures.reads
+    let told = c.split_tail-first.ensures in
+    HasPart-is (IsPart-tail _ c.split_tail-first.result.2 told.from told.bound c.if-tail-eq0.false) (HasWindow-behind told.split c.requires.window)
 
 pub overflow_mul-result : goal.overflow_mul-result
 overflow_mul-result g c =
-    let whole = div-mul-le_self c.args.window.len g.C.Elem.BitStore.BITS in
+    let sum = c.split_tail-first.ensures.split.sum in
     let end = window-end _ _ c.args.window c.requires.window in
-    rw (c.whole_elements-first.ensures, c.BITS-bits.ensures) (omega arith)
+    rw c.BITS.ensures (omega arith)
+
+pub overflow_add-result : goal.overflow_add-result
+overflow_add-result g c =
+    let few = split-last_few c.split_tail-first.ensures.split g.O.BitOrder.at c.requires.window c.args.want _ c.in-Some.ensures.value in
+    rw c.BITS.ensures (omega arith)
+
+pub returns-in-Some : goal.returns-in-Some
+returns-in-Some g c =
+    let found = split-last c.split_tail-first.ensures.split g.O.BitOrder.at c.requires.window c.args.want _ c.in-Some.ensures.value in
+    let inside = last-inside _ g.O.BitOrder.at _ c.args.window c.args.want _ c.requires.window found in
+    let below = inside _ refl in
+    let some = last_loads-some g.C.Elem.BitStore.BITS c.args.window _ (omega arith) inside in
+    rw c.BITS.ensures (record { value = found; reads = reads-most (reads-exact c.in-Some.ensures.reads) some })
 
 pub last_whole-requires-2 : goal.last_whole-requires-2
-last_whole-requires-2 g c = rw (c.last_in_part.ensures.reads.numbers, c.whole_elements-first.ensures, c.BITS-bits.ensures) (HasWindow-whole _ _ c.args.window c.requires.window c.requires.edge)
+last_whole-requires-2 g c = rw c.in_default.ensures.reads.numbers (HasWindow-front c.split_tail-first.ensures.split c.requires.window)
+
+pub returns : goal.returns
+returns g c =
+    let told = c.split_tail-first.ensures in
+    let here = rw c.in_default.ensures.reads.numbers at c.last_whole-2.ensures in
+    let most = last-loads_front told.split (width_some _ g.met.C.Elem.BitStore.width_law) _ (last-inside _ g.O.BitOrder.at _ _ c.args.want _ (HasWindow-front told.split c.requires.window) here.value) in
+    let part = touched-part (IsPart-tail g.C.Elem.BitStore.BITS c.split_tail-first.result.2 told.from told.bound c.if-tail-eq0.false) in
+    record {
+      value = split-last_front told.split g.O.BitOrder.at c.requires.window c.args.want _ c.in_default.ensures.value here.value;
+      reads = reads-both (reads-exact c.in_default.ensures.reads) here.reads (omega arith);
+    }

@@ -1,11 +1,13 @@
-use Rattle.std.proofs.Common.{◌≡◌, ◌<◌, ℕ, ◌+◌, ◌-◌, ◌*◌, arith, rules, sym, ◌∙◌, ap, Bool, List}
-use Rattle.std.proofs.Math.Nat.{mul-le-mul_left}
+use Rattle.std.proofs.Common.{◌≡◌, ◌<◌, ℕ, ◌+◌, ◌-◌, ◌*◌, arith, rules, refl, sym, ◌∙◌, ap, Bool, List, Some}
 use Rattle.bitvec_cells.specs.store.WidthLaws.{width_some}
 use Rattle.bitvec_cells.specs.base.Lists.{last_place}
 use Rattle.bitvec_cells.specs.base.PlacesLaws.{last_place-nil}
+use Rattle.bitvec_words.specs.Elements.{elements_window}
 use Rattle.bitvec_words.specs.TouchedLaws.{touched-whole}
-use Rattle.bitvec_words.specs.WholeLaws.{list-empty}
-use Rattle.bitvec_words.proofs.ScanLemmas.{last-below, last-element_has, last-element_lacks, last-must, last-passed, range-element, touched-until_elements}
+use Rattle.bitvec_words.specs.WholeLaws.{list-empty, window-end}
+use Rattle.bitvec_words.proofs.CostLemmas.{reads-exact, reads-most}
+use Rattle.bitvec_words.proofs.ScanLemmas.{last-below, last-inside, last-must, last-passed, last_loads-some, range-element}
+use Rattle.bitvec_words.proofs.SplitLemmas.{elements-split, last-element_has, last-element_lacks, last-loads_front}
 use Rattle.bitvec_words.proofs.PlaceLemmas.{element-few, element-inside, elements-few}
 use Rattle.bitvec_words.proofs.scanning.last_whole.Goals as goal
 
@@ -18,99 +20,74 @@ loop-step-init g c =
       reads = search rules;
     }
 
-pub loop-step-preserved : goal.loop-step-preserved
-loop-step-preserved g c =
-    let b = g.C.Elem.BitStore.BITS in
-    let at = g.O.BitOrder.at in
-    let inv = c.loop-step.invariant in
-    let width = g.met.C.Elem.BitStore.width_law in
-    let value = rw inv.reads.numbers at c.load-element.ensures.value in
-    record {
-      none = last-element_lacks b at _ _ _ _ _ _ c.args.want (width_some _ width) c.requires (omega arith) (omega arith) value inv.none
-          (last-passed b at (g.met.O.BitOrder.permutes _ width) _ _ _ c.args.want c.xor.ensures (sym c.to_u128.ensures.number ∙ c.if-to_u128-ne0.false) c.filled-lacking.ensures);
-      reads = record { numbers = search rules; borrow = search rules; loads = omega arith; stores = search rules };
-    }
+pub overflow_add-first : goal.overflow_add-first
+overflow_add-first g c = let few = element-few _ _ c.args.first c.args.count _ (width_some _ g.met.C.Elem.BitStore.width_law) c.requires (let more : c.loop-step.step - 1 < c.args.count = omega arith in more) in omega arith
+
+pub load-element-requires : goal.load-element-requires
+load-element-requires g c =
+    rw c.loop-step.invariant.reads.numbers (element-inside _ _ c.args.first c.args.count (c.loop-step.step - 1) (width_some _ g.met.C.Elem.BitStore.width_law) c.requires (omega arith))
+
+pub last_in_element-requires : goal.last_in_element-requires
+last_in_element-requires g c = record { order = omega arith; bound = omega arith }
 
 pub returns-in_err-found : goal.returns-in_err-found
 returns-in_err-found g c =
     let b = g.C.Elem.BitStore.BITS in
     let at = g.O.BitOrder.at in
-    let number = c.to_u128.ensures.number ∙ c.xor.ensures in
     let none = c.in_err-found.ensures ∙ ap (λ (l : List Bool). last_place c.args.want l) (range-element b at _ _ c.BITS-bits.ensures) in
-    absurd (last-must b at (g.met.O.BitOrder.permutes _ g.met.C.Elem.BitStore.width_law) _ _ _ c.args.want number c.if-to_u128-ne0.true c.load-element.ensures.in_range c.filled-lacking.ensures none)
+    absurd (last-must b at (g.met.O.BitOrder.permutes _ g.met.C.Elem.BitStore.width_law) _ _ _ c.args.want (c.to_u128.ensures.number ∙ c.xor.ensures) c.if-to_u128-ne0.true c.load-element.ensures.in_range c.filled-lacking.ensures none)
+
+pub overflow_mul-result : goal.overflow_mul-result
+overflow_mul-result g c =
+    let few = elements-few _ _ c.args.first c.args.count (c.loop-step.step - 1) (width_some _ g.met.C.Elem.BitStore.width_law) c.requires (omega arith) _ c.BITS-bits.ensures in
+    omega arith
 
 pub overflow_add-result : goal.overflow_add-result
 overflow_add-result g c =
     let b = g.C.Elem.BitStore.BITS in
     let at = g.O.BitOrder.at in
+    let inv = c.loop-step.invariant in
     let here = c.in_ok-found.ensures ∙ ap (λ (l : List Bool). last_place c.args.want l) (range-element b at _ _ c.BITS-bits.ensures) in
-    let below = last-below b at _ _ c.args.want here in
-    let more : c.loop-step.step - 1 < c.args.count = omega arith in
-    let order = mul-le-mul_left b more in
-    let fits = c.requires.fits in
-    let start = c.requires.within.start in
-    let len = c.requires.within.len in
+    let found = last-element_has b at _ _ _ (c.loop-step.step - 1) _ c.args.want (width_some _ g.met.C.Elem.BitStore.width_law) c.requires (omega arith) (rw inv.reads.numbers at c.load-element.ensures.value) _ (omega arith) inv.none _ here in
+    let below = last-inside b at _ _ c.args.want _ c.requires found _ refl in
+    let end = window-end _ _ _ c.requires in
     rw c.BITS-bits.ensures (omega arith)
 
-pub returns-then-to_u128-ne0-clause-value : goal.returns-then-to_u128-ne0-clause-value
-returns-then-to_u128-ne0-clause-value g c =
-    let b = g.C.Elem.BitStore.BITS in
-    let at = g.O.BitOrder.at in
-    let inv = c.loop-step.invariant in
-    let value = rw inv.reads.numbers at c.load-element.ensures.value in
-    let here = c.in_ok-found.ensures ∙ ap (λ (l : List Bool). last_place c.args.want l) (range-element b at _ _ c.BITS-bits.ensures) in
-    rw c.BITS-bits.ensures (last-element_has b at _ _ _ _ _ _ _ c.args.want (width_some _ g.met.C.Elem.BitStore.width_law) c.requires (omega arith) (omega arith) value inv.none here)
-
-pub returns-then-to_u128-ne0-clause-reads : goal.returns-then-to_u128-ne0-clause-reads
-returns-then-to_u128-ne0-clause-reads g c =
+pub returns-then-to_u128-ne0 : goal.returns-then-to_u128-ne0
+returns-then-to_u128-ne0 g c =
     let b = g.C.Elem.BitStore.BITS in
     let at = g.O.BitOrder.at in
     let inv = c.loop-step.invariant in
     let some = width_some _ g.met.C.Elem.BitStore.width_law in
     let here = c.in_ok-found.ensures ∙ ap (λ (l : List Bool). last_place c.args.want l) (range-element b at _ _ c.BITS-bits.ensures) in
     let below = last-below b at _ _ c.args.want here in
-    let step : ℕ = c.loop-step.step - 1 in
-    let left : ℕ = c.args.count - c.loop-step.step in
-    let place : ℕ = c.args.first * b + (step * b + c.in_ok-found.found) in
-    let next : step + 1 ≡ c.loop-step.step = omega arith in
-    let end : place + (b - c.in_ok-found.found) ≡ (c.args.first + (step + 1)) * b = omega arith in
-    let sum : step + 1 + left ≡ c.args.count = omega arith in
-    let product = ap (λ (n : ℕ). n * b) sum in
-    let all : b - c.in_ok-found.found + left * b ≡ c.args.count * b - (step * b + c.in_ok-found.found) = omega arith in
-    let most = touched-until_elements b place (b - c.in_ok-found.found) (c.args.first + (step + 1)) left (c.args.count * b - (step * b + c.in_ok-found.found)) some (omega arith) end all in
-    rw c.BITS-bits.ensures (record { numbers = search rules; borrow = search rules; loads = omega arith; stores = search rules })
+    let upto : ℕ = c.loop-step.step - 1 + 1 in
+    let inside : (i : ℕ) → Some ((c.loop-step.step - 1) * b + c.in_ok-found.found) ≡ Some i → i < upto * b = λ i is. (let same : (c.loop-step.step - 1) * b + c.in_ok-found.found ≡ i = cc in omega arith) in
+    let most = last-loads_front (elements-split b c.args.first c.args.count upto some (omega arith)) some _ inside in
+    let one = last_loads-some b (elements_window b c.args.first upto) _ (omega arith) inside in
+    let left = touched-whole b (c.args.first + upto) (c.args.count - upto) some in
+    rw c.BITS-bits.ensures
+    (record {
+      value = last-element_has b at _ _ _ _ _ c.args.want some c.requires (omega arith) (rw inv.reads.numbers at c.load-element.ensures.value) _ (omega arith) inv.none _ here;
+      reads = record { numbers = search rules; borrow = search rules; loads = omega arith; stores = search rules };
+    })
+
+pub loop-step-smaller : goal.loop-step-smaller
+loop-step-smaller g c = omega arith
+
+pub loop-step-preserved : goal.loop-step-preserved
+loop-step-preserved g c =
+    let b = g.C.Elem.BitStore.BITS in
+    let at = g.O.BitOrder.at in
+    let inv = c.loop-step.invariant in
+    let width = g.met.C.Elem.BitStore.width_law in
+    record {
+      none = last-element_lacks b at _ _ _ _ _ c.args.want (width_some _ width) c.requires (omega arith) (rw inv.reads.numbers at c.load-element.ensures.value) _ (omega arith) inv.none
+          (last-passed b at (g.met.O.BitOrder.permutes _ width) _ _ _ c.args.want c.xor.ensures (sym c.to_u128.ensures.number ∙ c.if-to_u128-ne0.false) c.filled-lacking.ensures);
+      reads = record { numbers = search rules; borrow = search rules; loads = omega arith; stores = search rules };
+    }
 
 pub returns-clause-reads : goal.returns-clause-reads
 returns-clause-reads g c =
     let all = touched-whole g.C.Elem.BitStore.BITS c.args.first c.args.count (width_some _ g.met.C.Elem.BitStore.width_law) in
-    let reads = c.loop-step.invariant.reads in
-    record { numbers = search rules; borrow = search rules; loads = omega arith; stores = search rules }
-
-pub overflow_add-first : goal.overflow_add-first
-overflow_add-first g c =
-    let more : c.loop-step.step - 1 < c.args.count = omega arith in
-    let few = element-few _ _ c.args.first c.args.count _ (width_some _ g.met.C.Elem.BitStore.width_law) c.requires more in
-    omega arith
-
-pub load-element-requires : goal.load-element-requires
-load-element-requires g c =
-    let more : c.loop-step.step - 1 < c.args.count = omega arith in
-    rw c.loop-step.invariant.reads.numbers (element-inside _ _ c.args.first c.args.count _ (width_some _ g.met.C.Elem.BitStore.width_law) c.requires more)
-
-pub overflow_add-part : goal.overflow_add-part
-overflow_add-part g c =
-    let more : c.loop-step.step - 1 < c.args.count = omega arith in
-    let few = element-few _ _ c.args.first c.args.count _ (width_some _ g.met.C.Elem.BitStore.width_law) c.requires more in
-    omega arith
-
-pub last_in_element-requires-clause-bound : goal.last_in_element-requires-clause-bound
-last_in_element-requires-clause-bound g c = omega arith
-
-pub overflow_mul-result : goal.overflow_mul-result
-overflow_mul-result g c =
-    let more : c.loop-step.step - 1 < c.args.count = omega arith in
-    let few = elements-few _ _ c.args.first c.args.count _ (width_some _ g.met.C.Elem.BitStore.width_law) c.requires more _ c.BITS-bits.ensures in
-    omega arith
-
-pub loop-step-smaller : goal.loop-step-smaller
-loop-step-smaller g c = omega arith
+    reads-most (reads-exact c.loop-step.invariant.reads) (omega arith)

@@ -1,30 +1,25 @@
-use Rattle.std.proofs.Common.{◌∙◌}
 use Rattle.bitvec_cells.specs.store.WidthLaws.{width_some}
-use Rattle.bitvec_words.proofs.WordScanLemmas.{first-touched, first-touched_lacks, touched-ceil}
+use Rattle.bitvec_words.specs.WordLaws.{width-some}
+use Rattle.bitvec_words.proofs.WordScanLemmas.{HasWindow-touched, first-touched, first-touched_lacks, touched-ceil}
 use Rattle.bitvec_words.proofs.scanning_words.first_from_edge.Goals as goal
 
-pub returns-in_err-found-clause-value : goal.returns-in_err-found-clause-value
-returns-in_err-found-clause-value g c =
-    let b = g.C.Elem.BitStore.BITS in
-    rw c.from_residual.ensures
-    (first-touched_lacks b g.O.BitOrder.at _ c.args.window c.args.want (width_some b g.met.C.Elem.BitStore.width_law) c.requires.window c.requires.edge
-    (rw (c.div_ceil-count.ensures, c.BITS-bits.ensures) at c.in_err-found.ensures.value))
+pub nonzero_div-window : goal.nonzero_div-window
+nonzero_div-window g c = width-some _ _ g.met.C.Elem.BitStore.width_law c.BITS-bits.ensures
 
-pub returns-in_err-found-clause-reads : goal.returns-in_err-found-clause-reads
-returns-in_err-found-clause-reads g c =
-    let b = g.C.Elem.BitStore.BITS in
-    rw (touched-ceil b c.args.window.start c.args.window.len (width_some b g.met.C.Elem.BitStore.width_law) c.requires.edge)
-    (rw (c.div_ceil-count.ensures, c.BITS-bits.ensures) at c.in_err-found.ensures.reads)
+pub first_in_elements-requires : goal.first_in_elements-requires
+first_in_elements-requires g c =
+    rw (c.div_ceil-count.ensures, c.BITS-bits.ensures) (HasWindow-touched _ g.O.BitOrder.at _ c.args.window c.args.want (width_some _ g.met.C.Elem.BitStore.width_law) c.requires.window c.requires.edge)
 
-pub returns-clause-value : goal.returns-clause-value
-returns-clause-value g c =
-    let b = g.C.Elem.BitStore.BITS in
-    c.then_some.ensures
-    ∙ first-touched b g.O.BitOrder.at _ c.args.window c.args.want (width_some b g.met.C.Elem.BitStore.width_law) c.requires.window c.requires.edge _
-    (rw (c.div_ceil-count.ensures, c.BITS-bits.ensures) at c.in_ok-found.ensures.value)
+pub returns-in_err-found : goal.returns-in_err-found
+returns-in_err-found g c =
+    let some = width_some _ g.met.C.Elem.BitStore.width_law in
+    let scan = rw (c.div_ceil-count.ensures, c.BITS-bits.ensures) at c.in_err-found.ensures in
+    rw (c.from_residual.ensures, touched-ceil _ c.args.window.start c.args.window.len some c.requires.edge)
+    (record { value = first-touched_lacks _ g.O.BitOrder.at _ c.args.window c.args.want some c.requires.window c.requires.edge scan.value; reads = scan.reads })
 
-pub returns-clause-reads : goal.returns-clause-reads
-returns-clause-reads g c =
-    let b = g.C.Elem.BitStore.BITS in
-    rw (touched-ceil b c.args.window.start c.args.window.len (width_some b g.met.C.Elem.BitStore.width_law) c.requires.edge)
-    (rw (c.div_ceil-count.ensures, c.BITS-bits.ensures) at c.in_ok-found.ensures.reads)
+pub returns : goal.returns
+returns g c =
+    let some = width_some _ g.met.C.Elem.BitStore.width_law in
+    let scan = rw (c.div_ceil-count.ensures, c.BITS-bits.ensures) at c.in_ok-found.ensures in
+    rw (c.then_some.ensures, touched-ceil _ c.args.window.start c.args.window.len some c.requires.edge)
+    (record { value = first-touched _ g.O.BitOrder.at _ c.args.window c.args.want some c.requires.window c.requires.edge _ scan.value; reads = scan.reads })

@@ -1,51 +1,121 @@
-use Rattle.std.proofs.Common.{◌/◌, ap, ◌∙◌, arith}
+use Rattle.std.proofs.Common.{◌/◌, arith, refl, sym, ◌∙◌, ap}
+use Rattle.std.proofs.Math.Nat.{div-le_self}
 use Rattle.bitvec_cells.specs.base.Lists.{first_place}
 use Rattle.bitvec_cells.specs.store.WidthLaws.{width_some}
-use Rattle.bitvec_words.proofs.WordScanLemmas.{block_pair, elements-bound, list-pair, pair-inside}
+use Rattle.bitvec_words.specs.WordLaws.{width-some}
+use Rattle.bitvec_words.proofs.CostLemmas.{reads-sum}
+use Rattle.bitvec_words.proofs.OrderedLemmas.{block-found, block-lacks}
+use Rattle.bitvec_words.proofs.WordScanLemmas.{block_pair, elements-bound, list-pair, none_from, pair-inside, words}
 use Rattle.bitvec_words.proofs.scanning_words.first_in_block.Goals as goal
-
-pub returns-clause-value : goal.returns-clause-value
-returns-clause-value g c =
-    let wide = rw c.BITS.ensures at c.if-BITS-le-WORD_BITS.false in
-    let one = c.load-one.ensures.value in
-    let two = rw c.load-one.ensures.numbers at c.load-two.ensures.value in
-    (rw (one, two) at c.first_in_pair.ensures)
-    ∙ ap (first_place c.args.want) (list-pair g.C.Elem.BitStore.BITS g.O.BitOrder.at _ c.args.first g.met.C.Elem.BitStore.width_law wide c.requires)
-
-pub first_in_narrow_block-requires-clause-window : goal.first_in_narrow_block-requires-clause-window
-first_in_narrow_block-requires-clause-window g c = c.requires
-
-pub first_in_narrow_block-requires-clause-narrow : goal.first_in_narrow_block-requires-clause-narrow
-first_in_narrow_block-requires-clause-narrow g c = rw c.BITS.ensures at c.if-BITS-le-WORD_BITS.true
-
-pub returns-then-BITS-le-WORD_BITS-clause-value : goal.returns-then-BITS-le-WORD_BITS-clause-value
-returns-then-BITS-le-WORD_BITS-clause-value g c = c.first_in_narrow_block.ensures.value
-
-pub returns-then-BITS-le-WORD_BITS-clause-reads : goal.returns-then-BITS-le-WORD_BITS-clause-reads
-returns-then-BITS-le-WORD_BITS-clause-reads g c = c.first_in_narrow_block.ensures.reads
 
 pub load-one-requires : goal.load-one-requires
 load-one-requires g c =
-    let wide = rw c.BITS.ensures at c.if-BITS-le-WORD_BITS.false in
-    let inside = pair-inside _ g.O.BitOrder.at _ c.args.first g.met.C.Elem.BitStore.width_law wide c.requires in
+    let inside = pair-inside _ c.args.first g.met.C.Elem.BitStore.width_law (rw c.BITS-bits.ensures at c.if-bits-gt-WORD_BITS.true) c.requires in
     omega arith
 
 pub overflow_add-first : goal.overflow_add-first
 overflow_add-first g c =
-    let wide = rw c.BITS.ensures at c.if-BITS-le-WORD_BITS.false in
-    let two = block_pair g.C.Elem.BitStore.BITS g.met.C.Elem.BitStore.width_law wide in
-    let bound = elements-bound g.C.Elem.BitStore.BITS g.O.BitOrder.at _ c.args.first (256 / g.C.Elem.BitStore.BITS) c.requires (width_some _ g.met.C.Elem.BitStore.width_law) in
+    let width = g.met.C.Elem.BitStore.width_law in
+    let pair = block_pair _ width (rw c.BITS-bits.ensures at c.if-bits-gt-WORD_BITS.true) in
+    let bound = elements-bound _ g.O.BitOrder.at _ c.args.first (256 / g.C.Elem.BitStore.BITS) c.requires (width_some _ width) in
     omega arith
 
 pub load-two-requires : goal.load-two-requires
 load-two-requires g c =
-    let wide = rw c.BITS.ensures at c.if-BITS-le-WORD_BITS.false in
-    rw c.load-one.ensures.numbers (pair-inside _ g.O.BitOrder.at _ c.args.first g.met.C.Elem.BitStore.width_law wide c.requires)
+    rw c.load-one.ensures.numbers (pair-inside _ c.args.first g.met.C.Elem.BitStore.width_law (rw c.BITS-bits.ensures at c.if-bits-gt-WORD_BITS.true) c.requires)
 
-pub returns-clause-reads : goal.returns-clause-reads
-returns-clause-reads g c =
-    let wide = rw c.BITS.ensures at c.if-BITS-le-WORD_BITS.false in
-    let pair = block_pair g.C.Elem.BitStore.BITS g.met.C.Elem.BitStore.width_law wide in
+pub returns-then-bits-gt-WORD_BITS : goal.returns-then-bits-gt-WORD_BITS
+returns-then-bits-gt-WORD_BITS g c =
+    let width = g.met.C.Elem.BitStore.width_law in
+    let wide = rw c.BITS-bits.ensures at c.if-bits-gt-WORD_BITS.true in
+    let pair = block_pair _ width wide in
     let one = c.load-one.ensures in
     let two = c.load-two.ensures in
-    record { numbers = two.numbers ∙ one.numbers; borrow = two.borrow ∙ one.borrow; loads = omega arith; stores = two.stores ∙ one.stores }
+    record {
+      value = (rw (one.value, rw one.numbers at two.value) at c.first_in_pair.ensures) ∙ ap (first_place c.args.want) (list-pair _ c.args.first width wide c.requires g.O.BitOrder.at);
+      reads = record { numbers = two.numbers ∙ one.numbers; borrow = two.borrow ∙ one.borrow; loads = omega arith; stores = two.stores ∙ one.stores };
+    }
+
+pub nonzero_div-elements : goal.nonzero_div-elements
+nonzero_div-elements g c = width-some _ _ g.met.C.Elem.BitStore.width_law c.BITS-bits.ensures
+
+pub load_elements-one-requires : goal.load_elements-one-requires
+load_elements-one-requires g c =
+    let narrow = rw c.BITS-bits.ensures at c.if-bits-gt-WORD_BITS.false in
+    record { window = (words _ c.args.first g.met.C.Elem.BitStore.width_law narrow c.requires).one; narrow = narrow }
+
+pub load_elements-two-requires : goal.load_elements-two-requires
+load_elements-two-requires g c =
+    let narrow = rw c.BITS-bits.ensures at c.if-bits-gt-WORD_BITS.false in
+    rw (c.BITS-bits.ensures, c.load_elements-one.ensures.reads.numbers) (record { window = (words _ c.args.first g.met.C.Elem.BitStore.width_law narrow c.requires).two; narrow = narrow })
+
+pub load_elements-three-requires : goal.load_elements-three-requires
+load_elements-three-requires g c =
+    let narrow = rw c.BITS-bits.ensures at c.if-bits-gt-WORD_BITS.false in
+    rw (c.BITS-bits.ensures, c.load_elements-two.ensures.reads.numbers, c.load_elements-one.ensures.reads.numbers)
+    (record { window = (words _ c.args.first g.met.C.Elem.BitStore.width_law narrow c.requires).three; narrow = narrow })
+
+pub load_elements-four-requires : goal.load_elements-four-requires
+load_elements-four-requires g c =
+    let narrow = rw c.BITS-bits.ensures at c.if-bits-gt-WORD_BITS.false in
+    rw (c.BITS-bits.ensures, c.load_elements-three.ensures.reads.numbers, c.load_elements-two.ensures.reads.numbers, c.load_elements-one.ensures.reads.numbers)
+    (record { window = (words _ c.args.first g.met.C.Elem.BitStore.width_law narrow c.requires).four; narrow = narrow })
+
+pub overflow_add-first-2 : goal.overflow_add-first-2
+overflow_add-first-2 g c =
+    let all = words _ c.args.first g.met.C.Elem.BitStore.width_law (rw c.BITS-bits.ensures at c.if-bits-gt-WORD_BITS.false) c.requires in
+    rw c.BITS-bits.ensures (omega arith)
+
+pub overflow_mul-elements : goal.overflow_mul-elements
+overflow_mul-elements g c = let few = div-le_self 64 c.BITS-bits.result in omega arith
+
+pub overflow_add-first-3 : goal.overflow_add-first-3
+overflow_add-first-3 g c =
+    let all = words _ c.args.first g.met.C.Elem.BitStore.width_law (rw c.BITS-bits.ensures at c.if-bits-gt-WORD_BITS.false) c.requires in
+    rw c.BITS-bits.ensures (omega arith)
+
+pub overflow_mul-elements-2 : goal.overflow_mul-elements-2
+overflow_mul-elements-2 g c = let few = div-le_self 64 c.BITS-bits.result in omega arith
+
+pub overflow_add-first-4 : goal.overflow_add-first-4
+overflow_add-first-4 g c =
+    let all = words _ c.args.first g.met.C.Elem.BitStore.width_law (rw c.BITS-bits.ensures at c.if-bits-gt-WORD_BITS.false) c.requires in
+    rw c.BITS-bits.ensures (omega arith)
+
+pub returns-then-lack : goal.returns-then-lack
+returns-then-lack g c =
+    let b = g.C.Elem.BitStore.BITS in
+    let width = g.met.C.Elem.BitStore.width_law in
+    let narrow = rw c.BITS-bits.ensures at c.if-bits-gt-WORD_BITS.false in
+    let all = words b c.args.first width narrow c.requires in
+    let one = c.load_elements-one.ensures in
+    let two = c.load_elements-two.ensures in
+    let three = c.load_elements-three.ensures in
+    let four = c.load_elements-four.ensures in
+    let second = two.reads.numbers ∙ one.reads.numbers in
+    let bits_two = rw (c.BITS-bits.ensures, one.reads.numbers) at two.value in
+    let bits_three = rw (c.BITS-bits.ensures, second) at three.value in
+    let bits_four = rw (c.BITS-bits.ensures, three.reads.numbers ∙ second) at four.value in
+    record {
+      value = block-lacks b g.O.BitOrder.at (g.met.O.BitOrder.permutes b width) _ c.args.first width narrow c.requires c.args.want _ _ _ _ one.value bits_two bits_three bits_four (none_from _ (sym c.if-lack.true ∙ c.lack.ensures));
+      reads = reads-sum (reads-sum (reads-sum one.reads two.reads refl) three.reads refl) four.reads (omega arith);
+    }
+
+pub returns : goal.returns
+returns g c =
+    let b = g.C.Elem.BitStore.BITS in
+    let width = g.met.C.Elem.BitStore.width_law in
+    let narrow = rw c.BITS-bits.ensures at c.if-bits-gt-WORD_BITS.false in
+    let all = words b c.args.first width narrow c.requires in
+    let one = c.load_elements-one.ensures in
+    let two = c.load_elements-two.ensures in
+    let three = c.load_elements-three.ensures in
+    let four = c.load_elements-four.ensures in
+    let second = two.reads.numbers ∙ one.reads.numbers in
+    let bits_two = rw (c.BITS-bits.ensures, one.reads.numbers) at two.value in
+    let bits_three = rw (c.BITS-bits.ensures, second) at three.value in
+    let bits_four = rw (c.BITS-bits.ensures, three.reads.numbers ∙ second) at four.value in
+    record {
+      value = block-found b g.O.BitOrder.at (g.met.O.BitOrder.permutes b width) _ c.args.first width narrow c.requires c.args.want _ _ _ _ one.value bits_two bits_three bits_four _ c.first_in_ordered.ensures;
+      reads = reads-sum (reads-sum (reads-sum one.reads two.reads refl) three.reads refl) four.reads (omega arith);
+    }

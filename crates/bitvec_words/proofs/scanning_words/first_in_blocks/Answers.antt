@@ -1,13 +1,10 @@
-use Rattle.std.proofs.Common.{◌+◌, ◌*◌, ◌/◌, arith, rules, sym, ◌∙◌, ap, Bool, List, ◌≡◌}
-use Rattle.std.proofs.Math.Nat.{mul-le-mul_left}
+use Rattle.std.proofs.Common.{◌/◌, arith, rules, sym, ◌∙◌, ap, Bool, List, ◌≡◌}
 use Rattle.bitvec_cells.specs.base.Lists.{first_place}
-use Rattle.bitvec_cells.specs.store.WidthLaws.{width_some}
 use Rattle.bitvec_cells.specs.base.PlacesLaws.{first_place-nil}
-use Rattle.bitvec_words.specs.Elements.{elements_window}
 use Rattle.bitvec_words.specs.WholeLaws.{list-empty}
-use Rattle.bitvec_words.proofs.ScanLemmas.{first-inside}
-use Rattle.bitvec_words.proofs.WordScanLemmas.{HasWindow-elements, block_whole, blocks-few, elements-bound, first-block_has, first-block_lacks}
 use Rattle.bitvec_words.specs.WordLaws.{width-some}
+use Rattle.bitvec_words.proofs.CostLemmas.{reads-before, reads-exact}
+use Rattle.bitvec_words.proofs.WordScanLemmas.{block, block_whole, blocks-bits, first-block_few, first-block_has, first-block_lacks}
 use Rattle.bitvec_words.proofs.scanning_words.first_in_blocks.Goals as goal
 
 pub loop-step-init : goal.loop-step-init
@@ -16,80 +13,62 @@ loop-step-init g c = record {
   reads = search rules;
 }
 
-pub loop-step-preserved : goal.loop-step-preserved
-loop-step-preserved g c =
-    let b = g.C.Elem.BitStore.BITS in
-    let inv = c.loop-step.invariant in
-    let here = rw (c.BITS.ensures, inv.reads.numbers) at c.in_default.ensures.value in
-    record {
-      none = first-block_lacks b g.O.BitOrder.at _ c.args.first c.args.count _ (256 / b) 256 (block_whole b g.met.C.Elem.BitStore.width_law) c.requires c.loop-step-test.true c.args.want inv.none here;
-      reads = search rules;
-    }
+pub nonzero_div-elements : goal.nonzero_div-elements
+nonzero_div-elements g c = width-some _ _ g.met.C.Elem.BitStore.width_law c.BITS.ensures
 
-pub returns-in-Some-clause-value : goal.returns-in-Some-clause-value
-returns-in-Some-clause-value g c =
+pub overflow_mul-step : goal.overflow_mul-step
+overflow_mul-step g c =
+    let here = block _ c.args.first c.args.count (256 / g.C.Elem.BitStore.BITS) c.loop-step.step g.met.C.Elem.BitStore.width_law c.requires c.loop-step-test.true in
+    rw c.BITS.ensures (omega arith)
+
+pub overflow_add-first : goal.overflow_add-first
+overflow_add-first g c =
+    let here = block _ c.args.first c.args.count (256 / g.C.Elem.BitStore.BITS) c.loop-step.step g.met.C.Elem.BitStore.width_law c.requires c.loop-step-test.true in
+    rw c.BITS.ensures (omega arith)
+
+pub first_in_block-requires : goal.first_in_block-requires
+first_in_block-requires g c =
+    rw (c.loop-step.invariant.reads.numbers, c.BITS.ensures) (block _ c.args.first c.args.count (256 / g.C.Elem.BitStore.BITS) c.loop-step.step g.met.C.Elem.BitStore.width_law c.requires c.loop-step-test.true).here
+
+pub overflow_mul-result : goal.overflow_mul-result
+overflow_mul-result g c =
     let b = g.C.Elem.BitStore.BITS in
-    let inv = c.loop-step.invariant in
-    let here = rw (c.BITS.ensures, inv.reads.numbers) at c.in-Some.ensures.value in
-    first-block_has b g.O.BitOrder.at _ c.args.first c.args.count _ (256 / b) 256 (block_whole b g.met.C.Elem.BitStore.width_law) c.requires c.loop-step-test.true c.args.want inv.none _ here
+    let here = block b c.args.first c.args.count (256 / b) c.loop-step.step g.met.C.Elem.BitStore.width_law c.requires c.loop-step-test.true in
+    let bits = blocks-bits c.loop-step.step (256 / b) b 256 (block_whole b g.met.C.Elem.BitStore.width_law) in
+    omega arith
 
 pub overflow_add-result : goal.overflow_add-result
 overflow_add-result g c =
     let b = g.C.Elem.BitStore.BITS in
     let inv = c.loop-step.invariant in
-    let here = rw (c.BITS.ensures, inv.reads.numbers) at c.in-Some.ensures.value in
-    let found = first-block_has b g.O.BitOrder.at _ c.args.first c.args.count _ (256 / b) 256 (block_whole b g.met.C.Elem.BitStore.width_law) c.requires c.loop-step-test.true c.args.want inv.none _ here in
-    let below = first-inside b g.O.BitOrder.at _ (elements_window b c.args.first (c.args.count * (256 / b))) c.args.want _ c.requires found in
-    let fits = c.requires.fits in
-    let bound = c.requires.within.len in
+    let here = block b c.args.first c.args.count (256 / b) c.loop-step.step g.met.C.Elem.BitStore.width_law c.requires c.loop-step-test.true in
+    let few = first-block_few here g.O.BitOrder.at c.args.want inv.none 256 _ (block_whole b g.met.C.Elem.BitStore.width_law) (rw (c.BITS.ensures, inv.reads.numbers) at c.in-Some.ensures.value) in
     omega arith
 
-pub first_in_block-requires : goal.first_in_block-requires
-first_in_block-requires g c =
+pub returns-in-Some : goal.returns-in-Some
+returns-in-Some g c =
     let b = g.C.Elem.BitStore.BITS in
-    let order = mul-le-mul_left (256 / b) c.loop-step-test.true in
-    rw (c.BITS.ensures, c.loop-step.invariant.reads.numbers) (HasWindow-elements b g.O.BitOrder.at _ c.args.first (c.args.count * (256 / b)) c.requires (c.args.first + c.loop-step.step * (256 / b)) (256 / b) (omega arith) (omega arith))
-
-pub overflow_mul-step : goal.overflow_mul-step
-overflow_mul-step g c =
-    let b = g.C.Elem.BitStore.BITS in
-    let order = mul-le-mul_left (256 / b) c.loop-step-test.true in
-    let bound = elements-bound b g.O.BitOrder.at _ c.args.first (c.args.count * (256 / b)) c.requires (width_some b g.met.C.Elem.BitStore.width_law) in
-    rw c.BITS.ensures (omega arith)
-
-pub overflow_add-first : goal.overflow_add-first
-overflow_add-first g c =
-    let b = g.C.Elem.BitStore.BITS in
-    let order = mul-le-mul_left (256 / b) c.loop-step-test.true in
-    let bound = elements-bound b g.O.BitOrder.at _ c.args.first (c.args.count * (256 / b)) c.requires (width_some b g.met.C.Elem.BitStore.width_law) in
-    rw c.BITS.ensures (omega arith)
-
-pub nonzero_div-elements : goal.nonzero_div-elements
-nonzero_div-elements g c = width-some _ _ g.met.C.Elem.BitStore.width_law c.BITS.ensures
-
-pub overflow_mul-result : goal.overflow_mul-result
-overflow_mul-result g c =
-    let b = g.C.Elem.BitStore.BITS in
-    let few = blocks-few b g.O.BitOrder.at _ c.args.first c.args.count _ (256 / b) 256 (block_whole b g.met.C.Elem.BitStore.width_law) c.requires c.loop-step-test.true in
-    omega arith
-
-pub returns-in-Some-clause-reads : goal.returns-in-Some-clause-reads
-returns-in-Some-clause-reads g c =
-    let before = c.loop-step.invariant.reads in
-    let reads = c.first_in_block.ensures.reads in
-    let order = mul-le-mul_left (256 / g.C.Elem.BitStore.BITS) c.loop-step-test.true in
-    record { numbers = reads.numbers ∙ before.numbers; borrow = reads.borrow ∙ before.borrow; loads = omega arith; stores = reads.stores ∙ before.stores }
+    let inv = c.loop-step.invariant in
+    let here = block b c.args.first c.args.count (256 / b) c.loop-step.step g.met.C.Elem.BitStore.width_law c.requires c.loop-step-test.true in
+    record {
+      value = first-block_has here g.O.BitOrder.at c.args.want inv.none 256 _ (block_whole b g.met.C.Elem.BitStore.width_law) (rw (c.BITS.ensures, inv.reads.numbers) at c.in-Some.ensures.value);
+      reads = reads-before inv.reads c.in-Some.ensures.reads (omega arith);
+    }
 
 pub loop-step-smaller : goal.loop-step-smaller
 loop-step-smaller g c = omega arith
 
-pub returns-clause-value : goal.returns-clause-value
-returns-clause-value g c =
-    let all : c.loop-step.step ≡ c.args.count = omega arith in
-    rw all at c.loop-step.invariant.none
+pub loop-step-preserved : goal.loop-step-preserved
+loop-step-preserved g c =
+    let b = g.C.Elem.BitStore.BITS in
+    let inv = c.loop-step.invariant in
+    record {
+      none = first-block_lacks (block b c.args.first c.args.count (256 / b) c.loop-step.step g.met.C.Elem.BitStore.width_law c.requires c.loop-step-test.true) g.O.BitOrder.at c.args.want inv.none (rw (c.BITS.ensures, inv.reads.numbers) at c.in_default.ensures.value);
+      reads = search rules;
+    }
 
-pub returns-clause-reads : goal.returns-clause-reads
-returns-clause-reads g c =
+pub returns : goal.returns
+returns g c =
     let all : c.loop-step.step ≡ c.args.count = omega arith in
-    let reads = rw all at c.loop-step.invariant.reads in
-    record { numbers = reads.numbers; borrow = reads.borrow; loads = omega arith; stores = reads.stores }
+    let inv = rw all at c.loop-step.invariant in
+    record { value = inv.none; reads = reads-exact inv.reads }

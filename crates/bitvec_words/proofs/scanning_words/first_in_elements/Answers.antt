@@ -1,43 +1,78 @@
-use Rattle.std.proofs.Common.{◌*◌, ◌/◌, ℕ, arith}
-use Rattle.std.proofs.Math.Nat.{div-mul-le_self}
-use Rattle.bitvec_words.proofs.ScanLemmas.{first-elements_behind, first-elements_front, first-elements_lacks, first-inside}
-use Rattle.bitvec_words.proofs.WordScanLemmas.{block_whole, blocks-bits}
-use Rattle.bitvec_words.specs.Elements.{elements_window}
+use Rattle.std.proofs.Common.{◌/◌, arith}
+use Rattle.bitvec_words.specs.WordLaws.{width-some}
+use Rattle.bitvec_words.proofs.CostLemmas.{reads-both, reads-most}
+use Rattle.bitvec_words.proofs.SplitLemmas.{split-behind, split-few, split-found, split-lacks}
+use Rattle.bitvec_words.proofs.WordScanLemmas.{block_whole, blocks-bits, blocks-some, parted-blocks}
 use Rattle.bitvec_words.proofs.scanning_words.first_in_elements.Goals as goal
 
-pub returns-in-Some-clause-value : goal.returns-in-Some-clause-value
-returns-in-Some-clause-value g c =
-    let b = g.C.Elem.BitStore.BITS in
-    first-elements_front b g.O.BitOrder.at _ c.args.first c.args.count (c.args.count / (256 / b) * (256 / b)) _ c.args.want c.requires (div-mul-le_self c.args.count (256 / b))
-    (rw c.BITS.ensures at c.in-Some.ensures.value)
+pub nonzero_div-elements : goal.nonzero_div-elements
+nonzero_div-elements g c = width-some _ _ g.met.C.Elem.BitStore.width_law c.BITS.ensures
 
-pub returns-in_err-found-clause-value : goal.returns-in_err-found-clause-value
-returns-in_err-found-clause-value g c =
-    let b = g.C.Elem.BitStore.BITS in
-    let none = rw c.BITS.ensures at c.in_default.ensures.value in
-    let rest = rw (c.BITS.ensures, c.in_default.ensures.reads.numbers) at c.in_err-found.ensures.value in
+pub nonzero_div-blocks : goal.nonzero_div-blocks
+nonzero_div-blocks g c = rw c.BITS.ensures (blocks-some _ g.met.C.Elem.BitStore.width_law)
+
+pub first_in_blocks-requires : goal.first_in_blocks-requires
+first_in_blocks-requires g c = rw c.BITS.ensures (parted-blocks _ 256 c.args.first c.args.count g.met.C.Elem.BitStore.width_law c.requires).front
+
+pub returns-in-Some : goal.returns-in-Some
+returns-in-Some g c =
+    let parts = parted-blocks _ 256 c.args.first c.args.count g.met.C.Elem.BitStore.width_law c.requires in
+    let front = rw c.BITS.ensures at c.in-Some.ensures in
+    record { value = split-found parts.split g.O.BitOrder.at c.requires c.args.want _ front.value; reads = reads-most front.reads parts.within }
+
+pub overflow_mul-passed : goal.overflow_mul-passed
+overflow_mul-passed g c =
+    let parts = parted-blocks _ 256 c.args.first c.args.count g.met.C.Elem.BitStore.width_law c.requires in
+    rw c.BITS.ensures (omega arith)
+
+pub overflow_add-first : goal.overflow_add-first
+overflow_add-first g c =
+    let parts = parted-blocks _ 256 c.args.first c.args.count g.met.C.Elem.BitStore.width_law c.requires in
+    rw c.BITS.ensures (omega arith)
+
+pub overflow_sub-count : goal.overflow_sub-count
+overflow_sub-count g c = rw c.BITS.ensures (parted-blocks _ 256 c.args.first c.args.count g.met.C.Elem.BitStore.width_law c.requires).within
+
+pub first_in_rest-requires : goal.first_in_rest-requires
+first_in_rest-requires g c = rw (c.in_default.ensures.reads.numbers, c.BITS.ensures) (parted-blocks _ 256 c.args.first c.args.count g.met.C.Elem.BitStore.width_law c.requires).rest
+
+pub returns-in_err-found : goal.returns-in_err-found
+returns-in_err-found g c =
+    let parts = parted-blocks _ 256 c.args.first c.args.count g.met.C.Elem.BitStore.width_law c.requires in
+    let front = rw c.BITS.ensures at c.in_default.ensures in
+    let rest = rw (c.BITS.ensures, front.reads.numbers) at c.in_err-found.ensures in
     rw c.from_residual.ensures
-    (first-elements_lacks b g.O.BitOrder.at _ c.args.first c.args.count (c.args.count / (256 / b) * (256 / b)) c.args.want c.requires (div-mul-le_self c.args.count (256 / b)) none rest)
+    (record {
+      value = split-lacks parts.split g.O.BitOrder.at c.requires c.args.want front.value rest.value;
+      reads = reads-both front.reads rest.reads (let few = parts.within in omega arith);
+    })
+
+pub overflow_mul-result : goal.overflow_mul-result
+overflow_mul-result g c =
+    let b = g.C.Elem.BitStore.BITS in
+    let parts = parted-blocks b 256 c.args.first c.args.count g.met.C.Elem.BitStore.width_law c.requires in
+    let bits = blocks-bits (c.args.count / (256 / b)) (256 / b) b 256 (block_whole b g.met.C.Elem.BitStore.width_law) in
+    rw c.BITS.ensures (omega arith)
 
 pub overflow_add-result : goal.overflow_add-result
 overflow_add-result g c =
     let b = g.C.Elem.BitStore.BITS in
-    let blocks : ℕ = c.args.count / (256 / b) in
-    let none = rw c.BITS.ensures at c.in_default.ensures.value in
-    let rest = rw (c.BITS.ensures, c.in_default.ensures.reads.numbers) at c.in_ok-found.ensures.value in
-    let bits = blocks-bits blocks (256 / b) b 256 (block_whole b g.met.C.Elem.BitStore.width_law) in
-    let found = first-elements_behind b g.O.BitOrder.at _ c.args.first c.args.count (blocks * (256 / b)) (blocks * 256) _ c.args.want c.requires (div-mul-le_self c.args.count (256 / b)) bits none rest in
-    let below = first-inside b g.O.BitOrder.at _ (elements_window b c.args.first c.args.count) c.args.want _ c.requires found in
-    let fits = c.requires.fits in
-    let len = c.requires.within.len in
+    let parts = parted-blocks b 256 c.args.first c.args.count g.met.C.Elem.BitStore.width_law c.requires in
+    let bits = blocks-bits (c.args.count / (256 / b)) (256 / b) b 256 (block_whole b g.met.C.Elem.BitStore.width_law) in
+    let front = rw c.BITS.ensures at c.in_default.ensures in
+    let rest = rw (c.BITS.ensures, front.reads.numbers) at c.in_ok-found.ensures in
+    let few = split-few parts.split g.O.BitOrder.at c.requires c.args.want _ front.value rest.value in
     rw c.BITS.ensures (omega arith)
 
-pub returns-clause-value : goal.returns-clause-value
-returns-clause-value g c =
+pub returns : goal.returns
+returns g c =
     let b = g.C.Elem.BitStore.BITS in
-    let blocks : ℕ = c.args.count / (256 / b) in
-    let none = rw c.BITS.ensures at c.in_default.ensures.value in
-    let rest = rw (c.BITS.ensures, c.in_default.ensures.reads.numbers) at c.in_ok-found.ensures.value in
-    let bits = blocks-bits blocks (256 / b) b 256 (block_whole b g.met.C.Elem.BitStore.width_law) in
+    let parts = parted-blocks b 256 c.args.first c.args.count g.met.C.Elem.BitStore.width_law c.requires in
+    let bits = blocks-bits (c.args.count / (256 / b)) (256 / b) b 256 (block_whole b g.met.C.Elem.BitStore.width_law) in
+    let front = rw c.BITS.ensures at c.in_default.ensures in
+    let rest = rw (c.BITS.ensures, front.reads.numbers) at c.in_ok-found.ensures in
     rw c.BITS.ensures
-    (first-elements_behind b g.O.BitOrder.at _ c.args.first c.args.count (blocks * (256 / b)) (blocks * 256) _ c.args.want c.requires (div-mul-le_self c.args.count (256 / b)) bits none rest)
+    (record {
+      value = rw (← bits) (split-behind parts.split g.O.BitOrder.at c.requires c.args.want _ front.value rest.value);
+      reads = reads-both front.reads rest.reads (let few = parts.within in omega arith);
+    })

@@ -1,81 +1,92 @@
-use Rattle.std.proofs.Common.{◌+◌, ◌-◌, ◌*◌, ◌/◌, ℕ, arith, ◌∙◌}
-use Rattle.std.proofs.Math.Nat.{div-mul-le_self}
+use Rattle.std.proofs.Common.{◌/◌, arith}
 use Rattle.bitvec_cells.specs.store.WidthLaws.{width_some}
-use Rattle.bitvec_words.specs.Elements.{elements_window}
-use Rattle.bitvec_words.specs.WordLaws.{word_whole}
-use Rattle.bitvec_words.proofs.ScanLemmas.{first-elements_behind, first-elements_front, first-elements_lacks, first-inside, first_loads-elements}
-use Rattle.bitvec_words.proofs.WordScanLemmas.{HasWindow-elements, blocks-bits}
+use Rattle.bitvec_words.specs.WordLaws.{width-some, word_whole}
+use Rattle.bitvec_words.proofs.CostLemmas.{reads-both, reads-most}
+use Rattle.bitvec_words.proofs.CountLemmas.{words-some}
+use Rattle.bitvec_words.proofs.ScanLemmas.{first_loads-elements}
+use Rattle.bitvec_words.proofs.SplitLemmas.{split-behind, split-few, split-found, split-lacks}
+use Rattle.bitvec_words.proofs.WordScanLemmas.{blocks-bits, parted-blocks}
 use Rattle.bitvec_words.proofs.scanning_words.first_in_rest.Goals as goal
 
 pub returns-then-bits-ge-WORD_BITS-clause-reads : goal.returns-then-bits-ge-WORD_BITS-clause-reads
 returns-then-bits-ge-WORD_BITS-clause-reads g c =
-    let b = g.C.Elem.BitStore.BITS in
     let scan = c.first_whole.ensures in
-    let most = first_loads-elements b g.O.BitOrder.at _ c.args.first c.args.count c.args.want _ (width_some b g.met.C.Elem.BitStore.width_law) c.requires scan.value in
-    let loads = scan.reads.loads in
-    record { numbers = scan.reads.numbers; borrow = scan.reads.borrow; loads = omega arith; stores = scan.reads.stores }
+    reads-most scan.reads (first_loads-elements _ g.O.BitOrder.at _ c.args.first c.args.count c.args.want _ (width_some _ g.met.C.Elem.BitStore.width_law) c.requires scan.value)
 
-pub returns-in-Some-clause-value : goal.returns-in-Some-clause-value
-returns-in-Some-clause-value g c =
-    let b = g.C.Elem.BitStore.BITS in
-    first-elements_front b g.O.BitOrder.at _ c.args.first c.args.count (c.args.count / (64 / b) * (64 / b)) _ c.args.want c.requires (div-mul-le_self c.args.count (64 / b))
-    (rw c.BITS-bits.ensures at c.in-Some.ensures.value)
+pub nonzero_div-elements : goal.nonzero_div-elements
+nonzero_div-elements g c = width-some _ _ g.met.C.Elem.BitStore.width_law c.BITS-bits.ensures
 
-pub returns-in_err-found-clause-value : goal.returns-in_err-found-clause-value
-returns-in_err-found-clause-value g c =
+pub nonzero_div-words : goal.nonzero_div-words
+nonzero_div-words g c = rw c.BITS-bits.ensures (words-some _ g.met.C.Elem.BitStore.width_law (omega arith))
+
+pub first_in_some_words-requires-clause-window : goal.first_in_some_words-requires-clause-window
+first_in_some_words-requires-clause-window g c = rw c.BITS-bits.ensures (parted-blocks _ 64 c.args.first c.args.count g.met.C.Elem.BitStore.width_law c.requires).front
+
+pub first_in_some_words-requires-clause-narrow : goal.first_in_some_words-requires-clause-narrow
+first_in_some_words-requires-clause-narrow g c = omega arith
+
+pub returns-in-Some : goal.returns-in-Some
+returns-in-Some g c =
+    let parts = parted-blocks _ 64 c.args.first c.args.count g.met.C.Elem.BitStore.width_law c.requires in
+    let front = rw c.BITS-bits.ensures at c.in-Some.ensures in
+    record { value = split-found parts.split g.O.BitOrder.at c.requires c.args.want _ front.value; reads = reads-most front.reads parts.within }
+
+pub overflow_mul-passed : goal.overflow_mul-passed
+overflow_mul-passed g c =
+    let parts = parted-blocks _ 64 c.args.first c.args.count g.met.C.Elem.BitStore.width_law c.requires in
+    rw c.BITS-bits.ensures (omega arith)
+
+pub overflow_add-first : goal.overflow_add-first
+overflow_add-first g c =
+    let parts = parted-blocks _ 64 c.args.first c.args.count g.met.C.Elem.BitStore.width_law c.requires in
+    rw c.BITS-bits.ensures (omega arith)
+
+pub overflow_sub-count : goal.overflow_sub-count
+overflow_sub-count g c = rw c.BITS-bits.ensures (parted-blocks _ 64 c.args.first c.args.count g.met.C.Elem.BitStore.width_law c.requires).within
+
+pub first_whole-requires-2 : goal.first_whole-requires-2
+first_whole-requires-2 g c = rw (c.in_default.ensures.reads.numbers, c.BITS-bits.ensures) (parted-blocks _ 64 c.args.first c.args.count g.met.C.Elem.BitStore.width_law c.requires).rest
+
+pub returns-in_err-found : goal.returns-in_err-found
+returns-in_err-found g c =
     let b = g.C.Elem.BitStore.BITS in
-    let none = rw c.BITS-bits.ensures at c.in_default.ensures.value in
-    let rest = rw (c.BITS-bits.ensures, c.in_default.ensures.reads.numbers) at c.in_err-found.ensures.value in
+    let parts = parted-blocks b 64 c.args.first c.args.count g.met.C.Elem.BitStore.width_law c.requires in
+    let front = rw c.BITS-bits.ensures at c.in_default.ensures in
+    let rest = rw (c.BITS-bits.ensures, front.reads.numbers) at c.in_err-found.ensures in
+    let most = first_loads-elements b g.O.BitOrder.at _ _ _ c.args.want _ (width_some b g.met.C.Elem.BitStore.width_law) parts.rest rest.value in
     rw c.from_residual.ensures
-    (first-elements_lacks b g.O.BitOrder.at _ c.args.first c.args.count (c.args.count / (64 / b) * (64 / b)) c.args.want c.requires (div-mul-le_self c.args.count (64 / b)) none rest)
+    (record {
+      value = split-lacks parts.split g.O.BitOrder.at c.requires c.args.want front.value rest.value;
+      reads = reads-both front.reads rest.reads (let few = parts.within in omega arith);
+    })
 
-pub returns-in_err-found-clause-reads : goal.returns-in_err-found-clause-reads
-returns-in_err-found-clause-reads g c =
+pub overflow_mul-result : goal.overflow_mul-result
+overflow_mul-result g c =
     let b = g.C.Elem.BitStore.BITS in
-    let passed : ℕ = c.args.count / (64 / b) * (64 / b) in
-    let within = div-mul-le_self c.args.count (64 / b) in
-    let first = rw c.BITS-bits.ensures at c.in_default.ensures.reads in
-    let rest = rw (c.BITS-bits.ensures, first.numbers) at c.first_whole-2.ensures in
-    let left = HasWindow-elements b g.O.BitOrder.at _ c.args.first c.args.count c.requires (c.args.first + passed) (c.args.count - passed) (omega arith) (omega arith) in
-    let most = first_loads-elements b g.O.BitOrder.at _ (c.args.first + passed) (c.args.count - passed) c.args.want _ (width_some b g.met.C.Elem.BitStore.width_law) left rest.value in
-    let few = first.loads in
-    let others = rest.reads.loads in
-    record { numbers = rest.reads.numbers ∙ first.numbers; borrow = rest.reads.borrow ∙ first.borrow; loads = omega arith; stores = rest.reads.stores ∙ first.stores }
+    let parts = parted-blocks b 64 c.args.first c.args.count g.met.C.Elem.BitStore.width_law c.requires in
+    let bits = blocks-bits (c.args.count / (64 / b)) (64 / b) b 64 (word_whole b g.met.C.Elem.BitStore.width_law (omega arith)) in
+    rw c.BITS-bits.ensures (omega arith)
 
 pub overflow_add-result : goal.overflow_add-result
 overflow_add-result g c =
     let b = g.C.Elem.BitStore.BITS in
-    let words : ℕ = c.args.count / (64 / b) in
-    let narrow = rw c.BITS-bits.ensures at c.if-bits-ge-WORD_BITS.false in
-    let none = rw c.BITS-bits.ensures at c.in_default.ensures.value in
-    let rest = rw (c.BITS-bits.ensures, c.in_default.ensures.reads.numbers) at c.in_ok-found.ensures.value in
-    let bits = blocks-bits words (64 / b) b 64 (word_whole b g.met.C.Elem.BitStore.width_law (omega arith)) in
-    let found = first-elements_behind b g.O.BitOrder.at _ c.args.first c.args.count (words * (64 / b)) (words * 64) _ c.args.want c.requires (div-mul-le_self c.args.count (64 / b)) bits none rest in
-    let below = first-inside b g.O.BitOrder.at _ (elements_window b c.args.first c.args.count) c.args.want _ c.requires found in
-    let fits = c.requires.fits in
-    let len = c.requires.within.len in
+    let parts = parted-blocks b 64 c.args.first c.args.count g.met.C.Elem.BitStore.width_law c.requires in
+    let bits = blocks-bits (c.args.count / (64 / b)) (64 / b) b 64 (word_whole b g.met.C.Elem.BitStore.width_law (omega arith)) in
+    let front = rw c.BITS-bits.ensures at c.in_default.ensures in
+    let rest = rw (c.BITS-bits.ensures, front.reads.numbers) at c.in_ok-found.ensures in
+    let few = split-few parts.split g.O.BitOrder.at c.requires c.args.want _ front.value rest.value in
     rw c.BITS-bits.ensures (omega arith)
 
-pub returns-clause-value : goal.returns-clause-value
-returns-clause-value g c =
+pub returns : goal.returns
+returns g c =
     let b = g.C.Elem.BitStore.BITS in
-    let words : ℕ = c.args.count / (64 / b) in
-    let narrow = rw c.BITS-bits.ensures at c.if-bits-ge-WORD_BITS.false in
-    let none = rw c.BITS-bits.ensures at c.in_default.ensures.value in
-    let rest = rw (c.BITS-bits.ensures, c.in_default.ensures.reads.numbers) at c.in_ok-found.ensures.value in
-    let bits = blocks-bits words (64 / b) b 64 (word_whole b g.met.C.Elem.BitStore.width_law (omega arith)) in
+    let parts = parted-blocks b 64 c.args.first c.args.count g.met.C.Elem.BitStore.width_law c.requires in
+    let bits = blocks-bits (c.args.count / (64 / b)) (64 / b) b 64 (word_whole b g.met.C.Elem.BitStore.width_law (omega arith)) in
+    let front = rw c.BITS-bits.ensures at c.in_default.ensures in
+    let rest = rw (c.BITS-bits.ensures, front.reads.numbers) at c.in_ok-found.ensures in
+    let most = first_loads-elements b g.O.BitOrder.at _ _ _ c.args.want _ (width_some b g.met.C.Elem.BitStore.width_law) parts.rest rest.value in
     rw c.BITS-bits.ensures
-    (first-elements_behind b g.O.BitOrder.at _ c.args.first c.args.count (words * (64 / b)) (words * 64) _ c.args.want c.requires (div-mul-le_self c.args.count (64 / b)) bits none rest)
-
-pub returns-clause-reads : goal.returns-clause-reads
-returns-clause-reads g c =
-    let b = g.C.Elem.BitStore.BITS in
-    let passed : ℕ = c.args.count / (64 / b) * (64 / b) in
-    let within = div-mul-le_self c.args.count (64 / b) in
-    let first = rw c.BITS-bits.ensures at c.in_default.ensures.reads in
-    let rest = rw (c.BITS-bits.ensures, first.numbers) at c.first_whole-2.ensures in
-    let left = HasWindow-elements b g.O.BitOrder.at _ c.args.first c.args.count c.requires (c.args.first + passed) (c.args.count - passed) (omega arith) (omega arith) in
-    let most = first_loads-elements b g.O.BitOrder.at _ (c.args.first + passed) (c.args.count - passed) c.args.want _ (width_some b g.met.C.Elem.BitStore.width_law) left rest.value in
-    let few = first.loads in
-    let others = rest.reads.loads in
-    record { numbers = rest.reads.numbers ∙ first.numbers; borrow = rest.reads.borrow ∙ first.borrow; loads = omega arith; stores = rest.reads.stores ∙ first.stores }
+    (record {
+      value = rw (← bits) (split-behind parts.split g.O.BitOrder.at c.requires c.args.want _ front.value rest.value);
+      reads = reads-both front.reads rest.reads (let few = parts.within in omega arith);
+    })

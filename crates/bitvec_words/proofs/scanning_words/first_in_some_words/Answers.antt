@@ -1,12 +1,10 @@
-use Rattle.std.proofs.Common.{◌+◌, ◌*◌, ◌/◌, ◌≤◌, arith, rules, refl, sym, ◌∙◌, ap, Bool, List, ◌≡◌}
-use Rattle.std.proofs.Math.Nat.{mul-le-mul_left}
+use Rattle.std.proofs.Common.{◌/◌, arith, rules, sym, ◌∙◌, ap, Bool, List, ◌≡◌}
 use Rattle.bitvec_cells.specs.base.Lists.{first_place}
 use Rattle.bitvec_cells.specs.base.PlacesLaws.{first_place-nil}
-use Rattle.bitvec_words.specs.Elements.{elements_window}
 use Rattle.bitvec_words.specs.WholeLaws.{list-empty}
-use Rattle.bitvec_words.specs.WordLaws.{word_whole}
-use Rattle.bitvec_words.proofs.ScanLemmas.{first-inside, range-element}
-use Rattle.bitvec_words.proofs.WordScanLemmas.{HasWindow-elements, first-block_has, first-block_lacks}
+use Rattle.bitvec_words.specs.WordLaws.{width-some, word_whole}
+use Rattle.bitvec_words.proofs.CostLemmas.{reads-before, reads-exact}
+use Rattle.bitvec_words.proofs.WordScanLemmas.{block, blocks-bits, first-block_few, first-block_has, first-block_lacks}
 use Rattle.bitvec_words.proofs.scanning_words.first_in_some_words.Goals as goal
 
 pub loop-step-init : goal.loop-step-init
@@ -15,60 +13,70 @@ loop-step-init g c = record {
   reads = search rules;
 }
 
-pub load_elements-word-requires-clause-window : goal.load_elements-word-requires-clause-window
-load_elements-word-requires-clause-window g c =
+pub nonzero_div-elements : goal.nonzero_div-elements
+nonzero_div-elements g c = width-some _ _ g.met.C.Elem.BitStore.width_law c.BITS.ensures
+
+pub overflow_mul-step : goal.overflow_mul-step
+overflow_mul-step g c =
+    let here = block _ c.args.first c.args.count (64 / g.C.Elem.BitStore.BITS) c.loop-step.step g.met.C.Elem.BitStore.width_law c.requires.window c.loop-step-test.true in
+    rw c.BITS.ensures (omega arith)
+
+pub overflow_add-first : goal.overflow_add-first
+overflow_add-first g c =
+    let here = block _ c.args.first c.args.count (64 / g.C.Elem.BitStore.BITS) c.loop-step.step g.met.C.Elem.BitStore.width_law c.requires.window c.loop-step-test.true in
+    rw c.BITS.ensures (omega arith)
+
+pub load_elements-word-requires : goal.load_elements-word-requires
+load_elements-word-requires g c = record {
+  window = rw (c.loop-step.invariant.reads.numbers, c.BITS.ensures) (block _ c.args.first c.args.count (64 / g.C.Elem.BitStore.BITS) c.loop-step.step g.met.C.Elem.BitStore.width_law c.requires.window c.loop-step-test.true).here;
+  narrow = let narrow = c.requires.narrow in omega arith;
+}
+
+pub overflow_mul-result : goal.overflow_mul-result
+overflow_mul-result g c =
     let b = g.C.Elem.BitStore.BITS in
-    let order = mul-le-mul_left (64 / b) c.loop-step-test.true in
-    rw (c.BITS.ensures, c.loop-step.invariant.reads.numbers) (HasWindow-elements b g.O.BitOrder.at _ c.args.first (c.args.count * (64 / b)) c.requires.window (c.args.first + c.loop-step.step * (64 / b)) (64 / b) (omega arith) (omega arith))
+    let here = block b c.args.first c.args.count (64 / b) c.loop-step.step g.met.C.Elem.BitStore.width_law c.requires.window c.loop-step-test.true in
+    let bits = blocks-bits c.loop-step.step (64 / b) b 64 (word_whole b g.met.C.Elem.BitStore.width_law (let narrow = c.requires.narrow in omega arith)) in
+    omega arith
 
 pub overflow_add-result : goal.overflow_add-result
 overflow_add-result g c =
     let b = g.C.Elem.BitStore.BITS in
     let inv = c.loop-step.invariant in
-    let narrow : b ≤ 64 = let less = c.requires.narrow in omega arith in
+    let here = block b c.args.first c.args.count (64 / b) c.loop-step.step g.met.C.Elem.BitStore.width_law c.requires.window c.loop-step-test.true in
     let word = rw (c.BITS.ensures, inv.reads.numbers) at c.load_elements-word.ensures.value in
-    let here = sym c.in-Some.is ∙ c.first_in_element.ensures ∙ ap (first_place c.args.want) (range-element 64 g.O.BitOrder.at _ 64 refl ∙ word) in
-    let found = first-block_has b g.O.BitOrder.at _ c.args.first c.args.count _ (64 / b) 64 (word_whole b g.met.C.Elem.BitStore.width_law narrow) c.requires.window c.loop-step-test.true c.args.want inv.none _ here in
-    let below = first-inside b g.O.BitOrder.at _ (elements_window b c.args.first (c.args.count * (64 / b))) c.args.want _ c.requires.window found in
-    let fits = c.requires.window.fits in
-    let bound = c.requires.window.within.len in
+    let few = first-block_few here g.O.BitOrder.at c.args.want inv.none 64 _ (word_whole b g.met.C.Elem.BitStore.width_law (let narrow = c.requires.narrow in omega arith))
+    (sym c.in-Some.is ∙ c.first_in_whole.ensures ∙ ap (first_place c.args.want) word) in
     omega arith
 
-pub returns-in-Some-clause-value : goal.returns-in-Some-clause-value
-returns-in-Some-clause-value g c =
+pub returns-in-Some : goal.returns-in-Some
+returns-in-Some g c =
     let b = g.C.Elem.BitStore.BITS in
     let inv = c.loop-step.invariant in
-    let narrow : b ≤ 64 = let less = c.requires.narrow in omega arith in
-    let word = rw (c.BITS.ensures, inv.reads.numbers) at c.load_elements-word.ensures.value in
-    let here = sym c.in-Some.is ∙ c.first_in_element.ensures ∙ ap (first_place c.args.want) (range-element 64 g.O.BitOrder.at _ 64 refl ∙ word) in
-    first-block_has b g.O.BitOrder.at _ c.args.first c.args.count _ (64 / b) 64 (word_whole b g.met.C.Elem.BitStore.width_law narrow) c.requires.window c.loop-step-test.true c.args.want inv.none _ here
+    let here = block b c.args.first c.args.count (64 / b) c.loop-step.step g.met.C.Elem.BitStore.width_law c.requires.window c.loop-step-test.true in
+    let loaded = rw (c.BITS.ensures, inv.reads.numbers) at c.load_elements-word.ensures in
+    record {
+      value = first-block_has here g.O.BitOrder.at c.args.want inv.none 64 _ (word_whole b g.met.C.Elem.BitStore.width_law (let narrow = c.requires.narrow in omega arith))
+          (sym c.in-Some.is ∙ c.first_in_whole.ensures ∙ ap (first_place c.args.want) loaded.value);
+      reads = reads-before inv.reads c.load_elements-word.ensures.reads (omega arith);
+    }
 
-pub returns-in-Some-clause-reads : goal.returns-in-Some-clause-reads
-returns-in-Some-clause-reads g c =
-    let before = c.loop-step.invariant.reads in
-    let reads = c.load_elements-word.ensures.reads in
-    let order = mul-le-mul_left (64 / g.C.Elem.BitStore.BITS) c.loop-step-test.true in
-    record { numbers = reads.numbers ∙ before.numbers; borrow = reads.borrow ∙ before.borrow; loads = omega arith; stores = reads.stores ∙ before.stores }
+pub loop-step-smaller : goal.loop-step-smaller
+loop-step-smaller g c = omega arith
 
 pub loop-step-preserved : goal.loop-step-preserved
 loop-step-preserved g c =
     let b = g.C.Elem.BitStore.BITS in
     let inv = c.loop-step.invariant in
-    let narrow : b ≤ 64 = let less = c.requires.narrow in omega arith in
+    let here = block b c.args.first c.args.count (64 / b) c.loop-step.step g.met.C.Elem.BitStore.width_law c.requires.window c.loop-step-test.true in
     let word = rw (c.BITS.ensures, inv.reads.numbers) at c.load_elements-word.ensures.value in
-    let here = sym c.in_default.is ∙ c.first_in_element.ensures ∙ ap (first_place c.args.want) (range-element 64 g.O.BitOrder.at _ 64 refl ∙ word) in
     record {
-      none = first-block_lacks b g.O.BitOrder.at _ c.args.first c.args.count _ (64 / b) 64 (word_whole b g.met.C.Elem.BitStore.width_law narrow) c.requires.window c.loop-step-test.true c.args.want inv.none here;
+      none = first-block_lacks here g.O.BitOrder.at c.args.want inv.none (sym c.in_default.is ∙ c.first_in_whole.ensures ∙ ap (first_place c.args.want) word);
       reads = search rules;
     }
 
-pub returns-clause-value : goal.returns-clause-value
-returns-clause-value g c =
+pub returns : goal.returns
+returns g c =
     let all : c.loop-step.step ≡ c.args.count = omega arith in
-    rw all at c.loop-step.invariant.none
-
-pub returns-clause-reads : goal.returns-clause-reads
-returns-clause-reads g c =
-    let all : c.loop-step.step ≡ c.args.count = omega arith in
-    let reads = rw all at c.loop-step.invariant.reads in
-    record { numbers = reads.numbers; borrow = reads.borrow; loads = omega arith; stores = reads.stores }
+    let inv = rw all at c.loop-step.invariant in
+    record { value = inv.none; reads = reads-exact inv.reads }

@@ -1,0 +1,19 @@
+use Rattle.std.proofs.Common.{arith, rules}
+use Rattle.std.proofs.lemmas.Nat.{mod-mul-add}
+use Rattle.bitvec_move.specs.base.MemoryLaws.{length-element_bits}
+use Rattle.bitvec_move.specs.base.WriteLaws.{length-slice_range}
+use Rattle.bitvec_move.specs.words.FieldLaws.{list-part}
+use Rattle.bitvec_move.specs.words.SameLaws.{same-between}
+use Rattle.bitvec_combine.specs.DifferLaws.{finds-one}
+use Rattle.bitvec_combine.proofs.comparing.DifferAct.part.Goals as goal
+
+pub returns : goal.returns
+returns g c =
+    let b = g.T.BitStore.BITS in
+    let width = g.met.T.BitStore.width_law in
+    let has = c.requires.part in
+    let place = mod-mul-add c.args.part.element b c.args.part.from (omega arith) in
+    let all = length-element_bits b g.O.BitOrder.at (g.T.BitStore.value c.args.other) in
+    let number = rw (c.xor.ensures, c.load-element.ensures.value, c.mask.ensures) at c.and-differing.ensures in
+    finds-one _ _ _ _ _ _ _ _ _ _ width (omega arith) (omega arith) (length-slice_range _ _ _ (omega arith)) (search rules) c.or-self.ensures
+    (rw (number, list-part _ _ _ _ has) (same-between b _ (g.met.O.BitOrder.permutes _ width) _ _ _ _ has.order has.bound))

@@ -1,0 +1,39 @@
+//! A window in two, split where an element begins.
+ghost use Rattle.std.specs.Prelude.{◌≡◌, ◌+◌, ◌-◌, ◌%◌, ◌^◌, ◌<◌};
+ghost use Rattle.bitvec_cells.specs.base.Parts.{first_part_of, part_window};
+ghost use Rattle.bitvec_cells.specs.base.Window.{window_after};
+ghost use Rattle.bitvec_words.specs.Elements.{elements_window};
+ghost use Rattle.bitvec_words.specs.Split.{IsPart, Split};
+
+use bitvec_cells::base::{Part, Window, first_part, tail_part, whole_elements};
+use bitvec_cells::store::BitStore;
+
+/// The part of a window's first element, and the window behind it. Condition: the window isn't empty, and its end
+/// is a `usize`.
+#[inline(always)]
+pub(crate) fn split_head<T: BitStore>(window: Window) -> (Part, Window)
+    requires some { 0 < window.len }
+    requires end { window.start + window.len < 2 ^ 64 }
+    ensures split { Split T.BITS (part_window T.BITS result.0) result.1 window }
+    ensures part { IsPart T.BITS result.0 }
+    ensures is_first { result.0 ≡ first_part_of T.BITS window }
+    ensures is_behind { result.1 ≡ window_after (result.0.to - result.0.from) window }
+{
+    let head = first_part(T::BITS as usize, window);
+    (head, window.after(head.len()))
+}
+
+/// The whole elements of a window that begins where one does, as the first and how many they are, and the part
+/// behind them, which may be empty. Condition: the window's end is a `usize`.
+#[inline(always)]
+pub(crate) fn split_tail<T: BitStore>(window: Window) -> (usize, usize, Part)
+    requires edge { window.start % T.BITS ≡ 0 }
+    requires end { window.start + window.len < 2 ^ 64 }
+    ensures split { Split T.BITS (elements_window T.BITS result.0 result.1) (part_window T.BITS result.2) window }
+    ensures from { result.2.from ≡ 0 }
+    ensures bound { result.2.to < T.BITS }
+{
+    let bits = T::BITS as usize;
+    let (first, count) = whole_elements(bits, window);
+    (first, count, tail_part(bits, window))
+}
