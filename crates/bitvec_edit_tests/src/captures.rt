@@ -59,7 +59,7 @@ fn edit_by_captures(bytes: &mut [u8; 2]) {
     let mask = [0b0110u8];
     let mut view = BitSliceMut::<u8, Lsb0>::from_slice_mut(bytes);
     fill_chunks(&mut view, 16, true);
-    fill_in_turn(&mut view, 5);
+    fill_in_turn(&mut view, 7);
     or_chunks(&mut view, 8, BitSlice::<u8, Lsb0>::from_slice(&mask));
 }
 
@@ -67,5 +67,5 @@ fn edit_by_captures(bytes: &mut [u8; 2]) {
 fn chunks_by_captures(rt: HostRuntime) {
     let mut bytes = [0u8, 0];
     edit_by_captures(&mut bytes);
-    assert!(rt; bytes == [0x1F, 0xFE]);
+    assert!(rt; bytes == [0x7F, 0xC6]);
 }
