@@ -4,6 +4,7 @@ pub mod Cost
 pub mod CostLaws
 pub mod Element
 pub mod ElementLaws
+pub mod PutLaws
 pub mod Sought
 pub mod Walk
 pub mod WalkLaws

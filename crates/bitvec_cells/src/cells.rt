@@ -1,6 +1,8 @@
 //! Counted access to the elements of a memory: the only way in which bit work reaches one.
-ghost use Rattle.std.specs.Prelude.{◌≡◌, ℕ, ◌+◌, ◌*◌, ◌^◌, ◌<◌, ◌↔◌, List, length, slice_index, slice_set, IsTrue};
+ghost use Rattle.std.specs.Prelude.{◌≡◌, ℕ, ◌+◌, ◌*◌, ◌/◌, ◌^◌, ◌<◌, ◌≤◌, ◌↔◌, List, length, take, drop, slice_index, slice_set, IsTrue};
+ghost use Rattle.std.specs.Simd.Lanes.{digits_l};
 ghost use Rattle.bitvec_base.specs.Memory.{FitsMaxBits, HasWindow};
+ghost use Rattle.bitvec_base.specs.Window.{write_at};
 
 use bitvec_base::store::BitStore;
 use bitvec_base::{MAX_BITS, Window};
@@ -35,6 +37,28 @@ pub trait CellsRead {
         ensures borrow { borrow self.new ≡ borrow self.old }
         ensures loads { loads self.new ≡ loads self.old + 1 }
         ensures stores { stores self.new ≡ stores self.old };
+
+    /// The number of the elements from an index on, as many as 64 bits hold: the first one is its least significant
+    /// digit. It is 0 if they are wider. It counts as a load of each. Condition: the memory has as many there.
+    fn load_word(&mut self, first: usize) -> u64
+        requires { first + 64 / Self.Elem.BITS ≤ length (numbers self.old) }
+        ensures digits { take (64 / Self.Elem.BITS) (drop first (numbers self.old))
+            ≡ digits_l (2 ^ Self.Elem.BITS) (64 / Self.Elem.BITS) result }
+        ensures wide { 64 < Self.Elem.BITS → result ≡ 0 }
+        ensures numbers { numbers self.new ≡ numbers self.old }
+        ensures borrow { borrow self.new ≡ borrow self.old }
+        ensures loads { loads self.new ≡ loads self.old + 64 / Self.Elem.BITS }
+        ensures stores { stores self.new ≡ stores self.old }
+    {
+        let _bounds_indices = self.len();
+        let bits = Self::Elem::BITS;
+        let mut word = 0;
+        for step in 0..64 / bits as usize {
+            let element = self.load(first + step).to_u128() as u64;
+            word += element << (step as u32 * bits);
+        }
+        word
+    }
 }
 
 /// A memory that can be written too, an element at a time.
@@ -48,6 +72,25 @@ pub trait Cells: CellsRead {
         ensures borrow { Self.borrow self.new ≡ Self.borrow self.old }
         ensures loads { Self.loads self.new ≡ Self.loads self.old }
         ensures stores { Self.stores self.new ≡ Self.stores self.old + 1 };
+
+    /// Makes the digits of a number the elements from an index on, as many as 64 bits hold: the least significant one
+    /// the first. All others stay. It counts as a store of each. Condition: the memory has as many there.
+    fn store_word(&mut self, first: usize, word: u64)
+        requires { first + 64 / Self.Elem.BITS ≤ length (Self.numbers self.old) }
+        ensures numbers { Self.numbers self.new
+            ≡ write_at (Self.numbers self.old) first (digits_l (2 ^ Self.Elem.BITS) (64 / Self.Elem.BITS) word) }
+        ensures borrow { Self.borrow self.new ≡ Self.borrow self.old }
+        ensures loads { Self.loads self.new ≡ Self.loads self.old }
+        ensures stores { Self.stores self.new ≡ Self.stores self.old + 64 / Self.Elem.BITS }
+    {
+        let _bounds_indices = self.len();
+        let bits = Self::Elem::BITS;
+        for step in 0..64 / bits as usize {
+            let shifted = word >> (step as u32 * bits);
+            let digit = (shifted as u128) & Self::Elem::ALL.to_u128();
+            self.store(first + step, Self::Elem::from_u128(digit));
+        }
+    }
 }
 
 /// Whether a memory has at most `MAX_BITS` bits.

@@ -25,20 +25,20 @@ impl Counts {
         Counts {}
     }
 
-    // The counts after one more load.
+    // The counts after so many more loads.
     #[inline(always)]
-    pub(crate) fn loaded(&self) -> Counts
-        ensures loads { result.loads ≡ self.now.loads + 1 }
+    pub(crate) fn loaded(&self, count: usize) -> Counts
+        ensures loads { result.loads ≡ self.now.loads + count }
         ensures stores { result.stores ≡ self.now.stores }
     {
         Counts {}
     }
 
-    // The counts after one more store.
+    // The counts after so many more stores.
     #[inline(always)]
-    pub(crate) fn stored(&self) -> Counts
+    pub(crate) fn stored(&self, count: usize) -> Counts
         ensures loads { result.loads ≡ self.now.loads }
-        ensures stores { result.stores ≡ self.now.stores + 1 }
+        ensures stores { result.stores ≡ self.now.stores + count }
     {
         Counts {}
     }

@@ -1,8 +1,10 @@
 //! Counted access to a memory that is written too.
-ghost use Rattle.std.specs.Prelude.{◌≡◌, map};
+ghost use Rattle.std.specs.Prelude.{◌≡◌, ◌+◌, ◌/◌, ◌^◌, ◌<◌, ◌≤◌, length, map, take, drop};
+ghost use Rattle.std.specs.Simd.Lanes.{digits_l};
 ghost use Rattle.bitvec_cells.specs.Accessors.{exclusive_numbers, exclusive_borrow, exclusive_loads, exclusive_stores};
 
 use crate::counts::Counts;
+use crate::shared::word_from;
 use crate::{Cells, CellsRead};
 use bitvec_base::store::BitStore;
 
@@ -27,6 +29,16 @@ impl<'a, T: BitStore> Exclusive<'a, T> {
             counts: Counts::new(),
         }
     }
+
+    // The number of the elements from an index on: what a `&mut` lends is known only behind a `&`.
+    #[inline(always)]
+    fn word_at(&self, first: usize) -> u64
+        requires { first + 64 / T.BITS ≤ length (exclusive_numbers T.value self.now) }
+        ensures digits { take (64 / T.BITS) (drop first (exclusive_numbers T.value self.now)) ≡ digits_l (2 ^ T.BITS) (64 / T.BITS) result }
+        ensures wide { 64 < T.BITS → result ≡ 0 }
+    {
+        word_from(self.cells, first)
+    }
 }
 
 impl<'a, T: BitStore> CellsRead for Exclusive<'a, T> {
@@ -45,16 +57,29 @@ impl<'a, T: BitStore> CellsRead for Exclusive<'a, T> {
     }
 
     fn load(&mut self, index: usize) -> T {
-        self.counts = self.counts.loaded();
+        self.counts = self.counts.loaded(1);
         let element = self.cells[index];
         element.in_range();
         element
+    }
+
+    #[inline(always)]
+    fn load_word(&mut self, first: usize) -> u64 {
+        self.counts = self.counts.loaded(64 / T::BITS as usize);
+        self.word_at(first)
     }
 }
 
 impl<'a, T: BitStore> Cells for Exclusive<'a, T> {
     fn store(&mut self, index: usize, element: T) {
-        self.counts = self.counts.stored();
+        self.counts = self.counts.stored(1);
         self.cells[index] = element;
+    }
+
+    #[inline(always)]
+    fn store_word(&mut self, first: usize, word: u64) {
+        let count = 64 / T::BITS as usize;
+        self.counts = self.counts.stored(count);
+        T::store_word(&mut self.cells[first..first + count], word);
     }
 }

@@ -1,5 +1,6 @@
 //! Counted access to a memory that is only read.
-ghost use Rattle.std.specs.Prelude.{◌≡◌, map};
+ghost use Rattle.std.specs.Prelude.{◌≡◌, ◌+◌, ◌/◌, ◌^◌, ◌<◌, ◌≤◌, length, map, take, drop};
+ghost use Rattle.std.specs.Simd.Lanes.{digits_l};
 ghost use Rattle.bitvec_cells.specs.Accessors.{shared_numbers, shared_borrow, shared_loads, shared_stores};
 
 use crate::CellsRead;
@@ -45,9 +46,26 @@ impl<'a, T: BitStore> CellsRead for Shared<'a, T> {
     }
 
     fn load(&mut self, index: usize) -> T {
-        self.counts = self.counts.loaded();
+        self.counts = self.counts.loaded(1);
         let element = self.cells[index];
         element.in_range();
         element
     }
+
+    #[inline(always)]
+    fn load_word(&mut self, first: usize) -> u64 {
+        self.counts = self.counts.loaded(64 / T::BITS as usize);
+        word_from(self.cells, first)
+    }
+}
+
+/// The number of a slice's elements from an index on, as [`CellsRead::load_word`] gives it. Condition: the slice has
+/// as many there.
+#[inline(always)]
+pub(crate) fn word_from<T: BitStore>(elements: &[T], first: usize) -> u64
+    requires { first + 64 / T.BITS ≤ length elements.now }
+    ensures digits { take (64 / T.BITS) (drop first (map T.value elements.now)) ≡ digits_l (2 ^ T.BITS) (64 / T.BITS) result }
+    ensures wide { 64 < T.BITS → result ≡ 0 }
+{
+    T::load_word(&elements[first..])
 }

@@ -8,7 +8,6 @@ ghost use Rattle.bitvec_move.specs.base.Spans.{HasSpan};
 ghost use Rattle.bitvec_move.specs.cells.Access.{CostsAtMost, OnlyReadsAtMost};
 ghost use Rattle.bitvec_move.specs.walk.Cost.{edit_loads, read_loads, touched_count, write_stores};
 ghost use Rattle.bitvec_move.specs.words.Operator.{operator};
-ghost use Rattle.bitvec_move.specs.Acts.{HasMet};
 ghost use Rattle.bitvec_move.specs.store.WidthLaws.{width_some};
 ghost use Rattle.bitvec_combine.specs.CombineLaws.{combines-empty, combines-join};
 ghost use Rattle.bitvec_combine.specs.Sides.{Combines, CombinesBits};
@@ -17,7 +16,7 @@ use bitvec_move::base::{BitOrder, Part, Window};
 use bitvec_move::cells::{Cells, CellsRead};
 use bitvec_move::store::BitStore;
 use bitvec_move::words::{BitOp, WordOrder, fill, merged};
-use bitvec_move::{Act, act_equal, act_shifted};
+use bitvec_move::{Act, Equal, act, act_phased};
 
 /// The act that replaces each bit by what an operator makes of it and the other one.
 #[derive(Clone, Copy)]
@@ -29,11 +28,6 @@ impl<C: Cells> Act<C> for Apply {
     ghost Done = { λ at old new window list s t. CombinesBits C.CellsRead C.Elem.BITS at old new window list s.op t.op };
 
     ghost stopped = { λ s. false };
-
-    #[inline(always)]
-    fn span(_bits: usize) -> usize {
-        0
-    }
 
     #[inline(always)]
     fn stops(&self) -> bool {
@@ -90,7 +84,8 @@ pub fn combine<O: WordOrder, C: Cells, D: CellsRead<Elem = C::Elem>>(
     }
     let passed = reached(C::Elem::BITS as usize, to, met);
     let first = to.until(to.len - passed);
-    combine_met::<O, C, D>(left, first, right, from.until(from.len - met), op);
+    let other = from.until(from.len - met);
+    act::<O, C, D, Apply>(left, first, right, other, &mut Apply { op });
     combine_zeros::<O, C>(left, to.after(passed), op);
 }
 
@@ -116,29 +111,6 @@ fn reached(bits: usize, window: Window, met: usize) -> usize
     met + (window.len - met).min(bits - end)
 }
 
-/// Combines a window with one that isn't empty, and ends in the last element that the window touches.
-#[inline(always)]
-fn combine_met<O: WordOrder, C: Cells, D: CellsRead<Elem = C::Elem>>(
-    left: &mut C,
-    to: Window,
-    right: &mut D,
-    from: Window,
-    op: BitOp,
-)
-    requires { HasMet C.Elem.BITS (C.numbers left.old) (D.numbers right.old) to from }
-    ensures writes { Combines C.Elem.BITS O.at op (C.numbers left.old) (C.numbers left.new) (D.numbers right.old) to from }
-    ensures cost { let each = touched_count C.Elem.BITS to.start to.len in CostsAtMost C.CellsRead left.old left.new each each }
-    ensures right { OnlyReadsAtMost D.CellsRead right.old right.new (touched_count C.Elem.BITS from.start from.len) }
-{
-    let bits = C::Elem::BITS as usize;
-    let mut act = Apply { op };
-    if to.start % bits == from.start % bits {
-        act_equal::<O, C, D, Apply>(left, to, right, from, &mut act);
-    } else {
-        act_shifted::<O, C, D, Apply>(left, to, right, from, &mut act);
-    }
-}
-
 /// Replaces each bit of a window by what the operator makes of it and the one at its index in a
 /// window that is as long and begins at the same index of an element, under any order. Condition: as
 /// of [`crate::combine`], and the windows aren't empty. It loads and stores each element that the
@@ -157,7 +129,7 @@ pub fn combine_equal<O: BitOrder, C: Cells, D: CellsRead<Elem = C::Elem>>(
     ensures cost { let each = touched_count C.Elem.BITS to.start to.len in CostsAtMost C.CellsRead left.old left.new each each }
     ensures right { OnlyReadsAtMost D.CellsRead right.old right.new (touched_count C.Elem.BITS from.start from.len) }
 {
-    act_equal::<O, C, D, Apply>(left, to, right, from, &mut Apply { op });
+    act_phased::<O, C, D, Apply, Equal>(left, to, right, from, &mut Apply { op });
 }
 
 /// Replaces the bits of a window by what the operator makes of them and zeros. Condition: the memory

@@ -13,7 +13,7 @@ use bitvec_move::base::{BitOrder, Part, Window};
 use bitvec_move::cells::CellsRead;
 use bitvec_move::store::BitStore;
 use bitvec_move::words::{WORD_BITS, WordOrder};
-use bitvec_move::{Act, act_equal, act_shifted};
+use bitvec_move::{Act, Equal, Phases, Shifted, act_phased};
 
 /// How many bits are compared before each test. A test after each single element would keep the loop
 /// from vector instructions; LLVM doesn't unroll longer loops over the widest elements, so they have none.
@@ -88,58 +88,28 @@ fn is_zero<T: BitStore>(element: T) -> bool
 #[tactic(auto, using(crate::specs::DifferLaws::compared))]
 pub fn equal<O: WordOrder, C: CellsRead, D: CellsRead<Elem = C::Elem>>(
     left: &mut C,
-    left_window: Window,
+    window: Window,
     right: &mut D,
-    right_window: Window,
+    other: Window,
 ) -> bool
-    requires window { HasWindow C.Elem.BITS (C.numbers left.old) left_window }
-    requires right_window { HasWindow C.Elem.BITS (D.numbers right.old) right_window }
-    ensures value { result ≡ same_bits (list_in C.Elem.BITS O.at (C.numbers left.old) left_window)
-        (list_in C.Elem.BITS O.at (D.numbers right.old) right_window) }
-    ensures reads { OnlyReadsAtMost C.CellsRead left.old left.new (equal_loads C.Elem.BITS true left_window.len right_window.len) }
-    ensures right { OnlyReadsAtMost D.CellsRead right.old right.new (equal_loads C.Elem.BITS true left_window.len right_window.len) }
+    requires window { HasWindow C.Elem.BITS (C.numbers left.old) window }
+    requires right_window { HasWindow C.Elem.BITS (D.numbers right.old) other }
+    ensures value { result ≡ same_bits (list_in C.Elem.BITS O.at (C.numbers left.old) window)
+        (list_in C.Elem.BITS O.at (D.numbers right.old) other) }
+    ensures reads { OnlyReadsAtMost C.CellsRead left.old left.new (equal_loads C.Elem.BITS true window.len other.len) }
+    ensures right { OnlyReadsAtMost D.CellsRead right.old right.new (equal_loads C.Elem.BITS true window.len other.len) }
 {
-    if left_window.len != right_window.len {
+    if window.len != other.len {
         return false;
     }
-    if left_window.len == 0 {
+    if window.len == 0 {
         return true;
     }
     let bits = C::Elem::BITS as usize;
-    if left_window.start % bits == right_window.start % bits {
-        return equal_unshifted::<O, C, D>(left, left_window, right, right_window);
+    if window.start % bits == other.start % bits {
+        return equal_unshifted::<O, C, D>(left, window, right, other);
     }
-    equal_shifted::<O, C, D>(left, left_window, right, right_window)
-}
-
-/// Whether a window has the bits of one whose first bit has another index in its element.
-#[tactic(auto, using(crate::specs::DifferLaws::found_same))]
-fn equal_shifted<O: WordOrder, C: CellsRead, D: CellsRead<Elem = C::Elem>>(
-    left: &mut C,
-    left_window: Window,
-    right: &mut D,
-    right_window: Window,
-) -> bool
-    requires span { HasSpan C.Elem.BITS (C.numbers left.old) (D.numbers right.old) left_window right_window }
-    requires some { 0 < left_window.len }
-    requires phases { left_window.start % C.Elem.BITS ≢ right_window.start % C.Elem.BITS }
-    ensures value { result ≡ same_bits (list_in C.Elem.BITS O.at (C.numbers left.old) left_window)
-        (list_in C.Elem.BITS O.at (D.numbers right.old) right_window) }
-    ensures reads { OnlyReadsAtMost C.CellsRead left.old left.new (touched_count C.Elem.BITS left_window.start left_window.len) }
-    ensures right { OnlyReadsAtMost D.CellsRead right.old right.new (touched_count C.Elem.BITS right_window.start right_window.len) }
-{
-    C::Elem::fits_in_memory();
-    let mut act = Differ::<C::Elem, BITS_PER_TEST> {
-        found: C::Elem::ZERO,
-    };
-    act_shifted::<O, C, D, Differ<C::Elem, BITS_PER_TEST>>(
-        left,
-        left_window,
-        right,
-        right_window,
-        &mut act,
-    );
-    is_zero::<C::Elem>(act.found)
+    equal_in_phases::<O, C, D, Shifted, BITS_PER_TEST>(left, window, right, other)
 }
 
 /// Whether a window has the bits of one whose first bit has the same index in its element, under any
@@ -148,50 +118,46 @@ fn equal_shifted<O: WordOrder, C: CellsRead, D: CellsRead<Elem = C::Elem>>(
 #[inline(always)]
 pub fn equal_unshifted<O: BitOrder, C: CellsRead, D: CellsRead<Elem = C::Elem>>(
     left: &mut C,
-    left_window: Window,
+    window: Window,
     right: &mut D,
-    right_window: Window,
+    other: Window,
 ) -> bool
-    requires span { HasSpan C.Elem.BITS (C.numbers left.old) (D.numbers right.old) left_window right_window }
-    requires some { 0 < left_window.len }
-    requires phases { left_window.start % C.Elem.BITS ≡ right_window.start % C.Elem.BITS }
-    ensures value { result ≡ same_bits (list_in C.Elem.BITS O.at (C.numbers left.old) left_window)
-        (list_in C.Elem.BITS O.at (D.numbers right.old) right_window) }
-    ensures reads { OnlyReadsAtMost C.CellsRead left.old left.new (touched_count C.Elem.BITS left_window.start left_window.len) }
-    ensures right { OnlyReadsAtMost D.CellsRead right.old right.new (touched_count C.Elem.BITS right_window.start right_window.len) }
+    requires span { HasSpan C.Elem.BITS (C.numbers left.old) (D.numbers right.old) window other }
+    requires some { 0 < window.len }
+    requires phases { window.start % C.Elem.BITS ≡ other.start % C.Elem.BITS }
+    ensures value { result ≡ same_bits (list_in C.Elem.BITS O.at (C.numbers left.old) window)
+        (list_in C.Elem.BITS O.at (D.numbers right.old) other) }
+    ensures reads { OnlyReadsAtMost C.CellsRead left.old left.new (touched_count C.Elem.BITS window.start window.len) }
+    ensures right { OnlyReadsAtMost D.CellsRead right.old right.new (touched_count C.Elem.BITS other.start other.len) }
 {
-    if left_window.len < BITS_PER_TEST {
-        return equal_in_spans::<O, C, D, BITS_PER_SHORT_TEST>(
-            left,
-            left_window,
-            right,
-            right_window,
-        );
+    if window.len < BITS_PER_TEST {
+        return equal_in_phases::<O, C, D, Equal, BITS_PER_SHORT_TEST>(left, window, right, other);
     }
-    equal_in_spans::<O, C, D, BITS_PER_TEST>(left, left_window, right, right_window)
+    equal_in_phases::<O, C, D, Equal, BITS_PER_TEST>(left, window, right, other)
 }
 
-/// [`equal_unshifted`] with a test after each so many bits.
+/// Whether two windows have the same bits, with a test after each so many bits.
 #[tactic(auto, using(crate::specs::DifferLaws::found_same))]
 #[inline(always)]
-fn equal_in_spans<O: BitOrder, C: CellsRead, D: CellsRead<Elem = C::Elem>, const TESTED: usize>(
-    left: &mut C,
-    left_window: Window,
-    right: &mut D,
-    right_window: Window,
-) -> bool
-    requires span { HasSpan C.Elem.BITS (C.numbers left.old) (D.numbers right.old) left_window right_window }
-    requires some { 0 < left_window.len }
-    requires phases { left_window.start % C.Elem.BITS ≡ right_window.start % C.Elem.BITS }
-    ensures value { result ≡ same_bits (list_in C.Elem.BITS O.at (C.numbers left.old) left_window)
-        (list_in C.Elem.BITS O.at (D.numbers right.old) right_window) }
-    ensures reads { OnlyReadsAtMost C.CellsRead left.old left.new (touched_count C.Elem.BITS left_window.start left_window.len) }
-    ensures right { OnlyReadsAtMost D.CellsRead right.old right.new (touched_count C.Elem.BITS right_window.start right_window.len) }
+fn equal_in_phases<
+    O: BitOrder,
+    C: CellsRead,
+    D: CellsRead<Elem = C::Elem>,
+    P: Phases<O>,
+    const TESTED: usize,
+>(left: &mut C, window: Window, right: &mut D, other: Window) -> bool
+    requires span { HasSpan C.Elem.BITS (C.numbers left.old) (D.numbers right.old) window other }
+    requires some { 0 < window.len }
+    requires phases { (window.start % C.Elem.BITS == other.start % C.Elem.BITS) ≡ P.equal }
+    ensures value { result ≡ same_bits (list_in C.Elem.BITS O.at (C.numbers left.old) window)
+        (list_in C.Elem.BITS O.at (D.numbers right.old) other) }
+    ensures reads { OnlyReadsAtMost C.CellsRead left.old left.new (touched_count C.Elem.BITS window.start window.len) }
+    ensures right { OnlyReadsAtMost D.CellsRead right.old right.new (touched_count C.Elem.BITS other.start other.len) }
 {
     C::Elem::fits_in_memory();
     let mut act = Differ::<C::Elem, TESTED> {
         found: C::Elem::ZERO,
     };
-    act_equal::<O, C, D, Differ<C::Elem, TESTED>>(left, left_window, right, right_window, &mut act);
+    act_phased::<O, C, D, Differ<C::Elem, TESTED>, P>(left, window, right, other, &mut act);
     is_zero::<C::Elem>(act.found)
 }

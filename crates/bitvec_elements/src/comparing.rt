@@ -7,7 +7,7 @@ ghost use Rattle.bitvec_engine.specs.base.Memory.{HasWindow, list_in};
 ghost use Rattle.bitvec_engine.specs.base.Spans.{HasSpan};
 ghost use Rattle.bitvec_elements.specs.Difference.{DiffersFrom};
 
-use crate::converting::{common_direction, eq_converted};
+use crate::converting::eq_converted;
 use crate::difference::{common_bits, common_words};
 use crate::window_words::few_word;
 use bitvec_engine::base::{BitOrder, Lsb0, Msb0, Window};
@@ -41,14 +41,14 @@ pub fn eq_in<T: BitStore, O: BitOrder, U: BitStore, P: BitOrder>(
         return false;
     }
     if left_window.len > WORD_BITS && T::BITS == U::BITS {
-        match common_direction::<T, O, P>() {
-            Direction::Up => {
+        match (direction_of::<O, T>(), direction_of::<P, T>()) {
+            (Direction::Up, Direction::Up) => {
                 return eq_converted::<Lsb0, T, U>(left, left_window, right, right_window);
             }
-            Direction::Down => {
+            (Direction::Down, Direction::Down) => {
                 return eq_converted::<Msb0, T, U>(left, left_window, right, right_window);
             }
-            Direction::Other => {}
+            _ => {}
         }
     }
     common_bits::<T, O, U, P>(left, left_window, right, right_window) == left_window.len

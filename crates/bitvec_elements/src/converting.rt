@@ -1,13 +1,12 @@
 //! The bits of two windows of elements of one width, compared as elements of one type.
 ghost use Rattle.std.specs.Prelude.{◌≡◌, map};
-ghost use Rattle.bitvec_engine.specs.Direction.{Runs};
 ghost use Rattle.bitvec_engine.specs.base.Lists.{same_bits};
 ghost use Rattle.bitvec_engine.specs.base.Memory.{HasWindow, list_in};
 
-use bitvec_engine::base::{BitOrder, Window};
+use bitvec_engine::SliceOrder;
+use bitvec_engine::base::Window;
 use bitvec_engine::cells::{CellsRead, Shared};
 use bitvec_engine::store::BitStore;
-use bitvec_engine::{Direction, SliceOrder, direction_of};
 use std::marker::PhantomData;
 
 /// An accessor that reads the elements of a slice as those of another type with as many bits. Where
@@ -56,20 +55,6 @@ impl<'a, T: BitStore, U: BitStore> CellsRead for Converted<'a, T, U> {
     fn load(&mut self, index: usize) -> T {
         let element = self.cells.load(index);
         T::from_u128(element.to_u128())
-    }
-}
-
-/// Which way both orders run through elements of a type; `Other` where they don't run the same way.
-#[inline(always)]
-#[tactic(auto, unfolding(bitvec_engine::specs::Direction::Runs))]
-pub(crate) fn common_direction<T: BitStore, O: BitOrder, P: BitOrder>() -> Direction
-    ensures left { Runs result T.BITS O.at }
-    ensures right { Runs result T.BITS P.at }
-{
-    match (direction_of::<O, T>(), direction_of::<P, T>()) {
-        (Direction::Up, Direction::Up) => Direction::Up,
-        (Direction::Down, Direction::Down) => Direction::Down,
-        _ => Direction::Other,
     }
 }
 

@@ -12,7 +12,7 @@ use bitvec_engine::base::{BitOrder, Lsb0, Msb0, Window};
 use bitvec_engine::cells::{Exclusive, Shared};
 use bitvec_engine::store::BitStore;
 use bitvec_engine::words::{WORD_BITS, WordOrder};
-use bitvec_engine::{Direction, SliceOrder, bits_copy, direction_of, store_bits, store_few};
+use bitvec_engine::{Direction, SliceOrder, bits_copy, direction_of, store_few};
 
 /// Copies the bits of the right window, which may have elements of any type and order, to the left
 /// one. Condition: each memory has at most `MAX_BITS` bits, each window lies in its memory, and
@@ -58,7 +58,7 @@ pub(crate) fn copy_words<W: WordOrder, T: BitStore, U: BitStore, P: BitOrder>(
     while from < left_window.len {
         let to = from + WORD_BITS.min(left_window.len - from);
         let word = window_word::<W, P, U>(right, right_window.range(from, to), direction);
-        store_bits::<W, Exclusive<T>>(&mut cells, left_window.range(from, to), word);
+        store_few::<W, Exclusive<T>>(&mut cells, left_window.range(from, to), word);
         from = to;
     }
 }
@@ -130,18 +130,13 @@ fn copy_parted_in<T: BitStore, O: SliceOrder>(left: &mut [T], to: Window, right:
 
 /// [`copy_from_block_in`] of windows of at most 64 bits, as a word.
 #[inline(always)]
-fn copy_few<W: WordOrder, T: BitStore>(
-    left: &mut [T],
-    left_window: Window,
-    right: &[T],
-    right_window: Window,
-)
-    requires span { HasSpan T.BITS (map T.value left.old) (map T.value right.now) left_window right_window }
-    requires bound { left_window.len ≤ 64 }
-    ensures writes { Writes T.BITS W.at (map T.value left.old) (map T.value left.new) left_window
-        (list_in T.BITS W.at (map T.value right.now) right_window) }
+fn copy_few<W: WordOrder, T: BitStore>(left: &mut [T], to: Window, right: &[T], from: Window)
+    requires span { HasSpan T.BITS (map T.value left.old) (map T.value right.now) to from }
+    requires bound { to.len ≤ 64 }
+    ensures writes { Writes T.BITS W.at (map T.value left.old) (map T.value left.new) to
+        (list_in T.BITS W.at (map T.value right.now) from) }
 {
-    let word = few_word::<W, T>(right, right_window);
+    let word = few_word::<W, T>(right, from);
     let mut cells = Exclusive::new(left);
-    store_few::<W, Exclusive<T>>(&mut cells, left_window, word);
+    store_few::<W, Exclusive<T>>(&mut cells, to, word);
 }

@@ -32,6 +32,5 @@ pub fn count_blocks_in<T: BitStore, O: BitOrder>(elements: &[T], window: Window)
     requires window { HasWindow T.BITS (map T.value elements.now) window }
     ensures { result ≡ count_by (λ bit. bit) (list_in T.BITS O.at (map T.value elements.now) window) }
 {
-    let mut accessor = Shared::new(elements);
-    count::<O, Shared<T>>(&mut accessor, window)
+    count::<O, Shared<T>>(&mut Shared::new(elements), window)
 }

@@ -13,8 +13,7 @@ pub fn fill_in<T: BitStore, O: BitOrder>(elements: &mut [T], window: Window, bit
     requires window { HasWindow T.BITS (map T.value elements.old) window }
     ensures writes { Writes T.BITS O.at (map T.value elements.old) (map T.value elements.new) window (replicate window.len bit) }
 {
-    let mut accessor = Exclusive::new(elements);
-    fill::<O, Exclusive<T>>(&mut accessor, window, bit);
+    fill::<O, Exclusive<T>>(&mut Exclusive::new(elements), window, bit);
 }
 
 /// Flips each bit of a window. Condition: as for [`fill_in`].
@@ -22,6 +21,5 @@ pub fn invert_in<T: BitStore, O: BitOrder>(elements: &mut [T], window: Window)
     requires window { HasWindow T.BITS (map T.value elements.old) window }
     ensures writes { Edits T.BITS O.at (map T.value elements.old) (map T.value elements.new) window (map not) }
 {
-    let mut accessor = Exclusive::new(elements);
-    invert::<O, Exclusive<T>>(&mut accessor, window);
+    invert::<O, Exclusive<T>>(&mut Exclusive::new(elements), window);
 }

@@ -20,10 +20,7 @@ pub fn starts_with_in<T: BitStore, O: BitOrder, U: BitStore, P: BitOrder>(
     ensures { result ≡ is_prefix (list_in U.BITS P.at (map U.value right.now) right_window)
         (list_in T.BITS O.at (map T.value left.now) left_window) }
 {
-    if right_window.len > left_window.len {
-        return false;
-    }
-    let head = left_window.range(0, right_window.len);
+    let head = left_window.range(0, right_window.len.min(left_window.len));
     eq_in::<T, O, U, P>(left, head, right, right_window)
 }
 
@@ -40,9 +37,6 @@ pub fn ends_with_in<T: BitStore, O: BitOrder, U: BitStore, P: BitOrder>(
     ensures { result ≡ is_suffix (list_in U.BITS P.at (map U.value right.now) right_window)
         (list_in T.BITS O.at (map T.value left.now) left_window) }
 {
-    if right_window.len > left_window.len {
-        return false;
-    }
-    let tail = left_window.range(left_window.len - right_window.len, left_window.len);
+    let tail = left_window.after(left_window.len.saturating_sub(right_window.len));
     eq_in::<T, O, U, P>(left, tail, right, right_window)
 }

@@ -6,8 +6,9 @@ ghost use Rattle.bitvec_engine.specs.base.Memory.{HasWindow, Writes, list_in};
 use crate::copying::copy_words;
 use crate::window_words::{reordered, word_behind};
 use bitvec_engine::base::{BitOrder, Lsb0, Msb0, Window};
+use bitvec_engine::cells::Exclusive;
 use bitvec_engine::store::BitStore;
-use bitvec_engine::words::{WORD_BITS, WordOrder, store_slice_word};
+use bitvec_engine::words::{WORD_BITS, WordOrder, store_elements};
 use bitvec_engine::{Direction, direction_of};
 
 /// Copies a window's bits to a block, and gives the window of the block that has them. Conditions: the window
@@ -98,9 +99,10 @@ fn recut_words<W: WordOrder, V: WordOrder, T: BitStore, U: BitStore>(
 {
     let (bits, others) = (T::BITS as usize, U::BITS as usize);
     let (first, source, skip) = (to.start / bits, from.start / others, from.start % others);
+    let mut cells = Exclusive::new(left);
     for step in 0..to.len / WORD_BITS {
         let word = word_behind::<V, U>(right, source + step * (WORD_BITS / others), skip);
         let made = reordered::<V, W>(word);
-        store_slice_word::<W, T>(left, first + step * (WORD_BITS / bits), made);
+        store_elements::<W, Exclusive<T>>(&mut cells, first + step * (WORD_BITS / bits), made);
     }
 }

@@ -20,8 +20,7 @@ pub fn find_first_in<T: BitStore, O: SliceOrder>(
     requires window { HasWindow T.BITS (map T.value elements.now) window }
     ensures { result ≡ first_place want (list_in T.BITS O.at (map T.value elements.now) window) }
 {
-    let mut accessor = Shared::new(elements);
-    O::find_first::<Shared<T>>(&mut accessor, window, want)
+    O::find_first::<Shared<T>>(&mut Shared::new(elements), window, want)
 }
 
 /// The index of a window's last bit that is `want`, if there is one. Condition: as for [`find_first_in`].
@@ -33,8 +32,7 @@ pub fn find_last_in<T: BitStore, O: SliceOrder>(
     requires window { HasWindow T.BITS (map T.value elements.now) window }
     ensures { result ≡ last_place want (list_in T.BITS O.at (map T.value elements.now) window) }
 {
-    let mut accessor = Shared::new(elements);
-    O::scan_last::<Shared<T>>(&mut accessor, window, want)
+    O::scan_last::<Shared<T>>(&mut Shared::new(elements), window, want)
 }
 
 /// Whether a bit of a window is 1. Condition: as for [`find_first_in`].
@@ -42,8 +40,7 @@ pub fn any_in<T: BitStore, O: SliceOrder>(elements: &[T], window: Window) -> boo
     requires window { HasWindow T.BITS (map T.value elements.now) window }
     ensures { result ≡ list_any (λ bit. bit) (list_in T.BITS O.at (map T.value elements.now) window) }
 {
-    let mut accessor = Shared::new(elements);
-    any::<O, Shared<T>>(&mut accessor, window)
+    any::<O, Shared<T>>(&mut Shared::new(elements), window)
 }
 
 /// Whether every bit of a window is 1. Condition: as for [`find_first_in`].
@@ -51,6 +48,5 @@ pub fn all_in<T: BitStore, O: SliceOrder>(elements: &[T], window: Window) -> boo
     requires window { HasWindow T.BITS (map T.value elements.now) window }
     ensures { result ≡ list_all (λ bit. bit) (list_in T.BITS O.at (map T.value elements.now) window) }
 {
-    let mut accessor = Shared::new(elements);
-    all::<O, Shared<T>>(&mut accessor, window)
+    all::<O, Shared<T>>(&mut Shared::new(elements), window)
 }

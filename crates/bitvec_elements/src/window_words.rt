@@ -11,7 +11,7 @@ use bitvec_engine::base::{BitOrder, Lsb0, Msb0, Part, Window, first_part};
 use bitvec_engine::cells::{CellsRead, Shared};
 use bitvec_engine::store::BitStore;
 use bitvec_engine::words::{
-    WORD_BITS, WordOrder, joined, load_element, load_parts, load_slice_word, moved, reversed,
+    WORD_BITS, WordOrder, joined, load_element, load_elements, load_parts, moved, reversed,
 };
 use bitvec_engine::{Direction, gathered};
 
@@ -100,7 +100,8 @@ pub(crate) fn word_behind<W: WordOrder, T: BitStore>(
         ≡ list_in T.BITS W.at (map T.value elements.now) (elements_window_from T.BITS first skip (64 / T.BITS)) }
 {
     let bits = T::BITS as usize;
-    let word = load_slice_word::<W, T>(elements, first);
+    let mut cells = Shared::new(elements);
+    let word = load_elements::<W, Shared<T>>(&mut cells, first);
     if skip == 0 {
         return word;
     }

@@ -1,54 +1,21 @@
--- Words of a window: of two elements side by side, of whole elements, and of one part more.
-use Rattle.std.specs.Prelude.{◌≡◌, ℕ, ◌+◌, ◌-◌, ◌*◌, ◌/◌, ◌%◌, ◌<◌, ◌≤◌, Bool, false, List, [], length, replicate, slice_index, slice_range, take, bit_or, refl}
-use Rattle.std.proofs.Common.{arith, rules, subst, sym, ◌∙◌, ap}
+-- Words of a window, one part after the other.
+use Rattle.std.specs.Prelude.{◌≡◌, ℕ, ◌+◌, ◌-◌, ◌*◌, ◌/◌, ◌<◌, ◌≤◌, Bool, false, List, [], length, replicate, slice_index, slice_range, take, bit_or, refl}
+use Rattle.std.proofs.Common.{arith, rules, sym, ◌∙◌, ap}
 use Rattle.std.proofs.lemmas.List.{places, same_lists}
-use Rattle.std.proofs.lemmas.Nat.{div-add-mod'}
 use Rattle.bitvec_combine.specs.base.declared.window.Window.{Window}
-use Rattle.bitvec_combine.specs.base.Memory.{HasWindow, Writes, element_bits, list_in, memory_bits}
-use Rattle.bitvec_combine.specs.base.MemoryLaws.{length-element_bits}
+use Rattle.bitvec_combine.specs.base.Memory.{HasWindow, element_bits, list_in}
 use Rattle.bitvec_combine.specs.base.Parts.{first_part_of, part_window}
-use Rattle.bitvec_combine.specs.base.Window.{window_after, window_of, write_at}
+use Rattle.bitvec_combine.specs.base.Window.{window_after, write_at}
 use Rattle.bitvec_combine.specs.base.WriteLaws.{length-slice_range}
-use Rattle.bitvec_combine.specs.base.WritesLaws.{Writes-is, length-list}
-use Rattle.bitvec_combine.specs.moves.WordLaws.{length-first, padded-all, take-all, word_whole}
+use Rattle.bitvec_combine.specs.moves.WordLaws.{length-first}
 use Rattle.bitvec_combine.specs.store.Width.{IsWidth}
 use Rattle.bitvec_combine.specs.store.WidthLaws.{at_each_width}
 use Rattle.bitvec_combine.specs.walk.Walk.{Walked, passed}
 use Rattle.bitvec_combine.specs.walk.WalkLaws.{first-len, length-first as length-first_part, length-passed, list-next}
-use Rattle.bitvec_combine.specs.words.Elements.{elements_window}
 use Rattle.bitvec_combine.specs.words.ShortWindow.{padded}
 use Rattle.bitvec_combine.specs.words.FieldLaws.{list-part}
 use Rattle.bitvec_combine.specs.words.PartWalkLaws.{HasPart-first}
 use Rattle.bitvec_combine.specs.words.MovedLaws.{element-joined, take-range}
-
--- ---- whole elements of 64 bits
-
-module _ (b : ℕ) (at : ℕ → ℕ → ℕ) (window : Window) (width : IsWidth b) (narrow : b ≤ 64) (size : window.len ≡ 64) (edge : window.start % b ≡ 0) where
-  abbrev elements : Window
-  elements = elements_window b (window.start / b) (64 / b)
-
-  start : elements.start ≡ window.start
-  start = let place = div-add-mod' window.start b in omega arith
-
-  long : elements.len ≡ window.len
-  long = word_whole b width narrow ∙ sym size
-
-  pub loaded-whole : (xs : List ℕ) (w : ℕ) → HasWindow b xs window → element_bits 64 at w ≡ list_in b at xs elements → element_bits 64 at w ≡ padded 64 (list_in b at xs window)
-  unfolding window_of
-  loaded-whole xs w has bits =
-      let all = length-list b at xs window has in
-      bits
-      ∙ ap (λ (s : ℕ). slice_range (memory_bits b at xs) s (s + elements.len)) start
-      ∙ ap (λ (n : ℕ). slice_range (memory_bits b at xs) window.start (window.start + n)) long
-      ∙ sym (padded-all 64 _ (all ∙ size))
-
-  pub stored-whole : (old new : List ℕ) (w : ℕ) → Writes b at old new elements (element_bits 64 at w) → Writes b at old new window (take window.len (element_bits 64 at w))
-  stored-whole old new w writes =
-      let wide = length-element_bits 64 at w in
-      Writes-is b at old new window _ _
-      (subst (λ (n : ℕ). Writes b at old new (record { start = window.start; len = n }) (element_bits 64 at w)) long
-      (subst (λ (s : ℕ). Writes b at old new (record { start = s; len = elements.len }) (element_bits 64 at w)) start writes))
-      (sym (take-all (element_bits 64 at w) window.len (omega arith)))
 
 -- ---- one part after the other
 

@@ -1,5 +1,7 @@
 //! Bit operations on whole windows of one element type, under any order: by elements as they are where
-//! the windows begin at the same index of an element, else bit by bit.
+//! the windows begin at the same index of an element, else bit by bit. `HiLo` goes so.
+#![tactic(auto, using(bitvec_combine::specs::Cited::in_steps, bitvec_combine::specs::Cited::enough, bitvec_combine::specs::Cited::width_some))]
+
 ghost use Rattle.std.specs.Prelude.{◌≡◌, false};
 ghost use Rattle.bitvec_combine.specs.base.Lists.{combined, same_bits};
 ghost use Rattle.bitvec_combine.specs.base.Memory.{HasWindow, Writes, list_in};
@@ -8,11 +10,9 @@ ghost use Rattle.bitvec_combine.specs.cells.Access.{CostsAtMost, OnlyReadsAtMost
 ghost use Rattle.bitvec_combine.specs.walk.Cost.{edit_loads, equal_loads, read_loads, write_loads, write_stores};
 ghost use Rattle.bitvec_combine.specs.words.Operator.{operator};
 
-use crate::combining::bits_op;
-use crate::comparing::bits_eq;
-use crate::copying::bits_copy;
-use crate::swapping::bits_swap;
-use bitvec_combine::base::{BitOrder, Window};
+use crate::by_bits::{bits_copy, bits_copy_within, bits_eq, bits_op, bits_reverse, bits_swap};
+use crate::slice_order::SliceOrder;
+use bitvec_combine::base::{BitOrder, HiLo, Window};
 use bitvec_combine::cells::{Cells, CellsRead};
 use bitvec_combine::moves::{copy_equal, swap_equal};
 use bitvec_combine::store::BitStore;
@@ -21,7 +21,6 @@ use bitvec_combine::{combine_equal, combine_zeros, equal_unshifted};
 
 /// Copies the bits of a window of another memory of the same elements: `block_copy` of an order
 /// without `WORDS`. Conditions and cost are those of `block_copy`.
-#[tactic(auto, using(bitvec_combine::specs::Cited::in_steps, bitvec_combine::specs::Cited::enough, bitvec_combine::specs::Cited::width_some))]
 pub fn elements_copy<O: BitOrder, C: Cells, D: CellsRead<Elem = C::Elem>>(
     left: &mut C,
     to: Window,
@@ -44,7 +43,6 @@ pub fn elements_copy<O: BitOrder, C: Cells, D: CellsRead<Elem = C::Elem>>(
 
 /// Exchanges the bits of two windows of two memories of the same elements: `block_swap` of an order
 /// without `WORDS`. Conditions and cost are those of `block_swap`.
-#[tactic(auto, using(bitvec_combine::specs::Cited::in_steps, bitvec_combine::specs::Cited::enough, bitvec_combine::specs::Cited::width_some))]
 pub fn elements_swap<O: BitOrder, C: Cells, D: Cells + CellsRead<Elem = C::Elem>>(
     left: &mut C,
     left_window: Window,
@@ -70,7 +68,6 @@ pub fn elements_swap<O: BitOrder, C: Cells, D: Cells + CellsRead<Elem = C::Elem>
 /// Replaces each bit of a window by what the operator makes of it and the one at its index in a
 /// window of another memory of the same elements, which counts as 0 past that window's end:
 /// `block_op` of an order without `WORDS`. Conditions and cost are those of `block_op`.
-#[tactic(auto, using(bitvec_combine::specs::Cited::in_steps, bitvec_combine::specs::Cited::enough, bitvec_combine::specs::Cited::width_some))]
 pub fn elements_op<O: BitOrder, C: Cells, D: CellsRead<Elem = C::Elem>>(
     left: &mut C,
     to: Window,
@@ -98,7 +95,6 @@ pub fn elements_op<O: BitOrder, C: Cells, D: CellsRead<Elem = C::Elem>>(
 
 /// Whether two windows of the same elements have the same bits: `block_eq` of an order without
 /// `WORDS`. Conditions and cost are those of `block_eq`.
-#[tactic(auto, using(bitvec_combine::specs::Cited::in_steps, bitvec_combine::specs::Cited::enough, bitvec_combine::specs::Cited::width_some))]
 #[inline(always)]
 pub fn elements_eq<O: BitOrder, C: CellsRead, D: CellsRead<Elem = C::Elem>>(
     left: &mut C,
@@ -120,5 +116,62 @@ pub fn elements_eq<O: BitOrder, C: CellsRead, D: CellsRead<Elem = C::Elem>>(
         equal_unshifted::<O, C, D>(left, left_window, right, right_window)
     } else {
         bits_eq::<O, O, C, D>(left, left_window, right, right_window)
+    }
+}
+
+impl SliceOrder for HiLo {
+    ghost WORDS = { false };
+
+    const WORDS: bool = false;
+
+    fn block_eq<C: CellsRead, D: CellsRead<Elem = C::Elem>>(
+        left: &mut C,
+        left_window: Window,
+        right: &mut D,
+        right_window: Window,
+    ) -> bool {
+        elements_eq::<Self, C, D>(left, left_window, right, right_window)
+    }
+
+    fn block_copy<C: Cells, D: CellsRead<Elem = C::Elem>>(
+        left: &mut C,
+        to: Window,
+        right: &mut D,
+        from: Window,
+    ) {
+        elements_copy::<Self, C, D>(left, to, right, from);
+    }
+
+    fn block_swap<C: Cells, D: Cells + CellsRead<Elem = C::Elem>>(
+        left: &mut C,
+        left_window: Window,
+        right: &mut D,
+        right_window: Window,
+    ) {
+        elements_swap::<Self, C, D>(left, left_window, right, right_window);
+    }
+
+    fn block_copy_within<C: Cells>(
+        cells: &mut C,
+        window: Window,
+        from: usize,
+        to: usize,
+        dest: usize,
+    ) {
+        bits_copy_within::<Self, C>(cells, window, from, to, dest);
+    }
+
+    fn block_op<C: Cells, D: CellsRead<Elem = C::Elem>>(
+        left: &mut C,
+        to: Window,
+        right: &mut D,
+        from: Window,
+        op: BitOp,
+    ) {
+        elements_op::<Self, C, D>(left, to, right, from, op);
+    }
+
+    fn block_reverse<C: Cells>(cells: &mut C, window: Window) {
+        bits_reverse::<Self, C>(cells, window);
     }
 }

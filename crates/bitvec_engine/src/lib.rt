@@ -1,23 +1,14 @@
 //! Every bit operation on a window of a memory, through counted access to its elements.
 #![tactic(auto)]
 
+mod by_bits;
 mod by_elements;
-mod combining;
-mod comparing;
-mod copying;
-mod copying_within;
-mod hi_lo;
-mod lsb0;
-mod msb0;
-mod needles;
+mod by_words;
 mod order_direction;
-mod reversing;
-mod rotating;
-mod scanning;
+mod searching;
 mod shifting;
 mod slice_order;
-mod swapping;
-mod whole_words;
+mod storing;
 
 /// The word kernels over two windows, or two parts of one.
 pub mod kernels {
@@ -31,17 +22,12 @@ pub use bitvec_combine::words::{
     fill, gathered, invert,
 };
 pub use bitvec_combine::{base, cells, store, walk, words};
+pub use by_bits::{
+    bits_copy, bits_copy_within, bits_eq, bits_op, bits_reverse, bits_swap, compare,
+};
 pub use by_elements::{elements_copy, elements_eq, elements_op, elements_swap};
-pub use combining::bits_op;
-pub use comparing::{bits_eq, compare};
-pub use copying::bits_copy;
-pub use copying_within::bits_copy_within;
-pub use needles::{contains, ends_with, starts_with};
 pub use order_direction::{Direction, direction_of};
-pub use reversing::{bits_reverse, reverse};
-pub use rotating::{rotate_left, rotate_right};
-pub use scanning::{all, any};
-pub use shifting::{shift_end, shift_start};
+pub use searching::{all, any, contains, ends_with, starts_with};
+pub use shifting::{reverse, rotate_left, rotate_right, shift_end, shift_start};
 pub use slice_order::{ByWords, SliceOrder};
-pub use swapping::bits_swap;
-pub use whole_words::{load_bits, store_bits, store_few};
+pub use storing::store_few;

@@ -2,4 +2,5 @@ pub mod MetActs
 pub mod MirroredLemmas
 pub mod MoveLemmas
 pub mod ReversalLemmas
-pub mod ShiftedActs
+pub mod StretchActs
+pub mod WordMoveLemmas

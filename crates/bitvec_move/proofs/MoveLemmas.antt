@@ -6,7 +6,7 @@ use Rattle.bitvec_words.specs.base.declared.window.Window.{Window}
 use Rattle.bitvec_words.specs.base.Memory.{HasWindow}
 use Rattle.bitvec_words.specs.base.Parts.{first_part_of}
 use Rattle.bitvec_words.specs.base.Spans.{HasSpan}
-use Rattle.bitvec_words.specs.base.Window.{window_after, window_until}
+use Rattle.bitvec_words.specs.base.Window.{window_after}
 use Rattle.bitvec_words.specs.base.WritesLaws.{HasWindow-kept}
 use Rattle.bitvec_words.specs.store.Width.{IsWidth}
 use Rattle.bitvec_words.specs.store.WidthLaws.{width_some}
@@ -57,7 +57,7 @@ Swaps-same b at xs new_xs ys new_ys part source left right start len source_star
   right_writes = Copies-same b at ys new_ys xs source part right left source_start source_len start len swaps.right_writes;
 }
 
--- ---- what is behind t bits, and what is before as many at the end, where the memories may have changed
+-- ---- what is behind t bits, where the memories may have changed
 
 pub after-span : (b : ℕ) (xs now ys others : List ℕ) (left right : Window) (t : ℕ) → HasSpan b xs ys left right → length now ≡ length xs → length others ≡ length ys
     → t ≤ left.len → HasSpan b now others (window_after t left) (window_after t right)
@@ -66,16 +66,6 @@ after-span b xs now ys others left right t has kept right_kept fits =
     record {
       window = HasWindow-part b now left (window_after t left) (HasWindow-kept b xs now left has.window kept) (omega arith) (omega arith);
       beside = HasWindow-part b others right (window_after t right) (HasWindow-kept b ys others right has.beside right_kept) (omega arith) (omega arith);
-      lengths = omega arith;
-    }
-
-pub until-span : (b : ℕ) (xs now ys others : List ℕ) (left right : Window) (t : ℕ) → HasSpan b xs ys left right → length now ≡ length xs → length others ≡ length ys
-    → t ≤ left.len → HasSpan b now others (window_until t left) (window_until t right)
-until-span b xs now ys others left right t has kept right_kept fits =
-    let lengths = has.lengths in
-    record {
-      window = HasWindow-part b now left (window_until t left) (HasWindow-kept b xs now left has.window kept) (omega arith) (omega arith);
-      beside = HasWindow-part b others right (window_until t right) (HasWindow-kept b ys others right has.beside right_kept) (omega arith) (omega arith);
       lengths = omega arith;
     }
 

@@ -1,21 +1,18 @@
 -- How windows and the bits beside them are cut in two.
-use Rattle.std.specs.Prelude.{◌≡◌, ◌≢◌, ℕ, ◌+◌, ◌-◌, ◌*◌, ◌/◌, ◌%◌, ◌<◌, ◌≤◌, min, Bool, false, List, ◌++◌, length, replicate, slice_range, refl}
+use Rattle.std.specs.Prelude.{◌≡◌, ◌≢◌, ℕ, ◌+◌, ◌-◌, ◌*◌, ◌/◌, ◌%◌, ◌<◌, ◌≤◌, min, Bool, false, List, ◌++◌, length, replicate, slice_range}
 use Rattle.std.proofs.Common.{arith, rules, sym, ◌∙◌, ap, ⊎_elim, append_assoc, length-append}
 use Rattle.std.proofs.lemmas.Bool.{cases_lt}
 use Rattle.std.proofs.lemmas.Nat.{div-add-mod', mod-mul-add, mod_below}
 use Rattle.std.proofs.lemmas.List.{same_lists, places}
-use Rattle.std.proofs.Math.Nat.{mul-le-mul_left, mul-mod_left}
+use Rattle.std.proofs.Math.Nat.{mul-le-mul_left}
 use Rattle.bitvec_words.specs.base.declared.window.Window.{Window}
-use Rattle.bitvec_words.specs.base.Memory.{HasWindow, list_in}
-use Rattle.bitvec_words.specs.base.Spans.{HasSpan}
 use Rattle.bitvec_words.specs.base.Window.{window_after, write_at}
-use Rattle.bitvec_words.specs.base.WritesLaws.{HasWindow-kept, list-join}
-use Rattle.bitvec_words.specs.Elements.{elements_window}
+use Rattle.bitvec_words.specs.base.WritesLaws.{HasWindow-kept}
 use Rattle.bitvec_words.specs.ShortWindow.{padded}
 use Rattle.bitvec_words.specs.TouchedLaws.{head_edge}
 use Rattle.bitvec_words.specs.WholeLaws.{HasWindow-part}
 use Rattle.bitvec_words.specs.WordLaws.{padded-all}
-use Rattle.bitvec_move.specs.Acts.{HasMet, IsCut}
+use Rattle.bitvec_move.specs.Acts.{HasMet}
 
 -- no zeros where the list is as long
 pub padded-full : (n : ℕ) (list : List Bool) → length list ≡ n → padded n list ≡ list
@@ -34,35 +31,11 @@ padded-join k n m first second sum long =
     let count : m - length second ≡ k - length (first ++ second) = rw length-append (omega arith) in
     sym (append_assoc first second (replicate (m - length second) false)) ∙ ap (λ (z : ℕ). (first ++ second) ++ replicate z false) count
 
--- ---- windows of whole elements
-
--- some of them
-pub elements-part : (b : ℕ) (xs : List ℕ) (first count e n : ℕ) → HasWindow b xs (elements_window b first count) → first ≤ e → e + n ≤ first + count → HasWindow b xs (elements_window b e n)
-elements-part b xs first count e n has low high =
-    let start = mul-le-mul_left b low in
-    let end = mul-le-mul_left b high in
-    HasWindow-part b xs (elements_window b first count) (elements_window b e n) has (omega arith) (omega arith)
-
--- k behind m others of two windows, where the first memory may have changed
-pub elements-span : (b : ℕ) (xs now ys : List ℕ) (first source count m k : ℕ) → HasSpan b xs ys (elements_window b first count) (elements_window b source count) → length now ≡ length xs → m + k ≤ count
-    → HasSpan b now ys (elements_window b (first + m) k) (elements_window b (source + m) k)
-elements-span b xs now ys first source count m k has kept fits = record {
-  window = HasWindow-kept b xs now (elements_window b (first + m) k) (elements-part b xs first count (first + m) k has.window (omega arith) (omega arith)) kept;
-  beside = elements-part b ys source count (source + m) k has.beside (omega arith) (omega arith);
-  lengths = refl;
-}
+-- ---- whole elements
 
 -- one of n spans of k elements
 pub span-fits : (i n k count : ℕ) → i < n → n * k ≤ count → i * k + k ≤ count
 span-fits i n k count more fits = let order = mul-le-mul_left k more in omega arith
-
--- n behind m others, which have `len` bits
-pub elements-cut : (b first next k m n len : ℕ) → next ≡ first + m → k ≡ m + n → len ≡ n * b → IsCut b (elements_window b first k) (elements_window b first m) (record { start = next * b; len = len })
-elements-cut b first next k m n len is sum long = rw (is, sum, long) (record { start = refl; next = omega arith; len = omega arith; edge = mul-mod_left (first + m) b })
-
--- the bits of a window that is cut
-pub list-cut : (b : ℕ) (at : ℕ → ℕ → ℕ) (xs : List ℕ) (whole first second : Window) → HasWindow b xs whole → IsCut b whole first second → list_in b at xs first ++ list_in b at xs second ≡ list_in b at xs whole
-list-cut b at xs whole first second has cut = list-join b at xs first second whole has cut.start cut.next cut.len
 
 -- ---- two windows, the second of which may end before the first
 

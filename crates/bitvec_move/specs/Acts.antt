@@ -1,11 +1,14 @@
 -- What an act needs of two windows, and what one that copies leaves.
-use Rattle.std.specs.Prelude.{◌≡◌, ◌≢◌, ℕ, ◌+◌, ◌-◌, ◌%◌, ◌<◌, ◌≤◌, min, Bool, List}
+use Rattle.std.specs.Prelude.{◌≡◌, ℕ, ◌+◌, ◌-◌, ◌/◌, ◌%◌, ◌==◌, ◌<◌, ◌≤◌, min, Bool, false, if◌then◌else◌, List, slice_index}
 use Rattle.bitvec_words.specs.base.declared.window.Window.{Window}
 use Rattle.bitvec_words.specs.base.Memory.{HasWindow, Writes, list_in}
-use Rattle.bitvec_words.specs.cells.Access.{CostsAtMost}
+use Rattle.bitvec_words.specs.base.Spans.{HasSpan}
+use Rattle.bitvec_words.specs.cells.Access.{CostsAtMost, OnlyReads}
 use Rattle.bitvec_words.specs.cells.declared.cells.CellsRead.{Ghosts as Access}
 use Rattle.bitvec_words.specs.walk.Cost.{touched_count}
+use Rattle.bitvec_words.specs.Elements.{elements_window, elements_window_from}
 use Rattle.bitvec_words.specs.ShortWindow.{padded}
+use Rattle.bitvec_move.specs.declared.stretch.Stretch.{Stretch}
 
 -- two windows, the second of which ends where the first does, or before it in the last element that the first touches
 pub record HasMet (b : ℕ) (xs ys : List ℕ) (left right : Window) : Type 0 where
@@ -20,12 +23,50 @@ pub record HasMet (b : ℕ) (xs ys : List ℕ) (left right : Window) : Type 0 wh
 abbrev pub bits_beside : (b : ℕ) (at : ℕ → ℕ → ℕ) → List ℕ → Window → Window → List Bool
 bits_beside b at ys left right = padded left.len (list_in b at ys right)
 
--- so many bits of the first one end at the edge of an element, or are all of them; the second one goes on inside an element there
-pub record IsPassed (b : ℕ) (left right : Window) (passed : ℕ) : Type 0 where
-  pub bound : passed ≤ left.len
-  pub edge : passed ≢ left.len → (left.start + passed) % b ≡ 0
-  pub inside : passed ≢ left.len → 0 < (right.start + passed) % b
-  pub more : passed ≢ left.len → passed < right.len
+-- the bits have the same indices in their elements, or not; the element that is carried to them then is one of the second memory
+abbrev pub IsCarried : Bool → List ℕ → ℕ → ℕ → Type 0
+IsCarried equal ys element carry = equal ≡ false → carry ≡ slice_index ys element
+
+-- how many are carried
+abbrev pub held : Bool → ℕ
+held equal = if equal then 0 else 1
+
+-- a window of at most the bits from an index of an element on
+pub record HasBeside (b : ℕ) (ys : List ℕ) (window : Window) (index : ℕ) (equal : Bool) (carry : ℕ) : Type 0 where
+  pub inside : HasWindow b ys window
+  pub some : 0 < window.len
+  pub bound : index + window.len ≤ b
+  pub phases : (index == window.start % b) ≡ equal
+  pub carried : IsCarried equal ys (window.start / b) carry
+
+-- `count` elements behind `passed` others
+abbrev pub stretch_part : ℕ → ℕ → Stretch → Stretch
+stretch_part passed count stretch = record { first = stretch.first + passed; source = stretch.source + passed; skip = stretch.skip; count = count }
+
+-- that of these numbers
+abbrev pub stretch_at : ℕ → ℕ → ℕ → ℕ → Stretch
+stretch_at first source skip count = record { first = first; source = source; skip = skip; count = count }
+
+-- the windows of a stretch
+abbrev pub stretch_window : ℕ → Stretch → Window
+stretch_window b stretch = elements_window b stretch.first stretch.count
+
+abbrev pub stretch_source : ℕ → Stretch → Window
+stretch_source b stretch = elements_window_from b stretch.source stretch.skip stretch.count
+
+-- two memories have it
+pub record HasStretch (b : ℕ) (xs ys : List ℕ) (stretch : Stretch) (equal : Bool) (carry : ℕ) : Type 0 where
+  pub span : HasSpan b xs ys (stretch_window b stretch) (stretch_source b stretch)
+  pub bound : stretch.skip < b
+  pub phases : (0 == stretch.skip) ≡ equal
+  pub carried : IsCarried equal ys stretch.source carry
+
+-- what an act did on it
+pub record ActsOnStretch {C D E S : Type 0} (access : Access D E) (Done : (ℕ → ℕ → ℕ) → C → C → Window → List Bool → S → S → Type 0) (b : ℕ) (at : ℕ → ℕ → ℕ)
+    (c d : C) (old new : D) (stretch : Stretch) (equal : Bool) (s t : S) (last : ℕ) : Type 0 where
+  pub done : Done at c d (stretch_window b stretch) (list_in b at (access.numbers old) (stretch_source b stretch)) s t
+  pub carried : IsCarried equal (access.numbers old) (stretch.source + stretch.count) last
+  pub right : OnlyReads access old new stretch.count
 
 -- a window cut in two at the edge of an element
 pub record IsCut (b : ℕ) (whole first second : Window) : Type 0 where

@@ -46,7 +46,7 @@ pub ruleset stored = (part-edges, set-element, length-element_bits, length-set, 
 
 -- ---- two windows as long
 
-pub Puts-beside : {E C : Type 0} {access : Access C E} {b : ℕ} {at : ℕ → ℕ → ℕ} {c d : C} {ys : List ℕ} {left right : Window} → HasSpan b (access.numbers c) ys left right
-    → PutsBits access b at c d left (bits_beside b at ys left (record { start = right.start; len = left.len })) → Copies b at (access.numbers c) (access.numbers d) left ys right
-Puts-beside {E} {C} {access} {b} {at} {c} {d} {ys} {left} {right} span puts =
-    Writes-is _ _ _ _ _ _ _ puts.writes (rw span.lengths (padded-full right.len _ (length-list b at ys right span.beside)))
+pub Puts-beside : {E C : Type 0} {access : Access C E} {b : ℕ} {at : ℕ → ℕ → ℕ} {c d : C} {ys : List ℕ} {left right other : Window} → HasSpan b (access.numbers c) ys left right → other ≡ right
+    → PutsBits access b at c d left (bits_beside b at ys left other) → Copies b at (access.numbers c) (access.numbers d) left ys right
+Puts-beside {E} {C} {access} {b} {at} {c} {d} {ys} {left} {right} span is puts =
+    Writes-is _ _ _ _ _ _ _ puts.writes (rw (is, span.lengths) (padded-full right.len _ (length-list b at ys right span.beside)))

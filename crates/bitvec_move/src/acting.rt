@@ -17,8 +17,12 @@ pub trait Act<C: CellsRead>: Copy + Drop {
     ghost stopped: { Self → Bool };
 
     /// After how many whole elements of `bits` bits the act is asked whether it stops; 0 if it never does.
-    fn span(bits: usize) -> usize
-        requires { 0 < bits };
+    #[inline(always)]
+    fn span(_bits: usize) -> usize
+        requires { 0 < _bits }
+    {
+        0
+    }
 
     /// Whether nothing is left to be done.
     fn stops(&self) -> bool

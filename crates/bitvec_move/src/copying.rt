@@ -9,8 +9,8 @@ ghost use Rattle.bitvec_move.specs.Moves.{Copies};
 ghost use Rattle.bitvec_move.specs.PutLaws.{Puts-join, Puts-none};
 
 use crate::acting::Act;
-use crate::acting_equal::act_equal;
-use crate::acting_shifted::act_shifted;
+use crate::acting_equal::Equal;
+use crate::acting_on_windows::{act, act_phased};
 use bitvec_words::base::{BitOrder, Part, Window};
 use bitvec_words::cells::{Cells, CellsRead};
 use bitvec_words::store::BitStore;
@@ -24,11 +24,6 @@ impl<C: Cells> Act<C> for Put {
     ghost Done = { λ at old new window list s t. PutsBits C.CellsRead C.Elem.BITS at old new window list };
 
     ghost stopped = { λ s. false };
-
-    #[inline(always)]
-    fn span(_bits: usize) -> usize {
-        0
-    }
 
     #[inline(always)]
     fn stops(&self) -> bool {
@@ -76,16 +71,8 @@ pub fn copy<O: WordOrder, C: Cells, D: CellsRead<Elem = C::Elem>>(
     if to.len == 0 {
         return;
     }
-    let bits = C::Elem::BITS as usize;
-    if to.start % bits == from.start % bits {
-        copy_equal::<O, C, D>(left, to, right, from);
-        return;
-    }
-    let as_long = Window {
-        start: from.start,
-        len: to.len,
-    };
-    act_shifted::<O, C, D, Put>(left, to, right, as_long, &mut Put {});
+    let as_long = from.until(from.len - to.len);
+    act::<O, C, D, Put>(left, to, right, as_long, &mut Put {});
 }
 
 /// Copies a window whose first bit has the same index in its element as that of the other window,
@@ -106,9 +93,6 @@ pub fn copy_equal<O: BitOrder, C: Cells, D: CellsRead<Elem = C::Elem>>(
     ensures cost { CostsAtMost C.CellsRead left.old left.new 2 (touched_count C.Elem.BITS to.start to.len) }
     ensures right { OnlyReadsAtMost D.CellsRead right.old right.new (touched_count C.Elem.BITS from.start from.len) }
 {
-    let as_long = Window {
-        start: from.start,
-        len: to.len,
-    };
-    act_equal::<O, C, D, Put>(left, to, right, as_long, &mut Put {});
+    let as_long = from.until(from.len - to.len);
+    act_phased::<O, C, D, Put, Equal>(left, to, right, as_long, &mut Put {});
 }

@@ -10,8 +10,7 @@ ghost use Rattle.bitvec_words.specs.cells.Access.{CostsAtMost};
 ghost use Rattle.bitvec_words.specs.walk.Cost.{edit_loads, write_stores};
 ghost use Rattle.bitvec_move.specs.Moves.{Copies};
 
-use crate::moving_to_end::move_to_end;
-use crate::moving_to_start::move_to_start;
+use crate::moving::move_to;
 use bitvec_words::base::Window;
 use bitvec_words::cells::Cells;
 use bitvec_words::{WORD_BITS, WordOrder, load_parts, store_parts};
@@ -53,8 +52,8 @@ fn move_window<O: WordOrder, C: Cells>(cells: &mut C, to: Window, from: Window)
         return;
     }
     if to.start <= from.start {
-        move_to_start::<O, C>(cells, to, from);
+        move_to::<O, C, false>(cells, to, from);
     } else {
-        move_to_end::<O, C>(cells, to, from);
+        move_to::<O, C, true>(cells, to, from);
     }
 }

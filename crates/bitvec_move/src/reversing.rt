@@ -7,7 +7,8 @@ ghost use Rattle.bitvec_words.specs.walk.Cost.{reverse_loads, reverse_stores, st
 ghost use Rattle.bitvec_move.specs.Ends.{HasEnds, HoldsBeside, IsAmid, IsBlock, Mirrors, ends_exchanged};
 
 use crate::copying::copy_equal;
-use crate::moving_to_start::shift_whole_to_start;
+use crate::moving::move_elements;
+use crate::stretch::Stretch;
 use bitvec_words::base::Window;
 use bitvec_words::cells::{Cells, CellsRead, Exclusive, Shared};
 use bitvec_words::store::BitStore;
@@ -131,7 +132,13 @@ fn in_phase<O: WordOrder, T: BitStore>(held: &mut [T], window: Window, other: us
         let first = start / bits;
         let count = (start % bits + len - 1) / bits + 1;
         let mut cells = Exclusive::new(held);
-        shift_whole_to_start::<O, Exclusive<T>>(&mut cells, first, first, by, count);
+        let moved = Stretch {
+            first,
+            source: first,
+            skip: by,
+            count,
+        };
+        move_elements::<O, Exclusive<T>, false>(&mut cells, moved);
     }
     Window { start, len }
 }

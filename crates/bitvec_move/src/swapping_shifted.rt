@@ -7,8 +7,9 @@ ghost use Rattle.bitvec_words.specs.cells.Access.{Costs};
 ghost use Rattle.bitvec_words.specs.walk.Cost.{touched_count};
 ghost use Rattle.bitvec_move.specs.Moves.{HasPartSpan, HasSkippedElements, HasSkippedSpan, Swaps, SwapsElements};
 
+use crate::stretch::Stretch;
 use crate::{MANY_BITS, at_known_skip};
-use bitvec_words::base::{BitOrder, Part, Window, first_part, tail_part, whole_elements};
+use bitvec_words::base::{BitOrder, Part, Window, first_part, tail_part};
 use bitvec_words::cells::{Cells, CellsRead};
 use bitvec_words::store::BitStore;
 use bitvec_words::{WordOrder, joined, merged, toward_end, toward_start};
@@ -62,15 +63,14 @@ fn swap_rest<O: WordOrder, C: Cells, D: Cells + CellsRead<Elem = C::Elem>>(
     ensures right_cost { let each = touched_count C.Elem.BITS right_window.start right_window.len in Costs D.CellsRead right.old right.new (each - 1) each }
 {
     let bits = C::Elem::BITS as usize;
-    let (first, count) = whole_elements(bits, left_window);
-    let (source, skip) = (right_window.start / bits, right_window.start % bits);
-    let last = swap_across::<O, C, D>(left, first, right, source, waiting, skip, count);
+    let stretch = Stretch::of(bits, left_window, right_window);
+    let last = swap_across::<O, C, D>(left, right, stretch, waiting);
     let tail = tail_part(bits, left_window);
     if tail.to == 0 {
-        right.store(source + count, last);
+        right.store(stretch.source + stretch.count, last);
         return;
     }
-    let behind = right_window.after(count * bits);
+    let behind = right_window.after(stretch.count * bits);
     let end = swap_waiting::<O, C, D>(left, tail, right, behind, last);
     right.store((behind.start + behind.len - 1) / bits, end);
 }
@@ -81,19 +81,17 @@ fn swap_rest<O: WordOrder, C: Cells, D: Cells + CellsRead<Elem = C::Elem>>(
 #[inline(always)]
 fn swap_across<O: WordOrder, C: Cells, D: Cells + CellsRead<Elem = C::Elem>>(
     left: &mut C,
-    first: usize,
     right: &mut D,
-    source: usize,
+    stretch: Stretch,
     waiting: C::Elem,
-    skip: usize,
-    count: usize,
 ) -> C::Elem
-    requires { HasSkippedElements C.Elem.BITS (C.numbers left.old) (D.numbers right.old) first source skip count }
+    requires { HasSkippedElements C.Elem.BITS (C.numbers left.old) (D.numbers right.old) stretch.first stretch.source stretch.skip stretch.count }
     ensures swaps { SwapsElements C.Elem.BITS O.at (C.numbers left.old) (C.numbers left.new) (D.numbers right.old) (D.numbers right.new)
-        first source skip count (C.Elem.value waiting) (C.Elem.value result) }
-    ensures cost { Costs C.CellsRead left.old left.new count count }
-    ensures right_cost { Costs D.CellsRead right.old right.new count count }
+        stretch.first stretch.source stretch.skip stretch.count (C.Elem.value waiting) (C.Elem.value result) }
+    ensures cost { Costs C.CellsRead left.old left.new stretch.count stretch.count }
+    ensures right_cost { Costs D.CellsRead right.old right.new stretch.count stretch.count }
 {
+    let (first, source, skip, count) = (stretch.first, stretch.source, stretch.skip, stretch.count);
     if C::Elem::BITS <= u16::BITS && count >= MANY_BITS / C::Elem::BITS as usize {
         return at_known_skip!(
             u16: skip,
@@ -103,7 +101,7 @@ fn swap_across<O: WordOrder, C: Cells, D: Cells + CellsRead<Elem = C::Elem>>(
     swap_each::<O, C, D>(left, first, right, source, waiting, skip, count)
 }
 
-/// Exchanges shifted elements one at a time.
+/// Exchanges shifted elements one at a time. It takes a stretch's numbers: the compiler may know `skip`.
 #[inline(always)]
 fn swap_each<O: WordOrder, C: Cells, D: Cells + CellsRead<Elem = C::Elem>>(
     left: &mut C,

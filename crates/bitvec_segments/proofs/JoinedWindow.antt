@@ -9,14 +9,12 @@ use Rattle.std.proofs.Math.Pow.{pow_mono}
 use Rattle.bitvec_words.specs.base.declared.window.Window.{Window}
 use Rattle.bitvec_words.specs.base.Memory.{HasWindow, element_bits, list_in}
 use Rattle.bitvec_words.specs.base.MemoryLaws.{get-element_bits, length-element_bits}
-use Rattle.bitvec_words.specs.base.Parts.{part_window}
-use Rattle.bitvec_words.specs.base.SliceLaws.{range-all}
 use Rattle.bitvec_words.specs.base.WritesLaws.{length-list, list-range}
 use Rattle.bitvec_words.specs.walk.Cost.{touched_count}
 use Rattle.bitvec_words.specs.walk.WalkLaws.{touched-until}
 use Rattle.bitvec_words.specs.Elements.{elements_window}
 use Rattle.bitvec_words.specs.ShortWindow.{lowest_bit}
-use Rattle.bitvec_words.specs.FieldLaws.{element_of, list-element, list-part}
+use Rattle.bitvec_words.specs.FieldLaws.{element_of, list-element}
 use Rattle.bitvec_words.specs.OrderEnd.{RunsFrom}
 use Rattle.bitvec_words.specs.WholeLaws.{list-empty}
 use Rattle.bitvec_words.specs.WordLaws.{word_whole}
@@ -26,13 +24,6 @@ use Rattle.bitvec_segments.specs.NumberLaws.{segment-number-is, segment_number-b
 use Rattle.bitvec_segments.specs.PlainLaws.{append-highest, append-lowest}
 use Rattle.bitvec_segments.specs.Segments.{bit_number, segment_bits, segment_number}
 use Rattle.bitvec_segments.proofs.PartLemmas.{number-range}
-
--- the part that is a whole element
-pub list-whole : (b : ℕ) (at : ℕ → ℕ → ℕ) (xs : List ℕ) (e w : ℕ) → w ≡ b → e < length xs → list_in b at xs (part_window b (record { element = e; from = 0; to = w })) ≡ element_bits b at (slice_index xs e)
-list-whole b at xs e w is inside =
-    let long = length-element_bits b at (slice_index xs e) in
-    list-part b at xs (record { element = e; from = 0; to = w }) (record { element = inside; order = omega arith; bound = omega arith })
-    ∙ range-all (element_bits b at (slice_index xs e)) w (omega arith)
 
 -- the memory has the elements that a window touches
 pub HasWindow-elements : (b : ℕ) (xs : List ℕ) (window : Window) (count : ℕ) → HasWindow b xs window → 0 < count → (count - 1) * b < window.start % b + window.len → HasWindow b xs (elements_window b (window.start / b) count)
@@ -48,6 +39,19 @@ HasWindow-elements b xs window count has some last =
     record { fits = has.fits; within = record { start = omega arith; len = omega arith } }
 
 -- ---- their number
+
+bits-number : (high : Bool) (b : ℕ) (at : ℕ → ℕ → ℕ) (v : ℕ) → RunsFrom high b at → segment_bits high b v ≡ element_bits b at v
+bits-number high b at v ends =
+    let long = length-element_bits b (bit_number high) v in
+    let wide = length-element_bits b at v in
+    same_lists _ _ (omega arith) (λ i d below.
+    get-element_bits b (bit_number high) v i d (omega arith)
+    ∙ ap (λ (p : ℕ). bit_at v p == 1) (sym (ends i (omega arith)))
+    ∙ sym (get-element_bits b at v i d (omega arith)))
+
+-- of an element's bits
+pub number-element : (high : Bool) (b : ℕ) (at : ℕ → ℕ → ℕ) (v x : ℕ) → RunsFrom high b at → v ≡ x → v < 2 ^ b → v ≡ segment_number high (element_bits b at x)
+number-element high b at v x ends is below = segment-number-is high b v _ below (bits-number high b at v ends ∙ ap (element_bits b at) is)
 
 -- of one element
 pub number-one : (high : Bool) (b : ℕ) (at : ℕ → ℕ → ℕ) (xs : List ℕ) (first v : ℕ) → 0 < b → HasWindow b xs (elements_window b first 1) → v ≡ segment_number high (element_bits b at (slice_index xs first)) → v ≡ segment_number high (list_in b at xs (elements_window b first 1))
@@ -94,22 +98,13 @@ number-cut high b at xs window count v has inside is =
     ∙ ap (segment_number high) (sym part ∙ rw (place, len) refl)
 
 -- of 64 bits of whole elements, by a word that has them
-bits-number : (high : Bool) (at : ℕ → ℕ → ℕ) (v : ℕ) → RunsFrom high 64 at → segment_bits high 64 v ≡ element_bits 64 at v
-bits-number high at v ends =
-    let long = length-element_bits 64 (bit_number high) v in
-    let wide = length-element_bits 64 at v in
-    same_lists _ _ (omega arith) (λ i d below.
-    get-element_bits 64 (bit_number high) v i d (omega arith)
-    ∙ ap (λ (p : ℕ). bit_at v p == 1) (sym (ends i (omega arith)))
-    ∙ sym (get-element_bits 64 at v i d (omega arith)))
-
 pub number-word : (high : Bool) (b : ℕ) (at : ℕ → ℕ → ℕ) (xs : List ℕ) (window : Window) (v : ℕ) → RunsFrom high 64 at → IsWidth b → b ≤ 64 → window.start % b ≡ 0 → window.len ≡ 64 → v < 2 ^ 64
     → element_bits 64 at v ≡ list_in b at xs (elements_window b (window.start / b) (64 / b)) → v ≡ segment_number high (list_in b at xs window)
 number-word high b at xs window v ends width narrow edge size below is =
     let place = div-add-mod' window.start b in
     let start : window.start / b * b ≡ window.start = omega arith in
     let long : 64 / b * b ≡ window.len = word_whole b width narrow ∙ sym size in
-    segment-number-is high 64 v _ below (bits-number high at v ends ∙ is ∙ rw (start, long) refl)
+    segment-number-is high 64 v _ below (bits-number high 64 at v ends ∙ is ∙ rw (start, long) refl)
 
 -- the elements that the window touches are so many
 pub touched-elements : (b s n count : ℕ) → 0 < n → 0 < count → (count - 1) * b < s % b + n → s % b + n ≤ count * b → touched_count b s n ≡ count

@@ -5,7 +5,6 @@ ghost use Rattle.bitvec_words.specs.cells.Access.{CostsAtMost, OnlyReads};
 ghost use Rattle.bitvec_segments.specs.Segments.{loaded_be, loaded_le, stored_be, stored_le};
 ghost use Rattle.bitvec_words.specs.walk.Cost.{fill_loads, touched_count};
 
-use crate::segment_order::{Big, Little};
 use crate::{loading, storing};
 use bitvec_words::WordOrder;
 use bitvec_words::base::{Lsb0, Msb0, Window};
@@ -29,7 +28,7 @@ pub trait FieldOrder: WordOrder {
             ≡ loaded_le Self.HIGH C.Elem.BITS window.start (list_in C.Elem.BITS Self.at (C.numbers cells.old) window) }
         ensures reads { OnlyReads C.CellsRead cells.old cells.new (touched_count C.Elem.BITS window.start window.len) }
     {
-        loading::load::<Little, Self, C>(cells, window)
+        loading::load::<false, Self, C>(cells, window)
     }
 
     /// The number of a window, its first segment highest. It loads each element that the window
@@ -41,7 +40,7 @@ pub trait FieldOrder: WordOrder {
             ≡ loaded_be Self.HIGH C.Elem.BITS window.start (list_in C.Elem.BITS Self.at (C.numbers cells.old) window) }
         ensures reads { OnlyReads C.CellsRead cells.old cells.new (touched_count C.Elem.BITS window.start window.len) }
     {
-        loading::load::<Big, Self, C>(cells, window)
+        loading::load::<true, Self, C>(cells, window)
     }
 
     /// Gives a window of `n` bits those for which `load_le` gives the number modulo `2^n`. It stores
@@ -53,7 +52,7 @@ pub trait FieldOrder: WordOrder {
             (stored_le Self.HIGH C.Elem.BITS window.start number) }
         ensures cost { CostsAtMost C.CellsRead cells.old cells.new (fill_loads window.len) (touched_count C.Elem.BITS window.start window.len) }
     {
-        storing::store::<Little, Self, C>(cells, window, number);
+        storing::store::<false, Self, C>(cells, window, number);
     }
 
     /// Gives a window of `n` bits those for which `load_be` gives the number modulo `2^n`. It stores
@@ -65,7 +64,7 @@ pub trait FieldOrder: WordOrder {
             (stored_be Self.HIGH C.Elem.BITS window.start number) }
         ensures cost { CostsAtMost C.CellsRead cells.old cells.new (fill_loads window.len) (touched_count C.Elem.BITS window.start window.len) }
     {
-        storing::store::<Big, Self, C>(cells, window, number);
+        storing::store::<true, Self, C>(cells, window, number);
     }
 }
 

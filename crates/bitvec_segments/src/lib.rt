@@ -8,7 +8,6 @@ mod integers;
 mod joining;
 mod loading;
 mod part;
-mod segment_order;
 mod storing;
 
 pub use field_order::FieldOrder;

@@ -12,18 +12,13 @@ use bitvec_words::cells::{Cells, CellsRead};
 use bitvec_words::store::BitStore;
 use bitvec_words::{WordOrder, store_part};
 
-/// How many bits of an element are less significant than all bits of a part. Condition: the part is
-/// one of an element.
-fn bits_below<O: WordOrder, T: BitStore>(part: Part) -> usize
-    requires order { part.from ≤ part.to }
-    requires bound { part.to ≤ T.BITS }
-    ensures { result ≡ lowest_bit O.HIGH T.BITS part.from (part.to - part.from) }
+/// How many of `width` bits are less significant than those at the indices from `from` up to, without, `to`.
+pub(crate) fn bits_below<O: WordOrder>(width: usize, from: usize, to: usize) -> usize
+    requires order { from ≤ to }
+    requires bound { to ≤ width }
+    ensures { result ≡ lowest_bit O.HIGH width from (to - from) }
 {
-    if O::HIGH {
-        T::BITS as usize - part.to
-    } else {
-        part.from
-    }
+    if O::HIGH { width - to } else { from }
 }
 
 /// The number of a part's bits, whose first one is the highest where the order begins with the most
@@ -35,7 +30,7 @@ pub(crate) fn part_number<O: WordOrder, C: CellsRead>(cells: &mut C, part: Part)
     ensures value { result ≡ segment_number O.HIGH (list_in C.Elem.BITS O.at (C.numbers cells.old) (part_window C.Elem.BITS part)) }
     ensures reads { OnlyReads C.CellsRead cells.old cells.new 1 }
 {
-    let below = bits_below::<O, C::Elem>(part);
+    let below = bits_below::<O>(C::Elem::BITS as usize, part.from, part.to);
     let mask = C::Elem::ALL.shr(C::Elem::BITS - part.len() as u32);
     let element = cells.load(part.element);
     element.shr(below as u32).and(mask).to_u128()
@@ -50,7 +45,7 @@ pub(crate) fn store_part_number<O: WordOrder, C: Cells>(cells: &mut C, part: Par
         (segment_bits O.HIGH (part.to - part.from) number) }
     ensures cost { Costs C.CellsRead cells.old cells.new (part_loads C.Elem.BITS part) 1 }
 {
-    let below = bits_below::<O, C::Elem>(part);
+    let below = bits_below::<O>(C::Elem::BITS as usize, part.from, part.to);
     let lowest = C::Elem::from_u128(number & C::Elem::ALL.to_u128());
     store_part::<O, C>(cells, part, lowest.shl(below as u32));
 }

@@ -4,9 +4,8 @@ ghost use Rattle.bitvec_words.specs.cells.Access.{CostsAtMost};
 ghost use Rattle.bitvec_segments.specs.Windows.{HasNumber, StoresIn};
 ghost use Rattle.bitvec_words.specs.walk.Cost.{fill_loads, touched_count};
 
-use crate::cutting::{head_part, only_part, part_at};
+use crate::cutting::{lower_bits, part_at};
 use crate::part::store_part_number;
-use crate::segment_order::{SegmentOrder, lower_bits};
 use bitvec_words::WordOrder;
 use bitvec_words::base::Window;
 use bitvec_words::cells::Cells;
@@ -15,13 +14,13 @@ use bitvec_words::store::BitStore;
 /// Gives a window the bits for which `load` gives the number, without those of its bits for which the
 /// window is too short. Condition: as for `load`. It stores each element that the window touches once,
 /// loads at most the first and the last, and takes no loop where the window lies in few elements.
-pub(crate) fn store<E: SegmentOrder, O: WordOrder, C: Cells>(
+pub(crate) fn store<const BIG: bool, O: WordOrder, C: Cells>(
     cells: &mut C,
     window: Window,
     number: u128,
 )
     requires { HasNumber C.Elem.BITS (C.numbers cells.old) window }
-    ensures writes { StoresIn E.BIG O.HIGH C.Elem.BITS O.at (C.numbers cells.old) (C.numbers cells.new) window number }
+    ensures writes { StoresIn BIG O.HIGH C.Elem.BITS O.at (C.numbers cells.old) (C.numbers cells.new) window number }
     ensures cost { CostsAtMost C.CellsRead cells.old cells.new (fill_loads window.len) (touched_count C.Elem.BITS window.start window.len) }
 {
     if window.len == 0 {
@@ -29,51 +28,49 @@ pub(crate) fn store<E: SegmentOrder, O: WordOrder, C: Cells>(
     }
     let bits = C::Elem::BITS as usize;
     let from = window.start % bits;
-    let head = bits - from;
-    if window.len <= head {
-        store_part_number::<O, C>(cells, only_part(bits, window), number);
-        return;
+    if window.len <= bits - from {
+        let part = part_at(bits, window, window.start / bits, from, from + window.len);
+        store_part_number::<O, C>(cells, part, number);
+    } else if from == 0 && window.len == 2 * bits {
+        store_in::<BIG, O, C>(cells, window, 2, number);
+    } else if from == 0 && window.len == 4 * bits {
+        store_in::<BIG, O, C>(cells, window, 4, number);
+    } else if from == 0 && window.len == 8 * bits {
+        store_in::<BIG, O, C>(cells, window, 8, number);
+    } else {
+        store_parts::<BIG, O, C>(cells, window, number);
     }
-    if from == 0 && window.len == 2 * bits {
-        store_in::<E, O, C>(cells, window, 2, number);
-        return;
-    }
-    if from == 0 && window.len == 4 * bits {
-        store_in::<E, O, C>(cells, window, 4, number);
-        return;
-    }
-    if from == 0 && window.len == 8 * bits {
-        store_in::<E, O, C>(cells, window, 8, number);
-        return;
-    }
-    store_parts::<E, O, C>(cells, window, number);
 }
 
 /// `store` of a window that reaches past its first element: straight where it lies in three.
-fn store_parts<E: SegmentOrder, O: WordOrder, C: Cells>(cells: &mut C, window: Window, number: u128)
+fn store_parts<const BIG: bool, O: WordOrder, C: Cells>(cells: &mut C, window: Window, number: u128)
     requires number { HasNumber C.Elem.BITS (C.numbers cells.old) window }
     requires some { 0 < window.len }
     requires passes { C.Elem.BITS < window.start % C.Elem.BITS + window.len }
-    ensures writes { StoresIn E.BIG O.HIGH C.Elem.BITS O.at (C.numbers cells.old) (C.numbers cells.new) window number }
+    ensures writes { StoresIn BIG O.HIGH C.Elem.BITS O.at (C.numbers cells.old) (C.numbers cells.new) window number }
     ensures cost { CostsAtMost C.CellsRead cells.old cells.new (fill_loads window.len) (touched_count C.Elem.BITS window.start window.len) }
 {
     let bits = C::Elem::BITS as usize;
-    let head = bits - window.start % bits;
+    let (element, from) = (window.start / bits, window.start % bits);
+    let head = bits - from;
     let rest = window.after(head);
     if rest.len > 2 * bits {
-        let end = window.start % bits + window.len;
-        store_in::<E, O, C>(cells, window, (end - 1) / bits + 1, number);
+        store_in::<BIG, O, C>(cells, window, (from + window.len - 1) / bits + 1, number);
         return;
     }
-    let next = window.start / bits + 1;
-    let first = number >> lower_bits::<E>(0, rest.len);
-    store_part_number::<O, C>(cells, head_part(bits, window), first);
-    store_few::<E, O, C>(cells, rest, next, number >> lower_bits::<E>(head, 0));
+    let part = part_at(bits, window, element, from, bits);
+    store_part_number::<O, C>(cells, part, number >> lower_bits::<BIG>(0, rest.len));
+    store_few::<BIG, O, C>(
+        cells,
+        rest,
+        element + 1,
+        number >> lower_bits::<BIG>(head, 0),
+    );
 }
 
 /// `store` of a window that begins where an element does, isn't empty, and isn't longer than two of
 /// them.
-fn store_few<E: SegmentOrder, O: WordOrder, C: Cells>(
+fn store_few<const BIG: bool, O: WordOrder, C: Cells>(
     cells: &mut C,
     window: Window,
     element: usize,
@@ -83,25 +80,26 @@ fn store_few<E: SegmentOrder, O: WordOrder, C: Cells>(
     requires some { 0 < window.len }
     requires few { window.len ≤ 2 * C.Elem.BITS }
     requires edge { window.start ≡ element * C.Elem.BITS }
-    ensures writes { StoresIn E.BIG O.HIGH C.Elem.BITS O.at (C.numbers cells.old) (C.numbers cells.new) window number }
+    ensures writes { StoresIn BIG O.HIGH C.Elem.BITS O.at (C.numbers cells.old) (C.numbers cells.new) window number }
     ensures cost { CostsAtMost C.CellsRead cells.old cells.new 1 (touched_count C.Elem.BITS window.start window.len) }
 {
     let bits = C::Elem::BITS as usize;
     if window.len <= bits {
-        store_part_number::<O, C>(cells, part_at(bits, window, element, 0), number);
+        let part = part_at(bits, window, element, 0, window.len);
+        store_part_number::<O, C>(cells, part, number);
         return;
     }
     let rest = window.after(bits);
-    let first = number >> lower_bits::<E>(0, rest.len);
-    let second = number >> lower_bits::<E>(bits, 0);
-    store_part_number::<O, C>(cells, part_at(bits, window, element, 0), first);
-    store_part_number::<O, C>(cells, part_at(bits, rest, element + 1, 0), second);
+    let part = part_at(bits, window, element, 0, bits);
+    let last = part_at(bits, rest, element + 1, 0, rest.len);
+    store_part_number::<O, C>(cells, part, number >> lower_bits::<BIG>(0, rest.len));
+    store_part_number::<O, C>(cells, last, number >> lower_bits::<BIG>(bits, 0));
 }
 
 /// `store` of a window that touches `count` elements, a part of one at a time. Where the compiler knows
 /// that these are few whole elements, the machine code has no loop, no mask and no test.
 #[inline(always)]
-fn store_in<E: SegmentOrder, O: WordOrder, C: Cells>(
+fn store_in<const BIG: bool, O: WordOrder, C: Cells>(
     cells: &mut C,
     window: Window,
     count: usize,
@@ -109,7 +107,7 @@ fn store_in<E: SegmentOrder, O: WordOrder, C: Cells>(
 )
     requires number { HasNumber C.Elem.BITS (C.numbers cells.old) window }
     requires count { count ≡ touched_count C.Elem.BITS window.start window.len }
-    ensures writes { StoresIn E.BIG O.HIGH C.Elem.BITS O.at (C.numbers cells.old) (C.numbers cells.new) window number }
+    ensures writes { StoresIn BIG O.HIGH C.Elem.BITS O.at (C.numbers cells.old) (C.numbers cells.new) window number }
     ensures cost { CostsAtMost C.CellsRead cells.old cells.new (fill_loads window.len) (touched_count C.Elem.BITS window.start window.len) }
 {
     let bits = C::Elem::BITS as usize;
@@ -117,9 +115,9 @@ fn store_in<E: SegmentOrder, O: WordOrder, C: Cells>(
     let mut rest = window;
     let mut left = count;
     while left > 0 {
-        let part = part_at(bits, rest, element, from);
+        let part = part_at(bits, rest, element, from, bits.min(from + rest.len));
         let len = part.len();
-        let below = lower_bits::<E>(window.len - rest.len, rest.len - len);
+        let below = lower_bits::<BIG>(window.len - rest.len, rest.len - len);
         store_part_number::<O, C>(cells, part, number >> below);
         rest = rest.after(len);
         element += 1;

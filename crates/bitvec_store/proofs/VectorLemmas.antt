@@ -7,7 +7,7 @@ use Rattle.std.proofs.Math.Nat.{mod-eq_of_lt}
 use Rattle.std.proofs.lemmas.List.{length-take-le, map-id, take_more_set}
 use Rattle.std.proofs.lemmas.Simd.{below_from_Fits, chunk-fits, put_chunk_is, take_more_put_chunk}
 use Rattle.std.proofs.lemmas.Slice.{drop-append-drop}
-use Rattle.bitvec_store.proofs.DigitLemmas.{digits-number, number-below, number-digits}
+use Rattle.bitvec_store.specs.DigitLaws.{digits-number, number-below, number-digits}
 
 -- the first elements of a slice
 module _ (w : Width) (n : ℕ) (xs : List ℕ) (fit : (k : ℕ) → Fits w (get_or xs k 0)) (room : n ≤ length xs) (whole : (2 ^ bits w) ^ n ≡ 2 ^ 64) where

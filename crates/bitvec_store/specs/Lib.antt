@@ -1,2 +1,3 @@
+pub mod DigitLaws
 pub mod Width
 pub mod WidthLaws

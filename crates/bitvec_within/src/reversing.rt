@@ -5,7 +5,7 @@ ghost use Rattle.bitvec_elements.specs.base.Memory.{Edits, HasWindow};
 use crate::few::is_few;
 use bitvec_elements::base::{Lsb0, Msb0, Window};
 use bitvec_elements::cells::Exclusive;
-use bitvec_elements::engine::{Direction, SliceOrder, direction_of, reverse, store_few};
+use bitvec_elements::engine::{Direction, SliceOrder, direction_of, store_few};
 use bitvec_elements::few_word;
 use bitvec_elements::store::BitStore;
 use bitvec_elements::words::{WORD_BITS, WordOrder, moved, reversed};
@@ -25,7 +25,7 @@ pub fn reverse_in<T: BitStore, O: SliceOrder>(elements: &mut [T], window: Window
         }
     }
     let mut accessor = Exclusive::new(elements);
-    reverse::<O, Exclusive<T>>(&mut accessor, window);
+    O::block_reverse::<Exclusive<T>>(&mut accessor, window);
 }
 
 /// [`reverse_in`] of few bits, as a word.

@@ -2,7 +2,7 @@
 use Rattle.std.specs.Prelude.{◌≡◌, ℕ, ◌+◌, ◌-◌, ◌*◌, ◌/◌, ◌%◌, ◌^◌, ◌<◌, ◌≤◌, ◌==◌, zero, suc, Bool, List, count_by, count_ones, slice_index, refl}
 use Rattle.std.specs.Int.{bit_at}
 use Rattle.std.proofs.Common.{arith, sym, ◌∙◌, ap}
-use Rattle.std.proofs.Math.Nat.{add-mul, mod-lt, mul_assoc}
+use Rattle.std.proofs.Math.Nat.{mod-lt, add-mul, mul-le-mul_left, mul_assoc}
 use Rattle.std.proofs.lemmas.List.{same_lists}
 use Rattle.std.proofs.lemmas.Nat.{div-add-mod', pow_pos}
 use Rattle.std.proofs.lemmas.Nat.Bits.{bit_at_cat_low}
@@ -19,7 +19,7 @@ use Rattle.bitvec_words.specs.Elements.{elements_window}
 use Rattle.bitvec_words.specs.FieldLaws.{list-element}
 use Rattle.bitvec_words.specs.WholeLaws.{list-empty}
 use Rattle.bitvec_words.proofs.SplitLemmas.{count-parts, split-count}
-use Rattle.bitvec_words.proofs.WordScanLemmas.{Block, HasWindow-elements, Parted, list-elements_join, parted}
+use Rattle.bitvec_words.proofs.WordScanLemmas.{Block, Parted, HasWindow-elements, block-at, list-elements_join, parted-blocks}
 
 -- no more than the window's bits
 pub count-within : (b : ℕ) (at : ℕ → ℕ → ℕ) (xs : List ℕ) (window : Window) (ones : ℕ) → HasWindow b xs window → ones ≡ count_by (λ (bit : Bool). bit) (list_in b at xs window) → ones ≤ window.len
@@ -94,24 +94,43 @@ module _ {b : ℕ} {xs : List ℕ} {first count size step : ℕ} (block : Block 
   pub count-block_few : m + n < 2 ^ 64
   count-block_few = count-few b (λ c i. i) xs _ _ block.upto.front count-block
 
--- words by four, and those that are left
-module _ (b : ℕ) {xs : List ℕ} (first count : ℕ) (width : IsWidth b) (has : HasWindow b xs (elements_window b first (count * (64 / b)))) where
-  pub fours : count * (64 / b) ≡ count / 4 * (4 * (64 / b)) + count % 4 * (64 / b)
+-- one of some words
+pub word-block : (b : ℕ) {xs : List ℕ} (first count step : ℕ) → IsWidth b → HasWindow b xs (elements_window b first (count * (64 / b))) → step < count → Block b xs first (count * (64 / b)) (64 / b) step
+word-block b first count step width has more = let order = mul-le-mul_left (64 / b) more in block-at b (64 / b) first (count * (64 / b)) step width has (omega arith)
+
+-- the words of some elements by four, and those that are left
+module _ (b : ℕ) {xs : List ℕ} (first count : ℕ) (width : IsWidth b) (has : HasWindow b xs (elements_window b first count)) where
+  pub fours : count / (64 / b) * (64 / b) ≡ count / (64 / b) / 4 * (4 * (64 / b)) + count / (64 / b) % 4 * (64 / b)
   fours =
-      ap (λ (k : ℕ). k * (64 / b)) (sym (div-add-mod' count 4)) ∙ add-mul (count / 4 * 4) (count % 4) (64 / b)
-      ∙ ap (λ (k : ℕ). k + count % 4 * (64 / b)) (mul_assoc (count / 4) 4 (64 / b))
+      ap (λ (k : ℕ). k * (64 / b)) (sym (div-add-mod' (count / (64 / b)) 4)) ∙ add-mul (count / (64 / b) / 4 * 4) (count / (64 / b) % 4) (64 / b)
+      ∙ ap (λ (k : ℕ). k + count / (64 / b) % 4 * (64 / b)) (mul_assoc (count / (64 / b) / 4) 4 (64 / b))
 
-  pub parted-fours : Parted b xs first (count * (64 / b)) (count / 4 * (4 * (64 / b)))
-  parted-fours = let sum = fours in parted b first _ _ width has (omega arith)
+  pub parted-words : Parted b xs first count (count / (64 / b) * (64 / b))
+  parted-words = parted-blocks b 64 first count width has
 
-  pub HasWindow-left : HasWindow b xs (elements_window b (first + count / 4 * (4 * (64 / b))) (count % 4 * (64 / b)))
-  HasWindow-left = let sum = fours in HasWindow-elements b (λ e i. i) xs first (count * (64 / b)) has (first + count / 4 * (4 * (64 / b))) (count % 4 * (64 / b)) (omega arith) (omega arith)
+  pub four-block : (step : ℕ) → step < count / (64 / b) / 4 → Block b xs first count (4 * (64 / b)) step
+  four-block step more =
+      let order = mul-le-mul_left (4 * (64 / b)) more in
+      let sum = fours in
+      let parts = parted-words in
+      let most = parts.within in
+      block-at b (4 * (64 / b)) first count step width has (omega arith)
 
-  pub count-fours : (m n : ℕ) → m ≡ count_by (λ (bit : Bool). bit) (list_in b (λ c i. i) xs (elements_window b first (count / 4 * (4 * (64 / b))))) → n ≡ count_by (λ (bit : Bool). bit) (list_in b (λ c i. i) xs (elements_window b (first + count / 4 * (4 * (64 / b))) (count % 4 * (64 / b))))
-      → m + n ≡ count_by (λ (bit : Bool). bit) (list_in b (λ c i. i) xs (elements_window b first (count * (64 / b))))
+  pub HasWindow-left : HasWindow b xs (elements_window b (first + count / (64 / b) / 4 * (4 * (64 / b))) (count / (64 / b) % 4 * (64 / b)))
+  HasWindow-left =
+      let sum = fours in
+      let parts = parted-words in
+      let most = parts.within in
+      HasWindow-elements b (λ e i. i) xs first count has (first + count / (64 / b) / 4 * (4 * (64 / b))) (count / (64 / b) % 4 * (64 / b)) (omega arith) (omega arith)
+
+  pub count-fours : (m n : ℕ) → m ≡ count_by (λ (bit : Bool). bit) (list_in b (λ c i. i) xs (elements_window b first (count / (64 / b) / 4 * (4 * (64 / b)))))
+      → n ≡ count_by (λ (bit : Bool). bit) (list_in b (λ c i. i) xs (elements_window b (first + count / (64 / b) / 4 * (4 * (64 / b))) (count / (64 / b) % 4 * (64 / b))))
+      → m + n ≡ count_by (λ (bit : Bool). bit) (list_in b (λ c i. i) xs (elements_window b first (count / (64 / b) * (64 / b))))
   count-fours m n before left =
-      count-parts (list_in b (λ c i. i) xs (elements_window b first (count / 4 * (4 * (64 / b))))) (list_in b (λ c i. i) xs (elements_window b (first + count / 4 * (4 * (64 / b))) (count % 4 * (64 / b)))) _ m n
-      (list-elements_join b (λ c i. i) xs first (count * (64 / b)) has first (first + count / 4 * (4 * (64 / b))) (count / 4 * (4 * (64 / b))) (count % 4 * (64 / b)) (count * (64 / b)) (omega arith) (omega arith) refl fours) before left
+      let parts = parted-words in
+      let most = parts.within in
+      count-parts (list_in b (λ c i. i) xs (elements_window b first (count / (64 / b) / 4 * (4 * (64 / b))))) (list_in b (λ c i. i) xs (elements_window b (first + count / (64 / b) / 4 * (4 * (64 / b))) (count / (64 / b) % 4 * (64 / b)))) _ m n
+      (list-elements_join b (λ c i. i) xs first count has first (first + count / (64 / b) / 4 * (4 * (64 / b))) (count / (64 / b) / 4 * (4 * (64 / b))) (count / (64 / b) % 4 * (64 / b)) (count / (64 / b) * (64 / b)) (omega arith) (omega arith) refl fours) before left
 
 -- the words of whole elements, and the elements that are left
 pub count-left : {b : ℕ} {xs : List ℕ} {first count passed : ℕ} → Parted b xs first count passed → (at : ℕ → ℕ → ℕ) → Permutes b (at b) → (m n : ℕ) → 0 < b

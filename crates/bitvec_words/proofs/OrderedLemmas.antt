@@ -1,5 +1,5 @@
 -- Elements in a word from its least significant bit on, and the same ones under an order.
-use Rattle.std.specs.Prelude.{◌≡◌, ◌≢◌, ℕ, ◌+◌, ◌*◌, ◌/◌, ◌%◌, ◌<◌, ◌≤◌, Bool, false, not, List, ◌++◌, length, replicate, slice_index, slice_index_or, slice_range, bit_or, Option, None, refl}
+use Rattle.std.specs.Prelude.{◌≡◌, ◌≢◌, ℕ, ◌+◌, ◌-◌, ◌*◌, ◌/◌, ◌%◌, ◌^◌, ◌<◌, ◌≤◌, if◌then◌else◌, Bool, false, not, List, ◌++◌, length, replicate, slice_index, slice_index_or, slice_range, bit_or, bit_xor, None, refl}
 use Rattle.std.proofs.Common.{arith, sym, ◌∙◌, ap, subst}
 use Rattle.std.proofs.Math.Nat.{add-mul, mul-le-mul_left}
 use Rattle.std.proofs.lemmas.List.{length-replicate, same_lists}
@@ -15,14 +15,14 @@ use Rattle.bitvec_cells.specs.base.SliceLaws.{range-all, range-same}
 use Rattle.bitvec_cells.specs.base.Window.{window_of, write_at}
 use Rattle.bitvec_cells.specs.base.WriteLaws.{write_at-all}
 use Rattle.bitvec_words.specs.CombinedLaws.{length-elements}
-use Rattle.bitvec_words.specs.Elements.{HasElements, elements_window}
+use Rattle.bitvec_words.specs.Elements.{HasElements, SameElements, elements_window}
 use Rattle.bitvec_words.specs.ShortWindow.{padded}
 use Rattle.bitvec_words.specs.FieldLaws.{element_of, list-element}
 use Rattle.bitvec_words.specs.MovedLaws.{element-joined}
 use Rattle.bitvec_words.specs.WholeLaws.{elements-inside}
 use Rattle.bitvec_words.specs.WordLaws.{padded-all, word_whole}
 use Rattle.bitvec_words.proofs.ScanLemmas.{lacks_filled}
-use Rattle.bitvec_words.proofs.WordScanLemmas.{HasWindow-elements, block_words, list-block}
+use Rattle.bitvec_words.proofs.WordScanLemmas.{HasWindow-elements, block_words, list-block, none-of_four}
 
 abbrev low : ℕ → ℕ → ℕ
 low b i = i
@@ -144,8 +144,10 @@ module _ (b : ℕ) (at : ℕ → ℕ → ℕ) (p : Permutes b (at b)) (xs : List
   some = width_some b width
 
   -- that lack the bit
-  pub block-lacks : None ≡ first_place want ((element_bits 64 low one ++ element_bits 64 low two) ++ (element_bits 64 low three ++ element_bits 64 low four)) → None ≡ first_place want (list_in b at xs (elements_window b first (256 / b)))
-  block-lacks none =
+  pub block-lacks : (lacking : ℕ) → lacking ≡ (if not want then 2 ^ 64 - 1 else 0) → bit_or (bit_or (bit_or (bit_xor one lacking) (bit_xor two lacking)) (bit_xor three lacking)) (bit_xor four lacking) ≡ 0
+      → None ≡ first_place want (list_in b at xs (elements_window b first (256 / b)))
+  block-lacks lacking filled zero =
+      let none = none-of_four 64 low (record { below = λ i h. h; apart = λ i j h k e. e }) lacking want filled one two three four zero in
       let all : None ≡ first_place want (list_in b low xs (elements_window b first (256 / b))) =
       (rw (loaded, loaded-two, loaded-three, loaded-four) at none) ∙ ap (first_place want) (list-block b low xs first width narrow has) in
       lacks-same b at p some (slice_range xs first (first + 256 / b)) want (all ∙ ap (first_place want) (sym (list-elements_at b low xs first (256 / b) some has)))
@@ -164,16 +166,19 @@ module _ (b : ℕ) (at : ℕ → ℕ → ℕ) (p : Permutes b (at b)) (xs : List
     listed : memory_bits b at (part place) ≡ list_in b at xs (elements_window b place (64 / b))
     listed = list-elements_at b at xs place (64 / b) some here
 
-  -- or that were searched under the order
-  pub block-found : (found : Option ℕ)
-      → ((ws xs ys zs : List ℕ) → HasElements b one ws → HasElements b two xs → HasElements b three ys → HasElements b four zs → found ≡ first_place want ((memory_bits b at ws ++ memory_bits b at xs) ++ (memory_bits b at ys ++ memory_bits b at zs)))
-      → found ≡ first_place want (list_in b at xs (elements_window b first (256 / b)))
-  block-found found told =
+    -- as a word under the order
+    ordered : (word made : ℕ) → element_bits 64 low word ≡ list_in b low xs (elements_window b place (64 / b)) → SameElements b at word made → element_bits 64 at made ≡ list_in b at xs (elements_window b place (64 / b))
+    ordered word made is same = same (part place) (held word is) ∙ listed
+
+  -- or that were put in the order
+  pub block-ordered : (ordered_one ordered_two ordered_three ordered_four : ℕ) → SameElements b at one ordered_one → SameElements b at two ordered_two → SameElements b at three ordered_three → SameElements b at four ordered_four
+      → (element_bits 64 at ordered_one ++ element_bits 64 at ordered_two) ++ (element_bits 64 at ordered_three ++ element_bits 64 at ordered_four) ≡ list_in b at xs (elements_window b first (256 / b))
+  block-ordered ordered_one ordered_two ordered_three ordered_four same same-two same-three same-four =
       let words = block_words b width narrow in
-      let second : ℕ = first + 64 / b in
-      let third : ℕ = first + 2 * (64 / b) in
-      let fourth : ℕ = first + 3 * (64 / b) in
-      told (part first) (part second) (part third) (part fourth)
-      (held first (omega arith) (omega arith) one loaded) (held second (omega arith) (omega arith) two loaded-two) (held third (omega arith) (omega arith) three loaded-three) (held fourth (omega arith) (omega arith) four loaded-four)
-      ∙ ap (first_place want)
-      (rw (listed first (omega arith) (omega arith), listed second (omega arith) (omega arith), listed third (omega arith) (omega arith), listed fourth (omega arith) (omega arith)) (list-block b at xs first width narrow has))
+      rw (
+        ordered first (omega arith) (omega arith) one ordered_one loaded same,
+        ordered (first + 64 / b) (omega arith) (omega arith) two ordered_two loaded-two same-two,
+        ordered (first + 2 * (64 / b)) (omega arith) (omega arith) three ordered_three loaded-three same-three,
+        ordered (first + 3 * (64 / b)) (omega arith) (omega arith) four ordered_four loaded-four same-four,
+      )
+      (list-block b at xs first width narrow has)

@@ -1,12 +1,12 @@
--- The elements of a word of a slice, which are its digits.
-use borrow.Rule.Slice.PartMut.{put_mid}
-use Rattle.std.specs.Prelude.{◌≡◌, ℕ, zero, suc, ◌+◌, ◌-◌, ◌*◌, ◌/◌, ◌%◌, ◌^◌, ◌<◌, ◌≤◌, ◌==◌, Bool, true, false, List, length, map, take, drop, slice_index, slice_index_or, slice_range, refl}
+-- The elements of a word, which are its digits.
+use Rattle.std.specs.Prelude.{◌≡◌, ℕ, zero, suc, ◌+◌, ◌-◌, ◌*◌, ◌/◌, ◌%◌, ◌^◌, ◌<◌, ◌≤◌, ◌==◌, Bool, true, false, List, length, take, drop, slice_index, slice_index_or, refl}
 use Rattle.std.specs.Int.{bit_at}
 use Rattle.std.specs.Simd.Lanes.{digits_l}
 use Rattle.std.proofs.Common.{arith, sym, ◌∙◌, ap}
 use Rattle.std.proofs.Math.Nat.{div-div-eq-div-mul, div-one, suc-mul, zero-mul}
-use Rattle.std.proofs.lemmas.List.{drop-map, length-map, same_lists, take-map, take-take, take_all}
+use Rattle.std.proofs.lemmas.List.{same_lists}
 use Rattle.std.proofs.lemmas.Nat.{div-add-mod', div-mul-add, div_below, mod-mul-add, mod_below, pow-add}
+use Rattle.bitvec_cells.specs.store.DigitLaws.{length-digits}
 use Rattle.bitvec_cells.specs.store.Width.{IsWidth}
 use Rattle.bitvec_cells.specs.store.WidthLaws.{width_some}
 use Rattle.bitvec_cells.specs.base.Memory.{HasWindow, Writes, element_bits, list_in, memory_bits, place_bit}
@@ -19,17 +19,13 @@ use Rattle.bitvec_words.specs.Elements.{HasElements, SameElements, elements_wind
 use Rattle.bitvec_words.specs.OrderEnd.{RunsFrom}
 use Rattle.bitvec_words.specs.WholeLaws.{elements-inside}
 use Rattle.bitvec_words.specs.WordLaws.{word_whole}
-use Rattle.bitvec_words.specs.WrittenLaws.{memory-write_at, part-numbers}
+use Rattle.bitvec_words.specs.WrittenLaws.{memory-write_at}
 use Rattle.bitvec_words.proofs.OrderedLemmas.{list-elements_at, place-low}
 
 abbrev low : ℕ → ℕ → ℕ
 low b i = i
 
 -- ---- digits
-
-length-digits : (p n word : ℕ) → length (digits_l p n word) ≡ n
-length-digits p zero word = refl
-length-digits p (suc n) word = ap suc (length-digits p n (word / p))
 
 digit-at : (b n word e : ℕ) → e < n → slice_index (digits_l (2 ^ b) n word) e ≡ word / 2 ^ (e * b) % 2 ^ b
 digit-at b zero word e more = absurd (omega arith)
@@ -144,33 +140,32 @@ module _ (high : Bool) (b : ℕ) (at : ℕ → ℕ → ℕ) (runs : (c : ℕ) �
       ∙ ap (λ (i : ℕ). bit_at other i == 1) mirror.index
       ∙ sym (bit-of_word other xs elements k d below))
 
-  module _ {A : Type 0} (value : A → ℕ) (xs : List A) (first word other : ℕ) (has : HasWindow b (map value xs) (elements_window b first (64 / b))) (same : SameElements b at word other) where
-    pub word-loaded : map value (take (64 / b) (slice_range xs first (length xs))) ≡ digits_l (2 ^ b) (64 / b) word → element_bits 64 at other ≡ list_in b at (map value xs) (elements_window b first (64 / b))
+  module _ (xs : List ℕ) (first word other : ℕ) (has : HasWindow b xs (elements_window b first (64 / b))) (same : SameElements b at word other) where
+    pub word-loaded : take (64 / b) (drop first xs) ≡ digits_l (2 ^ b) (64 / b) word → element_bits 64 at other ≡ list_in b at xs (elements_window b first (64 / b))
     word-loaded is =
         let n = 64 / b in
-        let some = width_some b width in
-        let mapped = length-map xs value in
-        let inside = elements-inside b (map value xs) first n some has in
         let count : n ≡ first + n - first = omega arith in
-        let cut : take n (slice_range xs first (length xs)) ≡ take n (drop first xs) = take-take n (length xs - first) (drop first xs) (omega arith) in
         same (digits_l (2 ^ b) n word) (word-digits b word width narrow)
-        ∙ ap (memory_bits b at)
-        (sym is ∙ ap (map value) cut ∙ sym (take-map value n (drop first xs)) ∙ ap (take n) (sym (drop-map value first xs)) ∙ ap (λ (m : ℕ). take m (drop first (map value xs))) count)
-        ∙ list-elements_at b at (map value xs) first n some has
+        ∙ ap (memory_bits b at) (sym is ∙ ap (λ (m : ℕ). take m (drop first xs)) count)
+        ∙ list-elements_at b at xs first n (width_some b width) has
 
-    pub word-stored : (ys : List A) (count : ℕ) → count ≡ 64 / b → length ys ≡ count → map value (take (64 / b) ys) ≡ digits_l (2 ^ b) (64 / b) other
-        → Writes b at (map value xs) (map value (put_mid first count xs ys)) (elements_window b first (64 / b)) (element_bits 64 at word)
-    word-stored ys count some-elements long is =
+    pub word-stored : (ys : List ℕ) → ys ≡ write_at xs first (digits_l (2 ^ b) (64 / b) other) → Writes b at xs ys (elements_window b first (64 / b)) (element_bits 64 at word)
+    word-stored ys is =
         let n = 64 / b in
         let some = width_some b width in
-        let inside = elements-inside b (map value xs) first n some has in
-        let numbers = part-numbers value first count xs ys long in
-        let mapped = length-map ys value in
-        let room : first + length (map value ys) ≤ length (map value xs) = omega arith in
-        let digits = ap (map value) (sym (take_all n ys (omega arith))) ∙ is in
-        let bits = same-back word other same (digits_l (2 ^ b) n other) (word-digits b other width narrow) ∙ ap (memory_bits b at) (sym digits) in
-        rw numbers (record {
-          bits = memory-write_at b at (map value xs) (map value ys) first some room ∙ ap (write_at (memory_bits b at (map value xs)) (first * b)) (sym bits);
+        let inside = elements-inside b xs first n some has in
+        let digits = digits_l (2 ^ b) n other in
+        let long = length-digits (2 ^ b) n other in
+        let room : first + length digits ≤ length xs = omega arith in
+        let bits = same-back word other same digits (word-digits b other width narrow) in
+        rw is (record {
+          bits = memory-write_at b at xs digits first some room ∙ ap (write_at (memory_bits b at xs) (first * b)) (sym bits);
           long = length-element_bits 64 at word ∙ sym (word_whole b width narrow);
-          elements = length-write_at (map value xs) first (map value ys) room;
+          elements = length-write_at xs first digits room;
         })
+
+-- a word as it is loaded
+pub word-listed : (b : ℕ) → IsWidth b → b ≤ 64 → (xs : List ℕ) (first word : ℕ) → HasWindow b xs (elements_window b first (64 / b)) → take (64 / b) (drop first xs) ≡ digits_l (2 ^ b) (64 / b) word
+    → element_bits 64 low word ≡ list_in b low xs (elements_window b first (64 / b))
+word-listed b width narrow xs first word has is =
+    word-loaded false b low (λ c i h. refl) (record { below = λ i h. h; apart = λ i j h k e. e }) width narrow xs first word word has (λ ys elements. elements) is

@@ -1,11 +1,11 @@
 -- A search of elements some at a time, and of the elements that a window touches.
-use Rattle.std.specs.Prelude.{◌≡◌, ℕ, ◌+◌, ◌-◌, ◌*◌, ◌/◌, ◌%◌, ◌^◌, ◌<◌, ◌≤◌, if◌then◌else◌, Bool, true, not, nat_eq, nat_lt, List, ◌++◌, length, slice_index, bit_or, bit_xor, Option, Some, None, is_none, option_map, refl}
+use Rattle.std.specs.Prelude.{◌≡◌, ℕ, ◌+◌, ◌-◌, ◌*◌, ◌/◌, ◌%◌, ◌^◌, ◌<◌, ◌≤◌, if◌then◌else◌, Bool, not, nat_lt, List, ◌++◌, length, slice_index, bit_or, bit_xor, Option, Some, None, option_map, refl}
 use Rattle.std.specs.Bool.{then_some}
 use Rattle.std.specs.Int.{div_ceil}
 use Rattle.std.specs.Option.{option_or}
 use Rattle.std.proofs.Common.{arith, lit≤, sym, ◌∙◌, ap, ⊎_elim, length-append}
 use Rattle.std.proofs.Math.Nat.{add-mul, div-mul-le_self, lt_of_mul-lt-mul_right, mul-le-mul_left, mul_assoc}
-use Rattle.std.proofs.lemmas.Bool.{cases_eq, cases_lt, eq-eqb, le-ltb, lt-ltb, ne_eqb}
+use Rattle.std.proofs.lemmas.Bool.{cases_lt, le-ltb, lt-ltb}
 use Rattle.std.proofs.lemmas.Grind.{div_ceil_times}
 use Rattle.std.proofs.lemmas.Nat.{div-add-mod'}
 use Rattle.bitvec_cells.specs.store.Width.{IsWidth}
@@ -26,7 +26,7 @@ use Rattle.bitvec_words.specs.TouchedLaws.{touched-full, touched-more, touched-w
 use Rattle.bitvec_words.specs.WholeLaws.{HasWindow-part, list-empty, list-same, window-end}
 use Rattle.bitvec_words.specs.Split.{Split}
 use Rattle.bitvec_words.proofs.SplitLemmas.{HasWindow-behind, HasWindow-front, elements-split, split-behind, split-few, split-found, split-lacks}
-use Rattle.bitvec_words.proofs.ScanLemmas.{first-lacks, first-must, first-passed, first_loads-elements}
+use Rattle.bitvec_words.proofs.ScanLemmas.{first-lacks, first-passed, first_loads-elements}
 
 -- ---- elements, some at a time
 
@@ -88,21 +88,28 @@ parted b {xs} first count n width has order =
 pub parted-blocks : (b s : ℕ) {xs : List ℕ} (first count : ℕ) → IsWidth b → HasWindow b xs (elements_window b first count) → Parted b xs first count (count / (s / b) * (s / b))
 parted-blocks b s first count width has = parted b first count _ width has (div-mul-le_self count (s / b))
 
--- ---- one of some blocks of `size` elements, behind `step` others
+-- ---- `size` of some elements, behind `step` times as many
 
 pub record Block (b : ℕ) (xs : List ℕ) (first count size step : ℕ) : Type 0 where
   pub next : Split b (elements_window b first (step * size)) (elements_window b (first + step * size) size) (elements_window b first ((step + 1) * size))
-  pub upto : Parted b xs first (count * size) ((step + 1) * size)
+  pub upto : Parted b xs first count ((step + 1) * size)
   pub here : HasWindow b xs (elements_window b (first + step * size) size)
   pub few_bits : step * size * b < 2 ^ 64
 
-pub block : (b : ℕ) {xs : List ℕ} (first count size step : ℕ) → IsWidth b → HasWindow b xs (elements_window b first (count * size)) → step < count → Block b xs first count size step
-block b {xs} first count size step width has more =
-    let upto = parted b first (count * size) ((step + 1) * size) width has (let order = mul-le-mul_left size more in omega arith) in
+pub block-at : (b size : ℕ) {xs : List ℕ} (first count step : ℕ) → IsWidth b → HasWindow b xs (elements_window b first count) → (step + 1) * size ≤ count → Block b xs first count size step
+block-at b size {xs} first count step width has within =
+    let upto = parted b first count ((step + 1) * size) width has within in
     let sum : (step + 1) * size - step * size ≡ size = omega arith in
     let next = rw sum at (elements-split b first ((step + 1) * size) (step * size) (width_some b width) (omega arith)) in
     let end = window-end b xs _ (HasWindow-front next upto.front) in
     record { next = next; upto = upto; here = HasWindow-behind next upto.front; few_bits = omega arith }
+
+-- of all blocks of s bits
+pub block : (b s : ℕ) {xs : List ℕ} (first count step : ℕ) → IsWidth b → HasWindow b xs (elements_window b first count) → step < count / (s / b) → Block b xs first count (s / b) step
+block b s first count step width has more =
+    let order = mul-le-mul_left (s / b) more in
+    let most = div-mul-le_self count (s / b) in
+    block-at b (s / b) first count step width has (omega arith)
 
 -- where those before it lack the bit
 module _ {b : ℕ} {xs : List ℕ} {first count size step : ℕ} (block : Block b xs first count size step) (at : ℕ → ℕ → ℕ) (want : Bool) (none : None ≡ first_place want (list_in b at xs (elements_window b first (step * size)))) where
@@ -110,7 +117,7 @@ module _ {b : ℕ} {xs : List ℕ} {first count size step : ℕ} (block : Block 
   first-block_lacks here = split-lacks block.next at block.upto.front want none here
 
   module _ (bits i : ℕ) (is : size * b ≡ bits) (here : Some i ≡ first_place want (list_in b at xs (elements_window b (first + step * size) size))) where
-    pub first-block_has : Some (step * bits + i) ≡ first_place want (list_in b at xs (elements_window b first (count * size)))
+    pub first-block_has : Some (step * bits + i) ≡ first_place want (list_in b at xs (elements_window b first count))
     first-block_has = rw (← blocks-bits step size b bits is) (split-found block.upto.split at block.upto.all want _ (split-behind block.next at block.upto.front want _ none here))
 
     pub first-block_few : step * bits + i < 2 ^ 64
@@ -122,26 +129,6 @@ none_front : (front behind : Option ℕ) (n : ℕ) → None ≡ option_or front 
 none_front (Some j) behind n is = absurd cc
 none_front None behind n is = refl
 
-none_behind : (front behind : Option ℕ) (n : ℕ) → None ≡ option_or front (option_map (λ j. n + j) behind) → None ≡ behind
-none_behind (Some j) behind n is = absurd cc
-none_behind None (Some j) n is = absurd cc
-none_behind None None n is = refl
-
-front-lacks : (want : Bool) (front rest : List Bool) → None ≡ first_place want (front ++ rest) → None ≡ first_place want front
-front-lacks want front rest none = none_front (first_place want front) (first_place want rest) (length front) (none ∙ first_place-append want front rest)
-
-rest-lacks : (want : Bool) (front rest : List Bool) → None ≡ first_place want (front ++ rest) → None ≡ first_place want rest
-rest-lacks want front rest none = none_behind (first_place want front) (first_place want rest) (length front) (none ∙ first_place-append want front rest)
-
--- a number that is zero just where there is none
-zero_none : (n : ℕ) (found : Option ℕ) → (n ≡ 0 → None ≡ found) → (None ≡ found → n ≡ 0) → nat_eq n 0 ≡ is_none found
-zero_none n None passed must = eq-eqb n 0 (must refl)
-zero_none n (Some i) passed must = ne_eqb n 0 (λ zero. let none = passed zero in absurd cc)
-
-pub none_from : (found : Option ℕ) → true ≡ is_none found → None ≡ found
-none_from None is = refl
-none_from (Some i) is = absurd cc
-
 -- ---- two elements, or four, which are passed by together
 
 module _ (b : ℕ) (at : ℕ → ℕ → ℕ) (p : Permutes b (at b)) (lacking : ℕ) (want : Bool) (filled : lacking ≡ (if not want then 2 ^ b - 1 else 0)) where
@@ -151,7 +138,7 @@ module _ (b : ℕ) (at : ℕ → ℕ → ℕ) (p : Permutes b (at b)) (lacking :
   pub none-of_two : (v w : ℕ) → bit_or (bit_xor v lacking) (bit_xor w lacking) ≡ 0 → None ≡ first_place want (element_bits b at v ++ element_bits b at w)
   none-of_two v w none = first-lacks want _ _ _ (lacks v (or_none _ _ none)) (lacks w (or_none_right _ _ none)) refl
 
-  none-of_four : (u v w x : ℕ) → bit_or (bit_or (bit_or (bit_xor u lacking) (bit_xor v lacking)) (bit_xor w lacking)) (bit_xor x lacking) ≡ 0
+  pub none-of_four : (u v w x : ℕ) → bit_or (bit_or (bit_or (bit_xor u lacking) (bit_xor v lacking)) (bit_xor w lacking)) (bit_xor x lacking) ≡ 0
       → None ≡ first_place want ((element_bits b at u ++ element_bits b at v) ++ (element_bits b at w ++ element_bits b at x))
   none-of_four u v w x none =
       let three = or_none _ _ none in
@@ -160,26 +147,6 @@ module _ (b : ℕ) (at : ℕ → ℕ → ℕ) (p : Permutes b (at b)) (lacking :
       (first-lacks want _ _ _ (lacks u (or_none _ _ two)) (lacks v (or_none_right _ _ two)) refl)
       (first-lacks want _ _ _ (lacks w (or_none_right _ _ three)) (lacks x (or_none_right _ _ none)) refl)
       refl
-
-  must_lack : (v : ℕ) → v < 2 ^ b → None ≡ first_place want (element_bits b at v) → bit_xor v lacking ≡ 0
-  must_lack v small none =
-      ⊎_elim
-      (λ (zero : bit_xor v lacking ≡ 0). zero)
-      (λ (apart : bit_xor v lacking ≡ 0 → ⊥). absurd (first-must b at p v lacking _ want refl apart small filled none))
-      (cases_eq (bit_xor v lacking) 0)
-
-  pub four-lack : (u v w x : ℕ) → u < 2 ^ b → v < 2 ^ b → w < 2 ^ b → x < 2 ^ b
-      → nat_eq (bit_or (bit_or (bit_or (bit_xor u lacking) (bit_xor v lacking)) (bit_xor w lacking)) (bit_xor x lacking)) 0
-      ≡ is_none (first_place want ((element_bits b at u ++ element_bits b at v) ++ (element_bits b at w ++ element_bits b at x)))
-  four-lack u v w x below_u below_v below_w below_x =
-      zero_none _ _ (none-of_four u v w x) (λ none.
-      let front = front-lacks want (element_bits b at u ++ element_bits b at v) (element_bits b at w ++ element_bits b at x) none in
-      let rest = rest-lacks want (element_bits b at u ++ element_bits b at v) (element_bits b at w ++ element_bits b at x) none in
-      let one = must_lack u below_u (front-lacks want (element_bits b at u) (element_bits b at v) front) in
-      let two = must_lack v below_v (rest-lacks want (element_bits b at u) (element_bits b at v) front) in
-      let three = must_lack w below_w (front-lacks want (element_bits b at w) (element_bits b at x) rest) in
-      let four = must_lack x below_x (rest-lacks want (element_bits b at w) (element_bits b at x) rest) in
-      rw (one, two, three, four) refl)
 
 pub length-two : (at : ℕ → ℕ → ℕ) (v w : ℕ) → 128 ≡ length (element_bits 64 at v ++ element_bits 64 at w)
 length-two at v w =

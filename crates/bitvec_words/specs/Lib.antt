@@ -7,7 +7,6 @@ pub mod FieldLaws
 pub mod PartWalkLaws
 pub mod FillingLaws
 pub mod Front
-pub mod FrontLaws
 pub mod Lanes
 pub mod MovedLaws
 pub mod Operator

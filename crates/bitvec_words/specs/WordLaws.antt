@@ -1,13 +1,12 @@
 -- The elements of a word of 64 bits, and where they lie. A width comes as `w`, the number in the code, which is `b`.
-use Rattle.std.specs.Prelude.{◌≡◌, ℕ, ◌+◌, ◌*◌, ◌/◌, ◌^◌, ◌<◌, ◌≤◌, Bool, false, List, [], ◌++◌, length, take, replicate, slice_range, refl}
+use Rattle.std.specs.Prelude.{◌≡◌, ℕ, ◌+◌, ◌*◌, ◌/◌, ◌^◌, ◌<◌, ◌≤◌, Bool, List, [], length, take, refl}
 use Rattle.std.proofs.Common.{arith, rules}
 use Rattle.std.proofs.lemmas.List.{same_lists, places}
 use Rattle.std.proofs.Math.Nat.{mul-le-mul_left}
 use Rattle.bitvec_cells.specs.base.declared.window.Window.{Window}
-use Rattle.bitvec_cells.specs.base.Memory.{HasWindow, Writes, list_in, memory_bits}
+use Rattle.bitvec_cells.specs.base.Memory.{HasWindow, list_in, memory_bits}
 use Rattle.bitvec_cells.specs.base.SliceLaws.{range-none}
-use Rattle.bitvec_cells.specs.base.Window.{window_of, write_at}
-use Rattle.bitvec_cells.specs.base.WritesLaws.{Writes-empty, Writes-is}
+use Rattle.bitvec_cells.specs.base.Window.{window_of}
 use Rattle.bitvec_cells.specs.store.Width.{IsWidth}
 use Rattle.bitvec_cells.specs.store.WidthLaws.{at_each_width, width_some}
 use Rattle.bitvec_words.specs.Elements.{elements_window}
@@ -61,26 +60,8 @@ padded-all b list long = same_lists _ _ (search (rules, places)) (λ k d inside.
 pub take-all : (list : List Bool) (n : ℕ) → length list ≤ n → take n list ≡ list
 take-all list n long = same_lists _ _ (search (rules, places)) (λ k d inside. grind (arith, places))
 
--- the values of an element, behind those of the elements before it
-pub word-part : (word : List Bool) (b n e : ℕ) → n + b ≤ length word → e ≡ n + b
-    → take n word ++ write_at (replicate b false) 0 (slice_range word n (n + b)) ≡ take e word
-unfolding write_at
-word-part word b n e fits end = same_lists _ _ (search (rules, places)) (λ k d inside. grind (arith, places))
-
 -- ---- memories
 
 pub list-no_element : (b : ℕ) (at : ℕ → ℕ → ℕ) (xs : List ℕ) (first : ℕ) → list_in b at xs (elements_window b first 0) ≡ []
 unfolding window_of
 list-no_element b at xs first = range-none (memory_bits b at xs) (first * b) (first * b + 0 * b) (omega arith)
-
-none-taken : (list : List Bool) (n : ℕ) → n ≡ 0 → [] ≡ take n list
-none-taken list n none = rw none refl
-
-pub Writes-none_taken : (b : ℕ) (at : ℕ → ℕ → ℕ) (xs : List ℕ) (first count : ℕ) (list : List Bool)
-    → HasWindow b xs (elements_window b first count) → Writes b at xs xs (elements_window b first 0) (take (0 * b) list)
-Writes-none_taken b at xs first count list has =
-    let start = has.within.start in
-    let none : 0 * b ≡ 0 = omega arith in
-    Writes-is b at xs xs (elements_window b first 0) _ _
-    (Writes-empty b at xs xs (elements_window b first 0) (record { fits = has.fits; within = record { start = start; len = omega arith } }) none refl)
-    (none-taken list (0 * b) none)

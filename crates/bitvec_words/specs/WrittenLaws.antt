@@ -1,10 +1,8 @@
 -- Elements replaced by others at once, as a write of their bits.
-use borrow.Rule.Slice.PartMut.{post_of, put_mid}
-use Rattle.std.specs.Prelude.{◌≡◌, ℕ, ◌+◌, ◌*◌, ◌<◌, ◌≤◌, Bool, List, ◌++◌, length, map, take, drop, slice_range, refl}
+use Rattle.std.specs.Prelude.{◌≡◌, ℕ, ◌+◌, ◌*◌, ◌<◌, ◌≤◌, Bool, List, ◌++◌, length, take, drop, slice_range, refl}
 use Rattle.std.proofs.Common.{arith, sym, ap, ◌∙◌}
 use Rattle.std.proofs.Math.Nat.{add-mul, mul-le-mul_right}
-use Rattle.std.proofs.Math.Seq.{drop-drop}
-use Rattle.std.proofs.lemmas.List.{drop-map, length-map, map-append, take-map}
+pub use Rattle.bitvec_cells.specs.PutLaws.{part-numbers}
 use Rattle.bitvec_cells.specs.base.Memory.{memory_bits}
 use Rattle.bitvec_cells.specs.base.MemoryLaws.{length-memory_bits, memory-range}
 use Rattle.bitvec_cells.specs.base.SliceLaws.{range-all, range-from_start, range-join, range-same, range-to_end}
@@ -49,14 +47,3 @@ memory-write_at b at xs new first some fits =
     ∙ ap (λ (l : List Bool). l ++ (slice_range now (first * b) (end * b) ++ slice_range now (end * b) (n * b))) front
     ∙ ap (λ (l : List Bool). take (first * b) old ++ (l ++ slice_range now (end * b) (n * b))) middle
     ∙ ap (λ (l : List Bool). take (first * b) old ++ (memory_bits b at new ++ l)) back
-
--- the numbers of a slice of which a part was written
-pub part-numbers : {A : Type 0} (value : A → ℕ) (a k : ℕ) (xs ys : List A) → length ys ≡ k → map value (put_mid a k xs ys) ≡ write_at (map value xs) a (map value ys)
-unfolding write_at
-part-numbers value a k xs ys long =
-    let behind : map value (post_of a k xs) ≡ drop (a + length (map value ys)) (map value xs) =
-    ap (map value) (drop-drop k a xs) ∙ sym (drop-map value (a + k) xs) ∙ ap (λ (n : ℕ). drop (a + n) (map value xs)) (sym (length-map ys value ∙ long)) in
-    map-append value (take a xs) (ys ++ post_of a k xs)
-    ∙ ap (λ (l : List ℕ). l ++ map value (ys ++ post_of a k xs)) (sym (take-map value a xs))
-    ∙ ap (λ (l : List ℕ). take a (map value xs) ++ l) (map-append value ys (post_of a k xs))
-    ∙ ap (λ (l : List ℕ). take a (map value xs) ++ (map value ys ++ l)) behind

@@ -4,7 +4,6 @@ ghost use Rattle.bitvec_cells.specs.base.Memory.{element_bits};
 
 use crate::{WordOrder, joined};
 use bitvec_cells::store::BitStore;
-use std::alloc::AllocError;
 
 /// An element that a loop loaded, in the form in which it joins it with the next one.
 pub trait Carried<T: BitStore>: Copy + Drop {
@@ -36,20 +35,9 @@ pub trait Carried<T: BitStore>: Copy + Drop {
 }
 
 /// An element as it is.
+#[derive(Clone, Copy)]
 pub struct Whole<T: BitStore> {
     element: T,
-}
-
-impl<T: BitStore> Copy for Whole<T> {}
-
-impl<T: BitStore> Clone for Whole<T> {
-    ghost is_clone = { λ x y. y ≡ x };
-
-    ghost is_infallible = { λ _. ⊤ };
-
-    fn clone(&self) -> Result<Self, AllocError> {
-        Ok(*self)
-    }
 }
 
 impl<T: BitStore> Carried<T> for Whole<T> {

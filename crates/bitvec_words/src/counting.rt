@@ -6,9 +6,8 @@ ghost use Rattle.bitvec_cells.specs.Cost.{touched_count};
 ghost use Rattle.bitvec_words.specs.Elements.{elements_window};
 
 use crate::split::{split_head, split_tail};
-use crate::word_elements::load_elements;
 use crate::word_parts::WORD_BITS;
-use bitvec_cells::base::{BitOrder, Lsb0, Window};
+use bitvec_cells::base::{BitOrder, Window};
 use bitvec_cells::store::BitStore;
 use bitvec_cells::{CellsRead, count_part};
 
@@ -52,8 +51,8 @@ fn count_aligned<O: BitOrder, C: CellsRead>(cells: &mut C, window: Window) -> us
     ones + count_part::<O, C>(cells, tail)
 }
 
-/// How many bits of `count` whole elements are 1, of elements narrower than a word by the word. It loads each
-/// element once.
+/// How many bits of `count` whole elements are 1. Elements narrower than a word are counted by the word, which has as
+/// many ones in every order. It loads each element once.
 fn count_whole<O: BitOrder, C: CellsRead>(cells: &mut C, first: usize, count: usize) -> usize
     requires { HasWindow C.Elem.BITS (C.numbers cells.old) (elements_window C.Elem.BITS first count) }
     ensures value { result
@@ -66,14 +65,19 @@ fn count_whole<O: BitOrder, C: CellsRead>(cells: &mut C, first: usize, count: us
     }
     let elements = WORD_BITS / bits;
     let words = count / elements;
+    let block = BLOCK_WORDS * elements;
+    let mut ones = 0;
+    for step in 0..words / BLOCK_WORDS {
+        ones += count_words::<C>(cells, first + step * block, BLOCK_WORDS);
+    }
+    let left = words / BLOCK_WORDS * block;
+    ones += count_words::<C>(cells, first + left, words % BLOCK_WORDS);
     let passed = words * elements;
-    let ones = count_words::<C>(cells, first, words);
     ones + count_elements::<O, C>(cells, first + passed, count - passed)
 }
 
-/// How many bits of the elements of `count` words are 1: as many as the words have, which are gathered in one
-/// order, since a whole element has as many in each. Condition: the elements are narrower than a word. It loads
-/// each element once.
+/// How many bits of the elements of `count` words are 1. The compiler unrolls the loop where they are a block.
+/// Condition: the elements are narrower than a word. It loads each element once.
 #[inline(always)]
 fn count_words<C: CellsRead>(cells: &mut C, first: usize, count: usize) -> usize
     requires window { HasWindow C.Elem.BITS (C.numbers cells.old) (elements_window C.Elem.BITS first (count * (64 / C.Elem.BITS))) }
@@ -83,29 +87,9 @@ fn count_words<C: CellsRead>(cells: &mut C, first: usize, count: usize) -> usize
     ensures reads { OnlyReads C.CellsRead cells.old cells.new (count * (64 / C.Elem.BITS)) }
 {
     let elements = WORD_BITS / C::Elem::BITS as usize;
-    let block = BLOCK_WORDS * elements;
-    let mut ones = 0;
-    for step in 0..count / BLOCK_WORDS {
-        ones += count_some_words::<C>(cells, first + step * block, BLOCK_WORDS);
-    }
-    let passed = count / BLOCK_WORDS * block;
-    ones + count_some_words::<C>(cells, first + passed, count % BLOCK_WORDS)
-}
-
-/// Counts the ones of some words, one after the other: those of a block the compiler unrolls.
-#[inline(always)]
-fn count_some_words<C: CellsRead>(cells: &mut C, first: usize, count: usize) -> usize
-    requires window { HasWindow C.Elem.BITS (C.numbers cells.old) (elements_window C.Elem.BITS first (count * (64 / C.Elem.BITS))) }
-    requires narrow { C.Elem.BITS ≤ 64 }
-    ensures value { result
-        ≡ count_by (λ bit. bit) (list_in C.Elem.BITS (λ b i. i) (C.numbers cells.old) (elements_window C.Elem.BITS first (count * (64 / C.Elem.BITS)))) }
-    ensures reads { OnlyReads C.CellsRead cells.old cells.new (count * (64 / C.Elem.BITS)) }
-{
-    let elements = WORD_BITS / C::Elem::BITS as usize;
     let mut ones = 0;
     for step in 0..count {
-        let word = load_elements::<Lsb0, C>(cells, first + step * elements);
-        ones += word.count_ones() as usize;
+        ones += cells.load_word(first + step * elements).count_ones() as usize;
     }
     ones
 }

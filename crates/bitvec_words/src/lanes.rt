@@ -1,31 +1,19 @@
 //! Elements of 128 bits as two words side by side in one register of the processor, which shifts both at once.
-ghost use Rattle.std.specs.Prelude.{◌≡◌, ◌^◌, ◌<◌, ⊤};
+ghost use Rattle.std.specs.Prelude.{◌≡◌, ◌^◌, ◌<◌};
 ghost use Rattle.bitvec_words.specs.Lanes.{AreJoined, AreWords, number_of_words, words_between};
 
 use crate::{Carried, WordOrder};
 use bitvec_cells::store::BitStore;
-use std::alloc::AllocError;
 use std::simd::prelude::*;
 
 /// How many numbers a word has.
 const WORDS: u128 = 1 << 64;
 
 /// An element of 128 bits as two words, the less significant one first.
+#[derive(Clone, Copy)]
 pub struct Lanes {
     words: u64x2,
     ghost two: { AreWords words },
-}
-
-impl Copy for Lanes {}
-
-impl Clone for Lanes {
-    ghost is_clone = { λ x y. y ≡ x };
-
-    ghost is_infallible = { λ _. ⊤ };
-
-    fn clone(&self) -> Result<Self, AllocError> {
-        Ok(*self)
-    }
 }
 
 impl<T: BitStore> Carried<T> for Lanes {

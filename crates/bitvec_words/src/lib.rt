@@ -12,31 +12,17 @@ mod operator;
 mod part;
 mod scanning;
 mod scanning_words;
-mod slice_words;
 mod split;
 mod word_elements;
 mod word_order;
 mod word_parts;
 
-/// Items of `bitvec_base` that crates above use.
-pub mod base {
-    pub use bitvec_cells::base::{
-        BitOrder, BitSpanError, HiLo, Lsb0, MAX_BITS, Msb0, Part, Window, first_part, last_part,
-        tail_part, whole_elements,
-    };
-}
-
-/// Items of `bitvec_cells` that crates above use.
+/// Counted access of `bitvec_cells`.
 pub mod cells {
     pub use bitvec_cells::{Cells, CellsRead, Exclusive, Shared, fits_max_bits, has_window};
 }
 
-/// Items of `bitvec_store` that crates above use.
-pub mod store {
-    pub use bitvec_cells::store::BitStore;
-}
-
-/// Items of `bitvec_cells` that crates above use.
+/// What `bitvec_cells` does with single bits and parts of elements.
 pub mod walk {
     pub use bitvec_cells::{
         count_part, fill_part, filled, first_in_element, first_in_part, get_bit, invert_part,
@@ -44,6 +30,7 @@ pub mod walk {
     };
 }
 
+pub use bitvec_cells::{base, store};
 pub use carried::{Carried, Whole};
 pub use counting::{count, count_zeros};
 pub use element::{joined, merged, reversed, same_between, toward_end, toward_start};
@@ -54,7 +41,6 @@ pub use operator::BitOp;
 pub use part::{load_element, load_element_after, store_part};
 pub use scanning::{bits_scan_first, bits_scan_last};
 pub use scanning_words::words_scan_first;
-pub use slice_words::{load_slice_word, store_slice_word};
 pub use word_elements::{load_elements, store_elements};
 pub use word_order::WordOrder;
 pub use word_parts::{WORD_BITS, load_parts, moved, store_parts};

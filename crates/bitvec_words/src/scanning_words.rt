@@ -1,10 +1,10 @@
 //! Searches of a window by blocks of words.
-ghost use Rattle.std.specs.Prelude.{◌≡◌, ℕ, ◌*◌, ◌/◌, ◌%◌, ◌<◌, ◌≤◌, List, ◌++◌, is_none};
+ghost use Rattle.std.specs.Prelude.{◌≡◌, ◌*◌, ◌/◌, ◌%◌, ◌<◌, ◌++◌};
 ghost use Rattle.bitvec_cells.specs.base.Lists.{first_place};
-ghost use Rattle.bitvec_cells.specs.base.Memory.{HasWindow, element_bits, list_in, memory_bits};
+ghost use Rattle.bitvec_cells.specs.base.Memory.{HasWindow, element_bits, list_in};
 ghost use Rattle.bitvec_cells.specs.Access.{OnlyReads, OnlyReadsAtMost};
 ghost use Rattle.bitvec_cells.specs.Cost.{touched_count};
-ghost use Rattle.bitvec_words.specs.Elements.{HasElements, elements_window};
+ghost use Rattle.bitvec_words.specs.Elements.{elements_window};
 
 use crate::scanning::{first_in_whole, first_whole};
 use crate::split::split_head;
@@ -76,8 +76,10 @@ fn first_in_elements<O: WordOrder, C: CellsRead>(
 {
     let elements = BLOCK_BITS / C::Elem::BITS as usize;
     let blocks = count / elements;
-    if let Some(found) = first_in_blocks::<O, C>(cells, first, blocks, want) {
-        return Some(found);
+    for step in 0..blocks {
+        if let Some(found) = first_in_block::<O, C>(cells, first + step * elements, want) {
+            return Some(step * BLOCK_BITS + found);
+        }
     }
     let passed = blocks * elements;
     let found = first_in_rest::<O, C>(cells, first + passed, count - passed, want)?;
@@ -103,58 +105,15 @@ fn first_in_rest<O: WordOrder, C: CellsRead>(
     }
     let elements = WORD_BITS / bits;
     let words = count / elements;
-    if let Some(found) = first_in_some_words::<O, C>(cells, first, words, want) {
-        return Some(found);
-    }
-    let passed = words * elements;
-    let found = first_whole::<O, C>(cells, first + passed, count - passed, want)?;
-    Some(words * WORD_BITS + found)
-}
-
-/// The first of the elements of `count` words. Condition: they are narrower than a word.
-#[inline(always)]
-fn first_in_some_words<O: WordOrder, C: CellsRead>(
-    cells: &mut C,
-    first: usize,
-    count: usize,
-    want: bool,
-) -> Option<usize>
-    requires window { HasWindow C.Elem.BITS (C.numbers cells.old) (elements_window C.Elem.BITS first (count * (64 / C.Elem.BITS))) }
-    requires narrow { C.Elem.BITS < 64 }
-    ensures value { result ≡ first_place want
-        (list_in C.Elem.BITS O.at (C.numbers cells.old) (elements_window C.Elem.BITS first (count * (64 / C.Elem.BITS)))) }
-    ensures reads { OnlyReadsAtMost C.CellsRead cells.old cells.new (count * (64 / C.Elem.BITS)) }
-{
-    let elements = WORD_BITS / C::Elem::BITS as usize;
-    for step in 0..count {
+    for step in 0..words {
         let word = load_elements::<O, C>(cells, first + step * elements);
         if let Some(found) = first_in_whole::<O, u64>(word, want) {
             return Some(step * WORD_BITS + found);
         }
     }
-    None
-}
-
-/// The first of the elements of `count` blocks.
-#[inline(always)]
-fn first_in_blocks<O: WordOrder, C: CellsRead>(
-    cells: &mut C,
-    first: usize,
-    count: usize,
-    want: bool,
-) -> Option<usize>
-    requires { HasWindow C.Elem.BITS (C.numbers cells.old) (elements_window C.Elem.BITS first (count * (256 / C.Elem.BITS))) }
-    ensures value { result ≡ first_place want
-        (list_in C.Elem.BITS O.at (C.numbers cells.old) (elements_window C.Elem.BITS first (count * (256 / C.Elem.BITS)))) }
-    ensures reads { OnlyReadsAtMost C.CellsRead cells.old cells.new (count * (256 / C.Elem.BITS)) }
-{
-    let elements = BLOCK_BITS / C::Elem::BITS as usize;
-    for step in 0..count {
-        if let Some(found) = first_in_block::<O, C>(cells, first + step * elements, want) {
-            return Some(step * BLOCK_BITS + found);
-        }
-    }
-    None
+    let passed = words * elements;
+    let found = first_whole::<O, C>(cells, first + passed, count - passed, want)?;
+    Some(words * WORD_BITS + found)
 }
 
 /// The first of the elements of a block. If they are wider than a word they are two. Else the machine loads them as
@@ -181,42 +140,15 @@ fn first_in_block<O: WordOrder, C: CellsRead>(
     let two = load_elements::<Lsb0, C>(cells, first + elements);
     let three = load_elements::<Lsb0, C>(cells, first + 2 * elements);
     let four = load_elements::<Lsb0, C>(cells, first + 3 * elements);
-    if lack::<Lsb0>(one, two, three, four, want) {
+    let lacking = filled::<u64>(!want);
+    if (one ^ lacking) | (two ^ lacking) | (three ^ lacking) | (four ^ lacking) == 0 {
         return None;
     }
-    first_in_ordered::<O, C::Elem>(one, two, three, four, want)
-}
-
-/// Whether four words lack the bit.
-#[inline(always)]
-fn lack<O: BitOrder>(one: u64, two: u64, three: u64, four: u64, want: bool) -> bool
-    ensures { result ≡ is_none (first_place want
-        ((element_bits 64 O.at one ++ element_bits 64 O.at two) ++ (element_bits 64 O.at three ++ element_bits 64 O.at four))) }
-{
-    let lacking = filled::<u64>(!want);
-    (one ^ lacking) | (two ^ lacking) | (three ^ lacking) | (four ^ lacking) == 0
-}
-
-/// The first of the elements that four words have from their least significant bits on. Condition: they are not
-/// wider than a word. It isn't inlined, so that the loads that a word is gathered of have no other use, and the
-/// compiler makes one of them.
-#[inline(never)]
-fn first_in_ordered<O: WordOrder, T: BitStore>(
-    one: u64,
-    two: u64,
-    three: u64,
-    four: u64,
-    want: bool,
-) -> Option<usize>
-    requires { T.BITS ≤ 64 }
-    ensures { (ws xs ys zs : List ℕ) → HasElements T.BITS one ws → HasElements T.BITS two xs → HasElements T.BITS three ys → HasElements T.BITS four zs
-        → result ≡ first_place want ((memory_bits T.BITS O.at ws ++ memory_bits T.BITS O.at xs) ++ (memory_bits T.BITS O.at ys ++ memory_bits T.BITS O.at zs)) }
-{
-    let (one, two) = (ordered::<O, T>(one), ordered::<O, T>(two));
+    let (one, two) = (ordered::<O, C::Elem>(one), ordered::<O, C::Elem>(two));
+    let (three, four) = (ordered::<O, C::Elem>(three), ordered::<O, C::Elem>(four));
     if let Some(found) = first_of_two::<O, u64>(one, two, want) {
         return Some(found);
     }
-    let (three, four) = (ordered::<O, T>(three), ordered::<O, T>(four));
     let found = first_of_two::<O, u64>(three, four, want)?;
     Some(2 * WORD_BITS + found)
 }

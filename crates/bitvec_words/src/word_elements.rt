@@ -20,13 +20,7 @@ pub fn load_elements<O: WordOrder, C: CellsRead>(cells: &mut C, first: usize) ->
         ≡ list_in C.Elem.BITS O.at (C.numbers cells.old) (elements_window C.Elem.BITS first (64 / C.Elem.BITS)) }
     ensures reads { OnlyReads C.CellsRead cells.old cells.new (64 / C.Elem.BITS) }
 {
-    let bits = C::Elem::BITS as usize;
-    let mut word = 0;
-    for step in 0..WORD_BITS / bits {
-        let element = cells.load(first + step);
-        word |= moved::<O, C::Elem, u64>(element, 0, bits, step * bits);
-    }
-    word
+    ordered::<O, C::Elem>(cells.load_word(first))
 }
 
 /// Stores the elements of one word from the element `first` on. Condition: as for [`load_elements`].
@@ -38,16 +32,12 @@ pub fn store_elements<O: WordOrder, C: Cells>(cells: &mut C, first: usize, word:
         (element_bits 64 O.at word) }
     ensures cost { Costs C.CellsRead cells.old cells.new 0 (64 / C.Elem.BITS) }
 {
-    let bits = C::Elem::BITS as usize;
-    for step in 0..WORD_BITS / bits {
-        let element = moved::<O, u64, C::Elem>(word, step * bits, bits, 0);
-        cells.store(first + step, element);
-    }
+    cells.store_word(first, ordered::<O, C::Elem>(word));
 }
 
 /// The word that has under the order the elements that `word` has from its least significant bit on. Condition:
-/// they are not wider than a word.
-#[inline(always)]
+/// they are not wider than a word. The compiler makes no more of it than an exchange of bytes, and inlines it then.
+#[inline]
 pub(crate) fn ordered<O: WordOrder, T: BitStore>(word: u64) -> u64
     requires { T.BITS ≤ 64 }
     ensures { SameElements T.BITS O.at word result }

@@ -6,6 +6,7 @@ use Rattle.bitvec_move.specs.base.WritesLaws.{Writes-is, length-list}
 use Rattle.bitvec_move.specs.words.CombinedLaws.{Writes-both, combined-enough, combined-short}
 use Rattle.bitvec_move.specs.words.FieldLaws.{list-parted}
 use Rattle.bitvec_move.specs.words.Operator.{operator}
+use Rattle.bitvec_combine.specs.CombineLaws.{combines-beside}
 use Rattle.bitvec_combine.proofs.combining.combine.Goals as goal
 
 pub returns-then-met-eq0-clause-writes : goal.returns-then-met-eq0-clause-writes
@@ -40,4 +41,4 @@ returns-clause-writes g c =
     Writes-both b at f _ _ _ (window_until (to.len - passed) to) (window_after passed to) to x [] (list_in b at ys from) c.requires.window refl (omega arith) (omega arith)
     (λ (a d : List Bool) (a_long : length a ≡ to.len - (to.len - passed)) (d_long : length d ≡ to.len - passed).
     combined-short f a d x (omega arith) ∙ combined-enough f (a ++ d) x y (λ k late inside. omega (arith, length-append a d)) ∙ ap (combined f (a ++ d)) (list-parted b at ys from met right (omega arith)))
-    (rw (c.until-first.ensures, c.until.ensures) at c.combine_met.ensures.writes) (rw c.after.ensures at c.combine_zeros-2.ensures.writes)
+    (rw (c.until-first.ensures, c.until-other.ensures) at (combines-beside _ _ _ _ _ _ _ _ c.act.ensures.done.writes)) (rw c.after.ensures at c.combine_zeros-2.ensures.writes)

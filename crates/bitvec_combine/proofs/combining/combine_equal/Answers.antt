@@ -4,12 +4,12 @@ use Rattle.bitvec_move.specs.store.WidthLaws.{width_some}
 use Rattle.bitvec_combine.specs.CombineLaws.{combines-beside}
 use Rattle.bitvec_combine.proofs.combining.combine_equal.Goals as goal
 
-pub act_equal-requires-clause-met : goal.act_equal-requires-clause-met
-act_equal-requires-clause-met g c =
+pub act_phased-requires-clause-met : goal.act_phased-requires-clause-met
+act_phased-requires-clause-met g c =
     let below = mod_below (c.args.to.start + c.args.from.len) g.C.Elem.BitStore.BITS (width_some _ g.met.C.Elem.BitStore.width_law) in
     let lengths = c.requires.span.lengths in
     let more = c.requires.some in
     record { window = search rules; beside = search rules; some = omega arith; lengths = omega arith; inside = λ less. absurd (omega arith); reach = omega arith }
 
 pub returns-clause-writes : goal.returns-clause-writes
-returns-clause-writes g c = combines-beside _ _ _ _ _ _ _ _ c.act_equal.ensures.done.writes
+returns-clause-writes g c = combines-beside _ _ _ _ _ _ _ _ c.act_phased.ensures.done.writes

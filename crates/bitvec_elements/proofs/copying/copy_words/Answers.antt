@@ -17,8 +17,8 @@ window_word-word-requires-clause-window g c = range-inside _ _ c.args.right_wind
 pub window_word-word-requires-clause-bound : goal.window_word-word-requires-clause-bound
 window_word-word-requires-clause-bound g c = rw c.range.ensures (omega arith)
 
-pub store_bits-requires-clause-window : goal.store_bits-requires-clause-window
-store_bits-requires-clause-window g c = range-kept _ _ _ c.args.left_window _ _ _ c.requires.window c.loop-from.invariant.writes.elements c.range-in-loop-from.ensures (omega arith) (omega arith)
+pub store_few-requires-clause-window : goal.store_few-requires-clause-window
+store_few-requires-clause-window g c = range-kept _ _ _ c.args.left_window _ _ _ c.requires.window c.loop-from.invariant.writes.elements c.range-in-loop-from.ensures (omega arith) (omega arith)
 
 pub loop-from-preserved : goal.loop-from-preserved
 loop-from-preserved g c =
@@ -33,7 +33,7 @@ loop-from-preserved g c =
       fits = bound;
       writes = stretch-stored _ _ _ _ _ _ c.args.left_window _ _ _ from to c.requires.window (omega arith) bound (right ∙ sym lengths) c.range-in-loop-from.ensures refl
           (copied-stretch g.W.BitOrder.at _ g.P.BitOrder.at _ c.args.right_window from to _ _ c.requires.beside (omega arith) (omega arith) refl word)
-          inv.writes c.store_bits.ensures.writes;
+          inv.writes c.store_few.ensures.writes;
       borrow = search rules;
     }
 

@@ -1,19 +1,22 @@
-use Rattle.std.proofs.Common.{arith, sym, ◌-◌}
+use Rattle.std.proofs.Common.{ℕ, ◌-◌, ◌<◌, ◌≤◌, arith, sym, ◌∙◌, ⊎_elim}
+use Rattle.std.proofs.lemmas.Bool.{cases_lt}
+use Rattle.bitvec_elements.specs.base.CompareLaws.{same-unequal}
 use Rattle.bitvec_elements.specs.base.ListsLaws.{is_suffix-long}
 use Rattle.bitvec_elements.specs.base.NeedleLaws.{suffix-part}
-use Rattle.bitvec_elements.specs.base.Window.{window_range}
-use Rattle.bitvec_elements.specs.base.WritesLaws.{within-list, length-list}
+use Rattle.bitvec_elements.specs.base.Window.{window_after}
+use Rattle.bitvec_elements.specs.base.WritesLaws.{HasWindow-range, within-list, length-list}
 use Rattle.bitvec_elements.proofs.prefixes.ends_with_in.Goals as goal
-
-pub returns-then-right_window-left_window : goal.returns-then-right_window-left_window
-returns-then-right_window-left_window g c =
-    let list = length-list _ g.O.BitOrder.at _ _ c.requires.window in
-    let right = length-list _ g.P.BitOrder.at _ _ c.requires.right_window in
-    sym (is_suffix-long _ _ (omega arith))
 
 pub returns : goal.returns
 returns g c =
-    let right = length-list _ g.P.BitOrder.at _ _ c.requires.right_window in
+    let at = g.O.BitOrder.at in
     let window = c.args.left_window in
-    rw (c.eq_in.ensures, c.range-tail.ensures)
-    (suffix-part _ _ window (window_range window (window.len - c.args.right_window.len) window.len) (within-list _ g.O.BitOrder.at _ _ c.requires.window) (omega arith) (omega arith) (omega arith))
+    let n : ℕ = window.len - c.args.right_window.len in
+    let list = length-list _ at _ _ c.requires.window in
+    let right = length-list _ g.P.BitOrder.at _ _ c.requires.right_window in
+    let tail = length-list _ at _ _ (HasWindow-range _ _ window n window.len c.requires.window (omega arith) (omega arith)) in
+    rw (c.eq_in.ensures, c.after-tail.ensures, c.saturating_sub.ensures)
+    (⊎_elim
+    (λ (long : window.len < c.args.right_window.len). sym (same-unequal _ _ _ _ tail right (omega arith)) ∙ sym (is_suffix-long _ _ (omega arith)))
+    (λ (fits : c.args.right_window.len ≤ window.len). suffix-part _ _ window (window_after n window) (within-list _ at _ _ c.requires.window) (omega arith) (omega arith) (omega arith))
+    (cases_lt window.len c.args.right_window.len))

@@ -1,18 +1,22 @@
-use Rattle.std.proofs.Common.{arith, sym}
+use Rattle.std.proofs.Common.{ℕ, ◌<◌, ◌≤◌, min, arith, sym, ◌∙◌, ⊎_elim}
+use Rattle.std.proofs.lemmas.Bool.{cases_lt}
+use Rattle.bitvec_elements.specs.base.CompareLaws.{same-unequal}
 use Rattle.bitvec_elements.specs.base.ListsLaws.{is_prefix-long}
 use Rattle.bitvec_elements.specs.base.NeedleLaws.{prefix-part}
 use Rattle.bitvec_elements.specs.base.Window.{window_range}
-use Rattle.bitvec_elements.specs.base.WritesLaws.{within-list, length-list}
+use Rattle.bitvec_elements.specs.base.WritesLaws.{HasWindow-range, within-list, length-list}
 use Rattle.bitvec_elements.proofs.prefixes.starts_with_in.Goals as goal
-
-pub returns-then-right_window-left_window : goal.returns-then-right_window-left_window
-returns-then-right_window-left_window g c =
-    let list = length-list _ g.O.BitOrder.at _ _ c.requires.window in
-    let right = length-list _ g.P.BitOrder.at _ _ c.requires.right_window in
-    sym (is_prefix-long _ _ (omega arith))
 
 pub returns : goal.returns
 returns g c =
+    let at = g.O.BitOrder.at in
+    let window = c.args.left_window in
+    let n : ℕ = min c.args.right_window.len window.len in
+    let list = length-list _ at _ _ c.requires.window in
     let right = length-list _ g.P.BitOrder.at _ _ c.requires.right_window in
-    rw (c.eq_in.ensures, c.range-head.ensures)
-    (prefix-part _ _ c.args.left_window (window_range c.args.left_window 0 c.args.right_window.len) (within-list _ g.O.BitOrder.at _ _ c.requires.window) (omega arith) (omega arith) (omega arith))
+    let head = length-list _ at _ _ (HasWindow-range _ _ window 0 n c.requires.window (omega arith) (omega arith)) in
+    rw (c.eq_in.ensures, c.range-head.ensures, c.min.ensures)
+    (⊎_elim
+    (λ (long : window.len < c.args.right_window.len). sym (same-unequal _ _ _ _ head right (omega arith)) ∙ sym (is_prefix-long _ _ (omega arith)))
+    (λ (fits : c.args.right_window.len ≤ window.len). prefix-part _ _ window (window_range window 0 n) (within-list _ at _ _ c.requires.window) (omega arith) (omega arith) (omega arith))
+    (cases_lt window.len c.args.right_window.len))

@@ -7,11 +7,11 @@ use Rattle.bitvec_elements.specs.moves.WordLaws.{word-across, word_whole}
 use Rattle.bitvec_elements.specs.words.FieldLaws.{element_of}
 use Rattle.bitvec_elements.proofs.window_words.word_behind.Goals as goal
 
-pub load_slice_word-word-requires-clause-window : goal.load_slice_word-word-requires-clause-window
-load_slice_word-word-requires-clause-window g c =
+pub load_elements-word-requires-clause-window : goal.load_elements-word-requires-clause-window
+load_elements-word-requires-clause-window g c =
     let start = c.requires.window.within.start in
     let end = c.requires.window.within.len in
-    record { fits = c.requires.window.fits; within = record { start = omega arith; len = omega arith } }
+    rw c.new-cells.ensures.numbers (record { fits = c.requires.window.fits; within = record { start = omega arith; len = omega arith } })
 
 pub returns-then-skip-eq0 : goal.returns-then-skip-eq0
 unfolding window_of
@@ -20,7 +20,7 @@ returns-then-skip-eq0 g c =
     let bits = memory_bits b g.W.BitOrder.at (map g.T.BitStore.value c.args.elements.now) in
     let none = c.if-skip-eq0.true in
     let start : c.args.first * b ≡ c.args.first * b + c.args.skip = omega arith in
-    c.load_slice_word-word.ensures ∙ ap (λ (s : ℕ). slice_range bits s (s + 64 / b * b)) start
+    (rw c.new-cells.ensures.numbers at c.load_elements-word.ensures.value) ∙ ap (λ (s : ℕ). slice_range bits s (s + 64 / b * b)) start
 
 pub returns : goal.returns
 unfolding window_of
@@ -41,7 +41,7 @@ returns g c =
     let sum : (first + 64 / b) * b ≡ first * b + 64 = omega arith in
     let inside : first + 64 / b < length xs = element_of b (first + 64 / b) 0 (length xs) (omega arith) in
     let fits : first * b + 64 + b ≤ b * length xs = omega (arith, element_fits b (first + 64 / b) (length xs) inside) in
-    let word = c.load_slice_word-word.ensures ∙ ap (λ (n : ℕ). slice_range bits (first * b) (first * b + n)) whole in
+    let word = (rw c.new-cells.ensures.numbers at c.load_elements-word.ensures.value) ∙ ap (λ (n : ℕ). slice_range bits (first * b) (first * b + n)) whole in
     let held = rw c.BITS-bits.ensures at c.index-elements-first.is in
     let number = ap g.T.BitStore.value held ∙ sym (get_or-map g.T.BitStore.value c.args.elements.now (first + 64 / b) c.index-elements-first.result 0 (omega arith)) in
     let next_bits = ap (element_bits b at) number ∙ sym (rw sum at (element-range b at xs (first + 64 / b) inside)) in

@@ -3,7 +3,7 @@ use Rattle.bitvec_words.specs.base.WritesLaws.{Writes-is, length-list}
 use Rattle.bitvec_words.specs.MovedLaws.{take-word}
 use Rattle.bitvec_words.specs.store.WidthLaws.{width_some}
 use Rattle.bitvec_words.specs.walk.CostLaws.{edges_loaded}
-use Rattle.bitvec_move.specs.WithinLaws.{edges_enough}
+use Rattle.bitvec_move.specs.WithinLaws.{late-read, late-stored}
 use Rattle.bitvec_move.proofs.MoveLemmas.{touched-read, touched-stored}
 use Rattle.bitvec_move.proofs.copying_within.move_window.Goals as goal
 
@@ -29,17 +29,17 @@ returns-then-to-le-WORD_BITS-clause-cost g c =
 pub returns-then-to-from-clause-cost : goal.returns-then-to-from-clause-cost
 returns-then-to-from-clause-cost g c =
     let some = width_some _ g.met.C.Elem.BitStore.width_law in
-    let loads = touched-read g.C.Elem.BitStore.BITS c.args.from.start c.args.from.len c.args.to.len some c.requires.lengths in
-    let edges = edges_enough g.C.Elem.BitStore.BITS c.args.to.len (let many = c.if-to-le-WORD_BITS.false in omega arith) in
-    let stores = touched-stored g.C.Elem.BitStore.BITS c.args.to.start c.args.to.len c.args.to.len some refl in
-    let cost = c.move_to_start.ensures.cost in
+    let many = c.if-to-le-WORD_BITS.false in
+    let loads = late-read g.C.Elem.BitStore.BITS c.args.from.start c.args.from.len c.args.to.len some c.requires.lengths (omega arith) in
+    let stores = late-stored g.C.Elem.BitStore.BITS c.args.to.start c.args.to.len some in
+    let cost = c.move_to.ensures.cost in
     record { borrow = cost.borrow; loads = omega arith; stores = omega arith }
 
 pub returns-else-to-from-clause-cost : goal.returns-else-to-from-clause-cost
 returns-else-to-from-clause-cost g c =
     let some = width_some _ g.met.C.Elem.BitStore.width_law in
-    let loads = touched-read g.C.Elem.BitStore.BITS c.args.from.start c.args.from.len c.args.to.len some c.requires.lengths in
-    let edges = edges_enough g.C.Elem.BitStore.BITS c.args.to.len (let many = c.if-to-le-WORD_BITS.false in omega arith) in
-    let stores = touched-stored g.C.Elem.BitStore.BITS c.args.to.start c.args.to.len c.args.to.len some refl in
-    let cost = c.move_to_end.ensures.cost in
+    let many = c.if-to-le-WORD_BITS.false in
+    let loads = late-read g.C.Elem.BitStore.BITS c.args.from.start c.args.from.len c.args.to.len some c.requires.lengths (omega arith) in
+    let stores = late-stored g.C.Elem.BitStore.BITS c.args.to.start c.args.to.len some in
+    let cost = c.move_to-else-to-from.ensures.cost in
     record { borrow = cost.borrow; loads = omega arith; stores = omega arith }

@@ -17,5 +17,5 @@ returns-then-by-gt0-clause-list g c =
     let moves = rw c.BITS-bits.ensures at c.if-by-gt0.true in
     let to : Window = record { start = c.args.window.start - by; len = c.args.window.len } in
     let moved = amid-moved b g.O.BitOrder.at xs _ c.args.window to (c.args.window.start - by) by c.requires moves below (omega arith) refl refl
-    (rw (c.BITS-bits.ensures, c.new-cells.ensures.numbers) at c.shift_whole_to_start.ensures.writes) in
+    (rw (c.BITS-bits.ensures, c.new-cells.ensures.numbers) at c.move_elements.ensures.writes) in
     rw c.BITS-bits.ensures (search (rules, moved))

@@ -11,12 +11,6 @@ use Rattle.bitvec_move.proofs.MoveLemmas.{Swaps-same, place-element}
 use Rattle.bitvec_words.specs.WholeLaws.{whole_fits, window-end}
 use Rattle.bitvec_move.proofs.swapping_shifted.swap_rest.Goals as goal
 
-pub nonzero_div-source : goal.nonzero_div-source
-nonzero_div-source g c = let some = width-some _ _ g.met.C.Elem.BitStore.width_law c.BITS-bits.ensures in omega arith
-
-pub nonzero_rem-skip : goal.nonzero_rem-skip
-nonzero_rem-skip g c = let some = width-some _ _ g.met.C.Elem.BitStore.width_law c.BITS-bits.ensures in omega arith
-
 pub nonzero_div-behind : goal.nonzero_div-behind
 nonzero_div-behind g c = let some = width-some _ _ g.met.C.Elem.BitStore.width_law c.BITS-bits.ensures in omega arith
 
@@ -26,23 +20,23 @@ swap_across-last-requires g c =
     let some = width_some _ g.met.C.Elem.BitStore.width_law in
     let skipped = c.requires.skipped in
     record {
-      span = rw c.whole_elements-first.ensures (whole-span_from _ _ _ _ c.args.left_window c.args.right_window g.met.C.Elem.BitStore.width_law c.BITS-bits.ensures skipped.span skipped.edge);
-      inside = rw c.BITS-bits.ensures skipped.inside;
-      bound = rw c.BITS-bits.ensures (mod_below c.args.right_window.start b some);
+      span = rw c.of-stretch.ensures (whole-span_from _ _ _ _ c.args.left_window c.args.right_window g.met.C.Elem.BitStore.width_law c.BITS-bits.ensures skipped.span skipped.edge);
+      inside = rw (c.of-stretch.ensures, c.BITS-bits.ensures) skipped.inside;
+      bound = rw (c.of-stretch.ensures, c.BITS-bits.ensures) (mod_below c.args.right_window.start b some);
     }
 
-pub overflow_add-source : goal.overflow_add-source
-overflow_add-source g c =
+pub overflow_add-stretch : goal.overflow_add-stretch
+overflow_add-stretch g c =
     let has = whole-window_from _ _ _ c.args.right_window c.args.left_window.len g.met.C.Elem.BitStore.width_law c.BITS-bits.ensures c.requires.skipped.span.beside (let lengths = c.requires.skipped.span.lengths in omega arith) in
     let below = from-word _ _ _ _ _ (c.args.left_window.len / c.BITS-bits.result) g.met.C.Elem.BitStore.width_law has (rw c.BITS-bits.ensures c.requires.skipped.inside) (omega arith) in
-    rw c.whole_elements-first.ensures (omega arith)
+    rw c.of-stretch.ensures (omega arith)
 
 pub store-requires : goal.store-requires
 store-requires g c =
     let has = whole-window_from _ _ _ c.args.right_window c.args.left_window.len g.met.C.Elem.BitStore.width_law c.BITS-bits.ensures c.requires.skipped.span.beside (let lengths = c.requires.skipped.span.lengths in omega arith) in
     let here = from-inside _ _ _ _ _ _ (c.args.left_window.len / c.BITS-bits.result) has (rw c.BITS-bits.ensures c.requires.skipped.inside) (omega arith) refl in
     let kept = c.swap_across-last.ensures.swaps.right_writes.elements in
-    rw c.whole_elements-first.ensures (omega (arith, length-set {A = ℕ}))
+    rw c.of-stretch.ensures (omega (arith, length-set {A = ℕ}))
 
 pub swap_waiting-end-requires : goal.swap_waiting-end-requires
 swap_waiting-end-requires g c =
@@ -50,7 +44,7 @@ swap_waiting-end-requires g c =
     let swaps = c.swap_across-last.ensures.swaps in
     let kept = swaps.right_writes.elements in
     let met = tail-span _ _ _ _ _ c.args.left_window c.args.right_window g.met.C.Elem.BitStore.width_law c.BITS-bits.ensures c.requires.skipped.span (omega arith) swaps.writes.elements in
-    rw (c.tail_part-tail.ensures, c.after-behind.ensures, c.whole_elements-first.ensures) (record {
+    rw (c.tail_part-tail.ensures, c.after-behind.ensures, c.of-stretch.ensures) (record {
       element = met.element;
       beside = HasWindow-kept _ _ _ _ met.beside (omega (arith, length-set {A = ℕ}));
       lengths = met.lengths;
@@ -62,7 +56,7 @@ returns-then-tail-eq0-clause-cost g c =
     let b = g.C.Elem.BitStore.BITS in
     let full = rw (c.tail_part-tail.ensures, c.BITS-bits.ensures) at c.if-tail-eq0.true in
     let all = touched-full b c.args.left_window.start c.args.left_window.len (width_some _ g.met.C.Elem.BitStore.width_law) c.requires.skipped.edge full in
-    rw all (rw (c.whole_elements-first.ensures, c.BITS-bits.ensures) at c.swap_across-last.ensures.cost)
+    rw all (rw (c.of-stretch.ensures, c.BITS-bits.ensures) at c.swap_across-last.ensures.cost)
 
 pub returns-then-tail-eq0-clause-right_cost : goal.returns-then-tail-eq0-clause-right_cost
 returns-then-tail-eq0-clause-right_cost g c =
@@ -72,7 +66,7 @@ returns-then-tail-eq0-clause-right_cost g c =
     let some = c.requires.some in
     let lengths = c.requires.skipped.span.lengths in
     let more = touched-first b c.args.right_window.start c.args.right_window.len (omega arith) in
-    let cost = rw (c.whole_elements-first.ensures, c.BITS-bits.ensures, c.requires.skipped.span.lengths) at c.swap_across-last.ensures.right_cost in
+    let cost = rw (c.of-stretch.ensures, c.BITS-bits.ensures, c.requires.skipped.span.lengths) at c.swap_across-last.ensures.right_cost in
     record { borrow = search rules; loads = omega arith; stores = omega arith }
 
 pub returns-clause-swaps : goal.returns-clause-swaps
@@ -84,9 +78,9 @@ returns-clause-swaps g c =
     let all = div-add-mod' c.args.left_window.len b in
     let fits : c.args.left_window.len / b * b ≤ c.args.right_window.len = omega arith in
     let place = behind-element b c.args.right_window.start (c.args.left_window.len / b) some in
-    let whole = rw (c.whole_elements-first.ensures, c.BITS-bits.ensures) at c.swap_across-last.ensures.swaps in
-    let part = rw (c.tail_part-tail.ensures, c.after-behind.ensures, c.whole_elements-first.ensures, c.BITS-bits.ensures, place) at c.swap_waiting-end.ensures.swaps in
-    rw (c.store-2.ensures.numbers, c.after-behind.ensures, c.whole_elements-first.ensures, c.BITS-bits.ensures)
+    let whole = rw (c.of-stretch.ensures, c.BITS-bits.ensures) at c.swap_across-last.ensures.swaps in
+    let part = rw (c.tail_part-tail.ensures, c.after-behind.ensures, c.of-stretch.ensures, c.BITS-bits.ensures, place) at c.swap_waiting-end.ensures.swaps in
+    rw (c.store-2.ensures.numbers, c.after-behind.ensures, c.of-stretch.ensures, c.BITS-bits.ensures)
     (Swaps-joined _ _ _ _ _ _ _ _ _ _ _ _ _ _ span.window (HasWindow-set _ _ _ _ _ span.beside)
     (beside-tail b c.args.left_window c.args.left_window.len c.requires.skipped.edge refl)
     (beside-after b c.args.right_window (c.args.left_window.len / b) fits)
@@ -96,7 +90,7 @@ pub returns-clause-cost : goal.returns-clause-cost
 returns-clause-cost g c =
     let left = rw (c.tail_part-tail.ensures, c.BITS-bits.ensures) at c.if-tail-eq0.false in
     let all = touched-more g.C.Elem.BitStore.BITS c.args.left_window.start c.args.left_window.len (width_some _ g.met.C.Elem.BitStore.width_law) c.requires.skipped.edge (omega arith) in
-    let cost = rw (c.whole_elements-first.ensures, c.BITS-bits.ensures) at c.swap_across-last.ensures.cost in
+    let cost = rw (c.of-stretch.ensures, c.BITS-bits.ensures) at c.swap_across-last.ensures.cost in
     record { borrow = search rules; loads = omega arith; stores = omega arith }
 
 pub returns-clause-right_cost : goal.returns-clause-right_cost
@@ -108,12 +102,12 @@ returns-clause-right_cost g c =
     let all = touched-from_more b c.args.right_window.start c.args.right_window.len (width_some _ g.met.C.Elem.BitStore.width_law) c.requires.skipped.inside (omega arith) in
     let more = touched-first b c.args.right_window.start c.args.right_window.len (omega arith) in
     let rest : c.args.right_window.len - c.args.right_window.len / b * b ≡ c.args.right_window.len % b = omega arith in
-    let whole = rw (c.whole_elements-first.ensures, c.BITS-bits.ensures, lengths) at c.swap_across-last.ensures.right_cost in
-    let part = rw (c.after-behind.ensures, c.whole_elements-first.ensures, c.BITS-bits.ensures, lengths, rest) at c.swap_waiting-end.ensures.right_cost in
+    let whole = rw (c.of-stretch.ensures, c.BITS-bits.ensures, lengths) at c.swap_across-last.ensures.right_cost in
+    let part = rw (c.after-behind.ensures, c.of-stretch.ensures, c.BITS-bits.ensures, lengths, rest) at c.swap_waiting-end.ensures.right_cost in
     record { borrow = search rules; loads = omega arith; stores = omega arith }
 
-pub whole_elements-first-requires : goal.whole_elements-first-requires
-whole_elements-first-requires g c = width-some _ _ g.met.C.Elem.BitStore.width_law c.BITS-bits.ensures
+pub of-stretch-requires : goal.of-stretch-requires
+of-stretch-requires g c = width-some _ _ g.met.C.Elem.BitStore.width_law c.BITS-bits.ensures
 
 pub tail_part-tail-requires-clause-bits : goal.tail_part-tail-requires-clause-bits
 tail_part-tail-requires-clause-bits g c = width-some _ _ g.met.C.Elem.BitStore.width_law c.BITS-bits.ensures
@@ -130,20 +124,20 @@ returns-then-tail-eq0-clause-swaps g c =
     let parts = div-add-mod' c.args.left_window.len b in
     let edge = c.requires.skipped.edge in
     let lengths = c.requires.skipped.span.lengths in
-    rw (c.store.ensures.numbers, c.whole_elements-first.ensures, c.BITS-bits.ensures)
+    rw (c.store.ensures.numbers, c.of-stretch.ensures, c.BITS-bits.ensures)
     (Swaps-same b _ _ _ _ _ _ _ c.args.left_window c.args.right_window (omega arith) (omega arith) (omega arith) (omega arith)
-    (rw (c.whole_elements-first.ensures, c.BITS-bits.ensures) at c.swap_across-last.ensures.swaps))
+    (rw (c.of-stretch.ensures, c.BITS-bits.ensures) at c.swap_across-last.ensures.swaps))
 
-pub overflow_mul-count : goal.overflow_mul-count
-overflow_mul-count g c =
+pub overflow_mul-stretch : goal.overflow_mul-stretch
+overflow_mul-stretch g c =
     let fits = whole_fits g.C.Elem.BitStore.BITS c.args.left_window.len (c.args.left_window.len / g.C.Elem.BitStore.BITS) (omega arith) in
-    rw (c.whole_elements-first.ensures, c.BITS-bits.ensures) (omega arith)
+    rw (c.of-stretch.ensures, c.BITS-bits.ensures) (omega arith)
 
 pub after-behind-requires-clause-bound : goal.after-behind-requires-clause-bound
 after-behind-requires-clause-bound g c =
     let lengths = c.requires.skipped.span.lengths in
     let fits = whole_fits g.C.Elem.BitStore.BITS c.args.left_window.len (c.args.left_window.len / g.C.Elem.BitStore.BITS) (omega arith) in
-    rw (c.whole_elements-first.ensures, c.BITS-bits.ensures) (omega arith)
+    rw (c.of-stretch.ensures, c.BITS-bits.ensures) (omega arith)
 
 pub after-behind-requires-clause-end : goal.after-behind-requires-clause-end
 after-behind-requires-clause-end g c = window-end _ _ c.args.right_window c.requires.skipped.span.beside
@@ -153,14 +147,14 @@ overflow_add-behind g c =
     let end = window-end _ _ c.args.right_window c.requires.skipped.span.beside in
     let lengths = c.requires.skipped.span.lengths in
     let fits = whole_fits g.C.Elem.BitStore.BITS c.args.left_window.len (c.args.left_window.len / g.C.Elem.BitStore.BITS) (omega arith) in
-    rw (c.after-behind.ensures, c.whole_elements-first.ensures, c.BITS-bits.ensures) (omega arith)
+    rw (c.after-behind.ensures, c.of-stretch.ensures, c.BITS-bits.ensures) (omega arith)
 
 pub overflow_sub-behind : goal.overflow_sub-behind
 overflow_sub-behind g c =
     let left = rw (c.tail_part-tail.ensures, c.BITS-bits.ensures) at c.if-tail-eq0.false in
     let parts = div-add-mod' c.args.left_window.len g.C.Elem.BitStore.BITS in
     let lengths = c.requires.skipped.span.lengths in
-    rw (c.after-behind.ensures, c.whole_elements-first.ensures, c.BITS-bits.ensures) (omega arith)
+    rw (c.after-behind.ensures, c.of-stretch.ensures, c.BITS-bits.ensures) (omega arith)
 
 pub store-requires-2 : goal.store-requires-2
 store-requires-2 g c =
@@ -170,4 +164,4 @@ store-requires-2 g c =
     let kept = c.swap_across-last.ensures.swaps.right_writes.elements in
     let again = c.swap_waiting-end.ensures.swaps.right_writes.elements in
     place-element _ _ _ _ c.args.right_window _ g.met.C.Elem.BitStore.width_law c.BITS-bits.ensures c.requires.skipped.span.beside
-    (rw (c.after-behind.ensures, c.whole_elements-first.ensures, c.BITS-bits.ensures) (omega arith)) (omega (arith, length-set {A = ℕ}))
+    (rw (c.after-behind.ensures, c.of-stretch.ensures, c.BITS-bits.ensures) (omega arith)) (omega (arith, length-set {A = ℕ}))

@@ -1,19 +1,23 @@
-use Rattle.std.proofs.Common.{◌≡◌, ◌+◌, ◌-◌, arith, ◌∙◌}
+use Rattle.std.specs.Prelude.{bit_and}
+use Rattle.std.proofs.Common.{◌≡◌, ◌+◌, ◌-◌, ◌/◌, ◌%◌, ◌^◌, ℕ, arith, ap, ◌∙◌}
+use Rattle.std.proofs.lemmas.Nat.{and_mask}
+use Rattle.std.proofs.lemmas.Nat.Bits.{ones_shr}
 use Rattle.bitvec_words.specs.store.WidthLaws.{width_some}
-use Rattle.bitvec_segments.proofs.JoinedWindow.{HasWindow-elements, number-below, number-cut, number-next, number-one, touched-elements}
+use Rattle.bitvec_segments.proofs.JoinedWindow.{HasWindow-elements, number-below, number-cut, number-element, number-next, number-one, touched-elements}
 use Rattle.bitvec_segments.proofs.joining.joined_number.Goals as goal
 
 pub loop-width-init : goal.loop-width-init
 loop-width-init g c =
     let some = width_some _ g.met.C.Elem.BitStore.width_law in
     let more = c.requires.word.some in
-    let word = c.element_number-word.ensures in
+    let word = c.to_u128-word.ensures in
+    let value = number-element g.O.WordOrder.HIGH _ g.O.BitOrder.at _ _ (g.met.O.WordOrder.ends_law _) (word.number ∙ c.load.ensures.value) word.in_range in
     record {
       some = omega arith;
       width = omega arith;
       last = omega arith;
-      value = number-one _ _ _ _ _ _ some (HasWindow-elements _ _ c.args.window 1 c.requires.window (omega arith) (omega arith)) (rw c.BITS-bits.ensures at word.value);
-      reads = word.reads;
+      value = number-one _ _ _ _ _ _ some (HasWindow-elements _ _ c.args.window 1 c.requires.window (omega arith) (omega arith)) (rw c.BITS-bits.ensures at value);
+      reads = record { numbers = c.load.ensures.numbers; borrow = c.load.ensures.borrow; loads = c.load.ensures.loads; stores = c.load.ensures.stores };
     }
 
 pub with_next-word-requires-clause-word : goal.with_next-word-requires-clause-word
@@ -29,14 +33,15 @@ loop-width-preserved g c =
     let back : c.loop-width.count + 1 - 1 ≡ c.loop-width.count = omega arith in
     let last = rw (← back) at left in
     let has = HasWindow-elements _ _ c.args.window (c.loop-width.count + 1) c.requires.window (omega arith) last in
-    let next = c.element_number-next.ensures in
-    let value = rw (c.BITS-bits.ensures, inv.reads.numbers) at next.value in
+    let next = c.to_u128-next.ensures in
+    let element = number-element g.O.WordOrder.HIGH _ g.O.BitOrder.at _ _ (g.met.O.WordOrder.ends_law _) (next.number ∙ c.load-in-loop-width.ensures.value) next.in_range in
+    let value = rw (c.BITS-bits.ensures, inv.reads.numbers) at element in
     let joined = rw (c.BITS-bits.ensures, inv.width) at c.with_next-word.ensures in
     let wider = inv.width in
     let bits = c.BITS-bits.ensures in
     let whole = number-next _ _ _ _ _ _ _ _ some has inv.value value in
     let reads = inv.reads in
-    let more = next.reads in
+    let more = c.load-in-loop-width.ensures in
     let old_loads = reads.loads in
     let loads = more.loads in
     record {
@@ -52,7 +57,17 @@ returns-clause-value g c =
     let inv = c.loop-width.invariant in
     let all = rw (c.BITS-bits.ensures, inv.width) at c.loop-width-test.false in
     let has = HasWindow-elements _ _ c.args.window c.loop-width.count c.requires.window inv.some inv.last in
-    rw (c.BITS-bits.ensures, inv.width) at c.cut_out.ensures ∙ number-cut _ _ _ _ c.args.window _ _ has all inv.value
+    let len : ℕ = c.args.window.len in
+    let short = c.requires.word.fits in
+    let some = c.requires.word.some in
+    let back : 64 - (64 - len) ≡ len = omega arith in
+    let mask : (2 ^ 64 - 1) / 2 ^ (64 - len) ≡ 2 ^ len - 1 = ones_shr 64 (64 - len) (omega arith) ∙ ap (λ (n : ℕ). 2 ^ n - 1) back in
+    let size : c.args.window.start % g.C.Elem.BitStore.BITS + len - c.args.window.start % g.C.Elem.BitStore.BITS ≡ len = omega arith in
+    let below = rw (c.BITS-bits.ensures, inv.width, size) at c.bits_below-below.ensures in
+    ap (bit_and (c.loop-width.word / 2 ^ c.bits_below-below.result)) mask
+    ∙ and_mask (c.loop-width.word / 2 ^ c.bits_below-below.result) len
+    ∙ ap (λ (n : ℕ). c.loop-width.word / 2 ^ n % 2 ^ len) below
+    ∙ number-cut _ _ _ _ c.args.window _ _ has all inv.value
 
 pub returns-clause-reads : goal.returns-clause-reads
 returns-clause-reads g c =

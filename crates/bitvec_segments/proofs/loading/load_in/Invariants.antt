@@ -1,3 +1,4 @@
+use Rattle.std.specs.Prelude.{◌==◌, not}
 use Rattle.std.proofs.Common.{◌≡◌, ◌-◌, ◌≤◌}
 use Rattle.bitvec_words.specs.base.Memory.{HasWindow}
 use Rattle.bitvec_words.specs.cells.Access.{OnlyReads}
@@ -15,7 +16,7 @@ invariant-loop-left g l =
       left : l.left ≡ touched_count b l.rest.start l.rest.len;
       fewer : l.left ≤ l.fn.count;
       place : Begins b l.rest l.element l.from l.left;
-      value : Loaded g.E.SegmentOrder.BIG g.O.WordOrder.HIGH b g.O.BitOrder.at xs l.fn.window l.rest l.number;
+      value : Loaded (not (g.row.BIG == 0)) g.O.WordOrder.HIGH b g.O.BitOrder.at xs l.fn.window l.rest l.number;
       reads : OnlyReads g.C.CellsRead l.fn.cells l.cells (l.fn.count - l.left);
     }
 

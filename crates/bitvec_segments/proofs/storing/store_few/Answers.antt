@@ -14,10 +14,10 @@ returns-then-window-bits g c =
     let b = g.C.Elem.BitStore.BITS in
     let some = width_some _ g.met.C.Elem.BitStore.width_law in
     let short = rw c.BITS-bits.ensures at c.if-window-bits.true in
-    let part : c.part_at.result ≡ first_part_of b window = c.part_at.ensures ∙ ap (λ (n : ℕ). first_part_of n window) c.BITS-bits.ensures in
+    let part : c.part_at-part.result ≡ first_part_of b window = c.part_at-part.ensures ∙ ap (λ (n : ℕ). first_part_of n window) c.BITS-bits.ensures in
     let step = edge-len b c.args.element window some c.requires.edge in
     let each = touched-parts b window.start (min window.len b) window.len some c.requires.some (omega arith) in
-    let edge = part_loads-most b c.part_at.result in
+    let edge = part_loads-most b c.part_at-part.result in
     let cost = c.store_part_number.ensures.cost in
     let loads = cost.loads in
     let stores = cost.stores in
@@ -38,8 +38,8 @@ returns g c =
     let after : c.after-rest.result ≡ rest = c.after-rest.ensures ∙ ap (λ (n : ℕ). window_after n window) c.BITS-bits.ensures in
     let whole : b ≡ min window.len b = omega arith in
     let step = whole ∙ edge-len b c.args.element window some edge in
-    let part : c.part_at-2.result ≡ first_part_of b window = c.part_at-2.ensures ∙ ap (λ (n : ℕ). first_part_of n window) c.BITS-bits.ensures in
-    let next : c.part_at-3.result ≡ first_part_of b rest = rw after at c.part_at-3.ensures ∙ ap (λ (n : ℕ). first_part_of n rest) c.BITS-bits.ensures in
+    let part : c.part_at-part-2.result ≡ first_part_of b window = c.part_at-part-2.ensures ∙ ap (λ (n : ℕ). first_part_of n window) c.BITS-bits.ensures in
+    let next : c.part_at-last.result ≡ first_part_of b rest = rw after at c.part_at-last.ensures ∙ ap (λ (n : ℕ). first_part_of n rest) c.BITS-bits.ensures in
     let has = HasWindow-part b _ window rest c.requires.number.window (omega arith) (omega arith) in
     let first = rw (part, c.lower_bits.ensures.bits, after) at c.store_part_number-2.ensures in
     let second = rw (next, c.lower_bits-2.ensures.bits, c.BITS-bits.ensures) at c.store_part_number-3.ensures in
@@ -58,6 +58,6 @@ returns g c =
       cost = record { borrow = second.cost.borrow ∙ first.cost.borrow; loads = omega arith; stores = omega arith };
     }
 
-pub part_at-requires-clause-element : goal.part_at-requires-clause-element
-part_at-requires-clause-element g c =
+pub part_at-part-requires-clause-element : goal.part_at-part-requires-clause-element
+part_at-part-requires-clause-element g c =
     rw c.BITS-bits.ensures (edge-place g.C.Elem.BitStore.BITS c.args.element c.args.window (width_some _ g.met.C.Elem.BitStore.width_law) c.requires.edge).0

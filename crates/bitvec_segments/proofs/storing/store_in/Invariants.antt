@@ -1,3 +1,4 @@
+use Rattle.std.specs.Prelude.{◌==◌, not}
 use Rattle.std.proofs.Common.{◌≡◌, ◌-◌, ◌≤◌}
 use Rattle.bitvec_words.specs.base.Memory.{HasWindow}
 use Rattle.bitvec_words.specs.cells.Access.{CostsAtMost}
@@ -16,7 +17,7 @@ invariant-loop-left g l =
       count : l.left ≡ touched_count b l.rest.start l.rest.len;
       fewer : l.left ≤ l.fn.count;
       place : Begins b l.rest l.element l.from l.left;
-      left : Left g.E.SegmentOrder.BIG g.O.WordOrder.HIGH b g.O.BitOrder.at (g.C.CellsRead.numbers l.fn.cells) now l.fn.window l.rest l.fn.number;
+      left : Left (not (g.row.BIG == 0)) g.O.WordOrder.HIGH b g.O.BitOrder.at (g.C.CellsRead.numbers l.fn.cells) now l.fn.window l.rest l.fn.number;
       cost : CostsAtMost g.C.CellsRead l.fn.cells l.cells (edge_loads l.fn.window l.rest) (l.fn.count - l.left);
     }
 

@@ -1,11 +1,12 @@
-use Rattle.std.proofs.Common.{◌/◌, arith, refl, sym, ◌∙◌, ap}
+use Rattle.std.proofs.Common.{◌/◌, arith, sym, ◌∙◌, ap}
 use Rattle.std.proofs.Math.Nat.{div-le_self}
 use Rattle.bitvec_cells.specs.base.Lists.{first_place}
+use Rattle.bitvec_cells.specs.base.PlacesLaws.{first_place-below}
 use Rattle.bitvec_cells.specs.store.WidthLaws.{width_some}
 use Rattle.bitvec_words.specs.WordLaws.{width-some}
-use Rattle.bitvec_words.proofs.CostLemmas.{reads-sum}
-use Rattle.bitvec_words.proofs.OrderedLemmas.{block-found, block-lacks}
-use Rattle.bitvec_words.proofs.WordScanLemmas.{block_pair, elements-bound, list-pair, none_from, pair-inside, words}
+use Rattle.bitvec_words.proofs.OrderedLemmas.{block-lacks, block-ordered}
+use Rattle.bitvec_words.proofs.ScanLemmas.{first-behind, first-front, first-lacks}
+use Rattle.bitvec_words.proofs.WordScanLemmas.{block_pair, elements-bound, length-two, list-pair, pair-inside, words}
 use Rattle.bitvec_words.proofs.scanning_words.first_in_block.Goals as goal
 
 pub load-one-requires : goal.load-one-requires
@@ -82,40 +83,67 @@ overflow_add-first-4 g c =
     let all = words _ c.args.first g.met.C.Elem.BitStore.width_law (rw c.BITS-bits.ensures at c.if-bits-gt-WORD_BITS.false) c.requires in
     rw c.BITS-bits.ensures (omega arith)
 
-pub returns-then-lack : goal.returns-then-lack
-returns-then-lack g c =
+pub returns-then-one-lacking-eq0-clause-value : goal.returns-then-one-lacking-eq0-clause-value
+returns-then-one-lacking-eq0-clause-value g c =
     let b = g.C.Elem.BitStore.BITS in
     let width = g.met.C.Elem.BitStore.width_law in
     let narrow = rw c.BITS-bits.ensures at c.if-bits-gt-WORD_BITS.false in
-    let all = words b c.args.first width narrow c.requires in
     let one = c.load_elements-one.ensures in
     let two = c.load_elements-two.ensures in
     let three = c.load_elements-three.ensures in
-    let four = c.load_elements-four.ensures in
     let second = two.reads.numbers ∙ one.reads.numbers in
     let bits_two = rw (c.BITS-bits.ensures, one.reads.numbers) at two.value in
     let bits_three = rw (c.BITS-bits.ensures, second) at three.value in
-    let bits_four = rw (c.BITS-bits.ensures, three.reads.numbers ∙ second) at four.value in
-    record {
-      value = block-lacks b g.O.BitOrder.at (g.met.O.BitOrder.permutes b width) _ c.args.first width narrow c.requires c.args.want _ _ _ _ one.value bits_two bits_three bits_four (none_from _ (sym c.if-lack.true ∙ c.lack.ensures));
-      reads = reads-sum (reads-sum (reads-sum one.reads two.reads refl) three.reads refl) four.reads (omega arith);
-    }
+    let bits_four = rw (c.BITS-bits.ensures, three.reads.numbers ∙ second) at c.load_elements-four.ensures.value in
+    block-lacks b g.O.BitOrder.at (g.met.O.BitOrder.permutes b width) _ c.args.first width narrow c.requires c.args.want _ _ _ _ one.value bits_two bits_three bits_four _ c.filled-lacking.ensures c.if-one-lacking-eq0.true
 
-pub returns : goal.returns
-returns g c =
+pub returns-in-Some-clause-value : goal.returns-in-Some-clause-value
+returns-in-Some-clause-value g c =
     let b = g.C.Elem.BitStore.BITS in
     let width = g.met.C.Elem.BitStore.width_law in
     let narrow = rw c.BITS-bits.ensures at c.if-bits-gt-WORD_BITS.false in
-    let all = words b c.args.first width narrow c.requires in
     let one = c.load_elements-one.ensures in
     let two = c.load_elements-two.ensures in
     let three = c.load_elements-three.ensures in
-    let four = c.load_elements-four.ensures in
     let second = two.reads.numbers ∙ one.reads.numbers in
     let bits_two = rw (c.BITS-bits.ensures, one.reads.numbers) at two.value in
     let bits_three = rw (c.BITS-bits.ensures, second) at three.value in
-    let bits_four = rw (c.BITS-bits.ensures, three.reads.numbers ∙ second) at four.value in
-    record {
-      value = block-found b g.O.BitOrder.at (g.met.O.BitOrder.permutes b width) _ c.args.first width narrow c.requires c.args.want _ _ _ _ one.value bits_two bits_three bits_four _ c.first_in_ordered.ensures;
-      reads = reads-sum (reads-sum (reads-sum one.reads two.reads refl) three.reads refl) four.reads (omega arith);
-    }
+    let bits_four = rw (c.BITS-bits.ensures, three.reads.numbers ∙ second) at c.load_elements-four.ensures.value in
+    let all = block-ordered b g.O.BitOrder.at (g.met.O.BitOrder.permutes b width) _ c.args.first width narrow c.requires c.args.want _ _ _ _ one.value bits_two bits_three bits_four _ _ _ _ c.ordered-one.ensures c.ordered-two.ensures c.ordered-three.ensures c.ordered-four.ensures in
+    first-front c.args.want _ _ _ _ c.in-Some.ensures all
+
+pub returns-in_err-found-clause-value : goal.returns-in_err-found-clause-value
+returns-in_err-found-clause-value g c =
+    let b = g.C.Elem.BitStore.BITS in
+    let width = g.met.C.Elem.BitStore.width_law in
+    let narrow = rw c.BITS-bits.ensures at c.if-bits-gt-WORD_BITS.false in
+    let one = c.load_elements-one.ensures in
+    let two = c.load_elements-two.ensures in
+    let three = c.load_elements-three.ensures in
+    let second = two.reads.numbers ∙ one.reads.numbers in
+    let bits_two = rw (c.BITS-bits.ensures, one.reads.numbers) at two.value in
+    let bits_three = rw (c.BITS-bits.ensures, second) at three.value in
+    let bits_four = rw (c.BITS-bits.ensures, three.reads.numbers ∙ second) at c.load_elements-four.ensures.value in
+    let all = block-ordered b g.O.BitOrder.at (g.met.O.BitOrder.permutes b width) _ c.args.first width narrow c.requires c.args.want _ _ _ _ one.value bits_two bits_three bits_four _ _ _ _ c.ordered-one.ensures c.ordered-two.ensures c.ordered-three.ensures c.ordered-four.ensures in
+    rw c.from_residual.ensures (first-lacks c.args.want _ _ _ c.in_default.ensures c.in_err-found.ensures all)
+
+pub overflow_add-result : goal.overflow_add-result
+overflow_add-result g c =
+    let below = first_place-below c.args.want _ _ (sym c.in_ok-found.ensures) in
+    let long = length-two g.O.BitOrder.at c.ordered-three.result c.ordered-four.result in
+    omega arith
+
+pub returns-clause-value : goal.returns-clause-value
+returns-clause-value g c =
+    let b = g.C.Elem.BitStore.BITS in
+    let width = g.met.C.Elem.BitStore.width_law in
+    let narrow = rw c.BITS-bits.ensures at c.if-bits-gt-WORD_BITS.false in
+    let one = c.load_elements-one.ensures in
+    let two = c.load_elements-two.ensures in
+    let three = c.load_elements-three.ensures in
+    let second = two.reads.numbers ∙ one.reads.numbers in
+    let bits_two = rw (c.BITS-bits.ensures, one.reads.numbers) at two.value in
+    let bits_three = rw (c.BITS-bits.ensures, second) at three.value in
+    let bits_four = rw (c.BITS-bits.ensures, three.reads.numbers ∙ second) at c.load_elements-four.ensures.value in
+    let all = block-ordered b g.O.BitOrder.at (g.met.O.BitOrder.permutes b width) _ c.args.first width narrow c.requires c.args.want _ _ _ _ one.value bits_two bits_three bits_four _ _ _ _ c.ordered-one.ensures c.ordered-two.ensures c.ordered-three.ensures c.ordered-four.ensures in
+    first-behind c.args.want _ _ _ 128 _ c.in_default.ensures c.in_ok-found.ensures (length-two g.O.BitOrder.at c.ordered-one.result c.ordered-two.result) all

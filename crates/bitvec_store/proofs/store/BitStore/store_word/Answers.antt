@@ -2,7 +2,7 @@ use Rattle.std.proofs.Common.{◌<◌, [], ◌∷◌, length, map, take, arith, 
 use Rattle.std.proofs.lemmas.Grind.{common_steps}
 use Rattle.std.proofs.lemmas.List.{map-append, take_more_set}
 use Rattle.std.proofs.lemmas.Nat.{and_mask}
-use Rattle.bitvec_store.proofs.DigitLemmas.{digits-more}
+use Rattle.bitvec_store.specs.DigitLaws.{digits-more}
 use Rattle.bitvec_store.proofs.store.BitStore.store_word.Goals as goal
 
 pub loop-step-preserved : goal.loop-step-preserved

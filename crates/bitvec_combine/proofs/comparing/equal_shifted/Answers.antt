@@ -1,8 +1,0 @@
-use Rattle.bitvec_combine.proofs.RoomLemmas.{one_field}
-use Rattle.bitvec_combine.proofs.comparing.equal_shifted.Goals as goal
-
-pub act_shifted-requires-room-A-Act : goal.act_shifted-requires-room-A-Act
-act_shifted-requires-room-A-Act g c κs within = one_field _ _ c.fits_in_memory.ensures.memory
-
-pub act_shifted-requires-room-A-Clone : goal.act_shifted-requires-room-A-Clone
-act_shifted-requires-room-A-Clone g c κs within = one_field _ _ c.fits_in_memory.ensures.memory

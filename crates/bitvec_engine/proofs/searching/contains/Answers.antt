@@ -1,0 +1,32 @@
+use Rattle.std.proofs.Common.{◌≡◌, false, arith, rules, sym, ◌∙◌}
+use Rattle.bitvec_combine.specs.base.Lists.{stands_at}
+use Rattle.bitvec_combine.specs.base.ListsLaws.{stands_in-found}
+use Rattle.bitvec_combine.specs.base.NeedleLaws.{stands-nowhere}
+use Rattle.bitvec_combine.specs.base.WritesLaws.{length-list}
+use Rattle.bitvec_engine.proofs.NeedleLemmas.{stands-found, cost-more}
+use Rattle.bitvec_engine.proofs.searching.contains.Goals as goal
+use borrow.Author.Count.{below_more}
+
+pub returns-then-block_eq-clause-value : goal.returns-then-block_eq-clause-value
+returns-then-block_eq-clause-value g c =
+    let inv = c.loop-from.invariant in
+    let left = length-list _ g.O.BitOrder.at _ _ c.requires.window in
+    let right = length-list _ g.O.BitOrder.at _ _ c.requires.right_window in
+    let here = stands-found g.O.BitOrder.at g.O.BitOrder.at c.loop-from.from c.requires.window c.requires.right_window (omega arith) inv.reads.numbers inv.right.numbers c.range-part.ensures c.block_eq.ensures.value in
+    sym (stands_in-found _ _ c.loop-from.from (omega arith) (here ∙ c.if-block_eq.true))
+
+pub loop-from-preserved : goal.loop-from-preserved
+loop-from-preserved g c =
+    let inv = c.loop-from.invariant in
+    let here = stands-found g.O.BitOrder.at g.O.BitOrder.at c.loop-from.from c.requires.window c.requires.right_window (omega arith) inv.reads.numbers inv.right.numbers c.range-part.ensures c.block_eq.ensures.value in
+    record {
+      absent = below_more (λ k. stands_at _ _ k ≡ false) c.loop-from.from inv.absent (here ∙ c.if-block_eq.false);
+      reads = search (rules, cost-more);
+      right = search (rules, cost-more);
+    }
+
+pub returns-clause-value : goal.returns-clause-value
+returns-clause-value g c =
+    let left = length-list _ g.O.BitOrder.at _ _ c.requires.window in
+    let right = length-list _ g.O.BitOrder.at _ _ c.requires.right_window in
+    stands-nowhere _ _ c.loop-from.from (omega arith) c.loop-from.invariant.absent

@@ -1,0 +1,13 @@
+use Rattle.std.proofs.Common.{ℕ, ◌-◌, ap, sym, ◌∙◌}
+use Rattle.bitvec_combine.specs.base.Lists.{rotated_left}
+use Rattle.bitvec_combine.specs.base.Memory.{list_in}
+use Rattle.bitvec_combine.specs.base.RotationLaws.{rotated_right-left}
+use Rattle.bitvec_combine.specs.base.WritesLaws.{length-list, Writes-is}
+use Rattle.bitvec_engine.proofs.shifting.rotate_right.Goals as goal
+
+pub returns-clause-writes : goal.returns-clause-writes
+returns-clause-writes g c =
+    let by = c.args.by in
+    let list = list_in g.C.Elem.BitStore.BITS g.O.BitOrder.at (g.C.CellsRead.numbers c.args.cells.now) c.args.window in
+    Writes-is _ _ _ _ _ _ _ c.rotate_left.ensures.writes
+    (sym (rotated_right-left by list ∙ ap (λ (n : ℕ). rotated_left (n - by) list) (length-list _ g.O.BitOrder.at _ _ c.requires.window)))

@@ -1,0 +1,25 @@
+use Rattle.std.proofs.Common.{◌%◌, ◌/◌, ◌+◌, arith, ◌∙◌}
+use Rattle.bitvec_combine.specs.words.TouchedLaws.{part_loads-most}
+use Rattle.bitvec_engine.proofs.FewLemmas.{stored-across, touched-across}
+use Rattle.bitvec_engine.proofs.storing.store_across.Goals as goal
+
+pub returns-clause-writes : goal.returns-clause-writes
+returns-clause-writes g c =
+    let kept = rw c.BITS-bits.ensures at c.moved-kept.ensures in
+    let moved = rw c.BITS-bits.ensures at c.moved.ensures in
+    let behind = rw c.BITS-bits.ensures at c.moved-behind.ensures in
+    let loaded = rw c.BITS-bits.ensures at c.load.ensures.value in
+    let before = rw (c.BITS-bits.ensures, c.load.ensures.numbers) at c.store_elements.ensures.writes in
+    let after = rw c.BITS-bits.ensures at c.store_part.ensures.writes in
+    stored-across g.C.Elem.BitStore.BITS c.args.window g.met.C.Elem.BitStore.width_law c.requires.narrow c.requires.size c.requires.inside g.W.BitOrder.at _ _ _ _ _ _ _ _ c.requires.window loaded kept moved behind before after
+
+pub returns-clause-cost : goal.returns-clause-cost
+returns-clause-cost g c =
+    let b = g.C.Elem.BitStore.BITS in
+    let window = c.args.window in
+    let head = c.load.ensures in
+    let stored = c.store_elements.ensures.cost in
+    let cost = rw c.BITS-bits.ensures at c.store_part.ensures.cost in
+    let most = part_loads-most b (record { element = window.start / b + 64 / b; from = 0; to = window.start % b }) in
+    let all = touched-across b window g.met.C.Elem.BitStore.width_law c.requires.narrow c.requires.size c.requires.inside in
+    rw (all, c.requires.size) (record { borrow = cost.borrow ∙ stored.borrow ∙ head.borrow; loads = omega arith; stores = omega arith })

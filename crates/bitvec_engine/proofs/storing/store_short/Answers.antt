@@ -1,0 +1,59 @@
+use Rattle.std.proofs.Common.{◌≡◌, ℕ, ◌-◌, ◌+◌, arith, refl, ap, sym, ◌∙◌, take}
+use Rattle.bitvec_combine.specs.base.declared.part.Part.{Part}
+use Rattle.bitvec_combine.specs.base.Memory.{element_bits}
+use Rattle.bitvec_combine.specs.base.Parts.{first_part_of}
+use Rattle.bitvec_combine.specs.base.WritesLaws.{Writes-empty, Writes-is}
+use Rattle.bitvec_combine.specs.store.WidthLaws.{width_some}
+use Rattle.bitvec_combine.specs.words.FillingLaws.{fill_loads-some}
+use Rattle.bitvec_combine.specs.words.TouchedLaws.{part_loads-most, touched-first}
+use Rattle.bitvec_engine.proofs.FewLemmas.{stored-one, stored-two, touched-short}
+use Rattle.bitvec_engine.proofs.storing.store_short.Goals as goal
+
+pub returns-then-window-eq0-clause-writes : goal.returns-then-window-eq0-clause-writes
+returns-then-window-eq0-clause-writes g c =
+    let none = c.if-window-eq0.true in
+    Writes-is _ _ _ _ _ _ _ (Writes-empty _ g.W.BitOrder.at _ _ c.args.window c.requires.window none refl) (ap (λ (n : ℕ). take n (element_bits 64 g.W.BitOrder.at c.args.word)) (sym none))
+
+pub returns-then-count-window-clause-writes : goal.returns-then-count-window-clause-writes
+returns-then-count-window-clause-writes g c =
+    let window = c.args.window in
+    let some = width_some _ g.met.C.Elem.BitStore.width_law in
+    let part : c.first_part-head.result ≡ first_part_of g.C.Elem.BitStore.BITS window = rw c.BITS.ensures at c.first_part-head.ensures in
+    let step = c.len-count.ensures ∙ ap (λ (p : Part). p.to - p.from) part in
+    let first = rw part at c.moved-first.ensures in
+    let before = rw part at c.store_part.ensures.writes in
+    let after = rw part at c.store_part-then-count-window.ensures.writes in
+    stored-two _ g.W.BitOrder.at _ _ window _ _ _ some (omega arith) c.requires.bound c.requires.short step c.requires.window first before _ _ c.if-count-window.true c.moved-second.ensures after
+
+pub returns-else-count-window-clause-writes : goal.returns-else-count-window-clause-writes
+returns-else-count-window-clause-writes g c =
+    let window = c.args.window in
+    let some = width_some _ g.met.C.Elem.BitStore.width_law in
+    let part : c.first_part-head.result ≡ first_part_of g.C.Elem.BitStore.BITS window = rw c.BITS.ensures at c.first_part-head.ensures in
+    let step = c.len-count.ensures ∙ ap (λ (p : Part). p.to - p.from) part in
+    let first = rw part at c.moved-first.ensures in
+    let before = rw part at c.store_part.ensures.writes in
+    stored-one _ g.W.BitOrder.at _ _ window _ _ _ some (omega arith) c.requires.bound c.requires.short step c.requires.window first before (omega arith)
+
+pub returns-then-count-window-clause-cost : goal.returns-then-count-window-clause-cost
+returns-then-count-window-clause-cost g c =
+    let b = g.C.Elem.BitStore.BITS in
+    let window = c.args.window in
+    let some = width_some _ g.met.C.Elem.BitStore.width_law in
+    let part : c.first_part-head.result ≡ first_part_of b window = rw c.BITS.ensures at c.first_part-head.ensures in
+    let step = c.len-count.ensures ∙ ap (λ (p : Part). p.to - p.from) part in
+    let all = touched-short b _ window some (omega arith) c.requires.short step c.if-count-window.true in
+    let first = part_loads-most b c.first_part-head.result in
+    let second = part_loads-most b (record { element = c.first_part-head.result.element + 1; from = 0; to = window.len - c.len-count.result }) in
+    let before = c.store_part.ensures.cost in
+    let after = c.store_part-then-count-window.ensures.cost in
+    rw (all, fill_loads-some window.len c.if-window-eq0.false) (record { borrow = after.borrow ∙ before.borrow; loads = omega arith; stores = omega arith })
+
+pub returns-else-count-window-clause-cost : goal.returns-else-count-window-clause-cost
+returns-else-count-window-clause-cost g c =
+    let b = g.C.Elem.BitStore.BITS in
+    let window = c.args.window in
+    let all = touched-first b window.start window.len (omega arith) in
+    let first = part_loads-most b c.first_part-head.result in
+    let before = c.store_part.ensures.cost in
+    rw (fill_loads-some window.len c.if-window-eq0.false) (record { borrow = before.borrow; loads = omega arith; stores = omega arith })

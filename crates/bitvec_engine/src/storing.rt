@@ -1,0 +1,86 @@
+//! Up to 64 bits of a window stored as a word.
+ghost use Rattle.std.specs.Prelude.{◌≡◌, ◌≢◌, ◌%◌, ◌<◌, ◌≤◌, take};
+ghost use Rattle.bitvec_combine.specs.base.Memory.{HasWindow, Writes, element_bits, list_in};
+ghost use Rattle.bitvec_combine.specs.cells.Access.{CostsAtMost};
+ghost use Rattle.bitvec_combine.specs.walk.Cost.{fill_loads, touched_count};
+
+use bitvec_combine::base::{Part, Window, first_part};
+use bitvec_combine::cells::{Cells, CellsRead};
+use bitvec_combine::store::BitStore;
+use bitvec_combine::words::{WORD_BITS, WordOrder, moved, store_elements, store_part, store_parts};
+
+/// A window gets the first bits of a word, as many as it has; all other bits of the memory stay. Condition, loads and
+/// stores: as for [`store_parts`]. It has no loop where the window is no longer than an element or has 64 bits.
+#[inline(always)]
+pub fn store_few<W: WordOrder, C: Cells>(cells: &mut C, window: Window, word: u64)
+    requires window { HasWindow C.Elem.BITS (C.numbers cells.old) window }
+    requires bound { window.len ≤ 64 }
+    ensures writes { Writes C.Elem.BITS W.at (C.numbers cells.old) (C.numbers cells.new) window
+        (take window.len (element_bits 64 W.at word)) }
+    ensures cost { CostsAtMost C.CellsRead cells.old cells.new (fill_loads window.len) (touched_count C.Elem.BITS window.start window.len) }
+{
+    let bits = C::Elem::BITS as usize;
+    if window.len <= bits {
+        store_short::<W, C>(cells, window, word);
+    } else if window.len < WORD_BITS {
+        store_parts::<W, C>(cells, window, word);
+    } else if window.start % bits > 0 {
+        store_across::<W, C>(cells, window, word);
+    } else {
+        store_elements::<W, C>(cells, window.start / bits, word);
+    }
+}
+
+/// [`store_few`] of 64 bits that begin inside an element narrower than a word: the elements of one word, of which the
+/// first keeps its bits before the window, and a part of the next.
+#[inline(always)]
+fn store_across<W: WordOrder, C: Cells>(cells: &mut C, window: Window, word: u64)
+    requires window { HasWindow C.Elem.BITS (C.numbers cells.old) window }
+    requires size { window.len ≡ 64 }
+    requires narrow { C.Elem.BITS < 64 }
+    requires inside { window.start % C.Elem.BITS ≢ 0 }
+    ensures writes { Writes C.Elem.BITS W.at (C.numbers cells.old) (C.numbers cells.new) window
+        (take window.len (element_bits 64 W.at word)) }
+    ensures cost { CostsAtMost C.CellsRead cells.old cells.new (fill_loads window.len) (touched_count C.Elem.BITS window.start window.len) }
+{
+    let bits = C::Elem::BITS as usize;
+    let (first, skip) = (window.start / bits, window.start % bits);
+    let kept = moved::<W, C::Elem, u64>(cells.load(first), 0, skip, 0);
+    let front = kept | moved::<W, u64, u64>(word, 0, WORD_BITS - skip, skip);
+    store_elements::<W, C>(cells, first, front);
+    let tail = Part {
+        element: first + WORD_BITS / bits,
+        from: 0,
+        to: skip,
+    };
+    let behind = moved::<W, u64, C::Elem>(word, WORD_BITS - skip, skip, 0);
+    store_part::<W, C>(cells, tail, behind);
+}
+
+/// [`store_few`] of a window no longer than an element: a part of one element, or of two.
+#[inline(always)]
+fn store_short<W: WordOrder, C: Cells>(cells: &mut C, window: Window, word: u64)
+    requires window { HasWindow C.Elem.BITS (C.numbers cells.old) window }
+    requires bound { window.len ≤ 64 }
+    requires short { window.len ≤ C.Elem.BITS }
+    ensures writes { Writes C.Elem.BITS W.at (C.numbers cells.old) (C.numbers cells.new) window
+        (take window.len (element_bits 64 W.at word)) }
+    ensures cost { CostsAtMost C.CellsRead cells.old cells.new (fill_loads window.len) (touched_count C.Elem.BITS window.start window.len) }
+{
+    if window.len == 0 {
+        return;
+    }
+    let head = first_part(C::Elem::BITS as usize, window);
+    let count = head.len();
+    let first = moved::<W, u64, C::Elem>(word, 0, count, head.from);
+    store_part::<W, C>(cells, head, first);
+    if count < window.len {
+        let tail = Part {
+            element: head.element + 1,
+            from: 0,
+            to: window.len - count,
+        };
+        let second = moved::<W, u64, C::Elem>(word, count, tail.to, 0);
+        store_part::<W, C>(cells, tail, second);
+    }
+}

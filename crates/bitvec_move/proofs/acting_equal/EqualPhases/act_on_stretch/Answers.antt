@@ -1,0 +1,16 @@
+use Rattle.std.proofs.Common.{◌≡◌, ◌*◌, arith, refl, rules}
+use Rattle.bitvec_move.proofs.StretchActs.{element-alone, stretch-join, stretch-none}
+use Rattle.bitvec_move.proofs.acting_equal.EqualPhases.act_on_stretch.Goals as goal
+
+pub loop-step-init : goal.loop-step-init
+loop-step-init g c = record { done = stretch-none g.C.CellsRead.numbers g.A.Act.Done g.met.A.Act.empty_law 0 c.requires refl; right = search rules }
+
+pub loop-step-preserved : goal.loop-step-preserved
+loop-step-preserved g c =
+    let inv = c.loop-step.invariant in
+    let one : 1 * g.C.Elem.BitStore.BITS ≡ g.C.Elem.BitStore.BITS = omega arith in
+    record {
+      done = stretch-join g.C.CellsRead.numbers g.A.Act.Done g.met.A.Act.join_law c.loop-step.step 1 _ c.requires refl (omega arith) inv.done
+          (rw (one, element-alone g.O.BitOrder.at c.loop-step.step c.requires c.loop-step-test.true) (rw (c.load-other.ensures.value, inv.right.numbers) at c.whole.ensures));
+      right = search rules;
+    }

@@ -1,0 +1,198 @@
+//! Bits moved to another place of the same memory. Whole elements are moved from the end at which none
+//! is written over before it is read: the last ones first where `LATER`, which says that the place
+//! begins no earlier, else the first ones first, and it begins no later.
+ghost use Rattle.std.specs.Prelude.{if◌then◌else◌, ◌≡◌, ◌+◌, ◌*◌, ◌%◌, ◌<◌, ◌≤◌, slice_index, take};
+ghost use Rattle.bitvec_words.specs.base.Memory.{HasWindow, Writes, element_bits, list_in};
+ghost use Rattle.bitvec_words.specs.base.Spans.{HasSpan};
+ghost use Rattle.bitvec_words.specs.cells.Access.{Costs, CostsAtMost, OnlyReads};
+ghost use Rattle.bitvec_words.specs.walk.Cost.{touched_count};
+ghost use Rattle.bitvec_words.specs.Elements.{elements_window, elements_window_from};
+ghost use Rattle.bitvec_move.specs.Moves.{Copies, CopiesElements, HasSkippedElements, IsToward, late_words, nth_place, waiting_place};
+
+use crate::moving_words::{goes_by_words, shift_words};
+use crate::stretch::Stretch;
+use crate::{MANY_BITS, at_known_skip};
+use bitvec_words::base::{BitOrder, Window, first_part};
+use bitvec_words::cells::{Cells, CellsRead};
+use bitvec_words::store::BitStore;
+use bitvec_words::{Carried, Lanes, Whole, WordOrder, load_element, store_part, toward_end};
+
+/// Moves the bits of a window to another of the same length. Condition: both lie in the memory, and
+/// aren't empty. The bits at both edges are loaded before the whole elements between them are moved,
+/// and stored behind them.
+#[inline(always)]
+pub(crate) fn move_to<O: WordOrder, C: Cells, const LATER: bool>(
+    cells: &mut C,
+    to: Window,
+    from: Window,
+)
+    requires span { HasSpan C.Elem.BITS (C.numbers cells.old) (C.numbers cells.old) to from }
+    requires some { 0 < to.len }
+    requires towards { IsToward LATER to.start from.start }
+    ensures writes { Copies C.Elem.BITS O.at (C.numbers cells.old) (C.numbers cells.new) to (C.numbers cells.old) from }
+    ensures cost { let late = late_words C.Elem.BITS to.len in
+        CostsAtMost C.CellsRead cells.old cells.new (touched_count C.Elem.BITS from.start from.len + 4 + late) (touched_count C.Elem.BITS to.start to.len + late) }
+{
+    let bits = C::Elem::BITS as usize;
+    let head = first_part(bits, to).len();
+    let (rest, behind) = (to.after(head), from.after(head));
+    let moved = Stretch::of(bits, rest, behind);
+    let passed = moved.count * bits;
+    let front = load_edge::<O, C>(cells, from.until(from.len - head));
+    let back = load_edge::<O, C>(cells, behind.after(passed));
+    move_elements::<O, C, LATER>(cells, moved);
+    store_edge::<O, C>(cells, to.until(rest.len), front);
+    store_edge::<O, C>(cells, rest.after(passed), back);
+}
+
+/// An element that begins with the bits of a window of at most an element's width, if it has any. It
+/// loads each element that the window touches once.
+fn load_edge<O: WordOrder, C: CellsRead>(cells: &mut C, window: Window) -> C::Elem
+    requires window { HasWindow C.Elem.BITS (C.numbers cells.old) window }
+    requires bound { window.len ≤ C.Elem.BITS }
+    ensures value { take window.len (element_bits C.Elem.BITS O.at (C.Elem.value result)) ≡ list_in C.Elem.BITS O.at (C.numbers cells.old) window }
+    ensures reads { OnlyReads C.CellsRead cells.old cells.new (touched_count C.Elem.BITS window.start window.len) }
+{
+    if window.len == 0 {
+        return C::Elem::ZERO;
+    }
+    load_element::<O, C>(cells, window).0
+}
+
+/// Stores the first bits of an element in a window that lies in one element, or is empty. It loads that
+/// element unless it is stored whole.
+fn store_edge<O: WordOrder, C: Cells>(cells: &mut C, window: Window, element: C::Elem)
+    requires window { HasWindow C.Elem.BITS (C.numbers cells.old) window }
+    requires one { window.start % C.Elem.BITS + window.len ≤ C.Elem.BITS }
+    ensures writes { Writes C.Elem.BITS O.at (C.numbers cells.old) (C.numbers cells.new) window (take window.len (element_bits C.Elem.BITS O.at (C.Elem.value element))) }
+    ensures cost { CostsAtMost C.CellsRead cells.old cells.new 1 (touched_count C.Elem.BITS window.start window.len) }
+{
+    if window.len == 0 {
+        return;
+    }
+    let part = first_part(C::Elem::BITS as usize, window);
+    store_part::<O, C>(cells, part, toward_end::<O, C::Elem>(element, part.from));
+}
+
+/// Moves a stretch of one memory to its whole elements.
+#[inline(always)]
+pub(crate) fn move_elements<O: WordOrder, C: Cells, const LATER: bool>(
+    cells: &mut C,
+    moved: Stretch,
+)
+    requires span { HasSpan C.Elem.BITS (C.numbers cells.old) (C.numbers cells.old) (elements_window C.Elem.BITS moved.first moved.count) (elements_window_from C.Elem.BITS moved.source moved.skip moved.count) }
+    requires bound { moved.skip < C.Elem.BITS }
+    requires towards { IsToward LATER moved.first moved.source }
+    ensures writes { CopiesElements C.Elem.BITS O.at (C.numbers cells.old) (C.numbers cells.new) (C.numbers cells.old) moved.first moved.source moved.skip moved.count }
+    ensures cost { let late = late_words C.Elem.BITS (moved.count * C.Elem.BITS) in CostsAtMost C.CellsRead cells.old cells.new (moved.count + 1 + late) (moved.count + late) }
+{
+    if moved.skip == 0 {
+        move_whole::<O, C, LATER>(cells, moved);
+    } else if C::Elem::BITS == u8::BITS && goes_by_words::<LATER>(moved.count) {
+        shift_words::<O, C, LATER>(cells, moved);
+    } else {
+        let (source, count) = (moved.source, moved.count);
+        let waiting = cells.load(source + read_place::<LATER>(0, count));
+        shift_elements::<O, C, LATER>(cells, moved.first, source, moved.skip, count, waiting);
+    }
+}
+
+/// Moves elements where `skip` is above 0: each stored element is joined of two. `waiting` is the first
+/// one that is read, which was loaded before.
+#[inline(always)]
+fn shift_elements<O: WordOrder, C: Cells, const LATER: bool>(
+    cells: &mut C,
+    first: usize,
+    source: usize,
+    skip: usize,
+    count: usize,
+    waiting: C::Elem,
+)
+    requires skipped { HasSkippedElements C.Elem.BITS (C.numbers cells.old) (C.numbers cells.old) first source skip count }
+    requires towards { IsToward LATER first source }
+    requires waiting { C.Elem.value waiting ≡ slice_index (C.numbers cells.old) (source + waiting_place LATER 0 count) }
+    ensures writes { CopiesElements C.Elem.BITS O.at (C.numbers cells.old) (C.numbers cells.new) (C.numbers cells.old) first source skip count }
+    ensures cost { Costs C.CellsRead cells.old cells.new count count }
+{
+    if C::Elem::BITS == u128::BITS {
+        shift_carried::<O, C, Lanes, LATER>(cells, first, source, skip, count, waiting);
+    } else if C::Elem::BITS <= u16::BITS && count >= MANY_BITS / C::Elem::BITS as usize {
+        at_known_skip!(
+            u16: skip,
+            shift_carried::<O, C, Whole<C::Elem>, LATER>(cells, first, source, skip, count, waiting)
+        );
+    } else {
+        shift_carried::<O, C, Whole<C::Elem>, LATER>(cells, first, source, skip, count, waiting);
+    }
+}
+
+/// Moves whole elements as they are, each with one load and one store.
+#[inline(always)]
+fn move_whole<O: BitOrder, C: Cells, const LATER: bool>(cells: &mut C, moved: Stretch)
+    requires span { HasSpan C.Elem.BITS (C.numbers cells.old) (C.numbers cells.old) (elements_window C.Elem.BITS moved.first moved.count) (elements_window_from C.Elem.BITS moved.source 0 moved.count) }
+    requires towards { IsToward LATER moved.first moved.source }
+    ensures writes { CopiesElements C.Elem.BITS O.at (C.numbers cells.old) (C.numbers cells.new) (C.numbers cells.old) moved.first moved.source 0 moved.count }
+    ensures cost { let late = late_words C.Elem.BITS (moved.count * C.Elem.BITS) in CostsAtMost C.CellsRead cells.old cells.new (moved.count + 1 + late) (moved.count + late) }
+{
+    for passed in 0..moved.count {
+        let place = next_place::<LATER>(passed, moved.count);
+        let element = cells.load(moved.source + place);
+        cells.store(moved.first + place, element);
+    }
+}
+
+/// [`shift_elements`], where each element is loaded once, and carried to the next pass in a form that
+/// fits the width.
+#[inline(always)]
+fn shift_carried<O: WordOrder, C: Cells, K: Carried<C::Elem>, const LATER: bool>(
+    cells: &mut C,
+    first: usize,
+    source: usize,
+    skip: usize,
+    count: usize,
+    waiting: C::Elem,
+)
+    requires form { K.fits C.Elem.BITS }
+    requires skipped { HasSkippedElements C.Elem.BITS (C.numbers cells.old) (C.numbers cells.old) first source skip count }
+    requires towards { IsToward LATER first source }
+    requires waiting { C.Elem.value waiting ≡ slice_index (C.numbers cells.old) (source + waiting_place LATER 0 count) }
+    ensures writes { CopiesElements C.Elem.BITS O.at (C.numbers cells.old) (C.numbers cells.new) (C.numbers cells.old) first source skip count }
+    ensures cost { Costs C.CellsRead cells.old cells.new count count }
+{
+    let mut last = K::of(waiting);
+    for passed in 0..count {
+        let place = next_place::<LATER>(passed, count);
+        let read = read_place::<LATER>(passed + 1, count);
+        let next = K::of(cells.load(source + read));
+        let (low, high) = in_order::<K, LATER>(last, next);
+        cells.store(first + place, low.joined::<O>(&high, skip));
+        last = next;
+    }
+}
+
+/// The place of the element that is moved after so many others: from the first one on, or from the
+/// last one back where `LATER`.
+///
+/// This and its kin are so small that they are inlined without being told to be, and so don't count
+/// where it is seen how much is inlined always.
+fn next_place<const LATER: bool>(passed: usize, count: usize) -> usize
+    requires { passed < count }
+    ensures { result ≡ nth_place LATER passed count }
+{
+    if LATER { count - 1 - passed } else { passed }
+}
+
+/// The place of the element that is read after so many others, of `count` and one more.
+pub(crate) fn read_place<const LATER: bool>(passed: usize, count: usize) -> usize
+    requires { passed ≤ count }
+    ensures { result ≡ waiting_place LATER passed count }
+{
+    if LATER { count - passed } else { passed }
+}
+
+/// Two elements that are read one after the other, in the order of their places.
+pub(crate) fn in_order<K: Copy + Drop, const LATER: bool>(last: K, next: K) -> (K, K)
+    ensures { result ≡ (if LATER then (next, last) else (last, next)) }
+{
+    if LATER { (next, last) } else { (last, next) }
+}

@@ -1,0 +1,77 @@
+//! Bytes moved within one memory by words of 64 bits, each carried to the next pass. One word more makes up for
+//! what no whole number of words covers: it ends or begins where they do, and so overlaps another. It is loaded
+//! before any word is stored, and stored last. The last words go first where `LATER`.
+ghost use Rattle.std.specs.Prelude.{◌≡◌, ◌+◌, ◌<◌, ◌≤◌, IsTrue, slice_range};
+ghost use Rattle.bitvec_words.specs.base.Memory.{HasWindow, element_bits, list_in};
+ghost use Rattle.bitvec_words.specs.cells.Access.{CostsAtMost, OnlyReads};
+ghost use Rattle.bitvec_words.specs.Elements.{elements_window_from};
+ghost use Rattle.bitvec_move.specs.Moves.{CopiesElements, HasSkippedElements, IsToward};
+
+use crate::moving::{in_order, read_place};
+use crate::stretch::Stretch;
+use bitvec_words::cells::{Cells, CellsRead};
+use bitvec_words::store::BitStore;
+use bitvec_words::{WORD_BITS, WordOrder, joined, load_elements, moved, store_elements};
+
+/// Whether so many bytes are moved by words: if they are many, but where the last ones go first not very many, since
+/// those are moved faster singly.
+pub(crate) fn goes_by_words<const LATER: bool>(count: usize) -> bool
+    ensures { IsTrue result → 80 ≤ count }
+{
+    count >= 80 && !(LATER && count >= 512)
+}
+
+/// Moves a stretch of one memory to its whole bytes, by words. Condition: it has at least eight, and begins inside a
+/// byte. It loads at most ten bytes more than it moves, and stores eight more. The compiler inlines it.
+#[inline]
+pub(crate) fn shift_words<O: WordOrder, C: Cells, const LATER: bool>(cells: &mut C, moved: Stretch)
+    requires bytes { C.Elem.BITS ≡ 8 }
+    requires skipped { HasSkippedElements C.Elem.BITS (C.numbers cells.old) (C.numbers cells.old) moved.first moved.source moved.skip moved.count }
+    requires towards { IsToward LATER moved.first moved.source }
+    requires word { 8 ≤ moved.count }
+    ensures writes { CopiesElements C.Elem.BITS O.at (C.numbers cells.old) (C.numbers cells.new) (C.numbers cells.old) moved.first moved.source moved.skip moved.count }
+    ensures cost { CostsAtMost C.CellsRead cells.old cells.new (moved.count + 10) (moved.count + 8) }
+{
+    let rest = moved.count - 8;
+    let edge = if LATER { 0 } else { rest };
+    let (to, ahead) = if LATER { (0, 0) } else { (WORD_BITS - 8, 1) };
+    let held = load_skipped::<O, C>(cells, moved.source + edge, moved.skip);
+    let from = read_place::<LATER>(0, moved.count);
+    let mut last = placed::<O, C::Elem>(cells.load(moved.source + from), to);
+    for step in 0..moved.count / 8 {
+        let place = if LATER { rest - step * 8 } else { step * 8 };
+        let next = load_elements::<O, C>(cells, moved.source + place + ahead);
+        let (low, high) = in_order::<u64, LATER>(last, next);
+        let word = joined::<O, u64>(low, high, to + moved.skip);
+        store_elements::<O, C>(cells, moved.first + place, word);
+        last = next;
+    }
+    store_elements::<O, C>(cells, moved.first + edge, held);
+}
+
+/// The 64 bits from the index `skip` of a byte on. Condition: `skip` is above 0 and below 8, and the bits lie in a
+/// memory of at most `MAX_BITS` bits. It loads nine bytes. The compiler inlines it.
+#[inline]
+fn load_skipped<O: WordOrder, C: CellsRead>(cells: &mut C, source: usize, skip: usize) -> u64
+    requires bytes { C.Elem.BITS ≡ 8 }
+    requires window { HasWindow C.Elem.BITS (C.numbers cells.old) (elements_window_from C.Elem.BITS source skip 8) }
+    requires some { 0 < skip }
+    requires bound { skip < 8 }
+    ensures value { element_bits 64 O.at result
+        ≡ list_in C.Elem.BITS O.at (C.numbers cells.old) (elements_window_from C.Elem.BITS source skip 8) }
+    ensures reads { OnlyReads C.CellsRead cells.old cells.new 9 }
+{
+    let word = load_elements::<O, C>(cells, source);
+    let behind = placed::<O, C::Elem>(cells.load(source + 8), 0);
+    joined::<O, u64>(word, behind, skip)
+}
+
+/// A word that has an element's bits from the index `to` on. Condition: there is room for them. The compiler inlines it.
+#[inline]
+fn placed<O: WordOrder, T: BitStore>(element: T, to: usize) -> u64
+    requires { to + T.BITS ≤ 64 }
+    ensures { slice_range (element_bits 64 O.at result) to (to + T.BITS)
+        ≡ element_bits T.BITS O.at (T.value element) }
+{
+    moved::<O, T, u64>(element, 0, T::BITS as usize, to)
+}
