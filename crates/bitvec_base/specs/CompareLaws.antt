@@ -5,7 +5,7 @@ use Rattle.std.specs.Cmp.{nat_cmp_is}
 use Rattle.std.specs.Cmp.Lexicographic.{slice_cmp, unequal}
 use Rattle.std.specs.Ordering.{bool_cmp, nat_cmp, ordering_then}
 use Rattle.std.proofs.Common.{arith, sym, ◌∙◌, ap, ⊎_elim, subst, Ordering, Less, Greater}
-use Rattle.std.proofs.lemmas.Bool.{false_from_ne_true, cases_lt}
+use Rattle.std.proofs.lemmas.Bool.{cases_lt}
 use Rattle.std.proofs.lemmas.Bool.Decides.{nat_tests}
 use Rattle.std.proofs.lemmas.List.{same_lists, get_or_default}
 use Rattle.bitvec_base.specs.Lists.{same_bits, differs}
@@ -42,10 +42,6 @@ pub same-equal : (a b : List Bool) (n : ℕ) → length a ≡ n → length b ≡
 same-equal a b n a-long b-long same =
     sym ((same_bits-decides a b).1 (same_lists a b (omega arith) (λ k d inside.
     get_or_default a k d false inside ∙ same k (omega arith) ∙ get_or_default b k false d (omega arith))))
-
-pub same-differ : (a b : List Bool) (i : ℕ) (x y : Bool) → x ≡ slice_index_or a i false → y ≡ slice_index_or b i false → differs x y ≡ true → false ≡ same_bits a b
-same-differ a b i x y left right told =
-    sym (false_from_ne_true _ (λ e. differs-apart x y told (left ∙ ap (λ l. slice_index_or l i false) ((same_bits-decides a b).0 e) ∙ sym right)))
 
 pub same-unequal : (a b : List Bool) (m n : ℕ) → length a ≡ m → length b ≡ n → m ≢ n → false ≡ same_bits a b
 same-unequal a b m n a-long b-long apart = sym (unequal beq a b (λ e. apart (sym a-long ∙ e ∙ b-long)))

@@ -1,19 +1,16 @@
 -- The bits of a whole element: filled, flipped, counted; and without one of them.
-use Rattle.std.specs.Prelude.{◌≡◌, ◌≢◌, ℕ, ◌+◌, ◌-◌, ◌^◌, ◌<◌, ◌≤◌, ◌==◌, if◌then◌else◌, zero, suc, Bool, true, false, not, length, map, replicate, slice_index_or, count_by, count_ones, bit_and, refl}
+use Rattle.std.specs.Prelude.{◌≡◌, ℕ, ◌+◌, ◌-◌, ◌^◌, ◌<◌, ◌==◌, if◌then◌else◌, zero, suc, Bool, true, false, not, map, replicate, count_by, count_ones, bit_and, refl}
 use Rattle.std.specs.Int.{bit_at}
 use Rattle.std.specs.List.{range_with_len}
-use Rattle.std.proofs.Common.{arith, sym, ◌∙◌, ap, ⊎_elim}
+use Rattle.std.proofs.Common.{arith, sym, ◌∙◌, ap}
 use Rattle.std.proofs.Math.Nat.{mod-eq_of_lt}
-use Rattle.std.proofs.lemmas.Bool.{cases_lt}
-use Rattle.std.proofs.lemmas.List.{get_or-map, get_or-replicate, length-map, length-replicate, same_lists}
+use Rattle.std.proofs.lemmas.List.{get_or-map, length-map, same_lists}
 use Rattle.std.proofs.lemmas.Nat.{and_mask}
 use Rattle.bitvec_cells.specs.base.MaskLaws.{mask_of-count, mask_of-more, mask_of-none}
 use Rattle.bitvec_cells.specs.base.Memory.{element_bits}
-use Rattle.bitvec_cells.specs.base.MemoryLaws.{bit_of_complement, element-and_not_mask, get-element_bits, length-element_bits}
+use Rattle.bitvec_cells.specs.base.MemoryLaws.{bit_of_complement, get-element_bits, length-element_bits}
 use Rattle.bitvec_cells.specs.base.Order.{Permutes, mask_of}
 use Rattle.bitvec_cells.specs.base.PartLaws.{element-all, element-none, mask_of-whole}
-use Rattle.bitvec_cells.specs.base.Window.{write_at}
-use Rattle.bitvec_cells.specs.base.WriteLaws.{get-write_at_above, get-write_at_below, get-write_at_inside}
 
 -- the one bit of an index is the mask of that index alone
 pub single_mask : (at : ℕ → ℕ) (i : ℕ) → 2 ^ at i ≡ mask_of at i (i + 1)
@@ -48,29 +45,3 @@ element-count b at p v small =
     ap count_ones (sym whole)
     ∙ mask_of-count b (at b) p v 0 b (omega arith) (omega arith)
     ∙ ap (λ (n : ℕ). count_by (λ (bit : Bool). bit) (map (λ i. bit_at v (at b i) == 1) (range_with_len 0 n))) all
-
--- ---- an element without one of its bits
-
-module _ (b : ℕ) (at : ℕ → ℕ → ℕ) (p : Permutes b (at b)) (v m found : ℕ) (below : found < b) (is : m ≡ bit_and v (2 ^ b - 1 - 2 ^ at b found)) where
-  written : element_bits b at m ≡ write_at (element_bits b at v) found (replicate (found + 1 - found) false)
-  written = rw (is, single_mask (at b) found) (element-and_not_mask b at p v found (found + 1) (omega arith) (omega arith))
-
-  one : length (replicate (found + 1 - found) false) ≡ 1
-  one = let long = length-replicate (found + 1 - found) false in omega arith
-
-  pub bit-cleared : slice_index_or (element_bits b at m) found false ≡ false
-  bit-cleared =
-      let long = length-element_bits b at v in
-      let single = one in
-      rw written
-      (get-write_at_inside (element_bits b at v) found (replicate (found + 1 - found) false) found false (omega arith) (omega arith) (omega arith)
-      ∙ get_or-replicate (found + 1 - found) (found - found) false false (omega arith))
-
-  pub bit-others : (i : ℕ) → i < b → i ≢ found → slice_index_or (element_bits b at m) i false ≡ slice_index_or (element_bits b at v) i false
-  bit-others i inside apart =
-      let long = length-element_bits b at v in
-      let single = one in
-      rw written
-      (⊎_elim (λ (before : i < found). get-write_at_below (element_bits b at v) found (replicate (found + 1 - found) false) i false (omega arith) before)
-      (λ (after : found ≤ i). get-write_at_above (element_bits b at v) found (replicate (found + 1 - found) false) i false (omega arith) (omega arith))
-      (cases_lt i found))

@@ -1,1 +1,2 @@
+pub mod CostLemmas
 pub mod RoomLemmas

@@ -1,6 +1,8 @@
 -- A needle that is looked for at one index after the other.
-use Rattle.std.specs.Prelude.{◌≡◌, ℕ, ◌+◌, ◌*◌, ◌≤◌, Bool, List}
-use Rattle.std.proofs.Common.{arith, sym}
+use Rattle.std.specs.Prelude.{◌≡◌, ℕ, ◌+◌, ◌-◌, ◌*◌, ◌<◌, ◌≤◌, Bool, List}
+use Rattle.std.proofs.Common.{arith, sym, ◌∙◌}
+use Rattle.std.proofs.Math.Nat.{mul-le-mul_right}
+use Rattle.std.proofs.lemmas.Bool.{le-leb}
 use Rattle.std.proofs.lemmas.Bool.Decides.{nat_tests}
 use Rattle.bitvec_combine.specs.base.declared.window.Window.{Window}
 use Rattle.bitvec_combine.specs.base.Lists.{same_bits, stands_at}
@@ -8,7 +10,9 @@ use Rattle.bitvec_combine.specs.base.Memory.{list_in, HasWindow}
 use Rattle.bitvec_combine.specs.base.NeedleLaws.{stands-part}
 use Rattle.bitvec_combine.specs.base.Window.{window_range}
 use Rattle.bitvec_combine.specs.base.WritesLaws.{length-list, within-list}
-use Rattle.bitvec_combine.specs.walk.Cost.{read_loads, equal_loads}
+use Rattle.bitvec_combine.specs.cells.Access.{OnlyReadsAtMost}
+use Rattle.bitvec_combine.specs.cells.declared.cells.CellsRead.{Ghosts as Access}
+use Rattle.bitvec_combine.specs.walk.Cost.{read_loads, equal_loads, needle_loads}
 
 -- whether it stands at an index, by the equality of that part, where both memories are as at first
 pub stands-found : {b r : ℕ} (at other_at : ℕ → ℕ → ℕ) {xs now ys right : List ℕ} {window needle part : Window} {found : Bool} (from : ℕ) → HasWindow b xs window → HasWindow r ys needle → from + needle.len ≤ window.len
@@ -21,3 +25,12 @@ stands-found {b} {r} at other_at {xs} {now} {ys} {right} {window} {needle} {part
 -- one index more, at the cost of one equality
 pub cost-more : (b : ℕ) (words : Bool) (old before after i m n : ℕ) → m ≡ n → before ≤ old + i * read_loads b words n → after ≤ before + equal_loads b words m n → after ≤ old + (i + 1) * read_loads b words n
 cost-more b words old before after i m n same so_far next = grind (arith, nat_tests)
+
+-- the last index, at the cost of as many equalities as there may be
+pub reads-found : {E C : Type 0} {access : Access C E} {old mid new : C} {i m n : ℕ} (b : ℕ) (words : Bool) (w : ℕ) → OnlyReadsAtMost access old mid (i * read_loads b words n) → OnlyReadsAtMost access mid new (equal_loads b words m n) → m ≡ n → i < w + 1 - n
+    → OnlyReadsAtMost access old new (needle_loads b words w n (w - n + 1))
+reads-found {access = access} {old} {mid} {new} {i} {m} {n} b words w reads next same inside =
+    let more = cost-more b words (access.loads old) (access.loads mid) (access.loads new) i m n same reads.loads next.loads in
+    let shorter : n ≤ w = omega arith in
+    let step : i + 1 ≤ w - n + 1 = omega arith in
+    rw (le-leb n w shorter) (record { numbers = next.numbers ∙ reads.numbers; borrow = next.borrow ∙ reads.borrow; loads = omega (arith, mul-le-mul_right (read_loads b words n) step); stores = next.stores ∙ reads.stores })

@@ -67,6 +67,6 @@ module _ (bits : List Bool) (n : ℕ) (all : n ≡ length bits) where
   pub whole-combine : (f : Bool → Bool → Bool) (from to dest : ℕ) → from ≤ to → to ≤ n → dest + (to - from) ≤ n → write_at bits 0 (combined_within f from to dest (window_of bits (record { start = 0; len = n }))) ≡ combined_within f from to dest bits
   whole-combine f from to dest order source room = ap (λ (list : List Bool). write_at bits 0 (combined_within f from to dest list)) window_all ∙ write_at-all bits (combined_within f from to dest bits) (length-combined_within f from to dest bits order (omega arith))
 
-pub ruleset ranges = (filled-write, flipped-is, edited-is, joined-is, number-is, numbered-is)
+pub ruleset ranges = (arith, filled-write, flipped-is, edited-is, joined-is, number-is, numbered-is)
 
-pub ruleset wholes = (length-bits_of, whole-set, whole-get, whole-swap, whole-copy, whole-exchange, whole-combine)
+pub ruleset wholes = (arith, length-bits_of, whole-set, whole-get, whole-swap, whole-copy, whole-exchange, whole-combine)

@@ -45,6 +45,14 @@ first-word {b} m width has most = let order = mul-le-mul_left b most in word-pla
 pub source-word : {b : ℕ} {xs ys : List ℕ} {stretch : Stretch} {equal : Bool} {carry : ℕ} (m : ℕ) → IsWidth b → HasStretch b xs ys stretch equal carry → m ≤ stretch.count → stretch.source + m < 2 ^ 64
 source-word {b} m width has most = let order = mul-le-mul_left b most in word-place b _ _ _ width has.span.beside (omega arith)
 
+pub source-inside : {b : ℕ} {xs ys : List ℕ} {stretch : Stretch} {equal : Bool} {carry : ℕ} (m : ℕ) → HasStretch b xs ys stretch equal carry → m < stretch.count → stretch.source + m < length ys
+source-inside {b} {ys = ys} {stretch} m has more =
+    let len = has.span.beside.within.len in
+    let start = has.span.beside.within.start in
+    let some = has.bound in
+    let order = mul-le-mul_left b more in
+    element_of b (stretch.source + m) 0 (length ys) (omega arith)
+
 module _ {C S : Type 0} {b : ℕ} (numbers : C → List ℕ) (Done : (ℕ → ℕ → ℕ) → C → C → Window → List Bool → S → S → Type 0) where
   -- none
   pub stretch-none : ((at : ℕ → ℕ → ℕ) (c : C) (window : Window) (s : S) → HasWindow b (numbers c) window → window.len ≡ 0 → Done at c c window [] s s)
@@ -98,11 +106,8 @@ pub element-alone : {b : ℕ} {xs ys : List ℕ} (at : ℕ → ℕ → ℕ) {str
     → list_in b at ys (record { start = (stretch.source + m) * b + stretch.skip; len = b }) ≡ element_bits b at (slice_index ys (stretch.source + m))
 element-alone {b} {ys = ys} at {stretch} m has more =
     let none = index-same 0 stretch.skip has.phases in
-    let start = has.span.beside.within.start in
-    let len = has.span.beside.within.len in
-    let order = mul-le-mul_left b more in
     list-same b at ys (record { start = (stretch.source + m) * b; len = b }) (record { start = (stretch.source + m) * b + stretch.skip; len = b }) (omega arith) refl
-    ∙ list-whole b at ys (stretch.source + m) (element_of b (stretch.source + m) 0 (length ys) (omega arith))
+    ∙ list-whole b at ys (stretch.source + m) (source-inside m has more)
 
 pub element-joined : {b : ℕ} {xs ys : List ℕ} (at : ℕ → ℕ → ℕ) {stretch : Stretch} {carry : ℕ} (m : ℕ) → HasStretch b xs ys stretch false carry → m < stretch.count
     → list_in b at ys (record { start = (stretch.source + m) * b + stretch.skip; len = b })

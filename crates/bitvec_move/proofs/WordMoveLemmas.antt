@@ -10,7 +10,7 @@ use Rattle.bitvec_words.specs.base.WritesLaws.{length-list, list-behind, list-ra
 use Rattle.bitvec_words.specs.Elements.{elements_window, elements_window_from}
 use Rattle.bitvec_words.specs.FieldLaws.{list-whole}
 use Rattle.bitvec_words.specs.WholeLaws.{HasWindow-part}
-use Rattle.bitvec_move.specs.Moves.{CopiesElements, CopiesSome, HasSkippedElements, IsToward, moved_place, waiting_place}
+use Rattle.bitvec_move.specs.Moves.{CopiesElements, CopiesSome, HasSkippedElements, IsToward, moved_place, nth_place, waiting_place}
 use Rattle.bitvec_move.specs.WithinLaws.{list-ahead}
 
 -- ---- lists
@@ -81,7 +81,7 @@ word-byte at xs e i below has =
     ∙ rw (place, len) (list-whole 8 at xs (e + i) (omega arith))
 
 -- a word of the bytes that are read lies in the memory
-word-window : (old : List ℕ) (first source skip count e : ℕ) → HasSkippedElements 8 old old first source skip count → source ≤ e → e + 8 ≤ source + count + 1 → HasWindow 8 old (elements_window 8 e 8)
+pub word-window : (old : List ℕ) (first source skip count e : ℕ) → HasSkippedElements 8 old old first source skip count → source ≤ e → e + 8 ≤ source + count + 1 → HasWindow 8 old (elements_window 8 e 8)
 word-window old first source skip count e has low high =
     let start = has.span.beside.within.start in
     let end = has.span.beside.within.len in
@@ -197,3 +197,13 @@ CopiesSome-all later at old new first source skip count moved =
     let to : first + 0 ≡ first = omega arith in
     let from : source + 0 ≡ source = omega arith in
     rw (none, to, from) at moved
+
+-- ---- places of elements
+
+pub nth-inside : (later : Bool) (k n : ℕ) → k < n → nth_place later k n < n
+nth-inside false k n more = more
+nth-inside true k n more = omega arith
+
+pub waiting-below : (later : Bool) (k n : ℕ) → k ≤ n → waiting_place later k n ≤ n
+waiting-below false k n most = most
+waiting-below true k n most = omega arith

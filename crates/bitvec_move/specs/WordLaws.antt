@@ -34,17 +34,7 @@ taken-front list new s all = same_lists _ _ (search (rules, places)) (λ k d ins
 
 -- ---- memories
 
--- the elements of a word, from the first one that a window of 64 bits touches
-pub word-elements : (b w : ℕ) (xs : List ℕ) (window : Window) → IsWidth b → w ≡ b → HasWindow b xs window → window.len ≡ 64 → b ≤ 64
-    → HasWindow b xs (elements_window b (window.start / w) (64 / b))
-word-elements b w xs window width is has size narrow =
-    let low = has.within.start in
-    let high = has.within.len in
-    let whole = word_whole b width narrow in
-    let place = div-add-mod' window.start b in
-    rw is (record { fits = has.fits; within = record { start = omega arith; len = omega arith } })
-
--- and the one behind them, where the window begins inside an element
+-- an element stands behind those of a word, where a window of 64 bits begins inside one
 pub word-next : (b w : ℕ) (xs ys : List ℕ) (window : Window) → IsWidth b → w ≡ b → HasWindow b xs window → window.len ≡ 64 → b ≤ 64 → 0 < window.start % w → length ys ≡ length xs
     → window.start / w + 64 / w < length ys
 word-next b w xs ys window width is has size narrow inside same =

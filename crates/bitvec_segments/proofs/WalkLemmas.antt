@@ -9,7 +9,7 @@ use Rattle.std.proofs.Math.Pow.{pow_mono}
 use Rattle.bitvec_words.specs.base.declared.part.Part.{Part}
 use Rattle.bitvec_words.specs.base.declared.window.Window.{Window}
 use Rattle.bitvec_words.specs.base.Memory.{HasWindow, Writes, list_in}
-use Rattle.bitvec_words.specs.base.Parts.{first_part_of, part_window}
+use Rattle.bitvec_words.specs.base.Parts.{HasPart, first_part_of, part_window}
 use Rattle.bitvec_words.specs.base.SliceLaws.{range-from_start}
 use Rattle.bitvec_words.specs.base.Window.{window_after, window_range}
 use Rattle.bitvec_words.specs.base.WritesLaws.{HasWindow-kept, Writes-empty, Writes-is, length-list, list-after, list-behind, list-range}
@@ -17,8 +17,9 @@ use Rattle.bitvec_words.specs.store.Width.{IsWidth}
 use Rattle.bitvec_words.specs.store.WidthLaws.{width_some}
 use Rattle.bitvec_words.specs.walk.Cost.{fill_loads, part_loads, touched_count}
 use Rattle.bitvec_words.specs.walk.Walk.{Walked, edge_loads}
-use Rattle.bitvec_words.specs.walk.WalkLaws.{first-len, first-place, touched-none}
+use Rattle.bitvec_words.specs.walk.WalkLaws.{Walked-start, first-len, first-place, touched-none}
 use Rattle.bitvec_words.specs.FieldLaws.{Writes-head}
+use Rattle.bitvec_words.specs.PartWalkLaws.{HasPart-first}
 use Rattle.bitvec_words.specs.TouchedLaws.{touched-first, touched-parts}
 use Rattle.bitvec_words.specs.WholeLaws.{HasWindow-part, list-empty, list-same}
 use Rattle.bitvec_segments.specs.LoadLaws.{loaded-below, loaded-first, loaded-none, lower_bits}
@@ -185,6 +186,13 @@ edge-place b e window some edge =
 
 pub edge-len : (b e : ℕ) (window : Window) → 0 < b → window.start ≡ e * b → min window.len b ≡ (first_part_of b window).to - (first_part_of b window).from
 edge-len b e window some edge = let phase = (edge-place b e window some edge).1 in omega arith
+
+-- it is one of an element, and isn't empty
+pub first-part : (b w : ℕ) (xs : List ℕ) (window : Window) (part : Part) → IsWidth b → 0 < window.len → HasWindow b xs window → part ≡ first_part_of w window → w ≡ b → HasPart b xs part × (part.from < part.to)
+first-part b w xs window part width more has is width_is =
+    let some = width_some b width in
+    let same : part ≡ first_part_of b window = is ∙ ap (λ (n : ℕ). first_part_of n window) width_is in
+    rw same (HasPart-first b xs window window some more has (Walked-start b window), (first-len b window some more).0)
 
 -- ---- the first part of a window from a place on
 

@@ -17,7 +17,7 @@ use Rattle.bitvec_cells.specs.base.Window.{window_after, window_of, window_until
 use Rattle.bitvec_cells.specs.base.WriteLaws.{length-slice_range, write_at-all}
 use Rattle.bitvec_cells.specs.base.WritesLaws.{Writes-empty, Writes-is, Writes-join, list-join}
 use Rattle.bitvec_cells.specs.WalkLaws.{first-len, first-place}
-use Rattle.bitvec_words.specs.Elements.{elements_window, elements_window_from}
+use Rattle.bitvec_words.specs.Elements.{elements_window}
 
 -- ---- lists
 
@@ -184,20 +184,6 @@ list-element b at xs first count step some has more =
     ap (λ (l : List Bool). list_in b at xs (elements_window b first step) ++ l) (sym (list-whole b at xs (first + step) inside))
     ∙ list-join b at xs (elements_window b first step) one (elements_window b first (step + 1))
     (record { fits = has.fits; within = record { start = start; len = omega arith } })
-    refl (omega arith) (omega arith)
-
--- and of one joined of two, from an index on
-pub list-joined : (b : ℕ) (at : ℕ → ℕ → ℕ) (xs : List ℕ) (first skip count step : ℕ) → 0 < skip → skip < b → HasWindow b xs (elements_window_from b first skip count) → step < count
-    → list_in b at xs (elements_window_from b first skip step) ++ (drop skip (element_bits b at (slice_index xs (first + step))) ++ take skip (element_bits b at (slice_index xs (first + step + 1)))) ≡ list_in b at xs (elements_window_from b first skip (step + 1))
-list-joined b at xs first skip count step some below has more =
-    let start = has.within.start in
-    let len = has.within.len in
-    let order = mul-le-mul_left b more in
-    let next : first + step + 1 < length xs = element_of b (first + step + 1) (skip - 1) (length xs) (omega arith) in
-    let one : Window = record { start = (first + step) * b + skip; len = b } in
-    ap (λ (l : List Bool). list_in b at xs (elements_window_from b first skip step) ++ l) (sym (list-both b at xs (first + step) skip below next))
-    ∙ list-join b at xs (elements_window_from b first skip step) one (elements_window_from b first skip (step + 1))
-    (record { fits = has.fits; within = record { start = omega arith; len = omega arith } })
     refl (omega arith) (omega arith)
 
 -- ---- a window that begins where an element does: its whole elements, and what is left

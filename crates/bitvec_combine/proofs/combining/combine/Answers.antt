@@ -1,12 +1,15 @@
-use Rattle.std.proofs.Common.{◌≡◌, ◌-◌, ◌++◌, ◌∙◌, arith, ap, refl, Bool, List, length, length-append, []}
+use Rattle.std.proofs.Common.{◌≡◌, ◌-◌, ◌++◌, ◌∙◌, arith, ap, refl, true, Bool, List, length, length-append, []}
 use Rattle.bitvec_move.specs.base.Lists.{combined}
 use Rattle.bitvec_move.specs.base.Memory.{list_in}
 use Rattle.bitvec_move.specs.base.Window.{window_after, window_until}
 use Rattle.bitvec_move.specs.base.WritesLaws.{Writes-is, length-list}
+use Rattle.bitvec_move.specs.store.WidthLaws.{width_some}
+use Rattle.bitvec_move.specs.walk.CostLaws.{touched_read, touched_stored}
 use Rattle.bitvec_move.specs.words.CombinedLaws.{Writes-both, combined-enough, combined-short}
 use Rattle.bitvec_move.specs.words.FieldLaws.{list-parted}
 use Rattle.bitvec_move.specs.words.Operator.{operator}
-use Rattle.bitvec_combine.specs.CombineLaws.{combines-beside}
+use Rattle.bitvec_combine.specs.CombineLaws.{combines-beside, touched-met, touched-passed}
+use Rattle.bitvec_combine.proofs.CostLemmas.{costs-both, costs-most, reads-most}
 use Rattle.bitvec_combine.proofs.combining.combine.Goals as goal
 
 pub returns-then-met-eq0-clause-writes : goal.returns-then-met-eq0-clause-writes
@@ -42,3 +45,22 @@ returns-clause-writes g c =
     (λ (a d : List Bool) (a_long : length a ≡ to.len - (to.len - passed)) (d_long : length d ≡ to.len - passed).
     combined-short f a d x (omega arith) ∙ combined-enough f (a ++ d) x y (λ k late inside. omega (arith, length-append a d)) ∙ ap (combined f (a ++ d)) (list-parted b at ys from met right (omega arith)))
     (rw (c.until-first.ensures, c.until-other.ensures) at (combines-beside _ _ _ _ _ _ _ _ c.act.ensures.done.writes)) (rw c.after.ensures at c.combine_zeros-2.ensures.writes)
+
+pub returns-then-met-eq0-clause-cost : goal.returns-then-met-eq0-clause-cost
+returns-then-met-eq0-clause-cost g c =
+    let some = width_some g.C.Elem.BitStore.BITS g.met.C.Elem.BitStore.width_law in
+    costs-most c.combine_zeros.ensures.cost (omega (arith, touched_read _ true c.args.to.start c.args.to.len some)) (touched_stored _ true _ _ some)
+
+pub returns-clause-cost : goal.returns-clause-cost
+returns-clause-cost g c =
+    let b = g.C.Elem.BitStore.BITS in
+    let to = c.args.to in
+    let some = width_some b g.met.C.Elem.BitStore.width_law in
+    let reach = c.reached-passed.ensures in
+    let all = touched-passed b to.start c.reached-passed.result to.len some reach.bound (rw c.BITS.ensures at reach.edge) in
+    let first = rw c.until-first.ensures at c.act.ensures.done.cost in
+    costs-both first (rw c.after.ensures at c.combine_zeros-2.ensures.cost) (omega (arith, touched_read b true to.start to.len some)) (omega (arith, touched_stored b true to.start to.len some))
+
+pub returns-clause-right : goal.returns-clause-right
+returns-clause-right g c =
+    reads-most (rw c.until-other.ensures at c.act.ensures.right) (touched-met _ _ _ c.args.to.len true (width_some _ g.met.C.Elem.BitStore.width_law) (omega arith))

@@ -7,6 +7,8 @@ use Rattle.bitvec_elements.specs.base.WritesLaws.{length-list}
 use Rattle.bitvec_elements.specs.words.Operator.{operator}
 use Rattle.bitvec_elements.proofs.RecutLemmas.{block-combined}
 use Rattle.bitvec_elements.proofs.StoreLemmas.{range-inside, range-kept, stretch-all, stretch-none}
+use Rattle.std.proofs.lemmas.Nat.{mul-le}
+use Rattle.bitvec_elements.specs.store.WidthLaws.{width_some}
 use Rattle.bitvec_elements.proofs.combining.combine_blocks.Goals as goal
 
 pub loop-from-init : goal.loop-from-init
@@ -34,3 +36,6 @@ pub returns : goal.returns
 returns g c =
     let long = length-list _ g.W.BitOrder.at _ _ c.requires.window in
     record { writes = stretch-all _ g.W.BitOrder.at _ _ c.args.left_window _ c.loop-from.from (omega arith) (length-combined (operator c.args.op) _ _ ∙ long) c.loop-from.invariant.writes }
+
+pub loop-from-smaller : goal.loop-from-smaller
+loop-from-smaller g c = let wide = width_some _ g.met.T.BitStore.width_law in omega (arith, mul-le 1 1 c.BITS.result g.row.HELD (omega arith) c.requires.some)

@@ -42,3 +42,6 @@ pub returns : goal.returns
 returns g c =
     let at = g.O.BitOrder.at in
     rw c.cmp.ensures (order-same _ _ _ _ c.loop-from.from (length-list _ at _ _ c.requires.window) (length-list _ at _ _ c.requires.right_window) (omega arith) c.loop-from.invariant.same)
+
+pub loop-from-smaller : goal.loop-from-smaller
+loop-from-smaller g c = omega arith

@@ -4,6 +4,8 @@ use Rattle.bitvec_elements.specs.base.CompareLaws.{same-stretch}
 use Rattle.bitvec_elements.specs.base.WritesLaws.{HasWindow-range, length-list, list-after, list-range}
 use Rattle.bitvec_elements.proofs.DifferenceLemmas.{differs-behind}
 use Rattle.bitvec_elements.proofs.StoreLemmas.{range-inside}
+use Rattle.std.proofs.lemmas.Nat.{mul-le}
+use Rattle.bitvec_elements.specs.store.WidthLaws.{width_some}
 use Rattle.bitvec_elements.proofs.difference.common_blocks.Goals as goal
 
 pub hold-held-requires-clause-window : goal.hold-held-requires-clause-window
@@ -62,3 +64,6 @@ returns g c =
       bound = omega arith;
       differs = λ more. absurd (omega arith);
     }
+
+pub loop-from-smaller : goal.loop-from-smaller
+loop-from-smaller g c = let wide = width_some _ g.met.T.BitStore.width_law in omega (arith, mul-le 1 1 c.BITS.result g.row.HELD (omega arith) c.requires.some)

@@ -3,7 +3,7 @@ use Rattle.std.proofs.lemmas.Nat.{mod_below}
 use Rattle.bitvec_elements.specs.base.Memory.{list_in}
 use Rattle.bitvec_elements.specs.base.WritesLaws.{length-list}
 use Rattle.bitvec_elements.specs.store.WidthLaws.{width_some}
-use Rattle.bitvec_elements.proofs.RecutLemmas.{edge-window, word-inside, word-recut, word-window}
+use Rattle.bitvec_elements.proofs.RecutLemmas.{edge-window, word-inside, word-recut, word-window, word-place}
 use Rattle.bitvec_elements.proofs.StoreLemmas.{stretch-all, stretch-none}
 use Rattle.bitvec_elements.proofs.recutting.recut_words.Goals as goal
 
@@ -44,3 +44,15 @@ returns g c =
     let long = length-list _ g.V.BitOrder.at _ _ c.requires.pair.beside ∙ sym lengths in
     let done = stretch-all _ g.W.BitOrder.at _ _ c.args.to _ _ (omega arith) long c.loop-step.invariant.writes in
     record { writes = record { bits = search (rules, done.bits); long = done.long; elements = search (rules, done.elements) } }
+
+pub overflow_mul-step : goal.overflow_mul-step
+overflow_mul-step g c = let lengths = c.requires.pair.lengths in let place = word-place _ _ c.loop-step.step c.args.from g.met.U.BitStore.width_law c.BITS-2.ensures c.requires.right_narrow _ c.requires.pair.beside (omega arith) in omega arith
+
+pub overflow_add-source : goal.overflow_add-source
+overflow_add-source g c = let lengths = c.requires.pair.lengths in record { fits = word-place _ _ c.loop-step.step c.args.from g.met.U.BitStore.width_law c.BITS-2.ensures c.requires.right_narrow _ c.requires.pair.beside (omega arith) }
+
+pub overflow_mul-step-in-loop-step : goal.overflow_mul-step-in-loop-step
+overflow_mul-step-in-loop-step g c = let place = word-place _ _ c.loop-step.step c.args.to g.met.T.BitStore.width_law c.BITS.ensures c.requires.narrow _ c.requires.pair.window (omega arith) in omega arith
+
+pub overflow_add-first : goal.overflow_add-first
+overflow_add-first g c = record { fits = word-place _ _ c.loop-step.step c.args.to g.met.T.BitStore.width_law c.BITS.ensures c.requires.narrow _ c.requires.pair.window (omega arith) }

@@ -1,9 +1,11 @@
 use Rattle.std.proofs.Common.{arith, map, refl, sym, ◌∙◌}
 use Rattle.std.proofs.lemmas.List.{length-map, length-replicate}
 use Rattle.bitvec_elements.specs.base.Memory.{list_in}
-use Rattle.bitvec_elements.specs.base.WritesLaws.{Writes-holds, length-list}
+use Rattle.bitvec_elements.specs.base.WritesLaws.{Writes-holds, length-list, HasWindow-kept}
 use Rattle.bitvec_elements.proofs.RecutLemmas.{block-swapped}
 use Rattle.bitvec_elements.proofs.StoreLemmas.{range-kept, stretch-all, stretch-none}
+use Rattle.std.proofs.lemmas.Nat.{mul-le}
+use Rattle.bitvec_elements.specs.store.WidthLaws.{width_some}
 use Rattle.bitvec_elements.proofs.swapping.swap_blocks.Goals as goal
 
 pub loop-from-init : goal.loop-from-init
@@ -42,3 +44,13 @@ returns g c =
       writes = stretch-all _ g.W.BitOrder.at _ _ c.args.left_window _ c.loop-from.from (omega arith) (right_long ∙ sym lengths) inv.writes;
       right_writes = stretch-all _ g.P.BitOrder.at _ _ c.args.right_window _ c.loop-from.from (omega arith) (long ∙ lengths) inv.right_writes;
     }
+
+pub copy_from_in-requires : goal.copy_from_in-requires
+copy_from_in-requires g c = record {
+  window = range-kept _ _ _ c.args.right_window _ _ _ c.requires.pair.beside c.loop-from.invariant.right_writes.elements c.range-other.ensures (omega arith) (let lengths = c.requires.pair.lengths in omega arith);
+  right_window = HasWindow-kept _ _ _ c.hold-held.result c.hold-held.ensures.window c.swap_with_block_in.ensures.right_writes.elements;
+  lengths = sym c.hold-held.ensures.lengths;
+}
+
+pub loop-from-smaller : goal.loop-from-smaller
+loop-from-smaller g c = let wide = width_some _ g.met.T.BitStore.width_law in omega (arith, mul-le 1 1 c.BITS.result g.row.HELD (omega arith) c.requires.some)

@@ -5,6 +5,7 @@ use Rattle.bitvec_elements.specs.base.MemoryLaws.{element-range, element_fits, l
 use Rattle.bitvec_elements.specs.base.Window.{window_of}
 use Rattle.bitvec_elements.specs.moves.WordLaws.{word-across, word_whole}
 use Rattle.bitvec_elements.specs.words.FieldLaws.{element_of}
+use Rattle.bitvec_elements.proofs.ElementLemmas.{next-inside}
 use Rattle.bitvec_elements.proofs.window_words.word_behind.Goals as goal
 
 pub load_elements-word-requires-clause-window : goal.load_elements-word-requires-clause-window
@@ -50,3 +51,9 @@ returns g c =
     joined
     ∙ word-across bits (first * b) b skip below c.requires.narrow (omega arith)
     ∙ ap (λ (n : ℕ). slice_range bits (first * b + skip) (first * b + skip + n)) (sym whole)
+
+pub bounds-elements-first : goal.bounds-elements-first
+bounds-elements-first g c = rw c.BITS-bits.ensures (next-inside g.T.BitStore.value _ _ _ _ g.met.T.BitStore.width_law c.requires.narrow (omega arith) c.requires.window)
+
+pub offset_bounds-elements-first : goal.offset_bounds-elements-first
+offset_bounds-elements-first g c = rw c.BITS-bits.ensures (let inside = next-inside g.T.BitStore.value _ _ _ _ g.met.T.BitStore.width_law c.requires.narrow (omega arith) c.requires.window in omega arith)

@@ -1,4 +1,4 @@
-use Rattle.std.proofs.Common.{◌≡◌, ℕ, ◌+◌, ◌-◌, ◌<◌, ◌≤◌, ◌++◌, [], min, ◌∙◌, ap, sym, arith, rules, Bool, List, length, take}
+use Rattle.std.proofs.Common.{◌≡◌, ℕ, ◌+◌, ◌-◌, ◌<◌, ◌≤◌, ◌++◌, [], min, ◌∙◌, ap, sym, arith, Bool, List, length, take}
 use Rattle.std.proofs.Math.Seq.{take-append_seam}
 use Rattle.bitvec_combine.specs.base.Lists.{combined}
 use Rattle.bitvec_combine.specs.base.Memory.{list_in}
@@ -9,6 +9,7 @@ use Rattle.bitvec_combine.specs.walk.CostLaws.{read_enough, store_enough, touche
 use Rattle.bitvec_combine.specs.words.CombinedLaws.{Writes-both, combined-first}
 use Rattle.bitvec_combine.specs.words.FieldLaws.{list-parted}
 use Rattle.bitvec_combine.specs.words.Operator.{operator}
+use Rattle.bitvec_combine.proofs.CostLemmas.{costs-within, reads-within, reads-most}
 use Rattle.bitvec_engine.proofs.by_elements.elements_op.Goals as goal
 
 pub returns-then-to-bits-clause-writes : goal.returns-then-to-bits-clause-writes
@@ -52,15 +53,21 @@ returns-then-to-bits-clause-cost g c =
     let reads = read_enough b c.args.to.len in
     let loads = write_enough b c.args.to.len in
     let stores = store_enough b c.args.to.len in
-    record { borrow = search rules; loads = omega arith; stores = omega arith }
+    record { borrow = rest.borrow ∙ first.borrow; loads = omega arith; stores = omega arith }
 
 pub returns-then-to-bits-clause-right : goal.returns-then-to-bits-clause-right
 returns-then-to-bits-clause-right g c =
     let b = g.C.Elem.BitStore.BITS in
     let some = width_some b g.met.C.Elem.BitStore.width_law in
-    let least : c.min-met.result ≡ min c.args.to.len c.args.from.len = omega arith in
     let long : c.args.from.len - (c.args.from.len - c.min-met.result) ≡ c.min-met.result = omega arith in
-    let right = rw (c.until-other.ensures, long) at c.combine_equal.ensures.right in
     let met = touched_bits b c.args.from.start c.min-met.result some in
-    let reads = read_enough b c.args.to.len in
-    record { numbers = search rules; borrow = search rules; loads = omega arith; stores = search rules }
+    reads-most (rw (c.until-other.ensures, long) at c.combine_equal.ensures.right) (omega (arith, read_enough b c.args.to.len))
+
+pub returns-else-met-gt0-clause-cost : goal.returns-else-met-gt0-clause-cost
+returns-else-met-gt0-clause-cost g c = costs-within c.bits_op.ensures.cost (omega (arith, read_enough g.C.Elem.BitStore.BITS c.args.to.len, write_enough g.C.Elem.BitStore.BITS c.args.to.len)) (store_enough _ _)
+
+pub returns-else-met-gt0-clause-right : goal.returns-else-met-gt0-clause-right
+returns-else-met-gt0-clause-right g c = reads-within c.bits_op.ensures.right (omega (arith, read_enough g.C.Elem.BitStore.BITS c.args.to.len))
+
+pub combine_equal-requires-clause-some : goal.combine_equal-requires-clause-some
+combine_equal-requires-clause-some g c = rw c.until-first.ensures (omega arith)

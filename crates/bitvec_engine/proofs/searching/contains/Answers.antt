@@ -3,7 +3,7 @@ use Rattle.bitvec_combine.specs.base.Lists.{stands_at}
 use Rattle.bitvec_combine.specs.base.ListsLaws.{stands_in-found}
 use Rattle.bitvec_combine.specs.base.NeedleLaws.{stands-nowhere}
 use Rattle.bitvec_combine.specs.base.WritesLaws.{length-list}
-use Rattle.bitvec_engine.proofs.NeedleLemmas.{stands-found, cost-more}
+use Rattle.bitvec_engine.proofs.NeedleLemmas.{cost-more, reads-found, stands-found}
 use Rattle.bitvec_engine.proofs.searching.contains.Goals as goal
 use borrow.Author.Count.{below_more}
 
@@ -14,6 +14,12 @@ returns-then-block_eq-clause-value g c =
     let right = length-list _ g.O.BitOrder.at _ _ c.requires.right_window in
     let here = stands-found g.O.BitOrder.at g.O.BitOrder.at c.loop-from.from c.requires.window c.requires.right_window (omega arith) inv.reads.numbers inv.right.numbers c.range-part.ensures c.block_eq.ensures.value in
     sym (stands_in-found _ _ c.loop-from.from (omega arith) (here ∙ c.if-block_eq.true))
+
+pub returns-then-block_eq-clause-reads : goal.returns-then-block_eq-clause-reads
+returns-then-block_eq-clause-reads g c = reads-found _ _ _ c.loop-from.invariant.reads c.block_eq.ensures.reads (rw c.range-part.ensures (omega arith)) (omega arith)
+
+pub returns-then-block_eq-clause-right : goal.returns-then-block_eq-clause-right
+returns-then-block_eq-clause-right g c = reads-found _ _ _ c.loop-from.invariant.right c.block_eq.ensures.right (rw c.range-part.ensures (omega arith)) (omega arith)
 
 pub loop-from-preserved : goal.loop-from-preserved
 loop-from-preserved g c =

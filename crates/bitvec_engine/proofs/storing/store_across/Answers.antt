@@ -1,4 +1,6 @@
-use Rattle.std.proofs.Common.{◌%◌, ◌/◌, ◌+◌, arith, ◌∙◌}
+use Rattle.std.proofs.Common.{◌%◌, ◌/◌, ◌+◌, ap, arith, length, refl, ◌∙◌}
+use Rattle.bitvec_combine.specs.moves.WordLaws.{word-next}
+use Rattle.bitvec_combine.specs.store.WidthLaws.{width_some}
 use Rattle.bitvec_combine.specs.words.TouchedLaws.{part_loads-most}
 use Rattle.bitvec_engine.proofs.FewLemmas.{stored-across, touched-across}
 use Rattle.bitvec_engine.proofs.storing.store_across.Goals as goal
@@ -23,3 +25,10 @@ returns-clause-cost g c =
     let most = part_loads-most b (record { element = window.start / b + 64 / b; from = 0; to = window.start % b }) in
     let all = touched-across b window g.met.C.Elem.BitStore.width_law c.requires.narrow c.requires.size c.requires.inside in
     rw (all, c.requires.size) (record { borrow = cost.borrow ∙ stored.borrow ∙ head.borrow; loads = omega arith; stores = omega arith })
+
+pub store_part-requires : goal.store_part-requires
+store_part-requires g c =
+    let width = g.met.C.Elem.BitStore.width_law in
+    let some = width_some _ width in
+    let same = c.store_elements.ensures.writes.elements ∙ ap length c.load.ensures.numbers in
+    rw c.BITS-bits.ensures (record { element = word-next _ _ _ _ c.args.window width refl c.requires.window c.requires.size (omega arith) (omega arith) same; order = omega arith; bound = omega arith })

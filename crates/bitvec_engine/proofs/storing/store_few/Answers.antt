@@ -1,5 +1,11 @@
-use Rattle.std.proofs.Common.{◌≡◌, ◌%◌, arith}
+use Rattle.std.proofs.Common.{◌≡◌, ◌%◌, ◌/◌, arith, sym}
+use Rattle.std.proofs.lemmas.Nat.{div-add-mod'}
+use Rattle.bitvec_combine.specs.base.MemoryLaws.{length-element_bits}
+use Rattle.bitvec_combine.specs.base.WritesLaws.{Writes-is}
+use Rattle.bitvec_combine.specs.moves.WordLaws.{take-all, word_whole}
+use Rattle.bitvec_combine.specs.words.Elements.{elements_window}
 use Rattle.bitvec_combine.specs.words.TouchedLaws.{touched-word}
+use Rattle.bitvec_combine.specs.words.WholeLaws.{Writes-same}
 use Rattle.bitvec_engine.proofs.storing.store_few.Goals as goal
 
 pub returns-else-window-bits-gt0-clause-cost : goal.returns-else-window-bits-gt0-clause-cost
@@ -8,3 +14,13 @@ returns-else-window-bits-gt0-clause-cost g c =
     let edge : c.args.window.start % c.BITS-bits.result ≡ 0 = omega arith in
     let cost = c.store_elements.ensures.cost in
     rw (size, touched-word g.C.Elem.BitStore.BITS c.args.window.start g.met.C.Elem.BitStore.width_law (omega arith) (rw c.BITS-bits.ensures at edge)) (record { borrow = cost.borrow; loads = omega arith; stores = omega arith })
+
+pub returns-else-window-bits-gt0-clause-writes : goal.returns-else-window-bits-gt0-clause-writes
+returns-else-window-bits-gt0-clause-writes g c =
+    let b = g.C.Elem.BitStore.BITS in
+    let window = c.args.window in
+    let whole = word_whole b g.met.C.Elem.BitStore.width_law (omega arith) in let place = div-add-mod' window.start b in
+    let edge : window.start % b ≡ 0 = rw (sym c.BITS-bits.ensures) (omega arith) in
+    let wide = length-element_bits 64 g.W.BitOrder.at c.args.word in
+    let is = Writes-is _ _ _ _ _ _ _ (rw c.BITS-bits.ensures at c.store_elements.ensures.writes) (sym (take-all _ window.len (omega arith))) in
+    Writes-same (elements_window b (window.start / b) (64 / b)) window (omega arith) (omega arith) is

@@ -3,6 +3,7 @@ use Rattle.bitvec_combine.specs.base.declared.part.Part.{Part}
 use Rattle.bitvec_combine.specs.base.Memory.{element_bits}
 use Rattle.bitvec_combine.specs.base.Parts.{first_part_of}
 use Rattle.bitvec_combine.specs.base.WritesLaws.{Writes-empty, Writes-is}
+use Rattle.bitvec_combine.specs.moves.PlaceLaws.{head-part}
 use Rattle.bitvec_combine.specs.store.WidthLaws.{width_some}
 use Rattle.bitvec_combine.specs.words.FillingLaws.{fill_loads-some}
 use Rattle.bitvec_combine.specs.words.TouchedLaws.{part_loads-most, touched-first}
@@ -57,3 +58,6 @@ returns-else-count-window-clause-cost g c =
     let first = part_loads-most b c.first_part-head.result in
     let before = c.store_part.ensures.cost in
     rw (fill_loads-some window.len c.if-window-eq0.false) (record { borrow = before.borrow; loads = omega arith; stores = omega arith })
+
+pub store_part-requires : goal.store_part-requires
+store_part-requires g c = head-part _ _ _ c.args.window _ g.met.C.Elem.BitStore.width_law c.BITS.ensures c.first_part-head.ensures (omega arith) c.requires.window

@@ -1,15 +1,23 @@
-use Rattle.std.proofs.Common.{◌≡◌, ◌∙◌, ℕ, ◌+◌, ◌-◌, ◌*◌, ◌/◌, ◌%◌, arith, refl, sym}
-use Rattle.std.proofs.lemmas.Nat.{div-add-mod', mod_below}
+use Rattle.std.proofs.Common.{◌≡◌, ◌<◌, ◌≤◌, ◌∙◌, ℕ, ◌+◌, ◌-◌, ◌*◌, ◌/◌, ◌%◌, arith, refl, sym}
+use Rattle.std.proofs.lemmas.Nat.{div-add-mod', mod-mul-add, mod_below}
 use Rattle.std.proofs.Math.Nat.{add-mul-div_right}
 use Rattle.bitvec_words.specs.base.Window.{window_after}
 use Rattle.bitvec_words.specs.store.WidthLaws.{width_some}
 use Rattle.bitvec_words.specs.Elements.{elements_window, elements_window_from}
 use Rattle.bitvec_words.specs.WholeLaws.{HasWindow-part, behind-mod, whole_fits}
 use Rattle.bitvec_move.specs.Acts.{IsCut}
-use Rattle.bitvec_move.specs.PlaceLaws.{whole-window, whole-window_from}
+use Rattle.bitvec_move.specs.PlaceLaws.{tail-inside, whole-window, whole-window_from}
 use Rattle.bitvec_move.proofs.MetActs.{beside-join, beside-stop, elements-all, touched-elements}
 use Rattle.bitvec_move.proofs.acting_on_windows.act_from_edge.Goals as goal
 use Rattle.bitvec_move.proofs.acting_on_windows.act_from_edge.Goals.{then-passed-from-via-then-passed-from, then-passed-from-via-else-passed-from+then-stops}
+
+-- what is behind the whole elements of n bits lies in one
+tail-bound : (b s n m : ℕ) → 0 < b → s % b ≡ 0 → (s + n) % b + (m - n) ≤ b → n ≤ m → m - n / b * b ≤ b
+tail-bound b s n m some edge reach fits =
+    let parts = div-add-mod' n b in let place = div-add-mod' s b in
+    let end : s + n ≡ (s / b + n / b) * b + n % b = omega arith in
+    let inside = rw (end, mod-mul-add (s / b + n / b) b (n % b) (mod_below n b some)) at reach in
+    omega arith
 
 pub act_in_spans-last-requires : goal.act_in_spans-last-requires
 act_in_spans-last-requires g c =
@@ -69,8 +77,7 @@ act_on_part-requires-clause-from g c =
 pub returns-clause-done : goal.returns-clause-done
 returns-clause-done g c =
     let b = g.C.Elem.BitStore.BITS in
-    let to = c.args.to in
-    let from = c.args.from in
+    let to = c.args.to in let from = c.args.from in
     let count : ℕ = from.len / b in
     let passed : ℕ = count * b in
     let met = c.requires.met in
@@ -96,3 +103,10 @@ returns-clause-right g c =
     let some = rw c.BITS-bits.ensures at c.act_in_spans-last.ensures.right in
     let rest = rw (c.after.ensures, c.BITS-bits.ensures) at c.act_on_part.ensures.right in
     record { numbers = rest.numbers ∙ some.numbers; borrow = rest.borrow ∙ some.borrow; loads = omega arith; stores = rest.stores ∙ some.stores }
+
+pub act_on_part-requires-clause-part : goal.act_on_part-requires-clause-part
+act_on_part-requires-clause-part g c =
+    let left : 0 < c.args.from.len % c.BITS-bits.result = let parts = div-add-mod' c.args.from.len c.BITS-bits.result in let more = c.if-passed-from.false in omega arith in
+    let inside = tail-inside _ _ _ c.args.to _ g.met.C.Elem.BitStore.width_law c.BITS-bits.ensures c.requires.met.window c.requires.met.lengths left in
+    let bound = tail-bound _ _ _ _ (width_some _ g.met.C.Elem.BitStore.width_law) c.requires.edge c.requires.met.reach c.requires.met.lengths in
+    record { element = rw (g.met.A.Act.kept_law _ _ _ _ _ _ _ c.act_in_spans-last.ensures.done) inside; order = omega arith; bound = rw c.BITS-bits.ensures bound }

@@ -8,11 +8,11 @@ loop-step-init g c =
     let start : c.args.stretch.source + 0 * c.span-span.result ≡ c.args.stretch.source = omega arith in
     record { done = stretch-none g.C.CellsRead.numbers g.A.Act.Done g.met.A.Act.empty_law (0 * c.span-span.result) c.requires (omega arith); carried = rw start c.requires.carried; right = search rules }
 
-pub part-here-requires-clause-first : goal.part-here-requires-clause-first
-part-here-requires-clause-first g c = let fits = span-fits _ _ _ _ c.loop-step-test.true c.spans_in-spans.ensures in first-word _ g.met.C.Elem.BitStore.width_law c.requires (omega arith)
-
-pub part-here-requires-clause-source : goal.part-here-requires-clause-source
-part-here-requires-clause-source g c = let fits = span-fits _ _ _ _ c.loop-step-test.true c.spans_in-spans.ensures in source-word _ g.met.C.Elem.BitStore.width_law c.requires (omega arith)
+pub part-here-requires : goal.part-here-requires
+part-here-requires g c =
+    let fits = span-fits _ _ _ _ c.loop-step-test.true c.spans_in-spans.ensures in
+    let width = g.met.C.Elem.BitStore.width_law in
+    record { first = first-word _ width c.requires (omega arith); source = source-word _ width c.requires (omega arith) }
 
 pub act_on_span-last-requires : goal.act_on_span-last-requires
 act_on_span-last-requires g c =
@@ -22,8 +22,7 @@ act_on_span-last-requires g c =
 
 pub loop-step-preserved : goal.loop-step-preserved
 loop-step-preserved g c =
-    let inv = c.loop-step.invariant in
-    let span = c.span-span.result in
+    let inv = c.loop-step.invariant in let span = c.span-span.result in
     let m : ℕ = c.loop-step.step * span in
     let fits = span-fits _ _ _ _ c.loop-step-test.true c.spans_in-spans.ensures in
     let next : (c.loop-step.step + 1) * span ≡ m + span = omega arith in
@@ -37,19 +36,17 @@ loop-step-preserved g c =
 
 pub returns-then-stops-clause-done : goal.returns-then-stops-clause-done
 returns-then-stops-clause-done g c =
-    let inv = c.loop-step.invariant in
-    let span = c.span-span.result in
+    let inv = c.loop-step.invariant in let span = c.span-span.result in
     let m : ℕ = c.loop-step.step * span in
     let fits = span-fits _ _ _ _ c.loop-step-test.true c.spans_in-spans.ensures in
     let acted = rw c.part-here.ensures at c.act_on_span-last.ensures in
     stretch-stop g.C.CellsRead.numbers g.A.Act.Done g.met.A.Act.stop_law (m + span) c.requires fits (sym c.stops.ensures ∙ c.if-stops.true)
     (stretch-join g.C.CellsRead.numbers g.A.Act.Done g.met.A.Act.join_law m span _ c.requires (omega arith) fits inv.done (rw inv.right.numbers at acted.done))
 
-pub part-rest-requires-clause-first : goal.part-rest-requires-clause-first
-part-rest-requires-clause-first g c = first-word _ g.met.C.Elem.BitStore.width_law c.requires c.spans_in-spans.ensures
-
-pub part-rest-requires-clause-source : goal.part-rest-requires-clause-source
-part-rest-requires-clause-source g c = source-word _ g.met.C.Elem.BitStore.width_law c.requires c.spans_in-spans.ensures
+pub part-rest-requires : goal.part-rest-requires
+part-rest-requires g c =
+    let width = g.met.C.Elem.BitStore.width_law in
+    record { first = first-word _ width c.requires c.spans_in-spans.ensures; source = source-word _ width c.requires c.spans_in-spans.ensures }
 
 pub act_on_stretch-requires : goal.act_on_stretch-requires
 act_on_stretch-requires g c =
@@ -68,3 +65,16 @@ returns-clause-done g c =
     let m : ℕ = c.spans_in-spans.result * c.span-span.result in
     stretch-join g.C.CellsRead.numbers g.A.Act.Done g.met.A.Act.join_law m (c.args.stretch.count - m) _ c.requires (omega arith) (omega arith) (rw all at inv.done)
     (rw (c.part-rest.ensures, inv.right.numbers) at c.act_on_stretch.ensures.done)
+
+pub overflow_mul-step : goal.overflow_mul-step
+overflow_mul-step g c =
+    let fits = span-fits _ _ _ _ c.loop-step-test.true c.spans_in-spans.ensures in
+    let most = first-word (c.loop-step.step * c.span-span.result) g.met.C.Elem.BitStore.width_law c.requires (omega arith) in
+    record { fits = omega arith }
+
+pub returns-then-stops-clause-right : goal.returns-then-stops-clause-right
+returns-then-stops-clause-right g c =
+    let before = c.loop-step.invariant.right in
+    let acted = rw c.part-here.ensures at c.act_on_span-last.ensures.right in
+    let fits = span-fits _ _ _ _ c.loop-step-test.true c.spans_in-spans.ensures in
+    record { numbers = acted.numbers ∙ before.numbers; borrow = acted.borrow ∙ before.borrow; loads = omega arith; stores = acted.stores ∙ before.stores }

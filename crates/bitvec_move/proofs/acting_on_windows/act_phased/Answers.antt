@@ -11,6 +11,7 @@ use Rattle.bitvec_words.specs.TouchedLaws.{head_edge, touched-first}
 use Rattle.bitvec_words.specs.WholeLaws.{HasWindow-part, window-same}
 use Rattle.bitvec_move.specs.ActLaws.{met-rest}
 use Rattle.bitvec_move.specs.Acts.{IsCut}
+use Rattle.bitvec_move.specs.PlaceLaws.{head-element, head-part}
 use Rattle.bitvec_move.proofs.MetActs.{beside-join, beside-stop, head-done, head-window, rest-carried, rest-phases, touched-head}
 use Rattle.bitvec_move.proofs.acting_on_windows.act_phased.Goals as goal
 use Rattle.bitvec_move.proofs.acting_on_windows.act_phased.Goals.{then-passed-to-via-then-passed-to, then-passed-to-via-else-passed-to+then-stops, then-to-bits+else-passed-to+else-stops, else-to-bits+else-to-bits-gt0}
@@ -19,12 +20,40 @@ use Rattle.bitvec_move.proofs.acting_on_windows.act_phased.Goals.{then-passed-to
 after-none : (window : Window) → window_after 0 window ≡ window
 after-none window = window-same (window_after 0 window) window (omega arith) (omega arith)
 
+pub first-carry-requires : goal.first-carry-requires
+first-carry-requires g c = head-element _ _ _ c.args.from g.met.C.Elem.BitStore.width_law c.BITS-bits.ensures c.requires.met.some c.requires.met.beside
+
+pub act_on_part-carry-requires-clause-part : goal.act_on_part-carry-requires-clause-part
+act_on_part-carry-requires-clause-part g c =
+    let more = c.requires.met.some in let lengths = c.requires.met.lengths in
+    head-part _ _ _ c.args.to _ g.met.C.Elem.BitStore.width_law c.BITS-bits.ensures c.first_part-head.ensures (omega arith) c.requires.met.window
+
+pub after-rest-requires-clause-bound : goal.after-rest-requires-clause-bound
+after-rest-requires-clause-bound g c =
+    elim c.if-to-bits.branch [
+      | then-to-bits+else-passed-to+else-stops w ↦
+          let step = first_part-long w.len-passed.result _ _ c.args.to w.first_part-head.result w.len-passed.ensures w.first_part-head.ensures c.BITS-bits.ensures in
+          let more = (met-rest _ _ _ _ c.args.to c.args.from w.len-passed.result (width_some _ g.met.C.Elem.BitStore.width_law) c.requires.met refl step w.if-passed-to.false).some in
+          rw w.passed-is (omega arith)
+      | else-to-bits+else-to-bits-gt0 w ↦ rw w.passed-is (omega arith)
+    ]
+
+pub act_from_edge-requires-clause-edge : goal.act_from_edge-requires-clause-edge
+act_from_edge-requires-clause-edge g c =
+    elim c.if-to-bits.branch [
+      | then-to-bits+else-passed-to+else-stops w ↦
+          let step = first_part-long _ _ _ c.args.to _ w.len-passed.ensures w.first_part-head.ensures c.BITS-bits.ensures in
+          rw (c.after.ensures, w.passed-is) (head_edge _ _ _ _ (width_some _ g.met.C.Elem.BitStore.width_law) step w.if-passed-to.false)
+      | else-to-bits+else-to-bits-gt0 w ↦
+          let start = rw c.BITS-bits.ensures at w.if-to-bits-gt0.false in
+          let same : c.after.result ≡ c.args.to = c.after.ensures ∙ ap (λ (t : ℕ). window_after t c.args.to) w.passed-is ∙ after-none c.args.to in
+          rw same (omega arith)
+    ]
+
 pub act_on_part-carry-requires-clause-from : goal.act_on_part-carry-requires-clause-from
 act_on_part-carry-requires-clause-from g c =
     let b = g.C.Elem.BitStore.BITS in
-    let to = c.args.to in
-    let from = c.args.from in
-    let t = c.len-passed.result in
+    let to = c.args.to in let from = c.args.from in let t = c.len-passed.result in
     let some = width_some b g.met.C.Elem.BitStore.width_law in
     let met = c.requires.met in
     let more = met.some in
@@ -44,9 +73,7 @@ act_on_part-carry-requires-clause-from g c =
 pub returns-then-passed-to-clause-done : goal.returns-then-passed-to-clause-done
 returns-then-passed-to-clause-done g c =
     let b = g.C.Elem.BitStore.BITS in
-    let to = c.args.to in
-    let from = c.args.from in
-    let t = c.len-passed.result in
+    let to = c.args.to in let from = c.args.from in let t = c.len-passed.result in
     let some = width_some b g.met.C.Elem.BitStore.width_law in
     let met = c.requires.met in
     let lengths = met.lengths in
@@ -66,8 +93,7 @@ returns-then-passed-to-clause-done g c =
 pub act_from_edge-requires-clause-met : goal.act_from_edge-requires-clause-met
 act_from_edge-requires-clause-met g c =
     let b = g.C.Elem.BitStore.BITS in
-    let to = c.args.to in
-    let from = c.args.from in
+    let to = c.args.to in let from = c.args.from in
     elim c.if-to-bits.branch [
       | then-to-bits+else-passed-to+else-stops w ↦
           let step = first_part-long w.len-passed.result b c.BITS-bits.result to w.first_part-head.result w.len-passed.ensures w.first_part-head.ensures c.BITS-bits.ensures in
@@ -79,8 +105,7 @@ act_from_edge-requires-clause-met g c =
 pub act_from_edge-requires-clause-phases : goal.act_from_edge-requires-clause-phases
 act_from_edge-requires-clause-phases g c =
     let b = g.C.Elem.BitStore.BITS in
-    let to = c.args.to in
-    let from = c.args.from in
+    let to = c.args.to in let from = c.args.from in
     elim c.if-to-bits.branch [
       | then-to-bits+else-passed-to+else-stops w ↦
           let step = first_part-long w.len-passed.result b c.BITS-bits.result to w.first_part-head.result w.len-passed.ensures w.first_part-head.ensures c.BITS-bits.ensures in
@@ -94,8 +119,7 @@ act_from_edge-requires-clause-phases g c =
 pub act_from_edge-requires-clause-carried : goal.act_from_edge-requires-clause-carried
 act_from_edge-requires-clause-carried g c =
     let b = g.C.Elem.BitStore.BITS in
-    let to = c.args.to in
-    let from = c.args.from in
+    let to = c.args.to in let from = c.args.from in
     elim c.if-to-bits.branch [
       | then-to-bits+else-passed-to+else-stops w ↦
           let t = w.len-passed.result in
@@ -114,8 +138,7 @@ act_from_edge-requires-clause-carried g c =
 pub returns-clause-done : goal.returns-clause-done
 returns-clause-done g c =
     let b = g.C.Elem.BitStore.BITS in
-    let to = c.args.to in
-    let from = c.args.from in
+    let to = c.args.to in let from = c.args.from in
     let some = width_some b g.met.C.Elem.BitStore.width_law in
     let met = c.requires.met in
     let lengths = met.lengths in
@@ -140,8 +163,7 @@ returns-clause-done g c =
 pub returns-clause-right : goal.returns-clause-right
 returns-clause-right g c =
     let b = g.C.Elem.BitStore.BITS in
-    let to = c.args.to in
-    let from = c.args.from in
+    let to = c.args.to in let from = c.args.from in
     let some = width_some b g.met.C.Elem.BitStore.width_law in
     let first = c.first-carry.ensures.reads in
     elim c.if-to-bits.branch [
@@ -166,8 +188,7 @@ returns-clause-right g c =
 pub returns-then-passed-to-clause-right : goal.returns-then-passed-to-clause-right
 returns-then-passed-to-clause-right g c =
     let b = g.C.Elem.BitStore.BITS in
-    let from = c.args.from in
-    let first = c.first-carry.ensures.reads in
+    let from = c.args.from in let first = c.first-carry.ensures.reads in
     let head = rw c.until-met.ensures at c.act_on_part-carry.ensures.right in
     let most = touched-less b from.start (from.len - (from.len - c.min.result)) from.len (width_some b g.met.C.Elem.BitStore.width_law) (omega arith) in
     let one = touched-first b from.start from.len c.requires.met.some in

@@ -7,11 +7,10 @@ loop-pair-init g c =
     let start : c.args.stretch.source + 2 * 0 ≡ c.args.stretch.source = omega arith in
     record { done = stretch-none g.C.CellsRead.numbers g.A.Act.Done g.met.A.Act.empty_law (2 * 0) c.requires.stretch refl; carried = rw start c.requires.stretch.carried; right = search rules }
 
-pub part-two-requires-clause-first : goal.part-two-requires-clause-first
-part-two-requires-clause-first g c = first-word _ g.met.C.Elem.BitStore.width_law c.requires.stretch (omega arith)
-
-pub part-two-requires-clause-source : goal.part-two-requires-clause-source
-part-two-requires-clause-source g c = source-word _ g.met.C.Elem.BitStore.width_law c.requires.stretch (omega arith)
+pub part-two-requires : goal.part-two-requires
+part-two-requires g c =
+    let width = g.met.C.Elem.BitStore.width_law in
+    record { first = first-word _ width c.requires.stretch (omega arith); source = source-word _ width c.requires.stretch (omega arith) }
 
 pub act_carried-last-requires-clause-stretch : goal.act_carried-last-requires-clause-stretch
 act_carried-last-requires-clause-stretch g c =
@@ -31,23 +30,20 @@ loop-pair-preserved g c =
       right = search rules;
     }
 
-pub part-rest-requires-clause-first : goal.part-rest-requires-clause-first
-part-rest-requires-clause-first g c = first-word _ g.met.C.Elem.BitStore.width_law c.requires.stretch (omega arith)
-
-pub part-rest-requires-clause-source : goal.part-rest-requires-clause-source
-part-rest-requires-clause-source g c = source-word _ g.met.C.Elem.BitStore.width_law c.requires.stretch (omega arith)
+pub part-rest-requires : goal.part-rest-requires
+part-rest-requires g c =
+    let width = g.met.C.Elem.BitStore.width_law in
+    record { first = first-word _ width c.requires.stretch (omega arith); source = source-word _ width c.requires.stretch (omega arith) }
 
 pub act_carried-requires-clause-stretch : goal.act_carried-requires-clause-stretch
 act_carried-requires-clause-stretch g c =
-    let inv = c.loop-pair.invariant in
-    let n = c.args.stretch.count in
+    let inv = c.loop-pair.invariant in let n = c.args.stretch.count in
     let passed : 2 * c.loop-pair.pair ≡ n - n % 2 = omega arith in
     rw (c.part-rest.ensures, inv.right.numbers) (stretch-part (n - n % 2) (n % 2) c.requires.stretch (g.met.A.Act.kept_law _ _ _ _ _ _ _ inv.done) (omega arith) (rw passed at inv.carried))
 
 pub returns : goal.returns
 returns g c =
-    let inv = c.loop-pair.invariant in
-    let n = c.args.stretch.count in
+    let inv = c.loop-pair.invariant in let n = c.args.stretch.count in
     let passed : 2 * c.loop-pair.pair ≡ n - n % 2 = omega arith in
     let end : c.args.stretch.source + n ≡ c.args.stretch.source + (n - n % 2) + n % 2 = omega arith in
     let acted = rw c.part-rest.ensures at c.act_carried.ensures in

@@ -1,6 +1,8 @@
-use Rattle.std.proofs.Common.{ℕ, ◌≡◌, ◌*◌, ◌≤◌, arith}
+use Rattle.std.proofs.Common.{ℕ, ◌≡◌, ◌*◌, ◌<◌, ◌≤◌, arith, refl}
 use Rattle.std.proofs.lemmas.Bool.Decides.{nat_tests}
 use Rattle.bitvec_move.specs.Moves.{late_words}
+use Rattle.bitvec_move.specs.PlaceLaws.{from-inside, from-word}
+use Rattle.bitvec_move.proofs.WordMoveLemmas.{waiting-below}
 use Rattle.bitvec_move.proofs.moving.move_elements.Goals as goal
 
 -- many bytes may load and store nine elements more
@@ -13,3 +15,13 @@ returns-then-goes_by_words-clause-cost g c =
     let cost = c.shift_words.ensures.cost in
     let more = late g.C.Elem.BitStore.BITS c.args.moved.count (omega arith) (omega arith) in
     rw more (record { borrow = cost.borrow; loads = omega (arith, cost.loads); stores = omega (arith, cost.stores) })
+
+pub overflow_add-source : goal.overflow_add-source
+overflow_add-source g c =
+    let some : 0 < c.args.moved.skip = let more = c.if-moved-eq0.false in omega arith in
+    record { fits = rw c.read_place.ensures (from-word _ _ _ _ _ _ g.met.C.Elem.BitStore.width_law c.requires.span.beside some (waiting-below _ 0 c.args.moved.count (omega arith))) }
+
+pub load-waiting-requires : goal.load-waiting-requires
+load-waiting-requires g c =
+    let some : 0 < c.args.moved.skip = let more = c.if-moved-eq0.false in omega arith in
+    rw c.read_place.ensures (from-inside _ _ _ _ _ _ _ c.requires.span.beside some (waiting-below _ 0 c.args.moved.count (omega arith)) refl)

@@ -3,7 +3,21 @@ use Rattle.bitvec_words.specs.base.Memory.{element_bits}
 use Rattle.bitvec_words.specs.store.WidthLaws.{width_some}
 use Rattle.bitvec_move.specs.Moves.{waiting_place}
 use Rattle.bitvec_move.specs.WithinLaws.{CopiesSome-kept, CopiesSome-more, CopiesSome-none, list-joined_next, nth-waiting}
+use Rattle.bitvec_move.specs.PlaceLaws.{from-inside, from-word, inside, inside-word}
+use Rattle.bitvec_move.proofs.WordMoveLemmas.{nth-inside, waiting-below}
 use Rattle.bitvec_move.proofs.moving.shift_carried.Goals as goal
+
+pub overflow_add-first : goal.overflow_add-first
+overflow_add-first g c = record { fits = rw c.next_place-place.ensures (inside-word _ _ _ _ _ g.met.C.Elem.BitStore.width_law c.requires.skipped.span.window (nth-inside _ _ _ c.loop-passed-test.true)) }
+
+pub store-requires : goal.store-requires
+store-requires g c = rw (c.next_place-place.ensures, c.load.ensures.numbers) (inside _ _ _ _ _ _ g.met.C.Elem.BitStore.width_law c.requires.skipped.span.window (nth-inside _ _ _ c.loop-passed-test.true) c.loop-passed.invariant.writes.elements)
+
+pub overflow_add-source : goal.overflow_add-source
+overflow_add-source g c = record { fits = rw c.read_place-read.ensures (from-word _ _ _ _ _ _ g.met.C.Elem.BitStore.width_law c.requires.skipped.span.beside c.requires.skipped.inside (waiting-below _ (c.loop-passed.passed + 1) c.args.count (omega arith))) }
+
+pub load-requires : goal.load-requires
+load-requires g c = rw c.read_place-read.ensures (from-inside _ _ _ _ _ _ _ c.requires.skipped.span.beside c.requires.skipped.inside (waiting-below _ (c.loop-passed.passed + 1) c.args.count (omega arith)) c.loop-passed.invariant.writes.elements)
 
 pub loop-passed-init : goal.loop-passed-init
 loop-passed-init g c = record {
@@ -17,9 +31,7 @@ loop-passed-preserved g c =
     let later : Bool = not (nat_eq g.row.LATER 0) in
     let old = g.C.CellsRead.numbers c.args.cells.now in
     let bits = λ (e : ℕ). element_bits g.C.Elem.BitStore.BITS g.O.BitOrder.at (slice_index old e) in
-    let inv = c.loop-passed.invariant in
-    let skipped = c.requires.skipped in
-    let more = c.loop-passed-test.true in
+    let inv = c.loop-passed.invariant in let skipped = c.requires.skipped in let more = c.loop-passed-test.true in
     let some = width_some _ g.met.C.Elem.BitStore.width_law in
     let passed = c.loop-passed.passed in
     let kept = CopiesSome-kept later _ _ _ _ _ _ _ _ _ (waiting_place later (passed + 1) c.args.count) c.requires.towards skipped.span.window more (nth-waiting later passed c.args.count) (omega arith) inv.writes in

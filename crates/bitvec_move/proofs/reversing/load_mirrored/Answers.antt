@@ -1,14 +1,36 @@
-use Rattle.std.proofs.Common.{◌≡◌, ℕ, ◌+◌, ◌-◌, ◌*◌, ◌/◌, ◌%◌, arith, rules, ap, sym, ◌∙◌, length, map, reverse, refl}
+use Rattle.std.proofs.Common.{◌≡◌, ℕ, List, ◌<◌, ◌≤◌, ◌+◌, ◌-◌, ◌*◌, ◌/◌, ◌%◌, arith, rules, ap, sym, ◌∙◌, length, map, reverse, refl}
 use Rattle.std.proofs.lemmas.List.{length-map, map-set}
 use Rattle.std.proofs.lemmas.Nat.{div-add-mod', mod_below}
+use Rattle.bitvec_words.specs.base.Memory.{HasWindow}
+use Rattle.bitvec_words.specs.store.Width.{IsWidth}
 use Rattle.bitvec_words.specs.store.WidthLaws.{width_some}
 use Rattle.bitvec_words.specs.base.declared.window.Window.{Window}
 use Rattle.bitvec_words.specs.base.WritesLaws.{HasWindow-kept, Writes-holds, Writes-is}
-use Rattle.bitvec_words.specs.FieldLaws.{Writes-no_element}
+use Rattle.bitvec_words.specs.FieldLaws.{Writes-no_element, element_of}
 use Rattle.bitvec_words.specs.Elements.{elements_window}
 use Rattle.bitvec_words.specs.WholeLaws.{list-empty}
 use Rattle.bitvec_move.proofs.MirroredLemmas.{held-amid, held-room, held-some, last-has, mirrored-element, mirrored-window, touched-beside, touched-has, touched-places, touched-window}
+use Rattle.bitvec_move.specs.Ends.{HoldsBeside}
 use Rattle.bitvec_move.proofs.reversing.load_mirrored.Goals as goal
+
+-- what its numbers are: w is the width, `most` how many elements are held, of `long` ones
+record HasPlaces (w s n most long : ℕ) : Type 0 where
+  pub skip : s % w < w
+  pub count : (s % w + n - 1) / w + 1 < most
+  pub last : s / w + ((s % w + n - 1) / w + 1) ≤ long
+  pub room : n + 2 * w ≤ w * (most - 1)
+
+has-places : (b w most : ℕ) (xs : List ℕ) (window : Window) → IsWidth b → w ≡ b → HasWindow b xs window → 0 < window.len → HoldsBeside b window.len most → HasPlaces w window.start window.len most (length xs)
+has-places b w most xs window width is has more held =
+    let some = width_some b width in
+    let below = touched-beside b window.start window.len most some more held in
+    let touched = touched-window b window.start window.len some more in
+    let last : ℕ = window.start / b + ((window.start % b + window.len - 1) / b + 1) - 1 in
+    let start = has.within.start in let end = has.within.len in let room = held.room in let least = touched.least in
+    let sum : b * most ≡ b * (most - 1) + b = ap (λ (n : ℕ). b * n) (let e : most ≡ most - 1 + 1 = omega arith in e) ∙ omega arith in
+    let place : (last + 1) * b ≡ (window.start / b + ((window.start % b + window.len - 1) / b + 1)) * b = ap (λ (n : ℕ). n * b) (omega arith) in
+    let inside : last < length xs = element_of b last 0 (length xs) (omega arith) in
+    rw is (record { skip = mod_below window.start b some; count = below; last = omega arith; room = omega arith })
 
 pub loop-step-init : goal.loop-step-init
 loop-step-init g c =
@@ -16,8 +38,7 @@ loop-step-init g c =
     let at = g.O.BitOrder.at in
     let value = g.C.Elem.BitStore.value in
     let old = g.C.CellsRead.numbers c.args.cells.now in
-    let held = c.args.held.now in
-    let window = c.args.window in
+    let held = c.args.held.now in let window = c.args.window in
     let most = length held in
     let some = width_some _ g.met.C.Elem.BitStore.width_law in
     let first : ℕ = window.start / b in
@@ -39,8 +60,7 @@ loop-step-preserved g c =
     let at = g.O.BitOrder.at in
     let value = g.C.Elem.BitStore.value in
     let old = g.C.CellsRead.numbers c.args.cells.now in
-    let held = c.args.held.now in
-    let window = c.args.window in
+    let held = c.args.held.now in let window = c.args.window in
     let most = length held in
     let some = width_some _ g.met.C.Elem.BitStore.width_law in
     let first : ℕ = window.start / b in
@@ -68,8 +88,7 @@ returns-clause-mirrors g c =
     let at = g.O.BitOrder.at in
     let value = g.C.Elem.BitStore.value in
     let old = g.C.CellsRead.numbers c.args.cells.now in
-    let held = c.args.held.now in
-    let window = c.args.window in
+    let held = c.args.held.now in let window = c.args.window in
     let most = length held in
     let some = width_some _ g.met.C.Elem.BitStore.width_law in
     let first : ℕ = window.start / b in
@@ -104,3 +123,15 @@ returns-clause-reads g c =
     let count = touched-places g.C.Elem.BitStore.BITS c.args.window.start c.args.window.len (width_some _ g.met.C.Elem.BitStore.width_law) c.requires.some in
     let all : c.loop-step.step ≡ (c.args.window.start % g.C.Elem.BitStore.BITS + c.args.window.len - 1) / g.C.Elem.BitStore.BITS + 1 = rw c.BITS-bits.ensures at (let e : c.loop-step.step ≡ (c.args.window.start % c.BITS-bits.result + c.args.window.len - 1) / c.BITS-bits.result + 1 = omega arith in e) in
     rw (sym count, sym all) c.loop-step.invariant.reads
+
+pub bounds-held-from : goal.bounds-held-from
+bounds-held-from g c = let has = has-places _ c.BITS-bits.result _ _ c.args.window g.met.C.Elem.BitStore.width_law c.BITS-bits.ensures c.requires.window c.requires.some c.requires.held in omega arith
+
+pub load-requires : goal.load-requires
+load-requires g c = let has = has-places _ c.BITS-bits.result _ _ c.args.window g.met.C.Elem.BitStore.width_law c.BITS-bits.ensures c.requires.window c.requires.some c.requires.held in rw c.loop-step.invariant.reads.numbers (omega arith)
+
+pub overflow_sub-result-2 : goal.overflow_sub-result-2
+overflow_sub-result-2 g c = let has = has-places _ c.BITS-bits.result _ _ c.args.window g.met.C.Elem.BitStore.width_law c.BITS-bits.ensures c.requires.window c.requires.some c.requires.held in omega arith
+
+pub overflow_sub-result-3 : goal.overflow_sub-result-3
+overflow_sub-result-3 g c = let has = has-places _ c.BITS-bits.result _ _ c.args.window g.met.C.Elem.BitStore.width_law c.BITS-bits.ensures c.requires.window c.requires.some c.requires.held in omega arith

@@ -22,12 +22,10 @@ pub loop-low-preserved : goal.loop-low-preserved
 loop-low-preserved g c =
     let b = g.C.Elem.BitStore.BITS in
     let at = g.O.BitOrder.at in
-    let low = c.loop-low.low in
-    let count = c.min-count.result in
+    let low = c.loop-low.low in let count = c.min-count.result in
     let words = c.loop-low.invariant.words c.loop-low-test.true in
     let is = rw c.BITS.ensures at c.min-count.ensures in
-    let before = c.loop-low.invariant.cost in
-    let cost = c.exchange_ends.ensures.cost in
+    let before = c.loop-low.invariant.cost in let cost = c.exchange_ends.ensures.cost in
     let loads = block-next low count (step_span b true + 2) words in
     let stores = block-next low count (step_span b true) words in
     record {
@@ -41,9 +39,7 @@ pub returns-clause-writes : goal.returns-clause-writes
 returns-clause-writes g c =
     let b = g.C.Elem.BitStore.BITS in
     let at = g.O.BitOrder.at in
-    let has = c.requires.window in
-    let bound = c.loop-low.invariant.bound in
-    let end = c.loop-low-test.false in
+    let has = c.requires.window in let bound = c.loop-low.invariant.bound in let end = c.loop-low-test.false in
     let long = length-list b at _ c.args.window has in
     Writes-is _ _ _ _ _ _ _ c.loop-low.invariant.writes (mirrored-all _ c.loop-low.low c.args.window.len (sym long) (omega arith) (omega arith))
 
@@ -51,8 +47,7 @@ pub returns-clause-cost : goal.returns-clause-cost
 unfolding reverse_loads reverse_stores
 returns-clause-cost g c =
     let b = g.C.Elem.BitStore.BITS in
-    let bound = c.loop-low.invariant.bound in
-    let end = c.loop-low-test.false in
+    let bound = c.loop-low.invariant.bound in let end = c.loop-low-test.false in
     let all : c.loop-low.low ≡ c.args.window.len / 2 = omega arith in
     let cost = rw all at c.loop-low.invariant.cost in
     let few = half-steps c.args.window.len in

@@ -42,20 +42,11 @@ store-requires-in-loop-step g c =
     let next = across-next _ _ _ _ _ _ _ _ _ _ _ c.requires.inside c.requires.span.beside c.loop-step-test.true c.loop-step.invariant.swaps.right_writes in
     rw c.load-next.ensures.numbers (omega arith)
 
-pub returns-clause-swaps : goal.returns-clause-swaps
-returns-clause-swaps g c =
+pub returns : goal.returns
+returns g c =
     let all : c.loop-step.step ≡ c.args.count = omega arith in
-    rw (← all) c.loop-step.invariant.swaps
-
-pub returns-clause-cost : goal.returns-clause-cost
-returns-clause-cost g c =
-    let all : c.loop-step.step ≡ c.args.count = omega arith in
-    rw (← all) c.loop-step.invariant.cost
-
-pub returns-clause-right_cost : goal.returns-clause-right_cost
-returns-clause-right_cost g c =
-    let all : c.loop-step.step ≡ c.args.count = omega arith in
-    rw (← all) c.loop-step.invariant.right_cost
+    let inv = rw all at c.loop-step.invariant in
+    record { swaps = inv.swaps; cost = inv.cost; right_cost = inv.right_cost }
 
 pub loop-step-init : goal.loop-step-init
 loop-step-init g c = record {
@@ -82,8 +73,7 @@ loop-step-preserved g c =
     let at = g.O.BitOrder.at in
     let inv = c.loop-step.invariant in
     let some = width_some _ g.met.C.Elem.BitStore.width_law in
-    let below = c.requires.bound in
-    let more = c.loop-step-test.true in
+    let below = c.requires.bound in let more = c.loop-step-test.true in
     let element = element_bits b at (slice_index (g.C.CellsRead.numbers c.loop-step.left) (c.args.first + c.loop-step.step)) in
     let long = length-element_bits b at (slice_index (g.C.CellsRead.numbers c.loop-step.left) (c.args.first + c.loop-step.step)) in
     let next = element_bits b at (slice_index (g.D.CellsRead.numbers c.loop-step.right) (c.args.source + c.loop-step.step + 1)) in

@@ -63,8 +63,7 @@ returns-then-tail-eq0-clause-right_cost g c =
     let b = g.C.Elem.BitStore.BITS in
     let full = rw (c.tail_part-tail.ensures, c.BITS-bits.ensures, c.requires.skipped.span.lengths) at c.if-tail-eq0.true in
     let all = touched-from_full b c.args.right_window.start c.args.right_window.len (width_some _ g.met.C.Elem.BitStore.width_law) c.requires.skipped.inside full in
-    let some = c.requires.some in
-    let lengths = c.requires.skipped.span.lengths in
+    let some = c.requires.some in let lengths = c.requires.skipped.span.lengths in
     let more = touched-first b c.args.right_window.start c.args.right_window.len (omega arith) in
     let cost = rw (c.of-stretch.ensures, c.BITS-bits.ensures, c.requires.skipped.span.lengths) at c.swap_across-last.ensures.right_cost in
     record { borrow = search rules; loads = omega arith; stores = omega arith }
@@ -122,8 +121,7 @@ returns-then-tail-eq0-clause-swaps g c =
     let place = div-add-mod' c.args.left_window.start b in
     let right_place = div-add-mod' c.args.right_window.start b in
     let parts = div-add-mod' c.args.left_window.len b in
-    let edge = c.requires.skipped.edge in
-    let lengths = c.requires.skipped.span.lengths in
+    let edge = c.requires.skipped.edge in let lengths = c.requires.skipped.span.lengths in
     rw (c.store.ensures.numbers, c.of-stretch.ensures, c.BITS-bits.ensures)
     (Swaps-same b _ _ _ _ _ _ _ c.args.left_window c.args.right_window (omega arith) (omega arith) (omega arith) (omega arith)
     (rw (c.of-stretch.ensures, c.BITS-bits.ensures) at c.swap_across-last.ensures.swaps))
@@ -160,8 +158,7 @@ pub store-requires-2 : goal.store-requires-2
 store-requires-2 g c =
     let left = rw (c.tail_part-tail.ensures, c.BITS-bits.ensures) at c.if-tail-eq0.false in
     let parts = div-add-mod' c.args.left_window.len g.C.Elem.BitStore.BITS in
-    let lengths = c.requires.skipped.span.lengths in
-    let kept = c.swap_across-last.ensures.swaps.right_writes.elements in
+    let lengths = c.requires.skipped.span.lengths in let kept = c.swap_across-last.ensures.swaps.right_writes.elements in
     let again = c.swap_waiting-end.ensures.swaps.right_writes.elements in
     place-element _ _ _ _ c.args.right_window _ g.met.C.Elem.BitStore.width_law c.BITS-bits.ensures c.requires.skipped.span.beside
     (rw (c.after-behind.ensures, c.of-stretch.ensures, c.BITS-bits.ensures) (omega arith)) (omega (arith, length-set {A = ℕ}))

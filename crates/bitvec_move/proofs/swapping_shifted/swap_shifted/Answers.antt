@@ -25,8 +25,7 @@ first_part-head-requires-clause-bits g c = width-some _ _ g.met.C.Elem.BitStore.
 
 pub load-waiting-requires : goal.load-waiting-requires
 load-waiting-requires g c =
-    let lengths = c.requires.span.lengths in
-    let some = c.requires.some in
+    let lengths = c.requires.span.lengths in let some = c.requires.some in
     head-element _ _ _ c.args.right_window g.met.C.Elem.BitStore.width_law c.BITS-bits.ensures (omega arith) c.requires.span.beside
 
 pub swap_waiting-last-requires : goal.swap_waiting-last-requires
@@ -104,9 +103,7 @@ returns-clause-right_cost g c =
     let step = first_part-long c.len-passed.result b c.BITS-bits.result c.args.left_window c.first_part-head.result c.len-passed.ensures c.first_part-head.ensures c.BITS-bits.ensures in
     let inside = apart_edge b c.args.left_window.start c.args.right_window.start c.len-passed.result c.args.left_window.len some step c.if-passed-left_window.false c.requires.phases in
     let head = mod_below c.args.left_window.start b some in
-    let lengths = c.requires.span.lengths in
-    let left = c.if-passed-left_window.false in
-    let more = c.requires.some in
+    let lengths = c.requires.span.lengths in let left = c.if-passed-left_window.false in let more = c.requires.some in
     let whole : c.len-passed.result + (c.args.right_window.len - c.len-passed.result) ≡ c.args.right_window.len = omega arith in
     let all = rw whole at (touched-inside b c.args.right_window.start c.len-passed.result (c.args.right_window.len - c.len-passed.result) some (omega arith) inside) in
     let met : c.args.right_window.len - (c.args.right_window.len - c.len-passed.result) ≡ c.len-passed.result = omega arith in
@@ -120,8 +117,7 @@ pub returns-then-passed-left_window-clause-swaps : goal.returns-then-passed-left
 returns-then-passed-left_window-clause-swaps g c =
     let b = g.C.Elem.BitStore.BITS in
     let some = width_some _ g.met.C.Elem.BitStore.width_law in
-    let lengths = c.requires.span.lengths in
-    let all = c.if-passed-left_window.true in
+    let lengths = c.requires.span.lengths in let all = c.if-passed-left_window.true in
     let below = mod_below c.args.left_window.start b some in
     let start : c.first_part-head.result ≡ first_part_of b c.args.left_window = c.first_part-head.ensures ∙ ap (λ (n : ℕ). first_part_of n c.args.left_window) c.BITS-bits.ensures in
     let step = first_part-long c.len-passed.result b c.BITS-bits.result c.args.left_window c.first_part-head.result c.len-passed.ensures c.first_part-head.ensures c.BITS-bits.ensures in
@@ -146,9 +142,7 @@ overflow_add-met g c =
 
 pub overflow_sub-met : goal.overflow_sub-met
 overflow_sub-met g c =
-    let more = c.requires.some in
-    let all = c.if-passed-left_window.true in
-    let lengths = c.requires.span.lengths in
+    let more = c.requires.some in let all = c.if-passed-left_window.true in let lengths = c.requires.span.lengths in
     rw c.until-met.ensures (omega arith)
 
 pub after-rest-requires-clause-bound : goal.after-rest-requires-clause-bound
@@ -174,9 +168,7 @@ swap_rest-requires-clause-some g c =
 
 pub store-requires : goal.store-requires
 store-requires g c =
-    let more = c.requires.some in
-    let lengths = c.requires.span.lengths in
-    let all = c.if-passed-left_window.true in
+    let more = c.requires.some in let lengths = c.requires.span.lengths in let all = c.if-passed-left_window.true in
     let kept = c.swap_waiting-last.ensures.swaps.right_writes.elements in
     let loaded = ap length c.load-waiting.ensures.numbers in
     place-element _ _ _ _ c.args.right_window _ g.met.C.Elem.BitStore.width_law c.BITS-bits.ensures c.requires.span.beside (rw c.until-met.ensures (omega arith)) (omega (arith, length-set {A = ℕ}))

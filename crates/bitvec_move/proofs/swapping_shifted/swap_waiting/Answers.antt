@@ -60,8 +60,7 @@ returns-clause-swaps g c =
     let merged = rw c.load-element.ensures.value at c.merged-2.ensures in
     let front = element_bits b at (g.C.Elem.BitStore.value c.joined-front.result) in
     let wide = length-element_bits b at (g.C.Elem.BitStore.value c.joined-front.result) in
-    let bound = c.requires.element.bound in
-    let lengths = c.requires.lengths in
+    let bound = c.requires.element.bound in let lengths = c.requires.lengths in
     let inside : c.args.part.to ≤ length front = omega arith in
     let joined = rw (c.load-next.ensures.value, c.BITS-bits.ensures) at c.joined-front.ensures in
     let head = mod_below c.args.from.start b some in
@@ -93,8 +92,7 @@ returns-clause-swaps g c =
 pub returns-clause-right_cost : goal.returns-clause-right_cost
 returns-clause-right_cost g c =
     let over = rw c.BITS-bits.ensures at c.if-end-bits.false in
-    let bound = c.requires.element.bound in
-    let lengths = c.requires.lengths in
+    let bound = c.requires.element.bound in let lengths = c.requires.lengths in
     let two = touched-two g.C.Elem.BitStore.BITS c.args.from.start c.args.from.len (width_some _ g.met.C.Elem.BitStore.width_law) (omega arith) over in
     record { borrow = search rules; loads = omega arith; stores = omega arith }
 
@@ -106,9 +104,7 @@ nonzero_rem-skip g c = let some = width-some _ _ g.met.C.Elem.BitStore.width_law
 
 pub toward_start-moved-requires : goal.toward_start-moved-requires
 toward_start-moved-requires g c =
-    let bound = c.requires.element.bound in
-    let lengths = c.requires.lengths in
-    let more = c.requires.some in
+    let bound = c.requires.element.bound in let lengths = c.requires.lengths in let more = c.requires.some in
     omega arith
 
 pub toward_start-front-requires : goal.toward_start-front-requires
@@ -116,9 +112,7 @@ toward_start-front-requires g c = rw c.BITS-bits.ensures (mod_below c.args.from.
 
 pub toward_end-new-requires : goal.toward_end-new-requires
 toward_end-new-requires g c =
-    let bound = c.requires.element.bound in
-    let lengths = c.requires.lengths in
-    let more = c.requires.some in
+    let bound = c.requires.element.bound in let lengths = c.requires.lengths in let more = c.requires.some in
     omega arith
 
 pub toward_end-back-requires : goal.toward_end-back-requires
@@ -134,10 +128,7 @@ load-next-requires g c = second-element _ _ _ _ c.args.from g.met.C.Elem.BitStor
 
 pub joined-front-requires-clause-some : goal.joined-front-requires-clause-some
 joined-front-requires-clause-some g c =
-    let over = c.if-end-bits.false in
-    let is = c.BITS-bits.ensures in
-    let bound = c.requires.element.bound in
-    let lengths = c.requires.lengths in
+    let over = c.if-end-bits.false in let is = c.BITS-bits.ensures in let bound = c.requires.element.bound in let lengths = c.requires.lengths in
     omega arith
 
 pub joined-front-requires-clause-bound : goal.joined-front-requires-clause-bound
@@ -145,9 +136,7 @@ joined-front-requires-clause-bound g c = rw c.BITS-bits.ensures (mod_below c.arg
 
 pub toward_end-new-requires-2 : goal.toward_end-new-requires-2
 toward_end-new-requires-2 g c =
-    let bound = c.requires.element.bound in
-    let lengths = c.requires.lengths in
-    let more = c.requires.some in
+    let bound = c.requires.element.bound in let lengths = c.requires.lengths in let more = c.requires.some in
     omega arith
 
 pub toward_end-back-requires-2 : goal.toward_end-back-requires-2
@@ -166,8 +155,5 @@ overflow_sub-bits g c =
 pub toward_start-carried-requires : goal.toward_start-carried-requires
 toward_start-carried-requires g c =
     let below = mod_below c.args.from.start g.C.Elem.BitStore.BITS (width_some _ g.met.C.Elem.BitStore.width_law) in
-    let over = c.if-end-bits.false in
-    let is = c.BITS-bits.ensures in
-    let bound = c.requires.element.bound in
-    let lengths = c.requires.lengths in
+    let over = c.if-end-bits.false in let is = c.BITS-bits.ensures in let bound = c.requires.element.bound in let lengths = c.requires.lengths in
     omega arith

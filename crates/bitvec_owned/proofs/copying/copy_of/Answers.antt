@@ -1,4 +1,5 @@
-use Rattle.std.proofs.Common.{◌≡◌, ◌∙◌, length, sym}
+use Rattle.std.proofs.Common.{◌≡◌, ◌∙◌, arith, length, sym}
+use Rattle.std.proofs.lemmas.Grind.{common_steps}
 use Rattle.bitvec_edit.specs.store.WidthLaws.{width_some}
 use Rattle.bitvec_edit.specs.slice.ShowingLaws.{length-seen}
 use Rattle.bitvec_edit.specs.slice.Views.{seen}
@@ -15,3 +16,15 @@ returns-clause-copy g c =
     rw (← begins)
     (held g.T.BitStore.BITS g.O.BitOrder.at g.T.BitStore.value (width_some _ g.met.T.BitStore.width_law) g.T.BitStore.ZERO c.as_mut_slice.result.now c.copy_from_block_in.new.left c.div_ceil-count.result c.start_of_copy-head.result (seen c.args.view).window.len (seen c.args.view).bits _
     g.met.T.BitStore.zero_law (c.as_mut_slice.ensures.value ∙ c.in_ok-elements.ensures.items) many (rw (c.BITS.ensures, c.window-from.ensures.value) at c.div_ceil-count.ensures) (sym (length-seen c.args.view)) writes.bits is)
+
+pub copy_from_block_in-requires-clause-window : goal.copy_from_block_in-requires-clause-window
+copy_from_block_in-requires-clause-window g c = grind (arith, common_steps, g.met.T.BitStore.width_law)
+
+pub from_parts-requires-clause-touched : goal.from_parts-requires-clause-touched
+from_parts-requires-clause-touched g c = c.in_ok-elements.ensures.len ∙ rw c.BITS.ensures at c.div_ceil-count.ensures
+
+pub from_parts-requires-clause-fits : goal.from_parts-requires-clause-fits
+from_parts-requires-clause-fits g c = grind (arith, common_steps, g.met.T.BitStore.width_law)
+
+pub from_parts-requires-clause-begins : goal.from_parts-requires-clause-begins
+from_parts-requires-clause-begins g c = grind (arith, common_steps, g.met.T.BitStore.width_law)

@@ -1,7 +1,7 @@
 use Rattle.std.proofs.Common.{◌≡◌, ◌∙◌, ◌*◌, ◌-◌, ◌+◌, ◌^◌, ◌<◌, ◌≤◌, min, ℕ, [], arith, length, refl, sym}
 use Rattle.std.specs.Int.{div_ceil}
 use Rattle.std.proofs.Math.Nat.{lt_of_mul-lt-mul_right}
-use Rattle.std.proofs.lemmas.Grind.{div_ceil_times}
+use Rattle.std.proofs.lemmas.Grind.{common_steps, div_ceil_times}
 use Rattle.bitvec_edit.specs.base.Memory.{memory_bits}
 use Rattle.bitvec_edit.specs.base.Window.{max_bits}
 use Rattle.bitvec_edit.specs.base.WriteLaws.{write_at-nil}
@@ -41,3 +41,9 @@ returns-clause-copy g c =
     let is = rw (refilled c.write_copies.new.elements c.in-Ok.elements.items c.in-Ok.elements.len (c.write_copies.ensures.len ∙ c.as_mut_slice.ensures.len)) at c.from_parts-2.ensures in
     held g.T.BitStore.BITS g.O.BitOrder.at g.T.BitStore.value (width_some _ g.met.T.BitStore.width_law) g.T.BitStore.ZERO c.as_mut_slice.result.now c.write_copies.new.elements c.div_ceil-count.result 0 c.saturating_mul-total.result _ _
     g.met.T.BitStore.zero_law (c.as_mut_slice.ensures.value ∙ c.in-Ok.ensures.items) c.write_copies.ensures.len (rounded _ _ _ (rw c.BITS-width.ensures at c.div_ceil-count.ensures)) (all ∙ sym long) c.write_copies.ensures.bits is
+
+pub write_copies-requires-clause-fits : goal.write_copies-requires-clause-fits
+write_copies-requires-clause-fits g c = grind (arith, common_steps)
+
+pub write_copies-requires-clause-room : goal.write_copies-requires-clause-room
+write_copies-requires-clause-room g c = grind (arith, common_steps)

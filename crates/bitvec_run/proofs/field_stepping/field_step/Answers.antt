@@ -1,7 +1,6 @@
-use Rattle.std.proofs.Common.{rules, sym}
+use Rattle.std.proofs.Common.{arith, refl, sym}
 use Rattle.bitvec_engine.specs.base.Memory.{list_in}
-use Rattle.bitvec_engine.specs.base.WritesLaws.{Writes-nothing}
-use Rattle.bitvec_run.specs.FollowsLaws.{Follows-range}
+use Rattle.bitvec_run.specs.FollowsLaws.{Answers-follow, Follows-range}
 use Rattle.bitvec_run.specs.FieldRowsLaws.{is-transfer, plain-is, transfer-does, transfer-refused}
 use Rattle.bitvec_run.proofs.field_stepping.field_step.Goals as goal
 
@@ -12,7 +11,10 @@ pub returns-in-Some : goal.returns-in-Some
 returns-in-Some g c =
     let right = list_in g.C.Elem.BitStore.BITS g.O.BitOrder.at (g.D.CellsRead.numbers c.args.right.now) c.args.source in
     rw (transfer-refused g.O.WordOrder.HIGH g.C.Elem.BitStore.BITS c.args.window.start right c.args.window.len c.args.step (is-transfer _ c.in_default.not-Plain) c.in-Some.refusal (sym c.in-Some.ensures.refusal))
-    (search (rules, Writes-nothing))
+    (record {
+      left = Answers-follow g.C.CellsRead _ _ _ _ c.args.window _ _ _ c.requires.window (record { reply = refl; list = refl; reads = record { numbers = refl; borrow = refl; loads = omega arith; stores = refl } });
+      right = record { numbers = refl; borrow = refl; loads = omega arith; stores = refl };
+    })
 
 pub returns-in-None : goal.returns-in-None
 returns-in-None g c =
@@ -22,5 +24,5 @@ returns-in-None g c =
     rw (transfer-does g.O.WordOrder.HIGH g.C.Elem.BitStore.BITS c.args.window.start right c.args.window.len c.args.step (is-transfer _ c.in_default.not-Plain) (sym c.in-None.ensures.refusal) fits)
     record {
       left = Follows-range g.C.CellsRead _ _ _ _ c.args.window c.args.step.from c.args.step.to _ _ _ c.requires.window fits.order fits.bound did;
-      right = search rules;
+      right = record { numbers = refl; borrow = refl; loads = omega arith; stores = refl };
     }

@@ -1,7 +1,8 @@
 use Rattle.std.proofs.Common.{rules}
 use Rattle.bitvec_engine.specs.base.Memory.{memory_bits}
+use Rattle.bitvec_engine.specs.base.WritesLaws.{HasWindow-kept}
 use Rattle.bitvec_run.specs.Runs.{step_outcome}
-use Rattle.bitvec_run.specs.RanLaws.{RunsBy-all, RunsBy-next, RunsBy-start, list-whole}
+use Rattle.bitvec_run.specs.RanLaws.{HasWindow-whole, RunsBy-all, RunsBy-next, RunsBy-start, list-whole}
 use Rattle.bitvec_run.proofs.runner.run.Goals as goal
 
 pub loop-next-init : goal.loop-next-init
@@ -22,3 +23,23 @@ loop-next-preserved g c =
       count = search rules;
       room = search rules;
     }
+
+pub whole-source-requires : goal.whole-source-requires
+whole-source-requires g c = c.fits_max_bits.ensures.0 c.if-not-fits_max_bits.false
+
+pub returns-then-not-fits_max_bits-clause-fails : goal.returns-then-not-fits_max_bits-clause-fails
+returns-then-not-fits_max_bits-clause-fails g c = (c.has_window.ensures.0 c.if-not-has_window.false, λ fits. let none = c.if-not-fits_max_bits.ensures.1 fits in cc)
+
+pub returns : goal.returns
+returns g c = record {
+  runs = RunsBy-all g.C.CellsRead g.D.CellsRead _ _ _ _ _ c.args.steps.now _ _ _ _ _ _ c.loop-next-test.false c.loop-next.invariant.ran;
+  made = record { has_window = c.has_window.ensures.0 c.if-not-has_window.false; right_fits = c.fits_max_bits.ensures.0 c.if-not-fits_max_bits.false };
+  fails = tt;
+  unchanged = tt;
+}
+
+pub carry_out-requires : goal.carry_out-requires
+carry_out-requires g c =
+    let inv = c.loop-next.invariant in
+    let fits = HasWindow-whole _ _ (c.fits_max_bits.ensures.0 c.if-not-fits_max_bits.false) in
+    record { window = HasWindow-kept _ _ _ _ (c.has_window.ensures.0 c.if-not-has_window.false) inv.ran.writes.elements; right_window = rw (c.whole-source.ensures, inv.ran.right.numbers) fits }

@@ -1,7 +1,9 @@
 use Rattle.std.specs.Prelude.{bit_and}
 use Rattle.std.proofs.Common.{◌≡◌, ◌+◌, ◌-◌, ◌/◌, ◌%◌, ◌^◌, ℕ, arith, ap, ◌∙◌}
-use Rattle.std.proofs.lemmas.Nat.{and_mask}
+use Rattle.std.proofs.lemmas.Nat.{and_mask, div-add-mod'}
 use Rattle.std.proofs.lemmas.Nat.Bits.{ones_shr}
+use Rattle.std.proofs.Math.Nat.{mul-pos}
+use Rattle.bitvec_words.specs.FieldLaws.{element_of}
 use Rattle.bitvec_words.specs.store.WidthLaws.{width_some}
 use Rattle.bitvec_segments.proofs.JoinedWindow.{HasWindow-elements, number-below, number-cut, number-element, number-next, number-one, touched-elements}
 use Rattle.bitvec_segments.proofs.joining.joined_number.Goals as goal
@@ -20,10 +22,26 @@ loop-width-init g c =
       reads = record { numbers = c.load.ensures.numbers; borrow = c.load.ensures.borrow; loads = c.load.ensures.loads; stores = c.load.ensures.stores };
     }
 
-pub with_next-word-requires-clause-word : goal.with_next-word-requires-clause-word
-with_next-word-requires-clause-word g c =
+pub load-requires-in-loop-width : goal.load-requires-in-loop-width
+load-requires-in-loop-width g c =
     let inv = c.loop-width.invariant in
-    rw inv.width (number-below _ _ _ _ _ _ (HasWindow-elements _ _ c.args.window c.loop-width.count c.requires.window inv.some inv.last) inv.value)
+    let reads = inv.reads.numbers in
+    let within = c.requires.window.within in
+    let left = rw (c.BITS-bits.ensures, inv.width) at c.loop-width-test.true in
+    let place = div-add-mod' c.args.window.start g.C.Elem.BitStore.BITS in
+    rw (c.BITS-bits.ensures, reads) (element_of g.C.Elem.BitStore.BITS _ 0 _ (omega arith))
+
+pub with_next-word-requires : goal.with_next-word-requires
+with_next-word-requires g c =
+    let inv = c.loop-width.invariant in
+    let some = width_some _ g.met.C.Elem.BitStore.width_law in
+    rw (c.BITS-bits.ensures, inv.width) (record {
+      some = mul-pos inv.some some;
+      more = some;
+      bound = grind (arith, g.met.C.Elem.BitStore.width_law);
+      word = number-below _ _ _ _ _ _ (HasWindow-elements _ _ c.args.window c.loop-width.count c.requires.window inv.some inv.last) inv.value;
+      next = c.to_u128-next.ensures.in_range;
+    })
 
 pub loop-width-preserved : goal.loop-width-preserved
 loop-width-preserved g c =

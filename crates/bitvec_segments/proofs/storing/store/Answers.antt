@@ -5,7 +5,7 @@ use Rattle.bitvec_words.specs.base.Parts.{first_part_of}
 use Rattle.bitvec_words.specs.store.WidthLaws.{width_some}
 use Rattle.bitvec_words.specs.walk.WalkLaws.{first-len}
 use Rattle.bitvec_segments.proofs.JoinedWindow.{touched-elements}
-use Rattle.bitvec_segments.proofs.WalkLemmas.{stored-nothing, stored-one}
+use Rattle.bitvec_segments.proofs.WalkLemmas.{first-part, stored-nothing, stored-one}
 use Rattle.bitvec_segments.proofs.storing.store.Goals as goal
 
 pub returns-then-window-eq0-clause-writes : goal.returns-then-window-eq0-clause-writes
@@ -54,3 +54,8 @@ store_in-requires-then-window-bits-4-clause-count g c =
     let edge = rw c.BITS-bits.ensures at c.if-from-eq0-3.true in
     let len = rw c.BITS-bits.ensures at c.if-window-bits-4.true in
     sym (touched-elements g.C.Elem.BitStore.BITS c.args.window.start c.args.window.len 8 (omega arith) (omega arith) (omega arith) (omega arith))
+
+pub store_part_number-requires : goal.store_part_number-requires
+store_part_number-requires g c =
+    let first = first-part _ _ _ _ _ g.met.C.Elem.BitStore.width_law (omega arith) c.requires.window c.part_at-part.ensures c.BITS-bits.ensures in
+    record { part = first.0; some = first.1 }

@@ -1,11 +1,11 @@
-use Rattle.std.proofs.Common.{◌≡◌, ℕ, ◌+◌, arith, ap, sym, ◌∙◌, min}
+use Rattle.std.proofs.Common.{◌≡◌, ℕ, ◌+◌, arith, ap, refl, sym, ◌∙◌, min}
 use Rattle.bitvec_words.specs.TouchedLaws.{part_loads-most, touched-parts}
 use Rattle.bitvec_words.specs.WholeLaws.{HasWindow-part}
 use Rattle.bitvec_words.specs.base.Parts.{first_part_of}
 use Rattle.bitvec_words.specs.base.Window.{window_after}
 use Rattle.bitvec_words.specs.base.WritesLaws.{HasWindow-kept}
 use Rattle.bitvec_words.specs.store.WidthLaws.{width_some}
-use Rattle.bitvec_segments.proofs.WalkLemmas.{edge-len, edge-place, stored-joined, stored-one, whole-none}
+use Rattle.bitvec_segments.proofs.WalkLemmas.{edge-len, edge-place, first-part, stored-joined, stored-one, whole-none}
 use Rattle.bitvec_segments.proofs.storing.store_few.Goals as goal
 
 pub returns-then-window-bits : goal.returns-then-window-bits
@@ -58,6 +58,44 @@ returns g c =
       cost = record { borrow = second.cost.borrow ∙ first.cost.borrow; loads = omega arith; stores = omega arith };
     }
 
-pub part_at-part-requires-clause-element : goal.part_at-part-requires-clause-element
-part_at-part-requires-clause-element g c =
-    rw c.BITS-bits.ensures (edge-place g.C.Elem.BitStore.BITS c.args.element c.args.window (width_some _ g.met.C.Elem.BitStore.width_law) c.requires.edge).0
+pub part_at-part-requires : goal.part_at-part-requires
+part_at-part-requires g c =
+    let some = width_some _ g.met.C.Elem.BitStore.width_law in
+    let place = edge-place _ c.args.element c.args.window some c.requires.edge in
+    rw c.BITS-bits.ensures (record { some = some; element = place.0; from = place.1; to = omega arith })
+
+pub store_part_number-requires : goal.store_part_number-requires
+store_part_number-requires g c =
+    let first = first-part _ _ _ _ _ g.met.C.Elem.BitStore.width_law c.requires.some c.requires.number.window c.part_at-part.ensures c.BITS-bits.ensures in
+    record { part = first.0; some = first.1 }
+
+pub part_at-part-requires-2 : goal.part_at-part-requires-2
+part_at-part-requires-2 g c =
+    let some = width_some _ g.met.C.Elem.BitStore.width_law in
+    let place = edge-place _ c.args.element c.args.window some c.requires.edge in
+    rw c.BITS-bits.ensures (record { some = some; element = place.0; from = place.1; to = omega arith })
+
+pub part_at-last-requires : goal.part_at-last-requires
+part_at-last-requires g c =
+    let b = g.C.Elem.BitStore.BITS in
+    let some = width_some b g.met.C.Elem.BitStore.width_law in
+    let after = rw c.BITS-bits.ensures at c.after-rest.ensures in
+    let edge = c.requires.edge in
+    let place = edge-place b (c.args.element + 1) (window_after b c.args.window) some (omega arith) in
+    rw (after, c.BITS-bits.ensures) (record { some = some; element = place.0; from = place.1; to = omega arith })
+
+pub store_part_number-requires-2 : goal.store_part_number-requires-2
+store_part_number-requires-2 g c =
+    let first = first-part _ _ _ _ _ g.met.C.Elem.BitStore.width_law c.requires.some c.requires.number.window c.part_at-part-2.ensures c.BITS-bits.ensures in
+    record { part = first.0; some = first.1 }
+
+pub store_part_number-requires-3 : goal.store_part_number-requires-3
+store_part_number-requires-3 g c =
+    let b = g.C.Elem.BitStore.BITS in
+    let long = rw c.BITS-bits.ensures at c.if-window-bits.false in
+    let rest = window_after b c.args.window in
+    let next = rw (c.after-rest.ensures, c.BITS-bits.ensures) at c.part_at-last.ensures in
+    let has = HasWindow-part b _ c.args.window rest c.requires.number.window (omega arith) (omega arith) in
+    let kept = HasWindow-kept _ _ _ rest has c.store_part_number-2.ensures.writes.elements in
+    let first = first-part b b _ rest _ g.met.C.Elem.BitStore.width_law (omega arith) kept next refl in
+    record { part = first.0; some = first.1 }

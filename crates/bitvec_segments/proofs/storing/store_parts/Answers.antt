@@ -6,7 +6,7 @@ use Rattle.bitvec_words.specs.base.Window.{window_after}
 use Rattle.bitvec_words.specs.store.WidthLaws.{width_some}
 use Rattle.bitvec_words.specs.walk.WalkLaws.{first-len}
 use Rattle.bitvec_segments.proofs.JoinedWindow.{touched-last}
-use Rattle.bitvec_segments.proofs.WalkLemmas.{stored-joined}
+use Rattle.bitvec_segments.proofs.WalkLemmas.{first-part, stored-joined}
 use Rattle.bitvec_segments.proofs.storing.store_parts.Goals as goal
 
 pub returns : goal.returns
@@ -38,3 +38,8 @@ returns g c =
 pub store_in-requires-clause-count : goal.store_in-requires-clause-count
 store_in-requires-clause-count g c =
     rw c.BITS-bits.ensures (sym (touched-last g.C.Elem.BitStore.BITS c.args.window.start c.args.window.len (width_some _ g.met.C.Elem.BitStore.width_law) c.requires.some))
+
+pub store_part_number-requires : goal.store_part_number-requires
+store_part_number-requires g c =
+    let first = first-part _ _ _ _ _ g.met.C.Elem.BitStore.width_law c.requires.some c.requires.number.window c.part_at-part.ensures c.BITS-bits.ensures in
+    record { part = first.0; some = first.1 }

@@ -1,6 +1,6 @@
 use Rattle.std.proofs.Common.{arith}
 use Rattle.bitvec_slice.specs.Views.{seen}
-use Rattle.bitvec_split.specs.AskedLaws.{asked-no, downward-from, may_ask-next, may_ask-now}
+use Rattle.bitvec_split.specs.AskedLaws.{asked-no, asked-yes, downward-from, may_ask-next, may_ask-now}
 use Rattle.bitvec_split.proofs.asking.ask_down.Goals as goal
 
 pub pred-requires : goal.pred-requires
@@ -16,3 +16,8 @@ loop-last-preserved g c = record {
   asked = λ found last more. c.loop-last.invariant.asked found last
       (asked-no (seen c.args.bits).bits _ _ (downward-from _ (omega arith)) found last (record { shown = c.index.result; shows = c.index.ensures; called = c.if-pred.ensures }) more);
 }
+
+pub returns-then-pred-clause-asked : goal.returns-then-pred-clause-asked
+returns-then-pred-clause-asked g c =
+    c.loop-last.invariant.asked _ _
+    (asked-yes (seen c.args.bits).bits _ _ (downward-from _ (omega arith)) (record { shown = c.index.result; shows = c.index.ensures; called = c.if-pred.ensures }))

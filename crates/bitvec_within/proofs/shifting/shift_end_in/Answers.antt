@@ -1,18 +1,12 @@
-use Rattle.std.proofs.Common.{◌-◌}
-use Rattle.bitvec_elements.specs.engine.Direction.{Runs}
+use Rattle.std.proofs.Common.{◌≡◌, arith, rules}
 use Rattle.bitvec_elements.specs.base.Lists.{shifted_end}
-use Rattle.bitvec_elements.specs.store.WidthLaws.{width_some}
-use Rattle.bitvec_elements.proofs.StoreLemmas.{Edits-agrees}
+use Rattle.bitvec_within.proofs.FewLemmas.{Edits-range, copied-shifts_end}
 use Rattle.bitvec_within.proofs.shifting.shift_end_in.Goals as goal
 
-pub returns-in-Up : goal.returns-in-Up
-unfolding Runs
-returns-in-Up g c = record {
-  writes = Edits-agrees g.T.BitStore.BITS g.O.BitOrder.at (λ b i. i) _ _ c.args.window (shifted_end c.args.by) (width_some _ g.met.T.BitStore.width_law) (rw c.in-Up.is at c.direction_of.ensures) c.shift_end_few.ensures.writes;
-}
-
-pub returns-in-Down : goal.returns-in-Down
-unfolding Runs
-returns-in-Down g c = record {
-  writes = Edits-agrees g.T.BitStore.BITS g.O.BitOrder.at (λ b i. b - 1 - i) _ _ c.args.window (shifted_end c.args.by) (width_some _ g.met.T.BitStore.width_law) (rw c.in-Down.is at c.direction_of.ensures) c.shift_end_few-in-Down.ensures.writes;
-}
+pub returns-then-is_edge : goal.returns-then-is_edge
+returns-then-is_edge g c =
+    let back : c.elements-then-is_edge-1.given.0 ≡ c.block_copy_within.new.cells.cells.now = search rules in
+    record {
+      writes = Edits-range g.T.BitStore.BITS g.O.BitOrder.at _ _ _ c.args.window _ (shifted_end c.args.by) (shifted_end c.args.by) 0 64 c.requires.window (omega arith) (omega arith) (rw c.new-accessor.ensures.numbers at c.block_copy_within.ensures.writes)
+          (rw (c.range-first.ensures, back) at c.shift_end_word-then-is_edge.ensures.writes) (λ list whole. copied-shifts_end c.args.by _ list whole (omega arith) (omega arith));
+    }

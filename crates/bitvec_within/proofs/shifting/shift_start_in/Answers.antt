@@ -1,18 +1,12 @@
-use Rattle.std.proofs.Common.{◌-◌}
-use Rattle.bitvec_elements.specs.engine.Direction.{Runs}
+use Rattle.std.proofs.Common.{◌≡◌, ◌-◌, arith, rules}
 use Rattle.bitvec_elements.specs.base.Lists.{shifted_start}
-use Rattle.bitvec_elements.specs.store.WidthLaws.{width_some}
-use Rattle.bitvec_elements.proofs.StoreLemmas.{Edits-agrees}
+use Rattle.bitvec_within.proofs.FewLemmas.{Edits-range, copied-shifts_start}
 use Rattle.bitvec_within.proofs.shifting.shift_start_in.Goals as goal
 
-pub returns-in-Up : goal.returns-in-Up
-unfolding Runs
-returns-in-Up g c = record {
-  writes = Edits-agrees g.T.BitStore.BITS g.O.BitOrder.at (λ b i. i) _ _ c.args.window (shifted_start c.args.by) (width_some _ g.met.T.BitStore.width_law) (rw c.in-Up.is at c.direction_of.ensures) c.shift_start_few.ensures.writes;
-}
-
-pub returns-in-Down : goal.returns-in-Down
-unfolding Runs
-returns-in-Down g c = record {
-  writes = Edits-agrees g.T.BitStore.BITS g.O.BitOrder.at (λ b i. b - 1 - i) _ _ c.args.window (shifted_start c.args.by) (width_some _ g.met.T.BitStore.width_law) (rw c.in-Down.is at c.direction_of.ensures) c.shift_start_few-in-Down.ensures.writes;
-}
+pub returns-then-is_edge : goal.returns-then-is_edge
+returns-then-is_edge g c =
+    let back : c.elements-then-is_edge-1.given.0 ≡ c.block_copy_within.new.cells.cells.now = search rules in
+    record {
+      writes = Edits-range g.T.BitStore.BITS g.O.BitOrder.at _ _ _ c.args.window _ (shifted_start c.args.by) (shifted_start c.args.by) (c.args.window.len - 64) c.args.window.len c.requires.window (omega arith) (omega arith) (rw c.new-accessor.ensures.numbers at c.block_copy_within.ensures.writes)
+          (rw (c.range-last.ensures, back) at c.shift_start_word-then-is_edge.ensures.writes) (λ list whole. copied-shifts_start c.args.by _ list whole (omega arith) (omega arith));
+    }

@@ -58,6 +58,7 @@ returns-then-to_u128-ne0 g c =
     let b = g.C.Elem.BitStore.BITS in
     let at = g.O.BitOrder.at in
     let inv = c.loop-step.invariant in
+    let load = c.load-element.ensures in
     let some = width_some _ g.met.C.Elem.BitStore.width_law in
     let here = c.in_ok-found.ensures ∙ ap (λ (l : List Bool). last_place c.args.want l) (range-element b at _ _ c.BITS-bits.ensures) in
     let below = last-below b at _ _ c.args.want here in
@@ -69,7 +70,7 @@ returns-then-to_u128-ne0 g c =
     rw c.BITS-bits.ensures
     (record {
       value = last-element_has b at _ _ _ _ _ c.args.want some c.requires (omega arith) (rw inv.reads.numbers at c.load-element.ensures.value) _ (omega arith) inv.none _ here;
-      reads = record { numbers = search rules; borrow = search rules; loads = omega arith; stores = search rules };
+      reads = record { numbers = load.numbers ∙ inv.reads.numbers; borrow = load.borrow ∙ inv.reads.borrow; loads = omega arith; stores = load.stores ∙ inv.reads.stores };
     })
 
 pub loop-step-smaller : goal.loop-step-smaller
@@ -80,11 +81,12 @@ loop-step-preserved g c =
     let b = g.C.Elem.BitStore.BITS in
     let at = g.O.BitOrder.at in
     let inv = c.loop-step.invariant in
+    let load = c.load-element.ensures in
     let width = g.met.C.Elem.BitStore.width_law in
     record {
       none = last-element_lacks b at _ _ _ _ _ c.args.want (width_some _ width) c.requires (omega arith) (rw inv.reads.numbers at c.load-element.ensures.value) _ (omega arith) inv.none
           (last-passed b at (g.met.O.BitOrder.permutes _ width) _ _ _ c.args.want c.xor.ensures (sym c.to_u128.ensures.number ∙ c.if-to_u128-ne0.false) c.filled-lacking.ensures);
-      reads = record { numbers = search rules; borrow = search rules; loads = omega arith; stores = search rules };
+      reads = record { numbers = load.numbers ∙ inv.reads.numbers; borrow = load.borrow ∙ inv.reads.borrow; loads = omega arith; stores = load.stores ∙ inv.reads.stores };
     }
 
 pub returns-clause-reads : goal.returns-clause-reads

@@ -4,9 +4,10 @@ use Rattle.bitvec_cells.specs.base.Lists.{first_place}
 use Rattle.bitvec_cells.specs.base.PlacesLaws.{first_place-below}
 use Rattle.bitvec_cells.specs.store.WidthLaws.{width_some}
 use Rattle.bitvec_words.specs.WordLaws.{width-some}
+use Rattle.bitvec_words.proofs.CostLemmas.{reads-four}
 use Rattle.bitvec_words.proofs.OrderedLemmas.{block-lacks, block-ordered}
 use Rattle.bitvec_words.proofs.ScanLemmas.{first-behind, first-front, first-lacks}
-use Rattle.bitvec_words.proofs.WordScanLemmas.{block_pair, elements-bound, length-two, list-pair, pair-inside, words}
+use Rattle.bitvec_words.proofs.WordScanLemmas.{block_pair, block_words, elements-bound, length-two, list-pair, pair-inside, words}
 use Rattle.bitvec_words.proofs.scanning_words.first_in_block.Goals as goal
 
 pub load-one-requires : goal.load-one-requires
@@ -147,3 +148,15 @@ returns-clause-value g c =
     let bits_four = rw (c.BITS-bits.ensures, three.reads.numbers ∙ second) at c.load_elements-four.ensures.value in
     let all = block-ordered b g.O.BitOrder.at (g.met.O.BitOrder.permutes b width) _ c.args.first width narrow c.requires c.args.want _ _ _ _ one.value bits_two bits_three bits_four _ _ _ _ c.ordered-one.ensures c.ordered-two.ensures c.ordered-three.ensures c.ordered-four.ensures in
     first-behind c.args.want _ _ _ 128 _ c.in_default.ensures c.in_ok-found.ensures (length-two g.O.BitOrder.at c.ordered-one.result c.ordered-two.result) all
+
+pub returns-then-one-lacking-eq0-clause-reads : goal.returns-then-one-lacking-eq0-clause-reads
+returns-then-one-lacking-eq0-clause-reads g c = reads-four c.load_elements-one.ensures.reads c.load_elements-two.ensures.reads c.load_elements-three.ensures.reads c.load_elements-four.ensures.reads (block_words _ g.met.C.Elem.BitStore.width_law (rw c.BITS-bits.ensures at c.if-bits-gt-WORD_BITS.false))
+
+pub returns-in-Some-clause-reads : goal.returns-in-Some-clause-reads
+returns-in-Some-clause-reads g c = reads-four c.load_elements-one.ensures.reads c.load_elements-two.ensures.reads c.load_elements-three.ensures.reads c.load_elements-four.ensures.reads (block_words _ g.met.C.Elem.BitStore.width_law (rw c.BITS-bits.ensures at c.if-bits-gt-WORD_BITS.false))
+
+pub returns-in_err-found-clause-reads : goal.returns-in_err-found-clause-reads
+returns-in_err-found-clause-reads g c = reads-four c.load_elements-one.ensures.reads c.load_elements-two.ensures.reads c.load_elements-three.ensures.reads c.load_elements-four.ensures.reads (block_words _ g.met.C.Elem.BitStore.width_law (rw c.BITS-bits.ensures at c.if-bits-gt-WORD_BITS.false))
+
+pub returns-clause-reads : goal.returns-clause-reads
+returns-clause-reads g c = reads-four c.load_elements-one.ensures.reads c.load_elements-two.ensures.reads c.load_elements-three.ensures.reads c.load_elements-four.ensures.reads (block_words _ g.met.C.Elem.BitStore.width_law (rw c.BITS-bits.ensures at c.if-bits-gt-WORD_BITS.false))

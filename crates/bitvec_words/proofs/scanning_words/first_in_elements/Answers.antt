@@ -3,7 +3,7 @@ use Rattle.bitvec_cells.specs.base.Lists.{first_place}
 use Rattle.bitvec_cells.specs.base.PlacesLaws.{first_place-nil}
 use Rattle.bitvec_words.specs.WholeLaws.{list-empty}
 use Rattle.bitvec_words.specs.WordLaws.{width-some}
-use Rattle.bitvec_words.proofs.CostLemmas.{reads-before, reads-both, reads-exact}
+use Rattle.bitvec_words.proofs.CostLemmas.{reads-before, reads-both, reads-exact, reads-sum}
 use Rattle.bitvec_words.proofs.SplitLemmas.{split-behind, split-few, split-lacks}
 use Rattle.bitvec_words.proofs.WordScanLemmas.{block, block_whole, blocks-bits, blocks-some, first-block_few, first-block_has, first-block_lacks, parted-blocks}
 use Rattle.bitvec_words.proofs.scanning_words.first_in_elements.Goals as goal
@@ -69,7 +69,7 @@ loop-step-preserved g c =
     let here = block b 256 c.args.first c.args.count c.loop-step.step g.met.C.Elem.BitStore.width_law c.requires (rw c.BITS.ensures at c.loop-step-test.true) in
     record {
       none = first-block_lacks here g.O.BitOrder.at c.args.want inv.none (rw (c.BITS.ensures, inv.reads.numbers) at c.in_default.ensures.value);
-      reads = search rules;
+      reads = reads-sum inv.reads c.in_default.ensures.reads (omega arith);
     }
 
 pub overflow_mul-passed : goal.overflow_mul-passed

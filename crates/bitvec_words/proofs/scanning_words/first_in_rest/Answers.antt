@@ -4,7 +4,7 @@ use Rattle.bitvec_cells.specs.base.Lists.{first_place}
 use Rattle.bitvec_cells.specs.base.PlacesLaws.{first_place-nil}
 use Rattle.bitvec_words.specs.WholeLaws.{list-empty}
 use Rattle.bitvec_words.specs.WordLaws.{width-some, word_whole}
-use Rattle.bitvec_words.proofs.CostLemmas.{reads-before, reads-both, reads-exact, reads-most}
+use Rattle.bitvec_words.proofs.CostLemmas.{reads-before, reads-both, reads-exact, reads-most, reads-sum}
 use Rattle.bitvec_words.proofs.CountLemmas.{words-some}
 use Rattle.bitvec_words.proofs.ScanLemmas.{first_loads-elements}
 use Rattle.bitvec_words.proofs.SplitLemmas.{split-behind, split-few, split-lacks}
@@ -80,7 +80,7 @@ loop-step-preserved g c =
     let here = block b 64 c.args.first c.args.count c.loop-step.step g.met.C.Elem.BitStore.width_law c.requires (rw c.BITS-bits.ensures at c.loop-step-test.true) in
     record {
       none = first-block_lacks here g.O.BitOrder.at c.args.want inv.none (sym c.in_default.is ∙ c.first_in_whole.ensures ∙ ap (first_place c.args.want) (rw (c.BITS-bits.ensures, inv.reads.numbers) at c.load_elements-word.ensures.value));
-      reads = search rules;
+      reads = reads-sum inv.reads c.load_elements-word.ensures.reads (omega arith);
     }
 
 pub overflow_mul-passed : goal.overflow_mul-passed

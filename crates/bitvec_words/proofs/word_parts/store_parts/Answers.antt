@@ -1,4 +1,4 @@
-use Rattle.std.proofs.Common.{◌≡◌, ℕ, ◌-◌, arith, rules, ap, refl, sym, take}
+use Rattle.std.proofs.Common.{◌≡◌, ℕ, ◌-◌, arith, rules, ap, refl, sym, take, ◌∙◌}
 use Rattle.bitvec_cells.specs.base.Memory.{element_bits}
 use Rattle.bitvec_cells.specs.base.Parts.{first_part_of}
 use Rattle.bitvec_cells.specs.base.WritesLaws.{HasWindow-kept, Writes-is}
@@ -53,7 +53,7 @@ loop-rest-preserved g c =
     (record {
       walk = Walked-next _ _ _ _ some more refl inv.walk;
       writes = Writes-next_field _ _ _ _ _ _ _ _ _ _ _ some more c.requires.bound refl refl c.requires.window inv.walk moved inv.writes ensures.writes;
-      cost = record { borrow = search rules; loads = omega arith; stores = omega arith };
+      cost = record { borrow = ensures.cost.borrow ∙ inv.cost.borrow; loads = omega arith; stores = omega arith };
     })
 
 pub returns-clause-writes : goal.returns-clause-writes

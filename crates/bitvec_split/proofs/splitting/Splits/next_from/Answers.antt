@@ -1,0 +1,17 @@
+use Rattle.std.proofs.Common.{Some, arith, inr, rules}
+use Rattle.bitvec_split.specs.AskedLaws.{may_ask_either, may_ask_of_fewer}
+use Rattle.bitvec_split.proofs.splitting.Splits.next_from.Goals as goal
+
+pub ask_row-requires : goal.ask_row-requires
+ask_row-requires g c = may_ask_either c.requires
+
+pub returns-in_default-clause-callable : goal.returns-in_default-clause-callable
+returns-in_default-clause-callable g c = inr c.ask_row.ensures.callable
+
+pub returns-clause-piece : goal.returns-clause-piece
+returns-clause-piece g c =
+    let row = rw c.len.ensures.window at c.cut_row.ensures.row in
+    (c.if-self.false, (Some c.in-Some.index, c.in-Some.ensures.asked, record { gives = rw (row.start, row.end) at c.into_part.ensures; keeps = rw (row.from, row.to) at c.into_part-self.ensures; finished = search rules }))
+
+pub returns-clause-callable : goal.returns-clause-callable
+returns-clause-callable g c = inr (may_ask_of_fewer c.ask_row.ensures.callable (omega arith))
