@@ -88,7 +88,7 @@ pub(crate) fn move_elements<O: WordOrder, C: Cells, const LATER: bool>(
 {
     if moved.skip == 0 {
         move_whole::<O, C, LATER>(cells, moved);
-    } else if C::Elem::BITS == u8::BITS && goes_by_words::<LATER>(moved.count) {
+    } else if C::Elem::BITS == u8::BITS && goes_by_words(moved.count) {
         shift_words::<O, C, LATER>(cells, moved);
     } else {
         let (source, count) = (moved.source, moved.count);

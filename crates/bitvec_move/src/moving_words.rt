@@ -13,12 +13,12 @@ use bitvec_words::cells::{Cells, CellsRead};
 use bitvec_words::store::BitStore;
 use bitvec_words::{WORD_BITS, WordOrder, joined, load_elements, moved, store_elements};
 
-/// Whether so many bytes are moved by words: if they are many, but where the last ones go first not very many, since
-/// those are moved faster singly.
-pub(crate) fn goes_by_words<const LATER: bool>(count: usize) -> bool
+/// Whether so many bytes are moved by words: if they are many, but not very many, since those are moved faster by the
+/// loop for their shift.
+pub(crate) fn goes_by_words(count: usize) -> bool
     ensures { IsTrue result → 80 ≤ count }
 {
-    count >= 80 && !(LATER && count >= 512)
+    count >= 80 && count < 512
 }
 
 /// Moves a stretch of one memory to its whole bytes, by words. Condition: it has at least eight, and begins inside a
