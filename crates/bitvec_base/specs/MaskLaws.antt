@@ -181,10 +181,6 @@ ones_at x k =
     let joined = ap count_ones part in
     omega (arith, apart, joined, high, low, one-bit)
 
--- the number with bit k put in, where it was 0
-unfoldable with_bit : ℕ → ℕ → ℕ
-with_bit m k = bit_or m (2 ^ k)
-
 power_above : (k : ℕ) → 2 ^ k / 2 ^ (1 + k) ≡ 0
 power_above k = let h = pow_below k (1 + k) (omega arith) in let d = div_below (2 ^ k) (2 ^ (1 + k)) 1 (pow_pos (1 + k)) (omega arith) in omega arith
 

@@ -4,7 +4,7 @@ ghost use Rattle.std.specs.Simd.Lanes.{digits_l};
 ghost use Rattle.bitvec_cells.specs.Accessors.{exclusive_numbers, exclusive_borrow, exclusive_loads, exclusive_stores};
 
 use crate::counts::Counts;
-use crate::shared::word_from;
+use crate::shared::word_of;
 use crate::{Cells, CellsRead};
 use bitvec_base::store::BitStore;
 
@@ -37,7 +37,7 @@ impl<'a, T: BitStore> Exclusive<'a, T> {
         ensures digits { take (64 / T.BITS) (drop first (exclusive_numbers T.value self.now)) ≡ digits_l (2 ^ T.BITS) (64 / T.BITS) result }
         ensures wide { 64 < T.BITS → result ≡ 0 }
     {
-        word_from(self.cells, first)
+        word_of(self.cells, first)
     }
 }
 

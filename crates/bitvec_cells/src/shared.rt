@@ -55,14 +55,14 @@ impl<'a, T: BitStore> CellsRead for Shared<'a, T> {
     #[inline(always)]
     fn load_word(&mut self, first: usize) -> u64 {
         self.counts = self.counts.loaded(64 / T::BITS as usize);
-        word_from(self.cells, first)
+        word_of(self.cells, first)
     }
 }
 
 /// The number of a slice's elements from an index on, as [`CellsRead::load_word`] gives it. Condition: the slice has
 /// as many there.
 #[inline(always)]
-pub(crate) fn word_from<T: BitStore>(elements: &[T], first: usize) -> u64
+pub(crate) fn word_of<T: BitStore>(elements: &[T], first: usize) -> u64
     requires { first + 64 / T.BITS ≤ length elements.now }
     ensures digits { take (64 / T.BITS) (drop first (map T.value elements.now)) ≡ digits_l (2 ^ T.BITS) (64 / T.BITS) result }
     ensures wide { 64 < T.BITS → result ≡ 0 }

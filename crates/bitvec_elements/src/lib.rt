@@ -20,7 +20,7 @@ pub mod words {
     pub use bitvec_engine::kernels::{combine, copy, copy_within, equal, reverse, swap};
     pub use bitvec_engine::words::{
         WORD_BITS, WordOrder, joined, load_element, load_element_after, load_parts, merged, moved,
-        reversed, same_between, store_part, store_parts, toward_end, toward_start,
+        reversed, store_part, store_parts, toward_end, toward_start,
     };
 }
 

@@ -4,7 +4,7 @@ use Rattle.std.proofs.Common.{arith, rules, sym, ◌∙◌, ap, ⊎_elim, append
 use Rattle.std.proofs.lemmas.Bool.{cases_lt}
 use Rattle.std.proofs.lemmas.Nat.{div-add-mod', mod-mul-add, mod_below}
 use Rattle.std.proofs.lemmas.List.{same_lists, places}
-use Rattle.std.proofs.Math.Nat.{mul-le-mul_left}
+use Rattle.std.proofs.Math.Nat.{div-mul-le_self, mul-le-mul_left}
 use Rattle.bitvec_words.specs.base.declared.window.Window.{Window}
 use Rattle.bitvec_words.specs.base.Window.{window_after, write_at}
 use Rattle.bitvec_words.specs.base.WritesLaws.{HasWindow-kept}
@@ -36,6 +36,10 @@ padded-join k n m first second sum long =
 -- one of n spans of k elements
 pub span-fits : (i n k count : ℕ) → i < n → n * k ≤ count → i * k + k ≤ count
 span-fits i n k count more fits = let order = mul-le-mul_left k more in omega arith
+
+-- as many as fit
+pub spans-fit : (i k count : ℕ) → i ≡ count / k → i * k ≤ count
+spans-fit i k count is = rw is (div-mul-le_self count k)
 
 -- ---- two windows, the second of which may end before the first
 

@@ -34,18 +34,18 @@ range-moved_across list b f k n m t long below over to inside = same_lists _ _ (
 -- ---- the ends of two elements
 
 -- the list has the last values of one list of b, as many as `skip`, and then those of another
-pub record HasEnds (b skip : ℕ) (list before latest : List Bool) : Type 0 where
+pub record JoinsEnds (b skip : ℕ) (list before latest : List Bool) : Type 0 where
   pub first : take skip list ≡ drop (b - skip) before
   pub rest : drop skip list ≡ drop skip latest
 
-pub ends-start : (b skip : ℕ) (list before : List Bool) → length list ≡ b → skip < b → before ≡ shifted_end (b - skip) list → HasEnds b skip list before list
+pub ends-start : (b skip : ℕ) (list before : List Bool) → length list ≡ b → skip < b → before ≡ shifted_end (b - skip) list → JoinsEnds b skip list before list
 unfolding shifted_end
 ends-start b skip list before long below is = record {
   first = rw is (same_lists _ _ (search (rules, places)) (λ i d h. grind (arith, places)));
   rest = refl;
 }
 
-pub ends-next : (b skip : ℕ) (list element next : List Bool) → length element ≡ b → length next ≡ b → skip < b → list ≡ write_at next 0 (drop (b - skip) element) → HasEnds b skip list element next
+pub ends-next : (b skip : ℕ) (list element next : List Bool) → length element ≡ b → length next ≡ b → skip < b → list ≡ write_at next 0 (drop (b - skip) element) → JoinsEnds b skip list element next
 unfolding write_at
 ends-next b skip list element next long other below is = record {
   first = rw is (same_lists _ _ (search (rules, places)) (λ i d h. grind (arith, places)));
@@ -53,7 +53,7 @@ ends-next b skip list element next long other below is = record {
 }
 
 -- the last values of a list before the first ones of another
-pub ends-joined : (b skip : ℕ) (list before latest element : List Bool) → length list ≡ b → length element ≡ b → skip < b → HasEnds b skip list before latest
+pub ends-joined : (b skip : ℕ) (list before latest element : List Bool) → length list ≡ b → length element ≡ b → skip < b → JoinsEnds b skip list before latest
     → drop (b - skip) before ++ take (b - skip) element ≡ write_at list skip (take (b - skip) element)
 unfolding write_at
 ends-joined b skip list before latest element long other below ends = rw (← ends.first) (same_lists _ _ (search (rules, places)) (λ i d h. grind (arith, places)))

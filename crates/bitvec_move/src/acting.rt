@@ -1,5 +1,5 @@
 //! What is done with the elements of a window, given the bits at their indices of another window.
-ghost use Rattle.std.specs.Prelude.{◌≡◌, ℕ, ◌+◌, ◌*◌, ◌<◌, ◌≤◌, List, Bool, true, [], ◌++◌, length, slice_range};
+ghost use Rattle.std.specs.Prelude.{◌≡◌, ◌/◌, ℕ, ◌+◌, ◌*◌, ◌<◌, ◌≤◌, List, Bool, true, [], ◌++◌, length, slice_range};
 ghost use Rattle.bitvec_words.specs.base.declared.window.Window.{Window as Bits};
 ghost use Rattle.bitvec_words.specs.base.Memory.{HasWindow, element_bits};
 ghost use Rattle.bitvec_words.specs.base.Parts.{HasPart, part_window};
@@ -64,7 +64,7 @@ pub trait Act<C: CellsRead>: Copy + Drop {
 /// How many spans of `span` elements are in `count` elements; none if `span` is 0.
 #[inline(always)]
 pub(crate) fn spans_in(count: usize, span: usize) -> usize
-    ensures { result * span ≤ count }
+    ensures { result ≡ count / span }
 {
     count.checked_div(span).unwrap_or(0)
 }

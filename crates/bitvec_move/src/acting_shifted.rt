@@ -48,7 +48,7 @@ impl<O: WordOrder> Phases<O> for Shifted {
         let (from, at, skip, count) = (stretch.first, stretch.source, stretch.skip, stretch.count);
         if C::Elem::BITS <= u16::BITS && count >= MANY_BITS / C::Elem::BITS as usize {
             return at_known_skip!(
-                u16: skip,
+                skip,
                 act_carried::<O, C, D, A, Whole<_>>(left, from, right, at, skip, count, carry, act)
             );
         }

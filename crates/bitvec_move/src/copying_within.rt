@@ -19,7 +19,8 @@ use bitvec_words::{WORD_BITS, WordOrder, load_parts, store_parts};
 /// the memory stay. Condition: the memory has at most `MAX_BITS` bits, the window lies in it,
 /// `from <= to`, and both the bits read and those written lie in the window. It loads each element
 /// that the bits touch once, and stores each element that their new place touches once. At each of
-/// the two edges it may load the element that it stores, and one of more than 64 bits once more.
+/// the two edges it may load the element that it stores, and one of more than 64 bits once more. Of
+/// 80 to 511 bytes up to ten are loaded, and up to eight are stored, once more.
 #[inline(always)]
 pub fn copy_within<O: WordOrder, C: Cells>(
     cells: &mut C,

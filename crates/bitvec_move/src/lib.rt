@@ -5,16 +5,12 @@
 /// Below this length in bits, a loop specialised to the shift of narrow elements does not pay.
 pub const MANY_BITS: usize = 512;
 
-/// A call in a branch of its own for each `skip` of bytes (1 to 7) or of elements of at most 16 bits (1 to
-/// 15), so that the compiler, which knows the number there, makes a loop for each: where it doesn't know by
-/// how much is shifted, a loop makes the masks for bytes, and the vector of shifts for both, anew in each
-/// pass.
+/// A call in a branch of its own for each `skip` of elements of at most 16 bits (1 to 15), so that the
+/// compiler, which knows the number there, makes a loop for each: where it doesn't know by how much is
+/// shifted, a loop makes the masks for bytes, and the vector of shifts, anew in each pass.
 #[macro_export]
 macro_rules! at_known_skip {
-    (u8: $skip:ident, $call:expr) => {
-        $crate::at_known_skip!($skip, $call, 1 2 3 4 5 6 7)
-    };
-    (u16: $skip:ident, $call:expr) => {
+    ($skip:ident, $call:expr) => {
         $crate::at_known_skip!($skip, $call, 1 2 3 4 5 6 7 8 9 10 11 12 13 14 15)
     };
     ($skip:ident, $call:expr, $($known:literal)*) => {
@@ -45,9 +41,8 @@ pub mod words {
     pub use bitvec_words::{
         BitOp, WORD_BITS, WordOrder, bits_load_front, bits_lowest_first, bits_scan_first,
         bits_scan_last, count, count_zeros, fill, gathered, invert, joined, load_element,
-        load_element_after, load_elements, load_parts, merged, moved, reversed, same_between,
-        store_elements, store_part, store_parts, toward_end, toward_start, words_load_front,
-        words_scan_first,
+        load_element_after, load_elements, load_parts, merged, moved, reversed, store_elements,
+        store_part, store_parts, toward_end, toward_start, words_load_front, words_scan_first,
     };
 }
 

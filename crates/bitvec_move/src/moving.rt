@@ -118,7 +118,7 @@ fn shift_elements<O: WordOrder, C: Cells, const LATER: bool>(
         shift_carried::<O, C, Lanes, LATER>(cells, first, source, skip, count, waiting);
     } else if C::Elem::BITS <= u16::BITS && count >= MANY_BITS / C::Elem::BITS as usize {
         at_known_skip!(
-            u16: skip,
+            skip,
             shift_carried::<O, C, Whole<C::Elem>, LATER>(cells, first, source, skip, count, waiting)
         );
     } else {

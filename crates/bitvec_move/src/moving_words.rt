@@ -1,7 +1,7 @@
 //! Bytes moved within one memory by words of 64 bits, each carried to the next pass. One word more makes up for
 //! what no whole number of words covers: it ends or begins where they do, and so overlaps another. It is loaded
 //! before any word is stored, and stored last. The last words go first where `LATER`.
-ghost use Rattle.std.specs.Prelude.{◌≡◌, ◌+◌, ◌<◌, ◌≤◌, IsTrue, slice_range};
+ghost use Rattle.std.specs.Prelude.{◌≡◌, ◌+◌, ◌<◌, ◌≤◌, ◌↔◌, IsTrue, slice_range};
 ghost use Rattle.bitvec_words.specs.base.Memory.{HasWindow, element_bits, list_in};
 ghost use Rattle.bitvec_words.specs.cells.Access.{CostsAtMost, OnlyReads};
 ghost use Rattle.bitvec_words.specs.Elements.{elements_window_from};
@@ -16,7 +16,7 @@ use bitvec_words::{WORD_BITS, WordOrder, joined, load_elements, moved, store_ele
 /// Whether so many bytes are moved by words: if they are many, but not very many, since those are moved faster by the
 /// loop for their shift.
 pub(crate) fn goes_by_words(count: usize) -> bool
-    ensures { IsTrue result → 80 ≤ count }
+    ensures { IsTrue result ↔ ((80 ≤ count) × (count < 512)) }
 {
     count >= 80 && count < 512
 }

@@ -94,7 +94,7 @@ fn swap_across<O: WordOrder, C: Cells, D: Cells + CellsRead<Elem = C::Elem>>(
     let (first, source, skip, count) = (stretch.first, stretch.source, stretch.skip, stretch.count);
     if C::Elem::BITS <= u16::BITS && count >= MANY_BITS / C::Elem::BITS as usize {
         return at_known_skip!(
-            u16: skip,
+            skip,
             swap_each::<O, C, D>(left, first, right, source, waiting, skip, count)
         );
     }

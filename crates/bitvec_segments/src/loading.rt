@@ -36,11 +36,11 @@ pub(crate) fn load<const BIG: bool, O: WordOrder, C: CellsRead>(
             return joined_number::<O, C>(cells, window) as u128;
         }
     }
-    load_parts::<BIG, O, C>(cells, window)
+    load_segments::<BIG, O, C>(cells, window)
 }
 
 /// `load` by parts of elements: the compiler unrolls the loop where there are one or two.
-fn load_parts<const BIG: bool, O: WordOrder, C: CellsRead>(cells: &mut C, window: Window) -> u128
+fn load_segments<const BIG: bool, O: WordOrder, C: CellsRead>(cells: &mut C, window: Window) -> u128
     requires { HasNumber C.Elem.BITS (C.numbers cells.old) window }
     ensures value { result ≡ loaded_in BIG O.HIGH C.Elem.BITS O.at (C.numbers cells.old) window }
     ensures reads { OnlyReads C.CellsRead cells.old cells.new (touched_count C.Elem.BITS window.start window.len) }

@@ -38,12 +38,16 @@ pub(crate) fn store<const BIG: bool, O: WordOrder, C: Cells>(
     } else if from == 0 && window.len == 8 * bits {
         store_in::<BIG, O, C>(cells, window, 8, number);
     } else {
-        store_parts::<BIG, O, C>(cells, window, number);
+        store_segments::<BIG, O, C>(cells, window, number);
     }
 }
 
 /// `store` of a window that reaches past its first element: straight where it lies in three.
-fn store_parts<const BIG: bool, O: WordOrder, C: Cells>(cells: &mut C, window: Window, number: u128)
+fn store_segments<const BIG: bool, O: WordOrder, C: Cells>(
+    cells: &mut C,
+    window: Window,
+    number: u128,
+)
     requires number { HasNumber C.Elem.BITS (C.numbers cells.old) window }
     requires some { 0 < window.len }
     requires passes { C.Elem.BITS < window.start % C.Elem.BITS + window.len }
@@ -60,7 +64,7 @@ fn store_parts<const BIG: bool, O: WordOrder, C: Cells>(cells: &mut C, window: W
     }
     let part = part_at(bits, window, element, from, bits);
     store_part_number::<O, C>(cells, part, number >> lower_bits::<BIG>(0, rest.len));
-    store_few::<BIG, O, C>(
+    store_two::<BIG, O, C>(
         cells,
         rest,
         element + 1,
@@ -70,7 +74,7 @@ fn store_parts<const BIG: bool, O: WordOrder, C: Cells>(cells: &mut C, window: W
 
 /// `store` of a window that begins where an element does, isn't empty, and isn't longer than two of
 /// them.
-fn store_few<const BIG: bool, O: WordOrder, C: Cells>(
+fn store_two<const BIG: bool, O: WordOrder, C: Cells>(
     cells: &mut C,
     window: Window,
     element: usize,

@@ -15,7 +15,6 @@ pub mod OrderEndLaws
 pub mod SameLaws
 pub mod ShiftedLaws
 pub mod ShortWindow
-pub mod Spans
 pub mod Split
 pub mod TouchedLaws
 pub mod WholeLaws

@@ -1,6 +1,6 @@
 //! The bits of one element, moved and joined many at a time.
 ghost use Rattle.std.specs.Prelude.{◌≡◌, ◌<◌, ◌≤◌, ◌++◌, take, drop, reverse, slice_range};
-ghost use Rattle.bitvec_cells.specs.base.Lists.{same_bits, shifted_end, shifted_start};
+ghost use Rattle.bitvec_cells.specs.base.Lists.{shifted_end, shifted_start};
 ghost use Rattle.bitvec_cells.specs.base.Memory.{element_bits};
 ghost use Rattle.bitvec_cells.specs.base.Window.{write_at};
 ghost use Rattle.bitvec_words.specs.Exchanged.{exchanged_bits};
@@ -93,16 +93,4 @@ fn exchanged<T: BitStore>(element: T, lower: T, by: u32) -> T
     let moved_down = element.shr(by).and(lower);
     let moved_up = element.and(lower).shl(by);
     moved_down.or(moved_up)
-}
-
-/// Whether two elements have the same bits at the indices from `from` up to, without, `to`. Condition: `from <=
-/// to`, and `to` is at most the width. Cost: one mask.
-pub fn same_between<O: BitOrder, T: BitStore>(element: T, other: T, from: usize, to: usize) -> bool
-    requires order { from ≤ to }
-    requires bound { to ≤ T.BITS }
-    ensures { result ≡ same_bits (slice_range (element_bits T.BITS O.at (T.value element)) from to)
-        (slice_range (element_bits T.BITS O.at (T.value other)) from to) }
-{
-    let differing = element.xor(other).and(O::mask::<T>(from, to));
-    differing.to_u128() == 0
 }

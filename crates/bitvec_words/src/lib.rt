@@ -33,7 +33,7 @@ pub mod walk {
 pub use bitvec_cells::{base, store};
 pub use carried::{Carried, Whole};
 pub use counting::{count, count_zeros};
-pub use element::{joined, merged, reversed, same_between, toward_end, toward_start};
+pub use element::{joined, merged, reversed, toward_end, toward_start};
 pub use filling::{fill, invert};
 pub use fronts::{bits_load_front, bits_lowest_first, gathered, words_load_front};
 pub use lanes::Lanes;

@@ -1,7 +1,7 @@
 use Rattle.bitvec_words.specs.base.Memory.{element_bits}
 use Rattle.bitvec_words.specs.cells.Access.{Costs}
 use Rattle.bitvec_move.specs.Moves.{SwapsElements}
-use Rattle.bitvec_move.specs.WaitingLaws.{HasEnds}
+use Rattle.bitvec_move.specs.WaitingLaws.{JoinsEnds}
 use Rattle.bitvec_move.proofs.swapping_shifted.swap_each.Given as goal
 
 abbrev pub invariant-loop-step : goal.invariant-loop-step
@@ -14,5 +14,5 @@ invariant-loop-step g l =
           l.first l.source l.skip l.step (value l.fn.waiting) (value l.last);
       cost : Costs g.C.CellsRead l.fn.left l.left l.step l.step;
       right_cost : Costs g.D.CellsRead l.fn.right l.right l.step l.step;
-      ends : HasEnds b l.skip (element_bits b at (value l.last)) (element_bits b at (value l.before)) (element_bits b at (value l.latest));
+      ends : JoinsEnds b l.skip (element_bits b at (value l.last)) (element_bits b at (value l.before)) (element_bits b at (value l.latest));
     }

@@ -6,7 +6,7 @@ use Rattle.bitvec_words.specs.base.Window.{window_after}
 use Rattle.bitvec_words.specs.base.WritesLaws.{HasWindow-kept}
 use Rattle.bitvec_words.specs.store.WidthLaws.{width_some}
 use Rattle.bitvec_segments.proofs.WalkLemmas.{edge-len, edge-place, first-part, stored-joined, stored-one, whole-none}
-use Rattle.bitvec_segments.proofs.storing.store_few.Goals as goal
+use Rattle.bitvec_segments.proofs.storing.store_two.Goals as goal
 
 pub returns-then-window-bits : goal.returns-then-window-bits
 returns-then-window-bits g c =

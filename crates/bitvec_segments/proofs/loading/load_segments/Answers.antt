@@ -4,7 +4,7 @@ use Rattle.bitvec_words.specs.walk.WalkLaws.{touched-none}
 use Rattle.bitvec_words.specs.TouchedLaws.{touched-one}
 use Rattle.bitvec_segments.proofs.JoinedWindow.{touched-elements, touched-last}
 use Rattle.bitvec_segments.proofs.WalkLemmas.{Loaded-all, Loaded-start}
-use Rattle.bitvec_segments.proofs.loading.load_parts.Goals as goal
+use Rattle.bitvec_segments.proofs.loading.load_segments.Goals as goal
 
 pub returns-then-window-eq0-clause-value : goal.returns-then-window-eq0-clause-value
 returns-then-window-eq0-clause-value g c =

@@ -7,7 +7,7 @@ use Rattle.bitvec_words.specs.store.WidthLaws.{width_some}
 use Rattle.bitvec_words.specs.walk.WalkLaws.{first-len}
 use Rattle.bitvec_segments.proofs.JoinedWindow.{touched-last}
 use Rattle.bitvec_segments.proofs.WalkLemmas.{first-part, stored-joined}
-use Rattle.bitvec_segments.proofs.storing.store_parts.Goals as goal
+use Rattle.bitvec_segments.proofs.storing.store_segments.Goals as goal
 
 pub returns : goal.returns
 returns g c =
@@ -25,7 +25,7 @@ returns g c =
     let filled = fill_loads-some window.len (λ none. omega arith) in
     let edge = part_loads-most b (first_part_of b window) in
     let first = rw (part, c.lower_bits.ensures.bits, after) at c.store_part_number.ensures in
-    let later = rw (after, c.lower_bits-2.ensures.bits, c.BITS-bits.ensures) at c.store_few.ensures in
+    let later = rw (after, c.lower_bits-2.ensures.bits, c.BITS-bits.ensures) at c.store_two.ensures in
     let first_loads = first.cost.loads in
     let later_loads = later.cost.loads in
     let first_stores = first.cost.stores in
