@@ -1,5 +1,5 @@
 -- Which way an order runs through an element.
-use Rattle.std.specs.Prelude.{◌≡◌, ℕ, ◌<◌, ⊤, true, false}
+use Rattle.std.specs.Prelude.{◌≡◌, ℕ, ◌<◌, true, false}
 use Rattle.bitvec_combine.specs.words.OrderEnd.{RunsFrom}
 use Rattle.bitvec_engine.specs.declared.order_direction.Direction.{Direction}
 use Rattle.bitvec_engine.specs.declared.order_direction.Direction.TheVariants.{Up, Down, Other}
@@ -8,8 +8,8 @@ use Rattle.bitvec_engine.specs.declared.order_direction.Direction.TheVariants.{U
 abbrev pub Agrees : ℕ → (ℕ → ℕ → ℕ) → (ℕ → ℕ → ℕ) → Type 0
 Agrees b at other = (i : ℕ) → i < b → at b i ≡ other b i
 
--- the order runs through an element of b bits as is said, if anything is
+-- the order runs through an element of b bits as is said: up, down, or neither
 unfoldable pub Runs : Direction → ℕ → (ℕ → ℕ → ℕ) → Type 0
 Runs Up b at = RunsFrom false b at
 Runs Down b at = RunsFrom true b at
-Runs Other b at = ⊤
+Runs Other b at = (¬ RunsFrom false b at) × (¬ RunsFrom true b at)

@@ -1,6 +1,8 @@
 pub mod Cited
 pub mod Direction
 pub mod Pairs
+pub mod WordSteps
+pub mod WordStepsLaws
 pub use Rattle.bitvec_combine.specs.words.Front as Front
 pub use Rattle.bitvec_combine.specs.base as base
 pub use Rattle.bitvec_combine.specs.cells as cells

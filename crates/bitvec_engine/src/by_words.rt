@@ -1,6 +1,6 @@
 //! Bit operations on whole windows by words. What loops is inlined into the function that makes the accessors:
 //! vectors come only where the compiler sees through them, in loops of each caller's own.
-#![tactic(auto)]
+#![tactic(auto, using(bitvec_combine::specs::Cited::enough))]
 
 ghost use Rattle.std.specs.Prelude.{refl, true};
 

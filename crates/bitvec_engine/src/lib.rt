@@ -4,6 +4,8 @@
 mod by_bits;
 mod by_elements;
 mod by_words;
+pub mod lsb0;
+pub mod msb0;
 mod order_direction;
 mod searching;
 mod shifting;

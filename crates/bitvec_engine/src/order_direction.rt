@@ -1,5 +1,5 @@
 //! Which way an order runs through the bits of an element.
-ghost use Rattle.std.specs.Prelude.{◌≡◌, true};
+ghost use Rattle.std.specs.Prelude.{◌≡◌, ◌↔◌, true};
 ghost use Rattle.bitvec_engine.specs.Direction.{Agrees, Runs};
 
 use bitvec_combine::base::{BitOrder, Lsb0, Msb0};
@@ -34,7 +34,7 @@ pub fn direction_of<O: BitOrder, T: BitStore>() -> Direction
 /// Whether two orders have the bits of an element at the same indices.
 #[inline(always)]
 fn agrees<O: BitOrder, P: BitOrder, T: BitStore>() -> bool
-    ensures { result ≡ true → Agrees T.BITS O.at P.at }
+    ensures { (result ≡ true) ↔ Agrees T.BITS O.at P.at }
 {
     for index in 0..T::BITS as usize {
         if O::at::<T>(index) != P::at::<T>(index) {

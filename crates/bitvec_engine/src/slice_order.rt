@@ -17,10 +17,11 @@ use bitvec_combine::words::{
 
 /// A bit order with its way of working on whole windows.
 ///
-/// An order with `WORDS` works by words of `usize` where it can, one without goes bit by bit, by
-/// the functions `bits_..`, one line each. Both meet one contract, and the constant stands in its
-/// bounds on loads and stores alone. Conditions of all: each memory has at most `MAX_BITS` bits,
-/// and each window lies in its memory.
+/// An order with `WORDS` works by words of `usize` where it can. One without goes by elements where
+/// the windows begin at the same index of one, and bit by bit elsewhere: by the functions
+/// `elements_..` and `bits_..`, one line each. Both meet one contract, and the constant stands in
+/// its bounds on loads and stores alone. Conditions of all: each memory has at most `MAX_BITS`
+/// bits, and each window lies in its memory.
 pub trait SliceOrder: BitOrder {
     ghost WORDS: { Bool };
 

@@ -20,3 +20,5 @@ mod searches;
 mod tallied;
 #[cfg(test)]
 mod tally;
+#[cfg(test)]
+mod word_steps;
