@@ -5,11 +5,13 @@ use Rattle.std.proofs.Common.{arith, sym, ◌∙◌, ap, subst, ⊎_elim}
 use Rattle.std.proofs.lemmas.Bool.{cases_lt}
 use Rattle.std.proofs.lemmas.Bool.Decides.{nat_tests}
 use Rattle.std.proofs.Math.Nat.{mul-div_cancel_left}
+use Rattle.std.proofs.lemmas.Grind.{same_number_lists}
 use Rattle.std.proofs.lemmas.List.{get_or_past}
 use Rattle.std.proofs.lemmas.Nat.Bits.{bit_at-lt, same_from_bits_below}
 use Rattle.bitvec_base.specs.Memory.{memory_bits, element_bits}
 use Rattle.bitvec_base.specs.MemoryLaws.{length-memory_bits, get-element_bits, element_fits, element-range}
 use Rattle.bitvec_base.specs.Order.{Permutes}
+use Rattle.bitvec_store.specs.Width.{FitWidth}
 use Rattle.bitvec_base.specs.OrderLaws.{Permutes-onto}
 use Rattle.bitvec_base.specs.Window.{write_at}
 use Rattle.bitvec_base.specs.WriteLaws.{length-write_at, range-write_at_before, range-write_at_after}
@@ -40,6 +42,14 @@ same_length b at some xs ys same =
     sym (mul-div_cancel_left (length xs) some)
     ∙ ap (λ (n : ℕ). n / b) (sym (length-memory_bits b at xs) ∙ same ∙ length-memory_bits b at ys)
     ∙ mul-div_cancel_left (length ys) some
+
+-- a memory is fixed by its bits
+pub memory_bits-fix : (b : ℕ) (at : ℕ → ℕ → ℕ) → 0 < b → Permutes b (at b) → (xs ys : List ℕ) → FitWidth b xs → FitWidth b ys → memory_bits b at xs ≡ memory_bits b at ys → xs ≡ ys
+memory_bits-fix b at some p xs ys fx fy same =
+    let long = same_length b at some xs ys (ap length same) in
+    same_number_lists xs ys long (λ e inside.
+    let other : e < length ys = omega arith in
+    same_element b at p xs ys e (fx e inside) (fy e other) inside other (ap (λ (l : List Bool). slice_range l (e * b) (e * b + b)) same))
 
 -- an element that a write of bits leaves out keeps its number
 pub write_at-keeps : (b : ℕ) (at : ℕ → ℕ → ℕ) → 0 < b → Permutes b (at b) → (xs ys : List ℕ) (s : ℕ) (new : List Bool)

@@ -1,8 +1,10 @@
 -- A list whose values stand at other places is as long as before.
 use Rattle.std.specs.Prelude.{◌≡◌, ℕ, ◌+◌, ◌-◌, ◌≤◌, Bool, false, List, length, take, drop, replicate, reverse, slice_range}
 use Rattle.std.proofs.Common.{arith, length-take, length-drop}
-use Rattle.std.proofs.lemmas.List.{length-append, length-replicate, length-reverse}
+use Rattle.std.proofs.lemmas.List.{length-append, length-map, length-replicate, length-reverse, length-set}
+use Rattle.std.proofs.lemmas.List.Edits.{length-swap}
 use Rattle.bitvec_base.specs.Lists.{rotated_left, rotated_right, shifted_start, shifted_end, copied_within}
+use Rattle.bitvec_base.specs.ListsLaws.{length-combined}
 use Rattle.bitvec_base.specs.Window.{write_at}
 use Rattle.bitvec_base.specs.WriteLaws.{length-slice_range, length-write_at}
 
@@ -37,3 +39,5 @@ length-reversed_part list from to order bound =
     let part = length-slice_range list from to bound in
     let mirrored = length-reverse (slice_range list from to) in
     length-write_at list from (reverse (slice_range list from to)) (omega arith)
+
+pub ruleset list_lengths = (length-rotated_left, length-rotated_right, length-shifted_start, length-shifted_end, length-copied_within, length-combined, length-write_at, length-slice_range, length-reverse, length-swap, length-set, length-map, length-replicate)
