@@ -77,7 +77,7 @@ def obstacle(top, lines, it, why):
     name, folder = it["name"], top / "crates" / it["name"]
     if name not in lines:
         return "crates.txt has no such crate"
-    if any(path.is_symlink() for path in (folder.parent, folder, folder / "out")):
+    if any(path.is_symlink() for path in (folder.parent, folder, folder / "out", folder / "out/rlib")):
         raise Refused(f"{folder}/out is reached by a link, and may lie elsewhere")
     if library.sum_of_sources(top, name, lines[name][0]) != it["sources"]:
         return "its sources here are others"
@@ -149,8 +149,9 @@ def tell(top, listing, why):
 
 
 def lay(file, top):
-    if not file.is_file():
-        raise Refused(f"there is no file {file}")
+    for needed in (file, top / "crates.txt"):
+        if not needed.is_file():
+            raise Refused(f"there is no file {needed}")
     try:
         with unzipped(file) as stream, tarfile.open(fileobj=stream, mode="r|") as tar:
             listing = listing_of(tar)

@@ -111,5 +111,5 @@ def main(tool, call):
     """Runs a tool, and ends it with its status, or with what it was refused for."""
     try:
         sys.exit(call(sys.argv[1:]))
-    except Refused as why:
+    except (Refused, OSError) as why:
         sys.exit(f"{tool}: {why}")

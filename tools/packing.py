@@ -12,7 +12,7 @@ import library
 from library import BITVEC, FORMAT, LIST, RECORDS, TOP, Progress, Refused, member
 
 # The long distance is for what libraries have in common.
-ZIP = ["zstd", "-q", "-T0", "-12", "--long=27", "-c"]
+ZIP = ["zstd", "-q", "-T0", "-9", "--long=27", "-c"]
 
 
 def build(lines):
