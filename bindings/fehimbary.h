@@ -54,6 +54,8 @@ enum {
 
 #define FB_MAX_BITS (SIZE_MAX / 8)
 
+#define FEHIMBARY_VERSION "0.2.0"
+
 /* The parameters that windows of elements of a type are passed by: one that is read, one that is written, and a right one
  * beside either. */
 #define FB_SEEN(Element) fb_order order, const Element *elements, size_t count, size_t start, size_t len
