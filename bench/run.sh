@@ -9,7 +9,7 @@ processor=x86-64-v2
 registry=/usr/share/cargo/registry
 
 missing=
-for package in g++ make python3 python3-bitarray libboost-dev librust-fixedbitset-dev librust-bit-vec-dev; do
+for package in g++ make python3 python3-dev cython3 python3-bitarray libboost-dev librust-fixedbitset-dev librust-bit-vec-dev; do
     dpkg-query -W -f '${Status}' "$package" 2>/dev/null | grep -q ' installed' || missing="$missing $package"
 done
 command -v rustc >/dev/null || missing="$missing rustc"
@@ -25,7 +25,7 @@ mkdir -p out
 (cd ../crates/bitvec_times && rt run -- encode 8 0 0) >/dev/null
 (cd ../crates/sieve && rt run -- count 0) >/dev/null
 (cd ../crates/bitmatrix && rt run -- chain 0) >/dev/null
-make -s -C ../bindings wheel >&2
+make -s -C ../bindings wheel PYTHON=/usr/bin/python3 >&2
 /usr/bin/python3 -m zipfile -e ../bindings/out/fehimbary-*.whl out/python
 
 # rust NAME KIND SOURCE FLAGS..: compiles one crate of the peers

@@ -1,29 +1,42 @@
 #!/usr/bin/env bash
-# The library from C, C++ and Python, as it is installed: `bindings/check.sh [LIBRARY..]`, by hand. Without archives that were built
-# before it is proved and built first. Clients compare every function with loops over single bits (10,000 windows from C for each
-# element type, with the sanitizers, and fewer under valgrind, from C++ and from Python), and the package for Python with Debian's
-# `bitarray`, 10,000 operations. The names of the header are those of the archive; views of const elements have no call that
-# writes; the wheel is installed into a new environment; the examples of docs/C.md are built as it says, and print what it says.
+# The library from C, C++ and Python, as it is installed: `bindings/check.sh [--install] [LIBRARY..]`, by hand. Without archives
+# that were built before it is proved and built first. Clients compare every function with loops over single bits (10,000 windows
+# from C for each element type, with the sanitizers, and fewer under valgrind, from C++ and from Python). The names of the header
+# are those of the archive; views of const elements have no call that writes; the examples of docs/C.md are built as it says, and
+# print what it says.
 #
-# What is missing of the compilers, valgrind, Python, its packages and pkg-config it installs by apt-get, as root.
+# The wheel is installed into a new environment. The package is compared with Debian's `bitarray`: a million operations, a hundred
+# thousand under a Python with debug checks, and ten thousand under valgrind. Its stubs fit it, and the picture of Life is that of
+# a plain model.
+#
+# What is missing of the compilers, valgrind, Python, its packages and pkg-config is named; with --install it is installed by
+# apt-get, as root.
 set -euo pipefail
 cd "$(dirname "$0")"
+install=
+if [ "${1:-}" = --install ]; then
+  install=1
+  shift
+fi
 library=${1:+LIBRARY=$(realpath "$@" | tr '\n' ' ')}
 room=$(mktemp -d)
 trap 'rm -rf "$room"' EXIT
 
 missing=()
-for package in gcc g++ clang make valgrind pkg-config binutils python3 python3-venv python3-numpy python3-bitarray mypy; do
+for package in gcc g++ clang make valgrind pkg-config binutils python3 python3-dev python3-dbg python3-venv python3-numpy \
+  python3-bitarray cython3 mypy; do
   dpkg-query -W -f '${Status}' "$package" 2> /dev/null | grep -q ' installed' || missing+=("$package")
 done
-if [ "${#missing[@]}" != 0 ]; then
+if [ "${#missing[@]}" != 0 ] && [ -z "$install" ]; then
+  echo "check.sh: missing: ${missing[*]}. \`bindings/check.sh --install\` installs them by apt-get, as root" >&2
+  exit 1
+elif [ "${#missing[@]}" != 0 ]; then
   echo "check.sh: installing ${missing[*]}" >&2
   apt-get update >&2
   DEBIAN_FRONTEND=noninteractive apt-get install -y "${missing[@]}" >&2
 fi
 
-debian_python=/usr/bin/python3
-make -s install wheel PREFIX="$room" PYTHON="$debian_python" ${library:+"$library"} >&2
+make -s install PREFIX="$room" ${library:+"$library"} >&2
 export PKG_CONFIG_PATH=$room/lib/pkgconfig PYTHONDONTWRITEBYTECODE=1
 read -ra flags < <(pkg-config --cflags --libs fehimbary)
 read -ra include < <(pkg-config --cflags fehimbary)
@@ -71,16 +84,36 @@ for build in 'g++ -std=c++17' 'clang++ -std=c++20'; do
   "$room/cpp_client" 500
 done
 
-"$debian_python" -m venv --system-site-packages "$room/python"
+# environment PYTHON NAME: a new environment with the wheel for a Python
+environment() {
+  make -s wheel PYTHON="$1" ${library:+"$library"} >&2
+  "$1" -m venv --system-site-packages "$room/$2"
+  "$room/$2/bin/python" -m pip install --quiet --disable-pip-version-check --no-index --no-deps out/fehimbary-*.whl
+}
+
+environment /usr/bin/python3-dbg debug
+debug_python=$room/debug/bin/python
+echo 'Python with debug checks:'
+"$debug_python" tests/client.py 20
+"$debug_python" tests/oracle.py 100000
+"$debug_python" -X dev -m unittest --quiet tests/native.py tests/safety.py
+
+environment /usr/bin/python3 python
 python=$room/python/bin/python
-"$python" -m pip install --quiet --disable-pip-version-check --no-index --no-deps out/fehimbary-*.whl
-echo 'Python, the wheel installed:'
+echo 'Python, under valgrind:'
+# bitarray itself reads bits that it hasn't written
+PYTHONMALLOC=malloc valgrind --quiet --error-exitcode=1 --undef-value-errors=no "$python" tests/oracle.py 10000
+PYTHONMALLOC=malloc valgrind --quiet --error-exitcode=1 "$python" tests/client.py 5
+echo 'Python:'
 "$python" tests/client.py 100
-"$python" tests/oracle.py 10000
-"$python" -m unittest --quiet tests/native.py
-"$python" -c 'import doctest, sys, fehimbary; sys.exit(doctest.testmod(fehimbary).failed)'
+"$python" tests/oracle.py 1000000
+"$python" -m unittest --quiet tests/native.py tests/safety.py
+"$python" -c 'import doctest, fehimbary.bits; print(sum(doctest.testmod(it).failed for it in (fehimbary, fehimbary.bits)), "doctests fail")'
 mypy --strict --cache-dir "$room/mypy" python/wheel_of.py tests/example.py
 mypy --strict --cache-dir "$room/mypy" --python-executable "$python" -p fehimbary
+"$python" examples/life.py "$room/life.png"
+"$python" tests/life.py "$room/life.png"
+cmp "$room/life.png" examples/life.png
 
 gcc tests/example.c "${flags[@]}" -o "$room/c"
 g++ -std=c++17 tests/example.cpp "${flags[@]}" -o "$room/cpp"

@@ -1,4 +1,4 @@
-"""The build backend (PEP 517): a wheel of the package and of the shared library, which `make -C bindings wheel` has built.
+"""The build backend (PEP 517): a wheel of the package and of its extension, which `make -C bindings wheel` has built for a Python.
 
 It needs nothing but Python, so that `pip install` works without a network. `wheel_of.py FOLDER` puts the wheel there."""
 
@@ -12,7 +12,7 @@ import sysconfig
 import zipfile
 
 HERE = pathlib.Path(__file__).resolve().parent
-LIBRARY = HERE.parent / "out/libfehimbary.so"
+EXTENSION = HERE.parent / f"out/bits{sysconfig.get_config_var('EXT_SUFFIX')}"
 
 
 def project() -> dict[str, str]:
@@ -25,9 +25,9 @@ def project() -> dict[str, str]:
 def files(name: str, version: str, tag: str) -> dict[str, bytes]:
     """What is in the wheel, by path, but for its record."""
     said, info = project(), f"{name}-{version}.dist-info"
-    sources = (path for path in sorted((HERE / name).iterdir()) if path.suffix in (".py", ".typed"))
+    sources = (path for path in sorted((HERE / name).iterdir()) if path.suffix in (".py", ".pyi", ".typed"))
     found = {f"{name}/{path.name}": path.read_bytes() for path in sources}
-    found[f"{name}/{LIBRARY.name}"] = LIBRARY.read_bytes()
+    found[f"{name}/{EXTENSION.name}"] = EXTENSION.read_bytes()
     found[f"{info}/METADATA"] = (
         f"Metadata-Version: 2.1\nName: {name}\nVersion: {version}\nSummary: {said['description']}\n"
         f"License: MIT\nRequires-Python: {said['requires-python']}\n"
@@ -43,10 +43,11 @@ def row(path: str, data: bytes) -> str:
 
 def build_wheel(wheel_directory: str, config_settings: object = None, metadata_directory: object = None) -> str:
     """Puts the wheel into a folder, and gives its name."""
-    if not LIBRARY.exists():
-        raise FileNotFoundError(f"{LIBRARY} isn't built: `make -C bindings wheel` builds it")
+    if not EXTENSION.exists():
+        raise FileNotFoundError(f"{EXTENSION} isn't built: `make -C bindings wheel` builds it")
     name, version = project()["name"], project()["version"]
-    tag = f"py3-none-{sysconfig.get_platform().replace('-', '_').replace('.', '_')}"
+    python = f"cp{sys.version_info.major}{sys.version_info.minor}"
+    tag = f"{python}-{python}{sys.abiflags}-{sysconfig.get_platform().replace('-', '_').replace('.', '_')}"
     found, record = files(name, version, tag), f"{name}-{version}.dist-info/RECORD"
     found[record] = ("".join(row(*it) for it in found.items()) + f"{record},,\n").encode()
     with zipfile.ZipFile(pathlib.Path(wheel_directory, f"{name}-{version}-{tag}.whl"), "w", zipfile.ZIP_DEFLATED) as wheel:

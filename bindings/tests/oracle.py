@@ -1,5 +1,7 @@
 """Compares the package for Python with `bitarray`, operation by operation, on bits that keep changing: oracle.py [OPERATIONS]."""
 
+import copy
+import pickle
 import random
 import sys
 from array import array
@@ -15,7 +17,7 @@ class Pair:
     """Bits at some place of a memory, and a bitarray of them."""
 
     def __init__(self, length, width, order):
-        self.start = random.randint(0, 70)
+        self.start, self.order = random.randint(0, 70), order
         count = -(-(self.start + length + random.randint(0, 70)) // width)
         self.memory = array(CODES[width], [random.getrandbits(width) for _ in range(count)])
         self.bits = Bits(self.memory, order)[self.start : self.start + length]
@@ -29,7 +31,7 @@ class Pair:
         """Others, mostly of the same order and elements."""
         if random.random() < 0.3:
             return Pair.drawn(length)
-        return Pair(length, 8 * self.memory.itemsize, self.bits._order)
+        return Pair(length, 8 * self.memory.itemsize, self.order)
 
 
 def part_of(pair):
@@ -97,6 +99,12 @@ def shift(pair):
         pair.list >>= by
 
 
+def shift_copies(pair):
+    by, before = random.randint(0, len(pair.bits) + 2), str(pair.bits)
+    assert (str(pair.bits << by), str(pair.bits >> by)) == ((pair.list << by).to01(), (pair.list >> by).to01())
+    assert str(pair.bits) == before
+
+
 def rotate(pair):
     by = random.randint(0, len(pair.bits))
     pair.bits.rotate_left(by)
@@ -134,6 +142,8 @@ def search(pair):
     needle = pair.bits[part].copy() if random.getrandbits(1) else pair.like(random.randint(0, 7)).bits
     those = bitarray(str(needle))
     assert (needle in pair.bits) == (those in pair.list)
+    place = pair.list.find(those)
+    assert pair.bits.find(needle) == (None if place < 0 else place)
     assert pair.bits.starts_with(needle) == (pair.list[: len(those)] == those)
     assert pair.bits.ends_with(needle) == (len(those) <= len(pair.list) and pair.list[len(pair.list) - len(those) :] == those)
 
@@ -153,7 +163,7 @@ def number(pair):
     if length > len(pair.bits):
         return
     start, value = random.randint(0, len(pair.bits) - length), random.getrandbits(64) % 2**length
-    part, big = pair.bits[start : start + length], pair.bits._order is Msb0
+    part, big = pair.bits[start : start + length], pair.order is Msb0
     (part.store_be if big else part.store_le)(value)
     digits = f"{value:0{length}b}"
     pair.list[start : start + length] = bitarray(digits if big else digits[::-1])
@@ -161,15 +171,24 @@ def number(pair):
 
 
 def write_down(pair):
-    endian = "little" if pair.bits._order is Lsb0 else "big"
+    endian = "little" if pair.order is Lsb0 else "big"
     assert pair.bits.to_bytes() == bitarray(pair.list, endian).tobytes()
     assert str(pair.bits.copy()) == str(pair.bits) == pair.list.to01()
     groups = repr(pair.bits).split("'")[1].removesuffix(" ..").split()
     assert "".join(groups) == pair.list.to01()[:64] and all(len(group) == 4 for group in groups[:-1])
 
 
-OPERATIONS = [set_bit, fill_part, write_part, move_part, combine, combine_parts, combine_copies, shift, rotate, turn, flip, refill,
-              ask, search, compare, number, write_down]
+def make(pair):
+    text, order = pair.list.to01(), random.choice((Lsb0, Msb0))
+    made = [Bits.from_string(text, order), Bits.from_bools(pair.list, order), Bits.from_bools(pair.bits.tolist()),
+            pickle.loads(pickle.dumps(pair.bits)), copy.copy(pair.bits), copy.deepcopy(pair.bits)]
+    assert all(str(it) == text for it in made) and repr(made[3]) == repr(made[4]) == repr(pair.bits)
+    made[0].invert()
+    assert str(made[0]) == (~pair.list).to01() and str(Bits.zeros(len(text), order)) == len(text) * "0"
+
+
+OPERATIONS = [set_bit, fill_part, write_part, move_part, combine, combine_parts, combine_copies, shift, shift_copies, rotate, turn,
+              flip, refill, ask, search, compare, number, write_down, make]
 
 
 def main():
@@ -178,11 +197,11 @@ def main():
     for turn_number in range(operations):
         if turn_number % 100 == 0:
             pair = Pair.drawn(random.choice([1, 7, 64, 65, random.randint(1, 600)]))
-            outside = list(Bits(pair.memory, pair.bits._order))
+            outside = list(Bits(pair.memory, pair.order))
         operation = random.choice(OPERATIONS)
         operation(pair)
         wanted = outside[: pair.start] + pair.list.tolist() + outside[pair.start + len(pair.list) :]
-        if str(Bits(pair.memory, pair.bits._order)) != "".join("01"[bit] for bit in wanted):
+        if str(Bits(pair.memory, pair.order)) != "".join("01"[bit] for bit in wanted):
             raise SystemExit(f"{operation.__name__} differs: {pair.bits!r}")
     print(f"beside bitarray: {operations} operations")
 

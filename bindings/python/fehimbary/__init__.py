@@ -10,8 +10,8 @@
 What each method costs is said at the C function of its name (fehimbary.h).
 """
 
-from ._library import ReadOnly, Refused, RefusedIndex, Status
-from .bits import Bits, Lsb0, Msb0, Order
+from .bits import Bits
+from .codes import Lsb0, Msb0, Order, ReadOnly, Refused, RefusedIndex, Status
 from .runs import Op, Reply, Step
 
 __all__ = ["Bits", "Lsb0", "Msb0", "Op", "Order", "ReadOnly", "Refused", "RefusedIndex", "Reply", "Status", "Step"]

@@ -4,7 +4,12 @@ import ctypes
 from ctypes import c_uint32, c_uint64
 from enum import IntEnum
 
-from ._library import whole
+
+def whole(number: int, bits: int = 64) -> int:
+    """A number as C has it; ctypes would take a greater one by its last bits."""
+    if not 0 <= number < 1 << bits:
+        raise OverflowError(f"{number} isn't a number of {bits} bits")
+    return number
 
 
 class Op(IntEnum):
