@@ -1,6 +1,6 @@
 /* Calls every function on windows of many lengths and places, in elements of each width under both orders. Around each
- * call it stores into two markers, so that a trace of the process tells what the call loads and stores; and it prints
- * what it calls, a line a call. measure.py reads both. */
+ * call it stores into two markers, so that a trace of the process tells what the call loads and stores. With an argument
+ * it prints besides what it calls, a line a call. measure.py reads both. */
 #include "fehimbary.h"
 #include <stdio.h>
 #include <stdlib.h>
@@ -10,6 +10,7 @@ enum { MEMORY_BYTES = 1152 };
 
 static _Alignas(64) unsigned char left_memory[MEMORY_BYTES], right_memory[MEMORY_BYTES];
 static volatile uint64_t begins, ends;
+static bool tells;
 
 /* Where both windows stand, and how long they are. */
 struct place {
@@ -27,8 +28,9 @@ static void expect_done(fb_status status, const char *name) {
 /* A call with some numbers of its own: what is told of it, and the marks around it. */
 #define CALL(name, first, second, call)                                                                             \
     do {                                                                                                            \
-        printf("%s %zu %u %zu %zu %zu %zu %zu\n", name, WIDTH, at->order, at->len, at->start, at->right_start,      \
-               (size_t)(first), (size_t)(second));                                                                  \
+        if (tells)                                                                                                  \
+            printf("%s %zu %u %zu %zu %zu %zu %zu\n", name, WIDTH, at->order, at->len, at->start, at->right_start,  \
+                   (size_t)(first), (size_t)(second));                                                              \
         begins = 1;                                                                                                 \
         fb_status status = call;                                                                                    \
         ends = 1;                                                                                                   \
@@ -58,7 +60,9 @@ static void expect_done(fb_status status, const char *name) {
 #define SUFFIX u64
 #include "calls.h"
 
-int main(void) {
+int main(int count, char **words) {
+    (void)words;
+    tells = count > 1;
     static const size_t lens[] = {1, 6, 33, 64, 130, 257, 600, 1024, 3000, 4096, 9000};
     static const size_t starts[][2] = {{0, 0}, {0, 29}, {29, 29}, {13, 59}, {63, 2}};
     for (fb_order order = FB_LSB0; order <= FB_MSB0; ++order)

@@ -3,7 +3,7 @@
 
 client.c calls every function under valgrind, which traces each load and store. Of those in the two memories that a call is
 handed, this adds up how many elements each covers, and holds the sums against the header's. What libc loads or stores in a
-call of its own, as of memcpy, counts once for each element: how often it does so besides is told, and held against nothing.
+call of its own, as of memcpy, counts once for each element: what it takes twice is told, and no sum may be twice as large by it.
 
 By hand, in some three minutes once the library is proved, which it is first where no archives are given. It needs gcc,
 valgrind and binutils."""
@@ -132,15 +132,15 @@ class Tally:
             elements.clear()
 
 
-def tallies(client, calls_file, widths):
-    """Runs the client, and tells of each call what it loads and stores; `widths` gives the bytes of its elements."""
+def tallies(client, calls):
+    """Runs the client, and tells of each call what it loads and stores."""
     at = addresses(client)
     begins, ends = (f" S {at[it]:08x},8\n".encode() for it in ("begins", "ends"))
     left, right = at["left_memory"], at["right_memory"]
     size = 1152
-    code, code_end = at["__executable_start"], at["etext"]
+    code, code_end = at["_init"], at["_fini"]
     words = ["valgrind", "--tool=lackey", "--trace-mem=yes", "--log-fd=2", client]
-    run = subprocess.Popen(words, stdout=calls_file, stderr=subprocess.PIPE)
+    run = subprocess.Popen(words, stdout=subprocess.DEVNULL, stderr=subprocess.PIPE)
     tally, is_own, made = None, True, []
     for line in run.stderr:
         if tally is None:
@@ -164,7 +164,7 @@ def tallies(client, calls_file, widths):
         if start is None:
             continue
         beside = 0 if start == left else 2
-        made_of = widths(len(made))
+        made_of = calls[len(made)].bits // 8
         first, last = (place - start) // made_of, (place - start + int(count) - 1) // made_of
         if kind in (b"L", b"M"):
             tally.access(beside, first, last, is_own)
@@ -186,30 +186,30 @@ def main(libraries):
     with tempfile.TemporaryDirectory() as name:
         room = pathlib.Path(name)
         client = built(libraries, room)
-        calls = list(calls_of(subprocess.run([client], check=True, capture_output=True, text=True).stdout))
-        made = tallies(client, subprocess.DEVNULL, lambda number: calls[number].bits // 8)
+        calls = list(calls_of(subprocess.run([client, "tell"], check=True, capture_output=True, text=True).stdout))
+        made = tallies(client, calls)
     if len(made) != len(calls):
         sys.exit(f"measure.py: {len(calls)} calls, of which the trace has {len(made)}")
     report(list(zip(calls, made)))
 
 
 def report(told):
-    """Says what goes beyond the header, and fails where that isn't libc's."""
-    beyond, by_libc = [], collections.Counter()
-    most = collections.defaultdict(int)
+    """Says how often libc takes elements twice, and fails where the library's own code goes beyond the header."""
+    beyond, twice = [], collections.defaultdict(list)
     for call, tally in told:
-        for side, (name, counted, machine, bound) in enumerate(zip(SIDES, tally.counted, tally.machine, bound_of(call))):
-            if counted > bound:
-                beyond.append(f"{call}: {counted} {name}, at most {bound}")
-            elif machine > bound:
-                by_libc[call.name] += 1
-                most[call.name] = max(most[call.name], machine - bound)
-    print(f"{len(told)} calls")
-    for name, count in sorted(by_libc.items()):
-        print(f"{name}: libc goes beyond the header's cost {count} times, by {most[name]} elements at most")
-    print(*beyond[:200], sep="\n")
+        for side, counted, machine, bound in zip(SIDES, tally.counted, tally.machine, bound_of(call)):
+            if counted > bound or machine > 2 * counted:
+                beyond.append(f"{call}: {counted} {side}, {machine} with libc's, at most {bound}")
+            if machine > counted:
+                twice[call.name].append((machine - counted, counted, max(machine - bound, 0)))
+    print(f"{len(told)} calls; the library's own code goes beyond the header's costs {len(beyond)} times")
+    for name, sums in sorted(twice.items()):
+        more, of, _ = max(sums)
+        above = [over for *_, over in sums if over]
+        print(f"{name}: in {len(sums)} sums libc takes elements twice, at most {more} beside {of};", end=" ")
+        print(f"in {len(above)} it goes beyond the header so, by at most {max(above, default=0)}")
     if beyond:
-        sys.exit(f"measure.py: {len(beyond)} sums go beyond the header's costs")
+        sys.exit("\n".join(beyond[:100]))
 
 
 if __name__ == "__main__":
