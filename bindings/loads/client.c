@@ -25,15 +25,16 @@ static void expect_done(fb_status status, const char *name) {
     exit(1);
 }
 
-/* A call with some numbers of its own: what is told of it, and the marks around it. */
-#define CALL(name, first, second, call)                                                                             \
+/* A call between the two marks, and what is told of it: with the number that its cost is about, where that isn't the
+ * windows' length. */
+#define CALL(name, about, call)                                                                                    \
     do {                                                                                                            \
-        if (tells)                                                                                                  \
-            printf("%s %zu %u %zu %zu %zu %zu %zu\n", name, WIDTH, at->order, at->len, at->start, at->right_start,  \
-                   (size_t)(first), (size_t)(second));                                                              \
         begins = 1;                                                                                                 \
         fb_status status = call;                                                                                    \
         ends = 1;                                                                                                   \
+        if (tells)                                                                                                  \
+            printf("%s %zu %u %zu %zu %zu %zu\n", name, WIDTH, at->order, at->len, at->start, at->right_start,      \
+                   (size_t)(about));                                                                                \
         expect_done(status, name);                                                                                  \
     } while (0)
 

@@ -16,7 +16,7 @@ import tempfile
 HERE = pathlib.Path(__file__).resolve().parent
 SIDES = ("loads", "stores", "right loads", "right stores")
 
-Call = collections.namedtuple("Call", "name bits order len start right_start first second")
+Call = collections.namedtuple("Call", "name bits order len start right_start about")
 
 
 # ---- what the header states: loads and stores of the memory, and of the right one
@@ -63,17 +63,18 @@ COSTS = {
     "reverse": lambda call: edit(steps(call.len) + 1, call) + NONE,
     "shift": lambda call: edit(steps(call.len) + 1, call) + NONE,
     "rotate": lambda call: edit(2 * steps(call.len) + 4, call) + NONE,
-    "copy_within": lambda call: edit(steps(call.first), call) + NONE,
+    "copy_within": lambda call: edit(steps(call.about), call) + NONE,
     "copy": lambda call: write(steps(call.len), call) + read(steps(call.len), call),
     "combine": lambda call: edit(steps(call.len), call) + read(steps(call.len), call),
     "swap": lambda call: edit(steps(call.len), call) * 2,
     "scan": lambda call: (touched(call), 0) + NONE,
-    "ones": lambda call: (touched(call) + call.second, 0) + NONE,
+    "ones": lambda call: (touched(call) + call.about, 0) + NONE,
     "equal": lambda call: read(steps(call.len), call) * 2,
-    "compare": lambda call: (min(call.len, call.first), 0) * 2,
-    "needle": lambda call: read(steps(call.first), call) * 2,
-    "contains": lambda call: read((call.len - call.first + 1) * steps(call.first), call) * 2,
-    "number": lambda call: edit(1, call) + NONE,
+    "compare": lambda call: (min(call.len, call.about), 0) * 2,
+    "needle": lambda call: read(steps(call.about), call) * 2,
+    "contains": lambda call: read((call.len - call.about + 1) * steps(call.about), call) * 2,
+    "load": lambda call: read(1, call) + NONE,
+    "store": lambda call: write(1, call) + NONE,
 }
 KINDS = {
     **dict.fromkeys(("shift_start", "shift_end"), "shift"),
@@ -81,7 +82,8 @@ KINDS = {
     **dict.fromkeys(("and", "or", "xor"), "combine"),
     **dict.fromkeys(("count_ones", "count_zeros", "first_one", "first_zero", "last_one", "last_zero", "any", "all"), "scan"),
     **dict.fromkeys(("starts_with", "ends_with"), "needle"),
-    **dict.fromkeys(("load_le", "load_be", "store_le", "store_be"), "number"),
+    **dict.fromkeys(("load_le", "load_be"), "load"),
+    **dict.fromkeys(("store_le", "store_be"), "store"),
 }
 
 
