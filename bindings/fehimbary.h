@@ -13,8 +13,10 @@
  * a memory nor through the pointer to a result. The first that holds is told: FB_ORDER, FB_SIZE, FB_RANGE, where there is
  * a right window FB_RIGHT, and then what the function's comment names, in its order.
  *
- * A word step is the loads and stores of the elements that 64 bits can touch, 64 / B + 1 of B bits each, on each side
- * that takes part, and two loads more where it writes. n is the window's length, and r the right window's. */
+ * A cost is how many elements a call loads and stores at most. A word step is about 64 bits, which touch at most
+ * 64 / B + 1 elements of B bits: of a memory that is read it loads so many, of one that is written it stores so many and
+ * loads two. n is the window's length, and r the right window's. Costs are proved of the functions that count, and tested
+ * of these (loads/measure.py). An element that libc's memcpy, memmove or memset takes twice in a call counts once. */
 #ifndef FEHIMBARY_H
 #define FEHIMBARY_H
 

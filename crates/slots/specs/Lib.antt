@@ -1,3 +1,4 @@
+pub mod Arguments
 pub mod Changes
 pub mod Faults
 pub mod Places

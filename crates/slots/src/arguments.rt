@@ -1,5 +1,10 @@
 //! The words after the program's name.
+ghost use Rattle.std.specs.Prelude.{◌≡◌, IfSome, IfNone, map, string_bytes};
+ghost use Rattle.std.specs.Option.{option_map};
+ghost use Rattle.slots.specs.Arguments.{Given, given, given_of, number_of, one_number, places_from, places_of, request_of};
+
 use crate::places::Change;
+use std::ops::Range;
 
 /// What is asked for.
 #[derive(Drop)]
@@ -22,16 +27,13 @@ pub struct Arguments<'a> {
 impl<'a> Arguments<'a> {
     /// Reads the words: FILE, then `take COUNT`, `give START`, `give START COUNT` or `show`. None, if
     /// they are others, or if the places end beyond the numbers of 64 bits.
-    pub fn parse(words: &'a [String]) -> Option<Arguments<'a>> {
+    pub fn parse(words: &'a [String]) -> Option<Arguments<'a>>
+        ensures { option_map given result ≡ given_of (map string_bytes words.now) }
+    {
         let [path, verb, numbers @ ..] = words else {
             return None;
         };
-        let request = match verb.as_str() {
-            "take" => Request::Change(Change::Take(parse_one(numbers)?)),
-            "give" => Request::Change(parse_give(numbers)?),
-            "show" if numbers.is_empty() => Request::Show,
-            _ => return None,
-        };
+        let request = parse_request(verb.as_str(), numbers)?;
         Some(Arguments {
             path: path.as_str(),
             request,
@@ -39,21 +41,53 @@ impl<'a> Arguments<'a> {
     }
 }
 
-/// The number of the one word.
-fn parse_one(words: &[String]) -> Option<usize> {
-    match words {
-        [word] => word.parse().ok(),
+/// The request of a verb and the words behind it.
+fn parse_request(verb: &str, words: &[String]) -> Option<Request>
+    ensures { result ≡ request_of verb.now (map string_bytes words.now) }
+{
+    match verb {
+        "take" => Some(Request::Change(Change::Take(parse_one(words)?))),
+        "give" => Some(Request::Change(Change::Give(parse_places(words)?))),
+        "show" if words.is_empty() => Some(Request::Show),
         _ => None,
     }
 }
 
-/// The places of START and COUNT; without COUNT it is one place.
-fn parse_give(words: &[String]) -> Option<Change> {
-    let (start, count) = match words {
-        [start] => (start.parse::<usize>().ok()?, 1),
-        [start, count] => (start.parse::<usize>().ok()?, count.parse::<usize>().ok()?),
-        _ => return None,
-    };
+/// The number of a word of decimal digits, which a plus may precede.
+fn parse_number(word: &str) -> Option<usize>
+    ensures { result ≡ number_of word.now }
+{
+    word.parse().ok()
+}
+
+/// The number of the one word.
+fn parse_one(words: &[String]) -> Option<usize>
+    ensures { result ≡ one_number (map string_bytes words.now) }
+{
+    match words {
+        [word] => parse_number(word.as_str()),
+        _ => None,
+    }
+}
+
+/// So many places from one on, if they end within the numbers of 64 bits.
+fn places_from(start: usize, count: usize) -> Option<Range<usize>>
+    ensures { result ≡ places_from start count }
+{
     let end = start.checked_add(count)?;
-    Some(Change::Give(start..end))
+    Some(start..end)
+}
+
+/// The places of START and COUNT; without COUNT it is one place.
+fn parse_places(words: &[String]) -> Option<Range<usize>>
+    ensures { result ≡ places_of (map string_bytes words.now) }
+{
+    match words {
+        [start] => places_from(parse_number(start.as_str())?, 1),
+        [start, count] => {
+            let start = parse_number(start.as_str())?;
+            places_from(start, parse_number(count.as_str())?)
+        }
+        _ => None,
+    }
 }

@@ -60,7 +60,8 @@ pub fn show_map<A: Allocator, R: Read, W: Write>(
     map: &mut R,
     output: &mut W,
 ) -> Result<(), Fault>
-    ensures { OnOk result (ShowsMap (R.remaining map.old) (W.contents output.old) (W.contents output.new)) }
+    ensures shown { OnOk result (ShowsMap (R.remaining map.old) (W.contents output.old) (W.contents output.new)) }
+    ensures fault { IfErr result (λ fault. (fault ≡ Fault.Read) ⊎ (fault ≡ Fault.Memory) ⊎ (fault ≡ Fault.Output)) }
 {
     let bytes = read_map(alloc, map)?;
     let places = BitSlice::<u8, Lsb0>::from_slice(bytes.as_slice());
