@@ -1,5 +1,5 @@
 #!/usr/bin/env bash
-# Wrong bodies that clauses leave to tests: most are of calls that say nothing of what their lender is afterwards. The
+# Wrong bodies that every clause admits: they are of calls that say nothing of what their lender is afterwards. The
 # first line of each patch in compile_fail/mutants names a tests' crate and the tests that must fail with it. The patches of a
 # crate are applied together, to a copy of the tree, and one run of its tests, with no proofs, has to show each named
 # test as failed. Patches of one crate change different lines, and no test that one names makes a call that another
