@@ -18,7 +18,9 @@ pub mod DomainsLaws
 pub mod Indices
 pub mod KeptLaws
 pub mod Lending
+pub mod LentLaws
 pub mod ListingLaws
+pub mod MayLend
 pub mod NthLaws
 pub mod Seen
 pub mod SeenLaws

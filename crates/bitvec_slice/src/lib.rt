@@ -15,6 +15,9 @@ mod index_ranges;
 mod indices;
 mod iter;
 mod iterating;
+mod lenders;
+mod lent;
+mod lent_indices;
 mod operators;
 mod sealed;
 mod showing;
@@ -89,6 +92,8 @@ pub use bitvec_elements::base::{BitSpanError, Window};
 pub use conversions::{from_mut, from_ref};
 pub use index::{BitSliceIndex, Viewed, ViewedMut};
 pub use iter::Iter;
+pub use lent::Lent;
+pub use lent_indices::LentIndex;
 #[doc(hidden)]
 pub use sealed::Sealed;
 pub use showing::{Shows, View};
