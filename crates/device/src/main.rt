@@ -8,23 +8,19 @@ mod part;
 mod pattern;
 mod print;
 mod uart;
+mod work;
 
-use part::Part;
-use print::print_asked;
 use std::env;
 use std::io::{self, BufWriter, ErrorKind};
 use std::process::ExitCode;
 use std::rt::Env;
-
-/// The status where the output can't be written.
-const OUTPUT_FAILED: u8 = 1;
+use work::work;
 
 /// The status of the work on the words after the program's name.
 fn status<R: Env + Print + AllocGlobal>(rt: &R) -> io::Result<u8> {
     let words: Vec<String> = env::args(rt)?.skip(1).collect(rt.alloc())?;
     let mut output = BufWriter::new(rt.alloc(), io::writer(rt))?;
-    let asked = Part::parse(words.as_slice());
-    Ok(print_asked(&mut output, &asked).unwrap_or(OUTPUT_FAILED))
+    Ok(work(words.as_slice(), &mut output))
 }
 
 fn main(rt: HostRuntime) -> ExitCode {

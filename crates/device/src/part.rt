@@ -1,8 +1,14 @@
 //! What the words after the program's name ask for.
+ghost use Rattle.std.specs.Prelude.{◌≡◌, ◌<◌, ◌≤◌, map, string_bytes};
+ghost use Rattle.device.specs.Numbers.{number_of, numbers_of};
+ghost use Rattle.device.specs.Parts.{HasChunks, IsUart, Makes, MakesFilter, asked_of, bloom_of, chunks_of, part_of, pattern_of, uart_of};
+
 use crate::bloom::Bloom;
 use crate::chunks::number_chunks;
 use crate::pattern::pattern;
 use crate::uart::Uart;
+use bitvec::in_place;
+use bitvec::prelude::*;
 
 /// A part of the device, whose bits were set as the words say.
 #[derive(Drop)]
@@ -20,67 +26,141 @@ pub enum Part {
 impl Part {
     /// Reads the words: `uart BAUD PARITY DATA`, `bloom KEY OTHER ..`, `pattern NUMBER` or `chunks COUNT`.
     /// `None` if they are anything else.
-    pub fn parse(words: &[String]) -> Option<Part> {
-        let [part, numbers @ ..] = words else {
+    pub fn parse(words: &[String]) -> Option<Part>
+        ensures { Makes (asked_of (map string_bytes words.now)) result }
+    {
+        let [name, numbers @ ..] = words else {
             return None;
         };
-        match part.as_str() {
-            "uart" => parse_uart(numbers),
-            "bloom" => parse_bloom(numbers),
-            "pattern" => parse_pattern(numbers),
-            "chunks" => parse_chunks(numbers),
-            _ => None,
-        }
+        parse_part(name.as_str(), numbers)
     }
 }
 
-/// A serial port of three fields; its reserved bits are ones.
-fn parse_uart(words: &[String]) -> Option<Part> {
-    let [baud, parity, byte] = words else {
-        return None;
-    };
-    let baud = baud.parse::<u16>().ok()?;
-    let parity = parity.parse::<u8>().ok()?;
-    let byte = byte.parse::<u8>().ok()?;
-    if parity > 3 {
-        return None;
-    }
-    let mut uart = Uart::new([u32::MAX; 4]);
-    uart.configure(baud, parity, byte);
-    Some(Part::Uart(uart))
-}
-
-/// A key to ask for, and a filter that has the others.
-fn parse_bloom(words: &[String]) -> Option<Part> {
-    let [key, others @ ..] = words else {
-        return None;
-    };
-    let key = key.parse::<u64>().ok()?;
-    let mut filter = Bloom::new();
-    for other in others {
-        filter.insert(other.parse::<u64>().ok()?);
-    }
-    Some(Part::Bloom(filter, key))
-}
-
-/// The pattern of a number.
-fn parse_pattern(words: &[String]) -> Option<Part> {
-    match words {
-        [number] => Some(Part::Pattern(pattern(number.parse::<u16>().ok()?))),
+/// The part of a name and its numbers.
+fn parse_part(name: &str, words: &[String]) -> Option<Part>
+    ensures { Makes (part_of name.now (map string_bytes words.now)) result }
+{
+    match name {
+        "uart" => parse_uart(words),
+        "bloom" => parse_bloom(words),
+        "pattern" => parse_pattern(words),
+        "chunks" => parse_chunks(words),
         _ => None,
     }
 }
 
-/// Eight bytes. The chunks of the first COUNT hold their numbers; the bits of the others are ones.
-fn parse_chunks(words: &[String]) -> Option<Part> {
+/// The number of a word, which has at most 8 bits.
+fn parse_u8(word: &str) -> Option<u8>
+    ensures { result ≡ number_of 8 word.now }
+{
+    word.parse().ok()
+}
+
+/// The number of a word, which has at most 16 bits.
+fn parse_u16(word: &str) -> Option<u16>
+    ensures { result ≡ number_of 16 word.now }
+{
+    word.parse().ok()
+}
+
+/// The number of a word, which has at most 64 bits.
+fn parse_u64(word: &str) -> Option<u64>
+    ensures { result ≡ number_of 64 word.now }
+{
+    word.parse().ok()
+}
+
+/// The number of a word, which has at most 64 bits.
+fn parse_count(word: &str) -> Option<usize>
+    ensures { result ≡ number_of 64 word.now }
+{
+    word.parse().ok()
+}
+
+/// A serial port with three fields; its reserved bits are ones. Condition: the parity is below 4.
+#[tactic(auto, using(bitvec::specs::Laws::bitwise))]
+fn make_uart(baud: u16, parity: u8, byte: u8) -> Uart
+    requires { parity < 4 }
+    ensures { IsUart baud parity byte result }
+{
+    let mut registers = [0u32; 4];
+    in_place::fill::<u32, Lsb0>(&mut registers, 0..128, true);
+    let mut uart = Uart::new(registers);
+    uart.configure(baud, parity, byte);
+    uart
+}
+
+/// A serial port of three numbers, of which the second is below 4.
+fn parse_uart(words: &[String]) -> Option<Part>
+    ensures { Makes (uart_of (map string_bytes words.now)) result }
+{
+    let [baud, parity, byte] = words else {
+        return None;
+    };
+    let baud = parse_u16(baud.as_str())?;
+    let parity = parse_u8(parity.as_str())?;
+    let byte = parse_u8(byte.as_str())?;
+    if parity < 4 {
+        Some(Part::Uart(make_uart(baud, parity, byte)))
+    } else {
+        None
+    }
+}
+
+/// A filter that has the keys of some words.
+fn parse_filter(words: &[String]) -> Option<Bloom>
+    ensures { MakesFilter (numbers_of (map string_bytes words.now)) result }
+{
+    let mut filter = Bloom::new();
+    for word in words {
+        filter.insert(parse_u64(word.as_str())?);
+    }
+    Some(filter)
+}
+
+/// A key to ask for, and a filter that has the others.
+fn parse_bloom(words: &[String]) -> Option<Part>
+    ensures { Makes (bloom_of (map string_bytes words.now)) result }
+{
+    let [key, others @ ..] = words else {
+        return None;
+    };
+    let key = parse_u64(key.as_str())?;
+    Some(Part::Bloom(parse_filter(others)?, key))
+}
+
+/// The pattern of a number.
+fn parse_pattern(words: &[String]) -> Option<Part>
+    ensures { Makes (pattern_of (map string_bytes words.now)) result }
+{
+    match words {
+        [number] => Some(Part::Pattern(pattern(parse_u16(number.as_str())?))),
+        _ => None,
+    }
+}
+
+/// Eight bytes. The chunks of the first `count` hold their numbers; the bits of the others are ones.
+/// Condition: `count` is at most 8.
+fn make_chunks(count: usize) -> [u8; 8]
+    requires { count ≤ 8 }
+    ensures { HasChunks count result }
+{
+    let mut bytes = [u8::MAX; 8];
+    number_chunks(&mut bytes[..count]);
+    bytes
+}
+
+/// Eight bytes of which a number, at most 8, have numbered chunks.
+fn parse_chunks(words: &[String]) -> Option<Part>
+    ensures { Makes (chunks_of (map string_bytes words.now)) result }
+{
     let [count] = words else {
         return None;
     };
-    let count = count.parse::<usize>().ok()?;
-    if count > 8 {
-        return None;
+    let count = parse_count(count.as_str())?;
+    if count < 9 {
+        Some(Part::Chunks(make_chunks(count)))
+    } else {
+        None
     }
-    let mut bytes = [u8::MAX; 8];
-    number_chunks(&mut bytes[..count]);
-    Some(Part::Chunks(bytes))
 }

@@ -1,8 +1,5 @@
 //! Bytes that are edited in place.
-ghost use Rattle.std.specs.Prelude.{◌≡◌, ℕ, ◌<◌, ◌≤◌, ◌%◌, false, true, slice_index_or};
-ghost use Rattle.bitvec.specs.Arrays.{lsb0_bits};
-ghost use Rattle.bitvec.specs.Ranges.{number_in};
-ghost use Rattle.device.specs.Pattern.{IsUnmarked};
+ghost use Rattle.device.specs.Pattern.{HasPattern};
 
 use bitvec::in_place;
 use bitvec::prelude::*;
@@ -11,10 +8,7 @@ use bitvec::prelude::*;
 /// the others zeros.
 #[tactic(auto, using(bitvec::specs::Laws::bitwise, bitvec::specs::Laws::fields))]
 pub fn pattern(number: u16) -> [u8; 8]
-    ensures mark { slice_index_or (lsb0_bits 8 result) 3 false ≡ true }
-    ensures ones { (place : ℕ) → 20 ≤ place → place < 40 → slice_index_or (lsb0_bits 8 result) place false ≡ true }
-    ensures number { number_in false false 8 (lsb0_bits 8 result) 5 17 ≡ number % 4096 }
-    ensures rest { (place : ℕ) → IsUnmarked place → slice_index_or (lsb0_bits 8 result) place false ≡ false }
+    ensures { HasPattern number result }
 {
     let mut bytes = [0u8; 8];
     in_place::set::<u8, Lsb0>(&mut bytes, 3, true);

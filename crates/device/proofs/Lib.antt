@@ -1,0 +1,3 @@
+pub mod FilterLaws
+pub mod NumberLaws
+pub mod WorkLaws
