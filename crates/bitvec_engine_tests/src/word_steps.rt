@@ -6,8 +6,11 @@ use bitvec_engine::{BitOp, lsb0, msb0};
 
 // All bits of two bytes, five of the first, three at its start, and three of the second.
 const ALL: Window = Window { start: 0, len: 16 };
+
 const FIVE: Window = Window { start: 2, len: 5 };
+
 const FIRST: Window = Window { start: 0, len: 3 };
+
 const SECOND: Window = Window { start: 8, len: 3 };
 
 /// Copies five bits, flips the first three of them, copies the other two to the next byte, and exchanges them with zeros.
