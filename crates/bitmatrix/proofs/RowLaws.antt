@@ -4,7 +4,7 @@ use Rattle.std.proofs.Common.{arith, inl, inr}
 use Rattle.std.proofs.lemmas.Bool.{cases_lt}
 use Rattle.std.proofs.lemmas.Grind.{get_or-set_at}
 use Rattle.std.proofs.lemmas.List.{get_or-replicate, get_or-set_other}
-use Rattle.bitvec.specs.Laws.{combined}
+use Rattle.bitvec.specs.Laws.{overlaid}
 use Rattle.bitvec.specs.Operators.{or_within}
 use Rattle.bitmatrix.specs.Matrix.{IsEmpty, JoinsRow, SetsEntry, entry}
 
@@ -20,10 +20,10 @@ joins-row n target source old new ht hs long joined =
     let target-ends = row-before n target n ht in
     let source-ends = row-before n source n hs in
     record {
-      row = λ j hj. rw joined (grind (arith, combined));
+      row = λ j hj. rw joined (grind (arith, overlaid));
       others = λ i j hi hj other. elim (cases_lt i target) [
-        | inl before ↦ let ends = row-before n i target before in rw joined (grind (arith, combined))
-        | inr behind ↦ let begins = row-before n target i (omega arith) in rw joined (grind (arith, combined))
+        | inl before ↦ let ends = row-before n i target before in rw joined (grind (arith, overlaid))
+        | inr behind ↦ let begins = row-before n target i (omega arith) in rw joined (grind (arith, overlaid))
       ];
     }
 

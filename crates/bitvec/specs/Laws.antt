@@ -12,13 +12,17 @@ use Rattle.bitvec_owned.specs.edit.base.WindowLaws.{get-window, length-window}
 use Rattle.bitvec_owned.specs.edit.base.WriteLaws.{get-slice_range, get-write_at_above, get-write_at_below, get-write_at_inside, length-slice_range, length-write_at, range-write_at, range-write_at_after, range-write_at_before}
 use Rattle.bitvec_owned.specs.edit.walk.CostLaws.{enough}
 use Rattle.bitvec_in_place.specs.field.IntegersLaws.{remainder-narrow}
-use Rattle.bitvec_in_place.specs.Laws.{lengths as kept_lengths, listed, numbers, ranged}
+use Rattle.bitvec_in_place.specs.Laws.{asked as in_range, lengths as kept_lengths, listed, numbers, parts, ranged}
 use Rattle.bitvec_in_place.specs.RangesLaws.{worded as words}
 use Rattle.bitvec_iter.specs.JoinLaws.{joining as chunks}
 use Rattle.bitvec_iter.specs.Laws.{walked as walks}
 use Rattle.bitvec_in_place.specs.field.segments.LoadLaws.{loaded-one, loaded_be-phase, loaded_le-phase}
 use Rattle.bitvec_in_place.specs.field.segments.StoreLaws.{loaded_be-determines, loaded_be-stores, loaded_le-determines, loaded_le-stores, stored_be-loads, stored_le-loads}
+use Rattle.bitvec_closures.specs.split.AskedLaws.{may_ask_always}
 use Rattle.bitvec_closures.specs.WritesLaws.{written-around, written-none, written-then}
+use Rattle.bitvec.specs.ComposedLaws.{array-none, array-then, owned-none, owned-then}
+use Rattle.bitvec.specs.ClosureLaws.{callable_below-always, callable_on_bits-always}
+use Rattle.bitvec.specs.MatchLaws.{contained, contains-absent, prefix-bit, prefix-fits, prefix-found, prefix-stripped, suffix-bit, suffix-fits, suffix-stripped}
 use Rattle.bitvec_owned.specs.edit.slice.SeenLaws.{length_bits}
 use Rattle.bitvec_owned.specs.edit.store.WidthLaws.{width_some}
 use Rattle.bitvec_owned.specs.edit.traits.FeedingLaws.{fed_same}
@@ -35,13 +39,13 @@ pub ruleset found = (lengths, first_place-below, first_place-bit, first_place-be
 pub ruleset written = (lengths, get_or-set_at, get_or-set_other, length-set)
 
 -- after `edit_with`: what stands before the part, in it and behind it
-pub ruleset edited = (lengths, get-window, get-slice_range, get-write_at_below, get-write_at_inside, get-write_at_above, length-slice_range, length-window, length-write_at, range-write_at, range-write_at_before, range-write_at_after)
+pub ruleset spliced = (lengths, get-window, get-slice_range, get-write_at_below, get-write_at_inside, get-write_at_above, length-slice_range, length-window, length-write_at, range-write_at, range-write_at_before, range-write_at_after)
 
 -- after `and_within`, `or_within`, `xor_within`: each bit and range, those that were written and those beside them
-pub ruleset combined = (lengths, get-combined_within_below, get-combined_within_inside, get-combined_within_above, length-combined_within, range-combined_within, range-combined_within_before, range-combined_within_after)
+pub ruleset overlaid = (lengths, get-combined_within_below, get-combined_within_inside, get-combined_within_above, length-combined_within, range-combined_within, range-combined_within_before, range-combined_within_after)
 
--- edits of one view, one after the other, as one edit
-pub ruleset composed = (written-none, written-then, written-around)
+-- edits of one view, one sequence or one array of bits, one after the other, as one edit
+pub ruleset composed = (written-none, written-then, written-around, width_some, owned-none, owned-then, array-none, array-then)
 
 -- `count_ones` and `count_zeros`: both make the length; after `set`; after calls that move bits or flip them
 pub ruleset counted = (lengths, ones_and_zeros, ones-more, ones-fewer, zeros-more, zeros-fewer, ones-flipped, zeros-flipped)
@@ -52,10 +56,13 @@ pub ruleset moved = (lengths, ones-reversed, ones-rotated_left, ones-rotated_rig
 pub ruleset parted = (lengths, ones-front, ones-rest, ones-whole)
 
 -- after `fill`: each bit, how many are 1 and 0, what is found, `all` and `any`
-pub ruleset filled = (lengths, get_or-replicate, ones-all, ones-none, zeros-all, zeros-none, first-filled, first-of_filled, last-filled, all-filled, any-filled)
+pub ruleset uniform = (lengths, get_or-replicate, ones-all, ones-none, zeros-all, zeros-none, first-filled, first-of_filled, last-filled, all-filled, any-filled)
 
 -- after `eq_bits`: whether the lists are equal
 pub ruleset compared = (same-equal, equal-same)
+
+-- after `starts_with`, `ends_with`, `contains` and the strips: where the needle's bits stand
+pub ruleset matched = (lengths, prefix-fits, prefix-bit, prefix-stripped, prefix-found, suffix-fits, suffix-bit, suffix-stripped, contained, contains-absent)
 
 -- after `cmp`, `<` and their kin: the order is total and agrees with `==`; and equal views feed a hasher the same
 pub ruleset ordered = (orders, fed_same)
@@ -71,7 +78,7 @@ pub ruleset undone = (lengths, reverse-reverse, flip-undoes, rotated_left-undoes
 
 -- after `store` and `load`, in either order: the number is that which was stored, the bits are those that were loaded, and
 -- in one element both ends give one number; the place of the first bit counts as far as its index in its element does
-pub ruleset numbered = (lengths, loaded_le-phase, loaded_be-phase, width_some, stored_le-loads, stored_be-loads, loaded_le-stores, loaded_be-stores, loaded-one, remainder-narrow)
+pub ruleset reloaded = (lengths, loaded_le-phase, loaded_be-phase, width_some, stored_le-loads, stored_be-loads, loaded_le-stores, loaded_be-stores, loaded-one, remainder-narrow)
 
 -- lists of one length with one number are one list
 pub ruleset determined = (lengths, width_some, loaded_le-determines, loaded_be-determines)
@@ -87,6 +94,15 @@ pub ruleset bitwise = (lengths, kept_lengths, listed, ranged)
 
 -- the number of a range: stored there it is what was stored, as far as it fits; beside an edit it stays; and its bound
 pub ruleset fields = (lengths, kept_lengths, numbers, width_some)
+
+-- a stored number by its bits and parts, from its other end, or moved; and the number of a range that was filled
+pub ruleset portions = (lengths, kept_lengths, parts, width_some)
+
+-- questions of `in_place` about a range: beside an edit, and after `fill`
+pub ruleset asked = (lengths, kept_lengths, in_range)
+
+-- closures that may always be called, as `fill_with`, `for_each` and splits ask of them
+pub ruleset callable = (callable_below-always, callable_on_bits-always, may_ask_always)
 
 -- the words on edits of ranges in place of writes: for a contract of a view that says `filled`, `flipped` and their kin
 pub ruleset worded = (words)

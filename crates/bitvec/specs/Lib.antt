@@ -1,13 +1,19 @@
 pub mod Arrays
+pub mod ClosureLaws
+pub mod ComposedLaws
 pub mod Domains
 pub mod Laws
+pub mod MatchLaws
 pub mod Operators
 pub mod Types
+pub use Rattle.bitvec_elements.specs.base.BitsFixMemory
 pub use Rattle.bitvec_owned.specs.edit.base.Counts
 pub use Rattle.bitvec_owned.specs.edit.base.FilledLaws
+pub use Rattle.bitvec_elements.specs.base.LengthLaws
 pub use Rattle.bitvec_owned.specs.edit.base.Lists
 pub use Rattle.bitvec_owned.specs.edit.base.Memory
 pub use Rattle.bitvec_owned.specs.edit.base.Order
+pub use Rattle.bitvec_elements.specs.base.OrderLaws
 pub use Rattle.bitvec_owned.specs.edit.base.PlacesLaws
 pub use Rattle.bitvec_owned.specs.edit.base.Window
 pub use Rattle.bitvec_owned.specs.edit.base.WindowLaws
@@ -15,6 +21,7 @@ pub use Rattle.bitvec_owned.specs.edit.base.WriteLaws
 pub use Rattle.bitvec_closures.specs.cutting.Cutting
 pub use Rattle.bitvec_closures.specs.cutting.Walks as PieceWalks
 pub use Rattle.bitvec_owned.specs.edit.domain.Asked
+pub use Rattle.bitvec_owned.specs.edit.domain.AskedLaws
 pub use Rattle.bitvec_owned.specs.edit.domain.Cuts
 pub use Rattle.bitvec_owned.specs.edit.domain.Parts
 pub use Rattle.bitvec_owned.specs.edit.domain.Values as DomainValues
@@ -23,10 +30,14 @@ pub use Rattle.bitvec_owned.specs.edit.within.Combined
 pub use Rattle.bitvec_owned.specs.edit.within.CombinedLaws
 pub use Rattle.bitvec_owned.specs.edit.UndoLaws
 pub use Rattle.bitvec_in_place.specs.field.Fields
+pub use Rattle.bitvec_in_place.specs.field.DomainParts
+pub use Rattle.bitvec_in_place.specs.field.DomainPartsLaws
 pub use Rattle.bitvec_in_place.specs.field.Integers
 pub use Rattle.bitvec_in_place.specs.field.IntegersLaws
 pub use Rattle.bitvec_in_place.specs.MovedLaws
 pub use Rattle.bitvec_in_place.specs.NumbersLaws
+pub use Rattle.bitvec_in_place.specs.NumberPartsLaws
+pub use Rattle.bitvec_in_place.specs.RangeBitsLaws
 pub use Rattle.bitvec_in_place.specs.Ranges
 pub use Rattle.bitvec_in_place.specs.RangesLaws
 pub use Rattle.bitvec_in_place.specs.Rooms
@@ -42,6 +53,7 @@ pub use Rattle.bitvec_iter.specs.LentPieces
 pub use Rattle.bitvec_iter.specs.LentWalk
 pub use Rattle.bitvec_query.specs.Indices as OnesLeft
 pub use Rattle.bitvec_query.specs.Loads
+pub use Rattle.bitvec_query.specs.iter.NthLaws
 pub use Rattle.bitvec_query.specs.Places
 pub use Rattle.bitvec_query.specs.Turns
 pub use Rattle.bitvec_owned.specs.ArrayWrites
@@ -66,9 +78,11 @@ pub use Rattle.bitvec_in_place.specs.field.segments.PlainLaws
 pub use Rattle.bitvec_in_place.specs.field.segments.Segments
 pub use Rattle.bitvec_in_place.specs.field.segments.StoreLaws
 pub use Rattle.bitvec_owned.specs.edit.slice.Indices
+pub use Rattle.bitvec_query.specs.slice.Apart
 pub use Rattle.bitvec_owned.specs.edit.slice.KeptLaws
 pub use Rattle.bitvec_owned.specs.edit.slice.Seen
 pub use Rattle.bitvec_owned.specs.edit.slice.SeenLaws
+pub use Rattle.bitvec_owned.specs.edit.slice.Showing
 pub use Rattle.bitvec_owned.specs.edit.slice.ShowingLaws
 pub use Rattle.bitvec_owned.specs.edit.slice.Touched
 pub use Rattle.bitvec_owned.specs.edit.slice.Views

@@ -70,7 +70,7 @@ pub fn count_parts<T: BitStore, O: SliceOrder>(view: BitSlice<'_, T, O>, mid: us
 }
 
 /// Fills the view with ones: all are 1, and no 0 is found.
-#[tactic(auto, using(bitvec::specs::Laws::filled))]
+#[tactic(auto, using(bitvec::specs::Laws::uniform))]
 pub fn fill_and_ask<T: BitStore, O: SliceOrder>(
     view: &mut BitSliceMut<'_, T, O>,
 ) -> (usize, Option<usize>)

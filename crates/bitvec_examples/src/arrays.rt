@@ -2,7 +2,7 @@
 ghost use Rattle.std.specs.Prelude.{◌≡◌, ℕ, ◌+◌, ◌-◌, ◌*◌, ◌%◌, ◌<◌, ◌≤◌, false, true, length, replicate, slice_index_or, slice_set};
 ghost use Rattle.bitvec.specs.Arrays.{lsb0_bits, msb0_bits};
 ghost use Rattle.bitvec.specs.Lists.{rotated_left};
-ghost use Rattle.bitvec.specs.Ranges.{KeepsOutside, edited, filled, flipped, number_in, numbered};
+ghost use Rattle.bitvec.specs.Ranges.{ChangesOnly, edited, filled, flipped, number_in, numbered};
 ghost use Rattle.bitvec.specs.Views.{seen_mut};
 ghost use Rattle.bitvec.specs.Writes.{WritesBits};
 
@@ -122,7 +122,7 @@ impl Port {
     #[tactic(auto, using(bitvec::specs::Laws::bitwise, bitvec::specs::Laws::fields))]
     pub fn clear_data(&mut self)
         ensures byte { number_in false false 32 (lsb0_bits 32 self.new.registers) 104 112 ≡ 0 }
-        ensures kept { KeepsOutside 104 112 (lsb0_bits 32 self.old.registers) (lsb0_bits 32 self.new.registers) }
+        ensures kept { ChangesOnly 104 112 (lsb0_bits 32 self.old.registers) (lsb0_bits 32 self.new.registers) }
     {
         self.set_data(0);
     }

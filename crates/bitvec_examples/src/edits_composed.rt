@@ -18,7 +18,7 @@ pub fn set_all<T: BitStore, O: SliceOrder>(view: &mut BitSliceMut<'_, T, O>, bit
 }
 
 /// Makes the bits from `from` up to `to` ones: each bit outside the range is as before.
-#[tactic(auto, using(bitvec::specs::Laws::edited))]
+#[tactic(auto, using(bitvec::specs::Laws::spliced))]
 pub fn fill_between<T: BitStore, O: SliceOrder>(
     view: &mut BitSliceMut<'_, T, O>,
     from: usize,

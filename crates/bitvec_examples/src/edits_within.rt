@@ -23,7 +23,7 @@ pub fn or_row<T: BitStore, O: SliceOrder>(
 }
 
 /// Gives a row of a matrix of bits the ones of another too, and tells one of its bits: it is 1 if either row's was.
-#[tactic(auto, using(bitvec::specs::Laws::combined))]
+#[tactic(auto, using(bitvec::specs::Laws::overlaid))]
 pub fn joined_bit<T: BitStore, O: SliceOrder>(
     bits: &mut BitSliceMut<'_, T, O>,
     width: usize,

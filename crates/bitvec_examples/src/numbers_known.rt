@@ -8,7 +8,7 @@ use bitvec::prelude::*;
 
 /// Stores a number in the `width` bits from `from` on, and loads it: it is the number modulo
 /// `2^width`, of a signed type less `2^width` where the highest bit is 1.
-#[tactic(auto, using(bitvec::specs::Laws::numbered))]
+#[tactic(auto, using(bitvec::specs::Laws::reloaded))]
 pub fn put_and_take<T: BitStore, O: FieldOrder, I: Integral>(
     view: BitSliceMut<'_, T, O>,
     from: usize,
@@ -27,7 +27,7 @@ pub fn put_and_take<T: BitStore, O: FieldOrder, I: Integral>(
 }
 
 /// Puts a number in and takes it out, the first segment highest.
-#[tactic(auto, using(bitvec::specs::Laws::numbered))]
+#[tactic(auto, using(bitvec::specs::Laws::reloaded))]
 pub fn put_and_take_be<T: BitStore, O: FieldOrder, I: Integral>(
     view: BitSliceMut<'_, T, O>,
     from: usize,
@@ -62,7 +62,7 @@ pub fn put_in_range<T: BitStore, O: FieldOrder>(
 }
 
 /// Loads a view that lies in one element from both ends: the numbers are one.
-#[tactic(auto, using(bitvec::specs::Laws::numbered))]
+#[tactic(auto, using(bitvec::specs::Laws::reloaded))]
 pub fn take_both_ways<T: BitStore, O: FieldOrder, I: Integral>(view: BitSlice<'_, T, O>) -> (I, I)
     requires some { 0 < (seen view).window.len }
     requires bound { (seen view).window.len ≤ I.BITS }

@@ -1,5 +1,8 @@
 -- Items of `bitvec_base` that crates above use.
+pub use Rattle.bitvec_slice.specs.base.CountLaws
+pub use Rattle.bitvec_slice.specs.base.CountedLaws
 pub use Rattle.bitvec_slice.specs.base.FilledLaws
+pub use Rattle.bitvec_slice.specs.base.LeadingLaws
 pub use Rattle.bitvec_slice.specs.base.Lists
 pub use Rattle.bitvec_slice.specs.base.ListsLaws
 pub use Rattle.bitvec_slice.specs.base.Memory

@@ -2,4 +2,5 @@
 pub use Rattle.bitvec_slice.specs.SeenLaws
 pub use Rattle.bitvec_slice.specs.Showing
 pub use Rattle.bitvec_slice.specs.Views
+pub use Rattle.bitvec_slice.specs.WriteLaws
 pub use Rattle.bitvec_slice.specs.Writes

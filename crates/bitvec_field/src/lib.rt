@@ -29,7 +29,7 @@ pub mod engine {
 
 /// Items of `bitvec_slice` that crates above use.
 pub mod slice {
-    pub use bitvec_slice::{BitSlice, BitSliceMut};
+    pub use bitvec_slice::{BitSlice, BitSliceMut, Sealed, ViewMut};
 }
 
 /// Items of `bitvec_store` that crates above use.
@@ -41,8 +41,9 @@ pub mod store {
 pub mod elements {
     pub use crate::slices::{load_be_in, load_le_in, store_be_in, store_le_in};
     pub use bitvec_slice::elements::{
-        combine_in, copy_from_in, count_in, fill_in, find_first_in, find_last_in, invert_in,
-        replace_in, set_in, swap_in,
+        all_in, any_in, combine_in, compare_in, copy_from_in, count_in, ends_with_in, eq_in,
+        fill_in, fill_with_in, find_first_in, find_last_in, for_each_in, invert_in, replace_in,
+        set_in, starts_with_in, swap_in, swap_with_in,
     };
 }
 

@@ -1,1 +1,2 @@
+pub mod Refilled
 pub mod Windows

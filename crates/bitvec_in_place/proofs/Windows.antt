@@ -1,5 +1,5 @@
 -- What is written into a window of a memory's bits, by the words on ranges and on whole lists.
-use Rattle.std.specs.Prelude.{◌≡◌, ℕ, ◌+◌, ◌-◌, ◌≤◌, Bool, List, length, slice_index_or, slice_range, slice_set, map, not}
+use Rattle.std.specs.Prelude.{◌≡◌, ℕ, ◌+◌, ◌-◌, ◌*◌, ◌≤◌, Bool, false, List, length, slice_index_or, slice_range, slice_set, map, not}
 use Rattle.std.specs.List.{swap}
 use Rattle.std.proofs.Common.{arith, sym, ◌∙◌, ap}
 use Rattle.std.proofs.lemmas.List.{length-set}
@@ -7,13 +7,18 @@ use Rattle.std.proofs.lemmas.List.Edits.{length-swap}
 use Rattle.bitvec_within.specs.Combined.{combined_within}
 use Rattle.bitvec_within.specs.CombinedLaws.{length-combined_within}
 use Rattle.bitvec_field.specs.base.Lists.{combined, copied_within}
+use Rattle.bitvec_field.specs.base.CountLaws.{ones_and_zeros}
+use Rattle.bitvec_field.specs.base.LeadingLaws.{first_run, last_run}
+use Rattle.bitvec_field.specs.base.Memory.{Writes, memory_bits}
 use Rattle.bitvec_field.specs.base.SliceLaws.{range-all}
 use Rattle.bitvec_field.specs.base.Window.{window_of, write_at}
-use Rattle.bitvec_field.specs.base.WriteLaws.{write_at-all}
+use Rattle.bitvec_field.specs.base.WriteLaws.{length-slice_range, range-write_at, write_at-all}
+use Rattle.bitvec_field.specs.base.declared.window.Window.{Window}
 use Rattle.bitvec_field.specs.segments.Segments.{loaded, stored}
 use Rattle.bitvec_within.specs.Swaps.{swapped_within}
-use Rattle.bitvec_in_place.specs.MovedLaws.{length-bits_of, length-copied, length-swapped}
-use Rattle.bitvec_in_place.specs.Ranges.{edited, flipped, joined, number_in, numbered}
+use Rattle.bitvec_in_place.specs.MovedLaws.{get-put_outside, length-bits_of, length-copied, length-put, length-swapped}
+use Rattle.bitvec_in_place.specs.RangeBitsLaws.{length-bits_in}
+use Rattle.bitvec_in_place.specs.Ranges.{ChangesOnly, bits_in, edited, flipped, joined, number_in, numbered}
 use Rattle.bitvec_in_place.specs.RangesLaws.{filled-write}
 
 -- ---- the window of a range
@@ -21,6 +26,10 @@ use Rattle.bitvec_in_place.specs.RangesLaws.{filled-write}
 pub window_range : (bits : List Bool) (from to : ℕ) → from ≤ to → window_of bits (record { start = from; len = to - from }) ≡ slice_range bits from to
 unfolding window_of
 window_range bits from to order = let end : from + (to - from) ≡ to = omega arith in ap (slice_range bits from) end
+
+pub bits-is : (bits : List Bool) (from to : ℕ) → from ≤ to → bits_in bits from to ≡ window_of bits (record { start = from; len = to - from })
+unfolding bits_in
+bits-is bits from to order = sym (window_range bits from to order)
 
 pub flipped-is : (list : List Bool) (from to : ℕ) → from ≤ to → flipped list from to ≡ write_at list from (map not (window_of list (record { start = from; len = to - from })))
 unfolding flipped
@@ -67,6 +76,48 @@ module _ (bits : List Bool) (n : ℕ) (all : n ≡ length bits) where
   pub whole-combine : (f : Bool → Bool → Bool) (from to dest : ℕ) → from ≤ to → to ≤ n → dest + (to - from) ≤ n → write_at bits 0 (combined_within f from to dest (window_of bits (record { start = 0; len = n }))) ≡ combined_within f from to dest bits
   whole-combine f from to dest order source room = ap (λ (list : List Bool). write_at bits 0 (combined_within f from to dest list)) window_all ∙ write_at-all bits (combined_within f from to dest bits) (length-combined_within f from to dest bits order (omega arith))
 
-pub ruleset ranges = (arith, filled-write, flipped-is, edited-is, joined-is, number-is, numbered-is)
+-- ---- a window that is a range
+
+pub window_is : (bits : List Bool) (window : Window) (from to : ℕ) → window ≡ record { start = from; len = to - from } → from ≤ to → window_of bits window ≡ bits_in bits from to
+window_is bits window from to is order = ap (λ (w : Window). window_of bits w) is ∙ sym (bits-is bits from to order)
+
+pub length-window_range : (bits : List Bool) (from to : ℕ) → from ≤ to → to ≤ length bits → length (window_of bits (record { start = from; len = to - from })) ≡ to - from
+length-window_range bits from to order inside = ap (λ (l : List Bool). length l) (window_range bits from to order) ∙ length-slice_range bits from to inside
+
+module _ {T : Type 0} (b : ℕ) (at : ℕ → ℕ → ℕ) (value : T → ℕ) (old new : List T) (window : Window) (from to : ℕ) (list : List Bool)
+    (is : window ≡ record { start = from; len = to - from }) (order : from ≤ to) (inside : to ≤ b * length old) (wrote : Writes b at (map value old) (map value new) window list) where
+  was : List Bool
+  was = memory_bits b at (map value old)
+
+  size : length list ≡ to - from
+  size = wrote.long ∙ ap (λ (w : Window). w.len) is
+
+  now : memory_bits b at (map value new) ≡ write_at was from list
+  unfolding was
+  now = wrote.bits ∙ ap (λ (w : Window). write_at (memory_bits b at (map value old)) w.start list) is
+
+  -- the range has what was written, and no bit outside it changed
+  pub written_range : bits_in (memory_bits b at (map value new)) from to ≡ list
+  unfolding bits_in was
+  written_range =
+      let whole = length-bits_of b at value old in
+      let long = size in
+      let end : to ≡ from + length list = omega arith in
+      ap (λ (m : List Bool). bits_in m from to) now ∙ ap (λ (e : ℕ). slice_range (write_at was from list) from e) end ∙ range-write_at was from list (omega arith)
+
+  pub written_outside : ChangesOnly from to (memory_bits b at (map value old)) (memory_bits b at (map value new))
+  unfolding was
+  written_outside =
+      let whole = length-bits_of b at value old in
+      record {
+        length = ap (λ (m : List Bool). length m) now ∙ length-put was from to list order (omega arith) size;
+        bits = λ k apart. ap (λ (m : List Bool). slice_index_or m k false) now ∙ get-put_outside was from to list order (omega arith) size k false apart;
+      }
+
+pub ruleset ranges = (arith, bits-is, filled-write, flipped-is, edited-is, joined-is, number-is, numbered-is)
 
 pub ruleset wholes = (arith, length-bits_of, whole-set, whole-get, whole-swap, whole-copy, whole-exchange, whole-combine)
+
+pub ruleset counts = (arith, ones_and_zeros, length-bits_in, length-bits_of)
+
+pub ruleset ends = (arith, bits-is, length-window_range, length-bits_of, first_run, last_run)

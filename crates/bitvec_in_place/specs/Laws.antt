@@ -8,6 +8,8 @@ use Rattle.bitvec_field.specs.base.MemoryLaws.{length-memory_bits}
 use Rattle.bitvec_field.specs.base.WriteLaws.{get-write_at_above, get-write_at_below, get-write_at_inside, length-write_at}
 use Rattle.bitvec_in_place.specs.RangesLaws.{get-filled_inside, get-filled_outside, get-flipped_inside, get-flipped_outside, get-joined_inside, get-joined_outside, get-moved_end_kept, get-moved_end_outside, get-moved_end_zero, get-moved_start_kept, get-moved_start_outside, get-moved_start_zero, get-numbered_outside, get-reversed_inside, get-reversed_outside, get-rotated_left_far, get-rotated_left_near, get-rotated_left_outside, get-rotated_right_far, get-rotated_right_near, get-rotated_right_outside, length-filled, length-flipped, length-joined, length-moved_end, length-moved_start, length-numbered, length-reversed, length-rotated_left, length-rotated_right, number-beside, number-filled, number-flipped, number-joined, number-moved_end, number-moved_start, number-reversed, number-rotated_left, number-rotated_right}
 use Rattle.bitvec_in_place.specs.MovedLaws.{length-bits_of, get-copied_inside, get-copied_outside, get-flip, get-rotated_left_early, get-rotated_left_late, get-rotated_right_early, get-rotated_right_late, get-shifted_end_kept, get-shifted_end_zero, get-shifted_start_kept, get-shifted_start_zero, get-swap_first, get-swap_other, get-swap_second, get-swapped_back, get-swapped_front, get-swapped_outside, get-zero, get-zeros, length-copied, length-rotation_left, length-rotation_right, length-shift_end, length-shift_start, length-swapped}
+use Rattle.bitvec_in_place.specs.NumberPartsLaws.{get-numbered_inside, number-cleared, number-combined, number-copied_to, number-filled_up, number-other_end, number-part, number-swapped, number-swapped_from, number-swapped_to}
+use Rattle.bitvec_in_place.specs.RangeBitsLaws.{all-in_filled, any-in_cleared, bits-combined, bits-copied, bits-filled, bits-flipped, bits-joined, bits-moved_end, bits-moved_start, bits-numbered, bits-reversed, bits-rotated_left, bits-rotated_right, bits-set, bits-swap, bits-swapped, bits-written, first-in_filled, first-in_other, get-bits_in, last-in_other, length-bits_in, ones-in_cleared, ones-in_filled, zeros-in_cleared, zeros-in_filled}
 use Rattle.bitvec_in_place.specs.NumbersLaws.{length-part, loaded-part_below, number-below, number-copied, number-numbered, number-set, number-stored, number-swap, number-written}
 
 -- edits keep lengths, those of whole lists and those of ranges; and the length of a memory's bits
@@ -17,7 +19,13 @@ pub ruleset lengths = (length-memory_bits, length-bits_of, length-set, length-sw
 pub ruleset listed = (get_or-set_at, get_or-set_other, get-write_at_below, get-write_at_inside, get-write_at_above, get_or-replicate, get_or-reverse, get-combined, get-flip, get-rotated_left_early, get-rotated_left_late, get-rotated_right_early, get-rotated_right_late, get-shifted_start_kept, get-shifted_start_zero, get-shifted_end_zero, get-shifted_end_kept, get-copied_inside, get-copied_outside, get-combined_within_below, get-combined_within_inside, get-combined_within_above, get-swap_first, get-swap_second, get-swap_other, get-swapped_back, get-swapped_front, get-swapped_outside, get-zero, get-zeros)
 
 -- each bit after edits of ranges
-pub ruleset ranged = (get-filled_outside, get-filled_inside, get-flipped_outside, get-flipped_inside, get-reversed_outside, get-reversed_inside, get-rotated_left_outside, get-rotated_left_near, get-rotated_left_far, get-rotated_right_outside, get-rotated_right_near, get-rotated_right_far, get-moved_start_outside, get-moved_start_kept, get-moved_start_zero, get-moved_end_outside, get-moved_end_zero, get-moved_end_kept, get-joined_outside, get-joined_inside, get-numbered_outside)
+pub ruleset ranged = (get-filled_outside, get-filled_inside, get-flipped_outside, get-flipped_inside, get-reversed_outside, get-reversed_inside, get-rotated_left_outside, get-rotated_left_near, get-rotated_left_far, get-rotated_right_outside, get-rotated_right_near, get-rotated_right_far, get-moved_start_outside, get-moved_start_kept, get-moved_start_zero, get-moved_end_outside, get-moved_end_zero, get-moved_end_kept, get-joined_outside, get-joined_inside, get-numbered_outside, get-numbered_inside)
 
 -- the number of a range: stored there, beside an edit, and its bound
-pub ruleset numbers = (number-stored, number-below, number-numbered, number-set, number-swap, number-written, number-copied, loaded-part_below, number-filled, number-flipped, number-reversed, number-rotated_left, number-rotated_right, number-moved_start, number-moved_end, number-joined, number-beside)
+pub ruleset numbers = (number-stored, number-below, number-numbered, number-set, number-swap, number-written, number-copied, loaded-part_below, number-filled, number-flipped, number-reversed, number-rotated_left, number-rotated_right, number-moved_start, number-moved_end, number-joined, number-beside, number-swapped, number-combined)
+
+-- a stored number by its parts and from the other end, the number of a filled range, and one that was moved
+pub ruleset parts = (number-part, number-other_end, number-cleared, number-filled_up, number-copied_to, number-swapped_to, number-swapped_from)
+
+-- the bits of a range, of which questions are asked: each, how many, beside an edit, and where it was filled
+pub ruleset asked = (length-bits_in, get-bits_in, bits-filled, bits-flipped, bits-reversed, bits-rotated_left, bits-rotated_right, bits-moved_start, bits-moved_end, bits-joined, bits-numbered, bits-set, bits-swap, bits-written, bits-copied, bits-swapped, bits-combined, ones-in_filled, ones-in_cleared, zeros-in_filled, zeros-in_cleared, first-in_filled, first-in_other, last-in_other, all-in_filled, any-in_cleared)

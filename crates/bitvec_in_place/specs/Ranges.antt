@@ -6,10 +6,14 @@ use Rattle.bitvec_field.specs.base.Window.{max_bits, write_at}
 use Rattle.bitvec_field.specs.segments.Segments.{loaded, stored}
 
 -- `count` elements of b bits have at most `max_bits`, and the range lies in them
-pub record HasRange (b count from to : ℕ) : Type 0 where
+pub record HasBits (b count from to : ℕ) : Type 0 where
   pub fits : b * count ≤ max_bits
   pub order : from ≤ to
   pub inside : to ≤ b * count
+
+-- the range's bits
+unfoldable pub bits_in : List Bool → ℕ → ℕ → List Bool
+bits_in list from to = slice_range list from to
 
 -- the range's bits all `bit`; flipped; and what `edit` makes of them, as `reverse` or `rotated_left 3`
 unfoldable pub filled : List Bool → ℕ → ℕ → Bool → List Bool
@@ -33,6 +37,6 @@ unfoldable pub numbered : Bool → Bool → ℕ → List Bool → ℕ → ℕ �
 numbered big high b list from to v = write_at list from (stored big high b from v (slice_range list from to))
 
 -- no bit outside the range changed
-pub record KeepsOutside (from to : ℕ) (old new : List Bool) : Type 0 where
+pub record ChangesOnly (from to : ℕ) (old new : List Bool) : Type 0 where
   pub length : length new ≡ length old
   pub bits : (k : ℕ) → (k < from) ⊎ (to ≤ k) → slice_index_or new k false ≡ slice_index_or old k false

@@ -1,11 +1,10 @@
 //! Single bits.
 #![tactic(auto, using(crate::proofs::Windows::wholes))]
 
-ghost use Rattle.std.specs.Prelude.{◌≡◌, ◌+◌, ◌*◌, ◌<◌, ◌≤◌, false, length, map, slice_index_or, slice_set};
+ghost use Rattle.std.specs.Prelude.{◌≡◌, ◌+◌, false, length, map, slice_index_or, slice_set};
 ghost use Rattle.std.specs.List.{swap as swapped};
 ghost use Rattle.bitvec_field.specs.base.Memory.{memory_bits};
-ghost use Rattle.bitvec_field.specs.base.Window.{max_bits};
-ghost use Rattle.bitvec_in_place.specs.Ranges.{HasRange};
+ghost use Rattle.bitvec_in_place.specs.Ranges.{HasBits};
 
 use crate::spans::whole;
 use bitvec_field::elements::{replace_in, set_in, swap_in};
@@ -20,8 +19,7 @@ use bitvec_field::store::BitStore;
 /// in_place::get::<u8, Lsb0>(&bytes, place)
 /// ```
 pub fn get<T: BitStore, O: SliceOrder>(elements: &[T], index: usize) -> bool
-    requires fits { T.BITS * length elements.now ≤ max_bits }
-    requires inside { index < T.BITS * length elements.now }
+    requires range { HasBits T.BITS (length elements.now) index (index + 1) }
     ensures { result ≡ slice_index_or (memory_bits T.BITS O.at (map T.value elements.now)) index false }
 {
     BitSlice::<T, O>::from_slice(elements)[index]
@@ -34,8 +32,7 @@ pub fn get<T: BitStore, O: SliceOrder>(elements: &[T], index: usize) -> bool
 /// in_place::set::<u8, Lsb0>(&mut bytes, 3, true);
 /// ```
 pub fn set<T: BitStore, O: SliceOrder>(elements: &mut [T], index: usize, bit: bool)
-    requires fits { T.BITS * length elements.old ≤ max_bits }
-    requires inside { index < T.BITS * length elements.old }
+    requires range { HasBits T.BITS (length elements.old) index (index + 1) }
     ensures bits { memory_bits T.BITS O.at (map T.value elements.new) ≡ slice_set (memory_bits T.BITS O.at (map T.value elements.old)) index bit }
     ensures len { length elements.new ≡ length elements.old }
 {
@@ -45,7 +42,7 @@ pub fn set<T: BitStore, O: SliceOrder>(elements: &mut [T], index: usize, bit: bo
 
 /// Makes the bit at an index `bit`, and gives the old one. Condition: as for [`get`].
 pub fn replace<T: BitStore, O: SliceOrder>(elements: &mut [T], index: usize, bit: bool) -> bool
-    requires range { HasRange T.BITS (length elements.old) index (index + 1) }
+    requires range { HasBits T.BITS (length elements.old) index (index + 1) }
     ensures value { result ≡ slice_index_or (memory_bits T.BITS O.at (map T.value elements.old)) index false }
     ensures bits { memory_bits T.BITS O.at (map T.value elements.new) ≡ slice_set (memory_bits T.BITS O.at (map T.value elements.old)) index bit }
     ensures len { length elements.new ≡ length elements.old }
@@ -56,8 +53,8 @@ pub fn replace<T: BitStore, O: SliceOrder>(elements: &mut [T], index: usize, bit
 
 /// Exchanges the bits at two indices, which may be one. Condition: as for [`get`], of both.
 pub fn swap<T: BitStore, O: SliceOrder>(elements: &mut [T], first: usize, second: usize)
-    requires first { HasRange T.BITS (length elements.old) first (first + 1) }
-    requires second { HasRange T.BITS (length elements.old) second (second + 1) }
+    requires first { HasBits T.BITS (length elements.old) first (first + 1) }
+    requires second { HasBits T.BITS (length elements.old) second (second + 1) }
     ensures bits { memory_bits T.BITS O.at (map T.value elements.new) ≡ swapped (memory_bits T.BITS O.at (map T.value elements.old)) first second }
     ensures len { length elements.new ≡ length elements.old }
 {

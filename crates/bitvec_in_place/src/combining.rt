@@ -7,7 +7,7 @@ ghost use Rattle.bitvec_field.specs.base.Window.{write_at};
 ghost use Rattle.bitvec_field.specs.slice.Views.{seen};
 ghost use Rattle.bitvec_field.specs.words.Operator.{operator};
 ghost use Rattle.bitvec_field.specs.words.declared.operator.BitOp.TheVariants.{And, Or, Xor};
-ghost use Rattle.bitvec_in_place.specs.Ranges.{HasRange, joined};
+ghost use Rattle.bitvec_in_place.specs.Ranges.{HasBits, joined};
 
 use crate::spans::span;
 use bitvec_field::base::BitOrder;
@@ -24,7 +24,7 @@ pub fn copy_from<T: BitStore, O: SliceOrder, U: BitStore, P: BitOrder>(
     range: Range<usize>,
     source: BitSlice<'_, U, P>,
 )
-    requires range { HasRange T.BITS (length elements.old) range.start range.end }
+    requires range { HasBits T.BITS (length elements.old) range.start range.end }
     requires long { (seen source).window.len ≡ range.end - range.start }
     ensures bits { memory_bits T.BITS O.at (map T.value elements.new) ≡ write_at (memory_bits T.BITS O.at (map T.value elements.old)) range.start (seen source.entry).bits }
     ensures len { length elements.new ≡ length elements.old }
@@ -40,7 +40,7 @@ pub fn and_bits<T: BitStore, O: SliceOrder, U: BitStore, P: BitOrder>(
     range: Range<usize>,
     source: BitSlice<'_, U, P>,
 )
-    requires range { HasRange T.BITS (length elements.old) range.start range.end }
+    requires range { HasBits T.BITS (length elements.old) range.start range.end }
     ensures bits { memory_bits T.BITS O.at (map T.value elements.new) ≡ joined (operator And) (memory_bits T.BITS O.at (map T.value elements.old)) range.start range.end (seen source.entry).bits }
     ensures len { length elements.new ≡ length elements.old }
 {
@@ -55,7 +55,7 @@ pub fn or_bits<T: BitStore, O: SliceOrder, U: BitStore, P: BitOrder>(
     range: Range<usize>,
     source: BitSlice<'_, U, P>,
 )
-    requires range { HasRange T.BITS (length elements.old) range.start range.end }
+    requires range { HasBits T.BITS (length elements.old) range.start range.end }
     ensures bits { memory_bits T.BITS O.at (map T.value elements.new) ≡ joined (operator Or) (memory_bits T.BITS O.at (map T.value elements.old)) range.start range.end (seen source.entry).bits }
     ensures len { length elements.new ≡ length elements.old }
 {
@@ -70,7 +70,7 @@ pub fn xor_bits<T: BitStore, O: SliceOrder, U: BitStore, P: BitOrder>(
     range: Range<usize>,
     source: BitSlice<'_, U, P>,
 )
-    requires range { HasRange T.BITS (length elements.old) range.start range.end }
+    requires range { HasBits T.BITS (length elements.old) range.start range.end }
     ensures bits { memory_bits T.BITS O.at (map T.value elements.new) ≡ joined (operator Xor) (memory_bits T.BITS O.at (map T.value elements.old)) range.start range.end (seen source.entry).bits }
     ensures len { length elements.new ≡ length elements.old }
 {

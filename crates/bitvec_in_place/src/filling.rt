@@ -3,7 +3,7 @@
 
 ghost use Rattle.std.specs.Prelude.{◌≡◌, length, map};
 ghost use Rattle.bitvec_field.specs.base.Memory.{memory_bits};
-ghost use Rattle.bitvec_in_place.specs.Ranges.{HasRange, filled, flipped};
+ghost use Rattle.bitvec_in_place.specs.Ranges.{HasBits, filled, flipped};
 
 use crate::spans::span;
 use bitvec_field::elements::{fill_in, invert_in};
@@ -18,7 +18,7 @@ use std::ops::Range;
 /// in_place::fill::<u8, Lsb0>(&mut bytes, 20..40, true);
 /// ```
 pub fn fill<T: BitStore, O: SliceOrder>(elements: &mut [T], range: Range<usize>, bit: bool)
-    requires range { HasRange T.BITS (length elements.old) range.start range.end }
+    requires range { HasBits T.BITS (length elements.old) range.start range.end }
     ensures bits { memory_bits T.BITS O.at (map T.value elements.new) ≡ filled (memory_bits T.BITS O.at (map T.value elements.old)) range.start range.end bit }
     ensures len { length elements.new ≡ length elements.old }
 {
@@ -31,7 +31,7 @@ pub fn fill<T: BitStore, O: SliceOrder>(elements: &mut [T], range: Range<usize>,
 /// in_place::invert::<u8, Lsb0>(&mut bytes, 30..50);
 /// ```
 pub fn invert<T: BitStore, O: SliceOrder>(elements: &mut [T], range: Range<usize>)
-    requires range { HasRange T.BITS (length elements.old) range.start range.end }
+    requires range { HasBits T.BITS (length elements.old) range.start range.end }
     ensures bits { memory_bits T.BITS O.at (map T.value elements.new) ≡ flipped (memory_bits T.BITS O.at (map T.value elements.old)) range.start range.end }
     ensures len { length elements.new ≡ length elements.old }
 {

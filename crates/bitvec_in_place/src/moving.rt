@@ -1,11 +1,10 @@
 //! The bits of a range moved: reversed, rotated, shifted; and those of a range copied to another place or exchanged.
 #![tactic(auto, using(crate::proofs::Windows::ranges))]
 
-ghost use Rattle.std.specs.Prelude.{◌≡◌, ◌-◌, ◌*◌, ◌≤◌, length, map, reverse as reversal};
-ghost use Rattle.bitvec_field.specs.base.Lists.{FitsWithin, copied_within, rotated_left, rotated_right, shifted_end, shifted_start};
+ghost use Rattle.std.specs.Prelude.{◌≡◌, ◌-◌, ◌≤◌, length, map, reverse as reversal};
+ghost use Rattle.bitvec_field.specs.base.Lists.{copied_within, rotated_left, rotated_right, shifted_end, shifted_start};
 ghost use Rattle.bitvec_field.specs.base.Memory.{memory_bits};
-ghost use Rattle.bitvec_field.specs.base.Window.{max_bits};
-ghost use Rattle.bitvec_in_place.specs.Ranges.{HasRange, edited};
+ghost use Rattle.bitvec_in_place.specs.Ranges.{HasBits, edited};
 ghost use Rattle.bitvec_in_place.specs.Rooms.{HasRoom};
 ghost use Rattle.bitvec_within.specs.Swaps.{LieApart, swapped_within};
 
@@ -21,7 +20,7 @@ use std::ops::Range;
 /// Puts the bits of a range in the opposite order. Condition: the slice has at most `MAX_BITS` bits, and the range
 /// lies in them.
 pub fn reverse<T: BitStore, O: SliceOrder>(elements: &mut [T], range: Range<usize>)
-    requires range { HasRange T.BITS (length elements.old) range.start range.end }
+    requires range { HasBits T.BITS (length elements.old) range.start range.end }
     ensures bits { memory_bits T.BITS O.at (map T.value elements.new) ≡ edited reversal (memory_bits T.BITS O.at (map T.value elements.old)) range.start range.end }
     ensures len { length elements.new ≡ length elements.old }
 {
@@ -35,7 +34,7 @@ pub fn reverse<T: BitStore, O: SliceOrder>(elements: &mut [T], range: Range<usiz
 /// in_place::rotate_left::<u8, Lsb0>(&mut bytes, 40..60, 3);
 /// ```
 pub fn rotate_left<T: BitStore, O: SliceOrder>(elements: &mut [T], range: Range<usize>, by: usize)
-    requires range { HasRange T.BITS (length elements.old) range.start range.end }
+    requires range { HasBits T.BITS (length elements.old) range.start range.end }
     requires bound { by ≤ range.end - range.start }
     ensures bits { memory_bits T.BITS O.at (map T.value elements.new) ≡ edited (rotated_left by) (memory_bits T.BITS O.at (map T.value elements.old)) range.start range.end }
     ensures len { length elements.new ≡ length elements.old }
@@ -45,7 +44,7 @@ pub fn rotate_left<T: BitStore, O: SliceOrder>(elements: &mut [T], range: Range<
 
 /// Rotates the bits of a range so that its last `by` come first. Condition: as for [`rotate_left`].
 pub fn rotate_right<T: BitStore, O: SliceOrder>(elements: &mut [T], range: Range<usize>, by: usize)
-    requires range { HasRange T.BITS (length elements.old) range.start range.end }
+    requires range { HasBits T.BITS (length elements.old) range.start range.end }
     requires bound { by ≤ range.end - range.start }
     ensures bits { memory_bits T.BITS O.at (map T.value elements.new) ≡ edited (rotated_right by) (memory_bits T.BITS O.at (map T.value elements.old)) range.start range.end }
     ensures len { length elements.new ≡ length elements.old }
@@ -56,7 +55,7 @@ pub fn rotate_right<T: BitStore, O: SliceOrder>(elements: &mut [T], range: Range
 /// Shifts the bits of a range by `by` places towards its start: the first `by` are lost, and as many zeros follow the
 /// others. Condition: as for [`rotate_left`].
 pub fn shift_start<T: BitStore, O: SliceOrder>(elements: &mut [T], range: Range<usize>, by: usize)
-    requires range { HasRange T.BITS (length elements.old) range.start range.end }
+    requires range { HasBits T.BITS (length elements.old) range.start range.end }
     requires bound { by ≤ range.end - range.start }
     ensures bits { memory_bits T.BITS O.at (map T.value elements.new) ≡ edited (shifted_start by) (memory_bits T.BITS O.at (map T.value elements.old)) range.start range.end }
     ensures len { length elements.new ≡ length elements.old }
@@ -67,7 +66,7 @@ pub fn shift_start<T: BitStore, O: SliceOrder>(elements: &mut [T], range: Range<
 /// Shifts the bits of a range by `by` places towards its end: the last `by` are lost, and as many zeros stand before the
 /// others. Condition: as for [`rotate_left`].
 pub fn shift_end<T: BitStore, O: SliceOrder>(elements: &mut [T], range: Range<usize>, by: usize)
-    requires range { HasRange T.BITS (length elements.old) range.start range.end }
+    requires range { HasBits T.BITS (length elements.old) range.start range.end }
     requires bound { by ≤ range.end - range.start }
     ensures bits { memory_bits T.BITS O.at (map T.value elements.new) ≡ edited (shifted_end by) (memory_bits T.BITS O.at (map T.value elements.old)) range.start range.end }
     ensures len { length elements.new ≡ length elements.old }
@@ -79,8 +78,7 @@ pub fn shift_end<T: BitStore, O: SliceOrder>(elements: &mut [T], range: Range<us
 /// `start <= end`, and both the bits read and those written are among them.
 #[tactic(auto, using(crate::proofs::Windows::wholes))]
 pub fn copy_within<T: BitStore, O: SliceOrder>(elements: &mut [T], src: Range<usize>, dest: usize)
-    requires bound { T.BITS * length elements.old ≤ max_bits }
-    requires fits { FitsWithin src.start src.end dest (T.BITS * length elements.old) }
+    requires room { HasRoom T.BITS (length elements.old) src.start src.end dest }
     ensures bits { memory_bits T.BITS O.at (map T.value elements.new) ≡ copied_within src.start src.end dest (memory_bits T.BITS O.at (map T.value elements.old)) }
     ensures len { length elements.new ≡ length elements.old }
 {

@@ -4,7 +4,7 @@
 ghost use Rattle.std.specs.Prelude.{◌≡◌, ◌+◌, ◌-◌, ◌<◌, ◌≤◌, false, length, map, true};
 ghost use Rattle.bitvec_field.specs.Integers.{integer_of, remainder_of};
 ghost use Rattle.bitvec_field.specs.base.Memory.{memory_bits};
-ghost use Rattle.bitvec_in_place.specs.Ranges.{HasRange, number_in, numbered};
+ghost use Rattle.bitvec_in_place.specs.Ranges.{HasBits, number_in, numbered};
 
 use crate::spans::span;
 use bitvec_field::elements::{load_be_in, load_le_in, store_be_in, store_le_in};
@@ -15,7 +15,7 @@ use std::ops::Range;
 /// The integer of a range's bits, the first segment lowest. Condition: the slice has at most `MAX_BITS` bits, the range
 /// lies in them, and has from 1 to `I::BITS` bits.
 pub fn load_le<T: BitStore, O: FieldOrder, I: Integral>(elements: &[T], range: Range<usize>) -> I
-    requires range { HasRange T.BITS (length elements.now) range.start range.end }
+    requires range { HasBits T.BITS (length elements.now) range.start range.end }
     requires some { range.start < range.end }
     requires bound { range.end ≤ range.start + I.BITS }
     ensures { I.value result ≡ integer_of I.SIGNED (range.end - range.start)
@@ -26,7 +26,7 @@ pub fn load_le<T: BitStore, O: FieldOrder, I: Integral>(elements: &[T], range: R
 
 /// The integer of a range's bits, the first segment highest. Condition: as for [`load_le`].
 pub fn load_be<T: BitStore, O: FieldOrder, I: Integral>(elements: &[T], range: Range<usize>) -> I
-    requires range { HasRange T.BITS (length elements.now) range.start range.end }
+    requires range { HasBits T.BITS (length elements.now) range.start range.end }
     requires some { range.start < range.end }
     requires bound { range.end ≤ range.start + I.BITS }
     ensures { I.value result ≡ integer_of I.SIGNED (range.end - range.start)
@@ -46,7 +46,7 @@ pub fn store_le<T: BitStore, O: FieldOrder, I: Integral>(
     range: Range<usize>,
     value: I,
 )
-    requires range { HasRange T.BITS (length elements.old) range.start range.end }
+    requires range { HasBits T.BITS (length elements.old) range.start range.end }
     requires bound { range.end ≤ range.start + I.BITS }
     ensures bits { memory_bits T.BITS O.at (map T.value elements.new) ≡ numbered false O.HIGH T.BITS (memory_bits T.BITS O.at (map T.value elements.old)) range.start range.end (remainder_of I.BITS (I.value value)) }
     ensures len { length elements.new ≡ length elements.old }
@@ -64,7 +64,7 @@ pub fn store_be<T: BitStore, O: FieldOrder, I: Integral>(
     range: Range<usize>,
     value: I,
 )
-    requires range { HasRange T.BITS (length elements.old) range.start range.end }
+    requires range { HasBits T.BITS (length elements.old) range.start range.end }
     requires bound { range.end ≤ range.start + I.BITS }
     ensures bits { memory_bits T.BITS O.at (map T.value elements.new) ≡ numbered true O.HIGH T.BITS (memory_bits T.BITS O.at (map T.value elements.old)) range.start range.end (remainder_of I.BITS (I.value value)) }
     ensures len { length elements.new ≡ length elements.old }

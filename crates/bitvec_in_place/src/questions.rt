@@ -1,8 +1,10 @@
 //! Questions about a range of bits: how many are 1, and where the first or the last 1 or 0 is.
-ghost use Rattle.std.specs.Prelude.{◌≡◌, ◌-◌, count_by, false, length, map, true};
+#![tactic(auto, using(crate::proofs::Windows::ranges))]
+
+ghost use Rattle.std.specs.Prelude.{◌≡◌, count_by, false, length, map, not, true};
 ghost use Rattle.bitvec_field.specs.base.Lists.{first_place, last_place};
-ghost use Rattle.bitvec_field.specs.base.Memory.{list_in};
-ghost use Rattle.bitvec_in_place.specs.Ranges.{HasRange};
+ghost use Rattle.bitvec_field.specs.base.Memory.{memory_bits};
+ghost use Rattle.bitvec_in_place.specs.Ranges.{HasBits, bits_in};
 
 use crate::spans::span;
 use bitvec_field::elements::{count_in, find_first_in, find_last_in};
@@ -12,40 +14,50 @@ use std::ops::Range;
 
 /// How many bits of a range are 1. Condition: the slice has at most `MAX_BITS` bits, and the range lies in them.
 pub fn count_ones<T: BitStore, O: SliceOrder>(elements: &[T], range: Range<usize>) -> usize
-    requires range { HasRange T.BITS (length elements.now) range.start range.end }
-    ensures { result ≡ count_by (λ bit. bit) (list_in T.BITS O.at (map T.value elements.now) (record { start = range.start; len = range.end - range.start })) }
+    requires range { HasBits T.BITS (length elements.now) range.start range.end }
+    ensures { result ≡ count_by (λ bit. bit) (bits_in (memory_bits T.BITS O.at (map T.value elements.now)) range.start range.end) }
 {
     count_in::<T, O>(elements, span(range))
 }
 
+/// How many bits of a range are 0. Condition: as for [`count_ones`].
+#[tactic(auto, using(crate::proofs::Windows::counts))]
+pub fn count_zeros<T: BitStore, O: SliceOrder>(elements: &[T], range: Range<usize>) -> usize
+    requires range { HasBits T.BITS (length elements.now) range.start range.end }
+    ensures { result ≡ count_by not (bits_in (memory_bits T.BITS O.at (map T.value elements.now)) range.start range.end) }
+{
+    let len = range.end - range.start;
+    len - count_ones::<T, O>(elements, range)
+}
+
 /// The index in a range of its first 1, if it has one. Condition: as for [`count_ones`].
 pub fn first_one<T: BitStore, O: SliceOrder>(elements: &[T], range: Range<usize>) -> Option<usize>
-    requires range { HasRange T.BITS (length elements.now) range.start range.end }
-    ensures { result ≡ first_place true (list_in T.BITS O.at (map T.value elements.now) (record { start = range.start; len = range.end - range.start })) }
+    requires range { HasBits T.BITS (length elements.now) range.start range.end }
+    ensures { result ≡ first_place true (bits_in (memory_bits T.BITS O.at (map T.value elements.now)) range.start range.end) }
 {
     find_first_in::<T, O>(elements, span(range), true)
 }
 
 /// The index in a range of its last 1, if it has one. Condition: as for [`count_ones`].
 pub fn last_one<T: BitStore, O: SliceOrder>(elements: &[T], range: Range<usize>) -> Option<usize>
-    requires range { HasRange T.BITS (length elements.now) range.start range.end }
-    ensures { result ≡ last_place true (list_in T.BITS O.at (map T.value elements.now) (record { start = range.start; len = range.end - range.start })) }
+    requires range { HasBits T.BITS (length elements.now) range.start range.end }
+    ensures { result ≡ last_place true (bits_in (memory_bits T.BITS O.at (map T.value elements.now)) range.start range.end) }
 {
     find_last_in::<T, O>(elements, span(range), true)
 }
 
 /// The index in a range of its first 0, if it has one. Condition: as for [`count_ones`].
 pub fn first_zero<T: BitStore, O: SliceOrder>(elements: &[T], range: Range<usize>) -> Option<usize>
-    requires range { HasRange T.BITS (length elements.now) range.start range.end }
-    ensures { result ≡ first_place false (list_in T.BITS O.at (map T.value elements.now) (record { start = range.start; len = range.end - range.start })) }
+    requires range { HasBits T.BITS (length elements.now) range.start range.end }
+    ensures { result ≡ first_place false (bits_in (memory_bits T.BITS O.at (map T.value elements.now)) range.start range.end) }
 {
     find_first_in::<T, O>(elements, span(range), false)
 }
 
 /// The index in a range of its last 0, if it has one. Condition: as for [`count_ones`].
 pub fn last_zero<T: BitStore, O: SliceOrder>(elements: &[T], range: Range<usize>) -> Option<usize>
-    requires range { HasRange T.BITS (length elements.now) range.start range.end }
-    ensures { result ≡ last_place false (list_in T.BITS O.at (map T.value elements.now) (record { start = range.start; len = range.end - range.start })) }
+    requires range { HasBits T.BITS (length elements.now) range.start range.end }
+    ensures { result ≡ last_place false (bits_in (memory_bits T.BITS O.at (map T.value elements.now)) range.start range.end) }
 {
     find_last_in::<T, O>(elements, span(range), false)
 }

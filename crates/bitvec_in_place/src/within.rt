@@ -1,10 +1,9 @@
 //! One range of a slice's bits combined with another range of them.
 #![tactic(auto, using(crate::proofs::Windows::wholes))]
 
-ghost use Rattle.std.specs.Prelude.{◌≡◌, ◌*◌, ◌≤◌, length, map};
-ghost use Rattle.bitvec_field.specs.base.Lists.{FitsWithin};
+ghost use Rattle.std.specs.Prelude.{◌≡◌, length, map};
 ghost use Rattle.bitvec_field.specs.base.Memory.{memory_bits};
-ghost use Rattle.bitvec_field.specs.base.Window.{max_bits};
+ghost use Rattle.bitvec_in_place.specs.Rooms.{HasRoom};
 ghost use Rattle.bitvec_field.specs.words.Operator.{operator};
 ghost use Rattle.bitvec_field.specs.words.declared.operator.BitOp.TheVariants.{And, Or, Xor};
 ghost use Rattle.bitvec_within.specs.Combined.{combined_within};
@@ -19,8 +18,7 @@ use std::ops::Range;
 /// call. Condition: the slice has at most `MAX_BITS` bits, `start <= end`, and both the bits read and those written
 /// are among them.
 pub fn and_within<T: BitStore, O: SliceOrder>(elements: &mut [T], src: Range<usize>, dest: usize)
-    requires bound { T.BITS * length elements.old ≤ max_bits }
-    requires fits { FitsWithin src.start src.end dest (T.BITS * length elements.old) }
+    requires room { HasRoom T.BITS (length elements.old) src.start src.end dest }
     ensures bits { memory_bits T.BITS O.at (map T.value elements.new) ≡ combined_within (operator And) src.start src.end dest (memory_bits T.BITS O.at (map T.value elements.old)) }
     ensures len { length elements.new ≡ length elements.old }
 {
@@ -31,8 +29,7 @@ pub fn and_within<T: BitStore, O: SliceOrder>(elements: &mut [T], src: Range<usi
 /// Combines as many bits from `dest` on as a range has with those of the range, by "or", as both stood before the
 /// call. Condition: as for [`and_within`].
 pub fn or_within<T: BitStore, O: SliceOrder>(elements: &mut [T], src: Range<usize>, dest: usize)
-    requires bound { T.BITS * length elements.old ≤ max_bits }
-    requires fits { FitsWithin src.start src.end dest (T.BITS * length elements.old) }
+    requires room { HasRoom T.BITS (length elements.old) src.start src.end dest }
     ensures bits { memory_bits T.BITS O.at (map T.value elements.new) ≡ combined_within (operator Or) src.start src.end dest (memory_bits T.BITS O.at (map T.value elements.old)) }
     ensures len { length elements.new ≡ length elements.old }
 {
@@ -43,8 +40,7 @@ pub fn or_within<T: BitStore, O: SliceOrder>(elements: &mut [T], src: Range<usiz
 /// Combines as many bits from `dest` on as a range has with those of the range, by "xor", as both stood before the
 /// call. Condition: as for [`and_within`].
 pub fn xor_within<T: BitStore, O: SliceOrder>(elements: &mut [T], src: Range<usize>, dest: usize)
-    requires bound { T.BITS * length elements.old ≤ max_bits }
-    requires fits { FitsWithin src.start src.end dest (T.BITS * length elements.old) }
+    requires room { HasRoom T.BITS (length elements.old) src.start src.end dest }
     ensures bits { memory_bits T.BITS O.at (map T.value elements.new) ≡ combined_within (operator Xor) src.start src.end dest (memory_bits T.BITS O.at (map T.value elements.old)) }
     ensures len { length elements.new ≡ length elements.old }
 {

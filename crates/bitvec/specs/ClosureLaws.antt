@@ -1,0 +1,13 @@
+-- A closure that may always be called may be called as `fill_with` and `for_each` call it.
+use Rattle.std.specs.Prelude.{ℕ, Bool, List, length, slice_index_or, false}
+use Rattle.std.specs.Fn.{Mut, always_mut}
+use Rattle.bitvec_slice.specs.domain.Asked.{CallableBelow, CallableOnBits}
+use Rattle.bitvec_slice.specs.domain.AskedLaws.{callable-always}
+
+-- on each index below n
+pub callable_below-always : {F : Type 0} (g : Mut F (ℕ × Unit {0}) Bool) (f : F) (n : ℕ) → always_mut g f → CallableBelow g f n
+callable_below-always g f n always = callable-always g (λ i. (i, tt)) f n always
+
+-- on each index of these bits and the bit there
+pub callable_on_bits-always : {F : Type 0} (g : Mut F (ℕ × (Bool × Unit {0})) Bool) (f : F) (old : List Bool) → always_mut g f → CallableOnBits g f old
+callable_on_bits-always g f old always = callable-always g (λ i. (i, (slice_index_or old i false, tt))) f (length old) always

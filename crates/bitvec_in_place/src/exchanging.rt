@@ -1,0 +1,34 @@
+//! The bits of a range exchanged with those of a view of any element type and order.
+#![tactic(auto, using(crate::proofs::Windows::ranges))]
+
+ghost use Rattle.std.specs.Prelude.{◌≡◌, ◌-◌, length, map};
+ghost use Rattle.bitvec_field.specs.base.Memory.{memory_bits};
+ghost use Rattle.bitvec_field.specs.base.Window.{write_at};
+ghost use Rattle.bitvec_field.specs.slice.Views.{seen_mut};
+ghost use Rattle.bitvec_field.specs.slice.Writes.{WritesBits};
+ghost use Rattle.bitvec_in_place.specs.Ranges.{HasBits, bits_in};
+
+use crate::spans::span;
+use bitvec_field::base::BitOrder;
+use bitvec_field::elements::swap_with_in;
+use bitvec_field::engine::SliceOrder;
+use bitvec_field::slice::{BitSliceMut, Sealed, ViewMut};
+use bitvec_field::store::BitStore;
+use std::ops::Range;
+
+/// Exchanges the bits of a range with those of a view. Condition: the slice has at most `MAX_BITS` bits, the range lies in
+/// them, and the view is as long.
+pub fn swap_with<T: BitStore, O: SliceOrder, U: BitStore, P: BitOrder>(
+    elements: &mut [T],
+    range: Range<usize>,
+    other: &mut BitSliceMut<'_, U, P>,
+)
+    requires range { HasBits T.BITS (length elements.old) range.start range.end }
+    requires long { (seen_mut other.old).window.len ≡ range.end - range.start }
+    ensures bits { memory_bits T.BITS O.at (map T.value elements.new) ≡ write_at (memory_bits T.BITS O.at (map T.value elements.old)) range.start (seen_mut other.old).bits }
+    ensures len { length elements.new ≡ length elements.old }
+    ensures other_bits { WritesBits other.old other.new (bits_in (memory_bits T.BITS O.at (map T.value elements.old)) range.start range.end) }
+{
+    let window = other.window();
+    swap_with_in::<T, O, U, P>(elements, span(range), other.elements_mut(Sealed), window);
+}
