@@ -70,15 +70,6 @@ op_row right m LastZero = asks None (λ list. Reply.Index (last_place false list
 op_row right m Any = asks None (λ list. Bit (list_any (λ bit. bit) list)) (scan_cost m)
 op_row right m All = asks None (λ list. Bit (list_all (λ bit. bit) list)) (scan_cost m)
 
--- ---- its entries
+-- why it is refused, if it is
 abbrev pub op_refusal : List Bool → ℕ → Op → Option Refusal
 op_refusal right m op = (op_row right m op).refusal
-
-abbrev pub op_cost : List Bool → ℕ → Op → Place → Cost
-op_cost right m op = (op_row right m op).cost
-
-abbrev pub op_reply : List Bool → List Bool → Op → Reply
-op_reply right list op = (op_row right (length list) op).reply list
-
-abbrev pub op_list : List Bool → List Bool → Op → List Bool
-op_list right list op = (op_row right (length list) op).list list

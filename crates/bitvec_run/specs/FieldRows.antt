@@ -45,12 +45,3 @@ field_step_row high b s right n step =
 
 abbrev pub field_outcome : Bool → ℕ → ℕ → List Bool → ℕ → FieldStep → CommandRow
 field_outcome high b s right n step = outcome (field_step_row high b s right n step)
-
-abbrev pub field_reply : Bool → ℕ → ℕ → List Bool → List Bool → FieldStep → Reply
-field_reply high b s right = row_reply (field_outcome high b s right)
-
-abbrev pub field_list : Bool → ℕ → ℕ → List Bool → List Bool → FieldStep → List Bool
-field_list high b s right = row_list (field_outcome high b s right)
-
-abbrev pub field_cost : Bool → ℕ → ℕ → List Bool → ℕ → Place → FieldStep → Cost
-field_cost high b s right n place step = (field_outcome high b s right n step).cost place

@@ -37,6 +37,13 @@ group (EndsWith window) = Compare
 group (Contains window) = Compare
 group _ = Query
 
+-- it is a Boolean operator
+abbrev pub IsOperator : Op → Type 0
+IsOperator (And window) = ⊤
+IsOperator (Or window) = ⊤
+IsOperator (Xor window) = ⊤
+IsOperator _ = ⊥
+
 -- what a command that isn't refused names in its list of m bits is there
 abbrev pub FitsList : ℕ → Op → Type 0
 FitsList m (Get i) = i < m

@@ -12,6 +12,8 @@ pub mod RanLaws
 pub mod Rows
 pub mod Runs
 pub mod RunsLaws
+pub mod WordRunsLaws
+pub use Rattle.bitvec_engine.specs.WordSteps as WordSteps
 pub use Rattle.bitvec_engine.specs.base as base
 pub use Rattle.bitvec_engine.specs.cells as cells
 pub use Rattle.bitvec_engine.specs.store as store

@@ -1,7 +1,7 @@
 -- When a run is made, and what its steps mean on plain lists of truth values.
 --
 -- `right` is the right list, and `list` the window's, of n bits.
-use Rattle.std.specs.Prelude.{◌≡◌, ℕ, ◌+◌, ◌-◌, ◌*◌, ◌<◌, ◌≤◌, Bool, if◌then◌else◌, List, length}
+use Rattle.std.specs.Prelude.{◌≡◌, ◌↔◌, ℕ, ◌+◌, ◌-◌, ◌*◌, ◌<◌, ◌≤◌, Bool, if◌then◌else◌, List, length, Result, Err, IsOk}
 use Rattle.bitvec_engine.specs.base.declared.window.Window.{Window}
 use Rattle.bitvec_engine.specs.base.Memory.{FitsMaxBits, HasWindow, Writes, list_in}
 use Rattle.bitvec_engine.specs.cells.declared.cells.CellsRead.{Ghosts as Access}
@@ -27,6 +27,12 @@ abbrev pub FailsRun : ℕ → List ℕ → Window → List ℕ → ℕ → RunEr
 FailsRun b xs window ys n error.Window = ¬ HasWindow b xs window
 FailsRun b xs window ys n error.Right = HasWindow b xs window × (¬ FitsMaxBits b ys)
 FailsRun b xs window ys n error.Memory = CanRun b xs window ys × (0 < n)
+
+-- the two errors come exactly where they should, and a run of no steps that can be made is made
+pub record ErrsExactly {A : Type 0} (b : ℕ) (xs : List ℕ) (window : Window) (ys : List ℕ) (n : ℕ) (result : Result A RunError) : Type 0 where
+  pub window_error : (result ≡ Err error.Window) ↔ (¬ HasWindow b xs window)
+  pub right_error : (result ≡ Err error.Right) ↔ (HasWindow b xs window × (¬ FitsMaxBits b ys))
+  pub no_steps : CanRun b xs window ys → n ≡ 0 → IsOk result
 
 -- what steps that are rows, on a list of n bits, may cost together
 abbrev pub run_cost : {S : Type 0} → (ℕ → S → CommandRow) → ℕ → Place → List S → Cost
@@ -68,6 +74,3 @@ step_reply right list step = (step_outcome right (length list) step).reply list
 
 abbrev pub step_list : List Bool → List Bool → Step → List Bool
 step_list right list step = (step_outcome right (length list) step).list list
-
-abbrev pub step_cost : List Bool → ℕ → Place → Step → Cost
-step_cost right n place step = (step_outcome right n step).cost place

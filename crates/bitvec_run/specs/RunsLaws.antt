@@ -11,7 +11,7 @@ use Rattle.bitvec_run.specs.declared.command.Step.{Step}
 use Rattle.bitvec_run.specs.Commands.{op_row, op_refusal}
 use Rattle.bitvec_run.specs.CommandsLaws.{fits_list, fits_right}
 use Rattle.bitvec_run.specs.Rows.{CommandRow, on_range, outcome, range_lies, refused, unless_refused}
-use Rattle.bitvec_run.specs.Runs.{CanRun, FailsRun, StepFits, step_outcome, step_row}
+use Rattle.bitvec_run.specs.Runs.{CanRun, ErrsExactly, FailsRun, StepFits, step_outcome, step_row}
 
 -- what comes of a row, by its refusal
 pub outcome-is : (row : CommandRow) (refusal : Option Refusal) → row.refusal ≡ refusal → outcome row ≡ unless_refused refusal row
@@ -48,22 +48,24 @@ refusal-fits right n step (Some refusal) order bound is = tt
 
 -- where a run is made only if it can be, and else says why it isn't, each error comes exactly where it should
 module _ {A : Type 0} (b : ℕ) (xs : List ℕ) (window : Window) (ys : List ℕ) (n : ℕ) where
-  pub window-error : (result : Result A RunError) → OnOk result (CanRun b xs window ys) → IfErr result (FailsRun b xs window ys n) → (result ≡ Err error.Window) ↔ (¬ HasWindow b xs window)
-  window-error (Ok value) made fails = (λ is. cc, λ none. absurd (none made.has_window))
-  window-error (Err error.Window) made fails = (λ is. fails, λ none. refl)
-  window-error (Err error.Right) made fails = (λ is. cc, λ none. absurd (none fails.0))
-  window-error (Err error.Memory) made fails = (λ is. cc, λ none. absurd (none fails.0.has_window))
-
-  pub right-error : (result : Result A RunError) → OnOk result (CanRun b xs window ys) → IfErr result (FailsRun b xs window ys n)
-      → (result ≡ Err error.Right) ↔ (HasWindow b xs window × (¬ FitsMaxBits b ys))
-  right-error (Ok value) made fails = (λ is. cc, λ wrong. absurd (wrong.1 made.right_fits))
-  right-error (Err error.Window) made fails = (λ is. cc, λ wrong. absurd (fails wrong.0))
-  right-error (Err error.Right) made fails = (λ is. fails, λ wrong. refl)
-  right-error (Err error.Memory) made fails = (λ is. cc, λ wrong. absurd (wrong.1 fails.0.right_fits))
-
-  -- and of no steps a run that can be made is made
-  pub no-steps : (result : Result A RunError) → IfErr result (FailsRun b xs window ys n) → CanRun b xs window ys → n ≡ 0 → IsOk result
-  no-steps (Ok value) fails can none = refl
-  no-steps (Err error.Window) fails can none = absurd (fails can.has_window)
-  no-steps (Err error.Right) fails can none = absurd (fails.1 can.right_fits)
-  no-steps (Err error.Memory) fails can none = absurd (omega (arith, fails.1, none))
+  pub errs-exactly : (result : Result A RunError) → OnOk result (CanRun b xs window ys) → IfErr result (FailsRun b xs window ys n) → ErrsExactly b xs window ys n result
+  errs-exactly (Ok value) made fails = record {
+    window_error = (λ is. cc, λ none. absurd (none made.has_window));
+    right_error = (λ is. cc, λ wrong. absurd (wrong.1 made.right_fits));
+    no_steps = λ can none. refl;
+  }
+  errs-exactly (Err error.Window) made fails = record {
+    window_error = (λ is. fails, λ none. refl);
+    right_error = (λ is. cc, λ wrong. absurd (fails wrong.0));
+    no_steps = λ can none. absurd (fails can.has_window);
+  }
+  errs-exactly (Err error.Right) made fails = record {
+    window_error = (λ is. cc, λ none. absurd (none fails.0));
+    right_error = (λ is. fails, λ wrong. refl);
+    no_steps = λ can none. absurd (fails.1 can.right_fits);
+  }
+  errs-exactly (Err error.Memory) made fails = record {
+    window_error = (λ is. cc, λ none. absurd (none fails.0.has_window));
+    right_error = (λ is. cc, λ wrong. absurd (wrong.1 fails.0.right_fits));
+    no_steps = λ can none. absurd (omega (arith, fails.1, none));
+  }

@@ -2,7 +2,7 @@
 ghost use Rattle.std.specs.Prelude.{◌*◌, ◌<◌, length, IfErr, IfOk, OnErr, OnOk};
 ghost use Rattle.bitvec_engine.specs.base.Memory.{memory_bits};
 ghost use Rattle.bitvec_engine.specs.cells.Access.{OnlyReads};
-ghost use Rattle.bitvec_run.specs.Runs.{CanRun, FailsRun, RunsBy};
+ghost use Rattle.bitvec_run.specs.Runs.{CanRun, ErrsExactly, FailsRun, RunsBy};
 ghost use Rattle.bitvec_run.specs.FieldRows.{field_outcome};
 
 use crate::field_stepping::field_step;
@@ -39,6 +39,7 @@ where
     // When it is made, and when each error comes.
     ensures made { OnOk result (CanRun C.Elem.BITS (C.numbers cells.old) window (D.numbers right.old)) }
     ensures fails { IfErr result (FailsRun C.Elem.BITS (C.numbers cells.old) window (D.numbers right.old) (length steps.now)) }
+    ensures errors { ErrsExactly C.Elem.BITS (C.numbers cells.old) window (D.numbers right.old) (length steps.now) result }
     ensures unchanged { OnErr result (OnlyReads C.CellsRead cells.old cells.new 0 × OnlyReads D.CellsRead right.old right.new 0) }
 {
     if !has_window(cells, window) {

@@ -2,7 +2,7 @@
 ghost use Rattle.std.specs.Prelude.{◌≡◌, ◌*◌, ◌<◌, length, IfErr, IfOk, OnErr, OnOk};
 ghost use Rattle.bitvec_engine.specs.base.Memory.{FitsMaxBits, memory_bits};
 ghost use Rattle.bitvec_engine.specs.cells.Access.{OnlyReads};
-ghost use Rattle.bitvec_run.specs.Runs.{CanRun, FailsRun, RunsBy, step_outcome, whole_window};
+ghost use Rattle.bitvec_run.specs.Runs.{CanRun, ErrsExactly, FailsRun, RunsBy, step_outcome, whole_window};
 
 use crate::step::carry_out;
 use crate::{Reply, RunError, Step};
@@ -43,6 +43,7 @@ where
     // When it is made, and when each error comes.
     ensures made { OnOk result (CanRun C.Elem.BITS (C.numbers cells.old) window (D.numbers right.old)) }
     ensures fails { IfErr result (FailsRun C.Elem.BITS (C.numbers cells.old) window (D.numbers right.old) (length steps.now)) }
+    ensures errors { ErrsExactly C.Elem.BITS (C.numbers cells.old) window (D.numbers right.old) (length steps.now) result }
     ensures unchanged { OnErr result (OnlyReads C.CellsRead cells.old cells.new 0 × OnlyReads D.CellsRead right.old right.new 0) }
 {
     if !has_window(cells, window) {

@@ -1,8 +1,10 @@
-use Rattle.std.proofs.Common.{rules}
+use Rattle.std.proofs.Common.{Err, rules}
 use Rattle.bitvec_engine.specs.base.Memory.{memory_bits}
 use Rattle.bitvec_engine.specs.base.WritesLaws.{HasWindow-kept}
 use Rattle.bitvec_run.specs.Runs.{step_outcome}
 use Rattle.bitvec_run.specs.RanLaws.{HasWindow-whole, RunsBy-all, RunsBy-next, RunsBy-start, list-whole}
+use Rattle.bitvec_run.specs.RunsLaws.{errs-exactly}
+use Rattle.bitvec_run.specs.declared.command.RunError.TheVariants as error
 use Rattle.bitvec_run.proofs.runner.run.Goals as goal
 
 pub loop-next-init : goal.loop-next-init
@@ -27,6 +29,9 @@ loop-next-preserved g c =
 pub whole-source-requires : goal.whole-source-requires
 whole-source-requires g c = c.fits_max_bits.ensures.0 c.if-not-fits_max_bits.false
 
+pub returns-then-not-has_window-clause-errors : goal.returns-then-not-has_window-clause-errors
+returns-then-not-has_window-clause-errors g c = errs-exactly _ _ _ _ _ (Err error.Window) tt (λ has. let none = c.if-not-has_window.ensures.1 has in cc)
+
 pub returns-then-not-fits_max_bits-clause-fails : goal.returns-then-not-fits_max_bits-clause-fails
 returns-then-not-fits_max_bits-clause-fails g c = (c.has_window.ensures.0 c.if-not-has_window.false, λ fits. let none = c.if-not-fits_max_bits.ensures.1 fits in cc)
 
@@ -35,6 +40,7 @@ returns g c = record {
   runs = RunsBy-all g.C.CellsRead g.D.CellsRead _ _ _ _ _ c.args.steps.now _ _ _ _ _ _ c.loop-next-test.false c.loop-next.invariant.ran;
   made = record { has_window = c.has_window.ensures.0 c.if-not-has_window.false; right_fits = c.fits_max_bits.ensures.0 c.if-not-fits_max_bits.false };
   fails = tt;
+  errors = errs-exactly _ _ _ _ _ _ (record { has_window = c.has_window.ensures.0 c.if-not-has_window.false; right_fits = c.fits_max_bits.ensures.0 c.if-not-fits_max_bits.false }) tt;
   unchanged = tt;
 }
 
