@@ -1,13 +1,12 @@
 -- A view of which a part was lent has the part's bits in the part's place, and else its own.
-use Rattle.std.specs.Prelude.{◌≡◌, ℕ, ◌+◌, ◌-◌, ◌*◌, ◌%◌, ◌<◌, ◌≤◌, Bool, true, false, List, ◌++◌, drop, if◌then◌else◌, length, map, slice_index_or, slice_range, take, refl}
-use Rattle.std.specs.declared.ops.Range.{Range}
-use Rattle.std.proofs.Common.{arith, sym, ◌∙◌, ap, subst}
+use Rattle.std.specs.Prelude.{◌≡◌, ℕ, ◌+◌, ◌-◌, ◌*◌, ◌%◌, ◌<◌, ◌≤◌, Bool, true, false, List, drop, if◌then◌else◌, length, map, slice_index_or, slice_range, take, refl}
+use Rattle.std.proofs.Common.{arith, sym, ◌∙◌, ap}
 use Rattle.std.proofs.Math.Nat.{mul-le-mul_right, add-mul}
 use Rattle.std.proofs.lemmas.List.{length-map, take_at, take-map, drop-map, map-append}
-use Rattle.bitvec_elements.specs.base.Memory.{Writes, list_in, memory_bits}
+use Rattle.bitvec_elements.specs.base.Memory.{Writes, memory_bits}
 use Rattle.bitvec_elements.specs.base.MemoryLaws.{length-memory_bits, memory-range}
 use Rattle.bitvec_elements.specs.base.SliceLaws.{range-from_start, range-map, range-to_end}
-use Rattle.bitvec_elements.specs.base.Window.{window_of, write_at, write_window}
+use Rattle.bitvec_elements.specs.base.Window.{write_at, write_window}
 use Rattle.bitvec_elements.specs.base.WindowLaws.{length-window, part-written}
 use Rattle.bitvec_elements.specs.base.WriteLaws.{drop-write_at, get-slice_range, length-slice_range, length-write_at, range-write_at, take-write_at, write_at-inside, write_at-same}
 use Rattle.bitvec_elements.specs.base.declared.window.Window.{Window}

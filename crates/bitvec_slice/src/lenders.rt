@@ -18,11 +18,9 @@ impl<'a, T: BitStore, O: BitOrder> BitSliceMut<'a, T, O> {
     /// which a caller knows the view. Of an index, [`Lent::bit`] gives the reference that `get_mut` gives.
     ///
     /// ```
-    /// if let Some(mut part) = view.get_lent(2..5).some() {
-    ///     part.fill(true);
-    /// }
     /// if let Some(mut bit) = view.get_lent(7).bit() {
-    ///     bit.set(true);
+    ///     let old = *bit;
+    ///     bit.set(!old);
     /// }
     /// ```
     pub fn get_lent<I: LentIndex>(&mut self, index: I) -> Lent<BitSliceMut<'_, T, O>>

@@ -10,12 +10,6 @@ use bitvec_elements::store::BitStore;
 ///
 /// So the lender's end is known in both cases: where there is none, an empty piece was lent, and the lender
 /// ends as it was.
-///
-/// ```
-/// if let Some(mut part) = view.get_lent(2..5).some() {
-///     part.fill(true);
-/// }
-/// ```
 #[derive(Drop)]
 pub struct Lent<P> {
     piece: P,
