@@ -36,3 +36,5 @@ mod splits_known;
 mod transfers;
 #[cfg(test)]
 mod walks_known;
+#[cfg(test)]
+mod word_runs;
