@@ -70,8 +70,12 @@ pub use Rattle.bitvec_closures.specs.SplitEdits
 pub use Rattle.bitvec_closures.specs.SplitEditsLaws
 pub use Rattle.bitvec_closures.specs.WritesLaws
 pub use Rattle.bitvec_owned.specs.edit.reference.References
+pub use Rattle.bitvec_run_halves.specs.commands.Access
 pub use Rattle.bitvec_run_halves.specs.commands.Fold
+pub use Rattle.bitvec_run_halves.specs.commands.Groups
 pub use Rattle.bitvec_run_halves.specs.commands.Runs
+pub use Rattle.bitvec_run_halves.specs.commands.WordRunsLaws
+pub use Rattle.bitvec_run_halves.specs.commands.WordSteps
 pub use Rattle.bitvec_run_halves.specs.Sides
 pub use Rattle.bitvec_in_place.specs.field.segments.LoadLaws
 pub use Rattle.bitvec_in_place.specs.field.segments.PlainLaws

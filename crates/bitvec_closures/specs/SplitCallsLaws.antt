@@ -72,16 +72,6 @@ module _ {V T F S : Type 0} (shows : V → Seen T) (named : V → GName) (step :
         → (all : List (Range ℕ)) × FoldsTo (λ p r q. next p (Some r) q) first all t × FoldsTo (EditsNext shows named step view) (record { bits = (shows view).bits; edit = edit; number = 0 }) all e
 
 module _ {V T F S : Type 0} {shows : V → Seen T} {named : V → GName} {step : F → ℕ → MutBor V → ⊤ → MutBor V → F → Type 0} {view : V} {next : S → Option (Range ℕ) → S → Type 0} {first s : S} {edit : F} where
-  -- none at first
-  pub in_turn-none : {left : ToSplit} → first ≡ s → IsLeftOf (shows view) left → 0 + most_left left ≤ (shows view).window.len + 1 → CallsSoFar shows named step view next first edit s left view edit 0
-  in_turn-none same inside few = record {
-    stays = record { outside = refl; window = refl; elements = refl; name = refl };
-    inside = inside;
-    rest = refl;
-    few = few;
-    ends = λ pieces t e gave edits. (pieces, subst (λ (q : S). FoldsTo (λ p r q. next p (Some r) q) q pieces t) (sym same) gave, edits);
-  }
-
   -- the edit may be called on the next piece
   pub in_turn-may : {pre : F → ℕ → MutBor V → Type 0} {left : ToSplit} {now : V} {f : F} {number : ℕ} → CallsSoFar shows named step view next first edit s left now f number → MayEditGiven shows named pre step edit view
       → MayEdit shows named (pre f number) (λ p r q. (g : F) × step f number p r q g) (IsGivenPiece (shows view) number)

@@ -64,3 +64,5 @@ mod splits_known;
 mod transfers;
 #[cfg(test)]
 mod walks_known;
+#[cfg(test)]
+mod word_runs;

@@ -14,7 +14,7 @@ use Rattle.bitvec_run.specs.declared.command.Op.TheVariants.{Get, Set, Replace, 
 use Rattle.bitvec_run.specs.declared.command.Refusal.{Refusal}
 use Rattle.bitvec_run.specs.declared.command.Reply.{Reply}
 use Rattle.bitvec_run.specs.declared.command.Reply.TheVariants.{Bit, Count, Order}
-use Rattle.bitvec_run.specs.Costs.{Cost, Place, accesses, and_then, behind, scan_cost, fill_cost, invert_cost, reverse_cost, rotate_cost, move_cost, copy_cost, operator_cost, equal_cost, order_cost, needle_cost}
+use Rattle.bitvec_run.specs.Costs.{accesses, and_then, behind, scan_cost, fill_cost, invert_cost, reverse_cost, rotate_cost, move_cost, copy_cost, operator_cost, equal_cost, order_cost, needle_cost}
 use Rattle.bitvec_run.specs.Rows.{CommandRow, asks, edits, both, unless, or_else, range_lies, lies_in}
 
 -- ---- the conditions that commands share

@@ -4,11 +4,10 @@
 -- list, and the window's list has n bits.
 use Rattle.std.specs.Prelude.{ℕ, ◌+◌, ◌-◌, ◌≤◌, Bool, ◌&&◌, nat_le, if◌then◌else◌, Option, List, ⊤}
 use Rattle.bitvec_run.specs.declared.command.Refusal.{Refusal}
-use Rattle.bitvec_run.specs.declared.command.Reply.{Reply}
 use Rattle.bitvec_run.specs.declared.command.Reply.TheVariants.{Number}
 use Rattle.bitvec_run.specs.Commands.{op_row}
-use Rattle.bitvec_run.specs.Costs.{Cost, Place, fill_cost, scan_cost}
-use Rattle.bitvec_run.specs.Rows.{CommandRow, asks, edits, on_range, outcome, range_lies, refused, row_list, row_reply, unless}
+use Rattle.bitvec_run.specs.Costs.{fill_cost, scan_cost}
+use Rattle.bitvec_run.specs.Rows.{CommandRow, asks, edits, on_range, outcome, range_lies, refused, unless}
 use Rattle.bitvec_run.specs.declared.field_step.FieldOp.{FieldOp}
 use Rattle.bitvec_run.specs.declared.field_step.FieldOp.TheVariants.{LoadBe, LoadLe, Plain, StoreBe, StoreLe}
 use Rattle.bitvec_run.specs.declared.field_step.FieldStep.{FieldStep}

@@ -1,5 +1,5 @@
 -- A run of one command under an order that works by words: how many word steps it takes.
-use Rattle.std.specs.Prelude.{◌≡◌, ℕ, ◌-◌, ◌*◌, ◌≤◌, ◌==◌, Bool, true, false, if◌then◌else◌, Option, Some, None, List, [], ◌∷◌, ⊤}
+use Rattle.std.specs.Prelude.{ℕ, ◌-◌, ◌*◌, ◌≤◌, ◌==◌, Bool, true, if◌then◌else◌, Option, Some, None, List, [], ◌∷◌}
 use Rattle.std.specs.Int.{div_ceil}
 use Rattle.std.proofs.Common.{arith, subst, sym, ⊎_elim}
 use Rattle.std.proofs.lemmas.Bool.{cases_Bool}
@@ -17,8 +17,8 @@ use Rattle.bitvec_run.specs.declared.command.Step.{Step}
 use Rattle.bitvec_run.specs.Commands.{op_row}
 use Rattle.bitvec_run.specs.Costs.{Cost, Place, place_after, place_of}
 use Rattle.bitvec_run.specs.Groups.{IsOperator}
-use Rattle.bitvec_run.specs.Rows.{CommandRow, on_range, outcome, range_lies, refused, unless_refused}
-use Rattle.bitvec_run.specs.Runs.{RunsBy, run_cost, step_outcome, step_row}
+use Rattle.bitvec_run.specs.Rows.{CommandRow, on_range, outcome, range_lies, unless_refused}
+use Rattle.bitvec_run.specs.Runs.{RunsBy, run_cost, step_outcome}
 use Rattle.bitvec_run.specs.RunsLaws.{step_row-inside, step_row-outside}
 
 -- ---- what is refused costs nothing
@@ -98,5 +98,3 @@ module _ {E F C D : Type 0} (access : Access C E) (beside : Access D F) (right :
 
   pub equal-right_steps : (source : Window) → IsWidth b → RunsOne (Eq source) → ReadsInSteps beside right_old right_new b (if to - from == source.len then div_ceil (to - from) 64 else 0)
   equal-right_steps source width ran = equals-words beside right_old right_new b (to - from) source.len width (reads-row (Eq source) ran)
-
-pub ruleset word_runs = (copy-steps, copy-right_steps, move-steps, operator-steps, operator-right_steps, equal-steps, equal-right_steps)

@@ -36,9 +36,6 @@ status-most (Unknown number) = omega arith
 status-most (Fixed number) = omega arith
 status-most (Range number) = omega arith
 
-pub ends-failed : {prints : Type 0} (comes : Fault → Type 0) (before after : Option (List ℕ)) → Ends prints comes before after 1
-ends-failed comes before after = record { known = omega arith; printed = λ zero. absurd (omega arith); fault = λ some. absurd (omega arith) }
-
 -- a packet whose assignments are no changes
 pub changes-fault : (list : List Named) (old new : Option (List ℕ)) (fault : Fault) (bytes : List ℕ) (places : List Place) → GivesPacket old new bytes → places ≡ packet_fields bytes
     → (fault ≡ Memory) ⊎ ChangesFault places list fault → PacketFault list old new fault

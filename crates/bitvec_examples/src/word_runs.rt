@@ -1,0 +1,161 @@
+//! Runs of one command under `Lsb0` and under `Msb0`: `n` bits take at most `ceil(n / 64)` word steps.
+#![tactic(auto)]
+
+ghost use Rattle.std.specs.Prelude.{◌-◌, ◌*◌, ◌==◌, if◌then◌else◌};
+ghost use Rattle.std.specs.Int.{div_ceil};
+ghost use Rattle.bitvec.specs.Access.{CostsAtMost};
+ghost use Rattle.bitvec.specs.Groups.{IsOperator};
+ghost use Rattle.bitvec.specs.WordSteps.{EditsInSteps, ReadsInSteps, WritesInSteps, word_span};
+
+use bitvec::cells::{Cells, CellsRead, Shared};
+use bitvec::index::Window;
+use bitvec::prelude::*;
+use bitvec::run::{Op, Reply, RunError, Step, run};
+use std::alloc::Allocator;
+use std::ops::Range;
+
+/// Compares the bits `range` of a window with right ones. Bits that aren't as many take no load.
+pub fn compare_lsb0<A: Allocator, C: Cells, D: CellsRead<Elem = C::Elem>>(
+    alloc: A,
+    cells: &mut C,
+    window: Window,
+    range: Range<usize>,
+    right: &mut D,
+    source: Window,
+) -> Result<Vec<Reply, A>, RunError>
+    ensures cost { let steps = (if range.end - range.start == source.len then div_ceil (range.end - range.start) 64 else 0) in
+        CostsAtMost C.CellsRead cells.old cells.new (steps * word_span C.Elem.BITS) 0 }
+    ensures right { let steps = (if range.end - range.start == source.len then div_ceil (range.end - range.start) 64 else 0) in
+        ReadsInSteps D.CellsRead right.old right.new C.Elem.BITS steps }
+{
+    let (from, to) = (range.start, range.end);
+    let op = Op::Eq(source);
+    let replies = run::<Lsb0, A, C, D>(alloc, cells, window, right, &[Step { from, to, op }])?;
+    Ok(replies)
+}
+
+/// Copies right bits to the bits `range` of a window.
+pub fn copy_lsb0<A: Allocator, C: Cells, D: CellsRead<Elem = C::Elem>>(
+    alloc: A,
+    cells: &mut C,
+    window: Window,
+    range: Range<usize>,
+    right: &mut D,
+    source: Window,
+) -> Result<Vec<Reply, A>, RunError>
+    ensures cost { WritesInSteps C.CellsRead cells.old cells.new C.Elem.BITS (div_ceil (range.end - range.start) 64) }
+    ensures right { ReadsInSteps D.CellsRead right.old right.new C.Elem.BITS (div_ceil (range.end - range.start) 64) }
+{
+    let (from, to) = (range.start, range.end);
+    let op = Op::CopyFrom(source);
+    let replies = run::<Lsb0, A, C, D>(alloc, cells, window, right, &[Step { from, to, op }])?;
+    Ok(replies)
+}
+
+/// Copies the bits `range` of a window to `dest` on.
+pub fn copy_within_lsb0<A: Allocator, C: Cells>(
+    alloc: A,
+    cells: &mut C,
+    window: Window,
+    range: Range<usize>,
+    dest: usize,
+) -> Result<Vec<Reply, A>, RunError>
+    ensures { EditsInSteps C.CellsRead cells.old cells.new C.Elem.BITS (div_ceil (range.end - range.start) 64) }
+{
+    let (from, to) = (0, window.len);
+    let op = Op::CopyWithin(range.start, range.end, dest);
+    let mut none = Shared::<C::Elem>::new(&[]);
+    let replies = run::<Lsb0, A, C, _>(alloc, cells, window, &mut none, &[Step { from, to, op }])?;
+    Ok(replies)
+}
+
+/// Combines the bits `range` of a window with right ones. Condition: the command is `And`, `Or` or `Xor`.
+pub fn combine_lsb0<A: Allocator, C: Cells, D: CellsRead<Elem = C::Elem>>(
+    alloc: A,
+    cells: &mut C,
+    window: Window,
+    range: Range<usize>,
+    right: &mut D,
+    op: Op,
+) -> Result<Vec<Reply, A>, RunError>
+    requires { IsOperator op }
+    ensures cost { EditsInSteps C.CellsRead cells.old cells.new C.Elem.BITS (div_ceil (range.end - range.start) 64) }
+    ensures right { ReadsInSteps D.CellsRead right.old right.new C.Elem.BITS (div_ceil (range.end - range.start) 64) }
+{
+    let (from, to) = (range.start, range.end);
+    let replies = run::<Lsb0, A, C, D>(alloc, cells, window, right, &[Step { from, to, op }])?;
+    Ok(replies)
+}
+
+/// Compares the bits `range` of a window with right ones. Bits that aren't as many take no load.
+pub fn compare_msb0<A: Allocator, C: Cells, D: CellsRead<Elem = C::Elem>>(
+    alloc: A,
+    cells: &mut C,
+    window: Window,
+    range: Range<usize>,
+    right: &mut D,
+    source: Window,
+) -> Result<Vec<Reply, A>, RunError>
+    ensures cost { let steps = (if range.end - range.start == source.len then div_ceil (range.end - range.start) 64 else 0) in
+        CostsAtMost C.CellsRead cells.old cells.new (steps * word_span C.Elem.BITS) 0 }
+    ensures right { let steps = (if range.end - range.start == source.len then div_ceil (range.end - range.start) 64 else 0) in
+        ReadsInSteps D.CellsRead right.old right.new C.Elem.BITS steps }
+{
+    let (from, to) = (range.start, range.end);
+    let op = Op::Eq(source);
+    let replies = run::<Msb0, A, C, D>(alloc, cells, window, right, &[Step { from, to, op }])?;
+    Ok(replies)
+}
+
+/// Copies right bits to the bits `range` of a window.
+pub fn copy_msb0<A: Allocator, C: Cells, D: CellsRead<Elem = C::Elem>>(
+    alloc: A,
+    cells: &mut C,
+    window: Window,
+    range: Range<usize>,
+    right: &mut D,
+    source: Window,
+) -> Result<Vec<Reply, A>, RunError>
+    ensures cost { WritesInSteps C.CellsRead cells.old cells.new C.Elem.BITS (div_ceil (range.end - range.start) 64) }
+    ensures right { ReadsInSteps D.CellsRead right.old right.new C.Elem.BITS (div_ceil (range.end - range.start) 64) }
+{
+    let (from, to) = (range.start, range.end);
+    let op = Op::CopyFrom(source);
+    let replies = run::<Msb0, A, C, D>(alloc, cells, window, right, &[Step { from, to, op }])?;
+    Ok(replies)
+}
+
+/// Copies the bits `range` of a window to `dest` on.
+pub fn copy_within_msb0<A: Allocator, C: Cells>(
+    alloc: A,
+    cells: &mut C,
+    window: Window,
+    range: Range<usize>,
+    dest: usize,
+) -> Result<Vec<Reply, A>, RunError>
+    ensures { EditsInSteps C.CellsRead cells.old cells.new C.Elem.BITS (div_ceil (range.end - range.start) 64) }
+{
+    let (from, to) = (0, window.len);
+    let op = Op::CopyWithin(range.start, range.end, dest);
+    let mut none = Shared::<C::Elem>::new(&[]);
+    let replies = run::<Msb0, A, C, _>(alloc, cells, window, &mut none, &[Step { from, to, op }])?;
+    Ok(replies)
+}
+
+/// Combines the bits `range` of a window with right ones. Condition: the command is `And`, `Or` or `Xor`.
+pub fn combine_msb0<A: Allocator, C: Cells, D: CellsRead<Elem = C::Elem>>(
+    alloc: A,
+    cells: &mut C,
+    window: Window,
+    range: Range<usize>,
+    right: &mut D,
+    op: Op,
+) -> Result<Vec<Reply, A>, RunError>
+    requires { IsOperator op }
+    ensures cost { EditsInSteps C.CellsRead cells.old cells.new C.Elem.BITS (div_ceil (range.end - range.start) 64) }
+    ensures right { ReadsInSteps D.CellsRead right.old right.new C.Elem.BITS (div_ceil (range.end - range.start) 64) }
+{
+    let (from, to) = (range.start, range.end);
+    let replies = run::<Msb0, A, C, D>(alloc, cells, window, right, &[Step { from, to, op }])?;
+    Ok(replies)
+}
