@@ -107,3 +107,5 @@ pub use Rattle.bitvec_owned.specs.edit.traits.Feeding
 pub use Rattle.bitvec_owned.specs.edit.traits.Listing
 pub use Rattle.bitvec_owned.specs.edit.walk.Sought
 pub use Rattle.bitvec_owned.specs.edit.words.Operator
+pub use Rattle.bitvec_slice.specs.LentLaws
+pub use Rattle.bitvec_slice.specs.MayLend

@@ -13,5 +13,5 @@ pub use bitvec_owned::{BitArray, BitVec, RepeatError, ToBitVec};
 pub use bitvec_query::{BitQueries, OnesCalls};
 pub use bitvec_slice::{
     BitDomain, BitDomainMut, BitRef, BitRefMut, BitSlice, BitSliceIndex, BitSliceMut, Domain,
-    DomainMut, View,
+    DomainMut, Lent, View,
 };

@@ -19,6 +19,6 @@ pub use bitvec_query::{
     BitQueries, IndexWalk, IterOnes, IterZeros, Ones, OnesCalls, Places, Wanted, Zeros,
 };
 pub use bitvec_slice::{
-    BitRefIter, BitSlice, BitSliceIndex, BitSliceMut, BitValIter, Iter, Shows, View, ViewMut,
-    Viewed, ViewedMut, from_mut, from_ref,
+    BitRefIter, BitSlice, BitSliceIndex, BitSliceMut, BitValIter, Iter, Lent, LentIndex, Shows,
+    View, ViewMut, Viewed, ViewedMut, from_mut, from_ref,
 };

@@ -1,5 +1,5 @@
 -- What a writable walk over single bits ends as, where a bit was lent.
-use Rattle.std.specs.Prelude.{◌≡◌, ℕ, ◌+◌, ◌-◌, ◌*◌, ◌≤◌, List, length}
+use Rattle.std.specs.Prelude.{◌≡◌, ℕ, ◌+◌, ◌-◌, ◌*◌, ◌≤◌, List, if◌then◌else◌, length, min, nat_lt}
 use Rattle.std.specs.Borrow.{Fml, GName, MutBor, RattleType, Array, follows}
 use Rattle.std.proofs.Common.{arith, subst, ◌∙◌, ap}
 use Rattle.std.proofs.Math.Bridge.{le_prop}
@@ -27,6 +27,13 @@ module _ {T O : Type 0} {t : Store T} {o : Order O} where
 
   abbrev pub without_last : IterMut T O t o → IterMut T O t o
   without_last i = record i { back = i.back - 1; numbered = omega (arith, i.numbered) }
+
+  -- the walk without its first bits, of which it has as many or fewer, and without its last ones
+  abbrev pub passed : IterMut T O t o → ℕ → IterMut T O t o
+  passed i count = record i { front = i.front + min count (i.back - i.front) }
+
+  abbrev pub passed_back : IterMut T O t o → ℕ → IterMut T O t o
+  passed_back i count = record i { back = i.back - min count (i.back - i.front); numbered = omega (arith, i.numbered) }
 
   -- a walk is what its fields that aren't facts are
   module _ (i : IterMut T O t o) (front back : ℕ) where
@@ -57,3 +64,19 @@ module _ (T O : RattleType) {t : Store T.Denot} {o : Order O.Denot} where
 
   abbrev pub lends_last : MutBor (IterMut T.Denot O.Denot t o) → GName → Fml
   lends_last i name = lends_range i (without_last i.now) (first_touched t.BITS (i.now.head + (i.now.back - 1))) (end_touched t.BITS (i.now.head + (i.now.back - 1 + 1))) name
+
+  -- that of the first bit that is left of the walk `from`, if one is, was lent, and the walk ends without it; else none, and it ends as `from`
+  abbrev pub lends_next : MutBor (IterMut T.Denot O.Denot t o) → IterMut T.Denot O.Denot t o → GName → Fml
+  lends_next i from name =
+      let start = first_touched t.BITS (from.head + from.front) in
+      let end = end_touched t.BITS (from.head + (from.front + 1)) in
+      follows (the_row of_lender T O t o) (Array T 0) i.ghost_name name (λ ws. if nat_lt from.front from.back
+      then with_elements (without_first from) (with_range from.elements.now start end ws) else with_elements from from.elements.now)
+
+  -- so was that of the last
+  abbrev pub lends_next_back : MutBor (IterMut T.Denot O.Denot t o) → IterMut T.Denot O.Denot t o → GName → Fml
+  lends_next_back i from name =
+      let start = first_touched t.BITS (from.head + (from.back - 1)) in
+      let end = end_touched t.BITS (from.head + (from.back - 1 + 1)) in
+      follows (the_row of_lender T O t o) (Array T 0) i.ghost_name name (λ ws. if nat_lt from.front from.back
+      then with_elements (without_last from) (with_range from.elements.now start end ws) else with_elements from from.elements.now)

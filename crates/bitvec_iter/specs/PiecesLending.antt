@@ -1,5 +1,5 @@
 -- What a writable walk over pieces ends as, where a piece was lent.
-use Rattle.std.specs.Prelude.{ℕ, ◌+◌, ◌-◌, ◌*◌, ◌≤◌, List, true}
+use Rattle.std.specs.Prelude.{ℕ, ◌+◌, ◌-◌, ◌*◌, ◌≤◌, List, if◌then◌else◌, min, nat_lt, true}
 use Rattle.std.specs.Borrow.{Fml, GName, MutBor, RattleType, Array, follows}
 use Rattle.std.specs.declared.ops.Range.{Range}
 use Rattle.std.proofs.Common.{arith, subst}
@@ -30,6 +30,13 @@ module _ {T O C : Type 0} {t : Store T} {o : Order O} {c : Cuts C} where
 
   abbrev pub without_last : PiecesMut T O C t o c → PiecesMut T O C t o c
   without_last p = record p { back = p.back - 1; numbered = omega (arith, p.numbered) }
+
+  -- the walk without its first pieces, of which it has as many or fewer, and without its last ones
+  abbrev pub passed : PiecesMut T O C t o c → ℕ → PiecesMut T O C t o c
+  passed p count = record p { front = p.front + min count (p.back - p.front) }
+
+  abbrev pub passed_back : PiecesMut T O C t o c → ℕ → PiecesMut T O C t o c
+  passed_back p count = record p { back = p.back - min count (p.back - p.front); numbered = omega (arith, p.numbered) }
 
   -- the walk, of which what no piece has was taken
   abbrev pub without_rest : PiecesMut T O C t o c → PiecesMut T O C t o c
@@ -62,3 +69,21 @@ module _ (T O C : RattleType) {t : Store T.Denot} {o : Order O.Denot} {c : Cuts 
 
   abbrev pub lends_rest : (C.Denot → ℕ → Range ℕ) → MutBor (PiecesMut T.Denot O.Denot C.Denot t o c) → GName → Fml
   lends_rest left_over p name = lends_range T O C p (without_rest p.now) (rest_of left_over (walk_of p.now)) name
+
+  -- the first piece that is left of the walk `from`, if one is, was lent, and the walk ends without it; else none of the elements, and it ends as `from`
+  abbrev pub lends_next : (C.Denot → ℕ → ℕ → Range ℕ) → MutBor (PiecesMut T.Denot O.Denot C.Denot t o c) → PiecesMut T.Denot O.Denot C.Denot t o c → GName → Fml
+  lends_next place p from name =
+      let range = place from.cutting from.len from.front in
+      let start = first_touched t.BITS (from.head + range.start) in
+      let end = end_touched t.BITS (from.head + range.end) in
+      follows (the_row of_lender T O C t o c) (Array T 0) p.ghost_name name (λ ws. if nat_lt from.front from.back
+      then with_elements (without_first from) (with_range from.elements.now start end ws) else with_elements from from.elements.now)
+
+  -- so was the last
+  abbrev pub lends_next_back : (C.Denot → ℕ → ℕ → Range ℕ) → MutBor (PiecesMut T.Denot O.Denot C.Denot t o c) → PiecesMut T.Denot O.Denot C.Denot t o c → GName → Fml
+  lends_next_back place p from name =
+      let range = place from.cutting from.len (from.back - 1) in
+      let start = first_touched t.BITS (from.head + range.start) in
+      let end = end_touched t.BITS (from.head + range.end) in
+      follows (the_row of_lender T O C t o c) (Array T 0) p.ghost_name name (λ ws. if nat_lt from.front from.back
+      then with_elements (without_last from) (with_range from.elements.now start end ws) else with_elements from from.elements.now)

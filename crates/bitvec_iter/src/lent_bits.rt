@@ -18,8 +18,8 @@ pub struct IterMut<'a, T: BitStore, O: BitOrder> {
     elements: &'a mut [T],
     head: usize,
     len: usize,
-    front: usize,
-    back: usize,
+    pub(crate) front: usize,
+    pub(crate) back: usize,
     mark: PhantomData<(O, &'a mut T)>,
     ghost inside: { head + len ≤ T.BITS * length elements.now },
     ghost bounded: { T.BITS * length elements.now ≤ max_bits },
@@ -239,7 +239,7 @@ impl<'a, T: BitStore, O: BitOrder> IterMut<'a, T, O> {
         self.part_mut(index, index + 1).into_reference()
     }
 
-    fn part_mut(&mut self, from: usize, to: usize) -> BitSliceMut<'_, T, O>
+    pub(crate) fn part_mut(&mut self, from: usize, to: usize) -> BitSliceMut<'_, T, O>
         requires order { from ≤ to }
         requires bound { to ≤ (bit_walk_of self.old).view.window.len }
         ensures* writes_back { sem 𝓛 (lends_bits T.row O.row self.entry from to (name_of result)) }
@@ -251,7 +251,7 @@ impl<'a, T: BitStore, O: BitOrder> IterMut<'a, T, O> {
         BitSliceMut::from_parts(elements, start % (T::BITS as usize), to - from)
     }
 
-    fn elements_part_mut(&mut self, start: usize, end: usize) -> &mut [T]
+    pub(crate) fn elements_part_mut(&mut self, start: usize, end: usize) -> &mut [T]
         requires order { start ≤ end }
         requires bound { end ≤ length (bit_walk_of self.old).view.elements }
         ensures* writes_back { sem 𝓛 (lends_part T.row O.row self.entry start end result.ghost_name) }

@@ -22,7 +22,7 @@ pub struct PiecesMut<'a, T: BitStore, O: BitOrder, C: Cutting> {
     pub(crate) head: usize,
     pub(crate) len: usize,
     pub(crate) front: usize,
-    back: usize,
+    pub(crate) back: usize,
     pub(crate) taken: bool,
     pub(crate) cutting: C,
     mark: PhantomData<(O, &'a mut T)>,
@@ -207,7 +207,7 @@ impl<'a, T: BitStore, O: BitOrder, C: Cutting> PiecesMut<'a, T, O, C> {
         BitSliceMut::from_parts(elements, start % (T::BITS as usize), to - from)
     }
 
-    fn elements_part_mut(&mut self, start: usize, end: usize) -> &mut [T]
+    pub(crate) fn elements_part_mut(&mut self, start: usize, end: usize) -> &mut [T]
         requires order { start ≤ end }
         requires bound { end ≤ length (walk_of self.old).view.elements }
         ensures* writes_back { sem 𝓛 (lends_part T.row O.row C.row self.entry start end result.ghost_name) }

@@ -5,6 +5,8 @@ mod calls;
 mod lent_bits;
 mod lent_calls;
 mod lent_halves;
+mod lent_next;
+mod lent_next_bits;
 mod lent_pieces;
 mod lent_remainders;
 mod lent_texts;

@@ -17,6 +17,8 @@ mod lent_chunks;
 #[cfg(test)]
 mod lent_ended;
 #[cfg(test)]
+mod lent_next;
+#[cfg(test)]
 mod lent_splits;
 #[cfg(test)]
 mod pieces;

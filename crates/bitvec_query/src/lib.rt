@@ -34,8 +34,8 @@ pub mod engine {
 /// Items of `bitvec_slice` that crates above use.
 pub mod slice {
     pub use bitvec_slice::{
-        BitDomain, BitDomainMut, BitRef, BitSlice, BitSliceIndex, BitSliceMut, Domain, Viewed,
-        ViewedMut, from_mut, from_ref,
+        BitDomain, BitDomainMut, BitRef, BitSlice, BitSliceIndex, BitSliceMut, Domain, Lent,
+        Viewed, ViewedMut, from_mut, from_ref,
     };
 }
 

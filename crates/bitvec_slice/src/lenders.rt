@@ -18,9 +18,8 @@ impl<'a, T: BitStore, O: BitOrder> BitSliceMut<'a, T, O> {
     /// which a caller knows the view. Of an index, [`Lent::bit`] gives the reference that `get_mut` gives.
     ///
     /// ```
-    /// if let Some(mut bit) = view.get_lent(7).bit() {
-    ///     let old = *bit;
-    ///     bit.set(!old);
+    /// if let Some(mut part) = view.get_lent(2..9).some() {
+    ///     part.invert();
     /// }
     /// ```
     pub fn get_lent<I: LentIndex>(&mut self, index: I) -> Lent<BitSliceMut<'_, T, O>>

@@ -17,6 +17,8 @@ mod kept;
 #[cfg(test)]
 mod lends;
 #[cfg(test)]
+mod lent;
+#[cfg(test)]
 mod lent_domains;
 #[cfg(test)]
 mod ones;

@@ -1,0 +1,52 @@
+//! Walks that lend from both ends by calls after which the walk is known: each piece that is lent is filled, and the
+//! bytes then have its bits.
+
+use bitvec_edit::BitEdits;
+use bitvec_edit::base::Lsb0;
+use bitvec_edit::slice::BitSliceMut;
+use bitvec_iter::PieceCallsMut;
+
+/// Fills the first chunk of three bits and the last, and says how many are left.
+fn fill_ends(bytes: &mut [u8; 1]) -> usize {
+    let mut view = BitSliceMut::<u8, Lsb0>::from_slice_mut(bytes);
+    let mut chunks = view.chunks_mut(3);
+    if let Some(mut piece) = chunks.next_lent().some() {
+        piece.fill(true);
+    }
+    if let Some(mut piece) = chunks.next_back_lent().some() {
+        piece.fill(true);
+    }
+    chunks.len()
+}
+
+/// Whether a walk over the chunks of no bits lends none, from either end.
+fn lends_none(bytes: &mut [u8; 1]) -> bool {
+    let mut view = BitSliceMut::<u8, Lsb0>::from_slice_mut(bytes).into_part(4..4);
+    let mut chunks = view.chunks_mut(3);
+    let is_none = chunks.next_lent().is_none();
+    is_none && chunks.next_back_lent().is_none()
+}
+
+/// Sets the first bit and the last, and says how many are left.
+fn set_ends(bytes: &mut [u8; 1]) -> usize {
+    let mut view = BitSliceMut::<u8, Lsb0>::from_slice_mut(bytes);
+    let mut bits = view.iter_mut();
+    if let Some(mut bit) = bits.next_lent().some() {
+        bit.fill(true);
+    }
+    if let Some(mut bit) = bits.next_back_lent().some() {
+        bit.fill(true);
+    }
+    bits.len()
+}
+
+#[test]
+fn pieces_are_lent_from_both_ends(rt: HostRuntime) {
+    let mut chunks = [0x00];
+    let pieces = fill_ends(&mut chunks);
+    let mut bits = [0x00];
+    let left = set_ends(&mut bits);
+    assert!(rt; [pieces, left] == [1, 6]);
+    assert!(rt; [chunks, bits] == [[0xC7], [0x81]]);
+    assert!(rt; lends_none(&mut chunks));
+}
