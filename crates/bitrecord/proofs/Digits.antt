@@ -9,13 +9,13 @@ use Rattle.bitvec.specs.Segments.{segment_number}
 use Rattle.bitvec.specs.Types.{Window}
 use Rattle.bitvec.specs.Window.{IsWithin, window_of}
 use Rattle.bitvec.specs.WindowLaws.{length-window}
-use Rattle.bitrecord.specs.Records.{number_in}
+use Rattle.bitrecord.specs.Records.{field_number}
 use Rattle.bitrecord.specs.Runs.{IsSeamless, SplitsOff, aligned, plain_number}
 use Rattle.bitrecord.specs.declared.endian.Endian.{Endian}
 use Rattle.bitrecord.specs.declared.endian.Endian.TheVariants as end
 
 -- where segments join without a seam, a number is that of one
-pub seamless-number : (endian : Endian) (high : Bool) (b s : ℕ) (list : List Bool) (field : Window) → IsSeamless endian high → number_in endian high b s list field ≡ plain_number high list field
+pub seamless-number : (endian : Endian) (high : Bool) (b s : ℕ) (list : List Bool) (field : Window) → IsSeamless endian high → field_number endian high b s list field ≡ plain_number high list field
 seamless-number end.Little high b s list field is = loaded_le-plain high b (s + field.start) (window_of list field) is
 seamless-number end.Big high b s list field is = loaded_be-plain high b (s + field.start) (window_of list field) is
 

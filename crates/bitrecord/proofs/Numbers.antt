@@ -10,7 +10,7 @@ use Rattle.bitrecord.proofs.Digits.{last-number, number-joined, plain-below, sea
 use Rattle.bitrecord.specs.FieldLaws.{number-below}
 use Rattle.bitrecord.specs.Layouts.{IsLayout, field_at}
 use Rattle.bitrecord.specs.RecordLaws.{earlier_or_this, number-of-record, record-encodable}
-use Rattle.bitrecord.specs.Records.{AreEncodable, Fits, number_in, record_in}
+use Rattle.bitrecord.specs.Records.{AreEncodable, Fits, field_number, record_in}
 use Rattle.bitrecord.specs.Runs.{IsRun, IsSeamless, SplitsOff, across, aligned, end_of, plain_number}
 use Rattle.bitrecord.specs.declared.endian.Endian.{Endian}
 
@@ -22,9 +22,9 @@ read-next f out n v below is told k low =
 
 -- all numbers are read
 pub read-all : (endian : Endian) (high : Bool) (b s : ℕ) (list : List Bool) (fields : List Window) (out : List ℕ) → length out ≡ length fields
-    → ((k : ℕ) → k < length fields → slice_index out k ≡ number_in endian high b s list (field_at fields k)) → out ≡ record_in endian high b s list fields
+    → ((k : ℕ) → k < length fields → slice_index out k ≡ field_number endian high b s list (field_at fields k)) → out ≡ record_in endian high b s list fields
 read-all endian high b s list fields out many told =
-    let long = length-map fields (number_in endian high b s list) in
+    let long = length-map fields (field_number endian high b s list) in
     same_lists _ _ (omega arith) (λ k d low.
     get_or_default out k d 0 low ∙ told k (omega arith) ∙ sym (number-of-record endian high b s list fields k d (omega arith)))
 
@@ -34,12 +34,12 @@ module _ {T O : Type 0} {t : Store T} {o : Order O} (high : Bool) (view : BitSli
   view-encodable endian bits fields layout many =
       record-encodable endian high t.BITS (seen view).window.start (seen view).bits fields (λ k low. rw (length-seen view ∙ many) (layout.inside k low))
 
-  pub view-fits : (endian : Endian) (bits n : ℕ) (fields : List Window) → IsLayout bits fields → (seen view).window.len ≡ bits → n < length fields → Fits (field_at fields n) (number_in endian high t.BITS (seen view).window.start (seen view).bits (field_at fields n))
+  pub view-fits : (endian : Endian) (bits n : ℕ) (fields : List Window) → IsLayout bits fields → (seen view).window.len ≡ bits → n < length fields → Fits (field_at fields n) (field_number endian high t.BITS (seen view).window.start (seen view).bits (field_at fields n))
   view-fits endian bits n fields layout many below = number-below endian high t.BITS (seen view).window.start bits n fields (seen view).bits layout (length-seen view ∙ many) below
 
   -- the number of a run, of which the first and the last field are these
   pub run-number : (endian : Endian) (bits first last number : ℕ) (fields : List Window) (from to : Window) → IsSeamless endian high → IsLayout bits fields → (seen view).window.len ≡ bits → IsRun fields first last
-      → from ≡ field_at fields first → to ≡ field_at fields last → number ≡ number_in endian high t.BITS (seen view).window.start (seen view).bits (record { start = from.start; len = to.start + to.len - from.start })
+      → from ≡ field_at fields first → to ≡ field_at fields last → number ≡ field_number endian high t.BITS (seen view).window.start (seen view).bits (record { start = from.start; len = to.start + to.len - from.start })
       → (number ≡ plain_number high (seen view).bits (across fields first last)) × (number < 2 ^ (across fields first last).len)
   run-number endian bits first last number fields from to seam layout many run from-is to-is told =
       let all = length-seen view ∙ many in
@@ -53,7 +53,7 @@ module _ {T O : Type 0} {t : Store T} {o : Order O} (high : Bool) (view : BitSli
   -- the number of the next field is split off, and that of the fields behind it is left
   pub run-split : (endian : Endian) (bits first last n word number left : ℕ) (fields : List Window) → IsSeamless endian high → IsLayout bits fields → (seen view).window.len ≡ bits → IsRun fields first last → first < last → first ≤ n → n ≤ last
       → word ≡ aligned high (plain_number high (seen view).bits (across fields n last)) (across fields n last).len → SplitsOff high word (field_at fields n).len number left
-      → (number ≡ number_in endian high t.BITS (seen view).window.start (seen view).bits (field_at fields n)) × (n + 1 ≤ last → left ≡ aligned high (plain_number high (seen view).bits (across fields (n + 1) last)) (across fields (n + 1) last).len)
+      → (number ≡ field_number endian high t.BITS (seen view).window.start (seen view).bits (field_at fields n)) × (n + 1 ≤ last → left ≡ aligned high (plain_number high (seen view).bits (across fields (n + 1) last)) (across fields (n + 1) last).len)
   run-split endian bits first last n word number left fields seam layout many run several least low is split =
       let all = length-seen view ∙ many in
       let inside = layout.inside last run.below in
@@ -73,8 +73,8 @@ module _ {T O : Type 0} {t : Store T} {o : Order O} (high : Bool) (view : BitSli
 
   -- the number of a field is the end of the word that ends with it
   pub word-before : (endian : Endian) (field : Window) (word : ℕ) → IsSeamless endian high → IsWithin field (seen view).window.len → 64 ≤ field.start + field.len → field.len < 64
-      → word ≡ number_in endian high t.BITS (seen view).window.start (seen view).bits (record { start = field.start + field.len - 64; len = 64 })
-      → (word < 2 ^ 64) × ((if high then word % 2 ^ field.len else word / 2 ^ (64 - field.len)) ≡ number_in endian high t.BITS (seen view).window.start (seen view).bits field)
+      → word ≡ field_number endian high t.BITS (seen view).window.start (seen view).bits (record { start = field.start + field.len - 64; len = 64 })
+      → (word < 2 ^ 64) × ((if high then word % 2 ^ field.len else word / 2 ^ (64 - field.len)) ≡ field_number endian high t.BITS (seen view).window.start (seen view).bits field)
   word-before endian field word seam inside wide narrow told =
       let all = length-seen view in
       let start = inside.start in

@@ -20,7 +20,7 @@ use Rattle.bitrecord.proofs.RunLaws.{run-apart, run-beside}
 use Rattle.bitrecord.specs.FieldLaws.{window-kept}
 use Rattle.bitrecord.specs.Layouts.{AreApart, IsLayout, field_at}
 use Rattle.bitrecord.specs.RecordLaws.{earlier_or_this}
-use Rattle.bitrecord.specs.Records.{Fits, WritesField, WritesFields, number_in, number_of}
+use Rattle.bitrecord.specs.Records.{Fits, WritesField, WritesFields, field_number, number_of}
 use Rattle.bitrecord.specs.RunWrites.{WritesRun}
 use Rattle.bitrecord.specs.Runs.{IsRun, IsSeamless, across, end_of, plain_number}
 use Rattle.bitrecord.specs.declared.endian.Endian.{Endian}
@@ -98,7 +98,7 @@ module _ {T O : Type 0} {t : Store T} {o : Order O} (high : Bool) (before after 
 
   -- a field apart from that which was written has its number as before
   pub other-field : (endian : Endian) (field other : Window) (value : ℕ) → AreApart other field → IsWithin other (seen_mut before).window.len → WritesField endian high field value before after
-      → number_in endian high t.BITS (seen_mut after).window.start (seen_mut after).bits other ≡ number_in endian high t.BITS (seen_mut before).window.start (seen_mut before).bits other
+      → field_number endian high t.BITS (seen_mut after).window.start (seen_mut after).bits other ≡ field_number endian high t.BITS (seen_mut before).window.start (seen_mut before).bits other
   other-field endian field other value apart inside wrote =
       let all = length-seen_mut before in
       let now = length-seen_mut after ∙ ap (λ (w : Window). w.len) wrote.written.window in

@@ -8,7 +8,7 @@ use Rattle.bitvec.specs.Window.{IsWithin, window_of}
 use Rattle.bitvec.specs.WindowLaws.{get-window, length-window}
 use Rattle.bitrecord.specs.Layouts.{AreApart, IsLayout, field_at, no_field}
 use Rattle.bitrecord.specs.RecordLaws.{number-fits}
-use Rattle.bitrecord.specs.Records.{IsBeside, number_in, number_of, record_in}
+use Rattle.bitrecord.specs.Records.{IsBeside, field_number, number_of, record_in}
 use Rattle.bitrecord.specs.declared.endian.Endian.{Endian}
 
 three_ways : (k n : ℕ) → (k < n) ⊎ ((k ≡ n) ⊎ (n < k))
@@ -48,24 +48,24 @@ apart-from bits fields k n layout low below other =
 -- the numbers of all fields where one has a number and the bits beside it are as before
 module _ (endian : Endian) (high : Bool) (b s : ℕ) where
   pub numbers-set : (bits n value : ℕ) (fields : List Window) (before after : List Bool) → IsLayout bits fields → length before ≡ bits → length after ≡ bits → n < length fields
-      → number_in endian high b s after (field_at fields n) ≡ value
+      → field_number endian high b s after (field_at fields n) ≡ value
       → ((place : ℕ) (d : Bool) → IsBeside (field_at fields n) place → slice_index_or after place d ≡ slice_index_or before place d)
       → record_in endian high b s after fields ≡ slice_set (record_in endian high b s before fields) n value
   numbers-set bits n value fields before after layout long also below is kept =
-      let many = length-map fields (number_in endian high b s before) in
-      let more = length-map fields (number_in endian high b s after) in
+      let many = length-map fields (field_number endian high b s before) in
+      let more = length-map fields (field_number endian high b s after) in
       let size = length-set (record_in endian high b s before fields) n value in
       same_lists _ _ (omega arith) (λ k d low.
       let few : k < length fields = omega arith in
-      get_or-map (number_in endian high b s after) fields k no_field d few
+      get_or-map (field_number endian high b s after) fields k no_field d few
       ∙ ⊎_elim (λ (same : k ≡ n). rw same (is ∙ sym (get_or-set_same (record_in endian high b s before fields) n value d (omega arith))))
       (λ (other : k ≡ n → ⊥).
       ap (number_of endian high b (s + (field_at fields k).start)) (window-kept before after (field_at fields n) (field_at fields k) (apart-from bits fields k n layout few below other)
       (rw long (layout.inside k few)) (rw also (layout.inside k few)) kept)
-      ∙ sym (get_or-map (number_in endian high b s before) fields k no_field d few) ∙ sym (get_or-set_other (record_in endian high b s before fields) n k value d other)) (same-or-not k n))
+      ∙ sym (get_or-map (field_number endian high b s before) fields k no_field d few) ∙ sym (get_or-set_other (record_in endian high b s before fields) n k value d other)) (same-or-not k n))
 
   -- a field's number has no more bits than the field
   pub number-below : (bits n : ℕ) (fields : List Window) (list : List Bool) → IsLayout bits fields → length list ≡ bits → n < length fields
-      → number_in endian high b s list (field_at fields n) < 2 ^ (field_at fields n).len
+      → field_number endian high b s list (field_at fields n) < 2 ^ (field_at fields n).len
   number-below bits n fields list layout long below =
       rw (length-window list (field_at fields n) (rw long (layout.inside n below))) at (number-fits endian high b (s + (field_at fields n).start) (window_of list (field_at fields n)))

@@ -17,7 +17,7 @@ use Rattle.bitvec.specs.Window.{IsWithin, window_of}
 use Rattle.bitvec.specs.WindowLaws.{get-window, length-window}
 use Rattle.bitvec.specs.Writes.{WritesBits}
 use Rattle.bitrecord.specs.Layouts.{EachField, IsLayout, field_at, no_field}
-use Rattle.bitrecord.specs.Records.{AreEncodable, IsBeside, IsOutside, IsRefusal, WritesRecord, number_in, number_of, record_in}
+use Rattle.bitrecord.specs.Records.{AreEncodable, IsBeside, IsOutside, IsRefusal, WritesRecord, field_number, number_of, record_in}
 use Rattle.bitrecord.specs.declared.encode_error.EncodeError.{EncodeError}
 use Rattle.bitrecord.specs.declared.encode_error.EncodeError.TheVariants as refusal
 use Rattle.bitrecord.specs.declared.endian.Endian.{Endian}
@@ -60,7 +60,7 @@ outside-or-in {P} fields place (suc n) outside inside =
 
 -- lists with the same number in each field, and the same bits in none, are one list
 pub fields-determine : (endian : Endian) (high : Bool) (b s : ℕ) (fields : List Window) (x y : List Bool) → 0 < b → length x ≡ length y → EachField (λ field. IsWithin field (length x)) fields
-    → ((k : ℕ) → k < length fields → number_in endian high b s x (field_at fields k) ≡ number_in endian high b s y (field_at fields k)) → AgreeOutside fields x y → x ≡ y
+    → ((k : ℕ) → k < length fields → field_number endian high b s x (field_at fields k) ≡ field_number endian high b s y (field_at fields k)) → AgreeOutside fields x y → x ≡ y
 fields-determine endian high b s fields x y some long inside same outside = same_lists x y long (λ place d low.
     outside-or-in fields place (length fields) (λ none. outside place d none) (λ k few from below.
     let field : Window = field_at fields k in
@@ -75,8 +75,8 @@ fields-determine endian high b s fields x y some long inside same outside = same
 
 -- the number of one field of the numbers of all
 pub number-of-record : (endian : Endian) (high : Bool) (b s : ℕ) (list : List Bool) (fields : List Window) (k : ℕ) (e : ℕ) → k < length fields
-    → slice_index_or (record_in endian high b s list fields) k e ≡ number_in endian high b s list (field_at fields k)
-number-of-record endian high b s list fields k e low = get_or-map (number_in endian high b s list) fields k no_field e low
+    → slice_index_or (record_in endian high b s list fields) k e ≡ field_number endian high b s list (field_at fields k)
+number-of-record endian high b s list fields k e low = get_or-map (field_number endian high b s list) fields k no_field e low
 
 -- records of the same numbers, and the same bits in no field, are equal
 pub record-determines : (endian : Endian) (high : Bool) (b s : ℕ) (fields : List Window) (x y : List Bool) → 0 < b → length x ≡ length y → EachField (λ field. IsWithin field (length x)) fields
@@ -91,7 +91,7 @@ number-fits end.Big high b s list = loaded_be-below high b s list
 
 pub record-encodable : (endian : Endian) (high : Bool) (b s : ℕ) (list : List Bool) (fields : List Window) → EachField (λ field. IsWithin field (length list)) fields → AreEncodable fields (record_in endian high b s list fields)
 record-encodable endian high b s list fields inside = record {
-  count = length-map fields (number_in endian high b s list);
+  count = length-map fields (field_number endian high b s list);
   fit = λ k low. rw (number-of-record endian high b s list fields k 0 low)
       (rw (length-window list (field_at fields k) (inside k low)) at (number-fits endian high b (s + (field_at fields k).start) (window_of list (field_at fields k))));
 }
@@ -147,8 +147,8 @@ module _ {T O : Type 0} {t : Store T} {o : Order O} (endian : Endian) (high : Bo
       let many : length (seen_mut one).bits ≡ (seen_mut first).window.len = length-seen_mut one ∙ ap (λ (w : Window). w.len) place in
       let more : length (seen_mut other).bits ≡ (seen_mut first).window.len = length-seen_mut other ∙ ap (λ (w : Window). w.len) there in
       fields-determine endian high t.BITS (seen_mut first).window.start fields (seen_mut one).bits (seen_mut other).bits some (many ∙ sym more) (λ k low. rw many (inside k low))
-      (λ k low. ap (λ (w : Window). number_in endian high t.BITS w.start (seen_mut one).bits (field_at fields k)) (sym place) ∙ wrote.numbers k low
-      ∙ sym (also.numbers k low) ∙ ap (λ (w : Window). number_in endian high t.BITS w.start (seen_mut other).bits (field_at fields k)) there)
+      (λ k low. ap (λ (w : Window). field_number endian high t.BITS w.start (seen_mut one).bits (field_at fields k)) (sym place) ∙ wrote.numbers k low
+      ∙ sym (also.numbers k low) ∙ ap (λ (w : Window). field_number endian high t.BITS w.start (seen_mut other).bits (field_at fields k)) there)
       (λ k d outside. wrote.others k d outside ∙ agree k d outside ∙ sym (also.others k d outside))
 
   -- the numbers that a record has, written into it, change nothing
@@ -159,7 +159,7 @@ module _ {T O : Type 0} {t : Store T} {o : Order O} (endian : Endian) (high : Bo
       let many : length (seen_mut after).bits ≡ (seen_mut before).window.len = length-seen_mut after ∙ ap (λ (w : Window). w.len) place in
       let same : (seen_mut after).bits ≡ (seen_mut before).bits =
       fields-determine endian high t.BITS (seen_mut before).window.start fields (seen_mut after).bits (seen_mut before).bits some (many ∙ sym (length-seen_mut before)) (λ k low. rw many (inside k low))
-      (λ k low. ap (λ (w : Window). number_in endian high t.BITS w.start (seen_mut after).bits (field_at fields k)) (sym place) ∙ wrote.numbers k low
+      (λ k low. ap (λ (w : Window). field_number endian high t.BITS w.start (seen_mut after).bits (field_at fields k)) (sym place) ∙ wrote.numbers k low
       ∙ number-of-record endian high t.BITS (seen_mut before).window.start (seen_mut before).bits fields k 0 low)
       wrote.others in
       subst (WritesBits before after) same wrote.written
@@ -169,7 +169,7 @@ module _ {T O : Type 0} {t : Store T} {o : Order O} (endian : Endian) (high : Bo
       → IsPermutation (zip fields values) (zip others numbers) → WritesRecord endian high fields values before after → WritesRecord endian high others numbers before after
   order-free fields values others numbers before after many also order wrote = record {
     numbers = λ k low. stands-among others numbers fields values also many (IsPermutation-sym _ _ order) k low (λ j few field value.
-        ap (λ (w : Window). number_in endian high t.BITS (seen_mut after).window.start (seen_mut after).bits w) (sym field) ∙ wrote.numbers j few ∙ value);
+        ap (λ (w : Window). field_number endian high t.BITS (seen_mut after).window.start (seen_mut after).bits w) (sym field) ∙ wrote.numbers j few ∙ value);
     others = λ place d outside. wrote.others place d (λ k low. stands-among fields values others numbers many also order k low (λ j few field value.
         subst (λ (w : Window). IsBeside w place) field (outside j few)));
     written = wrote.written;

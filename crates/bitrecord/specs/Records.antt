@@ -17,11 +17,11 @@ number_of end.Little high b s list = loaded_le high b s list
 number_of end.Big high b s list = loaded_be high b s list
 
 -- the number of a field of a list of bits that begins at the place; and the numbers of all fields
-abbrev pub number_in : Endian → Bool → ℕ → ℕ → List Bool → Window → ℕ
-number_in endian high b s list field = number_of endian high b (s + field.start) (window_of list field)
+abbrev pub field_number : Endian → Bool → ℕ → ℕ → List Bool → Window → ℕ
+field_number endian high b s list field = number_of endian high b (s + field.start) (window_of list field)
 
 abbrev pub record_in : Endian → Bool → ℕ → ℕ → List Bool → List Window → List ℕ
-record_in endian high b s list fields = map (number_in endian high b s list) fields
+record_in endian high b s list fields = map (field_number endian high b s list) fields
 
 -- the place is none of the field's, and of no field
 abbrev pub IsBeside : Window → ℕ → Type 0
@@ -53,13 +53,13 @@ IsRefusal fields values (refusal.Range i) = IsFirstTooLarge fields values i
 module _ {T O : Type 0} {t : Store T} {o : Order O} where
   -- the field has this number, and all other bits are as before
   pub record WritesField (endian : Endian) (high : Bool) (field : Window) (value : ℕ) (before after : BitSliceMut T O t o) : Type 0 where
-    pub number : number_in endian high t.BITS (seen_mut after).window.start (seen_mut after).bits field ≡ value
+    pub number : field_number endian high t.BITS (seen_mut after).window.start (seen_mut after).bits field ≡ value
     pub others : (place : ℕ) (d : Bool) → IsBeside field place → slice_index_or (seen_mut after).bits place d ≡ slice_index_or (seen_mut before).bits place d
     pub written : WritesBits before after (seen_mut after).bits
 
   -- the fields before the number have these numbers, and the bits in no field are as before
   pub record WritesFields (endian : Endian) (high : Bool) (fields : List Window) (values : List ℕ) (n : ℕ) (before after : BitSliceMut T O t o) : Type 0 where
-    pub numbers : (k : ℕ) → k < n → number_in endian high t.BITS (seen_mut after).window.start (seen_mut after).bits (field_at fields k) ≡ slice_index values k
+    pub numbers : (k : ℕ) → k < n → field_number endian high t.BITS (seen_mut after).window.start (seen_mut after).bits (field_at fields k) ≡ slice_index values k
     pub others : (place : ℕ) (d : Bool) → IsOutside fields place → slice_index_or (seen_mut after).bits place d ≡ slice_index_or (seen_mut before).bits place d
     pub written : WritesBits before after (seen_mut after).bits
 

@@ -4,7 +4,7 @@ use Rattle.bitvec.specs.Segments.{segment_number}
 use Rattle.bitvec.specs.Types.{Window}
 use Rattle.bitvec.specs.Window.{window_of}
 use Rattle.bitrecord.specs.Layouts.{field_at}
-use Rattle.bitrecord.specs.Records.{number_in}
+use Rattle.bitrecord.specs.Records.{field_number}
 use Rattle.bitrecord.specs.declared.endian.Endian.{Endian}
 use Rattle.bitrecord.specs.declared.endian.Endian.TheVariants as end
 
@@ -27,7 +27,7 @@ AreRuns fields runs = (n : ℕ) → n < length fields → n < 64 → IsRun field
 
 -- the numbers of the fields from the first to the last are those that a list of bits has at the place, and those before are as they were
 pub record ReadsRun (endian : Endian) (high : Bool) (b s : ℕ) (list : List Bool) (fields : List Window) (first last : ℕ) (old new : List ℕ) : Type 0 where
-  pub done : (k : ℕ) → first ≤ k → k ≤ last → slice_index new k ≡ number_in endian high b s list (field_at fields k)
+  pub done : (k : ℕ) → first ≤ k → k ≤ last → slice_index new k ≡ field_number endian high b s list (field_at fields k)
   pub kept : (k : ℕ) → k < first → slice_index new k ≡ slice_index old k
 
 -- the bits of fields that follow one another

@@ -7,7 +7,7 @@ ghost use Rattle.bitvec.specs.Window.{IsWithin, write_at};
 ghost use Rattle.bitvec.specs.Writes.{WritesBits};
 ghost use Rattle.bitrecord.specs.Layouts.{HasWidth, field_at};
 ghost use Rattle.bitrecord.specs.declared.encode_error.EncodeError.TheVariants.{Range};
-ghost use Rattle.bitrecord.specs.Records.{Fits, WritesField, number_in};
+ghost use Rattle.bitrecord.specs.Records.{Fits, WritesField, field_number};
 ghost use Rattle.bitrecord.specs.Runs.{IsSeamless};
 ghost use Rattle.bitrecord.specs.Views.{bits_of, fields_of};
 
@@ -150,7 +150,7 @@ pub(crate) fn take<T: BitStore, O: FieldOrder>(
 ) -> u128
     requires width { HasWidth field }
     requires inside { IsWithin field (seen view).window.len }
-    ensures { result ≡ number_in endian O.HIGH T.BITS (seen view.entry).window.start (seen view.entry).bits field }
+    ensures { result ≡ field_number endian O.HIGH T.BITS (seen view.entry).window.start (seen view.entry).bits field }
 {
     let part = view.into_part(field.start..field.start + field.len);
     match endian {
@@ -194,7 +194,7 @@ pub fn decode_one<T: BitStore, O: FieldOrder, A: Allocator>(
 ) -> u128
     requires bits { (seen view).window.len ≡ bits_of layout.now }
     requires bound { number < length (fields_of layout.now) }
-    ensures value { result ≡ number_in endian O.HIGH T.BITS (seen view.entry).window.start (seen view.entry).bits (field_at (fields_of layout.now) number) }
+    ensures value { result ≡ field_number endian O.HIGH T.BITS (seen view.entry).window.start (seen view.entry).bits (field_at (fields_of layout.now) number) }
     ensures fits { Fits (field_at (fields_of layout.now) number) result }
 {
     take(endian, layout.field(number), view)

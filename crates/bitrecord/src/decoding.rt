@@ -3,7 +3,7 @@ ghost use Rattle.std.specs.Prelude.{◌≡◌, ◌<◌, ◌↔◌, IsTrue, lengt
 ghost use Rattle.bitvec.specs.Views.{seen};
 ghost use Rattle.bitvec.specs.Window.{IsWithin};
 ghost use Rattle.bitrecord.specs.Layouts.{HasWidth};
-ghost use Rattle.bitrecord.specs.Records.{AreEncodable, number_in, record_in};
+ghost use Rattle.bitrecord.specs.Records.{AreEncodable, field_number, record_in};
 ghost use Rattle.bitrecord.specs.Runs.{IsRun, IsSeamless, ReadsRun};
 ghost use Rattle.bitrecord.specs.Views.{bits_of, fields_of};
 
@@ -66,7 +66,7 @@ fn take_alone<T: BitStore, O: FieldOrder>(
     requires width { HasWidth field }
     requires inside { IsWithin field (seen view).window.len }
     requires seamless { IsSeamless endian O.HIGH }
-    ensures { result ≡ number_in endian O.HIGH T.BITS (seen view.entry).window.start (seen view.entry).bits field }
+    ensures { result ≡ field_number endian O.HIGH T.BITS (seen view.entry).window.start (seen view.entry).bits field }
 {
     let end = field.start + field.len;
     if field.len >= 64 || end < 64 {

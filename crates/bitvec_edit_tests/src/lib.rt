@@ -3,15 +3,9 @@
 #![tactic(auto)]
 
 #[cfg(test)]
-mod captures;
-#[cfg(test)]
-mod closures;
-#[cfg(test)]
 mod copies;
 #[cfg(test)]
 mod digits;
-#[cfg(test)]
-pub mod edit_laws;
 #[cfg(test)]
 mod edits;
 pub mod limits;
@@ -27,8 +21,6 @@ mod owned;
 mod refusals;
 #[cfg(test)]
 mod repeats;
-#[cfg(test)]
-mod split_edits;
 #[cfg(test)]
 mod transfers;
 #[cfg(test)]

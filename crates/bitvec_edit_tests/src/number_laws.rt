@@ -1,16 +1,11 @@
 //! What loads and stores of a view come to together.
 ghost use Rattle.std.specs.Prelude.{◌≡◌, ◌<◌, ◌≤◌};
-ghost use Rattle.bitvec_field.specs.DomainParts.{lists_of_pieces};
 ghost use Rattle.bitvec_field.specs.Integers.{integer_of, remainder_of};
-ghost use Rattle.bitvec_field.specs.domain.Domains.{pieces_of};
-ghost use Rattle.bitvec_field.specs.segments.Segments.{segments};
-ghost use Rattle.bitvec_field.specs.slice.Views.{seen, seen_mut};
+ghost use Rattle.bitvec_field.specs.slice.Views.{seen_mut};
 
-use bitvec_field::slice::{BitSlice, BitSliceMut};
+use bitvec_field::slice::BitSliceMut;
 use bitvec_field::store::BitStore;
 use bitvec_field::{BitField, BitFieldMut, FieldOrder, Integral};
-use bitvec_owned::query::base::BitOrder;
-use bitvec_owned::query::slice::Domain;
 
 /// Stores a value and loads it: it is the value modulo `2^n`, of a signed type less `2^n` where the
 /// highest bit is 1.
@@ -48,13 +43,4 @@ pub fn loaded_then_stored_be<T: BitStore, O: FieldOrder>(view: &mut BitSliceMut<
     let _bits = view.len();
     let number = view.load_be::<u128>();
     view.store_be::<u128>(number);
-}
-
-/// The elements that a view touches: the bits of its parts are the segments that loads and stores go by.
-pub fn parts_by_element<'a, T: BitStore, O: BitOrder>(view: BitSlice<'a, T, O>) -> Domain<'a, T, O>
-    ensures { lists_of_pieces T.BITS O.at T.value (pieces_of result)
-        ≡ segments T.BITS (seen view.entry).window.start (seen view.entry).bits }
-{
-    let _window = view.window();
-    view.domain()
 }

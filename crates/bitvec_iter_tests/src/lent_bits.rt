@@ -1,28 +1,7 @@
-//! Single bits of a view that are lent, and what a caller knows of a walk over them.
-ghost use Rattle.bitvec_iter.specs.LentBits.{WritesLeft, bit_walk_of, bits_in_place, bits_to_come, past_bits};
-ghost use Rattle.bitvec_edit.specs.domain.Asked.{RefillsWith};
-
-use bitvec_edit::base::{BitOrder, Lsb0};
+//! Single bits of a view that are lent.
+use bitvec_edit::base::Lsb0;
 use bitvec_edit::slice::BitSliceMut;
-use bitvec_edit::store::BitStore;
-use bitvec_iter::{IterMut, PieceCallsMut};
-
-/// Makes each bit of a walk behind the first `count` that are left what `f` answers: the bits of the walk's
-/// view are known.
-pub fn refill_behind<T: BitStore, O: BitOrder, F: FnMut(usize, bool) -> bool>(
-    bits: &mut IterMut<'_, T, O>,
-    count: usize,
-    f: F,
-)
-    requires { F.IsAlwaysCallable f }
-    ensures answers { RefillsWith F.FnMut f (bits_to_come (past_bits (bit_walk_of bits.old) count))
-        (bits_in_place (past_bits (bit_walk_of bits.old) count) (bit_walk_of bits.new)) }
-    ensures walk { WritesLeft (past_bits (bit_walk_of bits.old) count) (bit_walk_of bits.new)
-        (bits_in_place (past_bits (bit_walk_of bits.old) count) (bit_walk_of bits.new)) }
-{
-    bits.pass(count);
-    bits.for_each_bit_mut(f);
-}
+use bitvec_iter::PieceCallsMut;
 
 /// How many bits are left behind the first two and before the last, by each view of them.
 fn left_of(view: &mut BitSliceMut<'_, u8, Lsb0>) -> [usize; 3] {

@@ -3,8 +3,6 @@
 #![tactic(auto)]
 
 #[cfg(test)]
-pub mod adapters;
-#[cfg(test)]
 mod bits;
 #[cfg(test)]
 mod by_value;

@@ -1,24 +1,10 @@
 //! The pieces of splits, from both ends, how many may come, and which bits the predicate is asked about.
-ghost use Rattle.std.specs.Prelude.{◌≡◌, false, find, slice_index_or, unwrap_or};
 ghost use Rattle.std.specs.Iterator.{IsFinite};
-ghost use Rattle.bitvec_query.specs.slice.Views.{seen};
-ghost use Rattle.bitvec_split.specs.Asked.{upward};
 
-use bitvec_query::base::{BitOrder, Lsb0};
+use bitvec_query::base::Lsb0;
 use bitvec_query::slice::{BitSlice, BitSliceMut};
-use bitvec_query::store::BitStore;
 use bitvec_split::SplitCalls;
 use bitvec_test_support::shows;
-
-/// How many bits stand before the first one: as many as there are, if none is.
-pub fn before_one<T: BitStore, O: BitOrder>(view: BitSlice<'_, T, O>) -> usize
-    ensures { result ≡ unwrap_or (find (λ index. slice_index_or (seen view.entry).bits index false) (upward (seen view.entry).window.len)) (seen view.entry).window.len }
-{
-    match view.split(|_, bit| *bit).next() {
-        Some(piece) => piece.len(),
-        None => view.len(),
-    }
-}
 
 /// A view's bits as digits behind a 1, read as a number.
 fn number(piece: BitSlice<'_, u8, Lsb0>) -> u32 {

@@ -1,29 +1,11 @@
 //! Calls that leave open what the view is afterwards: what they lend of the bits 3 up to 21 of three
-//! bytes is flipped; then every other bit is as before, and the view stands where it stood. And what a caller knows of
-//! a bit that is lent.
-ghost use Rattle.std.specs.Prelude.{◌≡◌, ◌<◌, ◌↔◌, IfSome, IsSome, false, slice_index_or};
-ghost use Rattle.bitvec_query.specs.slice.Views.{seen_mut};
+//! bytes is flipped; then every other bit is as before, and the view stands where it stood.
 
 use bitvec_edit::BitEdits;
-use bitvec_query::base::{BitOrder, Lsb0, Window};
+use bitvec_query::base::{Lsb0, Window};
 use bitvec_query::slice::BitSliceMut;
-use bitvec_query::store::BitStore;
 use bitvec_test_support::{MEMORIES, bits_of, flipped};
 use std::process::Abort;
-
-/// The bit at an index of a writable view, read through a reference that could write it.
-pub fn bit_at<T: BitStore, O: BitOrder>(
-    view: &mut BitSliceMut<'_, T, O>,
-    index: usize,
-) -> Option<bool>
-    ensures some { IsSome result ↔ index < (seen_mut view.old).window.len }
-    ensures value { IfSome result (λ bit. bit ≡ slice_index_or (seen_mut view.old).bits index false) }
-{
-    match view.get_mut(index) {
-        Some(bit) => Some(*bit),
-        None => None,
-    }
-}
 
 /// Flips the bit that a call lends, if it does.
 fn flip_bit(view: &mut BitSliceMut<'_, u8, Lsb0>, kind: usize) {

@@ -1,32 +1,9 @@
 //! Two parts of a view that are written at once.
-ghost use Rattle.std.specs.Prelude.{◌≤◌, ◌↔◌, IsTrue};
-ghost use Rattle.bitvec_query.specs.slice.Apart.{ComesApart};
-ghost use Rattle.bitvec_query.specs.slice.Views.{seen_mut};
+ghost use Rattle.std.specs.Prelude.{◌≤◌};
 
 use bitvec_edit::BitEdits;
 use bitvec_query::base::Lsb0;
-use bitvec_query::engine::SliceOrder;
 use bitvec_query::slice::BitSliceMut;
-use bitvec_query::store::BitStore;
-
-/// Fills the bits before `mid` and flips those from it on, if they share no element, and says
-/// whether it did.
-pub fn fill_and_flip<T: BitStore, O: SliceOrder>(
-    view: &mut BitSliceMut<'_, T, O>,
-    mid: usize,
-) -> bool
-    requires { mid ≤ (seen_mut view.old).window.len }
-    ensures { IsTrue result ↔ ComesApart T.BITS (seen_mut view.old).window mid }
-{
-    match view.split_apart_mut(mid) {
-        Some((mut front, mut rest)) => {
-            front.fill(true);
-            rest.invert();
-            true
-        }
-        None => false,
-    }
-}
 
 /// Fills the bits before `mid` of the bits 3 up to 13, if these come apart there, and says whether it did.
 fn fill_before(bytes: &mut [u8; 2], mid: usize) -> bool

@@ -6,7 +6,7 @@ use Rattle.std.proofs.lemmas.List.{get_or_append_left, get_or_push, get_or-map, 
 use Rattle.std.proofs.lemmas.List.Sums.{fold_push}
 use Rattle.bitrecord.specs.bits.{BitSliceMut, Order, Store, Window, length-seen_mut, seen_mut, written-none, written-then}
 use Rattle.bitrecord.specs.Layouts.{IsLayout, field_at, no_field}
-use Rattle.bitrecord.specs.Records.{IsBeside, WritesField, number_in, record_in}
+use Rattle.bitrecord.specs.Records.{IsBeside, WritesField, field_number, record_in}
 use Rattle.bitrecord.specs.declared.endian.Endian.TheVariants.{Big}
 use Rattle.packet.specs.Changes.{MakesRight, SetsFields, WritesChanges, numbers_seen, with_changes}
 use Rattle.packet.specs.Checksums.{checksum_of, checksum_word, sum_words}
@@ -19,10 +19,10 @@ use Rattle.packet.proofs.SumLaws.{checksum-right}
 -- the words of a list of bits have 16 bits
 pub words-below : (bits b s : ℕ) (words : List Window) (list : List Bool) → IsLayout bits words → length list ≡ bits → AreWords words → All (λ word. word < 65536) (record_in Big true b s list words)
 words-below bits b s words list layout many are k d low =
-    let size = length-map words (number_in Big true b s list) in
+    let size = length-map words (field_number Big true b s list) in
     let few : k < length words = omega arith in
     let below = number-below Big true b s bits k words list layout many few in
-    let is = get_or-map (number_in Big true b s list) words k no_field d few in
+    let is = get_or-map (field_number Big true b s list) words k no_field d few in
     subst (λ (n : ℕ). n < 65536) (sym is) (rw (ap (λ (w : Window). w.len) (are.each k few)) at below)
 
 -- what a call that did succeed ensures of success
@@ -39,7 +39,7 @@ module _ {T O : Type 0} {t : Store T} {o : Order O} where
       ap (λ (w : Window). record_in Big true t.BITS w.start (seen_mut after).bits fields) place
       ∙ numbers-set Big true t.BITS (seen_mut before).window.start bits n value fields (seen_mut before).bits (seen_mut after).bits layout (length-seen_mut before ∙ many)
       (length-seen_mut after ∙ ap (λ (w : Window). w.len) place ∙ many) below
-      (ap (λ (w : Window). number_in Big true t.BITS w.start (seen_mut after).bits (field_at fields n)) (sym place) ∙ wrote.number) wrote.others
+      (ap (λ (w : Window). field_number Big true t.BITS w.start (seen_mut after).bits (field_at fields n)) (sym place) ∙ wrote.number) wrote.others
 
   -- no change, and one more
   pub changes-none : (fields : List Window) (v : BitSliceMut T O t o) → WritesChanges fields [] v v
@@ -76,7 +76,7 @@ module _ {T O : Type 0} {t : Store T} {o : Order O} where
       let wanting : 65535 - sum ≡ checksum_of (numbers_seen middle words) = ap (λ (n : ℕ). 65535 - n) is ∙ ap (λ (l : List ℕ). 65535 - sum_words l) (sym none) in
       let here : 65535 - sum ≡ checksum_of (numbers_seen after words) =
       wanting ∙ ap (λ (l : List ℕ). 65535 - sum_words l) (sym (set-set (numbers_seen middle words) checksum_word (65535 - sum) 0) ∙ ap (λ (l : List ℕ). slice_set l checksum_word 0) (sym new)) in
-      let size = length-map words (number_in Big true t.BITS (seen_mut middle).window.start (seen_mut middle).bits) in
+      let size = length-map words (field_number Big true t.BITS (seen_mut middle).window.start (seen_mut middle).bits) in
       let some = of.some in
       record {
         numbers = field-written bits CHECKSUM (65535 - sum) fields middle after layout len are.some wrote

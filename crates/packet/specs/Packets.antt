@@ -4,7 +4,7 @@ use Rattle.std.specs.Prelude.{◌≡◌, ◌≢◌, ℕ, ◌+◌, ◌*◌, ◌<�
 use Rattle.std.specs.List.{range_with_len}
 use Rattle.bitrecord.specs.bits.{Window, msb0_bits}
 use Rattle.bitrecord.specs.Layouts.{IsLayout, field_at}
-use Rattle.bitrecord.specs.Records.{number_in, record_in}
+use Rattle.bitrecord.specs.Records.{field_number, record_in}
 use Rattle.bitrecord.specs.declared.endian.Endian.TheVariants.{Big}
 use Rattle.bitrecord.specs.Views.{bits_of, fields_of}
 use Rattle.bitrecord.specs.declared.layout.Layout.{Layout}
@@ -21,7 +21,7 @@ packet_bits bytes = msb0_bits 8 bytes
 
 -- the number in a window of a packet, the first bit highest; and those in windows
 abbrev pub number_at : List ℕ → Window → ℕ
-number_at bytes window = number_in Big true 8 0 (packet_bits bytes) window
+number_at bytes window = field_number Big true 8 0 (packet_bits bytes) window
 
 abbrev pub numbers_at : List ℕ → List Window → List ℕ
 numbers_at bytes windows = record_in Big true 8 0 (packet_bits bytes) windows

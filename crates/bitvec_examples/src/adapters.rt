@@ -1,0 +1,83 @@
+//! Walks over bits with the adapters of std.
+ghost use Rattle.std.specs.Prelude.{◌≡◌, ◌+◌, ◌-◌, ◌%◌, ◌<◌, ◌==◌, IfOk, count_by, min, reverse};
+ghost use Rattle.std.specs.List.{enumerate_from};
+ghost use Rattle.bitvec.specs.Views.{seen};
+
+use bitvec::index::Window;
+use bitvec::prelude::*;
+use std::alloc::{AllocError, Global};
+
+/// Whether an odd number of bits is 1.
+pub fn parity<T: BitStore, O: BitOrder>(bits: BitSlice<'_, T, O>) -> bool
+    ensures { result ≡ (count_by (λ bit. bit) (seen bits.entry).bits % 2 == 1) }
+{
+    bits.iter().by_vals().filter(|bit| *bit).count() % 2 == 1
+}
+
+/// The bits, the last first.
+pub fn backwards<T: BitStore, O: BitOrder>(
+    alloc: Global,
+    bits: BitSlice<'_, T, O>,
+) -> Result<Vec<bool>, AllocError>
+    ensures { IfOk result (λ bools. bools.items ≡ reverse (seen bits.entry).bits) }
+{
+    bits.iter().by_vals().rev().collect(alloc)
+}
+
+/// The bits with their indices.
+pub fn numbered<T: BitStore, O: BitOrder>(
+    alloc: Global,
+    bits: BitSlice<'_, T, O>,
+) -> Result<Vec<(usize, bool)>, AllocError>
+    ensures { IfOk result (λ places. places.items ≡ enumerate_from 0 (seen bits.entry).bits) }
+{
+    bits.iter().by_vals().enumerate().collect(alloc)
+}
+
+/// At which index of its element the second bit stands: where the walk over the bits is after its first call.
+pub fn phase_behind_first<T: BitStore, O: BitOrder>(bits: BitSlice<'_, T, O>) -> usize
+    requires { 0 < (seen bits).window.len }
+    ensures { result ≡ ((seen bits.entry).window.start + 1) % T.BITS }
+{
+    let mut walk = bits.iter();
+    let _first = walk.next();
+    walk.as_bitslice().window().start
+}
+
+/// The place of the bits before the last, after a call from the back.
+pub fn window_before_last<T: BitStore, O: BitOrder>(bits: BitSlice<'_, T, O>) -> Window
+    ensures start { result.start ≡ (seen bits.entry).window.start % T.BITS }
+    ensures len { result.len ≡ (seen bits.entry).window.len - 1 }
+{
+    let mut walk = bits.iter();
+    let _last = walk.next_back();
+    walk.as_bitslice().window()
+}
+
+/// The place of the bits behind one that has so many before it.
+pub fn window_behind<T: BitStore, O: BitOrder>(bits: BitSlice<'_, T, O>, skipped: usize) -> Window
+    ensures start { result.start ≡ ((seen bits.entry).window.start + min (skipped + 1) (seen bits.entry).window.len) % T.BITS }
+    ensures len { result.len ≡ (seen bits.entry).window.len - (skipped + 1) }
+{
+    let mut walk = bits.iter();
+    let _bit = walk.nth(skipped);
+    walk.as_bitslice().window()
+}
+
+/// At how many places a bit differs from the next.
+pub fn mixed_pairs<T: BitStore, O: SliceOrder>(bits: BitSlice<'_, T, O>) -> usize {
+    bits.windows(2).filter(|pair| pair.some()).count()
+}
+
+/// How many bits are 1, added up over chunks.
+#[tactic(auto, using(bitvec::specs::Laws::joining))]
+pub fn ones_by_chunks<T: BitStore, O: SliceOrder>(bits: BitSlice<'_, T, O>, size: usize) -> usize
+    requires { 0 < size }
+    ensures { result ≡ count_by (λ bit. bit) (seen bits.entry).bits }
+{
+    let mut ones = 0;
+    for piece in bits.chunks(size) {
+        ones += piece.count_ones();
+    }
+    ones
+}
