@@ -4,6 +4,7 @@ pub mod ComposedLaws
 pub mod Domains
 pub mod Laws
 pub mod MatchLaws
+pub mod NthLaws
 pub mod Operators
 pub mod Types
 pub use Rattle.bitvec_elements.specs.base.BitsFixMemory
@@ -53,7 +54,6 @@ pub use Rattle.bitvec_iter.specs.LentPieces
 pub use Rattle.bitvec_iter.specs.LentWalk
 pub use Rattle.bitvec_query.specs.Indices as OnesLeft
 pub use Rattle.bitvec_query.specs.Loads
-pub use Rattle.bitvec_query.specs.iter.NthLaws
 pub use Rattle.bitvec_query.specs.Places
 pub use Rattle.bitvec_query.specs.Turns
 pub use Rattle.bitvec_owned.specs.ArrayWrites
@@ -82,7 +82,7 @@ pub use Rattle.bitvec_in_place.specs.field.segments.PlainLaws
 pub use Rattle.bitvec_in_place.specs.field.segments.Segments
 pub use Rattle.bitvec_in_place.specs.field.segments.StoreLaws
 pub use Rattle.bitvec_owned.specs.edit.slice.Indices
-pub use Rattle.bitvec_query.specs.slice.Apart
+pub use Rattle.bitvec_slice.specs.Apart
 pub use Rattle.bitvec_owned.specs.edit.slice.KeptLaws
 pub use Rattle.bitvec_owned.specs.edit.slice.Seen
 pub use Rattle.bitvec_owned.specs.edit.slice.SeenLaws
