@@ -1,4 +1,6 @@
 pub mod ChainLaws
+pub mod NumberLaws
+pub mod PairLaws
 pub mod PathLaws
 pub mod RowLaws
 pub mod TextLaws

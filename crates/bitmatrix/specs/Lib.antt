@@ -1,3 +1,4 @@
+pub mod Arguments
 pub mod Faults
 pub mod Matrix
 pub mod Program
