@@ -11,8 +11,8 @@ use bitvec_elements::words::{WORD_BITS, WordOrder};
 use bitvec_elements::{eq_in, word_from};
 
 /// Whether the right window's bits occur in the left one's, from some index on. Words rule out most of
-/// 64 indices at a time; at those that remain the bits are compared one by one. Condition: as for
-/// [`bitvec_elements::eq_in`].
+/// 64 indices at a time; at those that remain the bits are compared as by [`bitvec_elements::eq_in`], whose
+/// condition this has too.
 pub fn contains_in<T: BitStore, O: BitOrder, U: BitStore, P: BitOrder>(
     left: &[T],
     left_window: Window,
