@@ -1,7 +1,7 @@
 -- What is asked for, by the texts of the memories, and the faults that follow.
 use Rattle.std.proofs.Common.{◌≡◌, ℕ, Bool, false, true, ◌&&◌, List, length, Option, Some, None, is_some, IsSome, refl, ap, ◌∙◌}
 use Rattle.std.proofs.Math.Bool.{and-false}
-use Rattle.bitvec_run.specs.base.declared.window.Window.{Window}
+use Rattle.bitvec_base.specs.declared.window.Window.{Window}
 use Rattle.bitvec_run.specs.declared.command.Reply.{Reply}
 use Rattle.bitvec_run.specs.declared.command.RunError.{RunError}
 use Rattle.bitvec_run.specs.declared.command.Step.{Step}

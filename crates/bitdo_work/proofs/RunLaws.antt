@@ -1,7 +1,7 @@
 -- A run by accessors is one on the elements.
 use Rattle.std.proofs.Common.{◌≡◌, ℕ, Bool, List, Result, Ok, Err, IfOk, OnOk, Vec, vec_items}
-use Rattle.bitvec_run.specs.base.Memory.{memory_bits}
-use Rattle.bitvec_run.specs.cells.declared.cells.CellsRead.{Ghosts as Access}
+use Rattle.bitvec_base.specs.Memory.{memory_bits}
+use Rattle.bitvec_cells.specs.declared.cells.CellsRead.{Ghosts as Access}
 use Rattle.bitvec_run.specs.declared.command.Reply.{Reply}
 use Rattle.bitvec_run.specs.declared.command.RunError.{RunError}
 use Rattle.bitvec_run.specs.declared.command.Step.{Step}

@@ -1,7 +1,7 @@
 -- The words after the program's name.
 use Rattle.std.specs.Prelude.{ℕ, ◌-◌, bit_xor, if◌then◌else◌, List, [], ◌∷◌, Option, Some, None, codes}
 use Rattle.std.specs.Str.{bytes_eq}
-use Rattle.bitvec_run.specs.base.declared.window.Window.{Window}
+use Rattle.bitvec_base.specs.declared.window.Window.{Window}
 use Rattle.bitdo_work.specs.Elements.{elements_of}
 use Rattle.bitdo_work.specs.Words.{◌>>=◌, number_of}
 use Rattle.bitdo_work.specs.declared.arguments.Arguments.{Arguments}

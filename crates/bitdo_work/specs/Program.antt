@@ -2,7 +2,7 @@
 use Rattle.std.specs.Prelude.{◌≡◌, ℕ, ◌^◌, ◌<◌, ◌≤◌, Bool, List, length, Option, Some, None, IsSome, All}
 use Rattle.std.specs.Io.KnownBytes.{Appends, Consumes, IsAtEnd}
 use Rattle.std.specs.Str.{IsUtf8}
-use Rattle.bitvec_run.specs.base.Memory.{Writes, list_in, memory_bits}
+use Rattle.bitvec_base.specs.Memory.{Writes, list_in, memory_bits}
 use Rattle.bitvec_run.specs.declared.command.Reply.{Reply}
 use Rattle.bitvec_run.specs.declared.command.RunError.{RunError}
 use Rattle.bitvec_run.specs.declared.command.Step.{Step}

@@ -5,7 +5,7 @@ use Rattle.std.specs.List.{list_all, slice_split}
 use Rattle.std.specs.Char.{is_ascii_digit}
 use Rattle.std.specs.Str.{bytes_eq}
 use Rattle.std.specs.Str.Parse.{digits_value}
-use Rattle.bitvec_run.specs.base.declared.window.Window.{Window}
+use Rattle.bitvec_base.specs.declared.window.Window.{Window}
 use Rattle.bitdo_work.specs.declared.words.Words.{Words}
 
 infixl 10 ◌>>=◌

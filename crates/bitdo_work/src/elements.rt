@@ -5,7 +5,7 @@ ghost use Rattle.std.specs.List.{list_all};
 ghost use Rattle.std.specs.Option.{option_map};
 ghost use Rattle.bitdo_work.specs.Elements.{hexadecimal_of, element_of, elements_of};
 
-use bitvec_run::store::BitStore;
+use bitvec_store::BitStore;
 use std::alloc::{AllocError, Allocator};
 
 /// Whether each byte is a hexadecimal digit, in either case.

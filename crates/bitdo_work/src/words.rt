@@ -4,7 +4,7 @@ ghost use Rattle.std.specs.Char.{is_ascii_digit};
 ghost use Rattle.std.specs.List.{list_all};
 ghost use Rattle.bitdo_work.specs.Words.{number_of, bit_of, words_of, words_left, no_argument, one_word, one_number, one_bit, number_and_bit, two_numbers, three_numbers, one_window};
 
-use bitvec_run::base::Window;
+use bitvec_base::Window;
 
 /// Whether each byte is a decimal digit.
 fn is_decimal(word: &str) -> bool

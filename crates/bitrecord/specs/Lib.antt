@@ -1,4 +1,3 @@
-pub mod bits
 pub mod FieldLaws
 pub mod Layouts
 pub mod RecordLaws

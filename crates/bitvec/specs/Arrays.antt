@@ -1,7 +1,7 @@
 -- The bits of an array of unsigned integers, for clauses at concrete types.
 use Rattle.std.specs.Prelude.{ℕ, ◌-◌, Bool, List, map}
 use Rattle.std.specs.Prelude.{bit_xor}
-use Rattle.bitvec_owned.specs.edit.base.Memory.{memory_bits}
+use Rattle.bitvec_base.specs.Memory.{memory_bits}
 
 -- of words of b bits under `Lsb0`: the lowest bit of the first word comes first
 abbrev pub lsb0_bits : ℕ → List ℕ → List Bool

@@ -1,8 +1,8 @@
 -- A closure that may always be called may be called as `fill_with` and `for_each` call it.
 use Rattle.std.specs.Prelude.{ℕ, Bool, List, length, slice_index_or, false}
 use Rattle.std.specs.Fn.{Mut, always_mut}
-use Rattle.bitvec_slice.specs.domain.Asked.{CallableBelow, CallableOnBits}
-use Rattle.bitvec_slice.specs.domain.AskedLaws.{callable-always}
+use Rattle.bitvec_domain.specs.Asked.{CallableBelow, CallableOnBits}
+use Rattle.bitvec_domain.specs.AskedLaws.{callable-always}
 
 -- on each index below n
 pub callable_below-always : {F : Type 0} (g : Mut F (ℕ × Unit {0}) Bool) (f : F) (n : ℕ) → always_mut g f → CallableBelow g f n

@@ -2,13 +2,13 @@
 use Rattle.std.specs.Prelude.{◌≡◌, ℕ, ◌+◌, ◌*◌, ◌<◌, ◌≤◌, Bool, List, length, refl}
 use Rattle.std.proofs.Common.{arith, sym, subst, ◌∙◌, ap}
 use Rattle.std.proofs.lemmas.List.{length-map}
-use Rattle.bitvec_owned.specs.edit.base.SliceLaws.{range-all}
-use Rattle.bitvec_owned.specs.edit.base.Window.{IsWithin, window_of, write_window}
-use Rattle.bitvec_owned.specs.edit.base.WindowLaws.{window-kept, window-rewritten}
-use Rattle.bitvec_owned.specs.edit.base.declared.order.BitOrder.{Ghosts as Order}
-use Rattle.bitvec_owned.specs.edit.base.declared.window.Window.{Window}
-use Rattle.bitvec_owned.specs.edit.slice.SeenLaws.{length_bits, length-memory, within_memory}
-use Rattle.bitvec_owned.specs.edit.store.declared.store.BitStore.{Ghosts as Store}
+use Rattle.bitvec_base.specs.SliceLaws.{range-all}
+use Rattle.bitvec_base.specs.Window.{IsWithin, window_of, write_window}
+use Rattle.bitvec_base.specs.WindowLaws.{window-kept, window-rewritten}
+use Rattle.bitvec_base.specs.declared.order.BitOrder.{Ghosts as Order}
+use Rattle.bitvec_base.specs.declared.window.Window.{Window}
+use Rattle.bitvec_slice.specs.SeenLaws.{length_bits, length-memory, within_memory}
+use Rattle.bitvec_store.specs.declared.store.BitStore.{Ghosts as Store}
 use Rattle.bitvec_owned.specs.Arrays.{elements_of, in_array}
 use Rattle.bitvec_owned.specs.ArrayWrites.{WritesArray}
 use Rattle.bitvec_owned.specs.Copies.{Holds}

@@ -1,32 +1,32 @@
 -- What callers name by `using`: a set of laws for each kind of call.
 use Rattle.std.proofs.lemmas.Grind.{get_or-set_at}
 use Rattle.std.proofs.lemmas.List.{get_or-replicate, get_or-set_other, length-set, reverse-reverse}
-use Rattle.bitvec_owned.specs.edit.within.CombinedLaws.{get-combined_within_above, get-combined_within_below, get-combined_within_inside, length-combined_within, range-combined_within, range-combined_within_after, range-combined_within_before}
-use Rattle.bitvec_owned.specs.edit.base.CountLaws.{ones_and_zeros}
-use Rattle.bitvec_owned.specs.edit.base.CountedLaws.{ones-all, ones-fewer, ones-flipped, ones-front, ones-more, ones-none, ones-rest, ones-reversed, ones-rotated_left, ones-rotated_right, ones-whole, zeros-all, zeros-fewer, zeros-flipped, zeros-more, zeros-none, zeros-reversed, zeros-rotated_left, zeros-rotated_right}
-use Rattle.bitvec_owned.specs.edit.base.FillLaws.{flip-undoes}
-use Rattle.bitvec_owned.specs.edit.base.FilledLaws.{all-filled, any-filled, bits-zeros, equal-same, first-filled, first-of_filled, last-filled, same-equal}
-use Rattle.bitvec_owned.specs.edit.base.PlacesLaws.{first_place-absent, first_place-before, first_place-below, first_place-bit, last_place-absent, last_place-after, last_place-below, last_place-bit}
-use Rattle.bitvec_owned.specs.edit.base.RotationLaws.{rotated_left-undoes, rotated_right-undoes}
-use Rattle.bitvec_owned.specs.edit.base.WindowLaws.{get-window, length-window}
-use Rattle.bitvec_owned.specs.edit.base.WriteLaws.{get-slice_range, get-write_at_above, get-write_at_below, get-write_at_inside, length-slice_range, length-write_at, range-write_at, range-write_at_after, range-write_at_before}
-use Rattle.bitvec_owned.specs.edit.walk.CostLaws.{enough}
-use Rattle.bitvec_in_place.specs.field.IntegersLaws.{remainder-narrow}
+use Rattle.bitvec_within.specs.CombinedLaws.{get-combined_within_above, get-combined_within_below, get-combined_within_inside, length-combined_within, range-combined_within, range-combined_within_after, range-combined_within_before}
+use Rattle.bitvec_base.specs.CountLaws.{ones_and_zeros}
+use Rattle.bitvec_base.specs.CountedLaws.{ones-all, ones-fewer, ones-flipped, ones-front, ones-more, ones-none, ones-rest, ones-reversed, ones-rotated_left, ones-rotated_right, ones-whole, zeros-all, zeros-fewer, zeros-flipped, zeros-more, zeros-none, zeros-reversed, zeros-rotated_left, zeros-rotated_right}
+use Rattle.bitvec_base.specs.FillLaws.{flip-undoes}
+use Rattle.bitvec_base.specs.FilledLaws.{all-filled, any-filled, bits-zeros, equal-same, first-filled, first-of_filled, last-filled, same-equal}
+use Rattle.bitvec_base.specs.PlacesLaws.{first_place-absent, first_place-before, first_place-below, first_place-bit, last_place-absent, last_place-after, last_place-below, last_place-bit}
+use Rattle.bitvec_base.specs.RotationLaws.{rotated_left-undoes, rotated_right-undoes}
+use Rattle.bitvec_base.specs.WindowLaws.{get-window, length-window}
+use Rattle.bitvec_base.specs.WriteLaws.{get-slice_range, get-write_at_above, get-write_at_below, get-write_at_inside, length-slice_range, length-write_at, range-write_at, range-write_at_after, range-write_at_before}
+use Rattle.bitvec_cells.specs.CostLaws.{enough}
+use Rattle.bitvec_field.specs.IntegersLaws.{remainder-narrow}
 use Rattle.bitvec_in_place.specs.Laws.{asked as in_range, lengths as kept_lengths, listed, numbers, parts, ranged}
 use Rattle.bitvec_in_place.specs.RangesLaws.{worded as words}
 use Rattle.bitvec_iter.specs.JoinLaws.{joining as chunks}
 use Rattle.bitvec_iter.specs.Laws.{walked as walks}
-use Rattle.bitvec_in_place.specs.field.segments.LoadLaws.{loaded-one, loaded_be-phase, loaded_le-phase}
-use Rattle.bitvec_in_place.specs.field.segments.StoreLaws.{loaded_be-determines, loaded_be-stores, loaded_le-determines, loaded_le-stores, stored_be-loads, stored_le-loads}
-use Rattle.bitvec_closures.specs.split.AskedLaws.{may_ask_always}
+use Rattle.bitvec_segments.specs.LoadLaws.{loaded-one, loaded_be-phase, loaded_le-phase}
+use Rattle.bitvec_segments.specs.StoreLaws.{loaded_be-determines, loaded_be-stores, loaded_le-determines, loaded_le-stores, stored_be-loads, stored_le-loads}
+use Rattle.bitvec_split.specs.AskedLaws.{may_ask_always}
 use Rattle.bitvec_closures.specs.WritesLaws.{written-around, written-none, written-then}
 use Rattle.bitvec.specs.ComposedLaws.{array-none, array-then, owned-none, owned-then}
 use Rattle.bitvec.specs.ClosureLaws.{callable_below-always, callable_on_bits-always}
 use Rattle.bitvec.specs.MatchLaws.{contained, contains-absent, prefix-bit, prefix-fits, prefix-found, prefix-stripped, suffix-bit, suffix-fits, suffix-stripped}
-use Rattle.bitvec_owned.specs.edit.slice.SeenLaws.{length_bits}
-use Rattle.bitvec_owned.specs.edit.store.WidthLaws.{width_some}
-use Rattle.bitvec_owned.specs.edit.traits.FeedingLaws.{fed_same}
-use Rattle.bitvec_owned.specs.edit.traits.OrderLaws.{ordered as orders}
+use Rattle.bitvec_slice.specs.SeenLaws.{length_bits}
+use Rattle.bitvec_store.specs.WidthLaws.{width_some}
+use Rattle.bitvec_domain.specs.FeedingLaws.{fed_same}
+use Rattle.bitvec_elements.specs.OrderLaws.{ordered as orders}
 
 -- a view has as many bits as its window
 pub ruleset lengths = (length_bits)

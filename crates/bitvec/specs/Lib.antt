@@ -7,34 +7,34 @@ pub mod MatchLaws
 pub mod NthLaws
 pub mod Operators
 pub mod Types
-pub use Rattle.bitvec_elements.specs.base.BitsFixMemory
-pub use Rattle.bitvec_owned.specs.edit.base.Counts
-pub use Rattle.bitvec_owned.specs.edit.base.FilledLaws
-pub use Rattle.bitvec_elements.specs.base.LengthLaws
-pub use Rattle.bitvec_owned.specs.edit.base.Lists
-pub use Rattle.bitvec_owned.specs.edit.base.Memory
-pub use Rattle.bitvec_owned.specs.edit.base.Order
-pub use Rattle.bitvec_elements.specs.base.OrderLaws
-pub use Rattle.bitvec_owned.specs.edit.base.PlacesLaws
-pub use Rattle.bitvec_owned.specs.edit.base.Window
-pub use Rattle.bitvec_owned.specs.edit.base.WindowLaws
-pub use Rattle.bitvec_owned.specs.edit.base.WriteLaws
-pub use Rattle.bitvec_closures.specs.cutting.Cutting
-pub use Rattle.bitvec_closures.specs.cutting.Walks as PieceWalks
-pub use Rattle.bitvec_owned.specs.edit.domain.Asked
-pub use Rattle.bitvec_owned.specs.edit.domain.AskedLaws
-pub use Rattle.bitvec_owned.specs.edit.domain.Cuts
-pub use Rattle.bitvec_owned.specs.edit.domain.Parts
-pub use Rattle.bitvec_owned.specs.edit.domain.Values as DomainValues
-pub use Rattle.bitvec_owned.specs.edit.within.Swaps
-pub use Rattle.bitvec_owned.specs.edit.within.Combined
-pub use Rattle.bitvec_owned.specs.edit.within.CombinedLaws
-pub use Rattle.bitvec_owned.specs.edit.UndoLaws
-pub use Rattle.bitvec_in_place.specs.field.Fields
-pub use Rattle.bitvec_in_place.specs.field.DomainParts
-pub use Rattle.bitvec_in_place.specs.field.DomainPartsLaws
-pub use Rattle.bitvec_in_place.specs.field.Integers
-pub use Rattle.bitvec_in_place.specs.field.IntegersLaws
+pub use Rattle.bitvec_base.specs.BitsFixMemory
+pub use Rattle.bitvec_base.specs.Counts
+pub use Rattle.bitvec_base.specs.FilledLaws
+pub use Rattle.bitvec_base.specs.LengthLaws
+pub use Rattle.bitvec_base.specs.Lists
+pub use Rattle.bitvec_base.specs.Memory
+pub use Rattle.bitvec_base.specs.Order
+pub use Rattle.bitvec_base.specs.OrderLaws
+pub use Rattle.bitvec_base.specs.PlacesLaws
+pub use Rattle.bitvec_base.specs.Window
+pub use Rattle.bitvec_base.specs.WindowLaws
+pub use Rattle.bitvec_base.specs.WriteLaws
+pub use Rattle.bitvec_cutting.specs.Cutting
+pub use Rattle.bitvec_cutting.specs.Walks as PieceWalks
+pub use Rattle.bitvec_domain.specs.Asked
+pub use Rattle.bitvec_domain.specs.AskedLaws
+pub use Rattle.bitvec_domain.specs.Cuts
+pub use Rattle.bitvec_domain.specs.Parts
+pub use Rattle.bitvec_domain.specs.Values as DomainValues
+pub use Rattle.bitvec_within.specs.Swaps
+pub use Rattle.bitvec_within.specs.Combined
+pub use Rattle.bitvec_within.specs.CombinedLaws
+pub use Rattle.bitvec_edit.specs.UndoLaws
+pub use Rattle.bitvec_field.specs.Fields
+pub use Rattle.bitvec_field.specs.DomainParts
+pub use Rattle.bitvec_field.specs.DomainPartsLaws
+pub use Rattle.bitvec_segments.specs.Integers
+pub use Rattle.bitvec_field.specs.IntegersLaws
 pub use Rattle.bitvec_in_place.specs.MovedLaws
 pub use Rattle.bitvec_in_place.specs.NumbersLaws
 pub use Rattle.bitvec_in_place.specs.NumberPartsLaws
@@ -42,12 +42,12 @@ pub use Rattle.bitvec_in_place.specs.RangeBitsLaws
 pub use Rattle.bitvec_in_place.specs.Ranges
 pub use Rattle.bitvec_in_place.specs.RangesLaws
 pub use Rattle.bitvec_in_place.specs.Rooms
-pub use Rattle.bitvec_in_place.specs.field.base.ListsLaws
-pub use Rattle.bitvec_in_place.specs.field.base.MemoryLaws
+pub use Rattle.bitvec_base.specs.ListsLaws
+pub use Rattle.bitvec_base.specs.MemoryLaws
 pub use Rattle.bitvec_iter.specs.Left
 pub use Rattle.bitvec_iter.specs.Parts as PieceParts
-pub use Rattle.bitvec_owned.specs.edit.lends.Kept
-pub use Rattle.bitvec_owned.specs.edit.lends.RefillLaws
+pub use Rattle.bitvec_domain.specs.Kept
+pub use Rattle.bitvec_domain.specs.RefillLaws
 pub use Rattle.bitvec_iter.specs.LentBits
 pub use Rattle.bitvec_iter.specs.Halves
 pub use Rattle.bitvec_iter.specs.LentPieces
@@ -69,43 +69,43 @@ pub use Rattle.bitvec_closures.specs.Pieces
 pub use Rattle.bitvec_closures.specs.SplitEdits
 pub use Rattle.bitvec_closures.specs.SplitEditsLaws
 pub use Rattle.bitvec_closures.specs.WritesLaws
-pub use Rattle.bitvec_owned.specs.edit.reference.References
-pub use Rattle.bitvec_run_halves.specs.commands.Access
-pub use Rattle.bitvec_run_halves.specs.commands.Fold
-pub use Rattle.bitvec_run_halves.specs.commands.Groups
-pub use Rattle.bitvec_run_halves.specs.commands.Runs
-pub use Rattle.bitvec_run_halves.specs.commands.WordRunsLaws
-pub use Rattle.bitvec_run_halves.specs.commands.WordSteps
+pub use Rattle.bitvec_domain.specs.References
+pub use Rattle.bitvec_cells.specs.Access
+pub use Rattle.bitvec_run.specs.Fold
+pub use Rattle.bitvec_run.specs.Groups
+pub use Rattle.bitvec_run.specs.Runs
+pub use Rattle.bitvec_run.specs.WordRunsLaws
+pub use Rattle.bitvec_engine.specs.WordSteps
 pub use Rattle.bitvec_run_halves.specs.Sides
-pub use Rattle.bitvec_in_place.specs.field.segments.LoadLaws
-pub use Rattle.bitvec_in_place.specs.field.segments.PlainLaws
-pub use Rattle.bitvec_in_place.specs.field.segments.Segments
-pub use Rattle.bitvec_in_place.specs.field.segments.StoreLaws
-pub use Rattle.bitvec_owned.specs.edit.slice.Indices
+pub use Rattle.bitvec_segments.specs.LoadLaws
+pub use Rattle.bitvec_segments.specs.PlainLaws
+pub use Rattle.bitvec_segments.specs.Segments
+pub use Rattle.bitvec_segments.specs.StoreLaws
+pub use Rattle.bitvec_slice.specs.Indices
 pub use Rattle.bitvec_slice.specs.Apart
-pub use Rattle.bitvec_owned.specs.edit.slice.KeptLaws
-pub use Rattle.bitvec_owned.specs.edit.slice.Seen
-pub use Rattle.bitvec_owned.specs.edit.slice.SeenLaws
-pub use Rattle.bitvec_owned.specs.edit.slice.Showing
-pub use Rattle.bitvec_owned.specs.edit.slice.ShowingLaws
-pub use Rattle.bitvec_owned.specs.edit.slice.Touched
-pub use Rattle.bitvec_owned.specs.edit.slice.Views
-pub use Rattle.bitvec_owned.specs.edit.slice.Walks as BitWalks
-pub use Rattle.bitvec_owned.specs.edit.slice.Writes
-pub use Rattle.bitvec_closures.specs.split.Asked as SplitAsked
-pub use Rattle.bitvec_closures.specs.split.AskedLaws as SplitAskedLaws
-pub use Rattle.bitvec_closures.specs.split.FoundLaws as SplitFoundLaws
-pub use Rattle.bitvec_closures.specs.split.Lent as SplitLent
-pub use Rattle.bitvec_closures.specs.split.LentViews as SplitLentViews
-pub use Rattle.bitvec_closures.specs.split.SplitLaws
-pub use Rattle.bitvec_closures.specs.split.Splits
-pub use Rattle.bitvec_closures.specs.split.Views as SplitViews
-pub use Rattle.bitvec_owned.specs.edit.store.Width
-pub use Rattle.bitvec_owned.specs.edit.store.WidthLaws
-pub use Rattle.bitvec_in_place.specs.field.Radix
-pub use Rattle.bitvec_owned.specs.edit.traits.Feeding
-pub use Rattle.bitvec_owned.specs.edit.traits.Listing
-pub use Rattle.bitvec_owned.specs.edit.walk.Sought
-pub use Rattle.bitvec_owned.specs.edit.words.Operator
+pub use Rattle.bitvec_slice.specs.KeptLaws
+pub use Rattle.bitvec_slice.specs.Seen
+pub use Rattle.bitvec_slice.specs.SeenLaws
+pub use Rattle.bitvec_slice.specs.Showing
+pub use Rattle.bitvec_slice.specs.ShowingLaws
+pub use Rattle.bitvec_slice.specs.Touched
+pub use Rattle.bitvec_slice.specs.Views
+pub use Rattle.bitvec_slice.specs.Walks as BitWalks
+pub use Rattle.bitvec_slice.specs.Writes
+pub use Rattle.bitvec_split.specs.Asked as SplitAsked
+pub use Rattle.bitvec_split.specs.AskedLaws as SplitAskedLaws
+pub use Rattle.bitvec_split.specs.FoundLaws as SplitFoundLaws
+pub use Rattle.bitvec_split.specs.Lent as SplitLent
+pub use Rattle.bitvec_split.specs.LentViews as SplitLentViews
+pub use Rattle.bitvec_split.specs.SplitLaws
+pub use Rattle.bitvec_split.specs.Splits
+pub use Rattle.bitvec_split.specs.Views as SplitViews
+pub use Rattle.bitvec_store.specs.Width
+pub use Rattle.bitvec_store.specs.WidthLaws
+pub use Rattle.bitvec_field.specs.Radix
+pub use Rattle.bitvec_domain.specs.Feeding
+pub use Rattle.bitvec_domain.specs.Listing
+pub use Rattle.bitvec_cells.specs.Sought
+pub use Rattle.bitvec_words.specs.Operator
 pub use Rattle.bitvec_slice.specs.LentLaws
 pub use Rattle.bitvec_slice.specs.MayLend

@@ -1,9 +1,9 @@
 -- What `&=`, `|=` and `^=` and their like make of two lists of bits, in short.
 use Rattle.std.specs.Prelude.{ℕ, Bool, List}
-use Rattle.bitvec_owned.specs.edit.within.Combined.{combined_within}
-use Rattle.bitvec_owned.specs.edit.base.Lists.{combined}
-use Rattle.bitvec_owned.specs.edit.words.Operator.{operator}
-use Rattle.bitvec_owned.specs.edit.words.declared.operator.BitOp.TheVariants.{And, Or, Xor}
+use Rattle.bitvec_within.specs.Combined.{combined_within}
+use Rattle.bitvec_base.specs.Lists.{combined}
+use Rattle.bitvec_words.specs.Operator.{operator}
+use Rattle.bitvec_words.specs.declared.operator.BitOp.TheVariants.{And, Or, Xor}
 
 abbrev pub and_of : List Bool → List Bool → List Bool
 and_of bits other = combined (operator And) bits other

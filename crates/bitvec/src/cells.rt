@@ -1,2 +1,2 @@
 //! Counted access to the elements of a memory.
-pub use bitvec_elements::cells::{Cells, CellsRead, Exclusive, Shared, fits_max_bits, has_window};
+pub use bitvec_cells::{Cells, CellsRead, Exclusive, Shared, fits_max_bits, has_window};

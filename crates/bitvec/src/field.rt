@@ -1,2 +1,3 @@
 //! Integers in views.
-pub use bitvec_in_place::field::{BitField, BitFieldMut, FieldOrder, Integral};
+pub use bitvec_field::{BitField, BitFieldMut, Integral};
+pub use bitvec_segments::FieldOrder;

@@ -1,4 +1,4 @@
 //! Orders of the bits of an element.
-pub use bitvec_elements::base::{BitOrder, HiLo, Lsb0, Msb0};
-pub use bitvec_elements::engine::SliceOrder;
-pub use bitvec_elements::words::WordOrder;
+pub use bitvec_base::{BitOrder, HiLo, Lsb0, Msb0};
+pub use bitvec_engine::SliceOrder;
+pub use bitvec_words::WordOrder;

@@ -1,3 +1,3 @@
 //! References to one bit, and why a view was refused.
-pub use bitvec_elements::base::BitSpanError;
-pub use bitvec_slice::{BitRef, BitRefMut};
+pub use bitvec_base::BitSpanError;
+pub use bitvec_domain::{BitRef, BitRefMut};

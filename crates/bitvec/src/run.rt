@@ -1,5 +1,3 @@
 //! Lists of commands, run through a window of a memory, or through two halves of a view.
-pub use bitvec_run_halves::commands::{
-    FieldOp, FieldStep, Op, Refusal, Reply, RunError, Step, run, run_fields,
-};
+pub use bitvec_run::{FieldOp, FieldStep, Op, Refusal, Reply, RunError, Step, run, run_fields};
 pub use bitvec_run_halves::{Side, run_halves};

@@ -1,2 +1,2 @@
 //! The elements that a memory is made of.
-pub use bitvec_elements::store::BitStore;
+pub use bitvec_store::BitStore;

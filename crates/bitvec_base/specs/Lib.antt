@@ -33,4 +33,3 @@ pub mod Window
 pub mod WindowLaws
 pub mod WriteLaws
 pub mod WritesLaws
-pub use Rattle.bitvec_store.specs as store

@@ -11,11 +11,6 @@ mod part;
 mod span_error;
 mod window;
 
-/// Items of `bitvec_store` that crates above use.
-pub mod store {
-    pub use bitvec_store::BitStore;
-}
-
 pub use apart::comes_apart;
 pub use hi_lo::HiLo;
 pub use lsb0::Lsb0;

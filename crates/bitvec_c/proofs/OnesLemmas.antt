@@ -4,10 +4,10 @@ use Rattle.std.specs.Bool.{beq}
 use Rattle.std.specs.List.{range_with_len}
 use Rattle.std.proofs.Common.{arith, sym, ◌∙◌, ap, get_or, length-drop}
 use Rattle.std.proofs.lemmas.List.{get_or-drop}
-use Rattle.bitvec_checked.specs.commands.base.declared.window.Window.{Window}
-use Rattle.bitvec_checked.specs.commands.base.Lists.{places_of}
-use Rattle.bitvec_checked.specs.commands.base.Memory.{HasWindow, list_in}
-use Rattle.bitvec_checked.specs.commands.base.WritesLaws.{length-list}
+use Rattle.bitvec_base.specs.declared.window.Window.{Window}
+use Rattle.bitvec_base.specs.Lists.{places_of}
+use Rattle.bitvec_base.specs.Memory.{HasWindow, list_in}
+use Rattle.bitvec_base.specs.WritesLaws.{length-list}
 use Rattle.bitvec_query.specs.Places.{places_in}
 use Rattle.bitvec_c.specs.Ones.{ones_from}
 

@@ -2,9 +2,9 @@
 use Rattle.std.specs.Prelude.{◌≡◌, ◌≢◌, ℕ, ◌+◌, Bool, true, List, ◌++◌, drop, length, map, min, take}
 use Rattle.bitvec_checked.specs.Calls.{Under}
 use Rattle.bitvec_checked.specs.Statuses.{end_status, or_next, window_status}
-use Rattle.bitvec_checked.specs.commands.base.declared.window.Window.{Window}
-use Rattle.bitvec_checked.specs.commands.base.Lists.{places_of}
-use Rattle.bitvec_checked.specs.commands.base.Memory.{list_in}
+use Rattle.bitvec_base.specs.declared.window.Window.{Window}
+use Rattle.bitvec_base.specs.Lists.{places_of}
+use Rattle.bitvec_base.specs.Memory.{list_in}
 
 -- the places, from `from` on, of the ones of a list
 abbrev pub ones_from : ℕ → List Bool → List ℕ

@@ -1,6 +1,6 @@
 //! The exports over elements of 16 bits.
-ghost use Rattle.bitvec_checked.specs.commands.declared.command.Op.TheVariants.{All, And, Any, Cmp, Contains, CopyFrom, CopyWithin, CountOnes, CountZeros, EndsWith, Eq, Fill, FirstOne, FirstZero, Get, Invert, LastOne, LastZero, Or, Replace, Reverse, RotateLeft, RotateRight, Set, ShiftEnd, ShiftStart, StartsWith, Swap, Xor};
-ghost use Rattle.bitvec_checked.specs.commands.segments.Segments.{loaded_be, loaded_le, stored_be, stored_le};
+ghost use Rattle.bitvec_run.specs.declared.command.Op.TheVariants.{All, And, Any, Cmp, Contains, CopyFrom, CopyWithin, CountOnes, CountZeros, EndsWith, Eq, Fill, FirstOne, FirstZero, Get, Invert, LastOne, LastZero, Or, Replace, Reverse, RotateLeft, RotateRight, Set, ShiftEnd, ShiftStart, StartsWith, Swap, Xor};
+ghost use Rattle.bitvec_segments.specs.Segments.{loaded_be, loaded_le, stored_be, stored_le};
 ghost use Rattle.bitvec_checked.specs.Calls.{Asks, AsksBeside, Edits, EditsBeside, Loads, Seeks, Stores, Swaps};
 ghost use Rattle.bitvec_checked.specs.Replies.{bit_of, count_of, order_of};
 ghost use Rattle.bitvec_checked.specs.Statuses.{bits_from};

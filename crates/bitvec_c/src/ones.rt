@@ -1,15 +1,15 @@
 //! The indices of the ones of a window, in turn.
 ghost use Rattle.std.specs.Prelude.{◌≡◌, ◌++◌, ◌≤◌, drop, length, map, min, take};
-ghost use Rattle.bitvec_checked.specs.commands.base.Memory.{HasWindow, list_in};
+ghost use Rattle.bitvec_base.specs.Memory.{HasWindow, list_in};
 ghost use Rattle.bitvec_checked.specs.Statuses.{bits_from};
 ghost use Rattle.bitvec_c.specs.Ones.{Lists, ones_from};
 
-use bitvec_checked::store::BitStore;
+use bitvec_base::{Lsb0, Msb0, Window};
 use bitvec_checked::{DONE, LSB0, end_status, or_next, window_status};
-use bitvec_query::base::{Lsb0, Msb0, Window};
-use bitvec_query::engine::SliceOrder;
-use bitvec_query::words::WordOrder;
+use bitvec_engine::SliceOrder;
 use bitvec_query::write_places;
+use bitvec_store::BitStore;
+use bitvec_words::WordOrder;
 
 /// The indices, from `from` on, of the bits of a window that are 1, ascending, as many as there are
 /// places for, and how many these are.

@@ -6,7 +6,7 @@
 #![tactic(auto)]
 
 ghost use Rattle.bitvec_checked_run.specs.Runs.{Runs};
-ghost use Rattle.bitvec_checked_run.specs.checked.Statuses.{bits_from};
+ghost use Rattle.bitvec_checked.specs.Statuses.{bits_from};
 
 use bitvec_checked_run::{RawReply, RawStep, run};
 

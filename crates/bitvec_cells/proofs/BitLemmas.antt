@@ -5,11 +5,11 @@ use Rattle.std.proofs.Common.{arith, ◌∙◌, ap}
 use Rattle.std.proofs.lemmas.Bool.{ne_eqb}
 use Rattle.std.proofs.lemmas.Nat.{pow_pos}
 use Rattle.std.proofs.lemmas.Nat.Bits.{and_pow, bit_at-lt}
-use Rattle.bitvec_cells.specs.base.declared.window.Window.{Window}
-use Rattle.bitvec_cells.specs.base.Memory.{place_bit, memory_bits}
-use Rattle.bitvec_cells.specs.base.Window.{IsWithin, window_of}
-use Rattle.bitvec_cells.specs.base.WriteLaws.{get-slice_range}
-use Rattle.bitvec_cells.specs.base.MemoryLaws.{get-memory_bits}
+use Rattle.bitvec_base.specs.declared.window.Window.{Window}
+use Rattle.bitvec_base.specs.Memory.{place_bit, memory_bits}
+use Rattle.bitvec_base.specs.Window.{IsWithin, window_of}
+use Rattle.bitvec_base.specs.WriteLaws.{get-slice_range}
+use Rattle.bitvec_base.specs.MemoryLaws.{get-memory_bits}
 
 -- a weighted bit is not 0 exactly where the bit is 1
 weighted : (c w : ℕ) → c < 2 → 0 < w → not (nat_eq (c * w) 0) ≡ (c == 1)

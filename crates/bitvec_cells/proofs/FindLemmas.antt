@@ -4,15 +4,15 @@ use Rattle.std.specs.Int.{bit_at}
 use Rattle.std.proofs.Common.{arith, sym, ◌∙◌, ap, ⊎_elim, inl, inr}
 use Rattle.std.proofs.lemmas.Bool.{cases_lt}
 use Rattle.std.proofs.lemmas.Nat.Bits.{bit_at_and, bit_at-lt}
-use Rattle.bitvec_cells.specs.base.FoundLaws.{bit-set, set-bit}
-use Rattle.bitvec_cells.specs.base.Lists.{first_place, last_place}
-use Rattle.bitvec_cells.specs.base.ListsLaws.{first_place-found, first_place-none, last_place-found, last_place-none}
-use Rattle.bitvec_cells.specs.base.MaskLaws.{mask_of-has, mask_of-lacks}
-use Rattle.bitvec_cells.specs.base.Memory.{element_bits}
-use Rattle.bitvec_cells.specs.base.MemoryLaws.{bit_of_complement, get-element_bits, length-element_bits}
-use Rattle.bitvec_cells.specs.base.Order.{Permutes, mask_of}
-use Rattle.bitvec_cells.specs.base.PlacesLaws.{first_place-absent, first_place-before, first_place-below, first_place-bit, last_place-absent, last_place-after, last_place-below, last_place-bit}
-use Rattle.bitvec_cells.specs.base.WriteLaws.{length-slice_range, get-slice_range}
+use Rattle.bitvec_base.specs.FoundLaws.{bit-set, set-bit}
+use Rattle.bitvec_base.specs.Lists.{first_place, last_place}
+use Rattle.bitvec_base.specs.ListsLaws.{first_place-found, first_place-none, last_place-found, last_place-none}
+use Rattle.bitvec_base.specs.MaskLaws.{mask_of-has, mask_of-lacks}
+use Rattle.bitvec_base.specs.Memory.{element_bits}
+use Rattle.bitvec_base.specs.MemoryLaws.{bit_of_complement, get-element_bits, length-element_bits}
+use Rattle.bitvec_base.specs.Order.{Permutes, mask_of}
+use Rattle.bitvec_base.specs.PlacesLaws.{first_place-absent, first_place-before, first_place-below, first_place-bit, last_place-absent, last_place-after, last_place-below, last_place-bit}
+use Rattle.bitvec_base.specs.WriteLaws.{length-slice_range, get-slice_range}
 use Rattle.bitvec_cells.specs.Sought.{Shows}
 
 -- a bit that is `want` is 1 in what is masked, and one that isn't is 0

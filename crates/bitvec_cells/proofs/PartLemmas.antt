@@ -6,16 +6,16 @@ use Rattle.std.proofs.Math.Nat.{mod-eq_of_lt}
 use Rattle.std.proofs.lemmas.List.{length-map, length-replicate, length-set}
 use Rattle.std.proofs.lemmas.Nat.{and_mask, div_below, div-add-mod', mod_below, pow_pos, xor_lt}
 use Rattle.std.proofs.lemmas.Nat.Bits.{bit_at-lt, bit_at_ones, bit_at_xor, same_from_bits_below}
-use Rattle.bitvec_cells.specs.base.declared.part.Part.{Part}
-use Rattle.bitvec_cells.specs.base.Memory.{memory_bits, element_bits, list_in, Writes}
-use Rattle.bitvec_cells.specs.base.Order.{Permutes, mask_of}
-use Rattle.bitvec_cells.specs.store.Width.{IsWidth}
-use Rattle.bitvec_cells.specs.base.Parts.{HasPart, part_window}
-use Rattle.bitvec_cells.specs.base.Window.{window_of, write_at}
-use Rattle.bitvec_cells.specs.store.WidthLaws.{width_some}
-use Rattle.bitvec_cells.specs.base.WriteLaws.{length-slice_range, write_at-all}
-use Rattle.bitvec_cells.specs.base.MemoryLaws.{bit_of_complement, element_fits, length-element_bits, length-memory_bits}
-use Rattle.bitvec_cells.specs.base.PartLaws.{mask_of-whole, part-clear, part-flip, part-set, part-write}
+use Rattle.bitvec_base.specs.declared.part.Part.{Part}
+use Rattle.bitvec_base.specs.Memory.{memory_bits, element_bits, list_in, Writes}
+use Rattle.bitvec_base.specs.Order.{Permutes, mask_of}
+use Rattle.bitvec_store.specs.Width.{IsWidth}
+use Rattle.bitvec_base.specs.Parts.{HasPart, part_window}
+use Rattle.bitvec_base.specs.Window.{window_of, write_at}
+use Rattle.bitvec_store.specs.WidthLaws.{width_some}
+use Rattle.bitvec_base.specs.WriteLaws.{length-slice_range, write_at-all}
+use Rattle.bitvec_base.specs.MemoryLaws.{bit_of_complement, element_fits, length-element_bits, length-memory_bits}
+use Rattle.bitvec_base.specs.PartLaws.{mask_of-whole, part-clear, part-flip, part-set, part-write}
 use Rattle.bitvec_cells.specs.Element.{put_mask}
 use Rattle.bitvec_cells.specs.ElementLaws.{element-filled, single_mask}
 

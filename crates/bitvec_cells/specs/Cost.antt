@@ -1,7 +1,7 @@
 -- The loads and stores that work on bits may take.
 use Rattle.std.specs.Prelude.{ℕ, Bool, ◌+◌, ◌-◌, ◌*◌, ◌/◌, ◌==◌, nat_le, if◌then◌else◌, Option, Some, None}
-use Rattle.bitvec_cells.specs.base.declared.part.Part.{Part}
-use Rattle.bitvec_cells.specs.base.declared.window.Window.{Window}
+use Rattle.bitvec_base.specs.declared.part.Part.{Part}
+use Rattle.bitvec_base.specs.declared.window.Window.{Window}
 
 -- the elements of b bits that hold a bit of the n places from s on: none if n is 0
 unfoldable pub touched_count : ℕ → ℕ → ℕ → ℕ

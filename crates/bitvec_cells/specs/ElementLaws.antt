@@ -6,11 +6,11 @@ use Rattle.std.proofs.Common.{arith, sym, ◌∙◌, ap}
 use Rattle.std.proofs.Math.Nat.{mod-eq_of_lt}
 use Rattle.std.proofs.lemmas.List.{get_or-map, length-map, same_lists}
 use Rattle.std.proofs.lemmas.Nat.{and_mask}
-use Rattle.bitvec_cells.specs.base.MaskLaws.{mask_of-count, mask_of-more, mask_of-none}
-use Rattle.bitvec_cells.specs.base.Memory.{element_bits}
-use Rattle.bitvec_cells.specs.base.MemoryLaws.{bit_of_complement, get-element_bits, length-element_bits}
-use Rattle.bitvec_cells.specs.base.Order.{Permutes, mask_of}
-use Rattle.bitvec_cells.specs.base.PartLaws.{element-all, element-none, mask_of-whole}
+use Rattle.bitvec_base.specs.MaskLaws.{mask_of-count, mask_of-more, mask_of-none}
+use Rattle.bitvec_base.specs.Memory.{element_bits}
+use Rattle.bitvec_base.specs.MemoryLaws.{bit_of_complement, get-element_bits, length-element_bits}
+use Rattle.bitvec_base.specs.Order.{Permutes, mask_of}
+use Rattle.bitvec_base.specs.PartLaws.{element-all, element-none, mask_of-whole}
 
 -- the one bit of an index is the mask of that index alone
 pub single_mask : (at : ℕ → ℕ) (i : ℕ) → 2 ^ at i ≡ mask_of at i (i + 1)

@@ -8,5 +8,3 @@ pub mod PutLaws
 pub mod Sought
 pub mod Walk
 pub mod WalkLaws
-pub use Rattle.bitvec_base.specs as base
-pub use Rattle.bitvec_base.specs.store as store

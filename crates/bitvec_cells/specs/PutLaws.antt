@@ -4,7 +4,7 @@ use Rattle.std.specs.Prelude.{◌≡◌, ℕ, ◌+◌, ◌-◌, ◌≤◌, List,
 use Rattle.std.proofs.Common.{arith, sym, ap, ◌∙◌}
 use Rattle.std.proofs.Math.Seq.{drop-drop}
 use Rattle.std.proofs.lemmas.List.{drop-map, length-map, map-append, take-map, take-take}
-use Rattle.bitvec_cells.specs.base.Window.{write_at}
+use Rattle.bitvec_base.specs.Window.{write_at}
 
 -- the numbers of its elements
 pub part-numbers : {A : Type 0} (value : A → ℕ) (a k : ℕ) (xs ys : List A) → length ys ≡ k → map value (put_mid a k xs ys) ≡ write_at (map value xs) a (map value ys)

@@ -1,6 +1,6 @@
 -- Which bits of a part of an element are the wanted ones, as the ones of another element.
 use Rattle.std.specs.Prelude.{◌≡◌, ℕ, ◌<◌, ◌≤◌, Bool, true, false, slice_index_or}
-use Rattle.bitvec_cells.specs.base.Memory.{element_bits}
+use Rattle.bitvec_base.specs.Memory.{element_bits}
 
 -- the ones of the element m are the bits of the element v, from one index up to, without, another, that are `want`
 pub record Shows (b : ℕ) (at : ℕ → ℕ → ℕ) (v m from to : ℕ) (want : Bool) : Type 0 where

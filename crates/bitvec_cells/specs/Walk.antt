@@ -1,6 +1,6 @@
 -- A walk over a window from its front, a part of one element at a time.
 use Rattle.std.specs.Prelude.{◌≡◌, ℕ, ◌+◌, ◌-◌, ◌%◌, ◌<◌, ◌≤◌, ◌==◌, if◌then◌else◌}
-use Rattle.bitvec_cells.specs.base.declared.window.Window.{Window}
+use Rattle.bitvec_base.specs.declared.window.Window.{Window}
 
 -- the rest is an end of the window; where something was passed and something is left, it begins where an element does
 pub record Walked (b : ℕ) (window rest : Window) : Type 0 where

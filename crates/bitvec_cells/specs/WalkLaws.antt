@@ -3,14 +3,14 @@ use Rattle.std.specs.Prelude.{◌≡◌, ℕ, ◌+◌, ◌-◌, ◌*◌, ◌/◌
 use Rattle.std.proofs.Common.{arith, ◌∙◌, ap, ⊎_elim, eqb}
 use Rattle.std.proofs.lemmas.Bool.{cases_lt, cond-true, cond-false, eq-eqb, ne_eqb}
 use Rattle.std.proofs.lemmas.Nat.{div-mul-add, div-add-mod', mod_below, mod-mul-add, le-div}
-use Rattle.bitvec_cells.specs.base.declared.window.Window.{Window}
-use Rattle.bitvec_cells.specs.base.Lists.{first_place, last_place}
-use Rattle.bitvec_cells.specs.base.Memory.{HasWindow, Writes, list_in, memory_bits}
-use Rattle.bitvec_cells.specs.base.Parts.{first_part_of, part_window}
-use Rattle.bitvec_cells.specs.base.PlacesLaws.{first_place-below, last_place-below}
-use Rattle.bitvec_cells.specs.base.SliceLaws.{range-none}
-use Rattle.bitvec_cells.specs.base.Window.{window_after, window_of}
-use Rattle.bitvec_cells.specs.base.WritesLaws.{length-list, Writes-empty, Writes-join, list-join}
+use Rattle.bitvec_base.specs.declared.window.Window.{Window}
+use Rattle.bitvec_base.specs.Lists.{first_place, last_place}
+use Rattle.bitvec_base.specs.Memory.{HasWindow, Writes, list_in, memory_bits}
+use Rattle.bitvec_base.specs.Parts.{first_part_of, part_window}
+use Rattle.bitvec_base.specs.PlacesLaws.{first_place-below, last_place-below}
+use Rattle.bitvec_base.specs.SliceLaws.{range-none}
+use Rattle.bitvec_base.specs.Window.{window_after, window_of}
+use Rattle.bitvec_base.specs.WritesLaws.{length-list, Writes-empty, Writes-join, list-join}
 use Rattle.bitvec_cells.specs.Cost.{touched_count, part_loads, first_loads, last_loads}
 use Rattle.bitvec_cells.specs.Walk.{Walked, edge_loads, passed}
 

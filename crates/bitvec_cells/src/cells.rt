@@ -4,8 +4,8 @@ ghost use Rattle.std.specs.Simd.Lanes.{digits_l};
 ghost use Rattle.bitvec_base.specs.Memory.{FitsMaxBits, HasWindow};
 ghost use Rattle.bitvec_base.specs.Window.{write_at};
 
-use bitvec_base::store::BitStore;
 use bitvec_base::{MAX_BITS, Window};
+use bitvec_store::BitStore;
 
 /// A memory that can be read, an element at a time.
 ///

@@ -1,15 +1,15 @@
 //! Where a bit stands in a part of one element.
 ghost use Rattle.std.specs.Prelude.{◌≡◌, ◌-◌, ◌≤◌, slice_range};
-ghost use Rattle.bitvec_cells.specs.base.Lists.{first_place, last_place};
-ghost use Rattle.bitvec_cells.specs.base.Memory.{element_bits, list_in};
-ghost use Rattle.bitvec_cells.specs.base.Parts.{HasPart, part_window};
+ghost use Rattle.bitvec_base.specs.Lists.{first_place, last_place};
+ghost use Rattle.bitvec_base.specs.Memory.{element_bits, list_in};
+ghost use Rattle.bitvec_base.specs.Parts.{HasPart, part_window};
 ghost use Rattle.bitvec_cells.specs.Access.{OnlyReads};
 ghost use Rattle.bitvec_cells.specs.Sought.{Shows};
 
+use bitvec_base::{BitOrder, Part};
+use bitvec_store::BitStore;
 use crate::CellsRead;
 use crate::part::masked;
-use bitvec_base::store::BitStore;
-use bitvec_base::{BitOrder, Part};
 
 /// The element whose ones are the bits of a part that are `want`. Condition: `from <= to`, and `to`
 /// is at most the width.

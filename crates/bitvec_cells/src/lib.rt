@@ -10,19 +10,6 @@ mod part;
 mod shared;
 mod swap;
 
-/// Items of `bitvec_base` that crates above use.
-pub mod base {
-    pub use bitvec_base::{
-        BitOrder, BitSpanError, HiLo, Lsb0, MAX_BITS, Msb0, Part, Window, comes_apart, first_part,
-        last_part, tail_part, whole_elements,
-    };
-}
-
-/// Items of `bitvec_store` that crates above use.
-pub mod store {
-    pub use bitvec_base::store::BitStore;
-}
-
 pub use bit::{get_bit, replace_bit};
 pub use cells::{Cells, CellsRead, fits_max_bits, has_window};
 pub use exclusive::Exclusive;

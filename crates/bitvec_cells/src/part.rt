@@ -1,15 +1,15 @@
 //! Parts of one element: counted, filled, flipped.
 ghost use Rattle.std.specs.Prelude.{◌≡◌, ◌-◌, ◌^◌, ◌<◌, ◌≤◌, ◌==◌, if◌then◌else◌, not, map, replicate, count_by, bit_and, bit_xor};
-ghost use Rattle.bitvec_cells.specs.base.Memory.{Writes, list_in};
-ghost use Rattle.bitvec_cells.specs.base.Order.{mask_of};
-ghost use Rattle.bitvec_cells.specs.base.Parts.{HasPart, part_window};
+ghost use Rattle.bitvec_base.specs.Memory.{Writes, list_in};
+ghost use Rattle.bitvec_base.specs.Order.{mask_of};
+ghost use Rattle.bitvec_base.specs.Parts.{HasPart, part_window};
 ghost use Rattle.bitvec_cells.specs.Access.{Costs, OnlyReads};
 ghost use Rattle.bitvec_cells.specs.Cost.{part_loads};
 ghost use Rattle.bitvec_cells.specs.Element.{put_mask};
 
-use crate::{Cells, CellsRead};
-use bitvec_base::store::BitStore;
 use bitvec_base::{BitOrder, Part};
+use bitvec_store::BitStore;
+use crate::{Cells, CellsRead};
 
 /// The element with the mask's bits set, or cleared.
 pub(crate) fn put<T: BitStore>(element: T, mask: T, bit: bool) -> T

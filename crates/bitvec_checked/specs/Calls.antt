@@ -2,8 +2,8 @@
 --
 -- `order` is the number of an order, and elements have b bits; `old` and `new` are what was there before and is there after.
 use Rattle.std.specs.Prelude.{◌≡◌, ◌≢◌, ℕ, ◌-◌, Bool, true, false, List, [], map, MatchOption}
-use Rattle.bitvec_run.specs.base.declared.window.Window.{Window}
-use Rattle.bitvec_run.specs.base.Memory.{Writes, list_in, memory_bits}
+use Rattle.bitvec_base.specs.declared.window.Window.{Window}
+use Rattle.bitvec_base.specs.Memory.{Writes, list_in, memory_bits}
 use Rattle.bitvec_run.specs.declared.command.Op.{Op}
 use Rattle.bitvec_run.specs.declared.command.Op.TheVariants.{CopyFrom}
 use Rattle.bitvec_run.specs.declared.command.Reply.{Reply}

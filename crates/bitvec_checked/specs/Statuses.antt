@@ -2,8 +2,8 @@
 --
 -- `order` is the number of an order; `xs` is the memory of b-bit elements that a call is about, and `ys` the right one.
 use Rattle.std.specs.Prelude.{ℕ, zero, suc, ◌*◌, Bool, false, ◌&&◌, nat_le, if◌then◌else◌, Option, Some, None, List, [], length, replicate}
-use Rattle.bitvec_run.specs.base.declared.window.Window.{Window}
-use Rattle.bitvec_run.specs.base.Window.{max_bits}
+use Rattle.bitvec_base.specs.declared.window.Window.{Window}
+use Rattle.bitvec_base.specs.Window.{max_bits}
 use Rattle.bitvec_run.specs.declared.command.Op.{Op}
 use Rattle.bitvec_run.specs.declared.command.Refusal.{Refusal}
 use Rattle.bitvec_run.specs.declared.command.Refusal.TheVariants.{Range, Index, Amount, Source, Dest, Right, Length, Width}

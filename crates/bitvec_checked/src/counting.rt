@@ -1,17 +1,16 @@
 //! How many bits of a window are 1, or 0, and whether any or all are 1.
 ghost use Rattle.std.specs.Prelude.{◌≡◌, count_by, map, not};
-ghost use Rattle.bitvec_run.specs.base.Memory.{HasWindow, list_in};
+ghost use Rattle.bitvec_base.specs.Memory.{HasWindow, list_in};
 ghost use Rattle.bitvec_run.specs.declared.command.Op.TheVariants.{All, Any, CountOnes, CountZeros};
 ghost use Rattle.bitvec_checked.specs.Calls.{Asks};
 ghost use Rattle.bitvec_checked.specs.Replies.{bit_of, count_of};
 ghost use Rattle.bitvec_checked.specs.Statuses.{bits_from};
 
+use bitvec_base::{BitOrder, Window};
+use bitvec_cells::Shared;
+use bitvec_elements::{all_in, any_in, count_blocks_in};
+use bitvec_store::BitStore;
 use crate::status::{DONE, window_status};
-use bitvec_within::base::{BitOrder, Window};
-use bitvec_within::cells::Shared;
-use bitvec_within::elements::{all_in, any_in, count_blocks_in};
-use bitvec_within::engine;
-use bitvec_within::store::BitStore;
 
 /// How many bits of a window are 1.
 pub fn count_ones<T: BitStore>(
@@ -54,7 +53,7 @@ fn count_zeros_in<T: BitStore, O: BitOrder>(elements: &[T], window: Window) -> u
     ensures { result ≡ count_by not (list_in T.BITS O.at (map T.value elements.now) window) }
 {
     let mut cells = Shared::new(elements);
-    engine::count_zeros::<O, Shared<T>>(&mut cells, window)
+    bitvec_words::count_zeros::<O, Shared<T>>(&mut cells, window)
 }
 
 /// Whether some bit of a window is 1.

@@ -1,17 +1,17 @@
 //! Whether the bits of one window stand in those of another.
 ghost use Rattle.std.specs.Prelude.{◌≡◌, map};
-ghost use Rattle.bitvec_run.specs.base.Lists.{is_prefix, is_suffix, stands_in};
-ghost use Rattle.bitvec_run.specs.base.Memory.{HasWindow, list_in};
+ghost use Rattle.bitvec_base.specs.Lists.{is_prefix, is_suffix, stands_in};
+ghost use Rattle.bitvec_base.specs.Memory.{HasWindow, list_in};
 ghost use Rattle.bitvec_run.specs.declared.command.Op.TheVariants.{Contains, EndsWith, StartsWith};
 ghost use Rattle.bitvec_checked.specs.Calls.{AsksBeside};
 ghost use Rattle.bitvec_checked.specs.Replies.{bit_of};
 ghost use Rattle.bitvec_checked.specs.Statuses.{bits_from};
 
+use bitvec_base::Window;
+use bitvec_cells::Shared;
+use bitvec_engine::SliceOrder;
+use bitvec_store::BitStore;
 use crate::status::{DONE, windows_status};
-use bitvec_within::base::Window;
-use bitvec_within::cells::Shared;
-use bitvec_within::engine::{self, SliceOrder};
-use bitvec_within::store::BitStore;
 
 /// Whether the bits of the right window begin those of a window.
 pub fn starts_with<T: BitStore>(
@@ -53,7 +53,7 @@ fn starts_with_in<T: BitStore, O: SliceOrder>(
 {
     let mut cells = Shared::new(elements);
     let mut beside = Shared::new(right);
-    engine::starts_with::<O, Shared<T>, Shared<T>>(&mut cells, window, &mut beside, right_window)
+    bitvec_engine::starts_with::<O, Shared<T>, Shared<T>>(&mut cells, window, &mut beside, right_window)
 }
 
 /// Whether the bits of the right window end those of a window.
@@ -96,7 +96,7 @@ fn ends_with_in<T: BitStore, O: SliceOrder>(
 {
     let mut cells = Shared::new(elements);
     let mut beside = Shared::new(right);
-    engine::ends_with::<O, Shared<T>, Shared<T>>(&mut cells, window, &mut beside, right_window)
+    bitvec_engine::ends_with::<O, Shared<T>, Shared<T>>(&mut cells, window, &mut beside, right_window)
 }
 
 /// Whether the bits of the right window stand together somewhere among those of a window.

@@ -1,15 +1,15 @@
 //! Numbers of 1 to 64 bits in windows.
 ghost use Rattle.std.specs.Prelude.{◌≡◌, ◌≤◌, map};
-ghost use Rattle.bitvec_run.specs.base.Memory.{Edits as EditsList, HasWindow, list_in};
-ghost use Rattle.bitvec_run.specs.segments.Segments.{loaded_be, loaded_le, stored_be, stored_le};
+ghost use Rattle.bitvec_base.specs.Memory.{Edits as EditsList, HasWindow, list_in};
+ghost use Rattle.bitvec_segments.specs.Segments.{loaded_be, loaded_le, stored_be, stored_le};
 ghost use Rattle.bitvec_checked.specs.Calls.{Loads, Stores};
 ghost use Rattle.bitvec_checked.specs.Statuses.{bits_from};
 
+use bitvec_base::Window;
+use bitvec_cells::{Exclusive, Shared};
+use bitvec_segments::FieldOrder;
+use bitvec_store::BitStore;
 use crate::status::{DONE, or_next, width_status, window_status};
-use bitvec_run::segments::FieldOrder;
-use bitvec_within::base::Window;
-use bitvec_within::cells::{Exclusive, Shared};
-use bitvec_within::store::BitStore;
 
 /// The number of the bits of a window, the first segment lowest.
 pub fn load_le<T: BitStore>(

@@ -1,16 +1,16 @@
 //! Whether a call is carried out, and if not, why: its status, a number.
 ghost use Rattle.std.specs.Prelude.{◌≡◌, ◌*◌, ◌<◌, ◌≤◌, [], false, length, map, replicate};
-ghost use Rattle.bitvec_run.specs.base.Lists.{FitsWithin};
-ghost use Rattle.bitvec_run.specs.base.Memory.{FitsMaxBits, HasWindow};
+ghost use Rattle.bitvec_base.specs.Lists.{FitsWithin};
+ghost use Rattle.bitvec_base.specs.Memory.{FitsMaxBits, HasWindow};
 ghost use Rattle.bitvec_run.specs.Commands.{amount_refusal, index_refusal, op_refusal, right_refusal};
 ghost use Rattle.bitvec_run.specs.Rows.{unless};
 ghost use Rattle.bitvec_run.specs.declared.command.Op.TheVariants.{CopyFrom, CopyWithin, Swap};
 ghost use Rattle.bitvec_checked.specs.Statuses.{end_status, memories_status, or_next, refusal_status, status_beside, width_status, window_status};
 
+use bitvec_base::Window;
+use bitvec_cells::{CellsRead, Shared, fits_max_bits, has_window};
 use bitvec_run::Refusal;
-use bitvec_within::base::Window;
-use bitvec_within::cells::{CellsRead, Shared, fits_max_bits, has_window};
-use bitvec_within::store::BitStore;
+use bitvec_store::BitStore;
 
 /// The order that begins with the least significant bit of an element.
 pub const LSB0: u32 = 0;

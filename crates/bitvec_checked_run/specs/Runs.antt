@@ -1,10 +1,10 @@
 -- What a run does, by its status.
 use Rattle.std.specs.Prelude.{◌≡◌, ◌≢◌, ◌≤◌, ℕ, Bool, List, ◌++◌, drop, if◌then◌else◌, length, map, nat_le, nat_lt, true}
 use Rattle.std.specs.List.{list_all}
-use Rattle.bitvec_checked.specs.commands.base.declared.window.Window.{Window}
-use Rattle.bitvec_checked.specs.commands.base.Memory.{Writes, list_in, memory_bits}
-use Rattle.bitvec_checked.specs.commands.FieldRows.{field_list, field_reply}
-use Rattle.bitvec_checked.specs.commands.Fold.{list_after, replies_of}
+use Rattle.bitvec_base.specs.declared.window.Window.{Window}
+use Rattle.bitvec_base.specs.Memory.{Writes, list_in, memory_bits}
+use Rattle.bitvec_run.specs.FieldRows.{field_list, field_reply}
+use Rattle.bitvec_run.specs.Fold.{list_after, replies_of}
 use Rattle.bitvec_checked_run.specs.declared.replies.RawReply.{RawReply}
 use Rattle.bitvec_checked_run.specs.declared.steps.RawStep.{RawStep}
 use Rattle.bitvec_checked.specs.Calls.{Under}

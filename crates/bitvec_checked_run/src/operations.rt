@@ -1,11 +1,11 @@
 //! The operations of a run's steps, by their numbers.
 ghost use Rattle.std.specs.Prelude.{◌≡◌, ◌+◌, ◌*◌, ◌^◌, ◌<◌, ◌≤◌};
-ghost use Rattle.bitvec_checked.specs.commands.declared.field_step.FieldOp.TheVariants.{Plain};
+ghost use Rattle.bitvec_run.specs.declared.field_step.FieldOp.TheVariants.{Plain};
 ghost use Rattle.bitvec_checked_run.specs.Steps.{operation_of};
 
+use bitvec_base::Window;
+use bitvec_run::{FieldOp, Op};
 use crate::steps::RawStep;
-use bitvec_checked::base::Window;
-use bitvec_checked::commands::{FieldOp, Op};
 
 pub const GET: u32 = 0;
 

@@ -2,8 +2,8 @@
 ghost use Rattle.std.specs.Prelude.{◌≡◌};
 ghost use Rattle.bitvec_checked_run.specs.Steps.{ordering_number};
 
-use bitvec_checked::commands::Reply;
 use bitvec_checked::{DONE, NONE};
+use bitvec_run::Reply;
 use std::cmp::Ordering;
 
 /// The reply to a step.

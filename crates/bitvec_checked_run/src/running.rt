@@ -1,19 +1,19 @@
 //! Runs of whole lists of steps.
 ghost use Rattle.std.specs.Prelude.{◌≡◌, ◌++◌, drop, length, map};
-ghost use Rattle.bitvec_checked.specs.commands.base.Memory.{FitsMaxBits, HasWindow, Writes, list_in, memory_bits};
+ghost use Rattle.bitvec_base.specs.Memory.{FitsMaxBits, HasWindow, Writes, list_in, memory_bits};
 ghost use Rattle.bitvec_checked_run.specs.Runs.{FitRoom, Runs, are_steps, list_after_steps, raw_replies, steps_status};
 ghost use Rattle.bitvec_checked.specs.Statuses.{bits_from};
 
+use bitvec_base::{Lsb0, Msb0, Window};
+use bitvec_cells::{Cells, CellsRead, Exclusive, Shared};
+use bitvec_checked::{DONE, LSB0, memories_status, or_next};
+use bitvec_engine::SliceOrder;
+use bitvec_run::{carry_out_field, whole};
+use bitvec_segments::FieldOrder;
+use bitvec_store::BitStore;
 use crate::operations::OPERATIONS;
 use crate::replies::RawReply;
 use crate::steps::RawStep;
-use bitvec_checked::base::{Lsb0, Msb0, Window};
-use bitvec_checked::cells::{Cells, CellsRead, Exclusive, Shared};
-use bitvec_checked::commands::{carry_out_field, whole};
-use bitvec_checked::engine::SliceOrder;
-use bitvec_checked::segments::FieldOrder;
-use bitvec_checked::store::BitStore;
-use bitvec_checked::{DONE, LSB0, memories_status, or_next};
 
 /// A step has the number of no operation.
 pub const OP: u32 = 12;

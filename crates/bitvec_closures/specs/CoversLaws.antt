@@ -7,8 +7,8 @@ use Rattle.std.specs.List.{FoldsTo}
 use Rattle.std.specs.declared.ops.Range.{Range}
 use Rattle.std.proofs.Common.{arith, inl, inr, sym, subst, ◌∙◌, ap, ⊎_elim}
 use Rattle.std.proofs.lemmas.Bool.{cases_lt}
-use Rattle.bitvec_split.specs.base.WriteLaws.{get-slice_range}
-use Rattle.bitvec_split.specs.slice.Seen.{Seen}
+use Rattle.bitvec_base.specs.WriteLaws.{get-slice_range}
+use Rattle.bitvec_slice.specs.Seen.{Seen}
 use Rattle.bitvec_split.specs.Asked.{Asked, Asks, upward}
 use Rattle.bitvec_split.specs.Lent.{GivesAllIn, GivesRangeIn, LeftIn, SplitNextIn, unsplit_in}
 use Rattle.bitvec_closures.specs.SplitEdits.{GivesInTurn}

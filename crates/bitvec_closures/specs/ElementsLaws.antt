@@ -2,10 +2,10 @@
 use Rattle.std.specs.Prelude.{◌≡◌, ℕ, ◌*◌, List, length, refl}
 use Rattle.std.specs.Borrow.{GName}
 use Rattle.std.proofs.Common.{sym, ◌∙◌, ap}
-use Rattle.bitvec_split.specs.base.declared.window.Window.{Window}
-use Rattle.bitvec_split.specs.slice.Seen.{IsWhole, Seen}
-use Rattle.bitvec_split.specs.slice.SeenLaws.{covered_bits}
-use Rattle.bitvec_split.specs.slice.Showing.{ShowsElements}
+use Rattle.bitvec_base.specs.declared.window.Window.{Window}
+use Rattle.bitvec_slice.specs.Seen.{IsWhole, Seen}
+use Rattle.bitvec_slice.specs.SeenLaws.{covered_bits}
+use Rattle.bitvec_slice.specs.Showing.{ShowsElements}
 use Rattle.bitvec_closures.specs.InPlace.{StaysInPlace}
 
 module _ {V T : Type 0} {shows : V → Seen T} {named : V → GName} {b : ℕ} {at : ℕ → ℕ → ℕ} {value : T → ℕ} (sound : (v : V) → ShowsElements b at value (shows v)) {elements : List T} {piece left : V}

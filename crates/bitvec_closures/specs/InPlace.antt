@@ -1,8 +1,8 @@
 -- A writable view that stays in its place, or is moved to another.
 use Rattle.std.specs.Prelude.{◌≡◌, Bool, List, length}
 use Rattle.std.specs.Borrow.{GName}
-use Rattle.bitvec_split.specs.base.declared.window.Window.{Window}
-use Rattle.bitvec_split.specs.slice.Seen.{Seen, outside_of}
+use Rattle.bitvec_base.specs.declared.window.Window.{Window}
+use Rattle.bitvec_slice.specs.Seen.{Seen, outside_of}
 
 -- what a view shows, and which memory it borrows
 module _ {V T : Type 0} (shows : V → Seen T) (named : V → GName) where

@@ -4,13 +4,13 @@ use Rattle.std.specs.Borrow.{GName}
 use Rattle.std.specs.declared.ops.Range.{Range}
 use Rattle.std.proofs.Common.{arith, refl, subst, sym, ◌∙◌, ap, length-append, length-drop}
 use Rattle.std.proofs.lemmas.List.{length-map}
-use Rattle.bitvec_split.specs.base.Window.{IsWithin, max_bits, window_of, window_range, write_at, write_window}
-use Rattle.bitvec_split.specs.base.WindowLaws.{length-window, part-of_window, part-written, window-written}
-use Rattle.bitvec_split.specs.base.WriteLaws.{drop-write_at, length-write_at, range-write_at_after, take-write_at, write_at-all, write_at-next, write_at-same}
-use Rattle.bitvec_split.specs.base.declared.window.Window.{Window}
-use Rattle.bitvec_split.specs.slice.Seen.{Seen, outside_of}
-use Rattle.bitvec_split.specs.slice.SeenLaws.{length-memory}
-use Rattle.bitvec_split.specs.slice.Showing.{ShowsElements}
+use Rattle.bitvec_base.specs.Window.{IsWithin, max_bits, window_of, window_range, write_at, write_window}
+use Rattle.bitvec_base.specs.WindowLaws.{length-window, part-of_window, part-written, window-written}
+use Rattle.bitvec_base.specs.WriteLaws.{drop-write_at, length-write_at, range-write_at_after, take-write_at, write_at-all, write_at-next, write_at-same}
+use Rattle.bitvec_base.specs.declared.window.Window.{Window}
+use Rattle.bitvec_slice.specs.Seen.{Seen, outside_of}
+use Rattle.bitvec_slice.specs.SeenLaws.{length-memory}
+use Rattle.bitvec_slice.specs.Showing.{ShowsElements}
 use Rattle.bitvec_cutting.specs.Cutting.{LiesIn, cut}
 use Rattle.bitvec_closures.specs.InPlace.{StandsAt, StaysInPlace, WritesInPlace}
 use Rattle.bitvec_closures.specs.Pieces.{IsPieceOf, Narrows, range_of}

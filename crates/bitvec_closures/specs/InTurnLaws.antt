@@ -4,7 +4,7 @@ use Rattle.std.specs.Borrow.{MutBor}
 use Rattle.std.proofs.Common.{arith, subst, sym, ◌∙◌, ap}
 use borrow.Author.Count.{below_more}
 use native.Mathlib.Numerals.{add-one}
-use Rattle.bitvec_split.specs.slice.Seen.{Seen}
+use Rattle.bitvec_slice.specs.Seen.{Seen}
 use Rattle.bitvec_closures.specs.Pieces.{CallsInTurn, EditsNumbered, WayToCut}
 
 -- `states`, but for the one behind `n`, which is `next`

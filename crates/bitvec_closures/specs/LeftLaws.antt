@@ -6,12 +6,12 @@ use Rattle.bitvec_cutting.specs.Cutting.{cut}
 use Rattle.bitvec_cutting.specs.RangeLaws.{chunk-counted, chunk-range}
 use Rattle.bitvec_closures.specs.Pieces.{EditsPieces, IsNumbered, MayEdit, MayEditEach, WayToCut, in_chunks}
 use Rattle.bitvec_closures.specs.InTurnLaws.{in_turn-keep}
-use Rattle.bitvec_split.specs.store.declared.store.BitStore.{Ghosts as Store}
-use Rattle.bitvec_split.specs.base.declared.order.BitOrder.{Ghosts as Order}
-use Rattle.bitvec_split.specs.slice.Seen.{Seen}
-use Rattle.bitvec_split.specs.slice.ShowingLaws.{shows-seen_mut}
-use Rattle.bitvec_split.specs.slice.Views.{name_of, seen_mut}
-use Rattle.bitvec_split.specs.slice.declared.view_mut.BitSliceMut.{BitSliceMut}
+use Rattle.bitvec_store.specs.declared.store.BitStore.{Ghosts as Store}
+use Rattle.bitvec_base.specs.declared.order.BitOrder.{Ghosts as Order}
+use Rattle.bitvec_slice.specs.Seen.{Seen}
+use Rattle.bitvec_slice.specs.ShowingLaws.{shows-seen_mut}
+use Rattle.bitvec_slice.specs.Views.{name_of, seen_mut}
+use Rattle.bitvec_slice.specs.declared.view_mut.BitSliceMut.{BitSliceMut}
 use Rattle.bitvec_closures.specs.InPlaceLaws.{length-shown}
 
 module _ {V T F : Type 0} {shows : V → Seen T} {named : V → GName} {pre : F → ℕ → MutBor V → Type 0} {step : F → ℕ → MutBor V → ⊤ → MutBor V → F → Type 0} {edit : F} {view : Seen T} {way : WayToCut} where

@@ -1,5 +1,3 @@
-pub mod cutting
-pub mod split
 pub mod CoversLaws
 pub mod Elements
 pub mod ElementsLaws

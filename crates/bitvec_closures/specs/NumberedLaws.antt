@@ -2,16 +2,16 @@
 use Rattle.std.specs.Prelude.{◌≡◌, ℕ, ◌+◌, ◌<◌, ◌≤◌, ◌⊎◌, Bool, List, length, slice_index_or, slice_range, refl, ⊤}
 use Rattle.std.specs.Borrow.{GName, MutBor}
 use Rattle.std.proofs.Common.{arith, inl, inr, subst, ◌∙◌, ap, ⊎_elim}
-use Rattle.bitvec_split.specs.base.Window.{write_at}
-use Rattle.bitvec_split.specs.base.WriteLaws.{get-write_at_above, get-write_at_below, range-write_at, range-write_at_after, range-write_at_before}
-use Rattle.bitvec_split.specs.base.declared.window.Window.{Window}
+use Rattle.bitvec_base.specs.Window.{write_at}
+use Rattle.bitvec_base.specs.WriteLaws.{get-write_at_above, get-write_at_below, range-write_at, range-write_at_after, range-write_at_before}
+use Rattle.bitvec_base.specs.declared.window.Window.{Window}
 use Rattle.bitvec_cutting.specs.Cutting.{LiesIn, cut}
 use Rattle.bitvec_closures.specs.Pieces.{CallsInTurn, EditsPieces, IsApart, IsLeftOut, IsNumbered, Narrows, WayToCut}
 use Rattle.bitvec_closures.specs.InPlace.{StaysInPlace, WritesInPlace}
 use Rattle.bitvec_closures.specs.InPlaceLaws.{length-left, length-shown, piece-before, shown-fits, shown-within, stays-then}
 use Rattle.bitvec_closures.specs.InTurnLaws.{in_turn-first, in_turn-more}
-use Rattle.bitvec_split.specs.slice.Seen.{Seen}
-use Rattle.bitvec_split.specs.slice.Showing.{ShowsElements}
+use Rattle.bitvec_slice.specs.Seen.{Seen}
+use Rattle.bitvec_slice.specs.Showing.{ShowsElements}
 
 module _ {V T F : Type 0} (shows : V → Seen T) (named : V → GName) (step : F → ℕ → MutBor V → ⊤ → MutBor V → F → Type 0) (view : V) (way : WayToCut) (edit : F) where
   -- the pieces before `index` were edited in turn, which left the edit as `f`, and those from it on are as before, as is what lies in none

@@ -2,10 +2,10 @@
 use Rattle.std.specs.Prelude.{◌≡◌, ℕ, ◌+◌, ◌-◌, ◌<◌, ◌≤◌, ◌⊎◌, ◌++◌, Bool, List, slice_index_or, ⊤}
 use Rattle.std.specs.Borrow.{GName, MutBor}
 use Rattle.std.specs.declared.ops.Range.{Range}
-use Rattle.bitvec_split.specs.base.Window.{max_bits, window_range, write_at}
-use Rattle.bitvec_split.specs.base.declared.window.Window.{Window}
+use Rattle.bitvec_base.specs.Window.{max_bits, window_range, write_at}
+use Rattle.bitvec_base.specs.declared.window.Window.{Window}
 use Rattle.bitvec_cutting.specs.Cutting.{back_chunk, chunk, chunk_count, cut, whole_chunk, whole_count}
-use Rattle.bitvec_split.specs.slice.Seen.{Seen}
+use Rattle.bitvec_slice.specs.Seen.{Seen}
 use Rattle.bitvec_closures.specs.InPlace.{StandsAt, StaysInPlace}
 
 abbrev pub range_of : ℕ → ℕ → Range ℕ

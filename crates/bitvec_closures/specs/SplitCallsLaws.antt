@@ -6,13 +6,13 @@ use Rattle.std.specs.Fn.{Mut}
 use Rattle.std.specs.List.{FoldsTo}
 use Rattle.std.specs.declared.ops.Range.{Range}
 use Rattle.std.proofs.Common.{arith, sym, subst, ◌∙◌, ap, ⊎_elim}
-use Rattle.bitvec_split.specs.base.Window.{write_at}
-use Rattle.bitvec_split.specs.base.WriteLaws.{range-range, range-write_at_after, range-write_at_before}
-use Rattle.bitvec_split.specs.base.declared.window.Window.{Window}
+use Rattle.bitvec_base.specs.Window.{write_at}
+use Rattle.bitvec_base.specs.WriteLaws.{range-range, range-write_at_after, range-write_at_before}
+use Rattle.bitvec_base.specs.declared.window.Window.{Window}
 use Rattle.bitvec_cutting.specs.Cutting.{LiesIn}
-use Rattle.bitvec_split.specs.slice.Seen.{Seen}
+use Rattle.bitvec_slice.specs.Seen.{Seen}
 use Rattle.bitvec_closures.specs.Pieces.{IsPieceOf, MayEdit, Narrows}
-use Rattle.bitvec_split.specs.slice.Showing.{ShowsElements}
+use Rattle.bitvec_slice.specs.Showing.{ShowsElements}
 use Rattle.bitvec_closures.specs.InPlace.{StaysInPlace, WritesInPlace}
 use Rattle.bitvec_closures.specs.InPlaceLaws.{length-left, length-shown, piece-before, shown-fits, shown-within, stays-then}
 use Rattle.bitvec_split.specs.Asked.{Asked}

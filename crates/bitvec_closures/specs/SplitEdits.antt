@@ -3,9 +3,9 @@ use Rattle.std.specs.Prelude.{◌≡◌, ℕ, ◌+◌, ◌≤◌, Bool, List, Op
 use Rattle.std.specs.Borrow.{GName, MutBor}
 use Rattle.std.specs.List.{FoldsTo}
 use Rattle.std.specs.declared.ops.Range.{Range}
-use Rattle.bitvec_split.specs.base.Window.{max_bits, write_at}
+use Rattle.bitvec_base.specs.Window.{max_bits, write_at}
 use Rattle.bitvec_cutting.specs.Cutting.{LiesIn}
-use Rattle.bitvec_split.specs.slice.Seen.{Seen}
+use Rattle.bitvec_slice.specs.Seen.{Seen}
 use Rattle.bitvec_closures.specs.Pieces.{IsPieceOf, MayEdit}
 use Rattle.bitvec_closures.specs.InPlace.{StaysInPlace}
 

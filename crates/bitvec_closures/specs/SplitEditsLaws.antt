@@ -5,17 +5,17 @@ use Rattle.std.specs.List.{FoldsTo}
 use Rattle.std.specs.declared.ops.Range.{Range}
 use Rattle.std.proofs.Common.{arith, sym, subst, ◌∙◌, ap, ⊎_elim}
 use Rattle.std.proofs.lemmas.Bool.{cases_lt}
-use Rattle.bitvec_split.specs.base.Window.{write_at}
-use Rattle.bitvec_split.specs.base.WriteLaws.{get-slice_range, get-write_at_above, get-write_at_below, get-write_at_inside, length-slice_range, length-write_at}
+use Rattle.bitvec_base.specs.Window.{write_at}
+use Rattle.bitvec_base.specs.WriteLaws.{get-slice_range, get-write_at_above, get-write_at_below, get-write_at_inside, length-slice_range, length-write_at}
 use Rattle.bitvec_cutting.specs.Cutting.{cut}
-use Rattle.bitvec_split.specs.slice.Seen.{Seen}
-use Rattle.bitvec_split.specs.slice.Showing.{ShowsElements}
+use Rattle.bitvec_slice.specs.Seen.{Seen}
+use Rattle.bitvec_slice.specs.Showing.{ShowsElements}
 use Rattle.bitvec_closures.specs.InPlaceLaws.{length-left, length-shown}
-use Rattle.bitvec_split.specs.store.declared.store.BitStore.{Ghosts as Store}
-use Rattle.bitvec_split.specs.base.declared.order.BitOrder.{Ghosts as Order}
-use Rattle.bitvec_split.specs.slice.ShowingLaws.{shows-seen_mut}
-use Rattle.bitvec_split.specs.slice.Views.{name_of, seen_mut}
-use Rattle.bitvec_split.specs.slice.declared.view_mut.BitSliceMut.{BitSliceMut}
+use Rattle.bitvec_store.specs.declared.store.BitStore.{Ghosts as Store}
+use Rattle.bitvec_base.specs.declared.order.BitOrder.{Ghosts as Order}
+use Rattle.bitvec_slice.specs.ShowingLaws.{shows-seen_mut}
+use Rattle.bitvec_slice.specs.Views.{name_of, seen_mut}
+use Rattle.bitvec_slice.specs.declared.view_mut.BitSliceMut.{BitSliceMut}
 use Rattle.bitvec_closures.specs.SplitEdits.{Editing, EditsInTurn, EditsNext}
 
 -- `now`, with each of the pieces, from this number on, made what `leaves` makes of its number and of the bits that it has in `bits`

@@ -1,7 +1,7 @@
 -- What is left of a view while its pieces are edited in place.
 use Rattle.std.specs.Prelude.{◌≡◌, ℕ, ◌+◌, ◌-◌, ◌<◌, ◌≤◌, ◌⊎◌, true, false, MatchOption, Option, if◌then◌else◌}
 use Rattle.std.specs.declared.ops.Range.{Range}
-use Rattle.bitvec_split.specs.slice.Seen.{Seen}
+use Rattle.bitvec_slice.specs.Seen.{Seen}
 use Rattle.bitvec_split.specs.Lent.{LeftIn, LimitedSplitIn}
 use Rattle.bitvec_closures.specs.declared.left.ToSplit.{ToSplit}
 

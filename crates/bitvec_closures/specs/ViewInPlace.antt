@@ -1,13 +1,13 @@
 -- A writable view of bits: what was written in its place was written.
 use Rattle.std.specs.Prelude.{Bool, List}
 use Rattle.std.proofs.Common.{ap, ◌∙◌}
-use Rattle.bitvec_split.specs.store.declared.store.BitStore.{Ghosts as Store}
-use Rattle.bitvec_split.specs.base.Window.{write_window}
-use Rattle.bitvec_split.specs.base.declared.order.BitOrder.{Ghosts as Order}
-use Rattle.bitvec_split.specs.slice.ShowingLaws.{shows-seen_mut}
-use Rattle.bitvec_split.specs.slice.Views.{name_of, seen_mut}
-use Rattle.bitvec_split.specs.slice.Writes.{WritesBits}
-use Rattle.bitvec_split.specs.slice.declared.view_mut.BitSliceMut.{BitSliceMut}
+use Rattle.bitvec_store.specs.declared.store.BitStore.{Ghosts as Store}
+use Rattle.bitvec_base.specs.Window.{write_window}
+use Rattle.bitvec_base.specs.declared.order.BitOrder.{Ghosts as Order}
+use Rattle.bitvec_slice.specs.ShowingLaws.{shows-seen_mut}
+use Rattle.bitvec_slice.specs.Views.{name_of, seen_mut}
+use Rattle.bitvec_slice.specs.Writes.{WritesBits}
+use Rattle.bitvec_slice.specs.declared.view_mut.BitSliceMut.{BitSliceMut}
 use Rattle.bitvec_closures.specs.InPlace.{WritesInPlace}
 use Rattle.bitvec_closures.specs.InPlaceLaws.{kept-memory}
 

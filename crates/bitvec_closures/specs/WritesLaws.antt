@@ -1,12 +1,12 @@
 -- Edits of one view, one after the other, as one edit.
 use Rattle.std.specs.Prelude.{◌≡◌, Bool, List, length, refl}
 use Rattle.std.proofs.Common.{◌∙◌}
-use Rattle.bitvec_split.specs.store.declared.store.BitStore.{Ghosts as Store}
-use Rattle.bitvec_split.specs.base.declared.order.BitOrder.{Ghosts as Order}
-use Rattle.bitvec_split.specs.slice.Seen.{outside_of}
-use Rattle.bitvec_split.specs.slice.Views.{name_of, seen_mut}
-use Rattle.bitvec_split.specs.slice.Writes.{WritesBits}
-use Rattle.bitvec_split.specs.slice.declared.view_mut.BitSliceMut.{BitSliceMut}
+use Rattle.bitvec_store.specs.declared.store.BitStore.{Ghosts as Store}
+use Rattle.bitvec_base.specs.declared.order.BitOrder.{Ghosts as Order}
+use Rattle.bitvec_slice.specs.Seen.{outside_of}
+use Rattle.bitvec_slice.specs.Views.{name_of, seen_mut}
+use Rattle.bitvec_slice.specs.Writes.{WritesBits}
+use Rattle.bitvec_slice.specs.declared.view_mut.BitSliceMut.{BitSliceMut}
 use Rattle.bitvec_closures.specs.ViewInPlace.{written_so}
 
 module _ {T O : Type 0} {t : Store T} {o : Order O} where

@@ -1,15 +1,15 @@
 //! Edits of elements by a closure over a view of all their bits.
 ghost use Rattle.std.specs.Prelude.{◌≡◌, ◌*◌, ◌≤◌, List, length};
 ghost use Rattle.std.specs.Borrow.{GName};
-ghost use Rattle.bitvec_split.specs.base.Window.{max_bits};
-ghost use Rattle.bitvec_split.specs.slice.Seen.{CoversElements, IsWhole};
+ghost use Rattle.bitvec_base.specs.Window.{max_bits};
+ghost use Rattle.bitvec_slice.specs.Seen.{CoversElements, IsWhole};
 ghost use Rattle.bitvec_closures.specs.Elements.{EditsElements};
 ghost use Rattle.bitvec_closures.specs.Pieces.{MayEdit};
 
+use bitvec_base::BitOrder;
+use bitvec_slice::BitSliceMut;
+use bitvec_store::BitStore;
 use crate::EditParts;
-use bitvec_split::base::BitOrder;
-use bitvec_split::slice::BitSliceMut;
-use bitvec_split::store::BitStore;
 
 /// Edits of borrowed elements by a closure over a view of all their bits. So an array is edited in one
 /// function, or in a method of the struct whose field it is, and its bits are known afterwards. `bitvec`

@@ -1,15 +1,15 @@
 //! Edits of parts of a view by closures.
 ghost use Rattle.std.specs.Prelude.{◌<◌, ◌≤◌, Bool, List, length};
 ghost use Rattle.std.specs.Borrow.{GName};
-ghost use Rattle.bitvec_split.specs.base.Window.{IsWithin};
-ghost use Rattle.bitvec_split.specs.slice.Indices.{HasRange};
+ghost use Rattle.bitvec_base.specs.Window.{IsWithin};
+ghost use Rattle.bitvec_slice.specs.Indices.{HasRange};
 ghost use Rattle.bitvec_closures.specs.InPlace.{StandsAt, WritesInPlace};
 ghost use Rattle.bitvec_closures.specs.Pieces.{EditsHalves, EditsPiece, EditsPieces, IsApart, IsPieceOf, MayEdit, MayEditEach, Narrows, way_of, in_back_chunks, in_chunks, in_whole_back_chunks, in_whole_chunks, range_of};
 
+use bitvec_base::{BitOrder, Window};
 use bitvec_cutting::{Cutting, InChunks, InChunksFromEnd, InExactChunks, InExactChunksFromEnd};
-use bitvec_split::base::{BitOrder, Window};
-use bitvec_split::slice::{Sealed, View, ViewMut};
-use bitvec_split::store::BitStore;
+use bitvec_slice::{Sealed, View, ViewMut};
+use bitvec_store::BitStore;
 use std::ops::Range;
 
 /// Edits of parts of a writable view by closures, which take the view itself, narrowed to the part

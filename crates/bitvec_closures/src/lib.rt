@@ -8,16 +8,6 @@ mod edit_splits;
 mod left;
 mod views;
 
-/// Items of `bitvec_split` that crates above use.
-pub mod split {
-    pub use bitvec_split::{
-        AtMost, Every, Forward, Inclusive, LimitedSplitWalk, RSplit, RSplitMut, RSplitN,
-        RSplitNMut, Reversed, Split, SplitCalls, SplitCallsMut, SplitInclusive, SplitInclusiveMut,
-        SplitKind, SplitLimit, SplitMut, SplitN, SplitNMut, SplitWalk, Splits, SplitsMut, SplitsN,
-        SplitsNMut,
-    };
-}
-
 pub use edit_elements::EditElements;
 pub use edit_parts::EditParts;
 pub use edit_splits::EditSplits;

@@ -1,11 +1,11 @@
 //! Parts of writable views, and the pieces of their splits, are edited in place.
-ghost use Rattle.bitvec_split.specs.slice.Views.{name_of};
+ghost use Rattle.bitvec_slice.specs.Views.{name_of};
 ghost use Rattle.bitvec_closures.specs.ViewInPlace.{written_so};
 
+use bitvec_base::{BitOrder, Window};
+use bitvec_slice::{BitSliceMut, Sealed};
+use bitvec_store::BitStore;
 use crate::{EditParts, EditSplits};
-use bitvec_split::base::{BitOrder, Window};
-use bitvec_split::slice::{BitSliceMut, Sealed};
-use bitvec_split::store::BitStore;
 
 impl<'a, T: BitStore, O: BitOrder> EditParts<T, O> for BitSliceMut<'a, T, O> {
     ghost named = { name_of };

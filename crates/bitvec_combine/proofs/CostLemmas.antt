@@ -1,8 +1,8 @@
 -- What an accessor was asked at most, by what calls asked of it.
 use Rattle.std.specs.Prelude.{ℕ, ◌+◌, ◌≤◌}
 use Rattle.std.proofs.Common.{arith, ◌∙◌}
-use Rattle.bitvec_move.specs.cells.Access.{Costs, CostsAtMost, OnlyReads, OnlyReadsAtMost}
-use Rattle.bitvec_move.specs.cells.declared.cells.CellsRead.{Ghosts as Access}
+use Rattle.bitvec_cells.specs.Access.{Costs, CostsAtMost, OnlyReads, OnlyReadsAtMost}
+use Rattle.bitvec_cells.specs.declared.cells.CellsRead.{Ghosts as Access}
 
 module _ {E C : Type 0} {access : Access C E} {old new : C} {l m : ℕ} where
   pub reads-most : OnlyReadsAtMost access old new l → l ≤ m → OnlyReadsAtMost access old new m

@@ -4,27 +4,27 @@ use Rattle.std.proofs.Common.{arith, sym, ◌∙◌, ap, ⊎_elim, length-append
 use Rattle.std.proofs.lemmas.Bool.{cases_lt}
 use Rattle.std.proofs.lemmas.List.{length-set}
 use Rattle.std.proofs.lemmas.Nat.{mod-mul-add}
-use Rattle.bitvec_move.specs.base.declared.part.Part.{Part}
-use Rattle.bitvec_move.specs.base.declared.window.Window.{Window}
-use Rattle.bitvec_move.specs.base.Lists.{combined}
-use Rattle.bitvec_move.specs.base.ListsLaws.{combined-is}
-use Rattle.bitvec_move.specs.base.Memory.{HasWindow, Writes, element_bits, list_in}
-use Rattle.bitvec_move.specs.base.MemoryLaws.{length-element_bits, set-element}
-use Rattle.bitvec_move.specs.base.PartLaws.{length-part}
-use Rattle.bitvec_move.specs.base.Parts.{HasPart, part_window}
-use Rattle.bitvec_move.specs.base.Window.{write_at}
-use Rattle.bitvec_move.specs.base.WritesLaws.{Writes-empty, Writes-is, length-list}
-use Rattle.bitvec_move.specs.cells.Access.{Costs}
-use Rattle.bitvec_move.specs.cells.declared.cells.CellsRead.{Ghosts as Access}
-use Rattle.bitvec_move.specs.walk.Cost.{read_loads, touched_count}
-use Rattle.bitvec_move.specs.walk.CostLaws.{touched_read}
-use Rattle.bitvec_move.specs.walk.WalkLaws.{touched-less, touched-none}
-use Rattle.bitvec_move.specs.words.declared.operator.BitOp.{BitOp}
-use Rattle.bitvec_move.specs.words.CombinedLaws.{Writes-both, combined-append, combined-padded, combined-range}
-use Rattle.bitvec_move.specs.words.FieldLaws.{list-part, list-whole, part-stored}
-use Rattle.bitvec_move.specs.words.Operator.{operator}
-use Rattle.bitvec_move.specs.words.ShortWindow.{padded}
-use Rattle.bitvec_move.specs.words.TouchedLaws.{touched-edge, touched-one}
+use Rattle.bitvec_base.specs.declared.part.Part.{Part}
+use Rattle.bitvec_base.specs.declared.window.Window.{Window}
+use Rattle.bitvec_base.specs.Lists.{combined}
+use Rattle.bitvec_base.specs.ListsLaws.{combined-is}
+use Rattle.bitvec_base.specs.Memory.{HasWindow, Writes, element_bits, list_in}
+use Rattle.bitvec_base.specs.MemoryLaws.{length-element_bits, set-element}
+use Rattle.bitvec_base.specs.PartLaws.{length-part}
+use Rattle.bitvec_base.specs.Parts.{HasPart, part_window}
+use Rattle.bitvec_base.specs.Window.{write_at}
+use Rattle.bitvec_base.specs.WritesLaws.{Writes-empty, Writes-is, length-list}
+use Rattle.bitvec_cells.specs.Access.{Costs}
+use Rattle.bitvec_cells.specs.declared.cells.CellsRead.{Ghosts as Access}
+use Rattle.bitvec_cells.specs.Cost.{read_loads, touched_count}
+use Rattle.bitvec_cells.specs.CostLaws.{touched_read}
+use Rattle.bitvec_cells.specs.WalkLaws.{touched-less, touched-none}
+use Rattle.bitvec_words.specs.declared.operator.BitOp.{BitOp}
+use Rattle.bitvec_words.specs.CombinedLaws.{Writes-both, combined-append, combined-padded, combined-range}
+use Rattle.bitvec_words.specs.FieldLaws.{list-part, list-whole, part-stored}
+use Rattle.bitvec_words.specs.Operator.{operator}
+use Rattle.bitvec_words.specs.ShortWindow.{padded}
+use Rattle.bitvec_words.specs.TouchedLaws.{touched-edge, touched-one}
 use Rattle.bitvec_move.specs.Acts.{IsCut, bits_beside}
 use Rattle.bitvec_combine.specs.Sides.{Combines, CombinesBits}
 

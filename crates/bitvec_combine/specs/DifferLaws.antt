@@ -3,22 +3,22 @@ use Rattle.std.specs.Prelude.{◌≡◌, ℕ, ◌+◌, ◌%◌, ◌<◌, ◌≤�
 use Rattle.std.proofs.Common.{arith, sym, ◌∙◌, ap, length-append}
 use Rattle.std.proofs.Math.Bool.{and-true}
 use Rattle.std.proofs.lemmas.Grind.{common_steps}
-use Rattle.bitvec_move.specs.base.declared.window.Window.{Window}
-use Rattle.bitvec_move.specs.base.CompareLaws.{same-unequal}
-use Rattle.bitvec_move.specs.base.Lists.{same_bits}
-use Rattle.bitvec_move.specs.base.Memory.{HasWindow, list_in}
-use Rattle.bitvec_move.specs.base.Spans.{HasSpan}
-use Rattle.bitvec_move.specs.base.WritesLaws.{length-list, list-join}
-use Rattle.bitvec_move.specs.cells.Access.{OnlyReads}
-use Rattle.bitvec_move.specs.cells.declared.cells.CellsRead.{Ghosts as Access}
-use Rattle.bitvec_move.specs.store.Width.{IsWidth}
-use Rattle.bitvec_move.specs.store.WidthLaws.{width_some}
-use Rattle.bitvec_move.specs.walk.Cost.{equal_loads, touched_count}
-use Rattle.bitvec_move.specs.walk.CostLaws.{touched_read}
-use Rattle.bitvec_move.specs.walk.WalkLaws.{touched-less}
-use Rattle.bitvec_move.specs.words.SameLaws.{or_zero, same-joined}
-use Rattle.bitvec_move.specs.words.TouchedLaws.{touched-edge, touched-one}
-use Rattle.bitvec_move.specs.words.WholeLaws.{HasWindow-part, list-empty, same-empty}
+use Rattle.bitvec_base.specs.declared.window.Window.{Window}
+use Rattle.bitvec_base.specs.CompareLaws.{same-unequal}
+use Rattle.bitvec_base.specs.Lists.{same_bits}
+use Rattle.bitvec_base.specs.Memory.{HasWindow, list_in}
+use Rattle.bitvec_base.specs.Spans.{HasSpan}
+use Rattle.bitvec_base.specs.WritesLaws.{length-list, list-join}
+use Rattle.bitvec_cells.specs.Access.{OnlyReads}
+use Rattle.bitvec_cells.specs.declared.cells.CellsRead.{Ghosts as Access}
+use Rattle.bitvec_store.specs.Width.{IsWidth}
+use Rattle.bitvec_store.specs.WidthLaws.{width_some}
+use Rattle.bitvec_cells.specs.Cost.{equal_loads, touched_count}
+use Rattle.bitvec_cells.specs.CostLaws.{touched_read}
+use Rattle.bitvec_cells.specs.WalkLaws.{touched-less}
+use Rattle.bitvec_words.specs.SameLaws.{or_zero, same-joined}
+use Rattle.bitvec_words.specs.TouchedLaws.{touched-edge, touched-one}
+use Rattle.bitvec_words.specs.WholeLaws.{HasWindow-part, list-empty, same-empty}
 use Rattle.bitvec_move.specs.ActLaws.{padded-full}
 use Rattle.bitvec_move.specs.Acts.{IsCut, bits_beside}
 use Rattle.bitvec_combine.specs.Sides.{FindsDifference}

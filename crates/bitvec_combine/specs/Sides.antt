@@ -1,13 +1,13 @@
 -- What is made of two windows' bits, index by index.
 use Rattle.std.specs.Prelude.{◌≡◌, ℕ, ◌==◌, ◌&&◌, Bool, List, length}
-use Rattle.bitvec_move.specs.base.declared.window.Window.{Window}
-use Rattle.bitvec_move.specs.base.Lists.{combined, same_bits}
-use Rattle.bitvec_move.specs.base.Memory.{Writes, list_in}
-use Rattle.bitvec_move.specs.cells.Access.{Costs, OnlyReadsAtMost}
-use Rattle.bitvec_move.specs.cells.declared.cells.CellsRead.{Ghosts as Access}
-use Rattle.bitvec_move.specs.walk.Cost.{touched_count}
-use Rattle.bitvec_move.specs.words.declared.operator.BitOp.{BitOp}
-use Rattle.bitvec_move.specs.words.Operator.{operator}
+use Rattle.bitvec_base.specs.declared.window.Window.{Window}
+use Rattle.bitvec_base.specs.Lists.{combined, same_bits}
+use Rattle.bitvec_base.specs.Memory.{Writes, list_in}
+use Rattle.bitvec_cells.specs.Access.{Costs, OnlyReadsAtMost}
+use Rattle.bitvec_cells.specs.declared.cells.CellsRead.{Ghosts as Access}
+use Rattle.bitvec_cells.specs.Cost.{touched_count}
+use Rattle.bitvec_words.specs.declared.operator.BitOp.{BitOp}
+use Rattle.bitvec_words.specs.Operator.{operator}
 
 -- each bit of the first window is what the operator makes of it and the one at its index in the second, a 0 past that one's end; every other bit stays
 abbrev pub Combines : (b : ℕ) (at : ℕ → ℕ → ℕ) → BitOp → (old new ys : List ℕ) (left right : Window) → Type 0

@@ -2,21 +2,21 @@
 //! makes the accessors, so that each operator has loops of its own.
 ghost use Rattle.std.specs.Prelude.{◌≡◌, ◌+◌, ◌-◌, ◌%◌, ◌^◌, ◌<◌, ◌≤◌, true, false, []};
 ghost use Rattle.std.proofs.Common.{rules};
-ghost use Rattle.bitvec_move.specs.base.Lists.{combined};
-ghost use Rattle.bitvec_move.specs.base.Memory.{HasWindow, Writes, list_in};
-ghost use Rattle.bitvec_move.specs.base.Spans.{HasSpan};
-ghost use Rattle.bitvec_move.specs.cells.Access.{CostsAtMost, OnlyReadsAtMost};
-ghost use Rattle.bitvec_move.specs.walk.Cost.{edit_loads, read_loads, touched_count, write_stores};
-ghost use Rattle.bitvec_move.specs.words.Operator.{operator};
-ghost use Rattle.bitvec_move.specs.store.WidthLaws.{width_some};
+ghost use Rattle.bitvec_base.specs.Lists.{combined};
+ghost use Rattle.bitvec_base.specs.Memory.{HasWindow, Writes, list_in};
+ghost use Rattle.bitvec_base.specs.Spans.{HasSpan};
+ghost use Rattle.bitvec_cells.specs.Access.{CostsAtMost, OnlyReadsAtMost};
+ghost use Rattle.bitvec_cells.specs.Cost.{edit_loads, read_loads, touched_count, write_stores};
+ghost use Rattle.bitvec_words.specs.Operator.{operator};
+ghost use Rattle.bitvec_store.specs.WidthLaws.{width_some};
 ghost use Rattle.bitvec_combine.specs.CombineLaws.{combines-empty, combines-join};
 ghost use Rattle.bitvec_combine.specs.Sides.{Combines, CombinesBits};
 
-use bitvec_move::base::{BitOrder, Part, Window};
-use bitvec_move::cells::{Cells, CellsRead};
-use bitvec_move::store::BitStore;
-use bitvec_move::words::{BitOp, WordOrder, fill, merged};
+use bitvec_base::{BitOrder, Part, Window};
+use bitvec_cells::{Cells, CellsRead};
 use bitvec_move::{Act, Equal, act, act_phased};
+use bitvec_store::BitStore;
+use bitvec_words::{BitOp, WordOrder, fill, merged};
 
 /// The act that replaces each bit by what an operator makes of it and the other one.
 #[derive(Clone, Copy)]
@@ -61,7 +61,7 @@ impl<C: Cells> Act<C> for Apply {
 /// Condition: each memory has at most `MAX_BITS` bits, and each window lies in its memory. It loads
 /// and stores each element that the window touches at most once, and loads each element with a bit
 /// that both have on the right once.
-#[tactic(auto, using(bitvec_move::specs::Cited::in_steps, bitvec_move::specs::Cited::width_some, crate::specs::CombineLaws::passed))]
+#[tactic(auto, using(bitvec_cells::specs::CostLaws::in_steps, bitvec_store::specs::WidthLaws::width_some, crate::specs::CombineLaws::passed))]
 #[inline(always)]
 pub fn combine<O: WordOrder, C: Cells, D: CellsRead<Elem = C::Elem>>(
     left: &mut C,

@@ -1,19 +1,19 @@
 //! The bits of two windows compared, many at a time.
 ghost use Rattle.std.specs.Prelude.{◌≡◌, ◌≢◌, ◌%◌, ◌<◌, ◌==◌, true, not, length};
 ghost use Rattle.std.proofs.Common.{ap};
-ghost use Rattle.bitvec_move.specs.base.Lists.{same_bits};
-ghost use Rattle.bitvec_move.specs.base.Memory.{HasWindow, list_in};
-ghost use Rattle.bitvec_move.specs.base.Spans.{HasSpan};
-ghost use Rattle.bitvec_move.specs.cells.Access.{OnlyReadsAtMost};
-ghost use Rattle.bitvec_move.specs.walk.Cost.{equal_loads, touched_count};
+ghost use Rattle.bitvec_base.specs.Lists.{same_bits};
+ghost use Rattle.bitvec_base.specs.Memory.{HasWindow, list_in};
+ghost use Rattle.bitvec_base.specs.Spans.{HasSpan};
+ghost use Rattle.bitvec_cells.specs.Access.{OnlyReadsAtMost};
+ghost use Rattle.bitvec_cells.specs.Cost.{equal_loads, touched_count};
 ghost use Rattle.bitvec_combine.specs.DifferLaws.{finds-both, finds-early, finds-none};
 ghost use Rattle.bitvec_combine.specs.Sides.{FindsDifference};
 
-use bitvec_move::base::{BitOrder, Part, Window};
-use bitvec_move::cells::CellsRead;
-use bitvec_move::store::BitStore;
-use bitvec_move::words::{WORD_BITS, WordOrder};
+use bitvec_base::{BitOrder, Part, Window};
+use bitvec_cells::CellsRead;
 use bitvec_move::{Act, Equal, Phases, Shifted, act_phased};
+use bitvec_store::BitStore;
+use bitvec_words::{WORD_BITS, WordOrder};
 
 /// How many bits are compared before each test. A test after each single element would keep the loop
 /// from vector instructions; LLVM doesn't unroll longer loops over the widest elements, so they have none.

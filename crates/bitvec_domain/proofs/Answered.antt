@@ -4,12 +4,12 @@ use Rattle.std.specs.Array.{FillsFrom, index_steps}
 use Rattle.std.specs.Iterator.{CallableAtEachTurn}
 use Rattle.std.proofs.Common.{arith, sym, ◌∙◌, ap, subst}
 use Rattle.std.proofs.lemmas.List.{length-append}
-use Rattle.bitvec_cells.specs.base.declared.window.Window.{Window}
-use Rattle.bitvec_cells.specs.base.Memory.{memory_bits, list_in, HasWindow, Writes}
-use Rattle.bitvec_cells.specs.base.Window.{window_of, write_window}
-use Rattle.bitvec_cells.specs.base.WindowLaws.{window-push, window-rest}
-use Rattle.bitvec_cells.specs.base.WriteLaws.{write_at-nil}
-use Rattle.bitvec_cells.specs.base.WritesLaws.{within-list, HasWindow-kept}
+use Rattle.bitvec_base.specs.declared.window.Window.{Window}
+use Rattle.bitvec_base.specs.Memory.{memory_bits, list_in, HasWindow, Writes}
+use Rattle.bitvec_base.specs.Window.{window_of, write_window}
+use Rattle.bitvec_base.specs.WindowLaws.{window-push, window-rest}
+use Rattle.bitvec_base.specs.WriteLaws.{write_at-nil}
+use Rattle.bitvec_base.specs.WritesLaws.{within-list, HasWindow-kept}
 
 module _ {F : Type 0} (R : F → ℕ → Bool → F → Type 0) where
   -- one more call after some

@@ -1,12 +1,12 @@
 -- What a reference to a bit is after that was written.
 use Rattle.std.specs.Prelude.{◌≡◌, Bool, List, [], ◌∷◌, map, slice_index_or, slice_set}
 use Rattle.std.proofs.Common.{false, sym, ◌∙◌, ap}
-use Rattle.bitvec_cells.specs.base.Memory.{Writes, list_in, memory_bits}
-use Rattle.bitvec_cells.specs.base.Window.{bit_window}
-use Rattle.bitvec_cells.specs.base.WindowLaws.{get-one}
-use Rattle.bitvec_cells.specs.base.WritesLaws.{Writes-holds, Writes-one}
-use Rattle.bitvec_cells.specs.store.declared.store.BitStore.{Ghosts as Store}
-use Rattle.bitvec_cells.specs.base.declared.order.BitOrder.{Ghosts as Order}
+use Rattle.bitvec_base.specs.Memory.{Writes, list_in, memory_bits}
+use Rattle.bitvec_base.specs.Window.{bit_window}
+use Rattle.bitvec_base.specs.WindowLaws.{get-one}
+use Rattle.bitvec_base.specs.WritesLaws.{Writes-holds, Writes-one}
+use Rattle.bitvec_store.specs.declared.store.BitStore.{Ghosts as Store}
+use Rattle.bitvec_base.specs.declared.order.BitOrder.{Ghosts as Order}
 use Rattle.bitvec_domain.specs.References.{WritesBit, bit_of_ref_mut, memory_of_ref_mut}
 use Rattle.bitvec_domain.specs.declared.reference_mut.BitRefMut.{BitRefMut}
 

@@ -5,14 +5,14 @@ use Rattle.std.proofs.Math.Nat.{add-mul, lt_of_mul-lt-mul_right, mul-le-mul_righ
 use Rattle.std.proofs.lemmas.Bool.Decides.{eqb_tells}
 use Rattle.std.proofs.lemmas.Nat.{div-add-mod', mod_below, div_below}
 use Rattle.std.proofs.lemmas.Option.{IfSome_then}
-use Rattle.bitvec_cells.specs.base.declared.part.Part.{Part}
-use Rattle.bitvec_cells.specs.base.declared.window.Window.{Window}
-use Rattle.bitvec_cells.specs.base.Memory.{memory_bits, list_in, HasWindow}
-use Rattle.bitvec_cells.specs.base.MemoryLaws.{memory-range, length-memory_bits}
-use Rattle.bitvec_cells.specs.base.PartLaws.{part-range}
-use Rattle.bitvec_cells.specs.base.Parts.{first_part_of, last_part_of, part_window}
-use Rattle.bitvec_cells.specs.base.SliceLaws.{range-join, range-map, range-none, range-same}
-use Rattle.bitvec_cells.specs.base.Window.{window_of}
+use Rattle.bitvec_base.specs.declared.part.Part.{Part}
+use Rattle.bitvec_base.specs.declared.window.Window.{Window}
+use Rattle.bitvec_base.specs.Memory.{memory_bits, list_in, HasWindow}
+use Rattle.bitvec_base.specs.MemoryLaws.{memory-range, length-memory_bits}
+use Rattle.bitvec_base.specs.PartLaws.{part-range}
+use Rattle.bitvec_base.specs.Parts.{first_part_of, last_part_of, part_window}
+use Rattle.bitvec_base.specs.SliceLaws.{range-join, range-map, range-none, range-same}
+use Rattle.bitvec_base.specs.Window.{window_of}
 use Rattle.bitvec_domain.specs.Cuts.{cut_of, cut_across, IsCutWithin, IsHeadWithin, IsPartWithin}
 use Rattle.bitvec_domain.specs.Domains.{bits_if, bits_of_pieces, part_in, part_in_if, pieces_in}
 use Rattle.bitvec_domain.specs.declared.cut.Cut.{Cut}

@@ -1,9 +1,9 @@
 -- What the parts of a range of bits are, by the elements that it touches.
 use Rattle.std.specs.Prelude.{ℕ, Bool, List, [], ◌++◌, Option, None, Some, map, slice_index, slice_range}
-use Rattle.bitvec_cells.specs.base.Memory.{memory_bits}
-use Rattle.bitvec_cells.specs.base.declared.part.Part.{Part}
-use Rattle.bitvec_cells.specs.store.declared.store.BitStore.{Ghosts as Store}
-use Rattle.bitvec_cells.specs.base.declared.order.BitOrder.{Ghosts as Order}
+use Rattle.bitvec_base.specs.Memory.{memory_bits}
+use Rattle.bitvec_base.specs.declared.part.Part.{Part}
+use Rattle.bitvec_store.specs.declared.store.BitStore.{Ghosts as Store}
+use Rattle.bitvec_base.specs.declared.order.BitOrder.{Ghosts as Order}
 use Rattle.bitvec_domain.specs.Parts.{SeenPart, partial_at, seen_part, seen_part_mut}
 use Rattle.bitvec_domain.specs.declared.cut.Cut.{Cut}
 use Rattle.bitvec_domain.specs.declared.cut.Cut.TheVariants.{Inside, Across}

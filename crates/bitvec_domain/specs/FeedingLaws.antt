@@ -1,8 +1,8 @@
 -- Lists with the same bits feed a hasher the same.
 use Rattle.std.specs.Prelude.{◌≡◌, Bool, true, List}
 use Rattle.std.proofs.Common.{ap}
-use Rattle.bitvec_cells.specs.base.Lists.{same_bits}
-use Rattle.bitvec_cells.specs.base.ListsLaws.{same_bits-decides}
+use Rattle.bitvec_base.specs.Lists.{same_bits}
+use Rattle.bitvec_base.specs.ListsLaws.{same_bits-decides}
 use Rattle.bitvec_domain.specs.Feeding.{bits_fed}
 
 pub fed_same : (xs ys : List Bool) → same_bits xs ys ≡ true → bits_fed xs ≡ bits_fed ys

@@ -1,10 +1,10 @@
 -- What contracts see of a part of one element, which both types of parts show.
 use Rattle.std.specs.Prelude.{◌≡◌, ℕ, Bool, List, slice_range}
 use Rattle.std.specs.Borrow.{GName}
-use Rattle.bitvec_cells.specs.base.Memory.{element_bits}
-use Rattle.bitvec_cells.specs.base.Window.{write_at}
-use Rattle.bitvec_cells.specs.store.declared.store.BitStore.{Ghosts as Store}
-use Rattle.bitvec_cells.specs.base.declared.order.BitOrder.{Ghosts as Order}
+use Rattle.bitvec_base.specs.Memory.{element_bits}
+use Rattle.bitvec_base.specs.Window.{write_at}
+use Rattle.bitvec_store.specs.declared.store.BitStore.{Ghosts as Store}
+use Rattle.bitvec_base.specs.declared.order.BitOrder.{Ghosts as Order}
 use Rattle.bitvec_domain.specs.declared.part.PartialElement.{PartialElement}
 use Rattle.bitvec_domain.specs.declared.part_mut.PartialElementMut.{PartialElementMut}
 

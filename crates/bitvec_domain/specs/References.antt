@@ -1,11 +1,11 @@
 -- What contracts see of one bit of a view, and what a call that writes it leaves.
 use Rattle.std.specs.Prelude.{◌≡◌, ℕ, Bool, codes, if◌then◌else◌, List, [], ◌∷◌, false, map, slice_index_or}
 use Rattle.std.specs.Borrow.{GName, MutBor}
-use Rattle.bitvec_cells.specs.base.Memory.{memory_bits, Writes}
-use Rattle.bitvec_cells.specs.base.Window.{bit_window}
-use Rattle.bitvec_cells.specs.base.declared.window.Window.{Window}
-use Rattle.bitvec_cells.specs.store.declared.store.BitStore.{Ghosts as Store}
-use Rattle.bitvec_cells.specs.base.declared.order.BitOrder.{Ghosts as Order}
+use Rattle.bitvec_base.specs.Memory.{memory_bits, Writes}
+use Rattle.bitvec_base.specs.Window.{bit_window}
+use Rattle.bitvec_base.specs.declared.window.Window.{Window}
+use Rattle.bitvec_store.specs.declared.store.BitStore.{Ghosts as Store}
+use Rattle.bitvec_base.specs.declared.order.BitOrder.{Ghosts as Order}
 use Rattle.bitvec_domain.specs.declared.reference.BitRef.{BitRef}
 use Rattle.bitvec_domain.specs.declared.reference_mut.BitRefMut.{BitRefMut}
 

@@ -2,9 +2,9 @@
 use Rattle.std.specs.Prelude.{ℕ, List, [], ◌∷◌, ◌++◌, Option, None, Some, bit_and, map}
 use Rattle.std.specs.Iterator.{YieldsFirstBy, YieldsLastBy}
 use Rattle.std.specs.Iterator.Runs.{EveryRun, ItemsMapTo, ItemsMapToReversed}
-use Rattle.bitvec_cells.specs.base.Order.{mask_of}
-use Rattle.bitvec_cells.specs.store.declared.store.BitStore.{Ghosts as Store}
-use Rattle.bitvec_cells.specs.base.declared.order.BitOrder.{Ghosts as Order}
+use Rattle.bitvec_base.specs.Order.{mask_of}
+use Rattle.bitvec_store.specs.declared.store.BitStore.{Ghosts as Store}
+use Rattle.bitvec_base.specs.declared.order.BitOrder.{Ghosts as Order}
 use Rattle.bitvec_domain.specs.Domains.{DomainPieces, seen_part_if}
 use Rattle.bitvec_domain.specs.Domains.DomainPieces.{enclave, region}
 use Rattle.bitvec_domain.specs.Parts.{SeenPart}

@@ -1,7 +1,7 @@
 -- What runs of a walk over a domain's values give.
 use Rattle.std.proofs.iter.Rest.{run_of_first_by, run_of_last_by}
-use Rattle.bitvec_cells.specs.store.declared.store.BitStore.{Ghosts as Store}
-use Rattle.bitvec_cells.specs.base.declared.order.BitOrder.{Ghosts as Order}
+use Rattle.bitvec_store.specs.declared.store.BitStore.{Ghosts as Store}
+use Rattle.bitvec_base.specs.declared.order.BitOrder.{Ghosts as Order}
 use Rattle.bitvec_domain.specs.Values.{YieldsValues, values_left}
 use Rattle.bitvec_domain.specs.declared.values.DomainValues.{DomainValues}
 

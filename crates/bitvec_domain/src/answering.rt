@@ -1,11 +1,11 @@
 //! Edits of a window of a slice: a closure answers what each bit becomes.
 ghost use Rattle.std.specs.Prelude.{Bool, List, map};
-ghost use Rattle.bitvec_cells.specs.base.Memory.{HasWindow, Writes, list_in};
+ghost use Rattle.bitvec_base.specs.Memory.{HasWindow, Writes, list_in};
 ghost use Rattle.bitvec_domain.specs.Asked.{CallableBelow, CallableOnBits, FillsWith, RefillsWith};
 
-use bitvec_cells::base::{BitOrder, Window};
-use bitvec_cells::store::BitStore;
+use bitvec_base::{BitOrder, Window};
 use bitvec_cells::{Exclusive, get_bit, replace_bit};
+use bitvec_store::BitStore;
 
 /// Makes each bit of a window what `f` answers for its index, from the first one on. Condition: the
 /// memory has at most `MAX_BITS` bits, and the window lies in it.

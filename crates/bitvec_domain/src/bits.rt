@@ -1,11 +1,11 @@
 //! Single bits of a window of a slice of elements.
 ghost use Rattle.std.specs.Prelude.{◌≡◌, ◌<◌, false, map, slice_index_or, slice_set};
 ghost use Rattle.std.specs.List.{swap};
-ghost use Rattle.bitvec_cells.specs.base.Memory.{Edits, HasWindow, list_in};
+ghost use Rattle.bitvec_base.specs.Memory.{Edits, HasWindow, list_in};
 
-use bitvec_cells::base::{BitOrder, Window};
-use bitvec_cells::store::BitStore;
+use bitvec_base::{BitOrder, Window};
 use bitvec_cells::{Exclusive, Shared, get_bit, replace_bit, swap_bits};
+use bitvec_store::BitStore;
 
 /// The bit at an index of a window. Condition: the memory has at most `MAX_BITS` bits, the window
 /// lies in it, and the index is below the window's length.

@@ -1,10 +1,10 @@
 //! How a window is cut at the edges of elements.
 ghost use Rattle.std.specs.Prelude.{◌≡◌, ◌+◌, ◌^◌, ◌<◌, length, map};
-ghost use Rattle.bitvec_cells.specs.base.Memory.{HasWindow};
+ghost use Rattle.bitvec_base.specs.Memory.{HasWindow};
 ghost use Rattle.bitvec_domain.specs.Cuts.{IsCutWithin, cut_across, cut_of};
 
-use bitvec_cells::base::{Part, Window, first_part, last_part};
-use bitvec_cells::store::BitStore;
+use bitvec_base::{Part, Window, first_part, last_part};
+use bitvec_store::BitStore;
 
 /// A window of a memory, cut at the edges of its elements.
 #[derive(Clone, Copy)]

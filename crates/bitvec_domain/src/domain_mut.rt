@@ -1,16 +1,16 @@
 //! The elements that a writable view touches.
 ghost use Rattle.std.specs.Prelude.{◌≡◌, ◌+◌, ◌-◌, ◌≤◌, IfSome, length, map};
 ghost use Rattle.std.specs.Option.{option_map};
-ghost use Rattle.bitvec_cells.specs.base.Memory.{HasWindow};
+ghost use Rattle.bitvec_base.specs.Memory.{HasWindow};
 ghost use Rattle.bitvec_domain.specs.Cuts.{IsHeadWithin, IsPartWithin, IsTailWithin, cut_of, part_from, part_if_from};
 ghost use Rattle.bitvec_domain.specs.Domains.{enclave_of, part_in, part_in_if, pieces_in, pieces_of_mut, region_of, seen_part_if_mut};
 ghost use Rattle.bitvec_domain.specs.Parts.{seen_part_mut};
 ghost use Rattle.bitvec_domain.specs.declared.cut.Cut.TheVariants.{Across};
 
+use bitvec_base::{BitOrder, Part, Window};
+use bitvec_store::BitStore;
 use crate::PartialElementMut;
 use crate::cut::Cut;
-use bitvec_cells::base::{BitOrder, Part, Window};
-use bitvec_cells::store::BitStore;
 
 /// The elements that a writable view touches, in their order: `bitvec`'s `Domain` over exclusive
 /// elements.

@@ -1,11 +1,11 @@
 //! The bits of a window of a slice of elements, fed to a hasher.
 ghost use Rattle.std.specs.Prelude.{◌≡◌, fold, map};
-ghost use Rattle.bitvec_cells.specs.base.Memory.{HasWindow, list_in};
+ghost use Rattle.bitvec_base.specs.Memory.{HasWindow, list_in};
 ghost use Rattle.bitvec_domain.specs.Feeding.{bits_fed};
 
+use bitvec_base::{BitOrder, Window};
+use bitvec_store::BitStore;
 use crate::bits::bit_in;
-use bitvec_cells::base::{BitOrder, Window};
-use bitvec_cells::store::BitStore;
 use std::hash::{Hash, Hasher};
 
 #[tactic(auto, using(crate::proofs::Steps::steps), unfolding(crate::specs::Feeding::bits_fed))]

@@ -22,11 +22,6 @@ mod reference_mut;
 mod reference_texts;
 mod values;
 
-/// Items of `bitvec_base` that crates above use.
-pub mod base {
-    pub use bitvec_cells::base::comes_apart;
-}
-
 pub use answering::{fill_with_in, for_each_in};
 pub use bits::{bit_in, replace_in, set_in, swap_in};
 pub use cut::Cut;

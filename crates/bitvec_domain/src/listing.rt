@@ -2,12 +2,12 @@
 ghost use Rattle.std.specs.Prelude.{◌≡◌, ◌++◌, map};
 ghost use Rattle.std.specs.Fmt.{WritesOnOk};
 ghost use Rattle.std.specs.List.{join_by};
-ghost use Rattle.bitvec_cells.specs.base.Memory.{HasWindow, list_in};
+ghost use Rattle.bitvec_base.specs.Memory.{HasWindow, list_in};
 ghost use Rattle.bitvec_domain.specs.Listing.{bit_text, bits_text, comma, separator};
 
+use bitvec_base::{BitOrder, Window};
+use bitvec_store::BitStore;
 use crate::bits::bit_in;
-use bitvec_cells::base::{BitOrder, Window};
-use bitvec_cells::store::BitStore;
 use std::fmt;
 
 /// Writes the bits of a window as `[0, 1, 0]`. Condition: the memory has at most `MAX_BITS` bits, and

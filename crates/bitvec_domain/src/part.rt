@@ -1,11 +1,11 @@
 //! Parts of one element.
 ghost use Rattle.std.specs.Prelude.{◌≡◌, ◌≤◌, bit_and, false, replicate};
-ghost use Rattle.bitvec_cells.specs.base.Memory.{element_bits};
-ghost use Rattle.bitvec_cells.specs.base.Order.{mask_of};
-ghost use Rattle.bitvec_cells.specs.base.Window.{write_at};
+ghost use Rattle.bitvec_base.specs.Memory.{element_bits};
+ghost use Rattle.bitvec_base.specs.Order.{mask_of};
+ghost use Rattle.bitvec_base.specs.Window.{write_at};
 
-use bitvec_cells::base::BitOrder;
-use bitvec_cells::store::BitStore;
+use bitvec_base::BitOrder;
+use bitvec_store::BitStore;
 use std::marker::PhantomData;
 
 /// Bits of one element that is borrowed for reading: `bitvec`'s `PartialElement` over a shared

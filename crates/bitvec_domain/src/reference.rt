@@ -1,8 +1,8 @@
 //! One bit of a shared view.
 ghost use Rattle.std.specs.Prelude.{◌≡◌, ⊤};
 
-use bitvec_cells::base::BitOrder;
-use bitvec_cells::store::BitStore;
+use bitvec_base::BitOrder;
+use bitvec_store::BitStore;
 use std::alloc::AllocError;
 use std::marker::PhantomData;
 use std::ops::Deref;

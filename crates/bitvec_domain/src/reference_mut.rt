@@ -1,11 +1,11 @@
 //! One bit of a memory that is borrowed for writing.
 ghost use Rattle.std.specs.Prelude.{◌≡◌, [], ◌∷◌, false, map, slice_index_or};
-ghost use Rattle.bitvec_cells.specs.base.Memory.{HasWindow, Writes, memory_bits};
-ghost use Rattle.bitvec_cells.specs.base.Window.{bit_window};
+ghost use Rattle.bitvec_base.specs.Memory.{HasWindow, Writes, memory_bits};
+ghost use Rattle.bitvec_base.specs.Window.{bit_window};
 
+use bitvec_base::{BitOrder, Window};
+use bitvec_store::BitStore;
 use crate::bits::{bit_in, replace_in, set_in};
-use bitvec_cells::base::{BitOrder, Window};
-use bitvec_cells::store::BitStore;
 use std::marker::PhantomData;
 use std::ops::Deref;
 

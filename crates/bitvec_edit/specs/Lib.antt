@@ -1,11 +1,1 @@
-pub mod base
-pub mod domain
-pub mod lends
-pub mod reference
-pub mod slice
-pub mod store
-pub mod traits
-pub mod walk
-pub mod within
-pub mod words
 pub mod UndoLaws

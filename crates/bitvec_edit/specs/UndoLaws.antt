@@ -2,13 +2,13 @@
 use Rattle.std.specs.Prelude.{◌≡◌, ℕ, ◌≤◌, Bool, not, List, length, map, reverse}
 use Rattle.std.proofs.Common.{sym, ◌∙◌, ap}
 use Rattle.std.proofs.lemmas.List.{reverse-reverse}
-use Rattle.bitvec_slice.specs.base.FillLaws.{flip-undoes}
-use Rattle.bitvec_slice.specs.base.Lists.{rotated_left, rotated_right}
-use Rattle.bitvec_slice.specs.base.RotationLaws.{rotated_right-undoes}
-use Rattle.bitvec_slice.specs.base.Window.{write_window}
-use Rattle.bitvec_slice.specs.base.WindowLaws.{window-rewritten, window-kept}
-use Rattle.bitvec_slice.specs.store.declared.store.BitStore.{Ghosts as Store}
-use Rattle.bitvec_slice.specs.base.declared.order.BitOrder.{Ghosts as Order}
+use Rattle.bitvec_base.specs.FillLaws.{flip-undoes}
+use Rattle.bitvec_base.specs.Lists.{rotated_left, rotated_right}
+use Rattle.bitvec_base.specs.RotationLaws.{rotated_right-undoes}
+use Rattle.bitvec_base.specs.Window.{write_window}
+use Rattle.bitvec_base.specs.WindowLaws.{window-rewritten, window-kept}
+use Rattle.bitvec_store.specs.declared.store.BitStore.{Ghosts as Store}
+use Rattle.bitvec_base.specs.declared.order.BitOrder.{Ghosts as Order}
 use Rattle.bitvec_slice.specs.ShowingLaws.{length-seen_mut, within-seen_mut}
 use Rattle.bitvec_slice.specs.Views.{seen_mut}
 use Rattle.bitvec_slice.specs.Writes.{WritesBits}

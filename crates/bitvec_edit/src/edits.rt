@@ -1,27 +1,23 @@
 //! Edits of writable views.
 ghost use Rattle.std.specs.Prelude.{◌≡◌, ◌<◌, ◌≤◌, false, length, map, not, replicate, reverse, slice_index_or, slice_set};
 ghost use Rattle.std.specs.List.{swap};
-ghost use Rattle.bitvec_slice.specs.base.Lists.{FitsWithin, combined, copied_within, rotated_left, rotated_right, shifted_end, shifted_start};
-ghost use Rattle.bitvec_slice.specs.domain.Asked.{CallableBelow, CallableOnBits, FillsWith, RefillsWith};
-ghost use Rattle.bitvec_slice.specs.words.Operator.{operator};
-ghost use Rattle.bitvec_slice.specs.words.declared.operator.BitOp.TheVariants.{And, Or, Xor};
+ghost use Rattle.bitvec_base.specs.Lists.{FitsWithin, combined, copied_within, rotated_left, rotated_right, shifted_end, shifted_start};
+ghost use Rattle.bitvec_domain.specs.Asked.{CallableBelow, CallableOnBits, FillsWith, RefillsWith};
+ghost use Rattle.bitvec_words.specs.Operator.{operator};
+ghost use Rattle.bitvec_words.specs.declared.operator.BitOp.TheVariants.{And, Or, Xor};
 ghost use Rattle.bitvec_slice.specs.Views.{seen, seen_mut};
 ghost use Rattle.bitvec_slice.specs.Writes.{WritesBits};
 ghost use Rattle.bitvec_within.specs.Combined.{combined_within};
 ghost use Rattle.bitvec_within.specs.Swaps.{LieApart, swapped_within};
 
-use bitvec_slice::base::BitOrder;
-use bitvec_slice::elements::{
-    combine_in, copy_from_in, fill_in, fill_with_in, for_each_in, invert_in, replace_in, set_in,
-    swap_in, swap_with_in,
-};
-use bitvec_slice::engine::{BitOp, SliceOrder};
-use bitvec_slice::store::BitStore;
+use bitvec_base::BitOrder;
+use bitvec_domain::{fill_with_in, for_each_in, replace_in, set_in, swap_in};
+use bitvec_elements::{combine_in, copy_from_in, fill_in, invert_in, swap_with_in};
+use bitvec_engine::SliceOrder;
 use bitvec_slice::{BitSlice, BitSliceMut, Sealed, View, ViewMut};
-use bitvec_within::{
-    combine_within_in, copy_within_in, reverse_in, rotate_left_in, rotate_right_in, shift_end_in,
-    shift_start_in, swap_within_in,
-};
+use bitvec_store::BitStore;
+use bitvec_within::{combine_within_in, copy_within_in, reverse_in, rotate_left_in, rotate_right_in, shift_end_in, shift_start_in, swap_within_in};
+use bitvec_words::BitOp;
 use std::ops::Range;
 
 /// `bitvec`'s edits of a `&mut BitSlice`: those of single bits and of all, those that move its bits,

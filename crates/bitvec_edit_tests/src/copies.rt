@@ -1,9 +1,9 @@
 //! What copies hold.
 
-use bitvec_owned::query::base::{Lsb0, Msb0, Window};
-use bitvec_owned::query::engine::SliceOrder;
-use bitvec_owned::query::slice::{BitSlice, BitSliceMut};
+use bitvec_base::{Lsb0, Msb0, Window};
+use bitvec_engine::SliceOrder;
 use bitvec_owned::{BitVec, ToBitVec};
+use bitvec_slice::{BitSlice, BitSliceMut};
 use std::alloc::{AllocError, Global};
 
 type Copied<O> = Result<BitVec<u8, O, Global>, AllocError>;

@@ -1,8 +1,8 @@
 //! What views print, and their digits.
 
-use bitvec_field::base::{Lsb0, Msb0};
-use bitvec_field::slice::BitSlice;
+use bitvec_base::{Lsb0, Msb0};
 use bitvec_field::{Binary, LowerHex, Octal, UpperHex};
+use bitvec_slice::BitSlice;
 use bitvec_test_support::prints;
 
 #[test]

@@ -1,11 +1,11 @@
 //! Edits of views: what the user's elements are afterwards, the bits outside the view among them.
 ghost use Rattle.std.specs.Prelude.{◌≤◌};
 
-use bitvec_owned::edit::BitEdits;
-use bitvec_owned::query::BitQueries;
-use bitvec_owned::query::base::{HiLo, Lsb0, Msb0};
-use bitvec_owned::query::engine::SliceOrder;
-use bitvec_owned::query::slice::{BitSlice, BitSliceMut};
+use bitvec_base::{HiLo, Lsb0, Msb0};
+use bitvec_edit::BitEdits;
+use bitvec_engine::SliceOrder;
+use bitvec_query::BitQueries;
+use bitvec_slice::{BitSlice, BitSliceMut};
 
 /// Fills the bits `from` up to `to`, if there are as many.
 fn fill_range<O: SliceOrder>(elements: &mut [u8; 3], from: usize, to: usize) -> bool {

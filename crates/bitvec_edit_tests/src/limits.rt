@@ -1,13 +1,13 @@
 //! Calls that just keep their conditions. Each edit of `must-fail/` breaks one of these.
 ghost use Rattle.std.specs.Prelude.{◌≤◌};
-ghost use Rattle.bitvec_owned.specs.edit.slice.Views.{seen, seen_mut};
+ghost use Rattle.bitvec_slice.specs.Views.{seen, seen_mut};
 
+use bitvec_base::BitOrder;
+use bitvec_edit::BitEdits;
+use bitvec_engine::SliceOrder;
 use bitvec_iter::IterCalls;
-use bitvec_owned::edit::BitEdits;
-use bitvec_owned::query::base::BitOrder;
-use bitvec_owned::query::engine::SliceOrder;
-use bitvec_owned::query::slice::{BitSlice, BitSliceMut};
-use bitvec_owned::query::store::BitStore;
+use bitvec_slice::{BitSlice, BitSliceMut};
+use bitvec_store::BitStore;
 
 /// How many chunks a view has, of as few bits as a chunk may have.
 pub fn count_chunks<T: BitStore, O: BitOrder>(bits: BitSlice<'_, T, O>) -> usize {

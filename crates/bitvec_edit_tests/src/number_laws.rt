@@ -1,11 +1,12 @@
 //! What loads and stores of a view come to together.
 ghost use Rattle.std.specs.Prelude.{◌≡◌, ◌<◌, ◌≤◌};
-ghost use Rattle.bitvec_field.specs.Integers.{integer_of, remainder_of};
-ghost use Rattle.bitvec_field.specs.slice.Views.{seen_mut};
+ghost use Rattle.bitvec_segments.specs.Integers.{integer_of, remainder_of};
+ghost use Rattle.bitvec_slice.specs.Views.{seen_mut};
 
-use bitvec_field::slice::BitSliceMut;
-use bitvec_field::store::BitStore;
-use bitvec_field::{BitField, BitFieldMut, FieldOrder, Integral};
+use bitvec_field::{BitField, BitFieldMut, Integral};
+use bitvec_segments::FieldOrder;
+use bitvec_slice::BitSliceMut;
+use bitvec_store::BitStore;
 
 /// Stores a value and loads it: it is the value modulo `2^n`, of a signed type less `2^n` where the
 /// highest bit is 1.

@@ -1,8 +1,8 @@
 //! The old names of calls.
 
-use bitvec_owned::edit::BitEdits;
-use bitvec_owned::query::base::{Lsb0, Msb0};
-use bitvec_owned::query::slice::{BitSlice, BitSliceMut};
+use bitvec_base::{Lsb0, Msb0};
+use bitvec_edit::BitEdits;
+use bitvec_slice::{BitSlice, BitSliceMut};
 
 /// Exchanges two bytes.
 fn swap(bytes: &mut [u8; 1], others: &mut [u8; 1]) {

@@ -1,11 +1,11 @@
 //! Owned sequences are asked, walked, edited, compared and printed as a plain list of nine bits, which
 //! stands from the index 4 of its first element on.
 
-use bitvec_owned::edit::BitEdits;
-use bitvec_owned::query::BitQueries;
-use bitvec_owned::query::base::Lsb0;
-use bitvec_owned::query::slice::BitSlice;
+use bitvec_base::Lsb0;
+use bitvec_edit::BitEdits;
 use bitvec_owned::{BitVec, RepeatError, ToBitVec};
+use bitvec_query::BitQueries;
+use bitvec_slice::BitSlice;
 use bitvec_test_support::{prints, shows};
 use std::alloc::{AllocError, Global};
 

@@ -1,8 +1,8 @@
 //! Copies, repeats and clones where memory is refused: each request in turn, until a run meets no refusal.
 
-use bitvec_owned::query::base::Lsb0;
-use bitvec_owned::query::slice::{BitSlice, BitSliceMut};
+use bitvec_base::Lsb0;
 use bitvec_owned::{BitVec, RepeatError, ToBitVec};
+use bitvec_slice::{BitSlice, BitSliceMut};
 use bitvec_test_support::Refusing;
 use std::alloc::{AllocError, Global};
 

@@ -1,9 +1,9 @@
 //! What repeats hold.
 
-use bitvec_owned::query::base::{Lsb0, Msb0};
-use bitvec_owned::query::engine::SliceOrder;
-use bitvec_owned::query::slice::BitSlice;
+use bitvec_base::{Lsb0, Msb0};
+use bitvec_engine::SliceOrder;
 use bitvec_owned::{BitVec, RepeatError, ToBitVec};
+use bitvec_slice::BitSlice;
 use std::alloc::Global;
 
 /// The bits 1, 0, 1, as many times.

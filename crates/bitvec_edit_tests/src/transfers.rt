@@ -1,9 +1,9 @@
 //! Edits of a view by another: what the user's elements are afterwards.
 ghost use Rattle.std.specs.Prelude.{◌≤◌};
 
-use bitvec_owned::edit::BitEdits;
-use bitvec_owned::query::base::{Lsb0, Msb0};
-use bitvec_owned::query::slice::{BitSlice, BitSliceMut};
+use bitvec_base::{Lsb0, Msb0};
+use bitvec_edit::BitEdits;
+use bitvec_slice::{BitSlice, BitSliceMut};
 
 /// Exchanges the bits 3 to 9 of the one with the bits 0 to 6 of the other.
 fn swap_seven(bytes: &mut [u8; 2], others: &mut [u8; 2]) {

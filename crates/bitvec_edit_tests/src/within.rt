@@ -1,12 +1,12 @@
 //! One range of a view combined with another, beside a plain list of truth values.
 ghost use Rattle.std.specs.Prelude.{◌*◌, ◌≤◌, length};
-ghost use Rattle.bitvec_owned.specs.edit.base.Window.{max_bits};
+ghost use Rattle.bitvec_base.specs.Window.{max_bits};
 
-use bitvec_owned::edit::BitEdits;
-use bitvec_owned::query::base::{HiLo, Lsb0, Msb0};
-use bitvec_owned::query::engine::SliceOrder;
-use bitvec_owned::query::slice::BitSliceMut;
-use bitvec_owned::query::store::BitStore;
+use bitvec_base::{HiLo, Lsb0, Msb0};
+use bitvec_edit::BitEdits;
+use bitvec_engine::SliceOrder;
+use bitvec_slice::BitSliceMut;
+use bitvec_store::BitStore;
 
 /// What becomes of a bit and the one at its index, by the number of a call.
 fn made(kind: usize, bit: bool, other: bool) -> bool {

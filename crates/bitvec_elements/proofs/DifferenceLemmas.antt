@@ -7,18 +7,18 @@ use Rattle.std.proofs.lemmas.Bool.{cases_lt, false_from_ne_true}
 use Rattle.std.proofs.lemmas.Bool.Decides.{nat_tests}
 use Rattle.std.proofs.lemmas.List.{get_or-drop, length-drop, places}
 use Rattle.bitvec_elements.specs.Difference.{DiffersFrom}
-use Rattle.bitvec_elements.specs.base.CompareLaws.{SameBelow, differs-apart, order-differ, same-equal}
-use Rattle.bitvec_elements.specs.base.declared.window.Window.{Window}
-use Rattle.bitvec_elements.specs.base.Lists.{differs, first_place, same_bits}
-use Rattle.bitvec_elements.specs.base.ListsLaws.{get-combined, same_bits-decides}
-use Rattle.bitvec_elements.specs.base.Memory.{HasWindow, element_bits, list_in}
-use Rattle.bitvec_elements.specs.base.MemoryLaws.{length-element_bits}
-use Rattle.bitvec_elements.specs.base.PlacesLaws.{first_place-absent, first_place-before, first_place-below, first_place-bit}
-use Rattle.bitvec_elements.specs.base.Window.{window_range}
-use Rattle.bitvec_elements.specs.base.WriteLaws.{get-slice_range, length-slice_range}
-use Rattle.bitvec_elements.specs.base.WritesLaws.{length-list, list-range}
-use Rattle.bitvec_elements.specs.words.ElementLaws.{element-xor}
-use Rattle.bitvec_elements.specs.words.ShortWindow.{padded}
+use Rattle.bitvec_base.specs.CompareLaws.{SameBelow, differs-apart, order-differ, same-equal}
+use Rattle.bitvec_base.specs.declared.window.Window.{Window}
+use Rattle.bitvec_base.specs.Lists.{differs, first_place, same_bits}
+use Rattle.bitvec_base.specs.ListsLaws.{get-combined, same_bits-decides}
+use Rattle.bitvec_base.specs.Memory.{HasWindow, element_bits, list_in}
+use Rattle.bitvec_base.specs.MemoryLaws.{length-element_bits}
+use Rattle.bitvec_base.specs.PlacesLaws.{first_place-absent, first_place-before, first_place-below, first_place-bit}
+use Rattle.bitvec_base.specs.Window.{window_range}
+use Rattle.bitvec_base.specs.WriteLaws.{get-slice_range, length-slice_range}
+use Rattle.bitvec_base.specs.WritesLaws.{length-list, list-range}
+use Rattle.bitvec_words.specs.ElementLaws.{element-xor}
+use Rattle.bitvec_words.specs.ShortWindow.{padded}
 
 -- ---- two bits
 

@@ -5,22 +5,23 @@ use Rattle.std.proofs.Common.{arith, refl, sym, ap, ◌∙◌}
 use Rattle.std.proofs.Math.Nat.{add-mod-mod, add-mul, mod-add-mod}
 use Rattle.std.proofs.lemmas.List.{get_or-map, length-map}
 use Rattle.std.proofs.lemmas.Nat.{div-add-mod', mod-mul-add, mod_below}
-use Rattle.bitvec_elements.specs.base.declared.part.Part.{Part}
-use Rattle.bitvec_elements.specs.base.declared.window.Window.{Window}
-use Rattle.bitvec_elements.specs.base.Memory.{HasWindow, Writes, element_bits, list_in, memory_bits}
-use Rattle.bitvec_elements.specs.base.MemoryLaws.{memory-range}
-use Rattle.bitvec_elements.specs.base.Parts.{first_part_of, part_window}
-use Rattle.bitvec_elements.specs.base.SliceLaws.{range-map, range-same}
-use Rattle.bitvec_elements.specs.base.Spans.{HasSpan}
-use Rattle.bitvec_elements.specs.base.Window.{window_of, window_range, write_at}
-use Rattle.bitvec_elements.specs.base.WriteLaws.{length-slice_range, length-write_at}
-use Rattle.bitvec_elements.specs.base.WritesLaws.{Writes-is, length-list}
-use Rattle.bitvec_elements.specs.words.Elements.{elements_window, elements_window_from}
-use Rattle.bitvec_elements.specs.words.FieldLaws.{Writes-none, element_of, list-part}
-use Rattle.bitvec_elements.specs.words.WholeLaws.{HasWindow-part, Writes-same, behind-mod, elements-inside, list-same}
-use Rattle.bitvec_elements.specs.words.WrittenLaws.{memory-write_at, part-numbers}
-use Rattle.bitvec_elements.specs.moves.WordLaws.{word_whole}
-use Rattle.bitvec_elements.specs.store.Width.{IsWidth}
+use Rattle.bitvec_base.specs.declared.part.Part.{Part}
+use Rattle.bitvec_base.specs.declared.window.Window.{Window}
+use Rattle.bitvec_base.specs.Memory.{HasWindow, Writes, element_bits, list_in, memory_bits}
+use Rattle.bitvec_base.specs.MemoryLaws.{memory-range}
+use Rattle.bitvec_base.specs.Parts.{first_part_of, part_window}
+use Rattle.bitvec_base.specs.SliceLaws.{range-map, range-same}
+use Rattle.bitvec_base.specs.Spans.{HasSpan}
+use Rattle.bitvec_base.specs.Window.{window_of, window_range, write_at}
+use Rattle.bitvec_base.specs.WriteLaws.{length-slice_range, length-write_at}
+use Rattle.bitvec_base.specs.WritesLaws.{Writes-is, length-list}
+use Rattle.bitvec_words.specs.Elements.{elements_window, elements_window_from}
+use Rattle.bitvec_words.specs.FieldLaws.{Writes-none, element_of, list-part}
+use Rattle.bitvec_words.specs.WholeLaws.{HasWindow-part, Writes-same, behind-mod, elements-inside, list-same}
+use Rattle.bitvec_words.specs.WrittenLaws.{memory-write_at}
+use Rattle.bitvec_cells.specs.PutLaws.{part-numbers}
+use Rattle.bitvec_words.specs.WordLaws.{word_whole}
+use Rattle.bitvec_store.specs.Width.{IsWidth}
 use Rattle.bitvec_elements.proofs.StoreLemmas.{range-inside, range-kept}
 
 -- whole elements from a window's first bit on lie in the memory

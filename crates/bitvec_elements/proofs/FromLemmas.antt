@@ -2,13 +2,13 @@
 use Rattle.std.specs.Prelude.{◌≡◌, ℕ, ◌+◌, ◌<◌, ◌≤◌, min, Bool, false, List, slice_index_or, slice_range}
 use Rattle.std.proofs.Common.{arith, sym, ◌∙◌, ap, ⊎_elim}
 use Rattle.std.proofs.lemmas.Bool.{cases_lt}
-use Rattle.bitvec_elements.specs.base.declared.window.Window.{Window}
-use Rattle.bitvec_elements.specs.base.Memory.{HasWindow, element_bits, list_in, memory_bits}
-use Rattle.bitvec_elements.specs.base.Window.{window_range}
-use Rattle.bitvec_elements.specs.base.WindowLaws.{window-past}
-use Rattle.bitvec_elements.specs.base.WriteLaws.{get-slice_range, length-slice_range}
-use Rattle.bitvec_elements.specs.base.WritesLaws.{length-list, list-range, within-list}
-use Rattle.bitvec_elements.specs.words.ShortWindow.{padded}
+use Rattle.bitvec_base.specs.declared.window.Window.{Window}
+use Rattle.bitvec_base.specs.Memory.{HasWindow, element_bits, list_in, memory_bits}
+use Rattle.bitvec_base.specs.Window.{window_range}
+use Rattle.bitvec_base.specs.WindowLaws.{window-past}
+use Rattle.bitvec_base.specs.WriteLaws.{get-slice_range, length-slice_range}
+use Rattle.bitvec_base.specs.WritesLaws.{length-list, list-range, within-list}
+use Rattle.bitvec_words.specs.ShortWindow.{padded}
 use Rattle.bitvec_elements.specs.BitsFrom.{HasBitsFrom}
 use Rattle.bitvec_elements.proofs.DifferenceLemmas.{in_padded, past_padded}
 

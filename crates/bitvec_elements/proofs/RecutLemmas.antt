@@ -5,18 +5,18 @@ use Rattle.std.proofs.Math.Nat.{mul-le-mul_left}
 use Rattle.std.proofs.lemmas.List.{places, same_lists}
 use Rattle.std.proofs.lemmas.Nat.{div-add-mod', mul-le}
 use Rattle.bitvec_engine.specs.Pairs.{HasPair}
-use Rattle.bitvec_engine.specs.moves.WordLaws.{word_whole}
-use Rattle.bitvec_engine.specs.words.CombinedLaws.{combined-range}
-use Rattle.bitvec_engine.specs.words.Elements.{elements_window, elements_window_from}
-use Rattle.bitvec_elements.specs.base.declared.window.Window.{Window}
-use Rattle.bitvec_elements.specs.base.Lists.{combined}
-use Rattle.bitvec_elements.specs.base.ListsLaws.{length-combined}
-use Rattle.bitvec_elements.specs.base.Memory.{HasWindow, Writes, element_bits, list_in}
-use Rattle.bitvec_elements.specs.base.Window.{window_range}
-use Rattle.bitvec_elements.specs.base.WritesLaws.{length-list, list-range}
-use Rattle.bitvec_elements.specs.store.Width.{IsWidth}
-use Rattle.bitvec_elements.specs.store.WidthLaws.{at_each_width, width_some}
-use Rattle.bitvec_engine.specs.words.WholeLaws.{window-end}
+use Rattle.bitvec_words.specs.WordLaws.{word_whole}
+use Rattle.bitvec_words.specs.CombinedLaws.{combined-range}
+use Rattle.bitvec_words.specs.Elements.{elements_window, elements_window_from}
+use Rattle.bitvec_base.specs.declared.window.Window.{Window}
+use Rattle.bitvec_base.specs.Lists.{combined}
+use Rattle.bitvec_base.specs.ListsLaws.{length-combined}
+use Rattle.bitvec_base.specs.Memory.{HasWindow, Writes, element_bits, list_in}
+use Rattle.bitvec_base.specs.Window.{window_range}
+use Rattle.bitvec_base.specs.WritesLaws.{length-list, list-range}
+use Rattle.bitvec_store.specs.Width.{IsWidth}
+use Rattle.bitvec_store.specs.WidthLaws.{at_each_width, width_some}
+use Rattle.bitvec_words.specs.WholeLaws.{window-end}
 use Rattle.bitvec_elements.proofs.StoreLemmas.{range-kept, stretch-next, stretch-old, until}
 
 -- ---- whole words

@@ -3,14 +3,14 @@ use Rattle.std.specs.Prelude.{◌≡◌, ℕ, ◌-◌, ◌<◌, ◌≤◌, Bool,
 use Rattle.std.proofs.Common.{arith, sym, ◌∙◌, ap, subst}
 use Rattle.bitvec_engine.specs.Direction.{Agrees}
 use Rattle.bitvec_engine.specs.Pairs.{HasPair}
-use Rattle.bitvec_elements.specs.base.declared.window.Window.{Window}
-use Rattle.bitvec_elements.specs.base.Memory.{Edits, HasWindow, Writes, element_bits, list_in}
-use Rattle.bitvec_elements.specs.base.Window.{window_range, write_window}
-use Rattle.bitvec_elements.specs.base.WriteLaws.{length-slice_range}
-use Rattle.bitvec_elements.specs.base.WritesLaws.{HasWindow-kept, HasWindow-range, Writes-empty, Writes-is, Writes-join, length-list, list-behind, list-range}
-use Rattle.bitvec_elements.specs.moves.WordLaws.{take-all}
-use Rattle.bitvec_elements.specs.words.ShortWindow.{padded}
-use Rattle.bitvec_elements.specs.words.MovedLaws.{take-word, take-range}
+use Rattle.bitvec_base.specs.declared.window.Window.{Window}
+use Rattle.bitvec_base.specs.Memory.{Edits, HasWindow, Writes, element_bits, list_in}
+use Rattle.bitvec_base.specs.Window.{window_range, write_window}
+use Rattle.bitvec_base.specs.WriteLaws.{length-slice_range}
+use Rattle.bitvec_base.specs.WritesLaws.{HasWindow-kept, HasWindow-range, Writes-empty, Writes-is, Writes-join, length-list, list-behind, list-range}
+use Rattle.bitvec_words.specs.WordLaws.{take-all}
+use Rattle.bitvec_words.specs.ShortWindow.{padded}
+use Rattle.bitvec_words.specs.MovedLaws.{take-word, take-range}
 use Rattle.bitvec_engine.proofs.DirectionLemmas.{list-agrees, memory-agrees}
 
 -- the first n places of a window

@@ -1,6 +1,6 @@
 -- A word of 64 bits of a list.
 use Rattle.std.specs.Prelude.{◌≡◌, ℕ, ◌+◌, ◌<◌, List, Bool, false, slice_index_or}
-use Rattle.bitvec_elements.specs.base.Memory.{element_bits}
+use Rattle.bitvec_base.specs.Memory.{element_bits}
 
 -- the word has 64 bits of the list, from a place on, with zeros behind its end
 abbrev pub HasBitsFrom : (ℕ → ℕ → ℕ) → ℕ → List Bool → ℕ → Type 0

@@ -1,6 +1,6 @@
 -- What contracts see of an accessor that reads elements as those of another type.
-use Rattle.bitvec_engine.specs.cells.declared.shared.Shared.{Shared}
-use Rattle.bitvec_engine.specs.store.declared.store.BitStore.{Ghosts as Store}
+use Rattle.bitvec_cells.specs.declared.shared.Shared.{Shared}
+use Rattle.bitvec_store.specs.declared.store.BitStore.{Ghosts as Store}
 use Rattle.bitvec_elements.specs.declared.converting.Converted.{Converted}
 
 -- the accessor of the elements as they are

@@ -1,6 +1,6 @@
 -- How many first bits two lists have in common.
 use Rattle.std.specs.Prelude.{◌≢◌, ℕ, ◌<◌, ◌≤◌, min, Bool, false, List, length, slice_index_or}
-use Rattle.bitvec_elements.specs.base.CompareLaws.{SameBelow}
+use Rattle.bitvec_base.specs.CompareLaws.{SameBelow}
 
 -- the lists have the same bits below n, and none behind or others there
 pub record DiffersFrom (xs ys : List Bool) (n : ℕ) : Type 0 where

@@ -5,7 +5,7 @@ use Rattle.std.specs.Cmp.{IsTotalOrder, bool_cmp_total}
 use Rattle.std.specs.Cmp.Lexicographic.{lists_ties, lists_total, slice_cmp}
 use Rattle.std.specs.Ordering.{bool_cmp, eq_by_cmp, ordering_reverse}
 use Rattle.std.proofs.Common.{Less}
-use Rattle.bitvec_elements.specs.base.Lists.{same_bits}
+use Rattle.bitvec_base.specs.Lists.{same_bits}
 
 bit_ties : (x y : Bool) → beq x y ≡ eq_by_cmp bool_cmp x y
 bit_ties false false = refl

@@ -1,15 +1,15 @@
 //! Each bit of a window of a slice combined with the bit at its index in another window.
 ghost use Rattle.std.specs.Prelude.{◌≤◌, map};
-ghost use Rattle.bitvec_engine.specs.base.Lists.{combined};
-ghost use Rattle.bitvec_engine.specs.base.Memory.{HasWindow, Writes, list_in};
-ghost use Rattle.bitvec_engine.specs.words.Operator.{operator};
+ghost use Rattle.bitvec_base.specs.Lists.{combined};
+ghost use Rattle.bitvec_base.specs.Memory.{HasWindow, Writes, list_in};
+ghost use Rattle.bitvec_words.specs.Operator.{operator};
 
+use bitvec_base::{BitOrder, Lsb0, Msb0, Window};
+use bitvec_cells::{Exclusive, Shared};
+use bitvec_engine::{Direction, SliceOrder, bits_op, direction_of};
+use bitvec_store::BitStore;
+use bitvec_words::{BitOp, WordOrder};
 use crate::recutting::hold;
-use bitvec_engine::base::{BitOrder, Lsb0, Msb0, Window};
-use bitvec_engine::cells::{Exclusive, Shared};
-use bitvec_engine::store::BitStore;
-use bitvec_engine::words::WordOrder;
-use bitvec_engine::{BitOp, Direction, SliceOrder, bits_op, direction_of};
 
 /// Replaces each bit of the left window by what the operator makes of it and the bit at its index in
 /// the right window, which may have elements of any type and order. Past its end the right window

@@ -2,19 +2,19 @@
 ghost use Rattle.std.specs.Prelude.{◌≡◌, ◌≤◌, map};
 ghost use Rattle.std.specs.Cmp.Lexicographic.{slice_cmp};
 ghost use Rattle.std.specs.Ordering.{bool_cmp};
-ghost use Rattle.bitvec_engine.specs.base.Lists.{same_bits};
-ghost use Rattle.bitvec_engine.specs.base.Memory.{HasWindow, list_in};
-ghost use Rattle.bitvec_engine.specs.base.Spans.{HasSpan};
+ghost use Rattle.bitvec_base.specs.Lists.{same_bits};
+ghost use Rattle.bitvec_base.specs.Memory.{HasWindow, list_in};
+ghost use Rattle.bitvec_base.specs.Spans.{HasSpan};
 ghost use Rattle.bitvec_elements.specs.Difference.{DiffersFrom};
 
+use bitvec_base::{BitOrder, Lsb0, Msb0, Window};
+use bitvec_cells::{Shared, get_bit};
+use bitvec_engine::{Direction, SliceOrder, direction_of, elements_eq};
+use bitvec_store::BitStore;
+use bitvec_words::{WORD_BITS, WordOrder};
 use crate::converting::eq_converted;
 use crate::difference::{common_bits, common_words};
 use crate::window_words::few_word;
-use bitvec_engine::base::{BitOrder, Lsb0, Msb0, Window};
-use bitvec_engine::cells::Shared;
-use bitvec_engine::store::BitStore;
-use bitvec_engine::words::{WORD_BITS, WordOrder};
-use bitvec_engine::{Direction, SliceOrder, direction_of, elements_eq, get_bit};
 use std::cmp::Ordering;
 
 /// How many equal bits [`compare_block_in`] passes at a time.

@@ -1,12 +1,12 @@
 //! The bits of two windows of elements of one width, compared as elements of one type.
 ghost use Rattle.std.specs.Prelude.{◌≡◌, map};
-ghost use Rattle.bitvec_engine.specs.base.Lists.{same_bits};
-ghost use Rattle.bitvec_engine.specs.base.Memory.{HasWindow, list_in};
+ghost use Rattle.bitvec_base.specs.Lists.{same_bits};
+ghost use Rattle.bitvec_base.specs.Memory.{HasWindow, list_in};
 
+use bitvec_base::Window;
+use bitvec_cells::{CellsRead, Shared};
 use bitvec_engine::SliceOrder;
-use bitvec_engine::base::Window;
-use bitvec_engine::cells::{CellsRead, Shared};
-use bitvec_engine::store::BitStore;
+use bitvec_store::BitStore;
 use std::marker::PhantomData;
 
 /// An accessor that reads the elements of a slice as those of another type with as many bits. Where
@@ -19,7 +19,7 @@ pub(crate) struct Converted<'a, T: BitStore, U: BitStore> {
 }
 
 impl<'a, T: BitStore, U: BitStore> Converted<'a, T, U> {
-    ghost use Rattle.bitvec_engine.specs.cells.Accessors.{shared_numbers};
+    ghost use Rattle.bitvec_cells.specs.Accessors.{shared_numbers};
     ghost use Rattle.bitvec_elements.specs.Converting.{unconverted};
 
     /// The accessor of this slice. Condition: the elements of both types have as many bits.
@@ -35,7 +35,7 @@ impl<'a, T: BitStore, U: BitStore> Converted<'a, T, U> {
 }
 
 impl<'a, T: BitStore, U: BitStore> CellsRead for Converted<'a, T, U> {
-    ghost use Rattle.bitvec_engine.specs.cells.Accessors.{shared_borrow, shared_loads, shared_numbers, shared_stores};
+    ghost use Rattle.bitvec_cells.specs.Accessors.{shared_borrow, shared_loads, shared_numbers, shared_stores};
     ghost use Rattle.bitvec_elements.specs.Converting.{unconverted};
 
     type Elem = T;

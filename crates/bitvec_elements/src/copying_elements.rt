@@ -1,12 +1,12 @@
 //! Windows that begin at the same index of an element, copied by whole elements at once.
 ghost use Rattle.std.specs.Prelude.{◌≡◌, ◌+◌, ◌%◌, ◌≤◌, map};
-ghost use Rattle.bitvec_engine.specs.base.Spans.{HasSpan};
-ghost use Rattle.bitvec_engine.specs.moves.Moves.{Copies};
+ghost use Rattle.bitvec_base.specs.Spans.{HasSpan};
+ghost use Rattle.bitvec_move.specs.Moves.{Copies};
 
-use bitvec_engine::base::{BitOrder, Window, first_part};
-use bitvec_engine::cells::Exclusive;
-use bitvec_engine::store::BitStore;
-use bitvec_engine::words::store_part;
+use bitvec_base::{BitOrder, Window, first_part};
+use bitvec_cells::Exclusive;
+use bitvec_store::BitStore;
+use bitvec_words::store_part;
 
 /// The least number of bits that are copied as whole elements at once.
 pub(crate) const AT_ONCE_BITS: usize = 256;

@@ -1,13 +1,13 @@
 //! How many bits of a window of a slice of elements are 1.
 ghost use Rattle.std.specs.Prelude.{◌≡◌, count_by, map};
-ghost use Rattle.bitvec_engine.specs.base.Memory.{HasWindow, list_in};
+ghost use Rattle.bitvec_base.specs.Memory.{HasWindow, list_in};
 
+use bitvec_base::{BitOrder, Lsb0, Msb0, Window};
+use bitvec_cells::Shared;
+use bitvec_engine::{Direction, direction_of};
+use bitvec_store::BitStore;
+use bitvec_words::{WORD_BITS, count};
 use crate::window_words::few_word;
-use bitvec_engine::base::{BitOrder, Lsb0, Msb0, Window};
-use bitvec_engine::cells::Shared;
-use bitvec_engine::store::BitStore;
-use bitvec_engine::words::WORD_BITS;
-use bitvec_engine::{Direction, count, direction_of};
 
 /// How many bits of a window are 1; at most 64 bits go as a word. Condition: the memory has at most
 /// `MAX_BITS` bits, and the window lies in it.

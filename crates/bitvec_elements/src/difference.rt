@@ -1,15 +1,15 @@
 //! How many of their first bits two windows of slices have in common.
 ghost use Rattle.std.specs.Prelude.{◌≤◌, map};
-ghost use Rattle.bitvec_engine.specs.base.Memory.{HasWindow, list_in};
+ghost use Rattle.bitvec_base.specs.Memory.{HasWindow, list_in};
 ghost use Rattle.bitvec_elements.specs.Difference.{DiffersFrom};
 
+use bitvec_base::{BitOrder, Lsb0, Msb0, Window};
+use bitvec_engine::{Direction, SliceOrder, direction_of};
+use bitvec_store::BitStore;
+use bitvec_words::{WORD_BITS, WordOrder};
 use crate::comparing::eq_blocks_in;
 use crate::recutting::hold;
 use crate::window_words::window_word;
-use bitvec_engine::base::{BitOrder, Lsb0, Msb0, Window};
-use bitvec_engine::store::BitStore;
-use bitvec_engine::words::{WORD_BITS, WordOrder};
-use bitvec_engine::{Direction, SliceOrder, direction_of};
 
 /// So few bits are compared with no block.
 const FEW_BITS: usize = 2048;

@@ -1,11 +1,11 @@
 //! Each bit of a window of a slice of elements set, cleared or flipped.
 ghost use Rattle.std.specs.Prelude.{map, not, replicate};
-ghost use Rattle.bitvec_engine.specs.base.Memory.{Edits, HasWindow, Writes};
+ghost use Rattle.bitvec_base.specs.Memory.{Edits, HasWindow, Writes};
 
-use bitvec_engine::base::{BitOrder, Window};
-use bitvec_engine::cells::Exclusive;
-use bitvec_engine::store::BitStore;
-use bitvec_engine::{fill, invert};
+use bitvec_base::{BitOrder, Window};
+use bitvec_cells::Exclusive;
+use bitvec_store::BitStore;
+use bitvec_words::{fill, invert};
 
 /// Makes each bit of a window `bit`. Condition: the memory has at most `MAX_BITS` bits, and the
 /// window lies in it.

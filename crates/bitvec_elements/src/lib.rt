@@ -15,17 +15,6 @@ mod scanning;
 mod swapping;
 mod window_words;
 
-/// Items of `bitvec_words`, and the word kernels over two windows, that crates above use.
-pub mod words {
-    pub use bitvec_engine::kernels::{combine, copy, copy_within, equal, reverse, swap};
-    pub use bitvec_engine::words::{
-        WORD_BITS, WordOrder, joined, load_element, load_element_after, load_parts, merged, moved,
-        reversed, store_part, store_parts, toward_end, toward_start,
-    };
-}
-
-pub use bitvec_engine as engine;
-pub use bitvec_engine::{base, cells, store, walk};
 pub use combining::{combine_block_in, combine_in};
 pub use comparing::{compare_block_in, compare_in, eq_block_in, eq_blocks_in, eq_in};
 pub use copying::{copy_from_block_in, copy_from_in, copy_from_long_block_in};

@@ -1,11 +1,11 @@
 //! Whether the bits of one window of a slice begin with those of another, or end with them.
 ghost use Rattle.std.specs.Prelude.{◌≡◌, map};
-ghost use Rattle.bitvec_engine.specs.base.Lists.{is_prefix, is_suffix};
-ghost use Rattle.bitvec_engine.specs.base.Memory.{HasWindow, list_in};
+ghost use Rattle.bitvec_base.specs.Lists.{is_prefix, is_suffix};
+ghost use Rattle.bitvec_base.specs.Memory.{HasWindow, list_in};
 
+use bitvec_base::{BitOrder, Window};
+use bitvec_store::BitStore;
 use crate::comparing::eq_in;
-use bitvec_engine::base::{BitOrder, Window};
-use bitvec_engine::store::BitStore;
 
 /// Whether the left window's bits begin with the right window's. Condition: each memory has at most
 /// `MAX_BITS` bits, and each window lies in its memory.

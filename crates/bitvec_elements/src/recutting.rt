@@ -1,15 +1,15 @@
 //! Bits of a slice as those of elements of another type and order: copied by whole words, and held in blocks.
 ghost use Rattle.std.specs.Prelude.{◌≡◌, ◌+◌, ◌-◌, ◌*◌, ◌%◌, ◌<◌, ◌≤◌, length, map};
 ghost use Rattle.bitvec_engine.specs.Pairs.{HasPair};
-ghost use Rattle.bitvec_engine.specs.base.Memory.{HasWindow, Writes, list_in};
+ghost use Rattle.bitvec_base.specs.Memory.{HasWindow, Writes, list_in};
 
+use bitvec_base::{BitOrder, Lsb0, Msb0, Window};
+use bitvec_cells::Exclusive;
+use bitvec_engine::{Direction, direction_of};
+use bitvec_store::BitStore;
+use bitvec_words::{WORD_BITS, WordOrder, store_elements};
 use crate::copying::copy_words;
 use crate::window_words::{reordered, word_behind};
-use bitvec_engine::base::{BitOrder, Lsb0, Msb0, Window};
-use bitvec_engine::cells::Exclusive;
-use bitvec_engine::store::BitStore;
-use bitvec_engine::words::{WORD_BITS, WordOrder, store_elements};
-use bitvec_engine::{Direction, direction_of};
 
 /// Copies a window's bits to a block, and gives the window of the block that has them. Conditions: the window
 /// lies in a memory of at most `MAX_BITS` bits, and the block has at most 8192 elements and room for the bits.

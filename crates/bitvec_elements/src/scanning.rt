@@ -1,13 +1,13 @@
 //! The first and the last bit of a window of a slice of elements that is 1, or 0.
 ghost use Rattle.std.specs.Prelude.{◌≡◌, map};
 ghost use Rattle.std.specs.List.{list_all, list_any};
-ghost use Rattle.bitvec_engine.specs.base.Lists.{first_place, last_place};
-ghost use Rattle.bitvec_engine.specs.base.Memory.{HasWindow, list_in};
+ghost use Rattle.bitvec_base.specs.Lists.{first_place, last_place};
+ghost use Rattle.bitvec_base.specs.Memory.{HasWindow, list_in};
 
-use bitvec_engine::base::Window;
-use bitvec_engine::cells::Shared;
-use bitvec_engine::store::BitStore;
+use bitvec_base::Window;
+use bitvec_cells::Shared;
 use bitvec_engine::{SliceOrder, all, any};
+use bitvec_store::BitStore;
 
 /// The index of a window's first bit that is `want`, if there is one. Condition: the memory has at
 /// most `MAX_BITS` bits, and the window lies in it.

@@ -1,19 +1,17 @@
 //! The bits of a window of a slice, up to 64 of them, as the first bits of a word under an order that
 //! runs from one end of it to the other.
 ghost use Rattle.std.specs.Prelude.{◌≡◌, ◌+◌, ◌/◌, ◌<◌, ◌≤◌, map, slice_range};
-ghost use Rattle.bitvec_engine.specs.base.Memory.{HasWindow, element_bits, list_in};
-ghost use Rattle.bitvec_engine.specs.words.Elements.{elements_window_from};
-ghost use Rattle.bitvec_engine.specs.words.ShortWindow.{padded};
+ghost use Rattle.bitvec_base.specs.Memory.{HasWindow, element_bits, list_in};
+ghost use Rattle.bitvec_words.specs.Elements.{elements_window_from};
+ghost use Rattle.bitvec_words.specs.ShortWindow.{padded};
 ghost use Rattle.bitvec_elements.specs.BitsFrom.{HasBitsFrom};
 ghost use Rattle.bitvec_engine.specs.Direction.{Runs};
 
-use bitvec_engine::base::{BitOrder, Lsb0, Msb0, Part, Window, first_part};
-use bitvec_engine::cells::{CellsRead, Shared};
-use bitvec_engine::store::BitStore;
-use bitvec_engine::words::{
-    WORD_BITS, WordOrder, joined, load_element, load_elements, load_parts, moved, reversed,
-};
-use bitvec_engine::{Direction, gathered};
+use bitvec_base::{BitOrder, Lsb0, Msb0, Part, Window, first_part};
+use bitvec_cells::{CellsRead, Shared};
+use bitvec_engine::Direction;
+use bitvec_store::BitStore;
+use bitvec_words::{WORD_BITS, WordOrder, gathered, joined, load_element, load_elements, load_parts, moved, reversed};
 
 /// The 64 bits of a window from an index on as a word, with zeros past the window's end. Conditions:
 /// the window lies in a memory of at most `MAX_BITS` bits, the index is at most 64 behind its end,

@@ -5,9 +5,9 @@ use Rattle.std.specs.Ordering.{bool_cmp, is_eq}
 use Rattle.std.proofs.Common.{arith, refl, ◌∷◌}
 use Rattle.std.proofs.lemmas.Bool.{eq-eqb}
 use Rattle.std.proofs.lemmas.Bool.Decides.{nat_tests}
-use Rattle.bitvec_combine.specs.base.Lists.{same_bits}
-use Rattle.bitvec_combine.specs.walk.Cost.{equal_loads, read_loads}
-use Rattle.bitvec_combine.specs.walk.CostLaws.{read_enough}
+use Rattle.bitvec_base.specs.Lists.{same_bits}
+use Rattle.bitvec_cells.specs.Cost.{equal_loads, read_loads}
+use Rattle.bitvec_cells.specs.CostLaws.{read_enough}
 
 pub same-ordered : (a b : List Bool) → is_eq (slice_cmp bool_cmp a b) ≡ same_bits a b
 same-ordered [] [] = refl

@@ -6,12 +6,12 @@ use Rattle.std.proofs.Common.{arith, sym, ◌∙◌, ap}
 use Rattle.std.proofs.lemmas.List.{get_or-reverse, same_lists}
 use Rattle.std.proofs.lemmas.Nat.{mod_below}
 use Rattle.bitvec_engine.specs.Direction.{Agrees}
-use Rattle.bitvec_combine.specs.base.declared.window.Window.{Window}
-use Rattle.bitvec_combine.specs.base.Lists.{same_bits}
-use Rattle.bitvec_combine.specs.base.Memory.{element_bits, list_in, memory_bits, place_bit}
-use Rattle.bitvec_combine.specs.base.MemoryLaws.{get-element_bits, get-memory_bits, length-element_bits, length-memory_bits}
-use Rattle.bitvec_combine.specs.base.Window.{window_of}
-use Rattle.bitvec_combine.specs.words.OrderEnd.{RunsFrom}
+use Rattle.bitvec_base.specs.declared.window.Window.{Window}
+use Rattle.bitvec_base.specs.Lists.{same_bits}
+use Rattle.bitvec_base.specs.Memory.{element_bits, list_in, memory_bits, place_bit}
+use Rattle.bitvec_base.specs.MemoryLaws.{get-element_bits, get-memory_bits, length-element_bits, length-memory_bits}
+use Rattle.bitvec_base.specs.Window.{window_of}
+use Rattle.bitvec_words.specs.OrderEnd.{RunsFrom}
 
 -- ---- orders that agree
 

@@ -6,31 +6,32 @@ use Rattle.std.proofs.lemmas.List.{length-replicate}
 use Rattle.std.proofs.lemmas.List.Folds.{sum_by-replicate}
 use Rattle.std.proofs.lemmas.List.Sums.{sum_by-append}
 use Rattle.std.proofs.lemmas.Nat.{div-add-mod', mod_below}
-use Rattle.bitvec_combine.specs.base.BitsFixMemory.{element_bits-fix}
-use Rattle.bitvec_combine.specs.base.declared.part.Part.{Part}
-use Rattle.bitvec_combine.specs.base.declared.window.Window.{Window}
-use Rattle.bitvec_combine.specs.base.Lists.{same_bits}
-use Rattle.bitvec_combine.specs.base.ListsLaws.{same_bits-decides}
-use Rattle.bitvec_combine.specs.base.Memory.{HasWindow, Writes, element_bits, list_in}
-use Rattle.bitvec_combine.specs.base.MemoryLaws.{length-element_bits}
-use Rattle.bitvec_combine.specs.base.Order.{Permutes}
-use Rattle.bitvec_combine.specs.base.Parts.{first_part_of, part_window}
-use Rattle.bitvec_combine.specs.base.SliceLaws.{range-from_start}
-use Rattle.bitvec_combine.specs.base.Window.{write_at}
-use Rattle.bitvec_combine.specs.base.WriteLaws.{length-slice_range}
-use Rattle.bitvec_combine.specs.base.WritesLaws.{Writes-is, Writes-join}
-use Rattle.bitvec_combine.specs.words.WholeLaws.{Writes-same}
-use Rattle.bitvec_combine.specs.moves.WordLaws.{Writes-behind, first-values, length-first, padded-all, take-all, word-tail, word_whole}
-use Rattle.bitvec_combine.specs.store.Width.{IsWidth}
-use Rattle.bitvec_combine.specs.store.WidthLaws.{at_each_width, width_some}
-use Rattle.bitvec_combine.specs.walk.Cost.{touched_count}
-use Rattle.bitvec_combine.specs.walk.ElementLaws.{element-count}
-use Rattle.bitvec_combine.specs.walk.WalkLaws.{first-len, first-place}
-use Rattle.bitvec_combine.specs.words.Elements.{elements_window}
-use Rattle.bitvec_combine.specs.words.ShortWindow.{padded}
-use Rattle.bitvec_combine.specs.words.FieldLaws.{element_of}
-use Rattle.bitvec_combine.specs.words.MovedLaws.{element-joined, word-there, take-word, take-range, written-padded}
-use Rattle.bitvec_combine.specs.words.TouchedLaws.{touched-first, touched-from_full, touched-two}
+use Rattle.bitvec_base.specs.BitsFixMemory.{element_bits-fix}
+use Rattle.bitvec_base.specs.declared.part.Part.{Part}
+use Rattle.bitvec_base.specs.declared.window.Window.{Window}
+use Rattle.bitvec_base.specs.Lists.{same_bits}
+use Rattle.bitvec_base.specs.ListsLaws.{same_bits-decides}
+use Rattle.bitvec_base.specs.Memory.{HasWindow, Writes, element_bits, list_in}
+use Rattle.bitvec_base.specs.MemoryLaws.{length-element_bits}
+use Rattle.bitvec_base.specs.Order.{Permutes}
+use Rattle.bitvec_base.specs.Parts.{first_part_of, part_window}
+use Rattle.bitvec_base.specs.SliceLaws.{range-from_start}
+use Rattle.bitvec_base.specs.Window.{write_at}
+use Rattle.bitvec_base.specs.WriteLaws.{length-slice_range}
+use Rattle.bitvec_base.specs.WritesLaws.{Writes-is, Writes-join}
+use Rattle.bitvec_words.specs.WholeLaws.{Writes-same}
+use Rattle.bitvec_move.specs.WordLaws.{Writes-behind, first-values, length-first, word-tail}
+use Rattle.bitvec_words.specs.WordLaws.{padded-all, take-all, word_whole}
+use Rattle.bitvec_store.specs.Width.{IsWidth}
+use Rattle.bitvec_store.specs.WidthLaws.{at_each_width, width_some}
+use Rattle.bitvec_cells.specs.Cost.{touched_count}
+use Rattle.bitvec_cells.specs.ElementLaws.{element-count}
+use Rattle.bitvec_cells.specs.WalkLaws.{first-len, first-place}
+use Rattle.bitvec_words.specs.Elements.{elements_window}
+use Rattle.bitvec_words.specs.ShortWindow.{padded}
+use Rattle.bitvec_words.specs.FieldLaws.{element_of}
+use Rattle.bitvec_words.specs.MovedLaws.{element-joined, word-there, take-word, take-range, written-padded}
+use Rattle.bitvec_words.specs.TouchedLaws.{touched-first, touched-from_full, touched-two}
 
 -- values moved to the start
 padded-moved : (b n : ℕ) (list : List Bool) → n ≤ length list → n ≤ b → write_at (replicate b false) 0 (slice_range list 0 (0 + n)) ≡ padded b (take n list)

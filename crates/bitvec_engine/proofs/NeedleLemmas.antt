@@ -4,15 +4,15 @@ use Rattle.std.proofs.Common.{arith, sym, ◌∙◌}
 use Rattle.std.proofs.Math.Nat.{mul-le-mul_right}
 use Rattle.std.proofs.lemmas.Bool.{le-leb}
 use Rattle.std.proofs.lemmas.Bool.Decides.{nat_tests}
-use Rattle.bitvec_combine.specs.base.declared.window.Window.{Window}
-use Rattle.bitvec_combine.specs.base.Lists.{same_bits, stands_at}
-use Rattle.bitvec_combine.specs.base.Memory.{list_in, HasWindow}
-use Rattle.bitvec_combine.specs.base.NeedleLaws.{stands-part}
-use Rattle.bitvec_combine.specs.base.Window.{window_range}
-use Rattle.bitvec_combine.specs.base.WritesLaws.{length-list, within-list}
-use Rattle.bitvec_combine.specs.cells.Access.{OnlyReadsAtMost}
-use Rattle.bitvec_combine.specs.cells.declared.cells.CellsRead.{Ghosts as Access}
-use Rattle.bitvec_combine.specs.walk.Cost.{read_loads, equal_loads, needle_loads}
+use Rattle.bitvec_base.specs.declared.window.Window.{Window}
+use Rattle.bitvec_base.specs.Lists.{same_bits, stands_at}
+use Rattle.bitvec_base.specs.Memory.{list_in, HasWindow}
+use Rattle.bitvec_base.specs.NeedleLaws.{stands-part}
+use Rattle.bitvec_base.specs.Window.{window_range}
+use Rattle.bitvec_base.specs.WritesLaws.{length-list, within-list}
+use Rattle.bitvec_cells.specs.Access.{OnlyReadsAtMost}
+use Rattle.bitvec_cells.specs.declared.cells.CellsRead.{Ghosts as Access}
+use Rattle.bitvec_cells.specs.Cost.{read_loads, equal_loads, needle_loads}
 
 -- whether it stands at an index, by the equality of that part, where both memories are as at first
 pub stands-found : {b r : ℕ} (at other_at : ℕ → ℕ → ℕ) {xs now ys right : List ℕ} {window needle part : Window} {found : Bool} (from : ℕ) → HasWindow b xs window → HasWindow r ys needle → from + needle.len ≤ window.len

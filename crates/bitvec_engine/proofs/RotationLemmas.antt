@@ -2,13 +2,13 @@
 use Rattle.std.specs.Prelude.{◌≡◌, ℕ, ◌≤◌, List, length, reverse, slice_range}
 use Rattle.std.proofs.Common.{arith, rules, sym, ◌∙◌, ap}
 use Rattle.std.proofs.lemmas.List.{same_lists, places}
-use Rattle.bitvec_combine.specs.base.declared.window.Window.{Window}
-use Rattle.bitvec_combine.specs.base.Lists.{rotated_left}
-use Rattle.bitvec_combine.specs.base.LengthLaws.{length-reversed_part}
-use Rattle.bitvec_combine.specs.base.Memory.{HasWindow, Writes, list_in}
-use Rattle.bitvec_combine.specs.base.RotationLaws.{reversals-rotate}
-use Rattle.bitvec_combine.specs.base.Window.{window_range, write_at}
-use Rattle.bitvec_combine.specs.base.WritesLaws.{Writes-is, Writes-range, list-range}
+use Rattle.bitvec_base.specs.declared.window.Window.{Window}
+use Rattle.bitvec_base.specs.Lists.{rotated_left}
+use Rattle.bitvec_base.specs.LengthLaws.{length-reversed_part}
+use Rattle.bitvec_base.specs.Memory.{HasWindow, Writes, list_in}
+use Rattle.bitvec_base.specs.RotationLaws.{reversals-rotate}
+use Rattle.bitvec_base.specs.Window.{window_range, write_at}
+use Rattle.bitvec_base.specs.WritesLaws.{Writes-is, Writes-range, list-range}
 
 -- a reversal of the values from one place up to another
 pub reversed_part : {X : Type 0} → ℕ → ℕ → List X → List X

@@ -2,20 +2,20 @@
 use Rattle.std.specs.Prelude.{◌≡◌, ℕ, ◌+◌, ◌-◌, ◌*◌, ◌/◌, ◌<◌, ◌≤◌, Bool, false, List, [], length, replicate, slice_index, slice_range, take, bit_or, refl}
 use Rattle.std.proofs.Common.{arith, rules, sym, ◌∙◌, ap}
 use Rattle.std.proofs.lemmas.List.{places, same_lists}
-use Rattle.bitvec_combine.specs.base.declared.window.Window.{Window}
-use Rattle.bitvec_combine.specs.base.Memory.{HasWindow, element_bits, list_in}
-use Rattle.bitvec_combine.specs.base.Parts.{first_part_of, part_window}
-use Rattle.bitvec_combine.specs.base.Window.{window_after, write_at}
-use Rattle.bitvec_combine.specs.base.WriteLaws.{length-slice_range}
-use Rattle.bitvec_combine.specs.moves.WordLaws.{length-first}
-use Rattle.bitvec_combine.specs.store.Width.{IsWidth}
-use Rattle.bitvec_combine.specs.store.WidthLaws.{at_each_width}
-use Rattle.bitvec_combine.specs.walk.Walk.{Walked, passed}
-use Rattle.bitvec_combine.specs.walk.WalkLaws.{first-len, length-first as length-first_part, length-passed, list-next}
-use Rattle.bitvec_combine.specs.words.ShortWindow.{padded}
-use Rattle.bitvec_combine.specs.words.FieldLaws.{list-part}
-use Rattle.bitvec_combine.specs.words.PartWalkLaws.{HasPart-first}
-use Rattle.bitvec_combine.specs.words.MovedLaws.{element-joined, take-range}
+use Rattle.bitvec_base.specs.declared.window.Window.{Window}
+use Rattle.bitvec_base.specs.Memory.{HasWindow, element_bits, list_in}
+use Rattle.bitvec_base.specs.Parts.{first_part_of, part_window}
+use Rattle.bitvec_base.specs.Window.{window_after, write_at}
+use Rattle.bitvec_base.specs.WriteLaws.{length-slice_range}
+use Rattle.bitvec_move.specs.WordLaws.{length-first}
+use Rattle.bitvec_store.specs.Width.{IsWidth}
+use Rattle.bitvec_store.specs.WidthLaws.{at_each_width}
+use Rattle.bitvec_cells.specs.Walk.{Walked, passed}
+use Rattle.bitvec_cells.specs.WalkLaws.{first-len, length-first as length-first_part, length-passed, list-next}
+use Rattle.bitvec_words.specs.ShortWindow.{padded}
+use Rattle.bitvec_words.specs.FieldLaws.{list-part}
+use Rattle.bitvec_words.specs.PartWalkLaws.{HasPart-first}
+use Rattle.bitvec_words.specs.MovedLaws.{element-joined, take-range}
 
 -- ---- one part after the other
 

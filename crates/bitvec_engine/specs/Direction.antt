@@ -1,6 +1,6 @@
 -- Which way an order runs through an element.
 use Rattle.std.specs.Prelude.{◌≡◌, ℕ, ◌<◌, true, false}
-use Rattle.bitvec_combine.specs.words.OrderEnd.{RunsFrom}
+use Rattle.bitvec_words.specs.OrderEnd.{RunsFrom}
 use Rattle.bitvec_engine.specs.declared.order_direction.Direction.{Direction}
 use Rattle.bitvec_engine.specs.declared.order_direction.Direction.TheVariants.{Up, Down, Other}
 

@@ -1,7 +1,7 @@
 -- Two windows of one length, each in a memory of elements of its own width.
 use Rattle.std.specs.Prelude.{◌≡◌, ℕ, List}
-use Rattle.bitvec_combine.specs.base.declared.window.Window.{Window}
-use Rattle.bitvec_combine.specs.base.Memory.{HasWindow}
+use Rattle.bitvec_base.specs.declared.window.Window.{Window}
+use Rattle.bitvec_base.specs.Memory.{HasWindow}
 
 -- each lies in its memory, of b-bit and of d-bit elements, and they are as long
 pub record HasPair (b : ℕ) (xs : List ℕ) (left : Window) (d : ℕ) (ys : List ℕ) (right : Window) : Type 0 where

@@ -1,8 +1,8 @@
 -- What word steps may take, where a step is about 64 bits.
 use Rattle.std.specs.Prelude.{ℕ, ◌+◌, ◌-◌, ◌*◌}
 use Rattle.std.specs.Int.{div_ceil}
-use Rattle.bitvec_combine.specs.cells.declared.cells.CellsRead.{Ghosts as Access}
-use Rattle.bitvec_combine.specs.cells.Access.{CostsAtMost, OnlyReadsAtMost}
+use Rattle.bitvec_cells.specs.declared.cells.CellsRead.{Ghosts as Access}
+use Rattle.bitvec_cells.specs.Access.{CostsAtMost, OnlyReadsAtMost}
 
 -- the bit at an index of an element of b bits: from the least significant one up, and from the most significant one down
 abbrev pub lsb0_at : ℕ → ℕ → ℕ

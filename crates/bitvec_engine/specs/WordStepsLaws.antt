@@ -2,11 +2,11 @@
 use Rattle.std.specs.Prelude.{◌≡◌, ℕ, ◌+◌, ◌-◌, ◌*◌, ◌/◌, ◌==◌, Bool, true, false, if◌then◌else◌, refl}
 use Rattle.std.specs.Int.{div_ceil}
 use Rattle.std.proofs.Common.{arith, ap}
-use Rattle.bitvec_combine.specs.cells.declared.cells.CellsRead.{Ghosts as Access}
-use Rattle.bitvec_combine.specs.cells.Access.{CostsAtMost, OnlyReadsAtMost}
-use Rattle.bitvec_combine.specs.store.Width.{IsWidth}
-use Rattle.bitvec_combine.specs.store.WidthLaws.{at_each_width}
-use Rattle.bitvec_combine.specs.walk.Cost.{edit_loads, equal_loads, read_loads, step_span, work_steps, write_loads, write_stores}
+use Rattle.bitvec_cells.specs.declared.cells.CellsRead.{Ghosts as Access}
+use Rattle.bitvec_cells.specs.Access.{CostsAtMost, OnlyReadsAtMost}
+use Rattle.bitvec_store.specs.Width.{IsWidth}
+use Rattle.bitvec_store.specs.WidthLaws.{at_each_width}
+use Rattle.bitvec_cells.specs.Cost.{edit_loads, equal_loads, read_loads, step_span, work_steps, write_loads, write_stores}
 use Rattle.bitvec_engine.specs.WordSteps.{EditsInSteps, ReadsInSteps, WritesInSteps, word_span}
 
 steps-words : (n : ℕ) → work_steps true n ≡ div_ceil n 64

@@ -3,17 +3,16 @@
 ghost use Rattle.std.specs.Prelude.{◌≡◌, ◌-◌, ◌*◌, ◌==◌, if◌then◌else◌, min, reverse};
 ghost use Rattle.std.specs.Cmp.Lexicographic.{slice_cmp};
 ghost use Rattle.std.specs.Ordering.{bool_cmp};
-ghost use Rattle.bitvec_combine.specs.base.Lists.{FitsWithin, combined, copied_within, same_bits};
-ghost use Rattle.bitvec_combine.specs.base.Memory.{Edits, HasWindow, Writes, list_in};
-ghost use Rattle.bitvec_combine.specs.cells.Access.{Costs, CostsAtMost, OnlyReads, OnlyReadsAtMost};
-ghost use Rattle.bitvec_combine.specs.words.Operator.{operator};
+ghost use Rattle.bitvec_base.specs.Lists.{FitsWithin, combined, copied_within, same_bits};
+ghost use Rattle.bitvec_base.specs.Memory.{Edits, HasWindow, Writes, list_in};
+ghost use Rattle.bitvec_cells.specs.Access.{Costs, CostsAtMost, OnlyReads, OnlyReadsAtMost};
+ghost use Rattle.bitvec_words.specs.Operator.{operator};
 ghost use Rattle.bitvec_engine.specs.Pairs.{HasPair};
 
-use bitvec_combine::base::{BitOrder, Window};
-use bitvec_combine::cells::{Cells, CellsRead};
-use bitvec_combine::store::BitStore;
-use bitvec_combine::walk::{get_bit, replace_bit, swap_bits};
-use bitvec_combine::words::BitOp;
+use bitvec_base::{BitOrder, Window};
+use bitvec_cells::{Cells, CellsRead, get_bit, replace_bit, swap_bits};
+use bitvec_store::BitStore;
+use bitvec_words::BitOp;
 use std::cmp::Ordering;
 
 /// Copies the bits of a window of another memory. Condition: each memory has at most `MAX_BITS` bits, each window

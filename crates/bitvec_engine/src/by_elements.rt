@@ -1,23 +1,23 @@
 //! Bit operations on whole windows of one element type, under any order: by elements as they are where
 //! the windows begin at the same index of an element, else bit by bit. `HiLo` goes so.
-#![tactic(auto, using(bitvec_combine::specs::Cited::in_steps, bitvec_combine::specs::Cited::enough, bitvec_combine::specs::Cited::width_some))]
+#![tactic(auto, using(bitvec_cells::specs::CostLaws::in_steps, bitvec_cells::specs::CostLaws::enough, bitvec_store::specs::WidthLaws::width_some))]
 
 ghost use Rattle.std.specs.Prelude.{◌≡◌, false};
-ghost use Rattle.bitvec_combine.specs.base.Lists.{combined, same_bits};
-ghost use Rattle.bitvec_combine.specs.base.Memory.{HasWindow, Writes, list_in};
-ghost use Rattle.bitvec_combine.specs.base.Spans.{HasSpan};
-ghost use Rattle.bitvec_combine.specs.cells.Access.{CostsAtMost, OnlyReadsAtMost};
-ghost use Rattle.bitvec_combine.specs.walk.Cost.{edit_loads, equal_loads, read_loads, write_loads, write_stores};
-ghost use Rattle.bitvec_combine.specs.words.Operator.{operator};
+ghost use Rattle.bitvec_base.specs.Lists.{combined, same_bits};
+ghost use Rattle.bitvec_base.specs.Memory.{HasWindow, Writes, list_in};
+ghost use Rattle.bitvec_base.specs.Spans.{HasSpan};
+ghost use Rattle.bitvec_cells.specs.Access.{CostsAtMost, OnlyReadsAtMost};
+ghost use Rattle.bitvec_cells.specs.Cost.{edit_loads, equal_loads, read_loads, write_loads, write_stores};
+ghost use Rattle.bitvec_words.specs.Operator.{operator};
 
+use bitvec_base::{BitOrder, HiLo, Window};
+use bitvec_cells::{Cells, CellsRead};
+use bitvec_combine::{combine_equal, combine_zeros, equal_unshifted};
+use bitvec_move::{copy_equal, swap_equal};
+use bitvec_store::BitStore;
+use bitvec_words::BitOp;
 use crate::by_bits::{bits_copy, bits_copy_within, bits_eq, bits_op, bits_reverse, bits_swap};
 use crate::slice_order::SliceOrder;
-use bitvec_combine::base::{BitOrder, HiLo, Window};
-use bitvec_combine::cells::{Cells, CellsRead};
-use bitvec_combine::moves::{copy_equal, swap_equal};
-use bitvec_combine::store::BitStore;
-use bitvec_combine::words::BitOp;
-use bitvec_combine::{combine_equal, combine_zeros, equal_unshifted};
 
 /// Copies the bits of a window of another memory of the same elements: `block_copy` of an order
 /// without `WORDS`. Conditions and cost are those of `block_copy`.

@@ -1,15 +1,15 @@
 //! Bit operations on whole windows by words. What loops is inlined into the function that makes the accessors:
 //! vectors come only where the compiler sees through them, in loops of each caller's own.
-#![tactic(auto, using(bitvec_combine::specs::Cited::enough))]
+#![tactic(auto, using(bitvec_cells::specs::CostLaws::enough))]
 
 ghost use Rattle.std.specs.Prelude.{refl, true};
 
-use crate::slice_order::{ByWords, SliceOrder};
-use bitvec_combine::base::{Lsb0, Msb0, Window};
-use bitvec_combine::cells::{Cells, CellsRead};
-use bitvec_combine::moves::{copy, copy_within, reverse, swap};
-use bitvec_combine::words::{BitOp, WordOrder, reversed, words_load_front, words_scan_first};
+use bitvec_base::{Lsb0, Msb0, Window};
+use bitvec_cells::{Cells, CellsRead};
 use bitvec_combine::{combine, equal};
+use bitvec_move::{copy, copy_within, reverse, swap};
+use bitvec_words::{BitOp, WordOrder, reversed, words_load_front, words_scan_first};
+use crate::slice_order::{ByWords, SliceOrder};
 
 /// The orders that work by words here. An order of another crate says itself how it works.
 trait InWords: WordOrder {}

@@ -12,21 +12,7 @@ mod shifting;
 mod slice_order;
 mod storing;
 
-/// The word kernels over two windows, or two parts of one.
-pub mod kernels {
-    pub use bitvec_combine::moves::{copy, copy_within, reverse, swap};
-    pub use bitvec_combine::{combine, equal};
-}
-
-pub use bitvec_combine::walk::{get_bit, replace_bit, swap_bits};
-pub use bitvec_combine::words::{
-    BitOp, bits_load_front, bits_lowest_first, bits_scan_first, bits_scan_last, count, count_zeros,
-    fill, gathered, invert,
-};
-pub use bitvec_combine::{base, cells, store, walk, words};
-pub use by_bits::{
-    bits_copy, bits_copy_within, bits_eq, bits_op, bits_reverse, bits_swap, compare,
-};
+pub use by_bits::{bits_copy, bits_copy_within, bits_eq, bits_op, bits_reverse, bits_swap, compare};
 pub use by_elements::{elements_copy, elements_eq, elements_op, elements_swap};
 pub use order_direction::{Direction, direction_of};
 pub use searching::{all, any, contains, ends_with, starts_with};

@@ -4,17 +4,17 @@
 
 ghost use Rattle.std.specs.Prelude.{◌≡◌, ◌-◌, ◌==◌, if◌then◌else◌};
 ghost use Rattle.std.specs.Int.{div_ceil};
-ghost use Rattle.bitvec_combine.specs.base.Lists.{FitsWithin, combined, copied_within, same_bits};
-ghost use Rattle.bitvec_combine.specs.base.Memory.{Edits, HasWindow, Writes, list_in};
-ghost use Rattle.bitvec_combine.specs.base.Spans.{HasSpan};
-ghost use Rattle.bitvec_combine.specs.words.Operator.{operator};
+ghost use Rattle.bitvec_base.specs.Lists.{FitsWithin, combined, copied_within, same_bits};
+ghost use Rattle.bitvec_base.specs.Memory.{Edits, HasWindow, Writes, list_in};
+ghost use Rattle.bitvec_base.specs.Spans.{HasSpan};
+ghost use Rattle.bitvec_words.specs.Operator.{operator};
 ghost use Rattle.bitvec_engine.specs.WordSteps.{EditsInSteps, ReadsInSteps, WritesInSteps, msb0_at};
 
+use bitvec_base::{Msb0, Window};
+use bitvec_cells::{Cells, CellsRead};
+use bitvec_store::BitStore;
+use bitvec_words::BitOp;
 use crate::slice_order::SliceOrder;
-use bitvec_combine::base::{Msb0, Window};
-use bitvec_combine::cells::{Cells, CellsRead};
-use bitvec_combine::store::BitStore;
-use bitvec_combine::words::BitOp;
 
 /// Whether two windows have the same bits: [`SliceOrder::block_eq`]. Windows that aren't as long
 /// take no load.

@@ -2,8 +2,8 @@
 ghost use Rattle.std.specs.Prelude.{◌≡◌, ◌↔◌, true};
 ghost use Rattle.bitvec_engine.specs.Direction.{Agrees, Runs};
 
-use bitvec_combine::base::{BitOrder, Lsb0, Msb0};
-use bitvec_combine::store::BitStore;
+use bitvec_base::{BitOrder, Lsb0, Msb0};
+use bitvec_store::BitStore;
 
 /// Which way the indices of an order run through an element.
 #[derive(Clone, Copy)]

@@ -1,15 +1,15 @@
 //! Whether a window has a bit, every bit, or the bits of another window, the needle.
 ghost use Rattle.std.specs.Prelude.{◌≡◌, ◌+◌, ◌-◌};
 ghost use Rattle.std.specs.List.{list_any, list_all};
-ghost use Rattle.bitvec_combine.specs.base.Lists.{is_prefix, is_suffix, stands_in};
-ghost use Rattle.bitvec_combine.specs.base.Memory.{HasWindow, list_in};
-ghost use Rattle.bitvec_combine.specs.cells.Access.{OnlyReadsAtMost};
-ghost use Rattle.bitvec_combine.specs.walk.Cost.{needle_loads, touched_count};
+ghost use Rattle.bitvec_base.specs.Lists.{is_prefix, is_suffix, stands_in};
+ghost use Rattle.bitvec_base.specs.Memory.{HasWindow, list_in};
+ghost use Rattle.bitvec_cells.specs.Access.{OnlyReadsAtMost};
+ghost use Rattle.bitvec_cells.specs.Cost.{needle_loads, touched_count};
 
+use bitvec_base::Window;
+use bitvec_cells::CellsRead;
+use bitvec_store::BitStore;
 use crate::slice_order::SliceOrder;
-use bitvec_combine::base::Window;
-use bitvec_combine::cells::CellsRead;
-use bitvec_combine::store::BitStore;
 
 /// Whether a bit of a window is 1; none of an empty window's is. Condition: as for [`SliceOrder::find_first`]. It
 /// loads each element that the window touches at most once.

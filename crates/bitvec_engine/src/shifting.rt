@@ -1,15 +1,15 @@
 //! The bits of a window reversed, rotated or shifted, as the order does it; all other bits of the memory stay.
 ghost use Rattle.std.specs.Prelude.{◌+◌, ◌-◌, ◌≤◌, reverse as reversed};
-ghost use Rattle.bitvec_combine.specs.base.Lists.{rotated_left, rotated_right, shifted_end, shifted_start};
-ghost use Rattle.bitvec_combine.specs.base.Memory.{Edits, HasWindow};
-ghost use Rattle.bitvec_combine.specs.cells.Access.{CostsAtMost};
-ghost use Rattle.bitvec_combine.specs.walk.Cost.{edit_loads, fill_loads, reverse_loads, reverse_stores, rotate_loads, rotate_stores, touched_count, write_stores};
+ghost use Rattle.bitvec_base.specs.Lists.{rotated_left, rotated_right, shifted_end, shifted_start};
+ghost use Rattle.bitvec_base.specs.Memory.{Edits, HasWindow};
+ghost use Rattle.bitvec_cells.specs.Access.{CostsAtMost};
+ghost use Rattle.bitvec_cells.specs.Cost.{edit_loads, fill_loads, reverse_loads, reverse_stores, rotate_loads, rotate_stores, touched_count, write_stores};
 
+use bitvec_base::Window;
+use bitvec_cells::{Cells, CellsRead};
+use bitvec_store::BitStore;
+use bitvec_words::fill;
 use crate::slice_order::SliceOrder;
-use bitvec_combine::base::Window;
-use bitvec_combine::cells::{Cells, CellsRead};
-use bitvec_combine::store::BitStore;
-use bitvec_combine::words::fill;
 
 /// Reverses the bits of a window: [`SliceOrder::block_reverse`], out of line, since a rotation calls it three times.
 pub fn reverse<O: SliceOrder, C: Cells>(cells: &mut C, window: Window)

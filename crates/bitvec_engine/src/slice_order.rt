@@ -1,19 +1,17 @@
 //! How an order works on whole windows.
 ghost use Rattle.std.specs.Prelude.{◌≡◌, ◌-◌, ◌<◌, Bool, reverse, true};
-ghost use Rattle.bitvec_combine.specs.base.Lists.{FitsWithin, combined, copied_within, first_place, last_place, same_bits};
-ghost use Rattle.bitvec_combine.specs.base.Memory.{Edits, HasWindow, Writes, element_bits, list_in};
-ghost use Rattle.bitvec_combine.specs.base.Spans.{HasSpan};
-ghost use Rattle.bitvec_combine.specs.cells.Access.{CostsAtMost, OnlyReads, OnlyReadsAtMost};
-ghost use Rattle.bitvec_combine.specs.words.Front.{IsFront};
-ghost use Rattle.bitvec_combine.specs.words.Operator.{operator};
-ghost use Rattle.bitvec_combine.specs.walk.Cost.{edit_loads, equal_loads, first_loads, last_loads, read_loads, reverse_loads, reverse_stores, touched_count, write_loads, write_stores};
+ghost use Rattle.bitvec_base.specs.Lists.{FitsWithin, combined, copied_within, first_place, last_place, same_bits};
+ghost use Rattle.bitvec_base.specs.Memory.{Edits, HasWindow, Writes, element_bits, list_in};
+ghost use Rattle.bitvec_base.specs.Spans.{HasSpan};
+ghost use Rattle.bitvec_cells.specs.Access.{CostsAtMost, OnlyReads, OnlyReadsAtMost};
+ghost use Rattle.bitvec_words.specs.Front.{IsFront};
+ghost use Rattle.bitvec_words.specs.Operator.{operator};
+ghost use Rattle.bitvec_cells.specs.Cost.{edit_loads, equal_loads, first_loads, last_loads, read_loads, reverse_loads, reverse_stores, touched_count, write_loads, write_stores};
 
-use bitvec_combine::base::{BitOrder, Window};
-use bitvec_combine::cells::{Cells, CellsRead};
-use bitvec_combine::store::BitStore;
-use bitvec_combine::words::{
-    BitOp, bits_load_front, bits_lowest_first, bits_scan_first, bits_scan_last,
-};
+use bitvec_base::{BitOrder, Window};
+use bitvec_cells::{Cells, CellsRead};
+use bitvec_store::BitStore;
+use bitvec_words::{BitOp, bits_load_front, bits_lowest_first, bits_scan_first, bits_scan_last};
 
 /// A bit order with its way of working on whole windows.
 ///

@@ -1,13 +1,13 @@
 //! Up to 64 bits of a window stored as a word.
 ghost use Rattle.std.specs.Prelude.{◌≡◌, ◌≢◌, ◌%◌, ◌<◌, ◌≤◌, take};
-ghost use Rattle.bitvec_combine.specs.base.Memory.{HasWindow, Writes, element_bits, list_in};
-ghost use Rattle.bitvec_combine.specs.cells.Access.{CostsAtMost};
-ghost use Rattle.bitvec_combine.specs.walk.Cost.{fill_loads, touched_count};
+ghost use Rattle.bitvec_base.specs.Memory.{HasWindow, Writes, element_bits, list_in};
+ghost use Rattle.bitvec_cells.specs.Access.{CostsAtMost};
+ghost use Rattle.bitvec_cells.specs.Cost.{fill_loads, touched_count};
 
-use bitvec_combine::base::{Part, Window, first_part};
-use bitvec_combine::cells::{Cells, CellsRead};
-use bitvec_combine::store::BitStore;
-use bitvec_combine::words::{WORD_BITS, WordOrder, moved, store_elements, store_part, store_parts};
+use bitvec_base::{Part, Window, first_part};
+use bitvec_cells::{Cells, CellsRead};
+use bitvec_store::BitStore;
+use bitvec_words::{WORD_BITS, WordOrder, moved, store_elements, store_part, store_parts};
 
 /// A window gets the first bits of a word, as many as it has; all other bits of the memory stay. Condition, loads and
 /// stores: as for [`store_parts`]. It has no loop where the window is no longer than an element or has 64 bits.

@@ -1,11 +1,11 @@
 //! What a caller knows of the cost of a copy under any order that works by words, that costs are counted, and those of an
 //! exchange.
 ghost use Rattle.std.specs.Prelude.{◌≡◌, true};
-ghost use Rattle.bitvec_engine.specs.base.Memory.{HasWindow};
-ghost use Rattle.bitvec_engine.specs.cells.Access.{CostsAtMost, OnlyReadsAtMost};
-ghost use Rattle.bitvec_engine.specs.walk.Cost.{read_loads, write_loads, write_stores};
+ghost use Rattle.bitvec_base.specs.Memory.{HasWindow};
+ghost use Rattle.bitvec_cells.specs.Access.{CostsAtMost, OnlyReadsAtMost};
+ghost use Rattle.bitvec_cells.specs.Cost.{read_loads, write_loads, write_stores};
 
-use bitvec_engine::base::{Lsb0, Window};
+use bitvec_base::{Lsb0, Window};
 use bitvec_engine::{ByWords, SliceOrder};
 use bitvec_test_support::Counted;
 use bitvec_test_support::cells::{Cells, CellsRead, Exclusive};

@@ -2,13 +2,11 @@
 //! a word and of more, which begin with an element, behind its first bit and with its last. One contract says both, so
 //! what differs here was built as it wasn't proved.
 
-use bitvec_engine::base::{BitOrder, Lsb0, Msb0, Window};
-use bitvec_engine::cells::{Cells, CellsRead, Exclusive, has_window};
-use bitvec_engine::store::BitStore;
-use bitvec_engine::{
-    BitOp, SliceOrder, bits_copy, bits_copy_within, bits_eq, bits_op, bits_reverse, bits_swap,
-    invert,
-};
+use bitvec_base::{BitOrder, Lsb0, Msb0, Window};
+use bitvec_cells::{Cells, CellsRead, Exclusive, has_window};
+use bitvec_engine::{SliceOrder, bits_copy, bits_copy_within, bits_eq, bits_op, bits_reverse, bits_swap};
+use bitvec_store::BitStore;
+use bitvec_words::{BitOp, invert};
 
 /// What is done with a window of a memory and one as long of another.
 #[derive(Clone, Copy)]

@@ -1,6 +1,6 @@
 //! Where the first 0 of a window is, and its first bits as a word: no element is loaded twice.
+use bitvec_base::{HiLo, Lsb0, Msb0, Window};
 use bitvec_engine::SliceOrder;
-use bitvec_engine::base::{HiLo, Lsb0, Msb0, Window};
 use bitvec_test_support::Counted;
 use bitvec_test_support::cells::{Shared, has_window};
 

@@ -1,8 +1,9 @@
 //! The block functions under `Lsb0` and `Msb0` by name: each once, with memories worked by hand.
 
-use bitvec_engine::base::Window;
-use bitvec_engine::cells::Exclusive;
-use bitvec_engine::{BitOp, lsb0, msb0};
+use bitvec_base::Window;
+use bitvec_cells::Exclusive;
+use bitvec_engine::{lsb0, msb0};
+use bitvec_words::BitOp;
 
 // All bits of two bytes, five of the first, three at its start, and three of the second.
 const ALL: Window = Window { start: 0, len: 16 };

@@ -6,7 +6,7 @@ use Rattle.std.proofs.lemmas.List.{drop_all, drop-drop}
 use Rattle.std.proofs.lemmas.Nat.{mod_below}
 use Rattle.bitvec_segments.specs.Segments.{segments}
 use Rattle.bitvec_segments.specs.SegmentsLaws.{first_len, segments-first}
-use Rattle.bitvec_slice.specs.traits.Listing.{comma, separator}
+use Rattle.bitvec_domain.specs.Listing.{comma, separator}
 
 module _ (b s : ℕ) (list : List Bool) where
   unfoldable pub segments_from : ℕ → List (List Bool)

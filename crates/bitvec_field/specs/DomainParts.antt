@@ -1,8 +1,8 @@
 -- The bits of a domain's parts, element by element.
 use Rattle.std.specs.Prelude.{ℕ, Bool, List, [], ◌∷◌, ◌++◌, Option, None, Some, map}
-use Rattle.bitvec_field.specs.base.Memory.{element_bits}
-use Rattle.bitvec_slice.specs.domain.Domains.{DomainPieces, enclave, region}
-use Rattle.bitvec_slice.specs.domain.Parts.{SeenPart}
+use Rattle.bitvec_base.specs.Memory.{element_bits}
+use Rattle.bitvec_domain.specs.Domains.{DomainPieces, enclave, region}
+use Rattle.bitvec_domain.specs.Parts.{SeenPart}
 
 -- the bits of a part of an element, as a list of their own, if there is one
 abbrev pub part_list_if : Option SeenPart → List (List Bool)

@@ -11,19 +11,19 @@ use Rattle.bitvec_segments.specs.SegmentsLaws.{first_len, segments-first}
 use Rattle.bitvec_slice.specs.Domains.{IsDomain}
 use Rattle.bitvec_slice.specs.Seen.{Seen}
 use Rattle.bitvec_slice.specs.Showing.{ShowsElements}
-use Rattle.bitvec_slice.specs.base.Memory.{HasWindow, element_bits, list_in, memory_bits}
-use Rattle.bitvec_slice.specs.base.MemoryLaws.{element-range, length-memory_bits}
-use Rattle.bitvec_slice.specs.base.Parts.{first_part_of, last_part_of, part_window}
-use Rattle.bitvec_slice.specs.base.SliceLaws.{range-front, range-from_start, range-map, range-none, range-same, range-to_end}
-use Rattle.bitvec_slice.specs.base.Window.{window_of}
-use Rattle.bitvec_slice.specs.base.WriteLaws.{length-slice_range, range-range}
-use Rattle.bitvec_slice.specs.base.declared.part.Part.{Part}
-use Rattle.bitvec_slice.specs.base.declared.window.Window.{Window}
-use Rattle.bitvec_slice.specs.domain.CutLaws.{cut_is, part-bits}
-use Rattle.bitvec_slice.specs.domain.Cuts.{IsCutWithin, IsPartWithin, cut_across, cut_of}
-use Rattle.bitvec_slice.specs.domain.Domains.{DomainPieces, part_in_if, pieces_in}
-use Rattle.bitvec_slice.specs.domain.declared.cut.Cut.{Cut}
-use Rattle.bitvec_slice.specs.domain.declared.cut.Cut.TheVariants.{Inside, Across}
+use Rattle.bitvec_base.specs.Memory.{HasWindow, element_bits, list_in, memory_bits}
+use Rattle.bitvec_base.specs.MemoryLaws.{element-range, length-memory_bits}
+use Rattle.bitvec_base.specs.Parts.{first_part_of, last_part_of, part_window}
+use Rattle.bitvec_base.specs.SliceLaws.{range-front, range-from_start, range-map, range-none, range-same, range-to_end}
+use Rattle.bitvec_base.specs.Window.{window_of}
+use Rattle.bitvec_base.specs.WriteLaws.{length-slice_range, range-range}
+use Rattle.bitvec_base.specs.declared.part.Part.{Part}
+use Rattle.bitvec_base.specs.declared.window.Window.{Window}
+use Rattle.bitvec_domain.specs.CutLaws.{cut_is, part-bits}
+use Rattle.bitvec_domain.specs.Cuts.{IsCutWithin, IsPartWithin, cut_across, cut_of}
+use Rattle.bitvec_domain.specs.Domains.{DomainPieces, part_in_if, pieces_in}
+use Rattle.bitvec_domain.specs.declared.cut.Cut.{Cut}
+use Rattle.bitvec_domain.specs.declared.cut.Cut.TheVariants.{Inside, Across}
 use Rattle.bitvec_field.specs.DomainParts.{lists_of_pieces, part_list_if}
 
 -- ---- the segments of some places of a memory

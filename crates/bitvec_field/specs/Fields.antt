@@ -1,7 +1,7 @@
 -- The numbers of a view's bits, and what a store of one leaves.
 use Rattle.std.specs.Prelude.{ℕ, Bool}
-use Rattle.bitvec_slice.specs.store.declared.store.BitStore.{Ghosts as Store}
-use Rattle.bitvec_slice.specs.base.declared.order.BitOrder.{Ghosts as Order}
+use Rattle.bitvec_store.specs.declared.store.BitStore.{Ghosts as Store}
+use Rattle.bitvec_base.specs.declared.order.BitOrder.{Ghosts as Order}
 use Rattle.bitvec_segments.specs.Segments.{loaded_be, loaded_le, stored_be, stored_le}
 use Rattle.bitvec_slice.specs.Seen.{Seen}
 use Rattle.bitvec_slice.specs.Views.{seen_mut}

@@ -1,12 +1,5 @@
-pub mod base
-pub mod domain
-pub mod segments
-pub mod slice
-pub mod store
-pub mod words
 pub mod DomainParts
 pub mod DomainPartsLaws
 pub mod Fields
 pub mod IntegersLaws
 pub mod Radix
-pub use Rattle.bitvec_segments.specs.Integers

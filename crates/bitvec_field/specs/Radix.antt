@@ -3,7 +3,7 @@ use Rattle.std.specs.Prelude.{ℕ, ◌-◌, ◌*◌, Bool, true, List, length}
 use Rattle.std.specs.Fmt.{digits}
 use Rattle.std.specs.List.{flat_map}
 use Rattle.bitvec_segments.specs.Segments.{segment_number, segments}
-use Rattle.bitvec_slice.specs.traits.Listing.{listed}
+use Rattle.bitvec_domain.specs.Listing.{listed}
 
 -- the groups of k bits of a list, cut from its end: its segments where it stands so that it ends at the edge of an element of k bits
 abbrev pub groups : ℕ → List Bool → List (List Bool)

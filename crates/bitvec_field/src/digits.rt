@@ -6,9 +6,9 @@ ghost use Rattle.bitvec_segments.specs.SegmentsLaws.{first_len};
 ghost use Rattle.bitvec_slice.specs.Views.{seen};
 ghost use Rattle.bitvec_field.specs.Radix.{digits_text};
 
+use bitvec_base::BitOrder;
 use bitvec_slice::BitSlice;
-use bitvec_slice::base::BitOrder;
-use bitvec_slice::store::BitStore;
+use bitvec_store::BitStore;
 use std::fmt;
 
 /// Writes a segment's digits, each of `width` bits; the first may have fewer. Condition: a digit has

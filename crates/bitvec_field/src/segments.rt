@@ -5,17 +5,17 @@ ghost use Rattle.std.specs.List.{join_by};
 ghost use Rattle.bitvec_segments.specs.Segments.{segments};
 ghost use Rattle.bitvec_slice.specs.Views.{seen};
 ghost use Rattle.bitvec_field.specs.Radix.{digits_text, radix_text};
-ghost use Rattle.bitvec_slice.specs.traits.Listing.{comma};
+ghost use Rattle.bitvec_domain.specs.Listing.{comma};
 
-use crate::digits::{bits_in_element, write_digits};
+use bitvec_base::BitOrder;
+use bitvec_domain::separator_before;
 use bitvec_slice::BitSlice;
-use bitvec_slice::base::BitOrder;
-use bitvec_slice::store::BitStore;
-use bitvec_slice::traits::separator_before;
+use bitvec_store::BitStore;
+use crate::digits::{bits_in_element, write_digits};
 use std::fmt;
 
 /// Writes a list of the digits of each of a view's segments. Condition: a digit has one to four bits.
-#[tactic(auto, unfolding(crate::specs::Radix::radix_text, bitvec_slice::specs::Cited::listed))]
+#[tactic(auto, unfolding(crate::specs::Radix::radix_text, bitvec_domain::specs::Listing::listed))]
 pub(crate) fn write_radix<T: BitStore, O: BitOrder, W: fmt::Write>(
     bits: BitSlice<'_, T, O>,
     width: usize,

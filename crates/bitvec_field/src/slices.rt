@@ -1,14 +1,14 @@
 //! Integers in windows of borrowed slices of elements.
 ghost use Rattle.std.specs.Prelude.{◌≡◌, ◌<◌, ◌≤◌, map};
-ghost use Rattle.bitvec_slice.specs.base.Memory.{Edits, HasWindow, list_in};
-ghost use Rattle.bitvec_field.specs.Integers.{integer_of, remainder_of};
+ghost use Rattle.bitvec_base.specs.Memory.{Edits, HasWindow, list_in};
+ghost use Rattle.bitvec_segments.specs.Integers.{integer_of, remainder_of};
 ghost use Rattle.bitvec_segments.specs.Segments.{loaded_be, loaded_le, stored_be, stored_le};
 
-use crate::Integral;
+use bitvec_base::Window;
+use bitvec_cells::{Exclusive, Shared};
 use bitvec_segments::FieldOrder;
-use bitvec_slice::base::Window;
-use bitvec_slice::cells::{Exclusive, Shared};
-use bitvec_slice::store::BitStore;
+use bitvec_store::BitStore;
+use crate::Integral;
 
 /// The integer of a window's bits, the first segment lowest. Condition: the memory has at most
 /// `MAX_BITS` bits, the window lies in it, and has from 1 to `I::BITS` bits.

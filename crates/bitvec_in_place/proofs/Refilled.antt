@@ -2,9 +2,9 @@
 use Rattle.std.specs.Prelude.{◌≡◌, ℕ, ◌-◌, ◌*◌, ◌≤◌, Bool, List, length, map}
 use Rattle.std.specs.Fn.{Mut}
 use Rattle.std.proofs.Common.{subst, sym}
-use Rattle.bitvec_field.specs.base.Memory.{Writes, list_in, memory_bits}
-use Rattle.bitvec_field.specs.base.declared.window.Window.{Window}
-use Rattle.bitvec_field.specs.domain.Asked.{RefillsWith}
+use Rattle.bitvec_base.specs.Memory.{Writes, list_in, memory_bits}
+use Rattle.bitvec_base.specs.declared.window.Window.{Window}
+use Rattle.bitvec_domain.specs.Asked.{RefillsWith}
 use Rattle.bitvec_in_place.proofs.Windows.{window_is, written_range}
 use Rattle.bitvec_in_place.specs.Ranges.{bits_in}
 

@@ -6,15 +6,15 @@ use Rattle.std.proofs.lemmas.List.{length-set}
 use Rattle.std.proofs.lemmas.List.Edits.{length-swap}
 use Rattle.bitvec_within.specs.Combined.{combined_within}
 use Rattle.bitvec_within.specs.CombinedLaws.{length-combined_within}
-use Rattle.bitvec_field.specs.base.Lists.{combined, copied_within}
-use Rattle.bitvec_field.specs.base.CountLaws.{ones_and_zeros}
-use Rattle.bitvec_field.specs.base.LeadingLaws.{first_run, last_run}
-use Rattle.bitvec_field.specs.base.Memory.{Writes, memory_bits}
-use Rattle.bitvec_field.specs.base.SliceLaws.{range-all}
-use Rattle.bitvec_field.specs.base.Window.{window_of, write_at}
-use Rattle.bitvec_field.specs.base.WriteLaws.{length-slice_range, range-write_at, write_at-all}
-use Rattle.bitvec_field.specs.base.declared.window.Window.{Window}
-use Rattle.bitvec_field.specs.segments.Segments.{loaded, stored}
+use Rattle.bitvec_base.specs.Lists.{combined, copied_within}
+use Rattle.bitvec_base.specs.CountLaws.{ones_and_zeros}
+use Rattle.bitvec_base.specs.LeadingLaws.{first_run, last_run}
+use Rattle.bitvec_base.specs.Memory.{Writes, memory_bits}
+use Rattle.bitvec_base.specs.SliceLaws.{range-all}
+use Rattle.bitvec_base.specs.Window.{window_of, write_at}
+use Rattle.bitvec_base.specs.WriteLaws.{length-slice_range, range-write_at, write_at-all}
+use Rattle.bitvec_base.specs.declared.window.Window.{Window}
+use Rattle.bitvec_segments.specs.Segments.{loaded, stored}
 use Rattle.bitvec_within.specs.Swaps.{swapped_within}
 use Rattle.bitvec_in_place.specs.MovedLaws.{get-put_outside, length-bits_of, length-copied, length-put, length-swapped}
 use Rattle.bitvec_in_place.specs.RangeBitsLaws.{length-bits_in}

@@ -6,4 +6,3 @@ pub mod RangeBitsLaws
 pub mod Ranges
 pub mod RangesLaws
 pub mod Rooms
-pub mod field

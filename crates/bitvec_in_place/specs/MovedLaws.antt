@@ -7,12 +7,12 @@ use Rattle.std.proofs.lemmas.Bool.{cases_lt}
 use Rattle.std.proofs.lemmas.Grind.{get_or-set_at}
 use Rattle.std.proofs.lemmas.List.{get_or-map, get_or-replicate, get_or-set_other, length-map, length-replicate, length-set, length-take, places}
 use Rattle.std.proofs.lemmas.List.Edits.{swap_is}
-use Rattle.bitvec_field.specs.base.FilledLaws.{bits-zeros}
-use Rattle.bitvec_field.specs.base.Lists.{copied_within, rotated_left, rotated_right, shifted_end, shifted_start}
-use Rattle.bitvec_field.specs.base.Memory.{memory_bits}
-use Rattle.bitvec_field.specs.base.MemoryLaws.{length-memory_bits}
-use Rattle.bitvec_field.specs.base.Window.{write_at}
-use Rattle.bitvec_field.specs.base.WriteLaws.{get-slice_range, get-write_at_above, get-write_at_below, get-write_at_inside, length-slice_range, length-write_at}
+use Rattle.bitvec_base.specs.FilledLaws.{bits-zeros}
+use Rattle.bitvec_base.specs.Lists.{copied_within, rotated_left, rotated_right, shifted_end, shifted_start}
+use Rattle.bitvec_base.specs.Memory.{memory_bits}
+use Rattle.bitvec_base.specs.MemoryLaws.{length-memory_bits}
+use Rattle.bitvec_base.specs.Window.{write_at}
+use Rattle.bitvec_base.specs.WriteLaws.{get-slice_range, get-write_at_above, get-write_at_below, get-write_at_inside, length-slice_range, length-write_at}
 use Rattle.bitvec_within.specs.Swaps.{LieApart, swapped_within}
 
 -- ---- lengths

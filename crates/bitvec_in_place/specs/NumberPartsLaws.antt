@@ -4,15 +4,15 @@ use Rattle.std.proofs.Common.{arith, sym, ◌∙◌, ap, ⊎_elim, inl, inr}
 use Rattle.std.proofs.Math.Nat.{div-div-eq-div-mul, mod-add-mod}
 use Rattle.std.proofs.lemmas.List.{drop-replicate, length-replicate, same_lists, take-replicate}
 use Rattle.std.proofs.lemmas.Nat.{mod_below, pow-add, pow_pos}
-use Rattle.bitvec_field.specs.base.Lists.{copied_within}
-use Rattle.bitvec_field.specs.base.MemoryLaws.{get-element_bits, length-element_bits}
-use Rattle.bitvec_field.specs.base.WriteLaws.{length-slice_range}
-use Rattle.bitvec_field.specs.segments.LoadLaws.{loaded-first, loaded-none, loaded-phase, loaded-segment, lower_bits}
-use Rattle.bitvec_field.specs.segments.NumberLaws.{segment-number, segment-told, segment_bits-mod}
-use Rattle.bitvec_field.specs.segments.PlainLaws.{loaded-plain}
-use Rattle.bitvec_field.specs.segments.Segments.{bit_number, loaded, segment_bits, segment_number, stored}
-use Rattle.bitvec_field.specs.segments.SegmentsLaws.{first_len}
-use Rattle.bitvec_field.specs.segments.StoreLaws.{length-stored, stored-loads}
+use Rattle.bitvec_base.specs.Lists.{copied_within}
+use Rattle.bitvec_base.specs.MemoryLaws.{get-element_bits, length-element_bits}
+use Rattle.bitvec_base.specs.WriteLaws.{length-slice_range}
+use Rattle.bitvec_segments.specs.LoadLaws.{loaded-first, loaded-none, loaded-phase, loaded-segment, lower_bits}
+use Rattle.bitvec_segments.specs.NumberLaws.{segment-number, segment-told, segment_bits-mod}
+use Rattle.bitvec_segments.specs.PlainLaws.{loaded-plain}
+use Rattle.bitvec_segments.specs.Segments.{bit_number, loaded, segment_bits, segment_number, stored}
+use Rattle.bitvec_segments.specs.SegmentsLaws.{first_len}
+use Rattle.bitvec_segments.specs.StoreLaws.{length-stored, stored-loads}
 use Rattle.bitvec_within.specs.Combined.{combined_within}
 use Rattle.bitvec_within.specs.Swaps.{LieApart, swapped_within}
 use Rattle.bitvec_in_place.specs.MovedLaws.{get-copied_inside, get-put_inside, get-swapped_back, get-swapped_front, length-copied, length-swapped}

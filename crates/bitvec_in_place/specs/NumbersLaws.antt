@@ -4,12 +4,12 @@ use Rattle.std.specs.List.{swap}
 use Rattle.std.proofs.Common.{arith, sym, ◌∙◌, ap, ⊎_elim, length-drop}
 use Rattle.std.proofs.lemmas.List.{same_lists, get_or-set_other, length-set, length-take}
 use Rattle.std.proofs.lemmas.List.Edits.{length-swap}
-use Rattle.bitvec_field.specs.base.Lists.{copied_within}
-use Rattle.bitvec_field.specs.base.Window.{write_at}
-use Rattle.bitvec_field.specs.base.WriteLaws.{get-slice_range, length-slice_range, range-write_at}
-use Rattle.bitvec_field.specs.segments.LoadLaws.{loaded-below}
-use Rattle.bitvec_field.specs.segments.Segments.{loaded, stored}
-use Rattle.bitvec_field.specs.segments.StoreLaws.{length-stored, stored-loads}
+use Rattle.bitvec_base.specs.Lists.{copied_within}
+use Rattle.bitvec_base.specs.Window.{write_at}
+use Rattle.bitvec_base.specs.WriteLaws.{get-slice_range, length-slice_range, range-write_at}
+use Rattle.bitvec_segments.specs.LoadLaws.{loaded-below}
+use Rattle.bitvec_segments.specs.Segments.{loaded, stored}
+use Rattle.bitvec_segments.specs.StoreLaws.{length-stored, stored-loads}
 use Rattle.bitvec_in_place.specs.MovedLaws.{get-swap_other}
 use Rattle.bitvec_in_place.specs.RangesLaws.{number-put}
 use Rattle.bitvec_in_place.specs.Ranges.{number_in, numbered}

@@ -4,11 +4,11 @@ use Rattle.std.specs.List.{list_all, list_any, swap}
 use Rattle.std.proofs.Common.{arith, sym, ◌∙◌, ap, ⊎_elim, inl, inr}
 use Rattle.std.proofs.lemmas.List.{get_or-replicate, get_or-set_other, length-replicate, length-set, same_lists}
 use Rattle.std.proofs.lemmas.List.Edits.{length-swap}
-use Rattle.bitvec_field.specs.base.CountedLaws.{ones-all, ones-none, zeros-all, zeros-none}
-use Rattle.bitvec_field.specs.base.FilledLaws.{all-filled, any-filled, first-filled, first-of_filled, last-filled}
-use Rattle.bitvec_field.specs.base.Lists.{copied_within, first_place, last_place, rotated_left, rotated_right, shifted_end, shifted_start}
-use Rattle.bitvec_field.specs.base.Window.{write_at}
-use Rattle.bitvec_field.specs.base.WriteLaws.{get-slice_range, length-slice_range, range-write_at_after, range-write_at_before}
+use Rattle.bitvec_base.specs.CountedLaws.{ones-all, ones-none, zeros-all, zeros-none}
+use Rattle.bitvec_base.specs.FilledLaws.{all-filled, any-filled, first-filled, first-of_filled, last-filled}
+use Rattle.bitvec_base.specs.Lists.{copied_within, first_place, last_place, rotated_left, rotated_right, shifted_end, shifted_start}
+use Rattle.bitvec_base.specs.Window.{write_at}
+use Rattle.bitvec_base.specs.WriteLaws.{get-slice_range, length-slice_range, range-write_at_after, range-write_at_before}
 use Rattle.bitvec_within.specs.Combined.{combined_within}
 use Rattle.bitvec_within.specs.CombinedLaws.{get-combined_within_above, get-combined_within_below, length-combined_within}
 use Rattle.bitvec_within.specs.Swaps.{swapped_within}

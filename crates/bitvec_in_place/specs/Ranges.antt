@@ -1,9 +1,9 @@
 -- Lists of bits after an edit of a range, the bits from `from` up to, without, `to`; every other bit is as before. A search carries
 -- these words whole: what they mean at an index, of the length and as a number is read by laws.
 use Rattle.std.specs.Prelude.{◌≡◌, ℕ, ◌-◌, ◌*◌, ◌<◌, ◌≤◌, ◌⊎◌, Bool, false, List, length, map, not, replicate, slice_index_or, slice_range}
-use Rattle.bitvec_field.specs.base.Lists.{combined}
-use Rattle.bitvec_field.specs.base.Window.{max_bits, write_at}
-use Rattle.bitvec_field.specs.segments.Segments.{loaded, stored}
+use Rattle.bitvec_base.specs.Lists.{combined}
+use Rattle.bitvec_base.specs.Window.{max_bits, write_at}
+use Rattle.bitvec_segments.specs.Segments.{loaded, stored}
 
 -- `count` elements of b bits have at most `max_bits`, and the range lies in them
 pub record HasBits (b count from to : ℕ) : Type 0 where

@@ -2,12 +2,12 @@
 use Rattle.std.specs.Prelude.{◌≡◌, ℕ, ◌+◌, ◌-◌, ◌<◌, ◌≤◌, ◌⊎◌, Bool, false, not, List, length, map, replicate, reverse, slice_index_or, slice_range, refl}
 use Rattle.std.proofs.Common.{arith, ◌∙◌, ap, ⊎_elim}
 use Rattle.std.proofs.lemmas.List.{get_or-replicate, get_or-reverse, length-map, length-replicate, length-reverse}
-use Rattle.bitvec_field.specs.base.Lists.{combined, rotated_left, rotated_right, shifted_end, shifted_start}
-use Rattle.bitvec_field.specs.base.ListsLaws.{get-combined, length-combined}
-use Rattle.bitvec_field.specs.base.Window.{write_at}
-use Rattle.bitvec_field.specs.base.WriteLaws.{get-slice_range, length-slice_range, range-write_at_after, range-write_at_before}
-use Rattle.bitvec_field.specs.segments.Segments.{loaded, stored}
-use Rattle.bitvec_field.specs.segments.StoreLaws.{length-stored}
+use Rattle.bitvec_base.specs.Lists.{combined, rotated_left, rotated_right, shifted_end, shifted_start}
+use Rattle.bitvec_base.specs.ListsLaws.{get-combined, length-combined}
+use Rattle.bitvec_base.specs.Window.{write_at}
+use Rattle.bitvec_base.specs.WriteLaws.{get-slice_range, length-slice_range, range-write_at_after, range-write_at_before}
+use Rattle.bitvec_segments.specs.Segments.{loaded, stored}
+use Rattle.bitvec_segments.specs.StoreLaws.{length-stored}
 use Rattle.bitvec_in_place.specs.MovedLaws.{get-flip, get-put_inside, get-put_outside, get-rotated_left_early, get-rotated_left_late, get-rotated_right_early, get-rotated_right_late, get-shifted_end_kept, get-shifted_end_zero, get-shifted_start_kept, get-shifted_start_zero, length-put, length-rotation_left, length-rotation_right, length-shift_end, length-shift_start}
 use Rattle.bitvec_in_place.specs.Ranges.{edited, filled, flipped, joined, number_in, numbered}
 

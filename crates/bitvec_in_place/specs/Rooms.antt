@@ -1,7 +1,7 @@
 -- What a copy or an exchange of ranges of a slice asks of it.
 use Rattle.std.specs.Prelude.{ℕ, ◌*◌, ◌≤◌}
-use Rattle.bitvec_field.specs.base.Lists.{FitsWithin}
-use Rattle.bitvec_field.specs.base.Window.{max_bits}
+use Rattle.bitvec_base.specs.Lists.{FitsWithin}
+use Rattle.bitvec_base.specs.Window.{max_bits}
 
 -- `count` elements of b bits have at most `max_bits`, and as many of these as stand from `from` up to `to` fit from `dest` on
 pub record HasRoom (b count from to dest : ℕ) : Type 0 where

@@ -3,14 +3,14 @@
 
 ghost use Rattle.std.specs.Prelude.{◌≡◌, ◌+◌, false, length, map, slice_index_or, slice_set};
 ghost use Rattle.std.specs.List.{swap as swapped};
-ghost use Rattle.bitvec_field.specs.base.Memory.{memory_bits};
+ghost use Rattle.bitvec_base.specs.Memory.{memory_bits};
 ghost use Rattle.bitvec_in_place.specs.Ranges.{HasBits};
 
+use bitvec_domain::{replace_in, set_in, swap_in};
+use bitvec_engine::SliceOrder;
+use bitvec_slice::BitSlice;
+use bitvec_store::BitStore;
 use crate::spans::whole;
-use bitvec_field::elements::{replace_in, set_in, swap_in};
-use bitvec_field::engine::SliceOrder;
-use bitvec_field::slice::BitSlice;
-use bitvec_field::store::BitStore;
 
 /// The bit at an index. Condition: the slice has at most `MAX_BITS` bits, and the index is below their number.
 ///

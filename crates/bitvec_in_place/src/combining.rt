@@ -2,19 +2,20 @@
 #![tactic(auto, using(crate::proofs::Windows::ranges))]
 
 ghost use Rattle.std.specs.Prelude.{◌≡◌, ◌-◌, length, map};
-ghost use Rattle.bitvec_field.specs.base.Memory.{memory_bits};
-ghost use Rattle.bitvec_field.specs.base.Window.{write_at};
-ghost use Rattle.bitvec_field.specs.slice.Views.{seen};
-ghost use Rattle.bitvec_field.specs.words.Operator.{operator};
-ghost use Rattle.bitvec_field.specs.words.declared.operator.BitOp.TheVariants.{And, Or, Xor};
+ghost use Rattle.bitvec_base.specs.Memory.{memory_bits};
+ghost use Rattle.bitvec_base.specs.Window.{write_at};
+ghost use Rattle.bitvec_slice.specs.Views.{seen};
+ghost use Rattle.bitvec_words.specs.Operator.{operator};
+ghost use Rattle.bitvec_words.specs.declared.operator.BitOp.TheVariants.{And, Or, Xor};
 ghost use Rattle.bitvec_in_place.specs.Ranges.{HasBits, joined};
 
+use bitvec_base::BitOrder;
+use bitvec_elements::{combine_in, copy_from_in};
+use bitvec_engine::SliceOrder;
+use bitvec_slice::BitSlice;
+use bitvec_store::BitStore;
+use bitvec_words::BitOp;
 use crate::spans::span;
-use bitvec_field::base::BitOrder;
-use bitvec_field::elements::{combine_in, copy_from_in};
-use bitvec_field::engine::{BitOp, SliceOrder};
-use bitvec_field::slice::BitSlice;
-use bitvec_field::store::BitStore;
 use std::ops::Range;
 
 /// Copies the bits of a view to a range. Condition: the slice has at most `MAX_BITS` bits, the range lies in them, and the

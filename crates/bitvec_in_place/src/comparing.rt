@@ -4,18 +4,18 @@
 ghost use Rattle.std.specs.Prelude.{◌≡◌, length, map};
 ghost use Rattle.std.specs.Cmp.Lexicographic.{slice_cmp};
 ghost use Rattle.std.specs.Ordering.{bool_cmp};
-ghost use Rattle.bitvec_field.specs.base.Lists.{is_prefix, is_suffix, same_bits, stands_in};
-ghost use Rattle.bitvec_field.specs.base.Memory.{memory_bits};
-ghost use Rattle.bitvec_field.specs.slice.Views.{seen};
+ghost use Rattle.bitvec_base.specs.Lists.{is_prefix, is_suffix, same_bits, stands_in};
+ghost use Rattle.bitvec_base.specs.Memory.{memory_bits};
+ghost use Rattle.bitvec_slice.specs.Views.{seen};
 ghost use Rattle.bitvec_in_place.specs.Ranges.{HasBits, bits_in};
 
-use crate::spans::span;
-use bitvec_field::base::BitOrder;
-use bitvec_field::elements::{compare_in, ends_with_in, eq_in, starts_with_in};
-use bitvec_field::engine::SliceOrder;
-use bitvec_field::slice::BitSlice;
-use bitvec_field::store::BitStore;
+use bitvec_base::BitOrder;
+use bitvec_elements::{compare_in, ends_with_in, eq_in, starts_with_in};
+use bitvec_engine::SliceOrder;
+use bitvec_slice::BitSlice;
+use bitvec_store::BitStore;
 use bitvec_within::contains_in;
+use crate::spans::span;
 use std::cmp::Ordering;
 use std::ops::Range;
 

@@ -2,18 +2,18 @@
 #![tactic(auto, using(crate::proofs::Windows::ranges))]
 
 ghost use Rattle.std.specs.Prelude.{◌≡◌, ◌-◌, length, map};
-ghost use Rattle.bitvec_field.specs.base.Memory.{memory_bits};
-ghost use Rattle.bitvec_field.specs.base.Window.{write_at};
-ghost use Rattle.bitvec_field.specs.slice.Views.{seen_mut};
-ghost use Rattle.bitvec_field.specs.slice.Writes.{WritesBits};
+ghost use Rattle.bitvec_base.specs.Memory.{memory_bits};
+ghost use Rattle.bitvec_base.specs.Window.{write_at};
+ghost use Rattle.bitvec_slice.specs.Views.{seen_mut};
+ghost use Rattle.bitvec_slice.specs.Writes.{WritesBits};
 ghost use Rattle.bitvec_in_place.specs.Ranges.{HasBits, bits_in};
 
+use bitvec_base::BitOrder;
+use bitvec_elements::swap_with_in;
+use bitvec_engine::SliceOrder;
+use bitvec_slice::{BitSliceMut, Sealed, ViewMut};
+use bitvec_store::BitStore;
 use crate::spans::span;
-use bitvec_field::base::BitOrder;
-use bitvec_field::elements::swap_with_in;
-use bitvec_field::engine::SliceOrder;
-use bitvec_field::slice::{BitSliceMut, Sealed, ViewMut};
-use bitvec_field::store::BitStore;
 use std::ops::Range;
 
 /// Exchanges the bits of a range with those of a view. Condition: the slice has at most `MAX_BITS` bits, the range lies in

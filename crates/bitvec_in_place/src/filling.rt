@@ -2,13 +2,13 @@
 #![tactic(auto, using(crate::proofs::Windows::ranges))]
 
 ghost use Rattle.std.specs.Prelude.{◌≡◌, length, map};
-ghost use Rattle.bitvec_field.specs.base.Memory.{memory_bits};
+ghost use Rattle.bitvec_base.specs.Memory.{memory_bits};
 ghost use Rattle.bitvec_in_place.specs.Ranges.{HasBits, filled, flipped};
 
+use bitvec_elements::{fill_in, invert_in};
+use bitvec_engine::SliceOrder;
+use bitvec_store::BitStore;
 use crate::spans::span;
-use bitvec_field::elements::{fill_in, invert_in};
-use bitvec_field::engine::SliceOrder;
-use bitvec_field::store::BitStore;
 use std::ops::Range;
 
 /// Makes each bit of a range `bit`: `fill` of that part as a view. Condition: the slice has at most `MAX_BITS`

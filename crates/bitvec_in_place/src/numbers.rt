@@ -2,14 +2,14 @@
 #![tactic(auto, using(crate::proofs::Windows::ranges))]
 
 ghost use Rattle.std.specs.Prelude.{◌≡◌, ◌+◌, ◌-◌, ◌<◌, ◌≤◌, false, length, map, true};
-ghost use Rattle.bitvec_field.specs.Integers.{integer_of, remainder_of};
-ghost use Rattle.bitvec_field.specs.base.Memory.{memory_bits};
+ghost use Rattle.bitvec_segments.specs.Integers.{integer_of, remainder_of};
+ghost use Rattle.bitvec_base.specs.Memory.{memory_bits};
 ghost use Rattle.bitvec_in_place.specs.Ranges.{HasBits, number_in, numbered};
 
+use bitvec_field::{Integral, load_be_in, load_le_in, store_be_in, store_le_in};
+use bitvec_segments::FieldOrder;
+use bitvec_store::BitStore;
 use crate::spans::span;
-use bitvec_field::elements::{load_be_in, load_le_in, store_be_in, store_le_in};
-use bitvec_field::store::BitStore;
-use bitvec_field::{FieldOrder, Integral};
 use std::ops::Range;
 
 /// The integer of a range's bits, the first segment lowest. Condition: the slice has at most `MAX_BITS` bits, the range

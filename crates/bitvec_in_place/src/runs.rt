@@ -3,14 +3,14 @@
 
 ghost use Rattle.std.specs.Prelude.{◌≡◌, false, length, map, not};
 ghost use Rattle.std.specs.List.{prefix_len, suffix_len};
-ghost use Rattle.bitvec_field.specs.base.LeadingLaws.{is_other};
-ghost use Rattle.bitvec_field.specs.base.Memory.{memory_bits};
+ghost use Rattle.bitvec_base.specs.LeadingLaws.{is_other};
+ghost use Rattle.bitvec_base.specs.Memory.{memory_bits};
 ghost use Rattle.bitvec_in_place.specs.Ranges.{HasBits, bits_in};
 
+use bitvec_elements::{find_first_in, find_last_in};
+use bitvec_engine::SliceOrder;
+use bitvec_store::BitStore;
 use crate::spans::span;
-use bitvec_field::elements::{find_first_in, find_last_in};
-use bitvec_field::engine::SliceOrder;
-use bitvec_field::store::BitStore;
 use std::ops::Range;
 
 /// How many bits at the start of a range are 1. Condition: the slice has at most `MAX_BITS` bits, and the range lies in

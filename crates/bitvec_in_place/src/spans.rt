@@ -1,9 +1,9 @@
 //! Windows of all bits of a slice, and of a range of them.
 ghost use Rattle.std.specs.Prelude.{◌≡◌, ◌-◌, ◌*◌, ◌≤◌, length};
-ghost use Rattle.bitvec_field.specs.base.Window.{max_bits};
+ghost use Rattle.bitvec_base.specs.Window.{max_bits};
 
-use bitvec_field::base::Window;
-use bitvec_field::store::BitStore;
+use bitvec_base::Window;
+use bitvec_store::BitStore;
 use std::ops::Range;
 
 /// The window of a range of bits. Condition: `start <= end`.

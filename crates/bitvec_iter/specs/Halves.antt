@@ -1,8 +1,8 @@
 -- What contracts see of two halves of a view.
 use Rattle.std.specs.Prelude.{◌≡◌, ℕ}
 use Rattle.std.specs.Borrow.{GName}
-use Rattle.bitvec_slice.specs.store.declared.store.BitStore.{Ghosts as Store}
-use Rattle.bitvec_slice.specs.base.declared.order.BitOrder.{Ghosts as Order}
+use Rattle.bitvec_store.specs.declared.store.BitStore.{Ghosts as Store}
+use Rattle.bitvec_base.specs.declared.order.BitOrder.{Ghosts as Order}
 use Rattle.bitvec_slice.specs.Seen.{Seen, shown}
 use Rattle.bitvec_iter.specs.declared.lent_halves.HalvesMut.{HalvesMut}
 

@@ -2,10 +2,10 @@
 use Rattle.std.specs.Prelude.{ℕ, ◌+◌, ◌*◌, ◌≤◌, List}
 use Rattle.std.specs.Borrow.{Fml, GName, MutBor, RattleType, Array, follows}
 use Rattle.std.proofs.Common.{subst}
-use Rattle.bitvec_slice.specs.lends.Refill.{refilled, length_refilled, of_lender, with_range}
-use Rattle.bitvec_slice.specs.store.declared.store.BitStore.{Ghosts as Store}
-use Rattle.bitvec_slice.specs.base.declared.order.BitOrder.{Ghosts as Order}
-use Rattle.bitvec_slice.specs.base.Window.{max_bits}
+use Rattle.bitvec_domain.specs.Refill.{refilled, length_refilled, of_lender, with_range}
+use Rattle.bitvec_store.specs.declared.store.BitStore.{Ghosts as Store}
+use Rattle.bitvec_base.specs.declared.order.BitOrder.{Ghosts as Order}
+use Rattle.bitvec_base.specs.Window.{max_bits}
 use Rattle.bitvec_slice.specs.Touched.{end_touched, first_touched}
 use Rattle.bitvec_iter.specs.declared.lent_halves.HalvesMut.{HalvesMut}
 use Rattle.bitvec_iter.specs.contracts.lent_halves.HalvesMut.{the_row}

@@ -3,9 +3,9 @@ use Rattle.std.specs.Prelude.{◌≡◌, ℕ, ◌<◌, ◌≤◌, Bool, cond, co
 use Rattle.std.specs.List.{flat_map}
 use Rattle.std.proofs.Common.{arith, ◌∙◌, ap, sym}
 use Rattle.std.proofs.lemmas.List.Sums.{count_by-le-length}
-use Rattle.bitvec_slice.specs.store.declared.store.BitStore.{Ghosts as Store}
-use Rattle.bitvec_slice.specs.base.declared.order.BitOrder.{Ghosts as Order}
-use Rattle.bitvec_slice.specs.base.Window.{max_bits}
+use Rattle.bitvec_store.specs.declared.store.BitStore.{Ghosts as Store}
+use Rattle.bitvec_base.specs.declared.order.BitOrder.{Ghosts as Order}
+use Rattle.bitvec_base.specs.Window.{max_bits}
 use Rattle.bitvec_cutting.specs.ChunkLaws.{pieces_joined, sum_joined}
 use Rattle.bitvec_cutting.specs.Cutting.{chunk, chunk_count}
 use Rattle.bitvec_slice.specs.Seen.{Seen}

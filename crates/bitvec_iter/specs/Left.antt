@@ -2,8 +2,8 @@
 use Rattle.std.specs.Prelude.{◌≡◌, ℕ, List, Option}
 use Rattle.std.specs.Iterator.{YieldsFirstBy, YieldsLastBy}
 use Rattle.std.specs.Iterator.Runs.{EveryRun, ItemsMapTo, ItemsMapToReversed}
-use Rattle.bitvec_slice.specs.store.declared.store.BitStore.{Ghosts as Store}
-use Rattle.bitvec_slice.specs.base.declared.order.BitOrder.{Ghosts as Order}
+use Rattle.bitvec_store.specs.declared.store.BitStore.{Ghosts as Store}
+use Rattle.bitvec_base.specs.declared.order.BitOrder.{Ghosts as Order}
 use Rattle.bitvec_cutting.specs.Walks.{walk}
 use Rattle.bitvec_cutting.specs.declared.cutting.Cutting.{Ghosts as Cutting}
 use Rattle.bitvec_slice.specs.Seen.{Seen}

@@ -2,8 +2,8 @@
 use Rattle.std.specs.Prelude.{◌≡◌, ◌+◌, ◌-◌, ◌<◌, ◌≤◌, [], ◌∷◌, ◌++◌, length, refl}
 use Rattle.std.proofs.Common.{ap}
 use Rattle.std.proofs.iter.runs.Sources.{from_back, from_front}
-use Rattle.bitvec_slice.specs.store.declared.store.BitStore.{Ghosts as Store}
-use Rattle.bitvec_slice.specs.base.declared.order.BitOrder.{Ghosts as Order}
+use Rattle.bitvec_store.specs.declared.store.BitStore.{Ghosts as Store}
+use Rattle.bitvec_base.specs.declared.order.BitOrder.{Ghosts as Order}
 use Rattle.bitvec_cutting.specs.WalkLaws.{walk_first, walk_last, walk_length, walk_none}
 use Rattle.bitvec_cutting.specs.Walks.{walk}
 use Rattle.bitvec_cutting.specs.declared.cutting.Cutting.{Ghosts as Cutting}

@@ -1,10 +1,10 @@
 -- A writable walk over single bits, as contracts see it.
 use Rattle.std.specs.Prelude.{◌≡◌, ℕ, ◌+◌, ◌-◌, Bool, List, length, min, slice_range}
 use Rattle.std.specs.Borrow.{GName}
-use Rattle.bitvec_slice.specs.store.declared.store.BitStore.{Ghosts as Store}
-use Rattle.bitvec_slice.specs.base.declared.order.BitOrder.{Ghosts as Order}
+use Rattle.bitvec_store.specs.declared.store.BitStore.{Ghosts as Store}
+use Rattle.bitvec_base.specs.declared.order.BitOrder.{Ghosts as Order}
 use Rattle.bitvec_slice.specs.Seen.{Seen, shown}
-use Rattle.bitvec_slice.specs.base.Window.{write_at}
+use Rattle.bitvec_base.specs.Window.{write_at}
 use Rattle.bitvec_iter.specs.declared.lent_bits.IterMut.{IterMut}
 
 -- the view, and which of its indices are left, from `front` up to `back`

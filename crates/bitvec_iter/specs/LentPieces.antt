@@ -1,7 +1,7 @@
 -- A writable walk over pieces, as contracts see it.
 use Rattle.std.specs.Borrow.{GName}
-use Rattle.bitvec_slice.specs.store.declared.store.BitStore.{Ghosts as Store}
-use Rattle.bitvec_slice.specs.base.declared.order.BitOrder.{Ghosts as Order}
+use Rattle.bitvec_store.specs.declared.store.BitStore.{Ghosts as Store}
+use Rattle.bitvec_base.specs.declared.order.BitOrder.{Ghosts as Order}
 use Rattle.bitvec_cutting.specs.declared.cutting.Cutting.{Ghosts as Cuts}
 use Rattle.bitvec_slice.specs.Seen.{shown}
 use Rattle.bitvec_iter.specs.LentWalk.{Walk}

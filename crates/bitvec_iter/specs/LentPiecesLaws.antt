@@ -2,9 +2,9 @@
 use Rattle.std.specs.Prelude.{◌≡◌, ℕ, ◌+◌, ◌*◌, ◌≤◌, Bool, List, length}
 use Rattle.std.proofs.Common.{◌∙◌, ap}
 use Rattle.std.proofs.Math.Bridge.{le_prop}
-use Rattle.bitvec_slice.specs.store.declared.store.BitStore.{Ghosts as Store}
-use Rattle.bitvec_slice.specs.base.declared.order.BitOrder.{Ghosts as Order}
-use Rattle.bitvec_slice.specs.base.Window.{max_bits}
+use Rattle.bitvec_store.specs.declared.store.BitStore.{Ghosts as Store}
+use Rattle.bitvec_base.specs.declared.order.BitOrder.{Ghosts as Order}
+use Rattle.bitvec_base.specs.Window.{max_bits}
 use Rattle.bitvec_cutting.specs.declared.cutting.Cutting.{Ghosts as Cuts}
 use Rattle.bitvec_iter.specs.PiecesLending.{with_elements}
 use Rattle.bitvec_iter.specs.declared.lent_pieces.PiecesMut.{PiecesMut}

@@ -1,4 +1,3 @@
-pub mod cutting
 pub mod BitsLending
 pub mod Halves
 pub mod HalvesLending

@@ -2,12 +2,12 @@
 use Rattle.std.specs.Prelude.{◌≡◌, ℕ, ◌+◌, ◌<◌, Bool, List, length, map}
 use Rattle.std.proofs.Common.{arith, ◌∙◌, ap}
 use Rattle.std.specs.declared.ops.Range.{Range}
-use Rattle.bitvec_slice.specs.base.Memory.{memory_bits}
-use Rattle.bitvec_slice.specs.base.SliceLaws.{range-map}
+use Rattle.bitvec_base.specs.Memory.{memory_bits}
+use Rattle.bitvec_base.specs.SliceLaws.{range-map}
 use Rattle.bitvec_cutting.specs.Cutting.{LiesIn}
-use Rattle.bitvec_slice.specs.base.MemoryLaws.{memory-range}
-use Rattle.bitvec_slice.specs.store.declared.store.BitStore.{Ghosts as Store}
-use Rattle.bitvec_slice.specs.base.declared.order.BitOrder.{Ghosts as Order}
+use Rattle.bitvec_base.specs.MemoryLaws.{memory-range}
+use Rattle.bitvec_store.specs.declared.store.BitStore.{Ghosts as Store}
+use Rattle.bitvec_base.specs.declared.order.BitOrder.{Ghosts as Order}
 use Rattle.bitvec_slice.specs.Seen.{IsRangeOf, Seen}
 use Rattle.bitvec_slice.specs.ShowingLaws.{shows-seen}
 use Rattle.bitvec_slice.specs.TouchedLaws.{touches}

@@ -1,13 +1,13 @@
 //! The calls that walk over the parts of a view.
 ghost use Rattle.std.specs.Prelude.{◌≡◌, ◌<◌, ◌≤◌, length};
-ghost use Rattle.bitvec_slice.specs.base.Window.{max_bits};
+ghost use Rattle.bitvec_base.specs.Window.{max_bits};
 ghost use Rattle.bitvec_cutting.specs.Cutting.{back_chunk, chunk, chunk_count, whole_chunk, whole_count, window, window_count};
 ghost use Rattle.bitvec_iter.specs.Parts.{parts_of};
 
-use crate::PieceWalk;
 use bitvec_cutting::{InChunks, InChunksFromEnd, InExactChunks, InExactChunksFromEnd, InWindows};
 use bitvec_slice::Shows;
-use bitvec_slice::store::BitStore;
+use bitvec_store::BitStore;
+use crate::PieceWalk;
 
 /// The walks of `bitvec`'s `BitSlice` over its parts, for both view types: of a `BitSlice` they live as
 /// long as its elements, of a `&BitSliceMut` as long as that borrow. Sizes are in bits.

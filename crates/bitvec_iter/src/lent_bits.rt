@@ -1,11 +1,11 @@
 //! The bits of a writable view, lent one at a time.
 ghost use Rattle.std.specs.Prelude.{◌≡◌, ◌+◌, ◌-◌, ◌*◌, ◌<◌, ◌≤◌, length, nat_le, slice_range};
-ghost use Rattle.bitvec_slice.specs.base.Window.{max_bits};
+ghost use Rattle.bitvec_base.specs.Window.{max_bits};
 
-use bitvec_slice::base::{BitOrder, Window};
-use bitvec_slice::elements::for_each_in;
-use bitvec_slice::store::BitStore;
-use bitvec_slice::{BitRefMut, BitSlice, BitSliceMut, Sealed, ViewMut, touched_range};
+use bitvec_base::{BitOrder, Window};
+use bitvec_domain::{BitRefMut, for_each_in};
+use bitvec_slice::{BitSlice, BitSliceMut, Sealed, ViewMut, touched_range};
+use bitvec_store::BitStore;
 use std::marker::PhantomData;
 
 /// The bits of a writable view, which are lent one at a time, from both ends: `iter_mut` makes it.
@@ -28,14 +28,14 @@ pub struct IterMut<'a, T: BitStore, O: BitOrder> {
 
 impl<'a, T: BitStore, O: BitOrder> IterMut<'a, T, O> {
     ghost use Rattle.std.specs.Borrow.{sem};
-    ghost use Rattle.bitvec_slice.specs.reference.References.{name_of_ref_mut};
+    ghost use Rattle.bitvec_domain.specs.References.{name_of_ref_mut};
     ghost use Rattle.bitvec_slice.specs.Indices.{WritesBitOf};
     ghost use Rattle.bitvec_slice.specs.Lending.{lends};
     ghost use Rattle.bitvec_slice.specs.Seen.{IsGiven, IsRangeOf, shown};
     ghost use Rattle.bitvec_slice.specs.Views.{name_of, seen, seen_mut};
     ghost use Rattle.bitvec_iter.specs.BitsLending.{lends_bits, lends_first, lends_last, lends_part};
     ghost use Rattle.bitvec_iter.specs.LentBits.{IsAllOf, WritesLeft, bit_walk_of, bits_in_place, bits_to_come, name_of_bits, past_back_bits, past_bits, start_of};
-    ghost use Rattle.bitvec_slice.specs.domain.Asked.{CallableOnBits, RefillsWith};
+    ghost use Rattle.bitvec_domain.specs.Asked.{CallableOnBits, RefillsWith};
 
     /// The bits of a view. `bitvec` has no such call: `iter_mut` is made of it.
     #[doc(hidden)]

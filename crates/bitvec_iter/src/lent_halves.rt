@@ -1,10 +1,10 @@
 //! A writable view's two halves, of which one is lent at a time.
 ghost use Rattle.std.specs.Prelude.{◌≡◌, ◌+◌, ◌*◌, ◌≤◌, length, slice_range};
-ghost use Rattle.bitvec_slice.specs.base.Window.{max_bits};
+ghost use Rattle.bitvec_base.specs.Window.{max_bits};
 
-use bitvec_slice::base::{BitOrder, Window};
-use bitvec_slice::store::BitStore;
+use bitvec_base::{BitOrder, Window};
 use bitvec_slice::{BitSliceMut, Sealed, ViewMut, touched_range};
+use bitvec_store::BitStore;
 use std::marker::PhantomData;
 
 /// A writable view's bits, cut in two: it stands for the pair that `bitvec`'s `split_at_mut` gives,

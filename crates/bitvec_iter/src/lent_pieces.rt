@@ -1,11 +1,11 @@
 //! The numbered pieces of a writable view, lent one at a time.
 ghost use Rattle.std.specs.Prelude.{◌≡◌, ◌+◌, ◌-◌, ◌*◌, ◌<◌, ◌≤◌, false, length, nat_le, slice_range};
-ghost use Rattle.bitvec_slice.specs.base.Window.{max_bits};
+ghost use Rattle.bitvec_base.specs.Window.{max_bits};
 
+use bitvec_base::{BitOrder, Window};
 use bitvec_cutting::{Cutting, InChunks, InChunksFromEnd, InExactChunks, InExactChunksFromEnd};
-use bitvec_slice::base::{BitOrder, Window};
-use bitvec_slice::store::BitStore;
 use bitvec_slice::{BitSliceMut, Sealed, ViewMut, touched_range};
+use bitvec_store::BitStore;
 use std::marker::PhantomData;
 
 /// The pieces of a writable view, cut as `C` says, which are lent one at a time, from both ends.

@@ -2,15 +2,15 @@
 ghost use Rattle.std.specs.Prelude.{◌++◌, ◌<◌, Some, codes, slice_range};
 ghost use Rattle.std.specs.Fmt.{WritesOnOk, debug_variant};
 ghost use Rattle.std.specs.List.{join_by};
-ghost use Rattle.bitvec_slice.specs.traits.Listing.{bits_text, comma, listed};
+ghost use Rattle.bitvec_domain.specs.Listing.{bits_text, comma, listed};
 ghost use Rattle.bitvec_iter.specs.LentWalk.{lists_left};
 
-use crate::{HalvesMut, IterMut, PiecesMut};
+use bitvec_base::BitOrder;
 use bitvec_cutting::Cutting;
-use bitvec_slice::base::BitOrder;
-use bitvec_slice::store::BitStore;
-use bitvec_slice::traits::separator_before;
+use bitvec_domain::separator_before;
 use bitvec_slice::{BitSlice, write_named};
+use bitvec_store::BitStore;
+use crate::{HalvesMut, IterMut, PiecesMut};
 use std::fmt;
 
 /// The bits that are left, as `IterMut([0, 1, 0])`.
@@ -57,7 +57,7 @@ impl<'a, T: BitStore, O: BitOrder, C: Cutting> fmt::Debug for PiecesMut<'a, T, O
 
     ghost debug_output = { λ pieces. debug_variant (codes "PiecesMut") (Some (listed bits_text (lists_left C.place (walk_of pieces)))) };
 
-    #[tactic(auto, unfolding(bitvec_slice::specs::Cited::listed))]
+    #[tactic(auto, unfolding(bitvec_domain::specs::Listing::listed))]
     fn fmt<W: fmt::Write>(&self, f: &mut fmt::Formatter<W>) -> fmt::Result {
         f.write_str("PiecesMut")?;
         f.write_str("(")?;

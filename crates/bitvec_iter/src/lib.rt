@@ -16,10 +16,6 @@ mod pieces;
 mod texts;
 mod views;
 
-pub use bitvec_cutting::{
-    Cutting, ExactCutting, InChunks, InChunksFromEnd, InExactChunks, InExactChunksFromEnd,
-    InWindows,
-};
 pub use calls::IterCalls;
 pub use lent_bits::IterMut;
 pub use lent_calls::PieceCallsMut;

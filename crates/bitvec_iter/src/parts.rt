@@ -4,9 +4,9 @@ ghost use Rattle.bitvec_cutting.specs.Cutting.{LiesIn};
 ghost use Rattle.bitvec_iter.specs.Parts.{subview};
 ghost use Rattle.bitvec_slice.specs.Views.{seen};
 
+use bitvec_base::BitOrder;
 use bitvec_slice::BitSlice;
-use bitvec_slice::base::BitOrder;
-use bitvec_slice::store::BitStore;
+use bitvec_store::BitStore;
 use std::ops::Range;
 
 /// The bits at these indices. Condition: the view has them.

@@ -2,19 +2,16 @@
 ghost use Rattle.std.specs.Prelude.{◌≡◌, ◌<◌, ◌≤◌, Some, IfSome, ⊤, length};
 ghost use Rattle.std.specs.Iterator.{UpTo, at_most, item_count};
 ghost use Rattle.std.specs.Iterator.SizeHint.{IsWithinCount};
-ghost use Rattle.bitvec_slice.specs.base.Window.{max_bits};
+ghost use Rattle.bitvec_base.specs.Window.{max_bits};
 ghost use Rattle.bitvec_slice.specs.Views.{seen};
 ghost use Rattle.bitvec_iter.specs.Parts.{subview};
 
+use bitvec_base::BitOrder;
+use bitvec_cutting::{Cutting, ExactCutting, InChunks, InChunksFromEnd, InExactChunks, InExactChunksFromEnd, InWindows};
+use bitvec_slice::BitSlice;
+use bitvec_store::BitStore;
 use crate::PieceWalk;
 use crate::parts::part_of;
-use bitvec_cutting::{
-    Cutting, ExactCutting, InChunks, InChunksFromEnd, InExactChunks, InExactChunksFromEnd,
-    InWindows,
-};
-use bitvec_slice::BitSlice;
-use bitvec_slice::base::BitOrder;
-use bitvec_slice::store::BitStore;
 use std::alloc::AllocError;
 use std::iter::FusedIterator;
 use std::ops::Range;

@@ -2,13 +2,13 @@
 ghost use Rattle.std.specs.Prelude.{Some, codes};
 ghost use Rattle.std.specs.Fmt.{WritesOnOk, debug_variant};
 ghost use Rattle.std.specs.List.{join_by};
-ghost use Rattle.bitvec_slice.specs.traits.Listing.{bits_text, comma, listed};
+ghost use Rattle.bitvec_domain.specs.Listing.{bits_text, comma, listed};
 
-use crate::Pieces;
+use bitvec_base::BitOrder;
 use bitvec_cutting::Cutting;
-use bitvec_slice::base::BitOrder;
-use bitvec_slice::store::BitStore;
-use bitvec_slice::traits::separator_before;
+use bitvec_domain::separator_before;
+use bitvec_store::BitStore;
+use crate::Pieces;
 use std::fmt;
 
 /// The pieces that are still to come, as `Pieces([[0, 1], [1]])`.
@@ -17,7 +17,7 @@ impl<'a, T: BitStore, O: BitOrder, C: Cutting> fmt::Debug for Pieces<'a, T, O, C
 
     ghost debug_output = { λ it. debug_variant (codes "Pieces") (Some (listed (λ piece. bits_text piece.bits) (pieces_left it))) };
 
-    #[tactic(auto, unfolding(bitvec_slice::specs::Cited::listed))]
+    #[tactic(auto, unfolding(bitvec_domain::specs::Listing::listed))]
     fn fmt<W: fmt::Write>(&self, f: &mut fmt::Formatter<W>) -> fmt::Result {
         f.write_str("Pieces")?;
         f.write_str("(")?;

@@ -2,10 +2,10 @@
 //! bits 3 up to 21 of three bytes is flipped; then every other bit is as before, in the elements before it and behind
 //! it too.
 
+use bitvec_base::Lsb0;
 use bitvec_edit::BitEdits;
-use bitvec_edit::base::Lsb0;
-use bitvec_edit::slice::BitSliceMut;
 use bitvec_iter::PieceCallsMut;
+use bitvec_slice::BitSliceMut;
 use bitvec_test_support::{MEMORIES, bits_of, flipped};
 
 /// Flips the bits behind the first 13.

@@ -1,8 +1,9 @@
 //! Walks over bits and pieces behind their end.
 
-use bitvec_iter::{Cutting, IterCalls, Pieces};
-use bitvec_query::base::Msb0;
-use bitvec_query::slice::BitSlice;
+use bitvec_base::Msb0;
+use bitvec_cutting::Cutting;
+use bitvec_iter::{IterCalls, Pieces};
+use bitvec_slice::BitSlice;
 use bitvec_test_support::stays_ended_at_both;
 
 /// Whether a walk gives nothing behind the greatest number, and it and another nothing at ten calls past their

@@ -1,7 +1,7 @@
 //! Single bits of a view that are lent.
-use bitvec_edit::base::Lsb0;
-use bitvec_edit::slice::BitSliceMut;
+use bitvec_base::Lsb0;
 use bitvec_iter::PieceCallsMut;
+use bitvec_slice::BitSliceMut;
 
 /// How many bits are left behind the first two and before the last, by each view of them.
 fn left_of(view: &mut BitSliceMut<'_, u8, Lsb0>) -> [usize; 3] {

@@ -1,8 +1,8 @@
 //! Chunks of a view that are lent, from both ends, and what no exact chunk has.
+use bitvec_base::{Lsb0, Msb0};
 use bitvec_edit::BitEdits;
-use bitvec_edit::base::{Lsb0, Msb0};
-use bitvec_edit::slice::BitSliceMut;
 use bitvec_iter::PieceCallsMut;
+use bitvec_slice::BitSliceMut;
 
 /// Sets the second of the two chunks of four bits.
 fn set_second(bytes: &mut [u8; 1]) {

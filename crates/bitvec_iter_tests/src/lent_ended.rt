@@ -1,9 +1,10 @@
 //! Walks that lend past their ends: nothing comes from there, nor from the other end. No clause says what a walk is once
 //! it was asked for what it lends, so a test alone shows that it stays ended.
 
-use bitvec_edit::base::Lsb0;
-use bitvec_edit::slice::BitSliceMut;
-use bitvec_iter::{Cutting, IterMut, PieceCallsMut, PiecesMut};
+use bitvec_base::Lsb0;
+use bitvec_cutting::Cutting;
+use bitvec_iter::{IterMut, PieceCallsMut, PiecesMut};
+use bitvec_slice::BitSliceMut;
 
 /// A call on a walk. `Nth` and `NthBack` pass as many pieces as a number counts.
 #[derive(Clone, Copy)]

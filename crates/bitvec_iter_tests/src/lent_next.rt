@@ -1,10 +1,10 @@
 //! Walks that lend from both ends by calls after which the walk is known: each piece that is lent is filled, and the
 //! bytes then have its bits.
 
+use bitvec_base::Lsb0;
 use bitvec_edit::BitEdits;
-use bitvec_edit::base::Lsb0;
-use bitvec_edit::slice::BitSliceMut;
 use bitvec_iter::PieceCallsMut;
+use bitvec_slice::BitSliceMut;
 
 /// Fills the first chunk of three bits and the last, and says how many are left.
 fn fill_ends(bytes: &mut [u8; 1]) -> usize {

@@ -2,12 +2,12 @@
 //! twelve are called for, some past the end: then the pieces, how often the predicate was asked, and the bytes
 //! are those of the plain list, whose ones stay.
 ghost use Rattle.std.specs.Prelude.{◌*◌, ◌≤◌, length};
-ghost use Rattle.bitvec_query.specs.base.Window.{max_bits};
+ghost use Rattle.bitvec_base.specs.Window.{max_bits};
 
-use bitvec_query::base::{BitOrder, Lsb0};
-use bitvec_query::slice::BitSliceMut;
-use bitvec_query::store::BitStore;
+use bitvec_base::{BitOrder, Lsb0};
+use bitvec_slice::BitSliceMut;
 use bitvec_split::SplitCallsMut;
+use bitvec_store::BitStore;
 use bitvec_test_support::MEMORIES;
 use std::process::Abort;
 

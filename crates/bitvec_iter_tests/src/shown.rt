@@ -1,8 +1,8 @@
 //! What is printed of walks, of lenders and of splits that lend: their name, and what is left.
 
+use bitvec_base::Lsb0;
 use bitvec_iter::{IterCalls, PieceCallsMut};
-use bitvec_query::base::Lsb0;
-use bitvec_query::slice::{BitSlice, BitSliceMut};
+use bitvec_slice::{BitSlice, BitSliceMut};
 use bitvec_split::SplitCallsMut;
 use bitvec_test_support::shows;
 use std::alloc::Global;

@@ -1,8 +1,8 @@
 //! The pieces of splits, from both ends, how many may come, and which bits the predicate is asked about.
 ghost use Rattle.std.specs.Iterator.{IsFinite};
 
-use bitvec_query::base::Lsb0;
-use bitvec_query::slice::{BitSlice, BitSliceMut};
+use bitvec_base::Lsb0;
+use bitvec_slice::{BitSlice, BitSliceMut};
 use bitvec_split::SplitCalls;
 use bitvec_test_support::shows;
 

@@ -1,11 +1,9 @@
 //! Splits past their ends: nothing comes from there, nor from the other end. No clause says what a split is once it was
 //! asked for what it lends, so a test alone shows that it stays ended.
 
-use bitvec_query::base::Lsb0;
-use bitvec_query::slice::{BitSlice, BitSliceMut};
-use bitvec_split::{
-    Forward, Inclusive, Reversed, SplitKind, Splits, SplitsMut, SplitsN, SplitsNMut,
-};
+use bitvec_base::Lsb0;
+use bitvec_slice::{BitSlice, BitSliceMut};
+use bitvec_split::{Forward, Inclusive, Reversed, SplitKind, Splits, SplitsMut, SplitsN, SplitsNMut};
 
 /// Says yes at ones.
 fn is_one(_index: usize, bit: &bool) -> bool {

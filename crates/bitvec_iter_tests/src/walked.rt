@@ -1,10 +1,10 @@
 //! Writable walks over the bits 3 up to 21 of three bytes, which go past the end: each call gives a piece while as
 //! many are left as it takes, and leaves the others. What is lent is set, and the bytes are compared at the end.
 
+use bitvec_base::Lsb0;
 use bitvec_edit::BitEdits;
-use bitvec_edit::base::Lsb0;
-use bitvec_edit::slice::BitSliceMut;
 use bitvec_iter::{ChunksMut, IterMut, PieceCallsMut};
+use bitvec_slice::BitSliceMut;
 use bitvec_test_support::MEMORIES;
 
 /// A call on a walk. `Nth` and `NthBack` pass one piece.

@@ -3,14 +3,14 @@ use Rattle.std.proofs.Common.{◌≡◌, ◌≢◌, ℕ, min, ◌+◌, ◌-◌, 
 use Rattle.std.proofs.lemmas.Bool.Decides.{nat_tests}
 use Rattle.std.proofs.lemmas.Nat.{div-add-mod', mod-mul-add}
 use Rattle.std.proofs.lemmas.List.{length-replicate}
-use Rattle.bitvec_words.specs.base.declared.part.Part.{Part}
-use Rattle.bitvec_words.specs.base.declared.window.Window.{Window}
-use Rattle.bitvec_words.specs.base.Memory.{HasWindow, list_in}
-use Rattle.bitvec_words.specs.base.Parts.{first_part_of, part_window}
-use Rattle.bitvec_words.specs.base.Window.{window_until}
-use Rattle.bitvec_words.specs.base.WritesLaws.{length-list, list-join}
-use Rattle.bitvec_words.specs.walk.Cost.{touched_count}
-use Rattle.bitvec_words.specs.walk.WalkLaws.{first-place}
+use Rattle.bitvec_base.specs.declared.part.Part.{Part}
+use Rattle.bitvec_base.specs.declared.window.Window.{Window}
+use Rattle.bitvec_base.specs.Memory.{HasWindow, list_in}
+use Rattle.bitvec_base.specs.Parts.{first_part_of, part_window}
+use Rattle.bitvec_base.specs.Window.{window_until}
+use Rattle.bitvec_base.specs.WritesLaws.{length-list, list-join}
+use Rattle.bitvec_cells.specs.Cost.{touched_count}
+use Rattle.bitvec_cells.specs.WalkLaws.{first-place}
 use Rattle.bitvec_words.specs.Elements.{elements_window, elements_window_from}
 use Rattle.bitvec_words.specs.ShortWindow.{padded}
 use Rattle.bitvec_words.specs.TouchedLaws.{apart_edge, head_edge, inside_element, touched-edge, touched-first, touched-inside, touched-after}

@@ -3,13 +3,13 @@ use Rattle.std.proofs.Common.{◌≡◌, ℕ, zero, suc, ◌+◌, ◌-◌, ◌*�
 use Rattle.std.proofs.lemmas.List.{same_lists, places, get_or-reverse, length-reverse, reverse-append}
 use Rattle.std.proofs.lemmas.Nat.{div-add-mod', div_below, mod_below}
 use Rattle.std.proofs.Math.Nat.{mul-add-div_right, mul-le-mul_left}
-use Rattle.bitvec_words.specs.base.declared.window.Window.{Window}
-use Rattle.bitvec_words.specs.base.Memory.{HasWindow, Writes, element_bits, list_in}
-use Rattle.bitvec_words.specs.base.MemoryLaws.{element_fits}
-use Rattle.bitvec_words.specs.base.Window.{max_bits, window_range}
-use Rattle.bitvec_words.specs.base.WritesLaws.{HasWindow-kept, Writes-holds, Writes-is, length-list, list-join, list-range}
-use Rattle.bitvec_words.specs.walk.Cost.{touched_count}
-use Rattle.bitvec_words.specs.walk.WalkLaws.{touched-some}
+use Rattle.bitvec_base.specs.declared.window.Window.{Window}
+use Rattle.bitvec_base.specs.Memory.{HasWindow, Writes, element_bits, list_in}
+use Rattle.bitvec_base.specs.MemoryLaws.{element_fits}
+use Rattle.bitvec_base.specs.Window.{max_bits, window_range}
+use Rattle.bitvec_base.specs.WritesLaws.{HasWindow-kept, Writes-holds, Writes-is, length-list, list-join, list-range}
+use Rattle.bitvec_cells.specs.Cost.{touched_count}
+use Rattle.bitvec_cells.specs.WalkLaws.{touched-some}
 use Rattle.bitvec_words.specs.Elements.{elements_window, elements_window_from}
 use Rattle.bitvec_words.specs.FieldLaws.{Writes-element, element_of, list-whole}
 use Rattle.bitvec_words.specs.WholeLaws.{list-same}

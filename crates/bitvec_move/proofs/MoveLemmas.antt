@@ -1,17 +1,17 @@
 -- What proofs of copies, moves and exchanges need of windows and costs, said by plain numbers.
 use Rattle.std.proofs.Common.{◌≡◌, ℕ, ◌+◌, ◌-◌, ◌*◌, ◌/◌, ◌%◌, ◌^◌, ◌<◌, ◌≤◌, true, List, length, arith, refl}
 use Rattle.std.proofs.lemmas.Nat.{div_below}
-use Rattle.bitvec_words.specs.base.declared.part.Part.{Part}
-use Rattle.bitvec_words.specs.base.declared.window.Window.{Window}
-use Rattle.bitvec_words.specs.base.Memory.{HasWindow}
-use Rattle.bitvec_words.specs.base.Parts.{first_part_of}
-use Rattle.bitvec_words.specs.base.Spans.{HasSpan}
-use Rattle.bitvec_words.specs.base.Window.{window_after}
-use Rattle.bitvec_words.specs.base.WritesLaws.{HasWindow-kept}
-use Rattle.bitvec_words.specs.store.Width.{IsWidth}
-use Rattle.bitvec_words.specs.store.WidthLaws.{width_some}
-use Rattle.bitvec_words.specs.walk.Cost.{read_loads, touched_count, write_stores}
-use Rattle.bitvec_words.specs.walk.CostLaws.{touched_read, touched_stored}
+use Rattle.bitvec_base.specs.declared.part.Part.{Part}
+use Rattle.bitvec_base.specs.declared.window.Window.{Window}
+use Rattle.bitvec_base.specs.Memory.{HasWindow}
+use Rattle.bitvec_base.specs.Parts.{first_part_of}
+use Rattle.bitvec_base.specs.Spans.{HasSpan}
+use Rattle.bitvec_base.specs.Window.{window_after}
+use Rattle.bitvec_base.specs.WritesLaws.{HasWindow-kept}
+use Rattle.bitvec_store.specs.Width.{IsWidth}
+use Rattle.bitvec_store.specs.WidthLaws.{width_some}
+use Rattle.bitvec_cells.specs.Cost.{read_loads, touched_count, write_stores}
+use Rattle.bitvec_cells.specs.CostLaws.{touched_read, touched_stored}
 use Rattle.bitvec_words.specs.TouchedLaws.{next-inside}
 use Rattle.bitvec_words.specs.WholeLaws.{HasWindow-part}
 use Rattle.bitvec_words.specs.WordLaws.{fits-word}

@@ -1,13 +1,13 @@
 -- A window reversed from both ends, a block at a time.
 use Rattle.std.proofs.Common.{◌≡◌, ℕ, ◌+◌, ◌-◌, ◌*◌, ◌/◌, ◌%◌, ◌<◌, ◌≤◌, true, Bool, List, length, reverse, slice_range, refl, arith, rules, ap, ◌∙◌}
 use Rattle.std.proofs.lemmas.List.{same_lists, places, get_or-reverse, length-reverse}
-use Rattle.bitvec_words.specs.base.declared.window.Window.{Window}
-use Rattle.bitvec_words.specs.base.Memory.{Edits, HasWindow, Writes, list_in}
-use Rattle.bitvec_words.specs.base.Window.{window_range, write_at}
-use Rattle.bitvec_words.specs.base.WritesLaws.{HasWindow-kept, Writes-is, Writes-next, Writes-range, length-list, list-range}
-use Rattle.bitvec_words.specs.store.Width.{IsWidth}
-use Rattle.bitvec_words.specs.store.WidthLaws.{at_each_width}
-use Rattle.bitvec_words.specs.walk.Cost.{work_steps}
+use Rattle.bitvec_base.specs.declared.window.Window.{Window}
+use Rattle.bitvec_base.specs.Memory.{Edits, HasWindow, Writes, list_in}
+use Rattle.bitvec_base.specs.Window.{window_range, write_at}
+use Rattle.bitvec_base.specs.WritesLaws.{HasWindow-kept, Writes-is, Writes-next, Writes-range, length-list, list-range}
+use Rattle.bitvec_store.specs.Width.{IsWidth}
+use Rattle.bitvec_store.specs.WidthLaws.{at_each_width}
+use Rattle.bitvec_cells.specs.Cost.{work_steps}
 use Rattle.bitvec_move.specs.Ends.{ends_exchanged}
 
 -- at first all values are as they were

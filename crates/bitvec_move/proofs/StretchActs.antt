@@ -2,11 +2,11 @@
 use Rattle.std.proofs.Common.{◌≡◌, ℕ, ◌+◌, ◌-◌, ◌*◌, ◌^◌, ◌≤◌, ◌<◌, ◌==◌, Bool, true, false, List, [], ◌++◌, length, drop, take, slice_index, refl, arith, sym, ◌∙◌}
 use Rattle.std.proofs.lemmas.Bool.Decides.{nat_tests}
 use Rattle.std.proofs.Math.Nat.{mul-le-mul_left, mul-mod_left}
-use Rattle.bitvec_words.specs.base.declared.window.Window.{Window}
-use Rattle.bitvec_words.specs.base.Memory.{HasWindow, element_bits, list_in}
-use Rattle.bitvec_words.specs.base.WritesLaws.{HasWindow-kept, length-list, list-join}
-use Rattle.bitvec_words.specs.store.Width.{IsWidth}
-use Rattle.bitvec_words.specs.store.WidthLaws.{width_some}
+use Rattle.bitvec_base.specs.declared.window.Window.{Window}
+use Rattle.bitvec_base.specs.Memory.{HasWindow, element_bits, list_in}
+use Rattle.bitvec_base.specs.WritesLaws.{HasWindow-kept, length-list, list-join}
+use Rattle.bitvec_store.specs.Width.{IsWidth}
+use Rattle.bitvec_store.specs.WidthLaws.{width_some}
 use Rattle.bitvec_words.specs.Elements.{elements_window, elements_window_from}
 use Rattle.bitvec_words.specs.FieldLaws.{element_of, list-both, list-whole}
 use Rattle.bitvec_words.specs.WholeLaws.{HasWindow-part, list-empty, list-same}

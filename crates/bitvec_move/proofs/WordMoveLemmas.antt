@@ -3,10 +3,10 @@ use Rattle.std.specs.Prelude.{◌≡◌, ℕ, ◌+◌, ◌-◌, ◌*◌, ◌<◌
 use Rattle.std.proofs.Common.{arith, rules, not, sym, ◌∙◌, ap}
 use Rattle.std.proofs.lemmas.List.{same_lists, places}
 use Rattle.std.proofs.lemmas.Bool.Decides.{nat_tests}
-use Rattle.bitvec_words.specs.base.Memory.{HasWindow, Writes, element_bits, list_in, memory_bits}
-use Rattle.bitvec_words.specs.base.MemoryLaws.{element-range, length-element_bits, length-memory_bits}
-use Rattle.bitvec_words.specs.base.Window.{window_of, write_at}
-use Rattle.bitvec_words.specs.base.WritesLaws.{length-list, list-behind, list-range}
+use Rattle.bitvec_base.specs.Memory.{HasWindow, Writes, element_bits, list_in, memory_bits}
+use Rattle.bitvec_base.specs.MemoryLaws.{element-range, length-element_bits, length-memory_bits}
+use Rattle.bitvec_base.specs.Window.{window_of, write_at}
+use Rattle.bitvec_base.specs.WritesLaws.{length-list, list-behind, list-range}
 use Rattle.bitvec_words.specs.Elements.{elements_window, elements_window_from}
 use Rattle.bitvec_words.specs.FieldLaws.{list-whole}
 use Rattle.bitvec_words.specs.WholeLaws.{HasWindow-part}

@@ -5,9 +5,9 @@ use Rattle.std.proofs.lemmas.Bool.{cases_lt}
 use Rattle.std.proofs.lemmas.Nat.{div-add-mod', mod-mul-add, mod_below}
 use Rattle.std.proofs.lemmas.List.{same_lists, places}
 use Rattle.std.proofs.Math.Nat.{div-mul-le_self, mul-le-mul_left}
-use Rattle.bitvec_words.specs.base.declared.window.Window.{Window}
-use Rattle.bitvec_words.specs.base.Window.{window_after, write_at}
-use Rattle.bitvec_words.specs.base.WritesLaws.{HasWindow-kept}
+use Rattle.bitvec_base.specs.declared.window.Window.{Window}
+use Rattle.bitvec_base.specs.Window.{window_after, write_at}
+use Rattle.bitvec_base.specs.WritesLaws.{HasWindow-kept}
 use Rattle.bitvec_words.specs.ShortWindow.{padded}
 use Rattle.bitvec_words.specs.TouchedLaws.{head_edge}
 use Rattle.bitvec_words.specs.WholeLaws.{HasWindow-part}

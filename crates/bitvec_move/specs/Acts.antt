@@ -1,11 +1,11 @@
 -- What an act needs of two windows, and what one that copies leaves.
 use Rattle.std.specs.Prelude.{◌≡◌, ℕ, ◌+◌, ◌-◌, ◌/◌, ◌%◌, ◌==◌, ◌<◌, ◌≤◌, min, Bool, false, if◌then◌else◌, List, slice_index}
-use Rattle.bitvec_words.specs.base.declared.window.Window.{Window}
-use Rattle.bitvec_words.specs.base.Memory.{HasWindow, Writes, list_in}
-use Rattle.bitvec_words.specs.base.Spans.{HasSpan}
-use Rattle.bitvec_words.specs.cells.Access.{CostsAtMost, OnlyReads}
-use Rattle.bitvec_words.specs.cells.declared.cells.CellsRead.{Ghosts as Access}
-use Rattle.bitvec_words.specs.walk.Cost.{touched_count}
+use Rattle.bitvec_base.specs.declared.window.Window.{Window}
+use Rattle.bitvec_base.specs.Memory.{HasWindow, Writes, list_in}
+use Rattle.bitvec_base.specs.Spans.{HasSpan}
+use Rattle.bitvec_cells.specs.Access.{CostsAtMost, OnlyReads}
+use Rattle.bitvec_cells.specs.declared.cells.CellsRead.{Ghosts as Access}
+use Rattle.bitvec_cells.specs.Cost.{touched_count}
 use Rattle.bitvec_words.specs.Elements.{elements_window, elements_window_from}
 use Rattle.bitvec_words.specs.ShortWindow.{padded}
 use Rattle.bitvec_move.specs.declared.stretch.Stretch.{Stretch}

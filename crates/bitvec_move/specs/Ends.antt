@@ -1,8 +1,8 @@
 -- The two ends of a list, and blocks of bits at them.
 use Rattle.std.specs.Prelude.{◌≡◌, ℕ, ◌+◌, ◌-◌, ◌*◌, ◌%◌, ◌<◌, ◌≤◌, List, length, reverse, slice_range}
-use Rattle.bitvec_words.specs.base.declared.window.Window.{Window}
-use Rattle.bitvec_words.specs.base.Memory.{HasWindow, list_in}
-use Rattle.bitvec_words.specs.base.Window.{max_bits, write_at}
+use Rattle.bitvec_base.specs.declared.window.Window.{Window}
+use Rattle.bitvec_base.specs.Memory.{HasWindow, list_in}
+use Rattle.bitvec_base.specs.Window.{max_bits, write_at}
 
 -- the k values of a list from `low` on and those before `high` exchanged, each in the opposite order
 unfoldable pub ends_exchanged : {X : Type 0} → ℕ → ℕ → ℕ → List X → List X

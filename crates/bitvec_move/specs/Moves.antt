@@ -1,10 +1,10 @@
 -- What copies and exchanges need of their windows, and what they leave.
 use Rattle.std.specs.Prelude.{◌≡◌, ℕ, ◌+◌, ◌-◌, ◌<◌, ◌≤◌, ◌/◌, ◌%◌, ◌==◌, nat_le, Bool, true, false, if◌then◌else◌, List, slice_set}
-use Rattle.bitvec_words.specs.base.declared.part.Part.{Part}
-use Rattle.bitvec_words.specs.base.declared.window.Window.{Window}
-use Rattle.bitvec_words.specs.base.Memory.{HasWindow, Writes, list_in}
-use Rattle.bitvec_words.specs.base.Parts.{HasPart}
-use Rattle.bitvec_words.specs.base.Spans.{HasSpan}
+use Rattle.bitvec_base.specs.declared.part.Part.{Part}
+use Rattle.bitvec_base.specs.declared.window.Window.{Window}
+use Rattle.bitvec_base.specs.Memory.{HasWindow, Writes, list_in}
+use Rattle.bitvec_base.specs.Parts.{HasPart}
+use Rattle.bitvec_base.specs.Spans.{HasSpan}
 use Rattle.bitvec_words.specs.Elements.{elements_window, elements_window_from}
 use Rattle.bitvec_move.specs.declared.stretch.Stretch.{Stretch}
 

@@ -2,21 +2,21 @@
 use Rattle.std.proofs.Common.{◌≡◌, ◌≢◌, ℕ, ◌+◌, ◌-◌, ◌*◌, ◌/◌, ◌%◌, ◌^◌, ◌<◌, ◌≤◌, min, List, length, refl, arith}
 use Rattle.std.proofs.Math.Nat.{mul-le-mul_left}
 use Rattle.std.proofs.lemmas.Nat.{div-add-mod', mod_below}
-use Rattle.bitvec_words.specs.base.declared.part.Part.{Part}
-use Rattle.bitvec_words.specs.base.declared.window.Window.{Window}
-use Rattle.bitvec_words.specs.base.Memory.{HasWindow}
-use Rattle.bitvec_words.specs.base.Parts.{HasPart, first_part_of, tail_part_of}
-use Rattle.bitvec_words.specs.base.Spans.{HasSpan}
-use Rattle.bitvec_words.specs.base.Window.{window_after}
-use Rattle.bitvec_words.specs.store.Width.{IsWidth}
-use Rattle.bitvec_words.specs.store.WidthLaws.{width_some}
-use Rattle.bitvec_words.specs.walk.WalkLaws.{Walked-start}
+use Rattle.bitvec_base.specs.declared.part.Part.{Part}
+use Rattle.bitvec_base.specs.declared.window.Window.{Window}
+use Rattle.bitvec_base.specs.Memory.{HasWindow}
+use Rattle.bitvec_base.specs.Parts.{HasPart, first_part_of, tail_part_of}
+use Rattle.bitvec_base.specs.Spans.{HasSpan}
+use Rattle.bitvec_base.specs.Window.{window_after}
+use Rattle.bitvec_store.specs.Width.{IsWidth}
+use Rattle.bitvec_store.specs.WidthLaws.{width_some}
+use Rattle.bitvec_cells.specs.WalkLaws.{Walked-start}
 use Rattle.bitvec_words.specs.Elements.{elements_window, elements_window_from}
 use Rattle.bitvec_words.specs.FieldLaws.{element_of}
 use Rattle.bitvec_words.specs.PartWalkLaws.{HasPart-first}
 use Rattle.bitvec_words.specs.TouchedLaws.{head_edge}
 use Rattle.bitvec_move.specs.Moves.{HasPartSpan}
-pub use Rattle.bitvec_words.specs.WordLaws.{fits-word, inside, inside-word, width-some}
+use Rattle.bitvec_words.specs.WordLaws.{fits-word, inside, inside-word, width-some}
 
 pub head-part : (b w : ℕ) (xs : List ℕ) (window : Window) (part : Part) → IsWidth b → w ≡ b → part ≡ first_part_of w window → 0 < window.len → HasWindow b xs window
     → HasPart b xs part

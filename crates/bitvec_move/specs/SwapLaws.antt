@@ -4,15 +4,15 @@ use Rattle.std.proofs.Common.{arith, sym, ◌∙◌, ap}
 use Rattle.std.proofs.Math.Nat.{mul-le-mul_left}
 use Rattle.std.proofs.lemmas.List.{length-set}
 use Rattle.std.proofs.lemmas.Nat.{div-add-mod'}
-use Rattle.bitvec_words.specs.base.declared.part.Part.{Part}
-use Rattle.bitvec_words.specs.base.declared.window.Window.{Window}
-use Rattle.bitvec_words.specs.base.Memory.{HasWindow, Writes, element_bits, list_in}
-use Rattle.bitvec_words.specs.base.MemoryLaws.{length-element_bits, set-element}
-use Rattle.bitvec_words.specs.base.Parts.{HasPart, first_part_of, part_window}
-use Rattle.bitvec_words.specs.base.SliceLaws.{range-same}
-use Rattle.bitvec_words.specs.base.Window.{window_after, window_until, write_at}
-use Rattle.bitvec_words.specs.base.WritesLaws.{Writes-is, Writes-join, list-behind, list-join}
-use Rattle.bitvec_words.specs.walk.WalkLaws.{first-len}
+use Rattle.bitvec_base.specs.declared.part.Part.{Part}
+use Rattle.bitvec_base.specs.declared.window.Window.{Window}
+use Rattle.bitvec_base.specs.Memory.{HasWindow, Writes, element_bits, list_in}
+use Rattle.bitvec_base.specs.MemoryLaws.{length-element_bits, set-element}
+use Rattle.bitvec_base.specs.Parts.{HasPart, first_part_of, part_window}
+use Rattle.bitvec_base.specs.SliceLaws.{range-same}
+use Rattle.bitvec_base.specs.Window.{window_after, window_until, write_at}
+use Rattle.bitvec_base.specs.WritesLaws.{Writes-is, Writes-join, list-behind, list-join}
+use Rattle.bitvec_cells.specs.WalkLaws.{first-len}
 use Rattle.bitvec_words.specs.Elements.{elements_window, elements_window_from}
 use Rattle.bitvec_words.specs.FieldLaws.{element_of, list-part, list-whole, part-stored}
 use Rattle.bitvec_words.specs.WholeLaws.{HasWindow-part}

@@ -4,13 +4,13 @@ use Rattle.std.proofs.Common.{arith, rules, sym, ◌∙◌, ap, length-take, len
 use Rattle.std.proofs.Math.Nat.{mul-le-mul_left}
 use Rattle.std.proofs.lemmas.List.{same_lists, places, take-append-drop, length-set, set-get_or, set-set, get_or-set_same, get_or-set_other}
 use Rattle.std.proofs.lemmas.Nat.{div-add-mod', div-mul-add, mod_below}
-use Rattle.bitvec_words.specs.base.declared.window.Window.{Window}
-use Rattle.bitvec_words.specs.base.Lists.{shifted_end, shifted_start}
-use Rattle.bitvec_words.specs.base.Memory.{HasWindow, Writes, element_bits, list_in}
-use Rattle.bitvec_words.specs.base.MemoryLaws.{element_fits, length-element_bits}
-use Rattle.bitvec_words.specs.base.PartLaws.{length-part, part-write}
-use Rattle.bitvec_words.specs.base.Window.{write_at}
-use Rattle.bitvec_words.specs.base.WritesLaws.{HasWindow-kept, Writes-is, Writes-join}
+use Rattle.bitvec_base.specs.declared.window.Window.{Window}
+use Rattle.bitvec_base.specs.Lists.{shifted_end, shifted_start}
+use Rattle.bitvec_base.specs.Memory.{HasWindow, Writes, element_bits, list_in}
+use Rattle.bitvec_base.specs.MemoryLaws.{element_fits, length-element_bits}
+use Rattle.bitvec_base.specs.PartLaws.{length-part, part-write}
+use Rattle.bitvec_base.specs.Window.{write_at}
+use Rattle.bitvec_base.specs.WritesLaws.{HasWindow-kept, Writes-is, Writes-join}
 use Rattle.bitvec_words.specs.Elements.{elements_window, elements_window_from}
 use Rattle.bitvec_words.specs.FieldLaws.{Writes-none, element_of, list-across, list-both, list-front, list-whole}
 use Rattle.bitvec_words.specs.TouchedLaws.{last-first, last-next, next-inside}

@@ -6,17 +6,17 @@ use Rattle.std.proofs.lemmas.Bool.Decides.{nat_tests}
 use Rattle.std.proofs.lemmas.List.{same_lists, places, get_or_past, length-set}
 use Rattle.std.proofs.lemmas.Nat.{div-add-mod'}
 use Rattle.std.proofs.Math.Nat.{mul-le-mul_left, mul-le-mul_right}
-use Rattle.bitvec_words.specs.base.declared.window.Window.{Window}
-use Rattle.bitvec_words.specs.base.Memory.{HasWindow, Writes, element_bits, list_in, memory_bits}
-use Rattle.bitvec_words.specs.base.MemoryLaws.{element_fits, length-element_bits, set-element}
-use Rattle.bitvec_words.specs.base.Spans.{HasSpan}
-use Rattle.bitvec_words.specs.base.Parts.{first_part_of, part_window}
-use Rattle.bitvec_words.specs.base.Window.{window_after, window_of, window_until, write_at}
-use Rattle.bitvec_words.specs.base.WriteLaws.{range-write_at_before, write_at-nil}
-use Rattle.bitvec_words.specs.base.WritesLaws.{Writes-is, Writes-join, list-behind, list-join, within-list}
-use Rattle.bitvec_words.specs.walk.Cost.{edit_loads, read_loads, step_span, touched_count, work_steps, write_loads, write_stores}
-use Rattle.bitvec_words.specs.walk.WalkLaws.{touched-none, touched-some}
-use Rattle.bitvec_words.specs.walk.CostLaws.{div-sum, touched_stored}
+use Rattle.bitvec_base.specs.declared.window.Window.{Window}
+use Rattle.bitvec_base.specs.Memory.{HasWindow, Writes, element_bits, list_in, memory_bits}
+use Rattle.bitvec_base.specs.MemoryLaws.{element_fits, length-element_bits, set-element}
+use Rattle.bitvec_base.specs.Spans.{HasSpan}
+use Rattle.bitvec_base.specs.Parts.{first_part_of, part_window}
+use Rattle.bitvec_base.specs.Window.{window_after, window_of, window_until, write_at}
+use Rattle.bitvec_base.specs.WriteLaws.{range-write_at_before, write_at-nil}
+use Rattle.bitvec_base.specs.WritesLaws.{Writes-is, Writes-join, list-behind, list-join, within-list}
+use Rattle.bitvec_cells.specs.Cost.{edit_loads, read_loads, step_span, touched_count, work_steps, write_loads, write_stores}
+use Rattle.bitvec_cells.specs.WalkLaws.{touched-none, touched-some}
+use Rattle.bitvec_cells.specs.CostLaws.{div-sum, touched_stored}
 use Rattle.bitvec_words.specs.Elements.{elements_window, elements_window_from}
 use Rattle.bitvec_words.specs.FieldLaws.{Writes-none, element_of, list-both, list-whole}
 use Rattle.bitvec_words.specs.TouchedLaws.{head_edge, touched-after, touched-edge, touched-first, touched-inside}

@@ -1,16 +1,16 @@
 -- Words of 64 bits of a memory of elements of b bits.
-pub use Rattle.bitvec_words.specs.WordLaws.{padded-all, take-all, word_whole}
+use Rattle.bitvec_words.specs.WordLaws.{padded-all, take-all, word_whole}
 use Rattle.std.specs.Prelude.{◌≡◌, ℕ, ◌+◌, ◌-◌, ◌*◌, ◌/◌, ◌%◌, ◌<◌, ◌≤◌, Bool, false, List, ◌++◌, length, take, drop, replicate, slice_index, slice_range}
 use Rattle.std.proofs.Common.{arith, rules, sym, ◌∙◌, ap}
 use Rattle.std.proofs.lemmas.List.{same_lists, places}
 use Rattle.std.proofs.lemmas.Nat.{div-add-mod'}
-use Rattle.bitvec_words.specs.base.declared.window.Window.{Window}
-use Rattle.bitvec_words.specs.base.Memory.{HasWindow, Writes, element_bits, list_in, memory_bits}
-use Rattle.bitvec_words.specs.base.MemoryLaws.{element-range, length-memory_bits}
-use Rattle.bitvec_words.specs.base.Window.{window_of, write_at}
-use Rattle.bitvec_words.specs.base.WindowLaws.{part-written}
-use Rattle.bitvec_words.specs.base.WritesLaws.{Writes-is, length-list, within-list}
-use Rattle.bitvec_words.specs.store.Width.{IsWidth}
+use Rattle.bitvec_base.specs.declared.window.Window.{Window}
+use Rattle.bitvec_base.specs.Memory.{HasWindow, Writes, element_bits, list_in, memory_bits}
+use Rattle.bitvec_base.specs.MemoryLaws.{element-range, length-memory_bits}
+use Rattle.bitvec_base.specs.Window.{window_of, write_at}
+use Rattle.bitvec_base.specs.WindowLaws.{part-written}
+use Rattle.bitvec_base.specs.WritesLaws.{Writes-is, length-list, within-list}
+use Rattle.bitvec_store.specs.Width.{IsWidth}
 use Rattle.bitvec_words.specs.Elements.{elements_window}
 use Rattle.bitvec_words.specs.FieldLaws.{element_of}
 

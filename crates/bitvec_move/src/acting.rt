@@ -1,12 +1,12 @@
 //! What is done with the elements of a window, given the bits at their indices of another window.
 ghost use Rattle.std.specs.Prelude.{◌≡◌, ◌/◌, ℕ, ◌+◌, ◌*◌, ◌<◌, ◌≤◌, List, Bool, true, [], ◌++◌, length, slice_range};
-ghost use Rattle.bitvec_words.specs.base.declared.window.Window.{Window as Bits};
-ghost use Rattle.bitvec_words.specs.base.Memory.{HasWindow, element_bits};
-ghost use Rattle.bitvec_words.specs.base.Parts.{HasPart, part_window};
+ghost use Rattle.bitvec_base.specs.declared.window.Window.{Window as Bits};
+ghost use Rattle.bitvec_base.specs.Memory.{HasWindow, element_bits};
+ghost use Rattle.bitvec_base.specs.Parts.{HasPart, part_window};
 ghost use Rattle.bitvec_move.specs.Acts.{IsCut};
 
-use bitvec_words::base::{BitOrder, Part};
-use bitvec_words::cells::CellsRead;
+use bitvec_base::{BitOrder, Part};
+use bitvec_cells::CellsRead;
 
 /// An act on the elements of a window, from the first one on.
 pub trait Act<C: CellsRead>: Copy + Drop {

@@ -1,12 +1,12 @@
 //! Elements as they are, for windows that begin at the same index of an element.
 ghost use Rattle.std.specs.Prelude.{true};
 
+use bitvec_base::{BitOrder, Window};
+use bitvec_cells::CellsRead;
+use bitvec_store::BitStore;
 use crate::acting::Act;
 use crate::phases::Phases;
 use crate::stretch::Stretch;
-use bitvec_words::base::{BitOrder, Window};
-use bitvec_words::cells::CellsRead;
-use bitvec_words::store::BitStore;
 
 /// Both windows begin at the same index of an element: each element is taken as it is.
 pub struct Equal {}

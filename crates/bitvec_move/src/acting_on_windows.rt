@@ -1,22 +1,22 @@
 //! An act on a window, given another one: on the bits before the first edge of an element, on whole elements, and on the
 //! bits behind them.
 ghost use Rattle.std.specs.Prelude.{◌≡◌, ◌+◌, ◌-◌, ◌/◌, ◌%◌, ◌==◌, ◌≤◌, false, slice_range};
-ghost use Rattle.bitvec_words.specs.base.Memory.{element_bits, list_in};
-ghost use Rattle.bitvec_words.specs.base.Parts.{HasPart, part_window};
-ghost use Rattle.bitvec_words.specs.cells.Access.{OnlyReads, OnlyReadsAtMost};
-ghost use Rattle.bitvec_words.specs.walk.Cost.{touched_count};
+ghost use Rattle.bitvec_base.specs.Memory.{element_bits, list_in};
+ghost use Rattle.bitvec_base.specs.Parts.{HasPart, part_window};
+ghost use Rattle.bitvec_cells.specs.Access.{OnlyReads, OnlyReadsAtMost};
+ghost use Rattle.bitvec_cells.specs.Cost.{touched_count};
 ghost use Rattle.bitvec_words.specs.ShortWindow.{padded};
 ghost use Rattle.bitvec_move.specs.Acts.{HasBeside, HasMet, HasStretch, IsCarried, bits_beside, held, stretch_source, stretch_window};
 
+use bitvec_base::{BitOrder, Part, Window, first_part};
+use bitvec_cells::CellsRead;
+use bitvec_store::BitStore;
+use bitvec_words::{WordOrder, merged};
 use crate::acting::{Act, spans_in};
 use crate::acting_equal::Equal;
 use crate::acting_shifted::Shifted;
 use crate::phases::Phases;
 use crate::stretch::Stretch;
-use bitvec_words::base::{BitOrder, Part, Window, first_part};
-use bitvec_words::cells::CellsRead;
-use bitvec_words::store::BitStore;
-use bitvec_words::{WordOrder, merged};
 
 /// Acts on a window, given one with its first bit at any index of an element. Condition: each memory has at most
 /// `MAX_BITS` bits, each window lies in its memory, and the right one isn't empty. It ends where the left one does, or

@@ -1,20 +1,20 @@
 //! Bits copied from one window to another.
 ghost use Rattle.std.specs.Prelude.{◌≡◌, ◌%◌, ◌<◌, true, false};
 ghost use Rattle.std.proofs.Common.{rules};
-ghost use Rattle.bitvec_words.specs.base.Spans.{HasSpan};
-ghost use Rattle.bitvec_words.specs.cells.Access.{CostsAtMost, OnlyReadsAtMost};
-ghost use Rattle.bitvec_words.specs.walk.Cost.{read_loads, touched_count, write_loads, write_stores};
+ghost use Rattle.bitvec_base.specs.Spans.{HasSpan};
+ghost use Rattle.bitvec_cells.specs.Access.{CostsAtMost, OnlyReadsAtMost};
+ghost use Rattle.bitvec_cells.specs.Cost.{read_loads, touched_count, write_loads, write_stores};
 ghost use Rattle.bitvec_move.specs.Acts.{PutsBits};
 ghost use Rattle.bitvec_move.specs.Moves.{Copies};
 ghost use Rattle.bitvec_move.specs.PutLaws.{Puts-join, Puts-none};
 
+use bitvec_base::{BitOrder, Part, Window};
+use bitvec_cells::{Cells, CellsRead};
+use bitvec_store::BitStore;
+use bitvec_words::{WordOrder, store_part};
 use crate::acting::Act;
 use crate::acting_equal::Equal;
 use crate::acting_on_windows::{act, act_phased};
-use bitvec_words::base::{BitOrder, Part, Window};
-use bitvec_words::cells::{Cells, CellsRead};
-use bitvec_words::store::BitStore;
-use bitvec_words::{WordOrder, store_part};
 
 /// The act that puts the other bits in the place of the window's.
 #[derive(Clone, Copy)]
@@ -55,7 +55,7 @@ impl<C: Cells> Act<C> for Put {
 /// at most `MAX_BITS` bits, each window lies in its memory, and the windows are as long. On the left
 /// it stores each element that the window touches once, and loads at most the first and the last;
 /// on the right it loads each element that the window touches once.
-#[tactic(auto, using(crate::specs::Cited::in_steps, crate::specs::Cited::width_some))]
+#[tactic(auto, using(bitvec_cells::specs::CostLaws::in_steps, bitvec_store::specs::WidthLaws::width_some))]
 #[inline(always)]
 pub fn copy<O: WordOrder, C: Cells, D: CellsRead<Elem = C::Elem>>(
     left: &mut C,

@@ -3,17 +3,17 @@
 //! the accessor, since a loop that has only a reference to it reads the slice's address again after
 //! each store.
 ghost use Rattle.std.specs.Prelude.{◌-◌, true};
-ghost use Rattle.bitvec_words.specs.base.Lists.{FitsWithin, copied_within};
-ghost use Rattle.bitvec_words.specs.base.Memory.{Edits, HasWindow};
-ghost use Rattle.bitvec_words.specs.base.Spans.{HasSpan};
-ghost use Rattle.bitvec_words.specs.cells.Access.{CostsAtMost};
-ghost use Rattle.bitvec_words.specs.walk.Cost.{edit_loads, write_stores};
+ghost use Rattle.bitvec_base.specs.Lists.{FitsWithin, copied_within};
+ghost use Rattle.bitvec_base.specs.Memory.{Edits, HasWindow};
+ghost use Rattle.bitvec_base.specs.Spans.{HasSpan};
+ghost use Rattle.bitvec_cells.specs.Access.{CostsAtMost};
+ghost use Rattle.bitvec_cells.specs.Cost.{edit_loads, write_stores};
 ghost use Rattle.bitvec_move.specs.Moves.{Copies};
 
-use crate::moving::move_to;
-use bitvec_words::base::Window;
-use bitvec_words::cells::Cells;
+use bitvec_base::Window;
+use bitvec_cells::Cells;
 use bitvec_words::{WORD_BITS, WordOrder, load_parts, store_parts};
+use crate::moving::move_to;
 
 /// Copies the bits `from..to` of a window to `dest` on, also where they overlap; all other bits of
 /// the memory stay. Condition: the memory has at most `MAX_BITS` bits, the window lies in it,

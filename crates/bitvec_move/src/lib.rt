@@ -36,21 +36,10 @@ mod swapping;
 mod swapping_equal;
 mod swapping_shifted;
 
-/// Items of `bitvec_words` that crates above use.
-pub mod words {
-    pub use bitvec_words::{
-        BitOp, WORD_BITS, WordOrder, bits_load_front, bits_lowest_first, bits_scan_first,
-        bits_scan_last, count, count_zeros, fill, gathered, invert, joined, load_element,
-        load_element_after, load_elements, load_parts, merged, moved, reversed, store_elements,
-        store_part, store_parts, toward_end, toward_start, words_load_front, words_scan_first,
-    };
-}
-
 pub use acting::Act;
 pub use acting_equal::Equal;
 pub use acting_on_windows::{act, act_phased};
 pub use acting_shifted::Shifted;
-pub use bitvec_words::{base, cells, store, walk};
 pub use copying::{copy, copy_equal};
 pub use copying_within::copy_within;
 pub use phases::Phases;

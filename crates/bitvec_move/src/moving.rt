@@ -2,20 +2,20 @@
 //! is written over before it is read: the last ones first where `LATER`, which says that the place
 //! begins no earlier, else the first ones first, and it begins no later.
 ghost use Rattle.std.specs.Prelude.{if◌then◌else◌, ◌≡◌, ◌+◌, ◌*◌, ◌%◌, ◌<◌, ◌≤◌, slice_index, take};
-ghost use Rattle.bitvec_words.specs.base.Memory.{HasWindow, Writes, element_bits, list_in};
-ghost use Rattle.bitvec_words.specs.base.Spans.{HasSpan};
-ghost use Rattle.bitvec_words.specs.cells.Access.{Costs, CostsAtMost, OnlyReads};
-ghost use Rattle.bitvec_words.specs.walk.Cost.{touched_count};
+ghost use Rattle.bitvec_base.specs.Memory.{HasWindow, Writes, element_bits, list_in};
+ghost use Rattle.bitvec_base.specs.Spans.{HasSpan};
+ghost use Rattle.bitvec_cells.specs.Access.{Costs, CostsAtMost, OnlyReads};
+ghost use Rattle.bitvec_cells.specs.Cost.{touched_count};
 ghost use Rattle.bitvec_words.specs.Elements.{elements_window, elements_window_from};
 ghost use Rattle.bitvec_move.specs.Moves.{Copies, CopiesElements, HasSkippedElements, IsToward, late_words, nth_place, waiting_place};
 
+use bitvec_base::{BitOrder, Window, first_part};
+use bitvec_cells::{Cells, CellsRead};
+use bitvec_store::BitStore;
+use bitvec_words::{Carried, Lanes, Whole, WordOrder, load_element, store_part, toward_end};
 use crate::moving_words::{goes_by_words, shift_words};
 use crate::stretch::Stretch;
 use crate::{MANY_BITS, at_known_skip};
-use bitvec_words::base::{BitOrder, Window, first_part};
-use bitvec_words::cells::{Cells, CellsRead};
-use bitvec_words::store::BitStore;
-use bitvec_words::{Carried, Lanes, Whole, WordOrder, load_element, store_part, toward_end};
 
 /// Moves the bits of a window to another of the same length. Condition: both lie in the memory, and
 /// aren't empty. The bits at both edges are loaded before the whole elements between them are moved,

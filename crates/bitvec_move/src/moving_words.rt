@@ -2,16 +2,16 @@
 //! what no whole number of words covers: it ends or begins where they do, and so overlaps another. It is loaded
 //! before any word is stored, and stored last. The last words go first where `LATER`.
 ghost use Rattle.std.specs.Prelude.{◌≡◌, ◌+◌, ◌<◌, ◌≤◌, ◌↔◌, IsTrue, slice_range};
-ghost use Rattle.bitvec_words.specs.base.Memory.{HasWindow, element_bits, list_in};
-ghost use Rattle.bitvec_words.specs.cells.Access.{CostsAtMost, OnlyReads};
+ghost use Rattle.bitvec_base.specs.Memory.{HasWindow, element_bits, list_in};
+ghost use Rattle.bitvec_cells.specs.Access.{CostsAtMost, OnlyReads};
 ghost use Rattle.bitvec_words.specs.Elements.{elements_window_from};
 ghost use Rattle.bitvec_move.specs.Moves.{CopiesElements, HasSkippedElements, IsToward};
 
+use bitvec_cells::{Cells, CellsRead};
+use bitvec_store::BitStore;
+use bitvec_words::{WORD_BITS, WordOrder, joined, load_elements, moved, store_elements};
 use crate::moving::{in_order, read_place};
 use crate::stretch::Stretch;
-use bitvec_words::cells::{Cells, CellsRead};
-use bitvec_words::store::BitStore;
-use bitvec_words::{WORD_BITS, WordOrder, joined, load_elements, moved, store_elements};
 
 /// Whether so many bytes are moved by words: if they are many, but not very many, since those are moved faster by the
 /// loop for their shift.

@@ -1,14 +1,14 @@
 //! At which indices of their elements two windows begin.
 ghost use Rattle.std.specs.Prelude.{◌≡◌, ◌+◌, ◌-◌, ◌/◌, ◌<◌, Bool, length, slice_range};
-ghost use Rattle.bitvec_words.specs.base.Memory.{element_bits, list_in};
-ghost use Rattle.bitvec_words.specs.cells.Access.{OnlyReads};
-ghost use Rattle.bitvec_words.specs.walk.Cost.{touched_count};
+ghost use Rattle.bitvec_base.specs.Memory.{element_bits, list_in};
+ghost use Rattle.bitvec_cells.specs.Access.{OnlyReads};
+ghost use Rattle.bitvec_cells.specs.Cost.{touched_count};
 ghost use Rattle.bitvec_move.specs.Acts.{ActsOnStretch, HasBeside, HasStretch, IsCarried, held};
 
+use bitvec_base::{BitOrder, Window};
+use bitvec_cells::CellsRead;
 use crate::acting::Act;
 use crate::stretch::Stretch;
-use bitvec_words::base::{BitOrder, Window};
-use bitvec_words::cells::CellsRead;
 
 /// How bits of a right memory come to the indices of a left one's. An element that was loaded for the bits before may be
 /// needed for the next ones too; then it is carried to them.

@@ -1,18 +1,18 @@
 //! The bits of a window in the opposite order, by blocks from both ends: the elements of each are loaded into an
 //! array in the opposite order, and copied from it to the other end.
 ghost use Rattle.std.specs.Prelude.{◌≡◌, ◌+◌, ◌-◌, ◌*◌, ◌%◌, ◌<◌, length, map, reverse as reversal, true};
-ghost use Rattle.bitvec_words.specs.base.Memory.{Edits, HasWindow, list_in};
-ghost use Rattle.bitvec_words.specs.cells.Access.{CostsAtMost, OnlyReads};
-ghost use Rattle.bitvec_words.specs.walk.Cost.{reverse_loads, reverse_stores, step_span, touched_count, work_steps};
+ghost use Rattle.bitvec_base.specs.Memory.{Edits, HasWindow, list_in};
+ghost use Rattle.bitvec_cells.specs.Access.{CostsAtMost, OnlyReads};
+ghost use Rattle.bitvec_cells.specs.Cost.{reverse_loads, reverse_stores, step_span, touched_count, work_steps};
 ghost use Rattle.bitvec_move.specs.Ends.{HasEnds, HoldsBeside, IsAmid, IsBlock, Mirrors, ends_exchanged};
 
+use bitvec_base::Window;
+use bitvec_cells::{Cells, CellsRead, Exclusive, Shared};
+use bitvec_store::BitStore;
+use bitvec_words::{WordOrder, reversed};
 use crate::copying::copy_equal;
 use crate::moving::move_elements;
 use crate::stretch::Stretch;
-use bitvec_words::base::Window;
-use bitvec_words::cells::{Cells, CellsRead, Exclusive, Shared};
-use bitvec_words::store::BitStore;
-use bitvec_words::{WordOrder, reversed};
 
 /// Reverses the bits of a window; all other bits of the memory stay. Condition: the memory has at
 /// most `MAX_BITS` bits, and the window lies in it.

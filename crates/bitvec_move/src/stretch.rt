@@ -3,7 +3,7 @@ ghost use Rattle.std.specs.Prelude.{◌≡◌, ◌+◌, ◌^◌, ◌<◌};
 ghost use Rattle.bitvec_move.specs.Acts.{stretch_part};
 ghost use Rattle.bitvec_move.specs.Moves.{stretch_of};
 
-use bitvec_words::base::Window;
+use bitvec_base::Window;
 
 /// As many bits of two memories as `count` elements have: whole elements from `first` on in the one, and bits from the
 /// index `skip` of the element `source` on in the other, which may be the same one.

@@ -1,16 +1,16 @@
 //! The bits of two windows of one element width and order, exchanged.
 ghost use Rattle.std.specs.Prelude.{true};
-ghost use Rattle.bitvec_words.specs.base.Spans.{HasSpan};
-ghost use Rattle.bitvec_words.specs.cells.Access.{CostsAtMost};
-ghost use Rattle.bitvec_words.specs.walk.Cost.{edit_loads, write_stores};
+ghost use Rattle.bitvec_base.specs.Spans.{HasSpan};
+ghost use Rattle.bitvec_cells.specs.Access.{CostsAtMost};
+ghost use Rattle.bitvec_cells.specs.Cost.{edit_loads, write_stores};
 ghost use Rattle.bitvec_move.specs.Moves.{Swaps};
 
+use bitvec_base::{BitOrder, Window};
+use bitvec_cells::{Cells, CellsRead};
+use bitvec_store::BitStore;
+use bitvec_words::WordOrder;
 use crate::swapping_equal::swap_equal;
 use crate::swapping_shifted::swap_shifted;
-use bitvec_words::WordOrder;
-use bitvec_words::base::{BitOrder, Window};
-use bitvec_words::cells::{Cells, CellsRead};
-use bitvec_words::store::BitStore;
 
 /// Exchanges the bits of two windows of two memories of the same elements. Condition: each memory
 /// has at most `MAX_BITS` bits, each window lies in its memory, and the windows are as long. On both

@@ -1,16 +1,16 @@
 //! Bits exchanged between windows that begin at the same index of an element: elements as they are.
 ghost use Rattle.std.specs.Prelude.{◌≡◌, ◌%◌, ◌<◌, length};
-ghost use Rattle.bitvec_words.specs.base.Parts.{HasPart, part_window};
-ghost use Rattle.bitvec_words.specs.base.Spans.{HasSpan};
-ghost use Rattle.bitvec_words.specs.cells.Access.{Costs};
-ghost use Rattle.bitvec_words.specs.walk.Cost.{touched_count};
+ghost use Rattle.bitvec_base.specs.Parts.{HasPart, part_window};
+ghost use Rattle.bitvec_base.specs.Spans.{HasSpan};
+ghost use Rattle.bitvec_cells.specs.Access.{Costs};
+ghost use Rattle.bitvec_cells.specs.Cost.{touched_count};
 ghost use Rattle.bitvec_words.specs.Elements.{elements_window};
 ghost use Rattle.bitvec_move.specs.Moves.{Swaps};
 
-use bitvec_words::base::{BitOrder, Part, Window, first_part, tail_part, whole_elements};
-use bitvec_words::cells::{Cells, CellsRead};
+use bitvec_base::{BitOrder, Part, Window, first_part, tail_part, whole_elements};
+use bitvec_cells::{Cells, CellsRead};
+use bitvec_store::BitStore;
 use bitvec_words::merged;
-use bitvec_words::store::BitStore;
 
 /// Exchanges two windows whose first bits have the same index in their elements, under any order.
 /// Condition: as for [`crate::swap`], and the windows aren't empty. It loads and stores each element

@@ -1,18 +1,18 @@
 //! Bits exchanged between windows that begin at different indices of an element. The last element
 //! that was loaded on the right waits until the rest of its bits are known, and is stored then.
 ghost use Rattle.std.specs.Prelude.{◌≢◌, ◌+◌, ◌-◌, ◌/◌, ◌%◌, ◌<◌, slice_set};
-ghost use Rattle.bitvec_words.specs.base.Parts.{part_window};
-ghost use Rattle.bitvec_words.specs.base.Spans.{HasSpan};
-ghost use Rattle.bitvec_words.specs.cells.Access.{Costs};
-ghost use Rattle.bitvec_words.specs.walk.Cost.{touched_count};
+ghost use Rattle.bitvec_base.specs.Parts.{part_window};
+ghost use Rattle.bitvec_base.specs.Spans.{HasSpan};
+ghost use Rattle.bitvec_cells.specs.Access.{Costs};
+ghost use Rattle.bitvec_cells.specs.Cost.{touched_count};
 ghost use Rattle.bitvec_move.specs.Moves.{HasPartSpan, HasSkippedElements, HasSkippedSpan, Swaps, SwapsElements};
 
+use bitvec_base::{BitOrder, Part, Window, first_part, tail_part};
+use bitvec_cells::{Cells, CellsRead};
+use bitvec_store::BitStore;
+use bitvec_words::{WordOrder, joined, merged, toward_end, toward_start};
 use crate::stretch::Stretch;
 use crate::{MANY_BITS, at_known_skip};
-use bitvec_words::base::{BitOrder, Part, Window, first_part, tail_part};
-use bitvec_words::cells::{Cells, CellsRead};
-use bitvec_words::store::BitStore;
-use bitvec_words::{WordOrder, joined, merged, toward_end, toward_start};
 
 /// Exchanges two windows whose first bits have different indices in their elements. Condition: as
 /// of [`crate::swap`], and the windows aren't empty.

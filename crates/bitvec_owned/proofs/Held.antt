@@ -4,11 +4,11 @@ use Rattle.std.specs.Int.{div_ceil}
 use Rattle.std.proofs.Common.{◌∙◌, ap, arith}
 use Rattle.std.proofs.lemmas.Grind.{div_ceil_times}
 use Rattle.std.proofs.lemmas.List.{length-replicate}
-use Rattle.bitvec_edit.specs.base.FilledLaws.{bits-zeros}
-use Rattle.bitvec_edit.specs.base.Memory.{memory_bits}
-use Rattle.bitvec_edit.specs.base.Window.{window_of, write_at}
-use Rattle.bitvec_edit.specs.base.WriteLaws.{range-write_at}
-use Rattle.bitvec_edit.specs.slice.Seen.{Seen, shown}
+use Rattle.bitvec_base.specs.FilledLaws.{bits-zeros}
+use Rattle.bitvec_base.specs.Memory.{memory_bits}
+use Rattle.bitvec_base.specs.Window.{window_of, write_at}
+use Rattle.bitvec_base.specs.WriteLaws.{range-write_at}
+use Rattle.bitvec_slice.specs.Seen.{Seen, shown}
 use Rattle.bitvec_owned.specs.Copies.{Holds}
 
 module _ {T : Type 0} (b : ℕ) (at : ℕ → ℕ → ℕ) (value : T → ℕ) (some : 0 < b) where

@@ -5,8 +5,8 @@ use Rattle.std.proofs.Common.{◌∙◌, ap, arith, mul_comm}
 use Rattle.std.proofs.Concat.{length-repeat, repeat_push}
 use Rattle.std.proofs.Math.Nat.{add-mul, mul-le-mul_right}
 use Rattle.std.proofs.lemmas.List.{nil_from_length}
-use Rattle.bitvec_edit.specs.base.Window.{write_at}
-use Rattle.bitvec_edit.specs.base.WriteLaws.{write_at-next}
+use Rattle.bitvec_base.specs.Window.{write_at}
+use Rattle.bitvec_base.specs.WriteLaws.{write_at-next}
 
 module _ {X : Type 0} (list : List X) where
   pub length-repeated : (n : ℕ) → length (repeat n list) ≡ length list * n

@@ -3,15 +3,15 @@ use Rattle.std.specs.Prelude.{◌≡◌, ℕ, ◌+◌, ◌*◌, ◌≤◌, Bool,
 use Rattle.std.proofs.Common.{arith, sym, ◌∙◌, ap, length-take}
 use Rattle.std.proofs.Math.Nat.{mul-le-mul_left}
 use Rattle.std.proofs.lemmas.List.{take_all}
-use Rattle.bitvec_edit.specs.base.Memory.{Writes, memory_bits}
-use Rattle.bitvec_edit.specs.base.Window.{max_bits, write_at}
-use Rattle.bitvec_edit.specs.base.WriteLaws.{write_at-all}
-use Rattle.bitvec_edit.specs.base.declared.order.BitOrder.{Ghosts as Order}
-use Rattle.bitvec_edit.specs.base.declared.window.Window.{Window}
-use Rattle.bitvec_edit.specs.slice.Seen.{Seen, shown}
-use Rattle.bitvec_edit.specs.slice.SeenLaws.{length-memory}
-use Rattle.bitvec_edit.specs.slice.Showing.{ShowsElements, shows_elements}
-use Rattle.bitvec_edit.specs.store.declared.store.BitStore.{Ghosts as Store}
+use Rattle.bitvec_base.specs.Memory.{Writes, memory_bits}
+use Rattle.bitvec_base.specs.Window.{max_bits, write_at}
+use Rattle.bitvec_base.specs.WriteLaws.{write_at-all}
+use Rattle.bitvec_base.specs.declared.order.BitOrder.{Ghosts as Order}
+use Rattle.bitvec_base.specs.declared.window.Window.{Window}
+use Rattle.bitvec_slice.specs.Seen.{Seen, shown}
+use Rattle.bitvec_slice.specs.SeenLaws.{length-memory}
+use Rattle.bitvec_slice.specs.Showing.{ShowsElements, shows_elements}
+use Rattle.bitvec_store.specs.declared.store.BitStore.{Ghosts as Store}
 use Rattle.bitvec_owned.specs.ArrayLending.{with_elements}
 use Rattle.bitvec_owned.specs.ArrayWrites.{WritesArray}
 use Rattle.bitvec_owned.specs.Arrays.{elements_of, in_array}

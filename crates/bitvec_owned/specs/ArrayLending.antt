@@ -1,8 +1,8 @@
 -- What an array of bits ends as, where its elements were lent.
 use Rattle.std.specs.Prelude.{ℕ, List}
 use Rattle.std.specs.Borrow.{Fml, GName, MutBor, RattleType, Array, follows}
-use Rattle.bitvec_edit.specs.store.declared.store.BitStore.{Ghosts as Store}
-use Rattle.bitvec_edit.specs.base.declared.order.BitOrder.{Ghosts as Order}
+use Rattle.bitvec_store.specs.declared.store.BitStore.{Ghosts as Store}
+use Rattle.bitvec_base.specs.declared.order.BitOrder.{Ghosts as Order}
 use Rattle.bitvec_owned.specs.declared.array.BitArray.{BitArray}
 use Rattle.bitvec_owned.specs.contracts.array.BitArray.{the_row}
 

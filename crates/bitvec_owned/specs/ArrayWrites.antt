@@ -1,7 +1,7 @@
 -- What an edit of an array of bits leaves.
 use Rattle.std.specs.Prelude.{◌≡◌, ℕ, Bool, List, length}
-use Rattle.bitvec_edit.specs.base.declared.order.BitOrder.{Ghosts as Order}
-use Rattle.bitvec_edit.specs.store.declared.store.BitStore.{Ghosts as Store}
+use Rattle.bitvec_base.specs.declared.order.BitOrder.{Ghosts as Order}
+use Rattle.bitvec_store.specs.declared.store.BitStore.{Ghosts as Store}
 use Rattle.bitvec_owned.specs.Arrays.{in_array}
 use Rattle.bitvec_owned.specs.declared.array.BitArray.{BitArray}
 

@@ -1,8 +1,8 @@
 -- What contracts see of an array of bits.
 use Rattle.std.specs.Prelude.{ℕ, ◌*◌, List, length, take}
-use Rattle.bitvec_edit.specs.store.declared.store.BitStore.{Ghosts as Store}
-use Rattle.bitvec_edit.specs.base.declared.order.BitOrder.{Ghosts as Order}
-use Rattle.bitvec_edit.specs.slice.Seen.{Seen, shown}
+use Rattle.bitvec_store.specs.declared.store.BitStore.{Ghosts as Store}
+use Rattle.bitvec_base.specs.declared.order.BitOrder.{Ghosts as Order}
+use Rattle.bitvec_slice.specs.Seen.{Seen, shown}
 use Rattle.bitvec_owned.specs.declared.array.BitArray.{BitArray}
 
 module _ {T O : Type 0} {N : ℕ} {t : Store T} {o : Order O} where

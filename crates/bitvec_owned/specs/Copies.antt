@@ -1,9 +1,9 @@
 -- What an owned sequence holds.
 use Rattle.std.specs.Prelude.{◌≡◌, ℕ, ◌+◌, ◌*◌, ◌%◌, ◌==◌, Bool, false, if◌then◌else◌, List, length, replicate}
 use Rattle.std.specs.Int.{div_ceil}
-use Rattle.bitvec_edit.specs.base.Window.{write_at}
-use Rattle.bitvec_edit.specs.base.declared.window.Window.{Window}
-use Rattle.bitvec_edit.specs.slice.Seen.{Seen}
+use Rattle.bitvec_base.specs.Window.{write_at}
+use Rattle.bitvec_base.specs.declared.window.Window.{Window}
+use Rattle.bitvec_slice.specs.Seen.{Seen}
 
 -- the list, from the index `from` of its first element on; of elements of b bits it has just those that the list touches, and each other bit of them is 0
 pub record Holds {T : Type 0} (b : ℕ) (list : List Bool) (from : ℕ) (sequence : Seen T) : Type 0 where

@@ -3,8 +3,8 @@ use Rattle.std.specs.Prelude.{List}
 use Rattle.std.specs.Borrow.{Fml, GName, MutBor, RattleType, Array, follows}
 use Rattle.std.specs.Vec.{with_items}
 use Rattle.std.specs.declared.alloc.Allocator.{Ghosts as Alloc}
-use Rattle.bitvec_edit.specs.store.declared.store.BitStore.{Ghosts as Store}
-use Rattle.bitvec_edit.specs.base.declared.order.BitOrder.{Ghosts as Order}
+use Rattle.bitvec_store.specs.declared.store.BitStore.{Ghosts as Store}
+use Rattle.bitvec_base.specs.declared.order.BitOrder.{Ghosts as Order}
 use Rattle.bitvec_owned.specs.declared.bit_vec.BitVec.{BitVec}
 use Rattle.bitvec_owned.specs.contracts.bit_vec.BitVec.{the_row}
 

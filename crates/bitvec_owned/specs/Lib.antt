@@ -1,10 +1,7 @@
-pub mod edit
-pub mod query
 pub mod ArrayLaws
 pub mod ArrayLending
 pub mod ArrayWrites
 pub mod Arrays
-pub mod Cited
 pub mod Copies
 pub mod Lending
 pub mod Owned

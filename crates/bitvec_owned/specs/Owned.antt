@@ -1,7 +1,7 @@
 -- What contracts see of an owned sequence of bits.
-use Rattle.bitvec_edit.specs.store.declared.store.BitStore.{Ghosts as Store}
-use Rattle.bitvec_edit.specs.base.declared.order.BitOrder.{Ghosts as Order}
-use Rattle.bitvec_edit.specs.slice.Seen.{Seen, shown}
+use Rattle.bitvec_store.specs.declared.store.BitStore.{Ghosts as Store}
+use Rattle.bitvec_base.specs.declared.order.BitOrder.{Ghosts as Order}
+use Rattle.bitvec_slice.specs.Seen.{Seen, shown}
 use Rattle.bitvec_owned.specs.declared.bit_vec.BitVec.{BitVec}
 
 module _ {T O A : Type 0} {t : Store T} {o : Order O} where

@@ -1,9 +1,9 @@
 -- What an edit of an owned sequence leaves.
 use Rattle.std.specs.Prelude.{◌≡◌, ℕ, Bool, List, length}
-use Rattle.bitvec_edit.specs.base.Window.{write_window}
-use Rattle.bitvec_edit.specs.base.declared.order.BitOrder.{Ghosts as Order}
-use Rattle.bitvec_edit.specs.slice.Seen.{outside_of}
-use Rattle.bitvec_edit.specs.store.declared.store.BitStore.{Ghosts as Store}
+use Rattle.bitvec_base.specs.Window.{write_window}
+use Rattle.bitvec_base.specs.declared.order.BitOrder.{Ghosts as Order}
+use Rattle.bitvec_slice.specs.Seen.{outside_of}
+use Rattle.bitvec_store.specs.declared.store.BitStore.{Ghosts as Store}
 use Rattle.bitvec_owned.specs.Copies.{Holds}
 use Rattle.bitvec_owned.specs.Owned.{owned}
 use Rattle.bitvec_owned.specs.declared.bit_vec.BitVec.{BitVec}

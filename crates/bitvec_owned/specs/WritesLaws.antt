@@ -4,16 +4,16 @@ use Rattle.std.specs.Int.{div_ceil}
 use Rattle.std.proofs.Common.{arith, sym, subst, ◌∙◌, ap}
 use Rattle.std.proofs.lemmas.Grind.{div_ceil_times}
 use Rattle.std.proofs.lemmas.List.{length-map, length-replicate, take_at}
-use Rattle.bitvec_edit.specs.base.Memory.{Writes, memory_bits}
-use Rattle.bitvec_edit.specs.base.Window.{max_bits, window_of, write_at}
-use Rattle.bitvec_edit.specs.base.WindowLaws.{window-written}
-use Rattle.bitvec_edit.specs.base.WriteLaws.{drop-write_at, take-write_at, write_at-over}
-use Rattle.bitvec_edit.specs.base.declared.order.BitOrder.{Ghosts as Order}
-use Rattle.bitvec_edit.specs.base.declared.window.Window.{Window}
-use Rattle.bitvec_edit.specs.slice.Seen.{Seen, outside_of, shown}
-use Rattle.bitvec_edit.specs.slice.SeenLaws.{within_memory}
-use Rattle.bitvec_edit.specs.slice.Showing.{ShowsElements, shows_elements}
-use Rattle.bitvec_edit.specs.store.declared.store.BitStore.{Ghosts as Store}
+use Rattle.bitvec_base.specs.Memory.{Writes, memory_bits}
+use Rattle.bitvec_base.specs.Window.{max_bits, window_of, write_at}
+use Rattle.bitvec_base.specs.WindowLaws.{window-written}
+use Rattle.bitvec_base.specs.WriteLaws.{drop-write_at, take-write_at, write_at-over}
+use Rattle.bitvec_base.specs.declared.order.BitOrder.{Ghosts as Order}
+use Rattle.bitvec_base.specs.declared.window.Window.{Window}
+use Rattle.bitvec_slice.specs.Seen.{Seen, outside_of, shown}
+use Rattle.bitvec_slice.specs.SeenLaws.{within_memory}
+use Rattle.bitvec_slice.specs.Showing.{ShowsElements, shows_elements}
+use Rattle.bitvec_store.specs.declared.store.BitStore.{Ghosts as Store}
 use Rattle.bitvec_owned.specs.Copies.{Holds}
 use Rattle.bitvec_owned.specs.Lending.{with_elements}
 use Rattle.bitvec_owned.specs.Owned.{owned}

@@ -1,17 +1,17 @@
 //! An array of elements as bits.
 ghost use Rattle.std.specs.Prelude.{◌≡◌, ◌*◌, ◌≤◌, ◌==◌, length, map, replicate, ⊤};
 ghost use Rattle.std.specs.Borrow.{sem};
-ghost use Rattle.bitvec_edit.specs.base.Memory.{memory_bits};
-ghost use Rattle.bitvec_edit.specs.base.Window.{max_bits};
+ghost use Rattle.bitvec_base.specs.Memory.{memory_bits};
+ghost use Rattle.bitvec_base.specs.Window.{max_bits};
 
 mod equality;
 mod iterating;
 mod texts;
 mod views;
 
-use bitvec_edit::base::{BitOrder, Window};
-use bitvec_edit::slice::{BitSlice, BitSliceMut};
-use bitvec_edit::store::BitStore;
+use bitvec_base::{BitOrder, Window};
+use bitvec_slice::{BitSlice, BitSliceMut};
+use bitvec_store::BitStore;
 use std::alloc::AllocError;
 use std::marker::PhantomData;
 
@@ -42,8 +42,8 @@ impl<T: BitStore, O: BitOrder, const N: usize> Clone for BitArray<T, O, N> {
 }
 
 impl<T: BitStore, O: BitOrder, const N: usize> BitArray<T, O, N> {
-    ghost use Rattle.bitvec_edit.specs.base.Memory.{HasWindow};
-    ghost use Rattle.bitvec_edit.specs.slice.Views.{name_of, seen, seen_mut};
+    ghost use Rattle.bitvec_base.specs.Memory.{HasWindow};
+    ghost use Rattle.bitvec_slice.specs.Views.{name_of, seen, seen_mut};
     ghost use Rattle.bitvec_owned.specs.ArrayLending.{lends};
     ghost use Rattle.bitvec_owned.specs.Arrays.{in_array};
 

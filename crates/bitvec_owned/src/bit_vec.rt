@@ -2,11 +2,11 @@
 ghost use Rattle.std.specs.Prelude.{◌≡◌, ◌+◌, ◌*◌, ◌<◌, ◌≤◌, ◌==◌, length, map, vec_len};
 ghost use Rattle.std.specs.Borrow.{sem};
 ghost use Rattle.std.specs.Int.{div_ceil};
-ghost use Rattle.bitvec_edit.specs.base.Window.{max_bits};
+ghost use Rattle.bitvec_base.specs.Window.{max_bits};
 
-use bitvec_edit::base::{BitOrder, Window};
-use bitvec_edit::slice::{BitSlice, BitSliceMut};
-use bitvec_edit::store::BitStore;
+use bitvec_base::{BitOrder, Window};
+use bitvec_slice::{BitSlice, BitSliceMut};
+use bitvec_store::BitStore;
 use std::alloc::Allocator;
 use std::marker::PhantomData;
 
@@ -27,9 +27,9 @@ pub struct BitVec<T: BitStore, O: BitOrder, A: Allocator> {
 }
 
 impl<T: BitStore, O: BitOrder, A: Allocator> BitVec<T, O, A> {
-    ghost use Rattle.bitvec_edit.specs.base.Memory.{HasWindow};
-    ghost use Rattle.bitvec_edit.specs.slice.Seen.{shown};
-    ghost use Rattle.bitvec_edit.specs.slice.Views.{name_of, seen, seen_mut};
+    ghost use Rattle.bitvec_base.specs.Memory.{HasWindow};
+    ghost use Rattle.bitvec_slice.specs.Seen.{shown};
+    ghost use Rattle.bitvec_slice.specs.Views.{name_of, seen, seen_mut};
     ghost use Rattle.bitvec_owned.specs.Lending.{lends};
     ghost use Rattle.bitvec_owned.specs.Owned.{owned};
 

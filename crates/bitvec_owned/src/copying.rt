@@ -2,15 +2,15 @@
 ghost use Rattle.std.specs.Prelude.{◌≡◌, IfOk, IsOk};
 ghost use Rattle.bitvec_owned.specs.Copies.{Holds, copy_start};
 ghost use Rattle.bitvec_owned.specs.Owned.{owned};
-ghost use Rattle.bitvec_edit.specs.slice.Views.{seen};
+ghost use Rattle.bitvec_slice.specs.Views.{seen};
 
+use bitvec_base::Window;
+use bitvec_elements::copy_from_block_in;
+use bitvec_engine::SliceOrder;
+use bitvec_slice::BitSlice;
+use bitvec_store::BitStore;
 use crate::BitVec;
 use crate::zeros::zeros;
-use bitvec_edit::base::Window;
-use bitvec_edit::elements::copy_from_block_in;
-use bitvec_edit::engine::SliceOrder;
-use bitvec_edit::slice::BitSlice;
-use bitvec_edit::store::BitStore;
 use std::alloc::{AllocError, Allocator};
 
 /// A copy of a view's bits, from the index in its first element on at which the view begins.

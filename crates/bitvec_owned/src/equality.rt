@@ -1,12 +1,12 @@
 //! `==` of owned sequences of the same type.
 ghost use Rattle.std.proofs.Common.{rules};
 ghost use Rattle.std.specs.Cmp.Rules.{comparing};
-ghost use Rattle.bitvec_edit.specs.base.Lists.{same_bits};
+ghost use Rattle.bitvec_base.specs.Lists.{same_bits};
 ghost use Rattle.bitvec_owned.specs.Owned.{owned};
 
+use bitvec_engine::SliceOrder;
+use bitvec_store::BitStore;
 use crate::BitVec;
-use bitvec_edit::engine::SliceOrder;
-use bitvec_edit::store::BitStore;
 use std::alloc::Allocator;
 
 impl<T: BitStore, O: SliceOrder, A: Allocator> PartialEq for BitVec<T, O, A> {

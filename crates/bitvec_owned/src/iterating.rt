@@ -1,15 +1,16 @@
 //! Walks over the bits of owned sequences.
 ghost use Rattle.std.specs.Prelude.{◌≡◌, ◌≤◌, length};
-ghost use Rattle.bitvec_edit.specs.base.Window.{max_bits};
+ghost use Rattle.bitvec_base.specs.Window.{max_bits};
 
+use bitvec_base::BitOrder;
+use bitvec_domain::BitRef;
+use bitvec_slice::Iter;
+use bitvec_store::BitStore;
 use crate::BitVec;
-use bitvec_edit::base::BitOrder;
-use bitvec_edit::slice::{BitRef, Iter};
-use bitvec_edit::store::BitStore;
 use std::alloc::Allocator;
 
 impl<T: BitStore, O: BitOrder, A: Allocator> BitVec<T, O, A> {
-    ghost use Rattle.bitvec_edit.specs.slice.Walks.{Walks, YieldsBits, remaining_bits};
+    ghost use Rattle.bitvec_slice.specs.Walks.{Walks, YieldsBits, remaining_bits};
     ghost use Rattle.bitvec_owned.specs.Owned.{owned};
 
     /// The bits, one by one.
@@ -24,7 +25,7 @@ impl<T: BitStore, O: BitOrder, A: Allocator> BitVec<T, O, A> {
 }
 
 impl<'a, T: BitStore, O: BitOrder, A: Allocator> IntoIterator for &'a BitVec<T, O, A> {
-    ghost use Rattle.bitvec_edit.specs.slice.Walks.{YieldsBits, remaining_bits};
+    ghost use Rattle.bitvec_slice.specs.Walks.{YieldsBits, remaining_bits};
     ghost use Rattle.bitvec_owned.specs.Owned.{owned};
 
     type Item = BitRef<'a, T, O>;

@@ -14,16 +14,6 @@ mod to_bitvec;
 mod views;
 mod zeros;
 
-/// Items of `bitvec_edit` that crates above use.
-pub mod edit {
-    pub use bitvec_edit::{BitEdits, within};
-}
-
-/// Items of `bitvec_query` that crates above use.
-pub mod query {
-    pub use bitvec_query::{BitQueries, base, engine, slice, store};
-}
-
 pub use array::BitArray;
 pub use bit_vec::BitVec;
 pub use repeating::RepeatError;

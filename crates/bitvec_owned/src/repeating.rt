@@ -1,20 +1,20 @@
 //! Repeats of views.
 ghost use Rattle.std.specs.Prelude.{◌≡◌, ◌*◌, ◌<◌, ◌≤◌, ◌↔◌, IfOk, IsErrOf, IsOk, length, map};
 ghost use Rattle.std.specs.List.{repeat};
-ghost use Rattle.bitvec_edit.specs.base.Memory.{memory_bits};
-ghost use Rattle.bitvec_edit.specs.base.Window.{max_bits, write_at};
+ghost use Rattle.bitvec_base.specs.Memory.{memory_bits};
+ghost use Rattle.bitvec_base.specs.Window.{max_bits, write_at};
 ghost use Rattle.bitvec_owned.specs.Copies.{Holds};
 ghost use Rattle.bitvec_owned.specs.Owned.{owned};
 ghost use Rattle.bitvec_owned.specs.declared.repeating.RepeatError.TheVariants.{TooLong};
-ghost use Rattle.bitvec_edit.specs.slice.Views.{seen};
+ghost use Rattle.bitvec_slice.specs.Views.{seen};
 
+use bitvec_base::{MAX_BITS, Window};
+use bitvec_elements::copy_from_block_in;
+use bitvec_engine::SliceOrder;
+use bitvec_slice::BitSlice;
+use bitvec_store::BitStore;
 use crate::BitVec;
 use crate::zeros::zeros;
-use bitvec_edit::base::{MAX_BITS, Window};
-use bitvec_edit::elements::copy_from_block_in;
-use bitvec_edit::engine::SliceOrder;
-use bitvec_edit::slice::BitSlice;
-use bitvec_edit::store::BitStore;
 use std::alloc::Allocator;
 
 /// Why there is no repeat.

@@ -1,11 +1,11 @@
 //! The texts of owned sequences.
 ghost use Rattle.std.specs.Prelude.{Some};
-ghost use Rattle.bitvec_edit.specs.traits.Listing.{bits_text};
+ghost use Rattle.bitvec_domain.specs.Listing.{bits_text};
 ghost use Rattle.bitvec_owned.specs.Owned.{owned};
 
+use bitvec_base::BitOrder;
+use bitvec_store::BitStore;
 use crate::BitVec;
-use bitvec_edit::base::BitOrder;
-use bitvec_edit::store::BitStore;
 use std::alloc::Allocator;
 use std::fmt;
 

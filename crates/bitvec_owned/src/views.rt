@@ -1,17 +1,17 @@
 //! Owned sequences show bits, answer questions and are edited, as views are.
-ghost use Rattle.bitvec_edit.specs.store.WidthLaws.{width_some};
+ghost use Rattle.bitvec_store.specs.WidthLaws.{width_some};
 ghost use Rattle.bitvec_owned.specs.Lending.{with_elements};
 ghost use Rattle.bitvec_owned.specs.Owned.{owned};
 ghost use Rattle.bitvec_owned.specs.Writes.{WritesOwned};
 ghost use Rattle.bitvec_owned.specs.WritesLaws.{has_written, sequence_elements, sequence_written};
 
-use crate::BitVec;
+use bitvec_base::BitOrder;
 use bitvec_edit::BitEdits;
-use bitvec_edit::base::BitOrder;
-use bitvec_edit::engine::SliceOrder;
-use bitvec_edit::slice::{BitSlice, Sealed, Shows, View, ViewMut};
-use bitvec_edit::store::BitStore;
+use bitvec_engine::SliceOrder;
 use bitvec_query::BitQueries;
+use bitvec_slice::{BitSlice, Sealed, Shows, View, ViewMut};
+use bitvec_store::BitStore;
+use crate::BitVec;
 use std::alloc::Allocator;
 
 impl<T: BitStore, O: BitOrder, A: Allocator> Shows<T> for BitVec<T, O, A> {

@@ -1,7 +1,7 @@
 //! Elements that are all 0.
 ghost use Rattle.std.specs.Prelude.{◌≡◌, IfOk, IsOk, replicate, vec_len};
 
-use bitvec_edit::store::BitStore;
+use bitvec_store::BitStore;
 use std::alloc::{AllocError, Allocator};
 
 /// So many elements whose bits are all 0; the memory for them is asked for once.

@@ -6,18 +6,18 @@ use Rattle.std.proofs.lemmas.Bool.{cases_eq, cases_lt}
 use Rattle.std.proofs.lemmas.List.{places}
 use Rattle.std.proofs.lemmas.Nat.{and_le_l}
 use Rattle.std.proofs.lemmas.Nat.Bits.{bit_at-trailing_zeros, bit_at-zero}
-use Rattle.bitvec_slice.specs.base.declared.window.Window.{Window}
-use Rattle.bitvec_slice.specs.base.FoundLaws.{bit-set, set-bit}
-use Rattle.bitvec_slice.specs.base.Memory.{HasWindow, element_bits, list_in, memory_bits}
-use Rattle.bitvec_slice.specs.base.Window.{window_range}
-use Rattle.bitvec_slice.specs.base.WindowLaws.{get-window, window-past}
-use Rattle.bitvec_slice.specs.base.WritesLaws.{HasWindow-range, within-list}
-use Rattle.bitvec_slice.specs.engine.Front.{IsFront}
+use Rattle.bitvec_base.specs.declared.window.Window.{Window}
+use Rattle.bitvec_base.specs.FoundLaws.{bit-set, set-bit}
+use Rattle.bitvec_base.specs.Memory.{HasWindow, element_bits, list_in, memory_bits}
+use Rattle.bitvec_base.specs.Window.{window_range}
+use Rattle.bitvec_base.specs.WindowLaws.{get-window, window-past}
+use Rattle.bitvec_base.specs.WritesLaws.{HasWindow-range, within-list}
+use Rattle.bitvec_words.specs.Front.{IsFront}
 use Rattle.bitvec_query.specs.declared.rest.Rest.{Rest}
 use Rattle.bitvec_query.specs.Places.{places_in}
 use Rattle.bitvec_query.specs.PlacesLaws.{places-next, places-none}
-use Rattle.bitvec_slice.specs.walk.Sought.{Shows}
-use Rattle.bitvec_slice.specs.words.ShortWindow.{padded}
+use Rattle.bitvec_cells.specs.Sought.{Shows}
+use Rattle.bitvec_words.specs.ShortWindow.{padded}
 use Rattle.bitvec_query.specs.Kept.{Keeps}
 use Rattle.bitvec_query.specs.declared.kept.Kept.{Kept}
 use Rattle.bitvec_query.specs.WordOnes.{order_ones, word_ones}

@@ -11,7 +11,7 @@ use Rattle.std.proofs.lemmas.List.FromFn.{get_or-map-range_with_len, length-rang
 use Rattle.std.proofs.lemmas.List.Sums.{count_by-le-length, length-filter}
 use Rattle.std.proofs.lemmas.Nat.Bits.{bit_at-lt, bit_at-trailing_zeros, bit_at-zero, same_from_bits_below}
 use Rattle.std.proofs.lemmas.Simd.{bit_mask_l, mask_l-lt, ones-mask_l}
-use Rattle.bitvec_slice.specs.base.ListsLaws.{range_with_len-add}
+use Rattle.bitvec_base.specs.ListsLaws.{range_with_len-add}
 use Rattle.bitvec_query.specs.WordOnes.{word_ones}
 use Rattle.bitvec_query.specs.PlacesLaws.{filter-none}
 use Rattle.bitvec_query.proofs.LowestLemmas.{lowest-cleared, lowest-others}

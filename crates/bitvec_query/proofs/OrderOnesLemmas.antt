@@ -8,9 +8,9 @@ use Rattle.std.proofs.lemmas.List.{map-append, reverse-append, same_lists}
 use Rattle.std.proofs.lemmas.List.Elements.{filter-append}
 use Rattle.std.proofs.lemmas.Nat.Bits.{bit_at-zero}
 use Rattle.std.proofs.lemmas.Simd.{bit_mask_l, mask_l-lt}
-use Rattle.bitvec_slice.specs.base.Memory.{element_bits}
-use Rattle.bitvec_slice.specs.base.MemoryLaws.{get-element_bits, length-element_bits}
-use Rattle.bitvec_slice.specs.walk.Sought.{Shows}
+use Rattle.bitvec_base.specs.Memory.{element_bits}
+use Rattle.bitvec_base.specs.MemoryLaws.{get-element_bits, length-element_bits}
+use Rattle.bitvec_cells.specs.Sought.{Shows}
 use Rattle.bitvec_query.specs.WordOnes.{order_ones, word_ones}
 use Rattle.bitvec_query.specs.PlacesLaws.{filter-none}
 use Rattle.bitvec_query.proofs.OnesLemmas.{filter-same}

@@ -3,8 +3,8 @@ use Rattle.std.specs.Prelude.{◌≡◌, ℕ, ◌+◌, ◌==◌, false, List, []
 use Rattle.std.specs.List.{join_by}
 use Rattle.std.proofs.Common.{arith, length-append, rules}
 use Rattle.std.proofs.lemmas.List.{places, same_lists, take_all}
-use Rattle.bitvec_slice.specs.ListingLaws.{join_by-more}
-use Rattle.bitvec_slice.specs.traits.Listing.{comma, separator}
+use Rattle.bitvec_domain.specs.ListingLaws.{join_by-more}
+use Rattle.bitvec_domain.specs.Listing.{comma, separator}
 
 pub joined-push : {X : Type 0} (text : X → List ℕ) (items : List X) (x : X)
     → join_by text comma items ++ (separator (length items) ++ text x) ≡ join_by text comma (items ++ x ∷ [])

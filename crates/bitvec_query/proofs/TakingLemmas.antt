@@ -2,12 +2,12 @@
 use Rattle.std.specs.Prelude.{◌≡◌, ℕ, ◌+◌, ◌-◌, ◌<◌, ◌≤◌, Bool, true, false, not, count_by, refl, Some, None, List, [], ◌∷◌, ◌++◌, length, slice_range}
 use Rattle.std.specs.Bool.{beq}
 use Rattle.std.proofs.Common.{arith, sym, ◌∙◌, ap}
-use Rattle.bitvec_slice.specs.base.declared.window.Window.{Window}
-use Rattle.bitvec_slice.specs.base.Lists.{first_place, last_place}
-use Rattle.bitvec_slice.specs.base.Memory.{HasWindow, list_in}
-use Rattle.bitvec_slice.specs.base.ScanLaws.{first-within, last-within}
-use Rattle.bitvec_slice.specs.base.Window.{window_range}
-use Rattle.bitvec_slice.specs.base.WritesLaws.{length-list, list-range}
+use Rattle.bitvec_base.specs.declared.window.Window.{Window}
+use Rattle.bitvec_base.specs.Lists.{first_place, last_place}
+use Rattle.bitvec_base.specs.Memory.{HasWindow, list_in}
+use Rattle.bitvec_base.specs.ScanLaws.{first-within, last-within}
+use Rattle.bitvec_base.specs.Window.{window_range}
+use Rattle.bitvec_base.specs.WritesLaws.{length-list, list-range}
 use Rattle.bitvec_query.specs.declared.rest.Rest.{Rest}
 use Rattle.bitvec_query.specs.Places.{IsRestOf, places_in}
 use Rattle.bitvec_query.specs.PlacesLaws.{places-absent, places-absent_back, places-count, places-first, places-last}

@@ -5,8 +5,8 @@ use Rattle.std.proofs.Math.Bridge.{le_prop}
 use native.Mathlib.Nat.{ℕ_set}
 use mathlib.Core.HLevel.{×_prop}
 use denote.Struct.Props.{≡_prop}
-use Rattle.bitvec_slice.specs.store.declared.store.BitStore.{Ghosts as Store}
-use Rattle.bitvec_slice.specs.base.declared.order.BitOrder.{Ghosts as Order}
+use Rattle.bitvec_store.specs.declared.store.BitStore.{Ghosts as Store}
+use Rattle.bitvec_base.specs.declared.order.BitOrder.{Ghosts as Order}
 use Rattle.bitvec_slice.specs.Views.{seen}
 use Rattle.bitvec_query.specs.declared.rest.Rest.{Rest}
 use Rattle.bitvec_query.specs.Places.{IsRestOf}

@@ -1,8 +1,3 @@
-pub mod base
-pub mod iter
-pub mod slice
-pub mod traits
-pub mod Cited
 pub mod Indices
 pub mod IndicesLaws
 pub mod Kept

@@ -1,9 +1,9 @@
 -- The loads of a walk over the places of a bit.
 use Rattle.std.specs.Prelude.{◌≡◌, ℕ, ◌+◌, ◌-◌, ◌≤◌, Option}
 use Rattle.std.specs.Option.{option_len}
-use Rattle.bitvec_slice.specs.base.declared.window.Window.{Window}
-use Rattle.bitvec_slice.specs.cells.declared.cells.CellsRead.{Ghosts as Access}
-use Rattle.bitvec_slice.specs.walk.Cost.{touched_count}
+use Rattle.bitvec_base.specs.declared.window.Window.{Window}
+use Rattle.bitvec_cells.specs.declared.cells.CellsRead.{Ghosts as Access}
+use Rattle.bitvec_cells.specs.Cost.{touched_count}
 use Rattle.bitvec_query.specs.declared.rest.Rest.{Rest}
 
 -- the elements that the rest of the window touches

@@ -1,8 +1,8 @@
 -- What a search of the rest loads, and what the rest behind it still touches.
 use Rattle.std.specs.Prelude.{◌≡◌, ℕ, ◌+◌, ◌-◌, ◌<◌, ◌≤◌, zero, suc}
 use Rattle.std.proofs.Common.{arith}
-use Rattle.bitvec_slice.specs.walk.Cost.{touched_count}
-use Rattle.bitvec_slice.specs.walk.WalkLaws.{div-order, touched-none, touched-some}
+use Rattle.bitvec_cells.specs.Cost.{touched_count}
+use Rattle.bitvec_cells.specs.WalkLaws.{div-order, touched-none, touched-some}
 
 -- two parts that meet have at most one element in common
 touched-cut : (b s m n : ℕ) → 0 < b → touched_count b s m + touched_count b (s + m) n ≤ touched_count b s (m + n) + 1

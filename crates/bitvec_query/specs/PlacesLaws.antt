@@ -10,11 +10,11 @@ use Rattle.std.proofs.lemmas.List.FromFn.{length-range_with_len}
 use Rattle.std.proofs.lemmas.List.Sums.{count_by-le-length, length-filter}
 use Rattle.std.proofs.Math.Bridge.{le_prop}
 use Rattle.std.proofs.Math.Nat.{sub_self}
-use Rattle.bitvec_slice.specs.base.Lists.{first_place, last_place, places_of}
-use Rattle.bitvec_slice.specs.base.ListsLaws.{range_with_len-add}
-use Rattle.bitvec_slice.specs.base.PlacesLaws.{first_place-absent, first_place-before, first_place-bit, last_place-absent, last_place-after, last_place-bit}
-use Rattle.bitvec_slice.specs.base.SliceLaws.{range-front, range-none}
-use Rattle.bitvec_slice.specs.base.WriteLaws.{get-slice_range, length-slice_range}
+use Rattle.bitvec_base.specs.Lists.{first_place, last_place, places_of}
+use Rattle.bitvec_base.specs.ListsLaws.{range_with_len-add}
+use Rattle.bitvec_base.specs.PlacesLaws.{first_place-absent, first_place-before, first_place-bit, last_place-absent, last_place-after, last_place-bit}
+use Rattle.bitvec_base.specs.SliceLaws.{range-front, range-none}
+use Rattle.bitvec_base.specs.WriteLaws.{get-slice_range, length-slice_range}
 use Rattle.bitvec_query.specs.declared.rest.Rest.{Rest}
 use Rattle.bitvec_query.specs.Places.{IsRestOf, places_in}
 

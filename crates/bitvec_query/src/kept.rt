@@ -2,17 +2,16 @@
 //! load is inlined into `next`, so that a loop over a walk keeps it in registers.
 ghost use Rattle.std.specs.Prelude.{◌<◌, ◌≤◌, map};
 ghost use Rattle.std.specs.Iterator.{YieldsFirst};
-ghost use Rattle.bitvec_slice.specs.base.Memory.{HasWindow, list_in};
-ghost use Rattle.bitvec_slice.specs.walk.Sought.{Shows};
+ghost use Rattle.bitvec_base.specs.Memory.{HasWindow, list_in};
+ghost use Rattle.bitvec_cells.specs.Sought.{Shows};
 ghost use Rattle.bitvec_query.specs.Kept.{Keeps};
 ghost use Rattle.bitvec_query.specs.Places.{IsRestOf, places_left};
 
+use bitvec_base::{Lsb0, Part, Window};
+use bitvec_cells::{Shared, sought};
+use bitvec_engine::SliceOrder;
+use bitvec_store::BitStore;
 use crate::rest::Rest;
-use bitvec_slice::base::{Lsb0, Part, Window};
-use bitvec_slice::cells::Shared;
-use bitvec_slice::engine::SliceOrder;
-use bitvec_slice::store::BitStore;
-use bitvec_slice::walk::sought;
 
 /// The indices that a walk has yet to give of the elements that it loaded last.
 #[derive(Clone, Copy)]

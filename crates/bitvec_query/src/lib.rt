@@ -16,39 +16,6 @@ mod views;
 mod wanted;
 mod writing;
 
-/// Items of `bitvec_base` that crates above use.
-pub mod base {
-    pub use bitvec_slice::base::{BitOrder, HiLo, Lsb0, Msb0, Window};
-}
-
-/// Items of `bitvec_cells` that crates above use.
-pub mod cells {
-    pub use bitvec_slice::cells::Shared;
-}
-
-/// Items of `bitvec_engine` that crates above use.
-pub mod engine {
-    pub use bitvec_slice::engine::SliceOrder;
-}
-
-/// Items of `bitvec_slice` that crates above use.
-pub mod slice {
-    pub use bitvec_slice::{
-        BitDomain, BitDomainMut, BitRef, BitSlice, BitSliceIndex, BitSliceMut, Domain, Lent,
-        Viewed, ViewedMut, from_mut, from_ref,
-    };
-}
-
-/// Items of `bitvec_store` that crates above use.
-pub mod store {
-    pub use bitvec_slice::store::BitStore;
-}
-
-/// Items of `bitvec_words` that crates above use.
-pub mod words {
-    pub use bitvec_slice::words::WordOrder;
-}
-
 pub use index_walk::IndexWalk;
 pub use ones_calls::OnesCalls;
 pub use places::{IterOnes, IterZeros, Places};

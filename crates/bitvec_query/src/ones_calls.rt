@@ -1,7 +1,7 @@
 //! The calls that make walks over the ones and the zeros of a view.
 ghost use Rattle.std.specs.Prelude.{◌≡◌, ◌≤◌, false, length, true};
-ghost use Rattle.bitvec_slice.specs.base.Lists.{places_of};
-ghost use Rattle.bitvec_slice.specs.base.Window.{max_bits};
+ghost use Rattle.bitvec_base.specs.Lists.{places_of};
+ghost use Rattle.bitvec_base.specs.Window.{max_bits};
 
 use crate::IndexWalk;
 use bitvec_slice::Shows;

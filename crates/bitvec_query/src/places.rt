@@ -4,16 +4,16 @@ ghost use Rattle.bitvec_slice.specs.Views.{seen};
 ghost use Rattle.bitvec_query.specs.Kept.{Keeps};
 ghost use Rattle.bitvec_query.specs.Places.{IsRestOf};
 
+use bitvec_base::BitOrder;
+use bitvec_cells::Shared;
+use bitvec_engine::SliceOrder;
+use bitvec_slice::BitSlice;
+use bitvec_store::BitStore;
 use crate::IndexWalk;
 use crate::kept::{Kept, sought_first, take_kept};
 use crate::rest::Rest;
 use crate::taking::{count_left, take_last};
 use crate::wanted::{Ones, Wanted, Zeros};
-use bitvec_slice::BitSlice;
-use bitvec_slice::base::BitOrder;
-use bitvec_slice::cells::Shared;
-use bitvec_slice::engine::SliceOrder;
-use bitvec_slice::store::BitStore;
 use std::alloc::AllocError;
 use std::iter::FusedIterator;
 use std::marker::PhantomData;
@@ -60,8 +60,8 @@ impl<'a, T: BitStore, O: BitOrder, W: Wanted> Clone for Places<'a, T, O, W> {
 
 impl<'a, T: BitStore, O: BitOrder, W: Wanted> Places<'a, T, O, W> {
     ghost use Rattle.std.specs.Prelude.{◌≤◌, length};
-    ghost use Rattle.bitvec_slice.specs.base.Lists.{places_of};
-    ghost use Rattle.bitvec_slice.specs.base.Window.{max_bits};
+    ghost use Rattle.bitvec_base.specs.Lists.{places_of};
+    ghost use Rattle.bitvec_base.specs.Window.{max_bits};
     ghost use Rattle.bitvec_query.specs.Indices.{RunsInOrder, RunsInReverse, remaining_indices};
 
     /// The indices of all bits of the view that `W` names. `bitvec` has no such call.

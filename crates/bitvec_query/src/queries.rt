@@ -3,19 +3,16 @@ ghost use Rattle.std.specs.Prelude.{◌≡◌, ◌&&◌, count_by, false, not, t
 ghost use Rattle.std.specs.Cmp.Lexicographic.{slice_cmp};
 ghost use Rattle.std.specs.List.{list_all, list_any, prefix_len, suffix_len};
 ghost use Rattle.std.specs.Ordering.{bool_cmp};
-ghost use Rattle.bitvec_slice.specs.base.Lists.{first_place, is_prefix, is_suffix, last_place, same_bits, stands_in};
+ghost use Rattle.bitvec_base.specs.Lists.{first_place, is_prefix, is_suffix, last_place, same_bits, stands_in};
 ghost use Rattle.bitvec_slice.specs.Views.{seen};
 
-use crate::runs::{before_first, behind_last};
-use bitvec_slice::base::BitOrder;
-use bitvec_slice::elements::{
-    all_in, any_in, compare_in, count_in, ends_with_in, eq_in, find_first_in, find_last_in,
-    starts_with_in,
-};
-use bitvec_slice::engine::SliceOrder;
-use bitvec_slice::store::BitStore;
+use bitvec_base::BitOrder;
+use bitvec_elements::{all_in, any_in, compare_in, count_in, ends_with_in, eq_in, find_first_in, find_last_in, starts_with_in};
+use bitvec_engine::SliceOrder;
 use bitvec_slice::{BitSlice, View};
+use bitvec_store::BitStore;
 use bitvec_within::contains_in;
+use crate::runs::{before_first, behind_last};
 use std::cmp::Ordering;
 
 /// The questions that `bitvec`'s `BitSlice` answers about its bits, for both view types. A needle,
@@ -42,7 +39,7 @@ pub trait BitQueries<T: BitStore, O: SliceOrder>: View<T, O> {
     /// let view = BitSlice::<u32, Lsb0>::from_slice(&elements);
     /// assert!(rt; (view.count_ones(), view.count_zeros()) == (48, 48));
     /// ```
-    #[tactic(auto, using(bitvec_slice::specs::Cited::ones_and_zeros))]
+    #[tactic(auto, using(bitvec_base::specs::CountLaws::ones_and_zeros))]
     final fn count_zeros(&self) -> usize
         ensures { result ≡ count_by not (Self.shows self.now).bits }
     {

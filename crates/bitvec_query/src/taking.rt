@@ -1,17 +1,18 @@
 //! The first and the last place of a bit that a walk has yet to reach.
 ghost use Rattle.std.specs.Prelude.{◌≡◌, ◌+◌, ◌-◌, length};
 ghost use Rattle.std.specs.Iterator.{YieldsFirst, YieldsLast};
-ghost use Rattle.bitvec_slice.specs.base.Memory.{HasWindow, list_in};
-ghost use Rattle.bitvec_slice.specs.cells.Access.{OnlyReads};
-ghost use Rattle.bitvec_slice.specs.walk.Cost.{touched_count};
+ghost use Rattle.bitvec_base.specs.Memory.{HasWindow, list_in};
+ghost use Rattle.bitvec_cells.specs.Access.{OnlyReads};
+ghost use Rattle.bitvec_cells.specs.Cost.{touched_count};
 ghost use Rattle.bitvec_query.specs.Loads.{LoadsPassed};
 ghost use Rattle.bitvec_query.specs.Places.{IsRestOf, ShortensBack, places_left};
 
+use bitvec_base::{BitOrder, Window};
+use bitvec_cells::CellsRead;
+use bitvec_engine::SliceOrder;
+use bitvec_store::BitStore;
+use bitvec_words::{count, count_zeros};
 use crate::rest::Rest;
-use bitvec_slice::base::{BitOrder, Window};
-use bitvec_slice::cells::CellsRead;
-use bitvec_slice::engine::{SliceOrder, count, count_zeros};
-use bitvec_slice::store::BitStore;
 
 /// The first index of the rest whose bit is `want`, if there is one; the rest then begins behind
 /// it, or is empty. Condition: the memory has at most `MAX_BITS` bits, the window lies in it, and

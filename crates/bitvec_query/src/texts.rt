@@ -2,20 +2,20 @@
 ghost use Rattle.std.specs.Prelude.{Some, codes};
 ghost use Rattle.std.specs.Fmt.{WritesOnOk, debug_variant, decimal};
 ghost use Rattle.std.specs.List.{join_by};
-ghost use Rattle.bitvec_slice.specs.traits.Listing.{comma, listed};
+ghost use Rattle.bitvec_domain.specs.Listing.{comma, listed};
 ghost use Rattle.bitvec_query.specs.Indices.{remaining_indices};
 
+use bitvec_domain::separator_before;
+use bitvec_engine::SliceOrder;
+use bitvec_store::BitStore;
 use crate::{Places, Wanted};
-use bitvec_slice::engine::SliceOrder;
-use bitvec_slice::store::BitStore;
-use bitvec_slice::traits::separator_before;
 use std::fmt;
 
 /// The indices that are still to come, as `Places([1, 4])`.
 impl<'a, T: BitStore, O: SliceOrder, B: Wanted> fmt::Debug for Places<'a, T, O, B> {
     ghost debug_output = { λ walk. debug_variant (codes "Places") (Some (listed decimal (remaining_indices walk))) };
 
-    #[tactic(auto, unfolding(bitvec_slice::specs::Cited::listed))]
+    #[tactic(auto, unfolding(bitvec_domain::specs::Listing::listed))]
     fn fmt<W: fmt::Write>(&self, f: &mut fmt::Formatter<W>) -> fmt::Result {
         f.write_str("Places")?;
         f.write_str("(")?;

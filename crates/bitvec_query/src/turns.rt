@@ -1,19 +1,19 @@
 //! Turns of a walk, each from the end that it names.
 ghost use Rattle.std.specs.Prelude.{◌≡◌, ◌+◌, length};
-ghost use Rattle.bitvec_slice.specs.base.Lists.{places_of};
-ghost use Rattle.bitvec_slice.specs.base.Memory.{HasWindow, list_in};
-ghost use Rattle.bitvec_slice.specs.cells.Access.{OnlyReadsAtMost};
-ghost use Rattle.bitvec_slice.specs.walk.Cost.{touched_count};
+ghost use Rattle.bitvec_base.specs.Lists.{places_of};
+ghost use Rattle.bitvec_base.specs.Memory.{HasWindow, list_in};
+ghost use Rattle.bitvec_cells.specs.Access.{OnlyReadsAtMost};
+ghost use Rattle.bitvec_cells.specs.Cost.{touched_count};
 ghost use Rattle.bitvec_query.specs.Loads.{LoadsPassed};
 ghost use Rattle.bitvec_query.specs.Places.{IsRestOf, places_left};
 ghost use Rattle.bitvec_query.specs.Turns.{TurnGives, count_given, turns_give};
 
+use bitvec_base::Window;
+use bitvec_cells::CellsRead;
+use bitvec_engine::SliceOrder;
+use bitvec_store::BitStore;
 use crate::rest::Rest;
 use crate::taking::{take_first, take_last};
-use bitvec_slice::base::Window;
-use bitvec_slice::cells::CellsRead;
-use bitvec_slice::engine::SliceOrder;
-use bitvec_slice::store::BitStore;
 
 /// An end of a walk.
 #[derive(Clone, Copy, PartialEq, Eq, Debug)]

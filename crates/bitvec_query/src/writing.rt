@@ -1,16 +1,15 @@
 //! The places of a bit, written down a word of them at a time.
 ghost use Rattle.std.specs.Prelude.{◌≡◌, ◌+◌, ◌-◌, ◌++◌, ◌^◌, ◌<◌, ◌≤◌, count_ones, drop, length, map, min, reverse, take};
-ghost use Rattle.bitvec_slice.specs.base.Memory.{HasWindow, list_in};
+ghost use Rattle.bitvec_base.specs.Memory.{HasWindow, list_in};
 ghost use Rattle.bitvec_query.specs.WordOnes.{order_ones, word_ones};
 ghost use Rattle.bitvec_query.specs.Places.{places_in};
 
+use bitvec_base::{Part, Window};
+use bitvec_cells::{Shared, sought};
+use bitvec_engine::SliceOrder;
+use bitvec_store::BitStore;
+use bitvec_words::{WORD_BITS, WordOrder};
 use crate::rest::Rest;
-use bitvec_slice::base::{Part, Window};
-use bitvec_slice::cells::Shared;
-use bitvec_slice::engine::SliceOrder;
-use bitvec_slice::store::BitStore;
-use bitvec_slice::walk::sought;
-use bitvec_slice::words::{WORD_BITS, WordOrder};
 
 /// Writes to `indices` the indices, from `from` on, of a window's bits that are `want`: in ascending
 /// order, as many as there is room for. It returns how many these are. Conditions: the memory has at

@@ -6,9 +6,9 @@ use Rattle.std.specs.Prelude.{ℕ, Bool, true, false, not, ◌+◌, ◌-◌, ◌
 use Rattle.std.specs.Ordering.{bool_cmp}
 use Rattle.std.specs.Cmp.Lexicographic.{slice_cmp}
 use Rattle.std.specs.List.{list_any, list_all}
-use Rattle.bitvec_engine.specs.base.declared.window.Window.{Window}
-use Rattle.bitvec_engine.specs.base.Window.{window_of}
-use Rattle.bitvec_engine.specs.base.Lists.{same_bits, is_prefix, is_suffix, stands_in, combined, differs, first_place, last_place, rotated_left, rotated_right, shifted_start, shifted_end, copied_within}
+use Rattle.bitvec_base.specs.declared.window.Window.{Window}
+use Rattle.bitvec_base.specs.Window.{window_of}
+use Rattle.bitvec_base.specs.Lists.{same_bits, is_prefix, is_suffix, stands_in, combined, differs, first_place, last_place, rotated_left, rotated_right, shifted_start, shifted_end, copied_within}
 use Rattle.bitvec_run.specs.declared.command.Op.{Op}
 use Rattle.bitvec_run.specs.declared.command.Op.TheVariants.{Get, Set, Replace, Swap, Fill, Invert, Reverse, ShiftStart, ShiftEnd, RotateLeft, RotateRight, CopyWithin, CopyFrom, And, Or, Xor, Eq, Cmp, StartsWith, EndsWith, Contains, CountOnes, CountZeros, FirstOne, FirstZero, LastOne, LastZero, Any, All}
 use Rattle.bitvec_run.specs.declared.command.Refusal.{Refusal}

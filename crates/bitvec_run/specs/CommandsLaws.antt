@@ -1,8 +1,8 @@
 -- A command that isn't refused meets its conditions.
 use Rattle.std.specs.Prelude.{◌≡◌, ℕ, ◌+◌, ◌-◌, ◌<◌, ◌≤◌, Bool, true, false, nat_lt, nat_le, Option, Some, None, List, length, refl}
 use Rattle.std.proofs.lemmas.Bool.{leb-true, ltb-true, eqb-true, and_parts}
-use Rattle.bitvec_engine.specs.base.declared.window.Window.{Window}
-use Rattle.bitvec_engine.specs.base.Window.{IsWithin}
+use Rattle.bitvec_base.specs.declared.window.Window.{Window}
+use Rattle.bitvec_base.specs.Window.{IsWithin}
 use Rattle.bitvec_run.specs.declared.command.Op.{Op}
 use Rattle.bitvec_run.specs.declared.command.Op.TheVariants.{Get, Set, Replace, Swap, ShiftStart, ShiftEnd, RotateLeft, RotateRight, CopyWithin, CopyFrom, And, Or, Xor, Eq, Cmp, StartsWith, EndsWith, Contains}
 use Rattle.bitvec_run.specs.declared.command.Refusal.{Refusal}

@@ -1,7 +1,7 @@
 -- The loads and stores that a command may take.
 use Rattle.std.specs.Prelude.{ℕ, Bool, ◌+◌, min}
-use Rattle.bitvec_engine.specs.base.declared.window.Window.{Window}
-use Rattle.bitvec_engine.specs.walk.Cost.{touched_count, fill_loads, read_loads, write_loads, write_stores, edit_loads, reverse_loads, reverse_stores, rotate_loads, rotate_stores, equal_loads, needle_loads}
+use Rattle.bitvec_base.specs.declared.window.Window.{Window}
+use Rattle.bitvec_cells.specs.Cost.{touched_count, fill_loads, read_loads, write_loads, write_stores, edit_loads, reverse_loads, reverse_stores, rotate_loads, rotate_stores, equal_loads, needle_loads}
 
 -- loads and stores of the memory, and loads of the right memory
 pub record Cost : Type 0 where

@@ -3,8 +3,8 @@ use Rattle.std.specs.Prelude.{◌≡◌, ℕ, ◌+◌, ◌<◌, ◌≤◌, List,
 use Rattle.std.proofs.Common.{arith, ◌∙◌, ap}
 use Rattle.std.proofs.lemmas.List.Sums.{sum_by_more}
 use Rattle.std.proofs.lemmas.List.{take_all, take_more}
-use Rattle.bitvec_engine.specs.cells.declared.cells.CellsRead.{Ghosts as Access}
-use Rattle.bitvec_engine.specs.cells.Access.{CostsAtMost, OnlyReadsAtMost}
+use Rattle.bitvec_cells.specs.declared.cells.CellsRead.{Ghosts as Access}
+use Rattle.bitvec_cells.specs.Access.{CostsAtMost, OnlyReadsAtMost}
 use Rattle.bitvec_run.specs.Costs.{Cost}
 use Rattle.bitvec_run.specs.Fold.{list_after, replies_of, cost_of}
 

@@ -1,9 +1,9 @@
 -- What a call did by a row.
 use Rattle.std.specs.Prelude.{◌≡◌, ℕ, Bool}
-use Rattle.bitvec_engine.specs.base.declared.window.Window.{Window}
-use Rattle.bitvec_engine.specs.base.Memory.{Writes, list_in}
-use Rattle.bitvec_engine.specs.cells.declared.cells.CellsRead.{Ghosts as Access}
-use Rattle.bitvec_engine.specs.cells.Access.{CostsAtMost, OnlyReadsAtMost}
+use Rattle.bitvec_base.specs.declared.window.Window.{Window}
+use Rattle.bitvec_base.specs.Memory.{Writes, list_in}
+use Rattle.bitvec_cells.specs.declared.cells.CellsRead.{Ghosts as Access}
+use Rattle.bitvec_cells.specs.Access.{CostsAtMost, OnlyReadsAtMost}
 use Rattle.bitvec_run.specs.declared.command.Reply.{Reply}
 use Rattle.bitvec_run.specs.Costs.{place_of}
 use Rattle.bitvec_run.specs.Rows.{CommandRow}

@@ -1,12 +1,12 @@
 -- A question, as a call that may write; a call on a part of a window, as one on the window; and a window of the list that another one holds.
 use Rattle.std.specs.Prelude.{◌≡◌, ℕ, ◌≤◌, Bool, List}
 use Rattle.std.proofs.Common.{arith, ◌∙◌, ap, refl, sym}
-use Rattle.bitvec_engine.specs.base.declared.window.Window.{Window}
-use Rattle.bitvec_engine.specs.base.Memory.{HasWindow, list_in, memory_bits}
-use Rattle.bitvec_engine.specs.base.Window.{IsWithin, window_of, window_range, write_at}
-use Rattle.bitvec_engine.specs.base.WindowLaws.{part-of_window}
-use Rattle.bitvec_engine.specs.base.WritesLaws.{Writes-is, Writes-nothing, Writes-range, list-range, within-list}
-use Rattle.bitvec_engine.specs.cells.declared.cells.CellsRead.{Ghosts as Access}
+use Rattle.bitvec_base.specs.declared.window.Window.{Window}
+use Rattle.bitvec_base.specs.Memory.{HasWindow, list_in, memory_bits}
+use Rattle.bitvec_base.specs.Window.{IsWithin, window_of, window_range, write_at}
+use Rattle.bitvec_base.specs.WindowLaws.{part-of_window}
+use Rattle.bitvec_base.specs.WritesLaws.{Writes-is, Writes-nothing, Writes-range, list-range, within-list}
+use Rattle.bitvec_cells.specs.declared.cells.CellsRead.{Ghosts as Access}
 use Rattle.bitvec_run.specs.declared.command.Reply.{Reply}
 use Rattle.bitvec_run.specs.Follows.{Answers, Follows}
 use Rattle.bitvec_run.specs.Rows.{CommandRow, on_range}

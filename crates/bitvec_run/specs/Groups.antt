@@ -1,7 +1,7 @@
 -- The commands by what they work on, and what each needs of it.
 use Rattle.std.specs.Prelude.{◌≡◌, ℕ, ◌<◌, ◌≤◌, ⊤}
-use Rattle.bitvec_engine.specs.base.Lists.{FitsWithin}
-use Rattle.bitvec_engine.specs.base.Window.{IsWithin}
+use Rattle.bitvec_base.specs.Lists.{FitsWithin}
+use Rattle.bitvec_base.specs.Window.{IsWithin}
 use Rattle.bitvec_run.specs.declared.command.Op.{Op}
 use Rattle.bitvec_run.specs.declared.command.Op.TheVariants.{Get, Set, Replace, Swap, Fill, Invert, Reverse, ShiftStart, ShiftEnd, RotateLeft, RotateRight, CopyWithin, CopyFrom, And, Or, Xor, Eq, Cmp, StartsWith, EndsWith, Contains}
 

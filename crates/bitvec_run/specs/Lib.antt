@@ -13,9 +13,3 @@ pub mod Rows
 pub mod Runs
 pub mod RunsLaws
 pub mod WordRunsLaws
-pub use Rattle.bitvec_engine.specs.WordSteps as WordSteps
-pub use Rattle.bitvec_engine.specs.base as base
-pub use Rattle.bitvec_engine.specs.cells as cells
-pub use Rattle.bitvec_engine.specs.store as store
-pub use Rattle.bitvec_engine.specs.walk as walk
-pub use Rattle.bitvec_segments.specs as segments

@@ -2,13 +2,13 @@
 use Rattle.std.specs.Prelude.{◌≡◌, ℕ, ◌+◌, ◌*◌, ◌<◌, ◌≤◌, Bool, refl, List, [], ◌∷◌, ◌++◌, length, take, slice_index_or}
 use Rattle.std.proofs.Common.{arith, sym, ◌∙◌, ap, subst}
 use Rattle.std.proofs.lemmas.List.{take_all}
-use Rattle.bitvec_engine.specs.base.declared.window.Window.{Window}
-use Rattle.bitvec_engine.specs.base.Memory.{HasWindow, Writes, FitsMaxBits, list_in, memory_bits}
-use Rattle.bitvec_engine.specs.base.MemoryLaws.{length-memory_bits}
-use Rattle.bitvec_engine.specs.base.SliceLaws.{range-all}
-use Rattle.bitvec_engine.specs.base.Window.{window_of}
-use Rattle.bitvec_engine.specs.base.WritesLaws.{Writes-holds, Writes-is, Writes-nothing, Writes-then}
-use Rattle.bitvec_engine.specs.cells.declared.cells.CellsRead.{Ghosts as Access}
+use Rattle.bitvec_base.specs.declared.window.Window.{Window}
+use Rattle.bitvec_base.specs.Memory.{HasWindow, Writes, FitsMaxBits, list_in, memory_bits}
+use Rattle.bitvec_base.specs.MemoryLaws.{length-memory_bits}
+use Rattle.bitvec_base.specs.SliceLaws.{range-all}
+use Rattle.bitvec_base.specs.Window.{window_of}
+use Rattle.bitvec_base.specs.WritesLaws.{Writes-holds, Writes-is, Writes-nothing, Writes-then}
+use Rattle.bitvec_cells.specs.declared.cells.CellsRead.{Ghosts as Access}
 use Rattle.bitvec_run.specs.declared.command.Reply.{Reply}
 use Rattle.bitvec_run.specs.Costs.{Cost, place_of}
 use Rattle.bitvec_run.specs.Fold.{list_after, replies_of}

@@ -2,10 +2,10 @@
 --
 -- `right` is the right list, and `list` the window's, of n bits.
 use Rattle.std.specs.Prelude.{◌≡◌, ◌↔◌, ℕ, ◌+◌, ◌-◌, ◌*◌, ◌<◌, ◌≤◌, Bool, if◌then◌else◌, List, length, Result, Err, IsOk}
-use Rattle.bitvec_engine.specs.base.declared.window.Window.{Window}
-use Rattle.bitvec_engine.specs.base.Memory.{FitsMaxBits, HasWindow, Writes, list_in}
-use Rattle.bitvec_engine.specs.cells.declared.cells.CellsRead.{Ghosts as Access}
-use Rattle.bitvec_engine.specs.cells.Access.{CostsAtMost, OnlyReadsAtMost}
+use Rattle.bitvec_base.specs.declared.window.Window.{Window}
+use Rattle.bitvec_base.specs.Memory.{FitsMaxBits, HasWindow, Writes, list_in}
+use Rattle.bitvec_cells.specs.declared.cells.CellsRead.{Ghosts as Access}
+use Rattle.bitvec_cells.specs.Access.{CostsAtMost, OnlyReadsAtMost}
 use Rattle.bitvec_run.specs.declared.command.Refusal.{Refusal}
 use Rattle.bitvec_run.specs.declared.command.Reply.{Reply}
 use Rattle.bitvec_run.specs.declared.command.RunError.{RunError}

@@ -3,10 +3,10 @@ use Rattle.std.specs.Prelude.{ℕ, ◌-◌, ◌*◌, ◌≤◌, ◌==◌, Bool, 
 use Rattle.std.specs.Int.{div_ceil}
 use Rattle.std.proofs.Common.{arith, subst, sym, ⊎_elim}
 use Rattle.std.proofs.lemmas.Bool.{cases_Bool}
-use Rattle.bitvec_engine.specs.base.declared.window.Window.{Window}
-use Rattle.bitvec_engine.specs.cells.declared.cells.CellsRead.{Ghosts as Access}
-use Rattle.bitvec_engine.specs.cells.Access.{CostsAtMost, OnlyReadsAtMost}
-use Rattle.bitvec_engine.specs.store.Width.{IsWidth}
+use Rattle.bitvec_base.specs.declared.window.Window.{Window}
+use Rattle.bitvec_cells.specs.declared.cells.CellsRead.{Ghosts as Access}
+use Rattle.bitvec_cells.specs.Access.{CostsAtMost, OnlyReadsAtMost}
+use Rattle.bitvec_store.specs.Width.{IsWidth}
 use Rattle.bitvec_engine.specs.WordSteps.{EditsInSteps, ReadsInSteps, WritesInSteps, word_span}
 use Rattle.bitvec_engine.specs.WordStepsLaws.{edits-words, equal_loads-words, equals-words, reads-words, writes-words}
 use Rattle.bitvec_run.specs.declared.command.Op.{Op}

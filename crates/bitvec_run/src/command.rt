@@ -1,5 +1,5 @@
 //! Commands, what they answer, and why one is refused.
-use bitvec_engine::base::Window;
+use bitvec_base::Window;
 use std::cmp::Ordering;
 use thiserror::Error;
 

@@ -1,18 +1,16 @@
 //! Commands that change their list by itself.
 ghost use Rattle.std.specs.Prelude.{◌≡◌, Bool, List};
-ghost use Rattle.bitvec_engine.specs.base.Memory.{HasWindow};
+ghost use Rattle.bitvec_base.specs.Memory.{HasWindow};
 ghost use Rattle.bitvec_run.specs.Commands.{op_row};
 ghost use Rattle.bitvec_run.specs.Follows.{Follows};
 ghost use Rattle.bitvec_run.specs.Groups.{Edit, FitsList, Move, group};
 
+use bitvec_base::Window;
+use bitvec_cells::{Cells, replace_bit, swap_bits};
+use bitvec_engine::{SliceOrder, rotate_left, rotate_right, shift_end, shift_start};
+use bitvec_store::BitStore;
+use bitvec_words::{fill, invert};
 use crate::{Op, Reply};
-use bitvec_engine::base::Window;
-use bitvec_engine::cells::Cells;
-use bitvec_engine::store::BitStore;
-use bitvec_engine::{
-    SliceOrder, fill, invert, replace_bit, rotate_left, rotate_right, shift_end, shift_start,
-    swap_bits,
-};
 
 /// An edit of bits where they stand, in the list that a window holds, whatever the right list.
 /// Condition: as for [`query`], with the indices that are named.

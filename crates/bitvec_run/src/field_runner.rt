@@ -1,17 +1,17 @@
 //! Runs of whole lists of commands, those with numbers among them.
 ghost use Rattle.std.specs.Prelude.{◌*◌, ◌<◌, length, IfErr, IfOk, OnErr, OnOk};
-ghost use Rattle.bitvec_engine.specs.base.Memory.{memory_bits};
-ghost use Rattle.bitvec_engine.specs.cells.Access.{OnlyReads};
+ghost use Rattle.bitvec_base.specs.Memory.{memory_bits};
+ghost use Rattle.bitvec_cells.specs.Access.{OnlyReads};
 ghost use Rattle.bitvec_run.specs.Runs.{CanRun, ErrsExactly, FailsRun, RunsBy};
 ghost use Rattle.bitvec_run.specs.FieldRows.{field_outcome};
 
+use bitvec_base::Window;
+use bitvec_cells::{Cells, CellsRead, fits_max_bits, has_window};
+use bitvec_engine::SliceOrder;
+use bitvec_segments::FieldOrder;
+use bitvec_store::BitStore;
 use crate::field_stepping::field_step;
 use crate::{FieldStep, Reply, RunError, whole};
-use bitvec_engine::SliceOrder;
-use bitvec_engine::base::Window;
-use bitvec_engine::cells::{Cells, CellsRead, fits_max_bits, has_window};
-use bitvec_engine::store::BitStore;
-use bitvec_segments::FieldOrder;
 use std::alloc::Allocator;
 
 /// Runs commands through a window of a memory, loads and stores of numbers among them: [`run`](crate::run)

@@ -12,32 +12,6 @@ mod right;
 mod runner;
 mod step;
 
-/// Items of `bitvec_base` that crates above use.
-pub mod base {
-    pub use bitvec_engine::base::{BitOrder, HiLo, Lsb0, Msb0, Window};
-}
-
-/// Items of `bitvec_cells` that crates above use.
-pub mod cells {
-    pub use bitvec_engine::cells::{Cells, CellsRead, Exclusive, Shared};
-}
-
-/// Items of `bitvec_engine` that crates above use.
-pub mod engine {
-    pub use bitvec_engine::{BitOp, ByWords, SliceOrder};
-}
-
-/// Items of `bitvec_segments` that crates above use.
-pub mod segments {
-    pub use bitvec_segments::FieldOrder;
-}
-
-/// Items of `bitvec_store` that crates above use.
-pub mod store {
-    pub use bitvec_engine::store::BitStore;
-}
-
-pub use bitvec_engine::base::Window;
 pub use command::{Op, Refusal, Reply, RunError, Step};
 pub use field_runner::run_fields;
 pub use field_step::{FieldOp, FieldStep};

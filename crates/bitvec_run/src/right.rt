@@ -1,17 +1,18 @@
 //! Commands with a right list.
 ghost use Rattle.std.specs.Prelude.{◌≡◌, ◌+◌, ◌<◌, ◌^◌};
-ghost use Rattle.bitvec_engine.specs.base.Memory.{HasWindow, list_in};
-ghost use Rattle.bitvec_engine.specs.base.Window.{IsWithin};
+ghost use Rattle.bitvec_base.specs.Memory.{HasWindow, list_in};
+ghost use Rattle.bitvec_base.specs.Window.{IsWithin};
 ghost use Rattle.bitvec_run.specs.Commands.{op_row};
 ghost use Rattle.bitvec_run.specs.Follows.{FollowsBoth};
 ghost use Rattle.bitvec_run.specs.Groups.{Combine, Compare, FitsList, FitsRight, group};
 ghost use Rattle.bitvec_run.specs.Runs.{window_inside};
 
+use bitvec_base::Window;
+use bitvec_cells::{Cells, CellsRead};
+use bitvec_engine::{SliceOrder, contains, ends_with, starts_with};
+use bitvec_store::BitStore;
+use bitvec_words::BitOp;
 use crate::{Op, Reply};
-use bitvec_engine::base::Window;
-use bitvec_engine::cells::{Cells, CellsRead};
-use bitvec_engine::store::BitStore;
-use bitvec_engine::{BitOp, SliceOrder, contains, ends_with, starts_with};
 
 /// An edit of the list that a window holds, by bits of the right list, which `source` holds.
 /// Condition: each memory has at most `MAX_BITS` bits, each window lies in its memory, the right

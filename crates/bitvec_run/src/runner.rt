@@ -1,15 +1,15 @@
 //! Runs of whole lists of commands.
 ghost use Rattle.std.specs.Prelude.{◌≡◌, ◌*◌, ◌<◌, length, IfErr, IfOk, OnErr, OnOk};
-ghost use Rattle.bitvec_engine.specs.base.Memory.{FitsMaxBits, memory_bits};
-ghost use Rattle.bitvec_engine.specs.cells.Access.{OnlyReads};
+ghost use Rattle.bitvec_base.specs.Memory.{FitsMaxBits, memory_bits};
+ghost use Rattle.bitvec_cells.specs.Access.{OnlyReads};
 ghost use Rattle.bitvec_run.specs.Runs.{CanRun, ErrsExactly, FailsRun, RunsBy, step_outcome, whole_window};
 
+use bitvec_base::Window;
+use bitvec_cells::{Cells, CellsRead, fits_max_bits, has_window};
+use bitvec_engine::SliceOrder;
+use bitvec_store::BitStore;
 use crate::step::carry_out;
 use crate::{Reply, RunError, Step};
-use bitvec_engine::SliceOrder;
-use bitvec_engine::base::Window;
-use bitvec_engine::cells::{Cells, CellsRead, fits_max_bits, has_window};
-use bitvec_engine::store::BitStore;
 use std::alloc::Allocator;
 
 /// Runs commands through a window of a memory.

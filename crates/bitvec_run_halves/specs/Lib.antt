@@ -1,3 +1,2 @@
-pub mod commands
 pub mod Sides
 pub mod SidesLaws

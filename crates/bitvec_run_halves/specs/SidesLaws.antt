@@ -2,11 +2,11 @@
 use Rattle.std.specs.Prelude.{◌≡◌, ℕ, ◌+◌, ◌-◌, ◌<◌, ◌≤◌, Bool, List, [], ◌∷◌, ◌++◌, length, slice_index_or, slice_range, take, refl}
 use Rattle.std.proofs.Common.{arith, rules, sym, ◌∙◌, ap, length-append, length-take}
 use Rattle.std.proofs.lemmas.List.{places, same_lists, take-append-drop}
-use Rattle.bitvec_slice.specs.base.declared.window.Window.{Window}
-use Rattle.bitvec_slice.specs.base.Memory.{HasWindow, Writes, list_in}
-use Rattle.bitvec_slice.specs.base.Window.{write_at}
-use Rattle.bitvec_slice.specs.base.WritesLaws.{HasWindow-kept, HasWindow-range, Writes-holds, Writes-is, Writes-nothing, Writes-range, Writes-then, length-list, list-range}
-use Rattle.bitvec_slice.specs.cells.declared.cells.CellsRead.{Ghosts as Access}
+use Rattle.bitvec_base.specs.declared.window.Window.{Window}
+use Rattle.bitvec_base.specs.Memory.{HasWindow, Writes, list_in}
+use Rattle.bitvec_base.specs.Window.{write_at}
+use Rattle.bitvec_base.specs.WritesLaws.{HasWindow-kept, HasWindow-range, Writes-holds, Writes-is, Writes-nothing, Writes-range, Writes-then, length-list, list-range}
+use Rattle.bitvec_cells.specs.declared.cells.CellsRead.{Ghosts as Access}
 use Rattle.bitvec_run.specs.declared.command.Reply.{Reply}
 use Rattle.bitvec_run.specs.declared.command.Step.{Step}
 use Rattle.bitvec_run.specs.Fold.{list_after, replies_of}

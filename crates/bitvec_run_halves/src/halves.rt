@@ -2,7 +2,7 @@
 ghost use Rattle.std.specs.Prelude.{◌≡◌, ◌+◌, ◌<◌, ◌≤◌, ◌^◌};
 ghost use Rattle.bitvec_run_halves.specs.Sides.{side_window};
 
-use bitvec_slice::base::Window;
+use bitvec_base::Window;
 
 /// Which half of a view a step of [`crate::run_halves`] works on.
 #[derive(Clone, Copy, PartialEq, Eq, Debug)]

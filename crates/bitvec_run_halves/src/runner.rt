@@ -1,19 +1,19 @@
 //! Runs of whole lists of commands through two halves.
 ghost use Rattle.std.specs.Prelude.{◌≡◌, ◌≤◌, length, map};
-ghost use Rattle.bitvec_slice.specs.base.Memory.{HasWindow, list_in};
+ghost use Rattle.bitvec_base.specs.Memory.{HasWindow, list_in};
 ghost use Rattle.bitvec_run.specs.Fold.{list_after, replies_of};
 ghost use Rattle.bitvec_slice.specs.Views.{seen, seen_mut};
 ghost use Rattle.bitvec_slice.specs.Writes.{WritesBits};
 ghost use Rattle.bitvec_run_halves.specs.Sides.{RunsSides, halves_of, joined, side_lists, side_reply};
 
+use bitvec_base::Window;
+use bitvec_cells::{Cells, CellsRead, Exclusive, Shared};
+use bitvec_engine::SliceOrder;
+use bitvec_run::{Reply, Step, carry_out};
+use bitvec_slice::{BitSlice, BitSliceMut, Sealed, ViewMut};
+use bitvec_store::BitStore;
 use crate::Side;
 use crate::halves::side_window;
-use bitvec_run::{Reply, Step, carry_out};
-use bitvec_slice::base::Window;
-use bitvec_slice::cells::{Cells, CellsRead, Exclusive, Shared};
-use bitvec_slice::engine::SliceOrder;
-use bitvec_slice::store::BitStore;
-use bitvec_slice::{BitSlice, BitSliceMut, Sealed, ViewMut};
 
 /// Runs commands through the two halves of a view, which meet at the index `mid`, in the order given.
 ///

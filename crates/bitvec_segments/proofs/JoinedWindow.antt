@@ -6,19 +6,19 @@ use Rattle.std.proofs.lemmas.List.{same_lists}
 use Rattle.std.proofs.lemmas.Nat.{div-add-mod', div-mul-add, mod_below}
 use Rattle.std.proofs.Math.Nat.{mod-eq_of_lt, mul-le-mul_left}
 use Rattle.std.proofs.Math.Pow.{pow_mono}
-use Rattle.bitvec_words.specs.base.declared.window.Window.{Window}
-use Rattle.bitvec_words.specs.base.Memory.{HasWindow, element_bits, list_in}
-use Rattle.bitvec_words.specs.base.MemoryLaws.{get-element_bits, length-element_bits}
-use Rattle.bitvec_words.specs.base.WritesLaws.{length-list, list-range}
-use Rattle.bitvec_words.specs.walk.Cost.{touched_count}
-use Rattle.bitvec_words.specs.walk.WalkLaws.{touched-until}
+use Rattle.bitvec_base.specs.declared.window.Window.{Window}
+use Rattle.bitvec_base.specs.Memory.{HasWindow, element_bits, list_in}
+use Rattle.bitvec_base.specs.MemoryLaws.{get-element_bits, length-element_bits}
+use Rattle.bitvec_base.specs.WritesLaws.{length-list, list-range}
+use Rattle.bitvec_cells.specs.Cost.{touched_count}
+use Rattle.bitvec_cells.specs.WalkLaws.{touched-until}
 use Rattle.bitvec_words.specs.Elements.{elements_window}
 use Rattle.bitvec_words.specs.ShortWindow.{lowest_bit}
 use Rattle.bitvec_words.specs.FieldLaws.{element_of, list-element}
 use Rattle.bitvec_words.specs.OrderEnd.{RunsFrom}
 use Rattle.bitvec_words.specs.WholeLaws.{list-empty}
 use Rattle.bitvec_words.specs.WordLaws.{word_whole}
-use Rattle.bitvec_words.specs.store.Width.{IsWidth}
+use Rattle.bitvec_store.specs.Width.{IsWidth}
 use Rattle.bitvec_segments.specs.LoadLaws.{joined_below}
 use Rattle.bitvec_segments.specs.NumberLaws.{segment-number-is, segment_number-below}
 use Rattle.bitvec_segments.specs.PlainLaws.{append-highest, append-lowest}

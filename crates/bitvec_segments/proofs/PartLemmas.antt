@@ -5,10 +5,10 @@ use Rattle.std.proofs.Common.{arith, sym, ◌∙◌, ap}
 use Rattle.std.proofs.lemmas.List.{same_lists}
 use Rattle.std.proofs.lemmas.Nat.{and_mask, div-add-mod', mod_below, pow_pos}
 use Rattle.std.proofs.lemmas.Nat.Bits.{bit_at_cat_low, ones_shr}
-use Rattle.bitvec_words.specs.base.Memory.{element_bits}
-use Rattle.bitvec_words.specs.base.MemoryLaws.{get-element_bits, length-element_bits}
-use Rattle.bitvec_words.specs.base.ShiftLaws.{bit_at_shl, bit_at_shr}
-use Rattle.bitvec_words.specs.base.WriteLaws.{get-slice_range, length-slice_range}
+use Rattle.bitvec_base.specs.Memory.{element_bits}
+use Rattle.bitvec_base.specs.MemoryLaws.{get-element_bits, length-element_bits}
+use Rattle.bitvec_base.specs.ShiftLaws.{bit_at_shl, bit_at_shr}
+use Rattle.bitvec_base.specs.WriteLaws.{get-slice_range, length-slice_range}
 use Rattle.bitvec_words.specs.ShortWindow.{lowest_bit}
 use Rattle.bitvec_words.specs.MovedLaws.{lowest_bit-fits}
 use Rattle.bitvec_words.specs.OrderEnd.{RunsFrom}

@@ -6,18 +6,18 @@ use Rattle.std.proofs.lemmas.Grind.{common_steps}
 use Rattle.std.proofs.lemmas.Nat.{div-add-mod', div-mul-add, mod-mul-add, mod_below, pow-add, shr-shr}
 use Rattle.std.proofs.Math.Nat.{mod-eq_of_lt, mul-le-mul_left}
 use Rattle.std.proofs.Math.Pow.{pow_mono}
-use Rattle.bitvec_words.specs.base.declared.part.Part.{Part}
-use Rattle.bitvec_words.specs.base.declared.window.Window.{Window}
-use Rattle.bitvec_words.specs.base.Memory.{HasWindow, Writes, list_in}
-use Rattle.bitvec_words.specs.base.Parts.{HasPart, first_part_of, part_window}
-use Rattle.bitvec_words.specs.base.SliceLaws.{range-from_start}
-use Rattle.bitvec_words.specs.base.Window.{window_after, window_range}
-use Rattle.bitvec_words.specs.base.WritesLaws.{HasWindow-kept, Writes-empty, Writes-is, length-list, list-after, list-behind, list-range}
-use Rattle.bitvec_words.specs.store.Width.{IsWidth}
-use Rattle.bitvec_words.specs.store.WidthLaws.{width_some}
-use Rattle.bitvec_words.specs.walk.Cost.{fill_loads, part_loads, touched_count}
-use Rattle.bitvec_words.specs.walk.Walk.{Walked, edge_loads}
-use Rattle.bitvec_words.specs.walk.WalkLaws.{Walked-start, first-len, first-place, touched-none}
+use Rattle.bitvec_base.specs.declared.part.Part.{Part}
+use Rattle.bitvec_base.specs.declared.window.Window.{Window}
+use Rattle.bitvec_base.specs.Memory.{HasWindow, Writes, list_in}
+use Rattle.bitvec_base.specs.Parts.{HasPart, first_part_of, part_window}
+use Rattle.bitvec_base.specs.SliceLaws.{range-from_start}
+use Rattle.bitvec_base.specs.Window.{window_after, window_range}
+use Rattle.bitvec_base.specs.WritesLaws.{HasWindow-kept, Writes-empty, Writes-is, length-list, list-after, list-behind, list-range}
+use Rattle.bitvec_store.specs.Width.{IsWidth}
+use Rattle.bitvec_store.specs.WidthLaws.{width_some}
+use Rattle.bitvec_cells.specs.Cost.{fill_loads, part_loads, touched_count}
+use Rattle.bitvec_cells.specs.Walk.{Walked, edge_loads}
+use Rattle.bitvec_cells.specs.WalkLaws.{Walked-start, first-len, first-place, touched-none}
 use Rattle.bitvec_words.specs.FieldLaws.{Writes-head}
 use Rattle.bitvec_words.specs.PartWalkLaws.{HasPart-first}
 use Rattle.bitvec_words.specs.TouchedLaws.{touched-first, touched-parts}

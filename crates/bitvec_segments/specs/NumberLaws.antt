@@ -6,9 +6,9 @@ use Rattle.std.proofs.lemmas.List.{same_lists}
 use Rattle.std.proofs.lemmas.Nat.{div-add-mod', mod_below, pow-add, pow_pos}
 use Rattle.std.proofs.Math.Nat.{mod-eq_of_lt}
 use Rattle.std.proofs.lemmas.Nat.Bits.{bit_at_cat_high, bit_at_cat_low}
-use Rattle.bitvec_words.specs.base.BitsFixMemory.{element_bits-fix}
-use Rattle.bitvec_words.specs.base.MemoryLaws.{length-element_bits, get-element_bits}
-use Rattle.bitvec_words.specs.base.Order.{Permutes}
+use Rattle.bitvec_base.specs.BitsFixMemory.{element_bits-fix}
+use Rattle.bitvec_base.specs.MemoryLaws.{length-element_bits, get-element_bits}
+use Rattle.bitvec_base.specs.Order.{Permutes}
 use Rattle.bitvec_segments.specs.Segments.{bit_number, segment_bits, segment_number}
 
 -- ---- one segment

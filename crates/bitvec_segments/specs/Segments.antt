@@ -4,7 +4,7 @@
 -- `high` the first bit of a segment is its highest, under any other its lowest.
 use Rattle.std.specs.Prelude.{ℕ, ◌+◌, ◌-◌, ◌*◌, ◌/◌, ◌%◌, ◌^◌, ◌==◌, Bool, true, false, if◌then◌else◌, List, [], ◌∷◌, ◌++◌, length}
 use Rattle.std.specs.List.{sum_by}
-use Rattle.bitvec_words.specs.base.Memory.{element_bits}
+use Rattle.bitvec_base.specs.Memory.{element_bits}
 
 -- a bit before the bits of the first segment; alone, where there is none
 abbrev pub in_first : Bool → List (List Bool) → List (List Bool)

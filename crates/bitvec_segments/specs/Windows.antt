@@ -1,7 +1,7 @@
 -- Windows whose bits are a number.
 use Rattle.std.specs.Prelude.{ℕ, ◌+◌, ◌%◌, ◌<◌, ◌≤◌, Bool, List}
-use Rattle.bitvec_words.specs.base.declared.window.Window.{Window}
-use Rattle.bitvec_words.specs.base.Memory.{Edits, HasWindow, list_in}
+use Rattle.bitvec_base.specs.declared.window.Window.{Window}
+use Rattle.bitvec_base.specs.Memory.{Edits, HasWindow, list_in}
 use Rattle.bitvec_segments.specs.Segments.{loaded, stored}
 
 -- one of a memory, of at most as many bits as a number has

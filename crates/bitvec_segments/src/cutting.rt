@@ -1,9 +1,9 @@
 //! The first part of a window whose place and end are known, so that the machine code has no division and no
 //! minimum, and where the bits of a part stand in the window's number.
 ghost use Rattle.std.specs.Prelude.{◌≡◌, ◌+◌, ◌/◌, ◌%◌, ◌<◌, ◌≤◌, if◌then◌else◌, min};
-ghost use Rattle.bitvec_words.specs.base.Parts.{first_part_of};
+ghost use Rattle.bitvec_base.specs.Parts.{first_part_of};
 
-use bitvec_words::base::{Part, Window};
+use bitvec_base::{Part, Window};
 
 /// The first part of a window, which has the bits `from` up to, without, `to` of the element `element`.
 #[inline(always)]

@@ -1,15 +1,15 @@
 //! The number of the bits of one part of an element.
 ghost use Rattle.std.specs.Prelude.{◌≡◌, ◌-◌, ◌<◌, ◌≤◌};
-ghost use Rattle.bitvec_words.specs.base.Memory.{Writes, list_in};
-ghost use Rattle.bitvec_words.specs.base.Parts.{HasPart, part_window};
-ghost use Rattle.bitvec_words.specs.cells.Access.{Costs, OnlyReads};
+ghost use Rattle.bitvec_base.specs.Memory.{Writes, list_in};
+ghost use Rattle.bitvec_base.specs.Parts.{HasPart, part_window};
+ghost use Rattle.bitvec_cells.specs.Access.{Costs, OnlyReads};
 ghost use Rattle.bitvec_segments.specs.Segments.{segment_bits, segment_number};
-ghost use Rattle.bitvec_words.specs.walk.Cost.{part_loads};
+ghost use Rattle.bitvec_cells.specs.Cost.{part_loads};
 ghost use Rattle.bitvec_words.specs.ShortWindow.{lowest_bit};
 
-use bitvec_words::base::Part;
-use bitvec_words::cells::{Cells, CellsRead};
-use bitvec_words::store::BitStore;
+use bitvec_base::Part;
+use bitvec_cells::{Cells, CellsRead};
+use bitvec_store::BitStore;
 use bitvec_words::{WordOrder, store_part};
 
 /// How many of `width` bits are less significant than those at the indices from `from` up to, without, `to`.

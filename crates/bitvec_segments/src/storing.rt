@@ -1,15 +1,15 @@
 //! A number put into the bits of a window.
 ghost use Rattle.std.specs.Prelude.{◌≡◌, ◌+◌, ◌*◌, ◌%◌, ◌<◌, ◌≤◌};
-ghost use Rattle.bitvec_words.specs.cells.Access.{CostsAtMost};
+ghost use Rattle.bitvec_cells.specs.Access.{CostsAtMost};
 ghost use Rattle.bitvec_segments.specs.Windows.{HasNumber, StoresIn};
-ghost use Rattle.bitvec_words.specs.walk.Cost.{fill_loads, touched_count};
+ghost use Rattle.bitvec_cells.specs.Cost.{fill_loads, touched_count};
 
+use bitvec_base::Window;
+use bitvec_cells::Cells;
+use bitvec_store::BitStore;
+use bitvec_words::WordOrder;
 use crate::cutting::{lower_bits, part_at};
 use crate::part::store_part_number;
-use bitvec_words::WordOrder;
-use bitvec_words::base::Window;
-use bitvec_words::cells::Cells;
-use bitvec_words::store::BitStore;
 
 /// Gives a window the bits for which `load` gives the number, without those of its bits for which the
 /// window is too short. Condition: as for `load`. It stores each element that the window touches once,

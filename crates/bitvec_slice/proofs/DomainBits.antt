@@ -3,20 +3,20 @@ use Rattle.std.specs.Prelude.{◌≡◌, ℕ, ◌+◌, ◌-◌, ◌*◌, ◌<◌
 use Rattle.std.proofs.Common.{arith, rules, ◌∙◌, ap}
 use Rattle.std.proofs.lemmas.List.{places, same_lists}
 use Rattle.std.proofs.lemmas.Option.{IfSome_then}
-use Rattle.bitvec_elements.specs.base.Memory.{list_in, memory_bits}
-use Rattle.bitvec_elements.specs.base.MemoryLaws.{element_fits, length-memory_bits, memory-range}
-use Rattle.bitvec_elements.specs.base.Parts.{part_window}
-use Rattle.bitvec_elements.specs.base.SliceLaws.{range-all, range-map, range-none, range-same}
-use Rattle.bitvec_elements.specs.base.Window.{max_bits, window_of}
-use Rattle.bitvec_elements.specs.base.WriteLaws.{length-slice_range, range-range}
-use Rattle.bitvec_elements.specs.base.declared.part.Part.{Part}
+use Rattle.bitvec_base.specs.Memory.{list_in, memory_bits}
+use Rattle.bitvec_base.specs.MemoryLaws.{element_fits, length-memory_bits, memory-range}
+use Rattle.bitvec_base.specs.Parts.{part_window}
+use Rattle.bitvec_base.specs.SliceLaws.{range-all, range-map, range-none, range-same}
+use Rattle.bitvec_base.specs.Window.{max_bits, window_of}
+use Rattle.bitvec_base.specs.WriteLaws.{length-slice_range, range-range}
+use Rattle.bitvec_base.specs.declared.part.Part.{Part}
 use Rattle.bitvec_domain.specs.CutLaws.{cut_bits, cut_is, part_bits_if, pieces-bits}
 use Rattle.bitvec_domain.specs.Cuts.{IsCutWithin, IsHeadWithin, IsPartWithin, IsTailWithin, cut_of, part_if_from}
 use Rattle.bitvec_domain.specs.Domains.{DomainPieces, bits_of_pieces, pieces_in}
 use Rattle.bitvec_domain.specs.declared.cut.Cut.{Cut}
 use Rattle.bitvec_domain.specs.declared.cut.Cut.TheVariants.{Inside, Across}
-use Rattle.bitvec_elements.specs.store.Width.{IsWidth}
-use Rattle.bitvec_elements.specs.store.WidthLaws.{width_some}
+use Rattle.bitvec_store.specs.Width.{IsWidth}
+use Rattle.bitvec_store.specs.WidthLaws.{width_some}
 use Rattle.bitvec_slice.specs.Domains.{IsBitDomain, IsDomain, Views, bits_of_views, view_in, view_in_if, views_in}
 use Rattle.bitvec_slice.specs.Seen.{shown}
 use Rattle.bitvec_slice.specs.SeenLaws.{has_window}

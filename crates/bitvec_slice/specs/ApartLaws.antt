@@ -1,8 +1,8 @@
 -- The two halves of a view that is cut at an element's edge.
 use Rattle.std.specs.Prelude.{◌≡◌, ℕ, ◌+◌, ◌-◌, ◌*◌, ◌/◌, ◌%◌, ◌≤◌, List, drop, length, min, slice_range, take}
 use Rattle.std.proofs.Common.{arith, sym, ◌∙◌, ap}
-use Rattle.bitvec_elements.specs.base.SliceLaws.{range-rest, range-to_end}
-use Rattle.bitvec_elements.specs.store.Width.{IsWidth}
+use Rattle.bitvec_base.specs.SliceLaws.{range-rest, range-to_end}
+use Rattle.bitvec_store.specs.Width.{IsWidth}
 use Rattle.bitvec_slice.specs.Seen.{IsRangeOf, Seen, shown}
 use Rattle.bitvec_slice.specs.SeenLaws.{part_view}
 use Rattle.bitvec_slice.specs.Touched.{end_touched, first_touched, touched_elements}

@@ -1,8 +1,8 @@
 -- What the parts of a view are that is cut at the edges of elements.
 use Rattle.std.specs.Prelude.{◌≡◌, ℕ, ◌+◌, ◌-◌, ◌*◌, Bool, List, [], ◌∷◌, ◌++◌, Option, None, Some, slice_range}
-use Rattle.bitvec_elements.specs.base.declared.part.Part.{Part}
-use Rattle.bitvec_elements.specs.store.declared.store.BitStore.{Ghosts as Store}
-use Rattle.bitvec_elements.specs.base.declared.order.BitOrder.{Ghosts as Order}
+use Rattle.bitvec_base.specs.declared.part.Part.{Part}
+use Rattle.bitvec_store.specs.declared.store.BitStore.{Ghosts as Store}
+use Rattle.bitvec_base.specs.declared.order.BitOrder.{Ghosts as Order}
 use Rattle.bitvec_domain.specs.Cuts.{cut_of}
 use Rattle.bitvec_domain.specs.Domains.{DomainPieces, bits_of_pieces, pieces_in}
 use Rattle.bitvec_domain.specs.declared.cut.Cut.{Cut}

@@ -4,8 +4,8 @@ use Rattle.std.proofs.Common.{arith, sym, ⊎_elim, inl, inr}
 use Rattle.std.proofs.Math.Nat.{add-mul, lt_of_mul-lt-mul_right}
 use Rattle.std.proofs.lemmas.Grind.{div_ceil_times}
 use Rattle.std.proofs.lemmas.Nat.{le-div}
-use Rattle.bitvec_elements.specs.store.declared.store.BitStore.{Ghosts as Store}
-use Rattle.bitvec_elements.specs.base.declared.order.BitOrder.{Ghosts as Order}
+use Rattle.bitvec_store.specs.declared.store.BitStore.{Ghosts as Store}
+use Rattle.bitvec_base.specs.declared.order.BitOrder.{Ghosts as Order}
 use Rattle.bitvec_domain.specs.Kept.{KeepsOutside}
 use Rattle.bitvec_slice.specs.Lending.{with_elements}
 use Rattle.bitvec_domain.specs.Refill.{with_range}

@@ -3,17 +3,17 @@ use Rattle.std.specs.Prelude.{◌≡◌, ℕ, ◌+◌, ◌-◌, ◌*◌, ◌%◌
 use Rattle.std.proofs.Common.{arith, sym, ◌∙◌, ap}
 use Rattle.std.proofs.Math.Nat.{mul-le-mul_right, add-mul}
 use Rattle.std.proofs.lemmas.List.{length-map, take_at, take-map, drop-map, map-append}
-use Rattle.bitvec_elements.specs.base.Memory.{Writes, memory_bits}
-use Rattle.bitvec_elements.specs.base.MemoryLaws.{length-memory_bits, memory-range}
-use Rattle.bitvec_elements.specs.base.SliceLaws.{range-from_start, range-map, range-to_end}
-use Rattle.bitvec_elements.specs.base.Window.{write_at, write_window}
-use Rattle.bitvec_elements.specs.base.WindowLaws.{length-window, part-written}
-use Rattle.bitvec_elements.specs.base.WriteLaws.{drop-write_at, get-slice_range, length-slice_range, length-write_at, range-write_at, take-write_at, write_at-inside, write_at-same}
-use Rattle.bitvec_elements.specs.base.declared.window.Window.{Window}
-use Rattle.bitvec_elements.specs.base.WritesLaws.{Writes-nothing}
-use Rattle.bitvec_elements.specs.store.WidthLaws.{width_some}
-use Rattle.bitvec_elements.specs.store.declared.store.BitStore.{Ghosts as Store}
-use Rattle.bitvec_elements.specs.base.declared.order.BitOrder.{Ghosts as Order}
+use Rattle.bitvec_base.specs.Memory.{Writes, memory_bits}
+use Rattle.bitvec_base.specs.MemoryLaws.{length-memory_bits, memory-range}
+use Rattle.bitvec_base.specs.SliceLaws.{range-from_start, range-map, range-to_end}
+use Rattle.bitvec_base.specs.Window.{write_at, write_window}
+use Rattle.bitvec_base.specs.WindowLaws.{length-window, part-written}
+use Rattle.bitvec_base.specs.WriteLaws.{drop-write_at, get-slice_range, length-slice_range, length-write_at, range-write_at, take-write_at, write_at-inside, write_at-same}
+use Rattle.bitvec_base.specs.declared.window.Window.{Window}
+use Rattle.bitvec_base.specs.WritesLaws.{Writes-nothing}
+use Rattle.bitvec_store.specs.WidthLaws.{width_some}
+use Rattle.bitvec_store.specs.declared.store.BitStore.{Ghosts as Store}
+use Rattle.bitvec_base.specs.declared.order.BitOrder.{Ghosts as Order}
 use Rattle.bitvec_domain.specs.Refill.{with_range}
 use Rattle.bitvec_domain.specs.declared.reference_mut.BitRefMut.{BitRefMut}
 use Rattle.bitvec_slice.specs.Indices.{WritesBitOf}

@@ -1,14 +1,3 @@
-pub mod base
-pub mod cells
-pub mod domain
-pub mod engine
-pub mod lends
-pub mod reference
-pub mod store
-pub mod traits
-pub mod walk
-pub mod words
-pub mod Cited
 pub mod Apart
 pub mod ApartLaws
 pub mod BitParts
@@ -19,7 +8,6 @@ pub mod Indices
 pub mod KeptLaws
 pub mod Lending
 pub mod LentLaws
-pub mod ListingLaws
 pub mod MayLend
 pub mod NthLaws
 pub mod Seen

@@ -2,8 +2,8 @@
 use Rattle.std.specs.Prelude.{◌≡◌, ℕ, ◌+◌, Bool, false, if◌then◌else◌, slice_index_or}
 use Rattle.std.specs.Borrow.{Fml, GName, MutBor, RattleType}
 use Rattle.std.specs.declared.ops.Range.{Range}
-use Rattle.bitvec_elements.specs.store.declared.store.BitStore.{Ghosts as Store}
-use Rattle.bitvec_elements.specs.base.declared.order.BitOrder.{Ghosts as Order}
+use Rattle.bitvec_store.specs.declared.store.BitStore.{Ghosts as Store}
+use Rattle.bitvec_base.specs.declared.order.BitOrder.{Ghosts as Order}
 use Rattle.bitvec_domain.specs.References.{bit_of_ref_mut, elements_of_ref_mut, name_of_ref_mut, place_of_ref_mut}
 use Rattle.bitvec_domain.specs.declared.reference_mut.BitRefMut.{BitRefMut}
 use Rattle.bitvec_slice.specs.Touched.{end_touched, first_touched}

@@ -3,8 +3,8 @@ use Rattle.std.specs.Prelude.{ℕ, ◌+◌, ◌-◌, List, [], ◌∷◌, Option
 use Rattle.std.specs.Iterator.{SkipsThenYields, Yields}
 use Rattle.std.proofs.Common.{◌∙◌, ap, arith, subst}
 use Rattle.bitvec_domain.specs.declared.reference.BitRef.{BitRef}
-use Rattle.bitvec_elements.specs.store.declared.store.BitStore.{Ghosts as Store}
-use Rattle.bitvec_elements.specs.base.declared.order.BitOrder.{Ghosts as Order}
+use Rattle.bitvec_store.specs.declared.store.BitStore.{Ghosts as Store}
+use Rattle.bitvec_base.specs.declared.order.BitOrder.{Ghosts as Order}
 use Rattle.bitvec_slice.specs.WalkLaws.{left_length}
 use Rattle.bitvec_slice.specs.Walks.{TakesFirst, TakesLast, Walks, index_range, walked}
 use Rattle.bitvec_slice.specs.declared.iter.Iter.{Iter}

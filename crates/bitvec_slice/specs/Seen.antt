@@ -1,7 +1,7 @@
 -- What a view shows, whichever of the two types it has, and what its parts are.
 use Rattle.std.specs.Prelude.{◌≡◌, ℕ, ◌+◌, ◌-◌, ◌*◌, ◌%◌, ◌↔◌, Bool, List, [], Option, IfSome, IsSome, drop, length, map, slice_range, take}
-use Rattle.bitvec_elements.specs.base.Memory.{list_in, memory_bits}
-use Rattle.bitvec_elements.specs.base.declared.window.Window.{Window}
+use Rattle.bitvec_base.specs.Memory.{list_in, memory_bits}
+use Rattle.bitvec_base.specs.declared.window.Window.{Window}
 use Rattle.bitvec_slice.specs.Touched.{touched_elements}
 
 -- its bits, the elements that they touch, all bits of these, and where among them its own stand; the window's start is the view's phase

@@ -3,14 +3,14 @@ use Rattle.std.specs.Prelude.{◌≡◌, ℕ, ◌+◌, ◌-◌, ◌*◌, ◌%◌
 use Rattle.std.proofs.Common.{arith, sym, ◌∙◌, ap}
 use Rattle.std.proofs.lemmas.List.{length-map, nil_from_length}
 use Rattle.std.proofs.lemmas.List.Sums.{sum_by-take-drop}
-use Rattle.bitvec_elements.specs.base.Memory.{HasWindow, memory_bits}
-use Rattle.bitvec_elements.specs.base.MemoryLaws.{length-memory_bits}
-use Rattle.bitvec_elements.specs.base.SliceLaws.{range-all, range-from_start, range-map, range-to_end}
-use Rattle.bitvec_elements.specs.base.Window.{IsWithin, max_bits, window_of}
-use Rattle.bitvec_elements.specs.base.WindowLaws.{length-window}
-use Rattle.bitvec_elements.specs.base.WriteLaws.{range-range}
-use Rattle.bitvec_elements.specs.store.Width.{IsWidth}
-use Rattle.bitvec_elements.specs.store.WidthLaws.{width_some}
+use Rattle.bitvec_base.specs.Memory.{HasWindow, memory_bits}
+use Rattle.bitvec_base.specs.MemoryLaws.{length-memory_bits}
+use Rattle.bitvec_base.specs.SliceLaws.{range-all, range-from_start, range-map, range-to_end}
+use Rattle.bitvec_base.specs.Window.{IsWithin, max_bits, window_of}
+use Rattle.bitvec_base.specs.WindowLaws.{length-window}
+use Rattle.bitvec_base.specs.WriteLaws.{range-range}
+use Rattle.bitvec_store.specs.Width.{IsWidth}
+use Rattle.bitvec_store.specs.WidthLaws.{width_some}
 use Rattle.bitvec_slice.specs.Seen.{AreHalves, CoversElements, IsEmpty, IsRangeOf, IsWhole, Seen, shown}
 use Rattle.bitvec_slice.specs.Touched.{touched_elements}
 use Rattle.bitvec_slice.specs.TouchedLaws.{touched-bits}

@@ -1,7 +1,7 @@
 -- What whatever shows bits shows.
 use Rattle.std.specs.Prelude.{◌≡◌, ℕ, ◌+◌, ◌*◌, ◌≤◌, List, length, map, refl}
-use Rattle.bitvec_elements.specs.base.Memory.{HasWindow, list_in, memory_bits}
-use Rattle.bitvec_elements.specs.base.Window.{max_bits}
+use Rattle.bitvec_base.specs.Memory.{HasWindow, list_in, memory_bits}
+use Rattle.bitvec_base.specs.Window.{max_bits}
 use Rattle.bitvec_slice.specs.Seen.{Seen, shown}
 use Rattle.bitvec_slice.specs.SeenLaws.{has_window}
 

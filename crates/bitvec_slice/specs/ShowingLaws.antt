@@ -1,9 +1,9 @@
 -- What every view shows: as many bits as its window has, which lies in the memory of its elements.
 use Rattle.std.specs.Prelude.{◌≡◌, ◌≤◌, length}
 use Rattle.std.proofs.Common.{arith}
-use Rattle.bitvec_elements.specs.base.Window.{IsWithin, max_bits}
-use Rattle.bitvec_elements.specs.store.declared.store.BitStore.{Ghosts as Store}
-use Rattle.bitvec_elements.specs.base.declared.order.BitOrder.{Ghosts as Order}
+use Rattle.bitvec_base.specs.Window.{IsWithin, max_bits}
+use Rattle.bitvec_store.specs.declared.store.BitStore.{Ghosts as Store}
+use Rattle.bitvec_base.specs.declared.order.BitOrder.{Ghosts as Order}
 use Rattle.bitvec_slice.specs.SeenLaws.{length_bits, within_memory}
 use Rattle.bitvec_slice.specs.Showing.{ShowsElements, shows_elements}
 use Rattle.bitvec_slice.specs.Views.{seen, seen_mut}

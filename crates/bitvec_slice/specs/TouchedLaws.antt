@@ -4,10 +4,10 @@ use Rattle.std.proofs.Common.{arith, ◌∙◌, ap}
 use Rattle.std.proofs.Math.Nat.{add-mul, lt_of_mul-lt-mul_right, mul-le-mul_left, mul-le-mul_right}
 use Rattle.std.proofs.lemmas.Grind.{div_ceil_times}
 use Rattle.std.proofs.lemmas.Nat.{div-add-mod', mod_below}
-use Rattle.bitvec_elements.specs.base.Memory.{memory_bits}
-use Rattle.bitvec_elements.specs.base.MemoryLaws.{length-memory_bits, memory-range}
-use Rattle.bitvec_elements.specs.base.SliceLaws.{range-same}
-use Rattle.bitvec_elements.specs.base.WriteLaws.{length-slice_range, range-range}
+use Rattle.bitvec_base.specs.Memory.{memory_bits}
+use Rattle.bitvec_base.specs.MemoryLaws.{length-memory_bits, memory-range}
+use Rattle.bitvec_base.specs.SliceLaws.{range-same}
+use Rattle.bitvec_base.specs.WriteLaws.{length-slice_range, range-range}
 use Rattle.bitvec_slice.specs.Touched.{Touches, end_touched, first_touched, touched_elements}
 
 module _ (b n start end : ℕ) (some : 0 < b) (order : start ≤ end) (bound : end ≤ b * n) where

@@ -3,10 +3,10 @@ use Rattle.std.specs.Prelude.{◌≡◌, ◌+◌, ◌-◌, ◌<◌, ◌≤◌, [
 use Rattle.std.proofs.Common.{ap, arith, sym}
 use Rattle.std.proofs.iter.Rest.{range_last, run_of_first, run_of_first_by, run_of_last, run_of_last_by}
 use Rattle.std.proofs.iter.runs.Sources.{from_back, from_front}
-use Rattle.bitvec_elements.specs.base.SliceLaws.{range-front, range-none}
-use Rattle.bitvec_elements.specs.base.WriteLaws.{length-slice_range}
-use Rattle.bitvec_elements.specs.store.declared.store.BitStore.{Ghosts as Store}
-use Rattle.bitvec_elements.specs.base.declared.order.BitOrder.{Ghosts as Order}
+use Rattle.bitvec_base.specs.SliceLaws.{range-front, range-none}
+use Rattle.bitvec_base.specs.WriteLaws.{length-slice_range}
+use Rattle.bitvec_store.specs.declared.store.BitStore.{Ghosts as Store}
+use Rattle.bitvec_base.specs.declared.order.BitOrder.{Ghosts as Order}
 use Rattle.bitvec_slice.specs.SeenLaws.{length_bits}
 use Rattle.bitvec_slice.specs.Views.{seen}
 use Rattle.bitvec_domain.specs.References.{bit_of_ref}

@@ -3,8 +3,8 @@ use Rattle.std.specs.Prelude.{◌≡◌, ℕ, ◌+◌, ◌-◌, Bool, List, Opti
 use Rattle.std.specs.Iterator.{YieldsFirst, YieldsFirstBy, YieldsFirstRef, YieldsLast, YieldsLastBy, YieldsLastRef}
 use Rattle.std.specs.Iterator.Runs.{EveryRun, ItemsAre, ItemsAreReversed, ItemsMapTo, ItemsMapToReversed}
 use Rattle.std.specs.declared.ops.Range.{Range}
-use Rattle.bitvec_elements.specs.store.declared.store.BitStore.{Ghosts as Store}
-use Rattle.bitvec_elements.specs.base.declared.order.BitOrder.{Ghosts as Order}
+use Rattle.bitvec_store.specs.declared.store.BitStore.{Ghosts as Store}
+use Rattle.bitvec_base.specs.declared.order.BitOrder.{Ghosts as Order}
 use Rattle.bitvec_domain.specs.References.{bit_of_ref}
 use Rattle.bitvec_domain.specs.declared.reference.BitRef.{BitRef}
 use Rattle.bitvec_slice.specs.Seen.{Seen}

@@ -2,14 +2,14 @@
 use Rattle.std.specs.Prelude.{◌≡◌, ℕ, ◌+◌, ◌*◌, Bool, List, drop, length, map, take, refl}
 use Rattle.std.proofs.Common.{sym, ◌∙◌, ap}
 use Rattle.std.proofs.lemmas.List.{length-map, take_at}
-use Rattle.bitvec_elements.specs.base.Memory.{Writes, memory_bits}
-use Rattle.bitvec_elements.specs.base.MemoryLaws.{length-memory_bits}
-use Rattle.bitvec_elements.specs.base.Window.{window_of, write_at, write_window}
-use Rattle.bitvec_elements.specs.base.WindowLaws.{window-written}
-use Rattle.bitvec_elements.specs.base.WriteLaws.{drop-write_at, take-write_at, write_at-all}
-use Rattle.bitvec_elements.specs.store.declared.store.BitStore.{Ghosts as Store}
-use Rattle.bitvec_elements.specs.base.declared.order.BitOrder.{Ghosts as Order}
-use Rattle.bitvec_elements.specs.base.declared.window.Window.{Window}
+use Rattle.bitvec_base.specs.Memory.{Writes, memory_bits}
+use Rattle.bitvec_base.specs.MemoryLaws.{length-memory_bits}
+use Rattle.bitvec_base.specs.Window.{window_of, write_at, write_window}
+use Rattle.bitvec_base.specs.WindowLaws.{window-written}
+use Rattle.bitvec_base.specs.WriteLaws.{drop-write_at, take-write_at, write_at-all}
+use Rattle.bitvec_store.specs.declared.store.BitStore.{Ghosts as Store}
+use Rattle.bitvec_base.specs.declared.order.BitOrder.{Ghosts as Order}
+use Rattle.bitvec_base.specs.declared.window.Window.{Window}
 use Rattle.bitvec_slice.specs.Lending.{with_elements}
 use Rattle.bitvec_slice.specs.Seen.{IsWhole, outside_of}
 use Rattle.bitvec_slice.specs.SeenLaws.{within_memory}

@@ -1,8 +1,8 @@
 -- What a call that writes a view leaves.
 use Rattle.std.specs.Prelude.{◌≡◌, Bool, List, length}
-use Rattle.bitvec_elements.specs.base.Window.{write_window}
-use Rattle.bitvec_elements.specs.store.declared.store.BitStore.{Ghosts as Store}
-use Rattle.bitvec_elements.specs.base.declared.order.BitOrder.{Ghosts as Order}
+use Rattle.bitvec_base.specs.Window.{write_window}
+use Rattle.bitvec_store.specs.declared.store.BitStore.{Ghosts as Store}
+use Rattle.bitvec_base.specs.declared.order.BitOrder.{Ghosts as Order}
 use Rattle.bitvec_slice.specs.Seen.{outside_of}
 use Rattle.bitvec_slice.specs.Views.{name_of, seen_mut}
 use Rattle.bitvec_slice.specs.declared.view_mut.BitSliceMut.{BitSliceMut}

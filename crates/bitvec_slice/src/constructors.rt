@@ -1,11 +1,11 @@
 //! Views of no element, of one, and of a slice that may be too long.
 ghost use Rattle.std.specs.Prelude.{◌≡◌, ◌-◌, ◌*◌, ◌^◌, ◌≤◌, ◌↔◌, [], ◌∷◌, IfErr, IfOk, IsOk, length, min, slice_index_or};
-ghost use Rattle.bitvec_elements.specs.base.Window.{max_bits};
-ghost use Rattle.bitvec_elements.specs.base.declared.span_error.BitSpanError.TheVariants.{TooLong};
+ghost use Rattle.bitvec_base.specs.Window.{max_bits};
+ghost use Rattle.bitvec_base.specs.declared.span_error.BitSpanError.TheVariants.{TooLong};
 
+use bitvec_base::{BitOrder, BitSpanError, MAX_BITS};
+use bitvec_store::BitStore;
 use crate::{BitSlice, BitSliceMut};
-use bitvec_elements::base::{BitOrder, BitSpanError, MAX_BITS};
-use bitvec_elements::store::BitStore;
 
 /// How many bits so many elements have, or `usize::MAX` where a `usize` can't hold the number.
 pub(crate) fn bits_in<T: BitStore>(count: usize) -> usize

@@ -1,14 +1,14 @@
 //! Views by the traits of the standard library, and by functions that stand alone.
 ghost use Rattle.std.specs.Prelude.{◌≡◌, ◌*◌, ◌≤◌, ◌↔◌, [], ◌∷◌, IfErr, IfOk, IsOk, length, slice_index_or};
 ghost use Rattle.std.specs.Borrow.{Array, follows, sem};
-ghost use Rattle.bitvec_elements.specs.base.Window.{max_bits};
+ghost use Rattle.bitvec_base.specs.Window.{max_bits};
 ghost use Rattle.bitvec_slice.specs.Seen.{IsEmpty, IsWhole};
 ghost use Rattle.bitvec_slice.specs.Views.{IsWholeOf, name_of, seen, seen_mut};
 
+use bitvec_base::{BitOrder, MAX_BITS};
+use bitvec_store::BitStore;
 use crate::constructors::bits_in;
 use crate::{BitSlice, BitSliceMut};
-use bitvec_elements::base::{BitOrder, MAX_BITS};
-use bitvec_elements::store::BitStore;
 
 /// The empty view.
 impl<'a, T: BitStore, O: BitOrder> Default for BitSlice<'a, T, O> {

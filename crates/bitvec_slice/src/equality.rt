@@ -1,13 +1,13 @@
 //! `==` of views of the same type.
 ghost use Rattle.std.proofs.Common.{rules};
 ghost use Rattle.std.specs.Cmp.Rules.{comparing};
-ghost use Rattle.bitvec_elements.specs.base.Lists.{same_bits};
+ghost use Rattle.bitvec_base.specs.Lists.{same_bits};
 ghost use Rattle.bitvec_slice.specs.Views.{seen, seen_mut};
 
-use crate::{BitSlice, BitSliceMut};
-use bitvec_elements::engine::SliceOrder;
 use bitvec_elements::eq_block_in;
-use bitvec_elements::store::BitStore;
+use bitvec_engine::SliceOrder;
+use bitvec_store::BitStore;
+use crate::{BitSlice, BitSliceMut};
 
 impl<'a, T: BitStore, O: SliceOrder> PartialEq for BitSlice<'a, T, O> {
     ghost eq = { λ view other. same_bits (seen view).bits (seen other).bits };

@@ -1,11 +1,11 @@
 //! Indices of a view, and ranges of them.
 ghost use Rattle.std.specs.Prelude.{◌≡◌, ◌+◌, ◌<◌, false, slice_index_or};
 
+use bitvec_base::BitOrder;
+use bitvec_domain::{BitRef, BitRefMut, bit_in};
+use bitvec_store::BitStore;
 use crate::touching::touched_range;
-use crate::{BitRef, BitRefMut, BitSlice, BitSliceIndex, BitSliceMut};
-use bitvec_domain::bit_in;
-use bitvec_elements::base::BitOrder;
-use bitvec_elements::store::BitStore;
+use crate::{BitSlice, BitSliceIndex, BitSliceMut};
 use std::ops::{Index, Range};
 
 impl<'a, T: BitStore, O: BitOrder> BitSlice<'a, T, O> {
@@ -136,7 +136,7 @@ impl<'a, T: BitStore, O: BitOrder> BitSliceMut<'a, T, O> {
 
     /// The bit at an index for writing, as `get_mut(index)` gives it, for as long as the view was
     /// borrowed. Condition: the index is below `len`. `bitvec` has no such call.
-    #[tactic(auto, using(bitvec_elements::specs::Cited::reading))]
+    #[tactic(auto, using(bitvec_base::specs::WindowLaws::reading))]
     pub fn into_bit(self, index: usize) -> BitRefMut<'a, T, O>
         requires { index < (seen_mut self).window.len }
         ensures { WritesBitOf (seen_mut self.entry) index result }
@@ -147,7 +147,7 @@ impl<'a, T: BitStore, O: BitOrder> BitSliceMut<'a, T, O> {
     /// The bit of a view that has just one, for a call of a crate above. Condition: it has one. `bitvec`
     /// has no such call.
     #[doc(hidden)]
-    #[tactic(auto, using(bitvec_elements::specs::Cited::reading))]
+    #[tactic(auto, using(bitvec_base::specs::WindowLaws::reading))]
     pub fn into_reference(self) -> BitRefMut<'a, T, O>
         requires { (seen_mut self).window.len ≡ 1 }
         ensures bit { bit_of_ref_mut result ≡ slice_index_or (seen_mut self.entry).bits 0 false }

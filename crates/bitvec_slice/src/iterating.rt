@@ -1,10 +1,11 @@
 //! Walks over the bits of both types of views.
 ghost use Rattle.std.specs.Prelude.{◌≡◌, ◌≤◌, length};
-ghost use Rattle.bitvec_elements.specs.base.Window.{max_bits};
+ghost use Rattle.bitvec_base.specs.Window.{max_bits};
 
-use crate::{BitRef, BitSlice, BitSliceMut, Iter};
-use bitvec_elements::base::BitOrder;
-use bitvec_elements::store::BitStore;
+use bitvec_base::BitOrder;
+use bitvec_domain::BitRef;
+use bitvec_store::BitStore;
+use crate::{BitSlice, BitSliceMut, Iter};
 
 impl<'a, T: BitStore, O: BitOrder> BitSlice<'a, T, O> {
     ghost use Rattle.bitvec_slice.specs.Views.{seen};

@@ -1,16 +1,17 @@
 //! The operators `!`, `&=`, `|=` and `^=` of writable views.
 ghost use Rattle.std.specs.Prelude.{map, not};
-ghost use Rattle.bitvec_elements.specs.base.Lists.{combined};
-ghost use Rattle.bitvec_elements.specs.words.Operator.{operator};
-ghost use Rattle.bitvec_elements.specs.words.declared.operator.BitOp.TheVariants.{And, Or, Xor};
+ghost use Rattle.bitvec_base.specs.Lists.{combined};
+ghost use Rattle.bitvec_words.specs.Operator.{operator};
+ghost use Rattle.bitvec_words.specs.declared.operator.BitOp.TheVariants.{And, Or, Xor};
 ghost use Rattle.bitvec_slice.specs.Views.{seen, seen_mut};
 ghost use Rattle.bitvec_slice.specs.Writes.{WritesBits};
 
-use crate::{BitSlice, BitSliceMut};
-use bitvec_elements::base::BitOrder;
-use bitvec_elements::engine::{BitOp, SliceOrder};
-use bitvec_elements::store::BitStore;
+use bitvec_base::BitOrder;
 use bitvec_elements::{combine_block_in, invert_in};
+use bitvec_engine::SliceOrder;
+use bitvec_store::BitStore;
+use bitvec_words::BitOp;
+use crate::{BitSlice, BitSliceMut};
 use std::ops::{BitAndAssign, BitOrAssign, BitXorAssign, Not};
 
 impl<'a, T: BitStore, O: BitOrder> Not for BitSliceMut<'a, T, O> {

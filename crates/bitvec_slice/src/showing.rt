@@ -1,12 +1,12 @@
 //! What shows bits.
 ghost use Rattle.std.specs.Prelude.{◌≡◌, map};
-ghost use Rattle.bitvec_elements.specs.base.Memory.{HasWindow};
+ghost use Rattle.bitvec_base.specs.Memory.{HasWindow};
 ghost use Rattle.bitvec_slice.specs.Showing.{ShowsElements, shows_elements};
 ghost use Rattle.bitvec_slice.specs.Views.{seen, seen_mut};
 
+use bitvec_base::{BitOrder, Window};
+use bitvec_store::BitStore;
 use crate::{BitSlice, BitSliceMut};
-use bitvec_elements::base::{BitOrder, Window};
-use bitvec_elements::store::BitStore;
 
 /// What shows bits: views of both types, a borrow of a writable one, and owned sequences. It has no call:
 /// what contracts see is a member, so that the clauses of all traits of calls can name it.

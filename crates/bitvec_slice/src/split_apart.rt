@@ -1,14 +1,14 @@
 //! A writable view's bits, cut in two that are written at once.
 ghost use Rattle.std.specs.Prelude.{◌≡◌, ◌+◌, ◌%◌, ◌<◌, ◌≤◌, ◌↔◌, IfSome, IsSome};
 
+use bitvec_base::{BitOrder, comes_apart};
+use bitvec_store::BitStore;
 use crate::BitSliceMut;
 use crate::touching::touched_range;
-use bitvec_domain::base::comes_apart;
-use bitvec_elements::base::BitOrder;
-use bitvec_elements::store::BitStore;
 
 impl<'a, T: BitStore, O: BitOrder> BitSliceMut<'a, T, O> {
-    ghost use Rattle.bitvec_slice.specs.Apart.{ComesApart, IsSideOf};
+    ghost use Rattle.bitvec_base.specs.Apart.{ComesApart};
+    ghost use Rattle.bitvec_slice.specs.Apart.{IsSideOf};
     ghost use Rattle.bitvec_slice.specs.Seen.{IsRangeOf};
     ghost use Rattle.bitvec_slice.specs.Views.{seen_mut};
 

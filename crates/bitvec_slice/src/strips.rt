@@ -1,11 +1,11 @@
 //! A view without the bits that begin or end it.
 ghost use Rattle.std.specs.Prelude.{◌≡◌, ◌-◌, true};
-ghost use Rattle.bitvec_elements.specs.base.Lists.{is_prefix, is_suffix};
+ghost use Rattle.bitvec_base.specs.Lists.{is_prefix, is_suffix};
 
-use crate::{BitSlice, BitSliceMut};
-use bitvec_elements::base::BitOrder;
-use bitvec_elements::store::BitStore;
+use bitvec_base::BitOrder;
 use bitvec_elements::{ends_with_in, starts_with_in};
+use bitvec_store::BitStore;
+use crate::{BitSlice, BitSliceMut};
 
 impl<'a, T: BitStore, O: BitOrder> BitSlice<'a, T, O> {
     ghost use Rattle.bitvec_slice.specs.Seen.{IsGiven, IsRangeOf};

@@ -2,7 +2,7 @@
 ghost use Rattle.std.specs.Prelude.{◌≡◌, ◌+◌, ◌-◌, ◌*◌, ◌%◌, ◌≤◌};
 ghost use Rattle.bitvec_slice.specs.Touched.{end_touched, first_touched};
 
-use bitvec_elements::store::BitStore;
+use bitvec_store::BitStore;
 use std::ops::Range;
 
 /// The elements that the places from `start` up to `end` touch, for crates above. Condition:

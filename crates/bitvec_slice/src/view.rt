@@ -1,13 +1,13 @@
 //! A shared view of bits.
 ghost use Rattle.std.specs.Prelude.{◌≡◌, ◌+◌, ◌*◌, ◌≤◌, ◌==◌, ⊤, length, map};
-ghost use Rattle.bitvec_elements.specs.base.Window.{max_bits};
+ghost use Rattle.bitvec_base.specs.Window.{max_bits};
 
+use bitvec_base::{BitOrder, MAX_BITS, Window};
+use bitvec_domain::{Domain, domain_of};
+use bitvec_store::BitStore;
+use crate::BitDomain;
 use crate::bit_domain::bit_domain_of;
 use crate::touching::touched_range;
-use crate::{BitDomain, Domain};
-use bitvec_domain::domain_of;
-use bitvec_elements::base::{BitOrder, MAX_BITS, Window};
-use bitvec_elements::store::BitStore;
 use std::alloc::AllocError;
 use std::marker::PhantomData;
 use std::ops::Range;
@@ -41,7 +41,7 @@ impl<'a, T: BitStore, O: BitOrder> Clone for BitSlice<'a, T, O> {
 }
 
 impl<'a, T: BitStore, O: BitOrder> BitSlice<'a, T, O> {
-    ghost use Rattle.bitvec_elements.specs.base.Memory.{HasWindow};
+    ghost use Rattle.bitvec_base.specs.Memory.{HasWindow};
     ghost use Rattle.bitvec_domain.specs.Domains.{pieces_of};
     ghost use Rattle.bitvec_slice.specs.Domains.{IsBitDomain, IsDomain, views_of};
     ghost use Rattle.bitvec_slice.specs.Indices.{HasRange};

@@ -1,13 +1,13 @@
 //! A writable view of bits.
 ghost use Rattle.std.specs.Prelude.{◌≡◌, ◌+◌, ◌*◌, ◌≤◌, ◌==◌, length, map, slice_range};
-ghost use Rattle.bitvec_elements.specs.base.Window.{max_bits};
+ghost use Rattle.bitvec_base.specs.Window.{max_bits};
 
+use bitvec_base::{BitOrder, Window};
+use bitvec_domain::{Domain, DomainMut, domain_mut_of};
+use bitvec_store::BitStore;
 use crate::bit_domain::bit_domain_mut_of;
 use crate::touching::touched_range;
-use crate::{BitDomain, BitDomainMut, BitSlice, Domain, DomainMut, Sealed};
-use bitvec_domain::domain_mut_of;
-use bitvec_elements::base::{BitOrder, Window};
-use bitvec_elements::store::BitStore;
+use crate::{BitDomain, BitDomainMut, BitSlice, Sealed};
 use std::marker::PhantomData;
 use std::ops::Range;
 
@@ -45,8 +45,8 @@ pub struct BitSliceMut<'a, T: BitStore, O: BitOrder> {
 
 impl<'a, T: BitStore, O: BitOrder> BitSliceMut<'a, T, O> {
     ghost use Rattle.std.specs.Borrow.{sem};
-    ghost use Rattle.bitvec_elements.specs.base.Memory.{HasWindow, memory_bits};
-    ghost use Rattle.bitvec_elements.specs.base.Window.{IsWithin};
+    ghost use Rattle.bitvec_base.specs.Memory.{HasWindow, memory_bits};
+    ghost use Rattle.bitvec_base.specs.Window.{IsWithin};
     ghost use Rattle.bitvec_domain.specs.Domains.{pieces_of, pieces_of_mut};
     ghost use Rattle.bitvec_slice.specs.Domains.{IsBitDomain, IsDomain, views_of, views_of_mut};
     ghost use Rattle.bitvec_slice.specs.Indices.{HasRange};

@@ -1,15 +1,15 @@
 //! Types whose bits can be written.
 ghost use Rattle.std.specs.Prelude.{◌≡◌, Bool, List, map};
 ghost use Rattle.std.specs.Borrow.{Array, follows, sem};
-ghost use Rattle.bitvec_elements.specs.base.Memory.{Writes};
-ghost use Rattle.bitvec_elements.specs.base.declared.window.Window.{Window};
+ghost use Rattle.bitvec_base.specs.Memory.{Writes};
+ghost use Rattle.bitvec_base.specs.declared.window.Window.{Window};
 ghost use Rattle.bitvec_slice.specs.Lending.{with_elements};
 ghost use Rattle.bitvec_slice.specs.WriteLaws.{has_written, written};
 ghost use Rattle.bitvec_slice.specs.Writes.{WritesBits};
 
+use bitvec_base::BitOrder;
+use bitvec_store::BitStore;
 use crate::{BitSliceMut, Sealed, View};
-use bitvec_elements::base::BitOrder;
-use bitvec_elements::store::BitStore;
 
 /// Types whose bits can be written: writable views, and owned sequences.
 pub trait ViewMut<T: BitStore, O: BitOrder>: View<T, O> {

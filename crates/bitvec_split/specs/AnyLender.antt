@@ -55,11 +55,11 @@ use denote.Triple.Walked.{Stays, stay_dropped, walk_of, ends_at, says, Goes-spen
 use Rattle.std.specs.List.{refill}
 use Rattle.std.specs.Prelude.{slice_range}
 use Rattle.std.proofs.raw_atomic.Walks.{proved}
-use Rattle.bitvec_slice.specs.lends.Middle.{whole}
-use Rattle.bitvec_slice.specs.lends.Arity.{Arity, lived, unlived}
-use Rattle.bitvec_slice.specs.lends.PartLender.{function, signature, ended, clauses, slot}
-use Rattle.bitvec_slice.specs.lends.Through.{parts, Flat, lends_part_of}
-use Rattle.bitvec_slice.specs.lends.Lender.{spelled}
+use Rattle.bitvec_domain.specs.Middle.{whole}
+use Rattle.bitvec_domain.specs.Arity.{Arity, lived, unlived}
+use Rattle.bitvec_domain.specs.PartLender.{function, signature, ended, clauses, slot}
+use Rattle.bitvec_domain.specs.Through.{parts, Flat, lends_part_of}
+use Rattle.bitvec_domain.specs.Lender.{spelled}
 
 abbrev pub of_five : RattleType → RattleType → RattleType → RattleType → RattleType → Arity
 of_five T O P W L = record {

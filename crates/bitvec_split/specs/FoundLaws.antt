@@ -1,11 +1,11 @@
 -- A split of which the piece that was found last was lent keeps the elements that the piece doesn't touch.
 use Rattle.std.specs.Prelude.{ℕ, ◌+◌, ◌<◌, List, length}
 use Rattle.std.proofs.Common.{arith}
-use Rattle.bitvec_slice.specs.store.declared.store.BitStore.{Ghosts as Store}
-use Rattle.bitvec_slice.specs.base.declared.order.BitOrder.{Ghosts as Order}
-use Rattle.bitvec_slice.specs.lends.Kept.{KeepsOutside}
-use Rattle.bitvec_slice.specs.lends.Refill.{with_range}
-use Rattle.bitvec_slice.specs.lends.RefillLaws.{refilled-keeps}
+use Rattle.bitvec_store.specs.declared.store.BitStore.{Ghosts as Store}
+use Rattle.bitvec_base.specs.declared.order.BitOrder.{Ghosts as Order}
+use Rattle.bitvec_domain.specs.Kept.{KeepsOutside}
+use Rattle.bitvec_domain.specs.Refill.{with_range}
+use Rattle.bitvec_domain.specs.RefillLaws.{refilled-keeps}
 use Rattle.bitvec_slice.specs.Touched.{end_touched, first_touched}
 use Rattle.bitvec_slice.specs.TouchedLaws.{touches}
 use Rattle.bitvec_split.specs.LentViews.{found_in, left_in}

@@ -2,8 +2,8 @@
 use Rattle.std.specs.Prelude.{ℕ}
 use Rattle.std.specs.Borrow.{GName}
 use Rattle.std.specs.declared.ops.Range.{Range}
-use Rattle.bitvec_slice.specs.store.declared.store.BitStore.{Ghosts as Store}
-use Rattle.bitvec_slice.specs.base.declared.order.BitOrder.{Ghosts as Order}
+use Rattle.bitvec_store.specs.declared.store.BitStore.{Ghosts as Store}
+use Rattle.bitvec_base.specs.declared.order.BitOrder.{Ghosts as Order}
 use Rattle.bitvec_slice.specs.Seen.{shown}
 use Rattle.bitvec_split.specs.SplitStates.{left_on, limited_on}
 use Rattle.bitvec_split.specs.Lent.{LeftIn, LimitedSplitIn}

@@ -1,6 +1,3 @@
-pub mod base
-pub mod slice
-pub mod store
 pub mod AnyLender
 pub mod Asked
 pub mod AskedLaws

@@ -1,6 +1,6 @@
 -- What contracts see of the splits.
-use Rattle.bitvec_slice.specs.store.declared.store.BitStore.{Ghosts as Store}
-use Rattle.bitvec_slice.specs.base.declared.order.BitOrder.{Ghosts as Order}
+use Rattle.bitvec_store.specs.declared.store.BitStore.{Ghosts as Store}
+use Rattle.bitvec_base.specs.declared.order.BitOrder.{Ghosts as Order}
 use Rattle.bitvec_slice.specs.Views.{seen}
 use Rattle.bitvec_split.specs.Splits.{Left, LimitedSplit}
 use Rattle.bitvec_split.specs.declared.splitting.Splits.{Splits}

@@ -3,9 +3,9 @@ ghost use Rattle.std.specs.Prelude.{◌<◌, ◌≤◌, IfSome};
 ghost use Rattle.bitvec_slice.specs.Views.{seen};
 ghost use Rattle.bitvec_split.specs.Asked.{Asked, MayAsk, downward, upward};
 
+use bitvec_base::BitOrder;
 use bitvec_slice::BitSlice;
-use bitvec_slice::base::BitOrder;
-use bitvec_slice::store::BitStore;
+use bitvec_store::BitStore;
 
 /// The first index about which `pred` says yes. It is asked about the indices in ascending order, and
 /// about none behind that. `bitvec` has no such call.

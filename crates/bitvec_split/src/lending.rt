@@ -1,12 +1,12 @@
 //! Splits of writable views, which lend their pieces one at a time.
 ghost use Rattle.std.specs.Prelude.{◌≡◌, ◌+◌, ◌*◌, ◌≤◌, ◌==◌, ◌&&◌, ◌||◌, Some, length, option_map, slice_range};
-ghost use Rattle.bitvec_slice.specs.base.Window.{max_bits};
+ghost use Rattle.bitvec_base.specs.Window.{max_bits};
 
+use bitvec_base::{BitOrder, Window};
+use bitvec_slice::{BitSlice, BitSliceMut, Sealed, ViewMut, touched_range};
+use bitvec_store::BitStore;
 use crate::split_state::{SplitState, look};
 use crate::{AtMost, Every, Forward, Inclusive, Reversed, SplitKind, SplitLimit};
-use bitvec_slice::base::{BitOrder, Window};
-use bitvec_slice::store::BitStore;
-use bitvec_slice::{BitSlice, BitSliceMut, Sealed, ViewMut, touched_range};
 use std::marker::PhantomData;
 use std::ops::Range;
 

@@ -2,16 +2,16 @@
 ghost use Rattle.std.specs.Prelude.{◌≡◌, ◌+◌, ◌-◌, ◌≤◌, ◌*◌, length};
 ghost use Rattle.bitvec_slice.specs.Seen.{shown};
 ghost use Rattle.bitvec_slice.specs.Views.{seen};
-ghost use Rattle.bitvec_slice.specs.base.Window.{max_bits};
+ghost use Rattle.bitvec_base.specs.Window.{max_bits};
 ghost use Rattle.bitvec_split.specs.SplitStates.{left_on, limited_on};
 ghost use Rattle.bitvec_split.specs.Lent.{MayGoOnIn, NextIn, SplitNextBackIn, SplitRestIn, SplitStepIn, StaysIn, capped, least_in, most_in, uncut_in, unsplit_in};
 ghost use Rattle.bitvec_split.specs.Splits.{row_of};
 
+use bitvec_base::BitOrder;
+use bitvec_slice::BitSlice;
+use bitvec_store::BitStore;
 use crate::rows::{ask_row, cut_row};
 use crate::{SplitKind, SplitLimit};
-use bitvec_slice::BitSlice;
-use bitvec_slice::base::BitOrder;
-use bitvec_slice::store::BitStore;
 use std::marker::PhantomData;
 use std::ops::Range;
 

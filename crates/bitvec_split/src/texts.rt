@@ -2,13 +2,13 @@
 ghost use Rattle.std.specs.Prelude.{◌≡◌, ◌++◌, Some, codes};
 ghost use Rattle.std.specs.Fmt.{DisplaysOnOk, debug_variant, decimal};
 ghost use Rattle.bitvec_slice.specs.Views.{seen};
-ghost use Rattle.bitvec_slice.specs.traits.Listing.{bits_text, comma};
+ghost use Rattle.bitvec_domain.specs.Listing.{bits_text, comma};
 ghost use Rattle.bitvec_split.specs.Splits.{uncut};
 
-use crate::{Splits, SplitsN};
-use bitvec_slice::base::BitOrder;
-use bitvec_slice::store::BitStore;
+use bitvec_base::BitOrder;
 use bitvec_slice::{BitSlice, write_named};
+use bitvec_store::BitStore;
+use crate::{Splits, SplitsN};
 use std::fmt;
 
 /// Writes a name, and behind it in parentheses a view and how many pieces may come.

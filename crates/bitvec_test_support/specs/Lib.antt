@@ -1,4 +1,4 @@
 pub mod Counted
 pub mod Fails
-pub use Rattle.bitvec_cells.specs.base as base
-pub use Rattle.bitvec_cells.specs.store as store
+pub use Rattle.bitvec_base.specs as base
+pub use Rattle.bitvec_store.specs as store

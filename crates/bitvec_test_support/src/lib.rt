@@ -12,7 +12,7 @@ mod texts;
 
 /// Items of `bitvec_base` that crates above use.
 pub mod base {
-    pub use bitvec_cells::base::{BitOrder, HiLo, Lsb0, Msb0};
+    pub use bitvec_base::{BitOrder, HiLo, Lsb0, Msb0};
 }
 
 /// Items of `bitvec_cells` that crates above use.
@@ -22,7 +22,7 @@ pub mod cells {
 
 /// Items of `bitvec_store` that crates above use.
 pub mod store {
-    pub use bitvec_cells::store::BitStore;
+    pub use bitvec_store::BitStore;
 }
 
 pub use counted::Counted;

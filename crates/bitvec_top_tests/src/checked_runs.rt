@@ -1,5 +1,5 @@
 //! A run: what each step replies, and what its window holds afterwards.
-use bitvec_checked_run::checked::{DONE, LSB0, MSB0};
+use bitvec_checked::{DONE, LSB0, MSB0};
 use bitvec_checked_run::{OP, ROOM, RawReply, RawStep, run};
 
 fn step(op: u32, to: usize, first: usize, second: usize) -> RawStep {

@@ -1,7 +1,7 @@
 //! A run with numbers for whose replies there is no room.
-use bitdo_work::base::Lsb0;
-use bitdo_work::cells::{Exclusive, Shared};
-use bitdo_work::commands::{FieldOp, FieldStep, Reply, RunError, Window, run_fields};
+use bitvec_base::{Lsb0, Window};
+use bitvec_cells::{Exclusive, Shared};
+use bitvec_run::{FieldOp, FieldStep, Reply, RunError, run_fields};
 use bitvec_test_support::Refusing;
 use std::alloc::Global;
 use std::mem::size_of;

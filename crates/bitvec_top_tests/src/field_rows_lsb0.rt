@@ -1,8 +1,8 @@
 //! Worked rows of runs with numbers, where the low bit comes first.
-use bitdo_work::base::Lsb0;
-use bitdo_work::cells::{Exclusive, Shared};
-use bitdo_work::commands::{FieldOp, FieldStep, Op, Refusal, Reply, Window, run_fields};
-use bitdo_work::store::BitStore;
+use bitvec_base::{Lsb0, Window};
+use bitvec_cells::{Exclusive, Shared};
+use bitvec_run::{FieldOp, FieldStep, Op, Refusal, Reply, run_fields};
+use bitvec_store::BitStore;
 use bitvec_test_support::Counted;
 use std::alloc::Global;
 

@@ -1,7 +1,7 @@
 //! Worked rows of runs with numbers, where the high bit comes first.
-use bitdo_work::base::Msb0;
-use bitdo_work::cells::{Exclusive, Shared};
-use bitdo_work::commands::{FieldOp, FieldStep, Op, Refusal, Reply, Window, run_fields};
+use bitvec_base::{Msb0, Window};
+use bitvec_cells::{Exclusive, Shared};
+use bitvec_run::{FieldOp, FieldStep, Op, Refusal, Reply, run_fields};
 use std::alloc::Global;
 
 /// Whether a run through the bits 4 to 44 of two elements is made, and answers and leaves so.

@@ -6,7 +6,7 @@
 #[cfg(test)]
 macro_rules! steps {
     ([$(($from:expr, $to:expr, $op:expr)),* $(,)?]) => {
-        [$(bitdo_work::commands::Step { from: $from, to: $to, op: $op }),*]
+        [$(bitvec_run::Step { from: $from, to: $to, op: $op }),*]
     };
 }
 

@@ -2,7 +2,8 @@
 ghost use Rattle.std.specs.Prelude.{◌≡◌, IsOk, IsPermutation, OnOk, length, zip};
 ghost use Rattle.bitrecord.specs.Views.{bits_of, fields_of};
 ghost use Rattle.bitrecord.specs.RecordLaws.{AgreeOutside};
-ghost use Rattle.bitrecord.specs.bits.{WritesBits, seen, seen_mut};
+ghost use Rattle.bitvec.specs.Writes.{WritesBits};
+ghost use Rattle.bitvec.specs.Views.{seen, seen_mut};
 
 use bitrecord::bits::{BitSlice, BitSliceMut, BitStore, FieldOrder};
 use bitrecord::{EncodeError, Endian, Layout, decode, encode};

@@ -1,8 +1,9 @@
 //! A run on slices, and the row that several tests share.
-use bitdo_work::cells::{Exclusive, Shared};
-use bitdo_work::commands::{Op, Reply, RunError, Step, Window, run};
-use bitdo_work::engine::SliceOrder;
-use bitdo_work::store::BitStore;
+use bitvec_base::Window;
+use bitvec_cells::{Exclusive, Shared};
+use bitvec_engine::SliceOrder;
+use bitvec_run::{Op, Reply, RunError, Step, run};
+use bitvec_store::BitStore;
 use std::alloc::Allocator;
 
 /// A bit set in each of four nibbles, and their count.

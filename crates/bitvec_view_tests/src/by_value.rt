@@ -2,9 +2,9 @@
 //! of the bits 3 up to 21 of three bytes is flipped; then every other bit is as before, in the elements before it and
 //! behind it too.
 
+use bitvec_base::Lsb0;
 use bitvec_edit::BitEdits;
-use bitvec_query::base::Lsb0;
-use bitvec_query::slice::{BitSliceIndex, BitSliceMut};
+use bitvec_slice::{BitSliceIndex, BitSliceMut};
 use bitvec_test_support::{MEMORIES, bits_of, flipped};
 
 /// Flips the bits 5 up to 9.

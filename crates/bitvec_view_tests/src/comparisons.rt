@@ -4,13 +4,13 @@ ghost use Rattle.std.specs.Cmp.Lexicographic.{slice_cmp};
 ghost use Rattle.std.specs.Hash.DefaultHasher as sip;
 ghost use Rattle.std.specs.Ordering.{bool_cmp, ordering_reverse};
 ghost use Rattle.std.proofs.Common.{Less};
-ghost use Rattle.bitvec_query.specs.slice.Views.{seen};
-ghost use Rattle.bitvec_query.specs.traits.Feeding.{bits_fed};
+ghost use Rattle.bitvec_slice.specs.Views.{seen};
+ghost use Rattle.bitvec_domain.specs.Feeding.{bits_fed};
 
-use bitvec_query::base::Lsb0;
-use bitvec_query::engine::SliceOrder;
-use bitvec_query::slice::BitSlice;
-use bitvec_query::store::BitStore;
+use bitvec_base::Lsb0;
+use bitvec_engine::SliceOrder;
+use bitvec_slice::BitSlice;
+use bitvec_store::BitStore;
 use std::alloc::AllocError;
 use std::cmp::Ordering;
 use std::hash::{DefaultHasher, Hash, Hasher};
@@ -18,7 +18,7 @@ use std::process::Abort;
 
 /// How a view compares with a third one, and that with the view, where the view is less than a second one, and
 /// this less than the third: it is less, and each way is the other reversed.
-#[tactic(auto, using(bitvec_query::specs::Cited::ordered))]
+#[tactic(auto, using(bitvec_elements::specs::OrderLaws::ordered))]
 pub fn compare_across<T: BitStore, O: SliceOrder>(
     view: BitSlice<'_, T, O>,
     second: BitSlice<'_, T, O>,
@@ -34,7 +34,7 @@ pub fn compare_across<T: BitStore, O: SliceOrder>(
 }
 
 /// Whether equality and order agree on two views: they do.
-#[tactic(auto, using(bitvec_query::specs::Cited::ordered))]
+#[tactic(auto, using(bitvec_elements::specs::OrderLaws::ordered))]
 pub fn order_agrees<T: BitStore, O: SliceOrder>(
     view: BitSlice<'_, T, O>,
     other: BitSlice<'_, T, O>,
@@ -54,7 +54,7 @@ pub fn hash_of<T: BitStore, O: SliceOrder>(view: BitSlice<'_, T, O>) -> u64
 }
 
 /// Whether two views differ or have the same hash: they do.
-#[tactic(auto, using(bitvec_query::specs::Cited::fed_same))]
+#[tactic(auto, using(bitvec_domain::specs::FeedingLaws::fed_same))]
 pub fn equal_views_hash_alike<T: BitStore, O: SliceOrder>(
     view: BitSlice<'_, T, O>,
     other: BitSlice<'_, T, O>,

@@ -1,9 +1,9 @@
 //! Views that are made of no element, of one, and of slices of any length, and how long they may be.
 
+use bitvec_base::Lsb0;
 use bitvec_edit::BitEdits;
 use bitvec_query::BitQueries;
-use bitvec_query::base::Lsb0;
-use bitvec_query::slice::{BitSlice, BitSliceMut, from_mut, from_ref};
+use bitvec_slice::{BitSlice, BitSliceMut, from_mut, from_ref};
 
 #[test]
 fn an_empty_view_has_no_bit(rt: HostRuntime) {

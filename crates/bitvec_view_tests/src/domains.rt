@@ -1,8 +1,9 @@
 //! Domains: the elements that a view touches, and views cut at the edges of elements; and walks over these past their ends.
 
+use bitvec_base::{Lsb0, Msb0};
+use bitvec_domain::Domain;
 use bitvec_edit::BitEdits;
-use bitvec_query::base::{Lsb0, Msb0};
-use bitvec_query::slice::{BitDomain, BitSlice, BitSliceMut, Domain};
+use bitvec_slice::{BitDomain, BitSlice, BitSliceMut};
 use bitvec_test_support::stays_ended_at_both;
 
 /// How many bits the one part has of a range that touches neither edge of its element, or else 0 and how many the

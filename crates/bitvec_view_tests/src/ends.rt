@@ -1,8 +1,9 @@
 //! The first and the last bit of a view, and views cut in two.
 
+use bitvec_base::Lsb0;
+use bitvec_domain::BitRef;
 use bitvec_query::BitQueries;
-use bitvec_query::base::Lsb0;
-use bitvec_query::slice::{BitRef, BitSlice, BitSliceMut};
+use bitvec_slice::{BitSlice, BitSliceMut};
 
 /// Whether a bit is referred to, and reads so.
 fn reads(bit: Option<BitRef<'_, u8, Lsb0>>, wanted: bool) -> bool {

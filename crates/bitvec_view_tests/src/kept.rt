@@ -1,15 +1,15 @@
 //! What a caller knows of the elements that an edit of a view left out.
 ghost use Rattle.std.specs.Prelude.{◌*◌, ◌≤◌, length};
-ghost use Rattle.bitvec_edit.specs.base.Window.{max_bits};
-ghost use Rattle.bitvec_edit.specs.lends.Kept.{KeepsOutside};
-ghost use Rattle.bitvec_edit.specs.slice.Indices.{HasRange};
-ghost use Rattle.bitvec_edit.specs.slice.Touched.{end_touched, first_touched};
+ghost use Rattle.bitvec_base.specs.Window.{max_bits};
+ghost use Rattle.bitvec_domain.specs.Kept.{KeepsOutside};
+ghost use Rattle.bitvec_slice.specs.Indices.{HasRange};
+ghost use Rattle.bitvec_slice.specs.Touched.{end_touched, first_touched};
 
+use bitvec_base::Lsb0;
 use bitvec_edit::BitEdits;
-use bitvec_query::base::Lsb0;
-use bitvec_query::engine::SliceOrder;
-use bitvec_query::slice::BitSliceMut;
-use bitvec_query::store::BitStore;
+use bitvec_engine::SliceOrder;
+use bitvec_slice::BitSliceMut;
+use bitvec_store::BitStore;
 use std::ops::Range;
 
 /// Fills the bits of a range, through a view of them, and gives the elements back: those that have none of

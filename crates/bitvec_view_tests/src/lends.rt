@@ -1,9 +1,9 @@
 //! Calls that leave open what the view is afterwards: what they lend of the bits 3 up to 21 of three
 //! bytes is flipped; then every other bit is as before, and the view stands where it stood.
 
+use bitvec_base::{Lsb0, Window};
 use bitvec_edit::BitEdits;
-use bitvec_query::base::{Lsb0, Window};
-use bitvec_query::slice::BitSliceMut;
+use bitvec_slice::BitSliceMut;
 use bitvec_test_support::{MEMORIES, bits_of, flipped};
 use std::process::Abort;
 

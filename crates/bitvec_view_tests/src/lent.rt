@@ -1,9 +1,9 @@
 //! Calls that lend a part of a view if the view has it: of the bits 3 up to 21 of three bytes what is lent is flipped, and
 //! every other bit is as before. Where nothing is lent, every bit is.
 
+use bitvec_base::Lsb0;
 use bitvec_edit::BitEdits;
-use bitvec_query::base::Lsb0;
-use bitvec_query::slice::{BitSliceMut, Lent};
+use bitvec_slice::{BitSliceMut, Lent};
 use bitvec_test_support::{MEMORIES, bits_of, flipped};
 use std::process::Abort;
 

@@ -1,9 +1,9 @@
 //! The parts of a view that is cut at the edges of elements: one of them is flipped; then every other bit
 //! of the three bytes is as before, and the view stands where it stood.
 
+use bitvec_base::{Lsb0, Window};
 use bitvec_edit::BitEdits;
-use bitvec_query::base::{Lsb0, Window};
-use bitvec_query::slice::{BitDomainMut, BitSliceMut};
+use bitvec_slice::{BitDomainMut, BitSliceMut};
 use bitvec_test_support::{MEMORIES, bits_of, flipped};
 use std::process::Abort;
 

@@ -1,13 +1,13 @@
 //! Walks over the ones and the zeros of views, and what callers know of the indices that they give.
 ghost use Rattle.std.specs.Prelude.{◌≡◌, IfOk, true};
-ghost use Rattle.bitvec_query.specs.base.Lists.{places_of};
-ghost use Rattle.bitvec_query.specs.slice.Views.{seen};
+ghost use Rattle.bitvec_base.specs.Lists.{places_of};
+ghost use Rattle.bitvec_slice.specs.Views.{seen};
 
-use bitvec_query::base::{Lsb0, Msb0};
-use bitvec_query::engine::SliceOrder;
-use bitvec_query::slice::{BitSlice, BitSliceMut};
-use bitvec_query::store::BitStore;
+use bitvec_base::{Lsb0, Msb0};
+use bitvec_engine::SliceOrder;
 use bitvec_query::{IterZeros, OnesCalls};
+use bitvec_slice::{BitSlice, BitSliceMut};
+use bitvec_store::BitStore;
 use bitvec_test_support::shows;
 use std::alloc::{AllocError, Allocator};
 

@@ -1,8 +1,8 @@
 //! Walks over the places of a bit past their ends: nothing comes from there, nor from the other end.
 
-use bitvec_query::base::Lsb0;
-use bitvec_query::slice::BitSlice;
+use bitvec_base::Lsb0;
 use bitvec_query::{OnesCalls, Places, Wanted};
+use bitvec_slice::BitSlice;
 use bitvec_test_support::stays_ended_at_both;
 
 /// Whether copies of a walk give nothing behind the greatest number from either end, and nothing at ten calls past

@@ -1,11 +1,11 @@
 //! Turns of a walk from both ends, and the loads that they take.
 ghost use Rattle.std.specs.Prelude.{◌≡◌, length};
-ghost use Rattle.bitvec_query.specs.base.Memory.{HasWindow};
+ghost use Rattle.bitvec_base.specs.Memory.{HasWindow};
 
+use bitvec_base::{HiLo, Lsb0, Window};
+use bitvec_cells::Shared;
+use bitvec_engine::SliceOrder;
 use bitvec_query::End::{Back, Front};
-use bitvec_query::base::{HiLo, Lsb0, Window};
-use bitvec_query::cells::Shared;
-use bitvec_query::engine::SliceOrder;
 use bitvec_query::{End, scan_turns};
 use bitvec_test_support::Counted;
 

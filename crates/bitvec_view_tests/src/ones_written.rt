@@ -1,5 +1,5 @@
 //! The places of a bit, written down from an index on.
-use bitvec_query::base::{Lsb0, Window};
+use bitvec_base::{Lsb0, Window};
 use bitvec_query::write_places;
 
 /// Whether `count` places of the bits 5 up to 74 are written from the index on, and the four are then these.

@@ -1,8 +1,8 @@
 //! Indices and ranges of indices of a view, of each kind: whether it is there, and what bits it has.
 
+use bitvec_base::{Lsb0, Window};
 use bitvec_query::BitQueries;
-use bitvec_query::base::{Lsb0, Window};
-use bitvec_query::slice::{BitSlice, BitSliceIndex, BitSliceMut, Viewed, ViewedMut};
+use bitvec_slice::{BitSlice, BitSliceIndex, BitSliceMut, Viewed, ViewedMut};
 use std::process::Abort;
 
 /// The view 0, 1, 0, 0, 1 of a byte.

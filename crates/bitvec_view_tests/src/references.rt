@@ -1,7 +1,8 @@
 //! References to one bit: what they read, what they write, and what is printed of them.
 
-use bitvec_query::base::Lsb0;
-use bitvec_query::slice::{BitRef, BitSlice, BitSliceMut};
+use bitvec_base::Lsb0;
+use bitvec_domain::BitRef;
+use bitvec_slice::{BitSlice, BitSliceMut};
 use bitvec_test_support::{prints, shows};
 
 /// Writes the bit 2 to 1, to 0 and to 1 again: gives the bit before the first write, and those after

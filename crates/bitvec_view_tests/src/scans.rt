@@ -1,12 +1,12 @@
 //! Searches of a view, and comparisons of two.
 ghost use Rattle.std.specs.Prelude.{◌*◌, ◌≤◌, length};
-ghost use Rattle.bitvec_query.specs.base.Window.{max_bits};
+ghost use Rattle.bitvec_base.specs.Window.{max_bits};
 
+use bitvec_base::{Lsb0, Msb0};
+use bitvec_engine::SliceOrder;
 use bitvec_query::BitQueries;
-use bitvec_query::base::{Lsb0, Msb0};
-use bitvec_query::engine::SliceOrder;
-use bitvec_query::slice::{BitSlice, BitSliceMut};
-use bitvec_query::store::BitStore;
+use bitvec_slice::{BitSlice, BitSliceMut};
+use bitvec_store::BitStore;
 
 /// The ones before the first zero, the zeros before the first one, and the same behind the last.
 fn runs(view: BitSlice<'_, u8, Lsb0>) -> [usize; 4] {

@@ -1,7 +1,7 @@
 //! What is printed of writable views and of walks over bits.
 
-use bitvec_query::base::Lsb0;
-use bitvec_query::slice::{BitSlice, BitSliceMut};
+use bitvec_base::Lsb0;
+use bitvec_slice::{BitSlice, BitSliceMut};
 use bitvec_test_support::{prints, shows};
 
 #[test]

@@ -1,9 +1,9 @@
 //! Two parts of a view that are written at once.
 ghost use Rattle.std.specs.Prelude.{◌≤◌};
 
+use bitvec_base::Lsb0;
 use bitvec_edit::BitEdits;
-use bitvec_query::base::Lsb0;
-use bitvec_query::slice::BitSliceMut;
+use bitvec_slice::BitSliceMut;
 
 /// Fills the bits before `mid` of the bits 3 up to 13, if these come apart there, and says whether it did.
 fn fill_before(bytes: &mut [u8; 2], mid: usize) -> bool

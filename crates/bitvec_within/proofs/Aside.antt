@@ -4,16 +4,16 @@ use Rattle.std.proofs.Common.{arith, ap, inl, inr, ◌∙◌, ⊎_elim}
 use Rattle.std.proofs.Math.Nat.{div-add-mod, mul-le-mul_left}
 use Rattle.std.proofs.lemmas.Bool.{cases_lt}
 use Rattle.std.proofs.lemmas.List.{length-map}
-use Rattle.bitvec_elements.specs.base.Lists.{combined}
-use Rattle.bitvec_elements.specs.base.Memory.{HasWindow, Writes, list_in, memory_bits}
-use Rattle.bitvec_elements.specs.base.MemoryLaws.{length-memory_bits, memory-range}
-use Rattle.bitvec_elements.specs.base.SliceLaws.{range-map}
-use Rattle.bitvec_elements.specs.base.Window.{window_of, window_range}
-use Rattle.bitvec_elements.specs.base.WriteLaws.{range-range}
-use Rattle.bitvec_elements.specs.base.WritesLaws.{Writes-is, Writes-next, Writes-range, length-list, list-range}
-use Rattle.bitvec_elements.specs.base.declared.window.Window.{Window}
-use Rattle.bitvec_elements.specs.store.Width.{IsWidth}
-use Rattle.bitvec_elements.specs.store.WidthLaws.{at_each_width}
+use Rattle.bitvec_base.specs.Lists.{combined}
+use Rattle.bitvec_base.specs.Memory.{HasWindow, Writes, list_in, memory_bits}
+use Rattle.bitvec_base.specs.MemoryLaws.{length-memory_bits, memory-range}
+use Rattle.bitvec_base.specs.SliceLaws.{range-map}
+use Rattle.bitvec_base.specs.Window.{window_of, window_range}
+use Rattle.bitvec_base.specs.WriteLaws.{range-range}
+use Rattle.bitvec_base.specs.WritesLaws.{Writes-is, Writes-next, Writes-range, length-list, list-range}
+use Rattle.bitvec_base.specs.declared.window.Window.{Window}
+use Rattle.bitvec_store.specs.Width.{IsWidth}
+use Rattle.bitvec_store.specs.WidthLaws.{at_each_width}
 use Rattle.bitvec_within.specs.Combined.{combined_within}
 use Rattle.bitvec_within.specs.CombinedLaws.{combined_within-before, combined_within-next}
 

@@ -4,15 +4,15 @@ use Rattle.std.proofs.Common.{arith, sym, ◌∙◌, ap, ⊎_elim}
 use Rattle.std.proofs.lemmas.Bool.{cases_lt}
 use Rattle.std.proofs.lemmas.List.{get_or-append_right, get_or-map, get_or-replicate, get_or_append_left, places}
 use Rattle.std.proofs.Math.ListN.{get_or-eq_default}
-use Rattle.bitvec_elements.specs.base.FoundLaws.{bit-clear, bit-set, masked-none, masked-one}
-use Rattle.bitvec_elements.specs.base.Lists.{shifted_start}
-use Rattle.bitvec_elements.specs.base.ListsLaws.{get-combined}
-use Rattle.bitvec_elements.specs.base.Memory.{element_bits}
-use Rattle.bitvec_elements.specs.base.MemoryLaws.{length-element_bits}
-use Rattle.bitvec_elements.specs.base.Order.{Permutes}
-use Rattle.bitvec_elements.specs.base.PartLaws.{element-all, element-none}
-use Rattle.bitvec_elements.specs.cells.ElementLaws.{element-flipped}
-use Rattle.bitvec_elements.specs.words.ElementLaws.{element-and}
+use Rattle.bitvec_base.specs.FoundLaws.{bit-clear, bit-set, masked-none, masked-one}
+use Rattle.bitvec_base.specs.Lists.{shifted_start}
+use Rattle.bitvec_base.specs.ListsLaws.{get-combined}
+use Rattle.bitvec_base.specs.Memory.{element_bits}
+use Rattle.bitvec_base.specs.MemoryLaws.{length-element_bits}
+use Rattle.bitvec_base.specs.Order.{Permutes}
+use Rattle.bitvec_base.specs.PartLaws.{element-all, element-none}
+use Rattle.bitvec_cells.specs.ElementLaws.{element-flipped}
+use Rattle.bitvec_words.specs.ElementLaws.{element-and}
 use Rattle.bitvec_elements.specs.BitsFrom.{HasBitsFrom}
 use Rattle.bitvec_within.specs.Candidates.{HasStarts}
 

@@ -4,14 +4,14 @@ use Rattle.std.proofs.Common.{arith, rules, sym, ◌∙◌, ap, subst, length-ap
 use Rattle.std.proofs.Math.Nat.{add-mod-mod, div-add-mod, mul-add, mul-mod_right}
 use Rattle.std.proofs.lemmas.List.{length-map, map-append, places, same_lists}
 use Rattle.std.proofs.lemmas.Nat.{mod_below}
-use Rattle.bitvec_elements.specs.base.Lists.{combined}
-use Rattle.bitvec_elements.specs.base.Memory.{HasWindow, Writes, list_in, memory_bits}
-use Rattle.bitvec_elements.specs.base.MemoryLaws.{length-memory_bits, memory-range}
-use Rattle.bitvec_elements.specs.base.SliceLaws.{range-all, range-join}
-use Rattle.bitvec_elements.specs.base.Window.{window_of, window_range, write_at}
-use Rattle.bitvec_elements.specs.base.WritesLaws.{HasWindow-kept, Writes-is, Writes-next, Writes-range, list-range}
-use Rattle.bitvec_elements.specs.base.declared.window.Window.{Window}
-use Rattle.bitvec_elements.specs.words.WholeLaws.{window-same}
+use Rattle.bitvec_base.specs.Lists.{combined}
+use Rattle.bitvec_base.specs.Memory.{HasWindow, Writes, list_in, memory_bits}
+use Rattle.bitvec_base.specs.MemoryLaws.{length-memory_bits, memory-range}
+use Rattle.bitvec_base.specs.SliceLaws.{range-all, range-join}
+use Rattle.bitvec_base.specs.Window.{window_of, window_range, write_at}
+use Rattle.bitvec_base.specs.WritesLaws.{HasWindow-kept, Writes-is, Writes-next, Writes-range, list-range}
+use Rattle.bitvec_base.specs.declared.window.Window.{Window}
+use Rattle.bitvec_words.specs.WholeLaws.{window-same}
 use Rattle.bitvec_within.specs.Combined.{combined_within}
 use Rattle.bitvec_within.specs.Swaps.{swapped_within}
 

@@ -3,15 +3,15 @@ use Rattle.std.specs.Prelude.{◌≡◌, ℕ, ◌+◌, ◌-◌, ◌<◌, ◌≤�
 use Rattle.std.proofs.Common.{arith, rules, sym, ◌∙◌, ap, ⊎_elim}
 use Rattle.std.proofs.lemmas.Bool.{cases_lt}
 use Rattle.std.proofs.lemmas.List.{length-take-le, places, same_lists}
-use Rattle.bitvec_elements.specs.base.LengthLaws.{length-copied_within, length-shifted_end}
-use Rattle.bitvec_elements.specs.base.WriteLaws.{get-slice_range, get-write_at_above, get-write_at_inside, length-slice_range, length-write_at, take-write_at}
-use Rattle.bitvec_elements.specs.base.Lists.{copied_within, shifted_end, shifted_start}
-use Rattle.bitvec_elements.specs.base.Memory.{Edits, HasWindow, Writes, list_in}
-use Rattle.bitvec_elements.specs.base.Window.{window_range, write_at}
-use Rattle.bitvec_elements.specs.base.WritesLaws.{HasWindow-kept, Writes-is, Writes-next, Writes-range, length-list, list-range}
-use Rattle.bitvec_elements.specs.base.declared.window.Window.{Window}
-use Rattle.bitvec_elements.specs.words.MovedLaws.{take-word}
-use Rattle.bitvec_elements.specs.words.ShortWindow.{padded}
+use Rattle.bitvec_base.specs.LengthLaws.{length-copied_within, length-shifted_end}
+use Rattle.bitvec_base.specs.WriteLaws.{get-slice_range, get-write_at_above, get-write_at_inside, length-slice_range, length-write_at, take-write_at}
+use Rattle.bitvec_base.specs.Lists.{copied_within, shifted_end, shifted_start}
+use Rattle.bitvec_base.specs.Memory.{Edits, HasWindow, Writes, list_in}
+use Rattle.bitvec_base.specs.Window.{window_range, write_at}
+use Rattle.bitvec_base.specs.WritesLaws.{HasWindow-kept, Writes-is, Writes-next, Writes-range, length-list, list-range}
+use Rattle.bitvec_base.specs.declared.window.Window.{Window}
+use Rattle.bitvec_words.specs.MovedLaws.{take-word}
+use Rattle.bitvec_words.specs.ShortWindow.{padded}
 
 -- the first n of b bits are shifted by k towards their start
 pub shifted-start_word : (b : ℕ) (bits : List Bool) (n k : ℕ) → length bits ≡ b → k ≤ n → n ≤ b

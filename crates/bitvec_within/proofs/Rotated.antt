@@ -2,15 +2,15 @@
 use Rattle.std.specs.Prelude.{◌≡◌, ℕ, ◌+◌, ◌-◌, ◌≤◌, Bool, false, List, ◌++◌, bit_or, take, drop, length, replicate, slice_range}
 use Rattle.std.proofs.Common.{arith, rules, ap, sym, ◌∙◌, length-take}
 use Rattle.std.proofs.lemmas.List.{places, same_lists}
-use Rattle.bitvec_elements.specs.base.Lists.{copied_within, rotated_left}
-use Rattle.bitvec_elements.specs.base.MemoryLaws.{length-element_bits}
-use Rattle.bitvec_elements.specs.base.Memory.{Edits, HasWindow, Writes, element_bits, list_in}
-use Rattle.bitvec_elements.specs.base.Window.{window_after, window_range, write_at}
-use Rattle.bitvec_elements.specs.base.WriteLaws.{length-slice_range}
-use Rattle.bitvec_elements.specs.base.WritesLaws.{HasWindow-kept, Writes-holds, Writes-is, Writes-next, Writes-range, Writes-then, list-after, list-range}
-use Rattle.bitvec_elements.specs.base.declared.window.Window.{Window}
-use Rattle.bitvec_elements.specs.words.ShortWindow.{padded}
-use Rattle.bitvec_elements.specs.words.MovedLaws.{element-joined, written-padded}
+use Rattle.bitvec_base.specs.Lists.{copied_within, rotated_left}
+use Rattle.bitvec_base.specs.MemoryLaws.{length-element_bits}
+use Rattle.bitvec_base.specs.Memory.{Edits, HasWindow, Writes, element_bits, list_in}
+use Rattle.bitvec_base.specs.Window.{window_after, window_range, write_at}
+use Rattle.bitvec_base.specs.WriteLaws.{length-slice_range}
+use Rattle.bitvec_base.specs.WritesLaws.{HasWindow-kept, Writes-holds, Writes-is, Writes-next, Writes-range, Writes-then, list-after, list-range}
+use Rattle.bitvec_base.specs.declared.window.Window.{Window}
+use Rattle.bitvec_words.specs.ShortWindow.{padded}
+use Rattle.bitvec_words.specs.MovedLaws.{element-joined, written-padded}
 use Rattle.bitvec_within.specs.Swaps.{swapped_within}
 use Rattle.bitvec_within.proofs.Swapped.{swapped-by}
 

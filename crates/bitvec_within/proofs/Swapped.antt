@@ -2,13 +2,13 @@
 use Rattle.std.specs.Prelude.{◌≡◌, ℕ, ◌+◌, ◌-◌, ◌≤◌, ◌⊎◌, Bool, List, ◌++◌, length, slice_range, refl}
 use Rattle.std.proofs.Common.{arith, rules, sym, ◌∙◌, ap, ⊎_elim, length-append}
 use Rattle.std.proofs.lemmas.List.{places, same_lists}
-use Rattle.bitvec_elements.specs.base.Lists.{copied_within}
-use Rattle.bitvec_elements.specs.base.Memory.{HasWindow, Writes, list_in}
-use Rattle.bitvec_elements.specs.base.SliceLaws.{range-join}
-use Rattle.bitvec_elements.specs.base.Window.{window_range, write_at}
-use Rattle.bitvec_elements.specs.base.WriteLaws.{length-slice_range, length-write_at, range-write_at_after, range-write_at_before, write_at-next}
-use Rattle.bitvec_elements.specs.base.WritesLaws.{HasWindow-kept, Writes-holds, Writes-next, Writes-range, list-range}
-use Rattle.bitvec_elements.specs.base.declared.window.Window.{Window}
+use Rattle.bitvec_base.specs.Lists.{copied_within}
+use Rattle.bitvec_base.specs.Memory.{HasWindow, Writes, list_in}
+use Rattle.bitvec_base.specs.SliceLaws.{range-join}
+use Rattle.bitvec_base.specs.Window.{window_range, write_at}
+use Rattle.bitvec_base.specs.WriteLaws.{length-slice_range, length-write_at, range-write_at_after, range-write_at_before, write_at-next}
+use Rattle.bitvec_base.specs.WritesLaws.{HasWindow-kept, Writes-holds, Writes-next, Writes-range, list-range}
+use Rattle.bitvec_base.specs.declared.window.Window.{Window}
 use Rattle.bitvec_within.specs.Swaps.{swapped_within}
 
 module _ {X : Type 0} where

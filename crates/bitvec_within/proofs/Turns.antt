@@ -5,9 +5,9 @@ use Rattle.std.proofs.Common.{ap, arith, inl, sym, ◌∙◌, ⊎_elim}
 use Rattle.std.proofs.Math.Nat.{mul-le-mul_left}
 use Rattle.std.proofs.lemmas.Grind.{div_ceil_times}
 use Rattle.std.proofs.lemmas.Bool.{cases_lt}
-use Rattle.bitvec_elements.specs.base.Memory.{HasWindow, Writes, list_in}
-use Rattle.bitvec_elements.specs.base.WritesLaws.{Writes-start, length-list}
-use Rattle.bitvec_elements.specs.base.declared.window.Window.{Window}
+use Rattle.bitvec_base.specs.Memory.{HasWindow, Writes, list_in}
+use Rattle.bitvec_base.specs.WritesLaws.{Writes-start, length-list}
+use Rattle.bitvec_base.specs.declared.window.Window.{Window}
 use Rattle.bitvec_within.specs.Combined.{combined_within}
 use Rattle.bitvec_within.specs.CombinedLaws.{combined_within-none}
 use Rattle.bitvec_within.proofs.Aside.{piece-before, piece-next}

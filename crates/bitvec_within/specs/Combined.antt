@@ -1,7 +1,7 @@
 -- One range of a list of bits combined with another.
 use Rattle.std.specs.Prelude.{ℕ, ◌+◌, ◌-◌, Bool, List, slice_range}
-use Rattle.bitvec_elements.specs.base.Lists.{combined}
-use Rattle.bitvec_elements.specs.base.Window.{write_at}
+use Rattle.bitvec_base.specs.Lists.{combined}
+use Rattle.bitvec_base.specs.Window.{write_at}
 
 -- the list with as many bits from `dest` on as stand from `from` up to `to` combined with these by f
 unfoldable pub combined_within : (Bool → Bool → Bool) → ℕ → ℕ → ℕ → List Bool → List Bool

@@ -1,6 +1,6 @@
 -- Two ranges of a list exchanged.
 use Rattle.std.specs.Prelude.{ℕ, ◌+◌, ◌-◌, ◌≤◌, ◌⊎◌, List, slice_range}
-use Rattle.bitvec_elements.specs.base.Window.{write_at}
+use Rattle.bitvec_base.specs.Window.{write_at}
 
 -- the list with its values from `from` up to `to` and as many from `dest` on exchanged
 unfoldable pub swapped_within : {X : Type 0} → ℕ → ℕ → ℕ → List X → List X

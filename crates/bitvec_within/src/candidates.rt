@@ -1,10 +1,10 @@
 //! Where a needle's bits may occur among others, 64 indices at a time.
 ghost use Rattle.std.specs.Prelude.{◌≡◌, ℕ, ◌<◌, ◌≤◌, false, slice_index_or, true};
-ghost use Rattle.bitvec_elements.specs.base.Memory.{element_bits};
+ghost use Rattle.bitvec_base.specs.Memory.{element_bits};
 ghost use Rattle.bitvec_within.specs.Candidates.{HasStarts};
 
-use bitvec_elements::base::BitOrder;
-use bitvec_elements::words::{WordOrder, joined, toward_start};
+use bitvec_base::BitOrder;
+use bitvec_words::{WordOrder, joined, toward_start};
 
 /// How many bits of the needle [`candidates`] compares before it asks whether any place is left.
 const PASSES_PER_TEST: usize = 8;

@@ -1,15 +1,16 @@
 //! Each bit of a range of a window with the one at its index in another range of it. What is met in loops is
 //! inlined into the caller, so that each operator has loops of its own.
 ghost use Rattle.std.specs.Prelude.{◌≡◌, ◌+◌, ◌-◌, ◌*◌, ◌%◌, ◌<◌, ◌≤◌, length, map};
-ghost use Rattle.bitvec_elements.specs.base.Lists.{FitsWithin, combined};
-ghost use Rattle.bitvec_elements.specs.base.Memory.{Edits, HasWindow, Writes, list_in};
-ghost use Rattle.bitvec_elements.specs.words.Operator.{operator};
+ghost use Rattle.bitvec_base.specs.Lists.{FitsWithin, combined};
+ghost use Rattle.bitvec_base.specs.Memory.{Edits, HasWindow, Writes, list_in};
+ghost use Rattle.bitvec_words.specs.Operator.{operator};
 ghost use Rattle.bitvec_within.specs.Combined.{combined_within};
 
-use bitvec_elements::base::Window;
+use bitvec_base::Window;
 use bitvec_elements::combine_block_in;
-use bitvec_elements::engine::{BitOp, SliceOrder};
-use bitvec_elements::store::BitStore;
+use bitvec_engine::SliceOrder;
+use bitvec_store::BitStore;
+use bitvec_words::BitOp;
 use std::ops::Range;
 
 /// Replaces as many bits from `dest` on as a range of a window has: each becomes what the operator makes of

@@ -1,8 +1,8 @@
 //! Which windows are loaded and stored as a word.
 ghost use Rattle.std.specs.Prelude.{◌≡◌, ◌≤◌, true};
 
-use bitvec_elements::store::BitStore;
-use bitvec_elements::words::WORD_BITS;
+use bitvec_store::BitStore;
+use bitvec_words::WORD_BITS;
 
 /// Whether that many bits are loaded and stored as a word with no loop: no more than an element and a
 /// word have, or 64.

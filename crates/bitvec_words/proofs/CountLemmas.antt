@@ -6,14 +6,14 @@ use Rattle.std.proofs.Math.Nat.{mod-lt, add-mul, mul-le-mul_left, mul_assoc}
 use Rattle.std.proofs.lemmas.List.{same_lists}
 use Rattle.std.proofs.lemmas.Nat.{div-add-mod', pow_pos}
 use Rattle.std.proofs.lemmas.Nat.Bits.{bit_at_cat_low}
-use Rattle.bitvec_cells.specs.base.CountLaws.{ones_within}
-use Rattle.bitvec_cells.specs.base.declared.window.Window.{Window}
-use Rattle.bitvec_cells.specs.base.Memory.{HasWindow, element_bits, list_in}
-use Rattle.bitvec_cells.specs.base.MemoryLaws.{get-element_bits, length-element_bits}
-use Rattle.bitvec_cells.specs.base.Order.{Permutes}
-use Rattle.bitvec_cells.specs.base.WritesLaws.{length-list}
-use Rattle.bitvec_cells.specs.store.Width.{IsWidth}
-use Rattle.bitvec_cells.specs.store.WidthLaws.{at_each_width}
+use Rattle.bitvec_base.specs.CountLaws.{ones_within}
+use Rattle.bitvec_base.specs.declared.window.Window.{Window}
+use Rattle.bitvec_base.specs.Memory.{HasWindow, element_bits, list_in}
+use Rattle.bitvec_base.specs.MemoryLaws.{get-element_bits, length-element_bits}
+use Rattle.bitvec_base.specs.Order.{Permutes}
+use Rattle.bitvec_base.specs.WritesLaws.{length-list}
+use Rattle.bitvec_store.specs.Width.{IsWidth}
+use Rattle.bitvec_store.specs.WidthLaws.{at_each_width}
 use Rattle.bitvec_cells.specs.ElementLaws.{element-count}
 use Rattle.bitvec_words.specs.Elements.{elements_window}
 use Rattle.bitvec_words.specs.FieldLaws.{list-element}

@@ -7,11 +7,11 @@ use Rattle.std.proofs.lemmas.Bool.{cases_eq, cases_lt}
 use Rattle.std.proofs.lemmas.List.{same_lists, get_or-reverse, length-reverse}
 use Rattle.std.proofs.lemmas.Nat.{mul-add-lt, pow_pos}
 use Rattle.std.proofs.lemmas.Nat.Bits.{bit_at_and, bit_at_or, bit_at_xor, bit_at-lt, bit_at_ones}
-use Rattle.bitvec_cells.specs.base.Memory.{element_bits}
-use Rattle.bitvec_cells.specs.base.MemoryLaws.{length-element_bits, get-element_bits}
-use Rattle.bitvec_cells.specs.base.ShiftLaws.{bit_at_shl, bit_at_shl_left, bit_at_shr}
-use Rattle.bitvec_cells.specs.store.Width.{IsWidth}
-use Rattle.bitvec_cells.specs.store.WidthLaws.{at_each_width}
+use Rattle.bitvec_base.specs.Memory.{element_bits}
+use Rattle.bitvec_base.specs.MemoryLaws.{length-element_bits, get-element_bits}
+use Rattle.bitvec_base.specs.ShiftLaws.{bit_at_shl, bit_at_shl_left, bit_at_shr}
+use Rattle.bitvec_store.specs.Width.{IsWidth}
+use Rattle.bitvec_store.specs.WidthLaws.{at_each_width}
 use Rattle.bitvec_words.specs.OrderEnd.{RunsFrom}
 use Rattle.bitvec_words.specs.Exchanged.{exchanged_bits, halved_blocks, HasLower, HasReversed, ReversesBlocks}
 

@@ -4,19 +4,19 @@ use Rattle.std.specs.Int.{bit_at}
 use Rattle.std.proofs.Common.{arith, rules, sym, ◌∙◌, ap}
 use Rattle.std.proofs.lemmas.List.{places, same_lists}
 use Rattle.std.proofs.lemmas.Nat.{div-add-mod'}
-use Rattle.bitvec_cells.specs.base.declared.window.Window.{Window}
-use Rattle.bitvec_cells.specs.base.FoundLaws.{masked-none, masked-one}
-use Rattle.bitvec_cells.specs.base.Memory.{HasWindow, element_bits, list_in}
-use Rattle.bitvec_cells.specs.base.MemoryLaws.{element-or_mask, get-element_bits, length-element_bits}
-use Rattle.bitvec_cells.specs.base.Order.{Permutes}
-use Rattle.bitvec_cells.specs.base.PartLaws.{length-part}
-use Rattle.bitvec_cells.specs.base.SliceLaws.{range-push}
+use Rattle.bitvec_base.specs.declared.window.Window.{Window}
+use Rattle.bitvec_base.specs.FoundLaws.{masked-none, masked-one}
+use Rattle.bitvec_base.specs.Memory.{HasWindow, element_bits, list_in}
+use Rattle.bitvec_base.specs.MemoryLaws.{element-or_mask, get-element_bits, length-element_bits}
+use Rattle.bitvec_base.specs.Order.{Permutes}
+use Rattle.bitvec_base.specs.PartLaws.{length-part}
+use Rattle.bitvec_base.specs.SliceLaws.{range-push}
 use Rattle.bitvec_cells.specs.ElementLaws.{single_mask}
-use Rattle.bitvec_cells.specs.base.Parts.{first_part_of, part_window}
-use Rattle.bitvec_cells.specs.base.Window.{window_range, write_at}
-use Rattle.bitvec_cells.specs.store.Width.{IsWidth}
-use Rattle.bitvec_cells.specs.store.WidthLaws.{width_some}
-use Rattle.bitvec_cells.specs.base.WritesLaws.{length-list}
+use Rattle.bitvec_base.specs.Parts.{first_part_of, part_window}
+use Rattle.bitvec_base.specs.Window.{window_range, write_at}
+use Rattle.bitvec_store.specs.Width.{IsWidth}
+use Rattle.bitvec_store.specs.WidthLaws.{width_some}
+use Rattle.bitvec_base.specs.WritesLaws.{length-list}
 use Rattle.bitvec_words.specs.WordLaws.{padded-all, word_whole}
 use Rattle.bitvec_cells.specs.WalkLaws.{Walked-start, first-len, first-place}
 use Rattle.bitvec_words.specs.Elements.{elements_window}

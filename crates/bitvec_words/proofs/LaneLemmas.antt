@@ -7,9 +7,9 @@ use Rattle.std.proofs.lemmas.Bool.{cases_lt}
 use Rattle.std.proofs.lemmas.List.{same_lists, places}
 use Rattle.std.proofs.lemmas.Nat.{mod_below, or_lt, pow_pos, shr_le}
 use Rattle.std.proofs.lemmas.Nat.Bits.{bit_at_cat_low, bit_at_cat_high}
-use Rattle.bitvec_cells.specs.base.Lists.{combined, shifted_start, shifted_end}
-use Rattle.bitvec_cells.specs.base.Memory.{element_bits}
-use Rattle.bitvec_cells.specs.base.MemoryLaws.{get-element_bits, length-element_bits}
+use Rattle.bitvec_base.specs.Lists.{combined, shifted_start, shifted_end}
+use Rattle.bitvec_base.specs.Memory.{element_bits}
+use Rattle.bitvec_base.specs.MemoryLaws.{get-element_bits, length-element_bits}
 use Rattle.bitvec_words.specs.ElementLaws.{element-or}
 use Rattle.bitvec_words.specs.Lanes.{AreJoined, AreWords, IsJoined, number_of_words, words_between}
 use Rattle.bitvec_words.specs.OrderEnd.{RunsFrom}

@@ -4,16 +4,16 @@ use Rattle.std.proofs.Common.{arith, sym, ◌∙◌, ap, subst}
 use Rattle.std.proofs.Math.Nat.{add-mul, mul-le-mul_left}
 use Rattle.std.proofs.lemmas.List.{length-replicate, same_lists}
 use Rattle.std.proofs.lemmas.Nat.{div-add-mod', div_below, mod_below}
-use Rattle.bitvec_cells.specs.store.Width.{IsWidth}
-use Rattle.bitvec_cells.specs.store.WidthLaws.{width_some}
-use Rattle.bitvec_cells.specs.base.Lists.{first_place}
-use Rattle.bitvec_cells.specs.base.Memory.{HasWindow, element_bits, list_in, memory_bits, place_bit}
-use Rattle.bitvec_cells.specs.base.MemoryLaws.{element_fits, element-range, get-element_bits, get-memory_bits, length-element_bits, length-memory_bits, memory-range, place_bit-element}
-use Rattle.bitvec_cells.specs.base.Order.{Permutes}
-use Rattle.bitvec_cells.specs.base.PlacesLaws.{first_place-absent, first_place-other}
-use Rattle.bitvec_cells.specs.base.SliceLaws.{range-all, range-same}
-use Rattle.bitvec_cells.specs.base.Window.{window_of, write_at}
-use Rattle.bitvec_cells.specs.base.WriteLaws.{write_at-all}
+use Rattle.bitvec_store.specs.Width.{IsWidth}
+use Rattle.bitvec_store.specs.WidthLaws.{width_some}
+use Rattle.bitvec_base.specs.Lists.{first_place}
+use Rattle.bitvec_base.specs.Memory.{HasWindow, element_bits, list_in, memory_bits, place_bit}
+use Rattle.bitvec_base.specs.MemoryLaws.{element_fits, element-range, get-element_bits, get-memory_bits, length-element_bits, length-memory_bits, memory-range, place_bit-element}
+use Rattle.bitvec_base.specs.Order.{Permutes}
+use Rattle.bitvec_base.specs.PlacesLaws.{first_place-absent, first_place-other}
+use Rattle.bitvec_base.specs.SliceLaws.{range-all, range-same}
+use Rattle.bitvec_base.specs.Window.{window_of, write_at}
+use Rattle.bitvec_base.specs.WriteLaws.{write_at-all}
 use Rattle.bitvec_words.specs.CombinedLaws.{length-elements}
 use Rattle.bitvec_words.specs.Elements.{HasElements, SameElements, elements_window}
 use Rattle.bitvec_words.specs.ShortWindow.{padded}

@@ -4,15 +4,15 @@ use Rattle.std.proofs.Common.{arith, sym, ◌∙◌, ap}
 use Rattle.std.specs.Int.Bits.{xor_self}
 use Rattle.std.proofs.lemmas.List.{get_or_default, get_or-replicate, length-replicate, same_lists}
 use Rattle.std.proofs.lemmas.Nat.{pow_pos}
-use Rattle.bitvec_cells.specs.base.BitsFixMemory.{element_bits-fix}
-use Rattle.bitvec_cells.specs.base.declared.window.Window.{Window}
-use Rattle.bitvec_cells.specs.base.Lists.{first_place, last_place}
-use Rattle.bitvec_cells.specs.base.Memory.{HasWindow, element_bits, list_in}
-use Rattle.bitvec_cells.specs.base.MemoryLaws.{length-element_bits}
-use Rattle.bitvec_cells.specs.base.Order.{Permutes}
-use Rattle.bitvec_cells.specs.base.PlacesLaws.{first_place-absent, first_place-append, first_place-below, first_place-other, last_place-absent, last_place-append, last_place-below, last_place-other}
-use Rattle.bitvec_cells.specs.base.SliceLaws.{range-all}
-use Rattle.bitvec_cells.specs.base.WritesLaws.{length-list}
+use Rattle.bitvec_base.specs.BitsFixMemory.{element_bits-fix}
+use Rattle.bitvec_base.specs.declared.window.Window.{Window}
+use Rattle.bitvec_base.specs.Lists.{first_place, last_place}
+use Rattle.bitvec_base.specs.Memory.{HasWindow, element_bits, list_in}
+use Rattle.bitvec_base.specs.MemoryLaws.{length-element_bits}
+use Rattle.bitvec_base.specs.Order.{Permutes}
+use Rattle.bitvec_base.specs.PlacesLaws.{first_place-absent, first_place-append, first_place-below, first_place-other, last_place-absent, last_place-append, last_place-below, last_place-other}
+use Rattle.bitvec_base.specs.SliceLaws.{range-all}
+use Rattle.bitvec_base.specs.WritesLaws.{length-list}
 use Rattle.bitvec_cells.specs.Cost.{first_loads, last_loads}
 use Rattle.bitvec_cells.specs.ElementLaws.{element-filled}
 use Rattle.bitvec_cells.specs.WalkLaws.{first_loads-most}

@@ -6,15 +6,15 @@ use Rattle.std.proofs.Common.{arith, sym, ◌∙◌, ap}
 use Rattle.std.proofs.Math.Nat.{div-div-eq-div-mul, div-one, suc-mul, zero-mul}
 use Rattle.std.proofs.lemmas.List.{same_lists}
 use Rattle.std.proofs.lemmas.Nat.{div-add-mod', div-mul-add, div_below, mod-mul-add, mod_below, pow-add}
-use Rattle.bitvec_cells.specs.store.DigitLaws.{length-digits}
-use Rattle.bitvec_cells.specs.store.Width.{IsWidth}
-use Rattle.bitvec_cells.specs.store.WidthLaws.{width_some}
-use Rattle.bitvec_cells.specs.base.Memory.{HasWindow, Writes, element_bits, list_in, memory_bits, place_bit}
-use Rattle.bitvec_cells.specs.base.MemoryLaws.{element_fits, get-element_bits, get-memory_bits, length-element_bits, length-memory_bits, place_bit-element}
-use Rattle.bitvec_cells.specs.base.Order.{Permutes}
-use Rattle.bitvec_cells.specs.base.ShiftLaws.{bit_at_cut, bit_at_shr}
-use Rattle.bitvec_cells.specs.base.Window.{write_at}
-use Rattle.bitvec_cells.specs.base.WriteLaws.{length-write_at}
+use Rattle.bitvec_store.specs.DigitLaws.{length-digits}
+use Rattle.bitvec_store.specs.Width.{IsWidth}
+use Rattle.bitvec_store.specs.WidthLaws.{width_some}
+use Rattle.bitvec_base.specs.Memory.{HasWindow, Writes, element_bits, list_in, memory_bits, place_bit}
+use Rattle.bitvec_base.specs.MemoryLaws.{element_fits, get-element_bits, get-memory_bits, length-element_bits, length-memory_bits, place_bit-element}
+use Rattle.bitvec_base.specs.Order.{Permutes}
+use Rattle.bitvec_base.specs.ShiftLaws.{bit_at_cut, bit_at_shr}
+use Rattle.bitvec_base.specs.Window.{write_at}
+use Rattle.bitvec_base.specs.WriteLaws.{length-write_at}
 use Rattle.bitvec_words.specs.Elements.{HasElements, SameElements, elements_window}
 use Rattle.bitvec_words.specs.OrderEnd.{RunsFrom}
 use Rattle.bitvec_words.specs.WholeLaws.{elements-inside}

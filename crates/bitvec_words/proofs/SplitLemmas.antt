@@ -6,13 +6,13 @@ use Rattle.std.proofs.lemmas.List.{map-append}
 use Rattle.std.proofs.lemmas.List.Sums.{sum_by-append}
 use Rattle.std.proofs.lemmas.Nat.{div-add-mod', mod-mul-add}
 use Rattle.std.proofs.Math.Nat.{add-mul, mul-le-mul_left}
-use Rattle.bitvec_cells.specs.base.declared.part.Part.{Part}
-use Rattle.bitvec_cells.specs.base.declared.window.Window.{Window}
-use Rattle.bitvec_cells.specs.base.Lists.{first_place, last_place}
-use Rattle.bitvec_cells.specs.base.Memory.{HasWindow, Writes, element_bits, list_in}
-use Rattle.bitvec_cells.specs.base.Parts.{HasPart, first_part_of, part_window, tail_part_of}
-use Rattle.bitvec_cells.specs.base.Window.{window_after}
-use Rattle.bitvec_cells.specs.base.WritesLaws.{Writes-is, Writes-join, length-list, list-behind, list-join}
+use Rattle.bitvec_base.specs.declared.part.Part.{Part}
+use Rattle.bitvec_base.specs.declared.window.Window.{Window}
+use Rattle.bitvec_base.specs.Lists.{first_place, last_place}
+use Rattle.bitvec_base.specs.Memory.{HasWindow, Writes, element_bits, list_in}
+use Rattle.bitvec_base.specs.Parts.{HasPart, first_part_of, part_window, tail_part_of}
+use Rattle.bitvec_base.specs.Window.{window_after}
+use Rattle.bitvec_base.specs.WritesLaws.{Writes-is, Writes-join, length-list, list-behind, list-join}
 use Rattle.bitvec_cells.specs.Cost.{first_loads, last_loads, touched_count}
 use Rattle.bitvec_cells.specs.WalkLaws.{first-len, first-place, touched-none}
 use Rattle.bitvec_words.specs.Elements.{elements_window, whole_of}

@@ -8,15 +8,15 @@ use Rattle.std.proofs.Math.Nat.{add-mul, div-mul-le_self, lt_of_mul-lt-mul_right
 use Rattle.std.proofs.lemmas.Bool.{cases_lt, le-ltb, lt-ltb}
 use Rattle.std.proofs.lemmas.Grind.{div_ceil_times}
 use Rattle.std.proofs.lemmas.Nat.{div-add-mod'}
-use Rattle.bitvec_cells.specs.store.Width.{IsWidth}
-use Rattle.bitvec_cells.specs.store.WidthLaws.{at_each_width, width_some}
-use Rattle.bitvec_cells.specs.base.Lists.{first_place}
-use Rattle.bitvec_cells.specs.base.Memory.{HasWindow, element_bits, list_in}
-use Rattle.bitvec_cells.specs.base.MemoryLaws.{length-element_bits}
-use Rattle.bitvec_cells.specs.base.Order.{Permutes}
-use Rattle.bitvec_cells.specs.base.declared.window.Window.{Window}
-use Rattle.bitvec_cells.specs.base.PlacesLaws.{first_place-append, first_place-below}
-use Rattle.bitvec_cells.specs.base.WritesLaws.{length-list, list-join}
+use Rattle.bitvec_store.specs.Width.{IsWidth}
+use Rattle.bitvec_store.specs.WidthLaws.{at_each_width, width_some}
+use Rattle.bitvec_base.specs.Lists.{first_place}
+use Rattle.bitvec_base.specs.Memory.{HasWindow, element_bits, list_in}
+use Rattle.bitvec_base.specs.MemoryLaws.{length-element_bits}
+use Rattle.bitvec_base.specs.Order.{Permutes}
+use Rattle.bitvec_base.specs.declared.window.Window.{Window}
+use Rattle.bitvec_base.specs.PlacesLaws.{first_place-append, first_place-below}
+use Rattle.bitvec_base.specs.WritesLaws.{length-list, list-join}
 use Rattle.bitvec_cells.specs.Cost.{first_loads, touched_count}
 use Rattle.bitvec_cells.specs.WalkLaws.{touched-none}
 use Rattle.bitvec_words.specs.Elements.{elements_window}

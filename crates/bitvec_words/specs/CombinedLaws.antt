@@ -3,11 +3,11 @@ use Rattle.std.specs.Prelude.{◌≡◌, ℕ, ◌+◌, ◌<◌, ◌≤◌, ◌�
 use Rattle.std.proofs.Common.{arith, rules, sym, ◌∙◌, ap, ⊎_elim, length-append}
 use Rattle.std.proofs.lemmas.Bool.{cases_lt}
 use Rattle.std.proofs.lemmas.List.{places, length-replicate, get_or-replicate, get_or_past}
-use Rattle.bitvec_cells.specs.base.Lists.{combined, differs}
-use Rattle.bitvec_cells.specs.base.ListsLaws.{combined-is, get-combined, length-combined}
-use Rattle.bitvec_cells.specs.base.declared.window.Window.{Window}
-use Rattle.bitvec_cells.specs.base.Memory.{HasWindow, Writes, element_bits, list_in}
-use Rattle.bitvec_cells.specs.base.WritesLaws.{Writes-is, Writes-join, length-list, list-behind, list-join}
+use Rattle.bitvec_base.specs.Lists.{combined, differs}
+use Rattle.bitvec_base.specs.ListsLaws.{combined-is, get-combined, length-combined}
+use Rattle.bitvec_base.specs.declared.window.Window.{Window}
+use Rattle.bitvec_base.specs.Memory.{HasWindow, Writes, element_bits, list_in}
+use Rattle.bitvec_base.specs.WritesLaws.{Writes-is, Writes-join, length-list, list-behind, list-join}
 use Rattle.std.proofs.Math.Nat.{mul-le-mul_left}
 use Rattle.bitvec_words.specs.Elements.{elements_window}
 use Rattle.bitvec_words.specs.FieldLaws.{element_of, list-whole}

@@ -3,10 +3,10 @@ use Rattle.std.specs.Prelude.{◌≡◌, ℕ, ◌+◌, ◌%◌, ◌<◌, ◌==�
 use Rattle.std.specs.Int.{bit_at}
 use Rattle.std.proofs.Common.{arith, sym, ◌∙◌, ap}
 use Rattle.std.proofs.lemmas.Nat.Bits.{bit_at_and, bit_at_or, bit_at_xor, bit_at-lt}
-use Rattle.bitvec_cells.specs.base.Lists.{combined, differs}
-use Rattle.bitvec_cells.specs.base.ListsLaws.{combined-is}
-use Rattle.bitvec_cells.specs.base.Memory.{element_bits}
-use Rattle.bitvec_cells.specs.base.MemoryLaws.{length-element_bits, get-element_bits}
+use Rattle.bitvec_base.specs.Lists.{combined, differs}
+use Rattle.bitvec_base.specs.ListsLaws.{combined-is}
+use Rattle.bitvec_base.specs.Memory.{element_bits}
+use Rattle.bitvec_base.specs.MemoryLaws.{length-element_bits, get-element_bits}
 
 -- ---- bit by bit
 

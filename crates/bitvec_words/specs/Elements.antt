@@ -1,7 +1,7 @@
 -- Windows of whole elements of b bits.
 use Rattle.std.specs.Prelude.{◌≡◌, ℕ, ◌+◌, ◌*◌, ◌/◌, List}
-use Rattle.bitvec_cells.specs.base.declared.window.Window.{Window}
-use Rattle.bitvec_cells.specs.base.Memory.{element_bits, memory_bits}
+use Rattle.bitvec_base.specs.declared.window.Window.{Window}
+use Rattle.bitvec_base.specs.Memory.{element_bits, memory_bits}
 
 -- `count` elements from the element `first` on
 abbrev pub elements_window : ℕ → ℕ → ℕ → Window

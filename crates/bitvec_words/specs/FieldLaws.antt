@@ -5,17 +5,17 @@ use Rattle.std.proofs.lemmas.Bool.{cases_lt}
 use Rattle.std.proofs.Math.Nat.{mul-le-mul_left}
 use Rattle.std.proofs.lemmas.List.{same_lists, places, length-set}
 use Rattle.std.proofs.lemmas.Nat.{div-add-mod', mod_below}
-use Rattle.bitvec_cells.specs.base.declared.part.Part.{Part}
-use Rattle.bitvec_cells.specs.base.declared.window.Window.{Window}
-use Rattle.bitvec_cells.specs.base.Lists.{shifted_end, shifted_start}
-use Rattle.bitvec_cells.specs.base.Memory.{HasWindow, Writes, element_bits, list_in, memory_bits}
-use Rattle.bitvec_cells.specs.base.MemoryLaws.{element-range, element_fits, length-element_bits, length-memory_bits, set-element}
-use Rattle.bitvec_cells.specs.base.PartLaws.{part-range, part-write}
-use Rattle.bitvec_cells.specs.base.Parts.{HasPart, first_part_of, part_window}
-use Rattle.bitvec_cells.specs.base.SliceLaws.{range-all, range-none}
-use Rattle.bitvec_cells.specs.base.Window.{window_after, window_of, window_until, write_at}
-use Rattle.bitvec_cells.specs.base.WriteLaws.{length-slice_range, write_at-all}
-use Rattle.bitvec_cells.specs.base.WritesLaws.{Writes-empty, Writes-is, Writes-join, list-join}
+use Rattle.bitvec_base.specs.declared.part.Part.{Part}
+use Rattle.bitvec_base.specs.declared.window.Window.{Window}
+use Rattle.bitvec_base.specs.Lists.{shifted_end, shifted_start}
+use Rattle.bitvec_base.specs.Memory.{HasWindow, Writes, element_bits, list_in, memory_bits}
+use Rattle.bitvec_base.specs.MemoryLaws.{element-range, element_fits, length-element_bits, length-memory_bits, set-element}
+use Rattle.bitvec_base.specs.PartLaws.{part-range, part-write}
+use Rattle.bitvec_base.specs.Parts.{HasPart, first_part_of, part_window}
+use Rattle.bitvec_base.specs.SliceLaws.{range-all, range-none}
+use Rattle.bitvec_base.specs.Window.{window_after, window_of, window_until, write_at}
+use Rattle.bitvec_base.specs.WriteLaws.{length-slice_range, write_at-all}
+use Rattle.bitvec_base.specs.WritesLaws.{Writes-empty, Writes-is, Writes-join, list-join}
 use Rattle.bitvec_cells.specs.WalkLaws.{first-len, first-place}
 use Rattle.bitvec_words.specs.Elements.{elements_window}
 

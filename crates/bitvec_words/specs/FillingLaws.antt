@@ -3,9 +3,9 @@ use Rattle.std.specs.Prelude.{◌≡◌, ◌≢◌, ℕ, ◌+◌, ◌-◌, ◌*�
 use Rattle.std.proofs.Common.{arith, sym, ◌∙◌, ap}
 use Rattle.std.proofs.lemmas.Bool.{cond-false, ne_eqb}
 use Rattle.std.proofs.lemmas.List.{map-append, replicate-append-replicate}
-use Rattle.bitvec_cells.specs.base.Memory.{HasWindow, Writes, element_bits, list_in}
-use Rattle.bitvec_cells.specs.base.Order.{Permutes}
-use Rattle.bitvec_cells.specs.base.WritesLaws.{Writes-empty, Writes-is}
+use Rattle.bitvec_base.specs.Memory.{HasWindow, Writes, element_bits, list_in}
+use Rattle.bitvec_base.specs.Order.{Permutes}
+use Rattle.bitvec_base.specs.WritesLaws.{Writes-empty, Writes-is}
 use Rattle.bitvec_cells.specs.Cost.{fill_loads}
 use Rattle.bitvec_cells.specs.ElementLaws.{element-filled, element-flipped}
 use Rattle.bitvec_words.specs.CombinedLaws.{element-kept}

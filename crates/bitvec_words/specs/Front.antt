@@ -1,8 +1,8 @@
 -- The first bits of a window, as the first bits of a word.
 use Rattle.std.specs.Prelude.{◌≡◌, ℕ, ◌+◌, ◌%◌, ◌<◌, ◌≤◌, List, min}
-use Rattle.bitvec_cells.specs.base.declared.window.Window.{Window}
-use Rattle.bitvec_cells.specs.base.Memory.{element_bits, list_in}
-use Rattle.bitvec_cells.specs.base.Window.{window_range}
+use Rattle.bitvec_base.specs.declared.window.Window.{Window}
+use Rattle.bitvec_base.specs.Memory.{element_bits, list_in}
+use Rattle.bitvec_base.specs.Window.{window_range}
 use Rattle.bitvec_words.specs.ShortWindow.{padded}
 
 -- the first `count` bits of the window are those of the word, whose others are 0; where more are left, and elements are not wider than a word, one begins behind them

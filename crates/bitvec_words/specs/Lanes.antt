@@ -1,6 +1,6 @@
 -- Elements of 128 bits as two words of 64, the less significant one first.
 use Rattle.std.specs.Prelude.{◌≡◌, ℕ, ◌+◌, ◌*◌, ◌^◌, ◌<◌, Bool, List, [], ◌∷◌, ◌++◌, if◌then◌else◌, length, take, drop, slice_index}
-use Rattle.bitvec_cells.specs.base.Memory.{element_bits}
+use Rattle.bitvec_base.specs.Memory.{element_bits}
 
 -- the list is two words
 pub record AreWords (words : List ℕ) : Type 0 where

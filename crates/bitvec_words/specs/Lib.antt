@@ -1,4 +1,3 @@
-pub mod Cited
 pub mod CombinedLaws
 pub mod ElementLaws
 pub mod Elements
@@ -20,7 +19,3 @@ pub mod TouchedLaws
 pub mod WholeLaws
 pub mod WordLaws
 pub mod WrittenLaws
-pub mod walk
-pub use Rattle.bitvec_cells.specs.base as base
-pub use Rattle.bitvec_cells.specs as cells
-pub use Rattle.bitvec_cells.specs.store as store

@@ -7,14 +7,14 @@ use Rattle.std.proofs.lemmas.List.{same_lists, places, length-replicate, get_or-
 use Rattle.std.proofs.lemmas.Nat.{and_mask, mod_below, pow_pos, shl_whole, shr_split}
 use Rattle.std.proofs.lemmas.Nat.Bits.{ones_shr, bit_at-zero, bit_at_above, bit_at_cat_low, bit_at_cat_high}
 use Rattle.std.proofs.Math.Pow.{pow_mono}
-use Rattle.bitvec_cells.specs.base.Lists.{combined}
-use Rattle.bitvec_cells.specs.base.ListsLaws.{combined-is}
-use Rattle.bitvec_cells.specs.base.Memory.{element_bits}
-use Rattle.bitvec_cells.specs.base.MemoryLaws.{get-element_bits, length-element_bits, masked_write}
-use Rattle.bitvec_cells.specs.base.PartLaws.{element-none}
-use Rattle.bitvec_cells.specs.base.ShiftLaws.{bit_at_shr}
-use Rattle.bitvec_cells.specs.base.Window.{write_at}
-use Rattle.bitvec_cells.specs.base.WriteLaws.{get-slice_range, get-write_at_above, get-write_at_below, get-write_at_inside, length-slice_range, range-write_at}
+use Rattle.bitvec_base.specs.Lists.{combined}
+use Rattle.bitvec_base.specs.ListsLaws.{combined-is}
+use Rattle.bitvec_base.specs.Memory.{element_bits}
+use Rattle.bitvec_base.specs.MemoryLaws.{get-element_bits, length-element_bits, masked_write}
+use Rattle.bitvec_base.specs.PartLaws.{element-none}
+use Rattle.bitvec_base.specs.ShiftLaws.{bit_at_shr}
+use Rattle.bitvec_base.specs.Window.{write_at}
+use Rattle.bitvec_base.specs.WriteLaws.{get-slice_range, get-write_at_above, get-write_at_below, get-write_at_inside, length-slice_range, range-write_at}
 use Rattle.bitvec_words.specs.ElementLaws.{element-or}
 use Rattle.bitvec_words.specs.ShortWindow.{lowest_bit, padded}
 use Rattle.bitvec_words.specs.OrderEnd.{RunsFrom}

@@ -1,6 +1,6 @@
 -- What an operator makes of two bits.
 use Rattle.std.specs.Prelude.{Bool, ◌&&◌, ◌||◌}
-use Rattle.bitvec_cells.specs.base.Lists.{differs}
+use Rattle.bitvec_base.specs.Lists.{differs}
 use Rattle.bitvec_words.specs.declared.operator.BitOp.{BitOp}
 use Rattle.bitvec_words.specs.declared.operator.BitOp.TheVariants.{And, Or, Xor}
 

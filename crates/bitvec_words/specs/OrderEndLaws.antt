@@ -5,11 +5,11 @@ use Rattle.std.proofs.Common.{arith, sym, ◌∙◌, ap, subst, ⊎_elim}
 use Rattle.std.proofs.lemmas.Bool.{cases_lt}
 use Rattle.std.proofs.lemmas.List.{same_lists}
 use Rattle.std.proofs.lemmas.Nat.Bits.{bit_at_above}
-use Rattle.bitvec_cells.specs.base.Lists.{shifted_start, shifted_end}
-use Rattle.bitvec_cells.specs.base.LengthLaws.{length-shifted_start, length-shifted_end}
-use Rattle.bitvec_cells.specs.base.Memory.{element_bits}
-use Rattle.bitvec_cells.specs.base.MemoryLaws.{length-element_bits, get-element_bits}
-use Rattle.bitvec_cells.specs.base.ShiftLaws.{bit_at_shl, bit_at_shl_left, bit_at_shr}
+use Rattle.bitvec_base.specs.Lists.{shifted_start, shifted_end}
+use Rattle.bitvec_base.specs.LengthLaws.{length-shifted_start, length-shifted_end}
+use Rattle.bitvec_base.specs.Memory.{element_bits}
+use Rattle.bitvec_base.specs.MemoryLaws.{length-element_bits, get-element_bits}
+use Rattle.bitvec_base.specs.ShiftLaws.{bit_at_shl, bit_at_shl_left, bit_at_shr}
 use Rattle.bitvec_words.specs.OrderEnd.{RunsFrom}
 use Rattle.bitvec_words.specs.ShiftedLaws.{get-shifted_start, get-shifted_start_left, get-shifted_end, get-shifted_end_left}
 

@@ -3,13 +3,13 @@ use Rattle.std.specs.Prelude.{◌≡◌, ℕ, ◌+◌, ◌-◌, ◌<◌, ◌≤�
 use Rattle.std.proofs.Common.{arith, sym, ◌∙◌, ap}
 use Rattle.std.proofs.lemmas.List.{length-replicate}
 use Rattle.std.proofs.lemmas.Nat.{div_below}
-use Rattle.bitvec_cells.specs.base.declared.window.Window.{Window}
-use Rattle.bitvec_cells.specs.base.Memory.{HasWindow, Writes, element_bits, list_in}
-use Rattle.bitvec_cells.specs.base.MemoryLaws.{length-element_bits}
-use Rattle.bitvec_cells.specs.base.Parts.{HasPart, first_part_of, part_window}
-use Rattle.bitvec_cells.specs.base.Window.{window_after, write_at}
-use Rattle.bitvec_cells.specs.base.WriteLaws.{length-slice_range}
-use Rattle.bitvec_cells.specs.base.WritesLaws.{Writes-is}
+use Rattle.bitvec_base.specs.declared.window.Window.{Window}
+use Rattle.bitvec_base.specs.Memory.{HasWindow, Writes, element_bits, list_in}
+use Rattle.bitvec_base.specs.MemoryLaws.{length-element_bits}
+use Rattle.bitvec_base.specs.Parts.{HasPart, first_part_of, part_window}
+use Rattle.bitvec_base.specs.Window.{window_after, write_at}
+use Rattle.bitvec_base.specs.WriteLaws.{length-slice_range}
+use Rattle.bitvec_base.specs.WritesLaws.{Writes-is}
 use Rattle.bitvec_cells.specs.Walk.{Walked, passed}
 use Rattle.bitvec_cells.specs.WalkLaws.{Writes-next_part, first-len, length-first, length-passed, list-next}
 use Rattle.bitvec_words.specs.ShortWindow.{padded}

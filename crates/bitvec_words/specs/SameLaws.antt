@@ -8,15 +8,15 @@ use Rattle.std.proofs.lemmas.Bool.Decides.{Decides-and, Decides-eqb, Decides-lik
 use Rattle.std.proofs.lemmas.List.{same_lists}
 use Rattle.std.proofs.lemmas.Nat.Bits.{bit_at_above, bit_at_and, bit_at_or, bit_at_xor, bit_at-lt, bit_at-zero, same_from_bits}
 use Rattle.std.proofs.Math.Seq.{take-append_seam, drop-append_seam}
-use Rattle.bitvec_cells.specs.base.BitsFixMemory.{element_bits-fix}
-use Rattle.bitvec_cells.specs.base.Lists.{same_bits}
-use Rattle.bitvec_cells.specs.base.ListsLaws.{same_bits-decides}
-use Rattle.bitvec_cells.specs.base.MaskLaws.{mask_of-below, mask_of-has, mask_of-lacks}
-use Rattle.bitvec_cells.specs.base.Memory.{element_bits}
-use Rattle.bitvec_cells.specs.base.MemoryLaws.{length-element_bits, get-element_bits}
-use Rattle.bitvec_cells.specs.base.Order.{Permutes, mask_of}
-use Rattle.bitvec_cells.specs.base.OrderLaws.{Permutes-onto}
-use Rattle.bitvec_cells.specs.base.WriteLaws.{get-slice_range, length-slice_range}
+use Rattle.bitvec_base.specs.BitsFixMemory.{element_bits-fix}
+use Rattle.bitvec_base.specs.Lists.{same_bits}
+use Rattle.bitvec_base.specs.ListsLaws.{same_bits-decides}
+use Rattle.bitvec_base.specs.MaskLaws.{mask_of-below, mask_of-has, mask_of-lacks}
+use Rattle.bitvec_base.specs.Memory.{element_bits}
+use Rattle.bitvec_base.specs.MemoryLaws.{length-element_bits, get-element_bits}
+use Rattle.bitvec_base.specs.Order.{Permutes, mask_of}
+use Rattle.bitvec_base.specs.OrderLaws.{Permutes-onto}
+use Rattle.bitvec_base.specs.WriteLaws.{get-slice_range, length-slice_range}
 
 -- ---- lists
 

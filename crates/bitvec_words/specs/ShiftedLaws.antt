@@ -4,9 +4,9 @@ use Rattle.std.proofs.Common.{arith, rules, sym, ◌∙◌, ap, ⊎_elim, length
 use Rattle.std.proofs.Math.Bool.{or-false}
 use Rattle.std.proofs.lemmas.Bool.{cases_lt}
 use Rattle.std.proofs.lemmas.List.{same_lists, places}
-use Rattle.bitvec_cells.specs.base.Lists.{combined, differs, shifted_start, shifted_end}
-use Rattle.bitvec_cells.specs.base.LengthLaws.{length-shifted_start}
-use Rattle.bitvec_cells.specs.base.ListsLaws.{combined-is}
+use Rattle.bitvec_base.specs.Lists.{combined, differs, shifted_start, shifted_end}
+use Rattle.bitvec_base.specs.LengthLaws.{length-shifted_start}
+use Rattle.bitvec_base.specs.ListsLaws.{combined-is}
 
 -- ---- by places
 

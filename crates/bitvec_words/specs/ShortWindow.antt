@@ -1,7 +1,7 @@
 -- Fields of elements under an order that runs from one end to the other.
 use Rattle.std.specs.Prelude.{ℕ, ◌+◌, ◌-◌, ◌<◌, ◌≤◌, Bool, false, if◌then◌else◌, List, ◌++◌, length, replicate}
-use Rattle.bitvec_cells.specs.base.declared.window.Window.{Window}
-use Rattle.bitvec_cells.specs.base.Memory.{HasWindow}
+use Rattle.bitvec_base.specs.declared.window.Window.{Window}
+use Rattle.bitvec_base.specs.Memory.{HasWindow}
 
 -- a window of the memory that isn't empty, and is no longer than an element
 pub record HasShortWindow (b : ℕ) (xs : List ℕ) (window : Window) : Type 0 where

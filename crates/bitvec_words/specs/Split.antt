@@ -1,7 +1,7 @@
 -- A window in two, split where an element of b bits begins.
 use Rattle.std.specs.Prelude.{◌≡◌, ℕ, ◌+◌, ◌%◌, ◌<◌, ◌≤◌}
-use Rattle.bitvec_cells.specs.base.declared.part.Part.{Part}
-use Rattle.bitvec_cells.specs.base.declared.window.Window.{Window}
+use Rattle.bitvec_base.specs.declared.part.Part.{Part}
+use Rattle.bitvec_base.specs.declared.window.Window.{Window}
 
 -- the front, and what is behind it, which begins there unless it is empty
 pub record Split (b : ℕ) (front rest window : Window) : Type 0 where

@@ -3,13 +3,13 @@ use Rattle.std.specs.Prelude.{◌≡◌, ◌≢◌, ℕ, min, ◌+◌, ◌-◌, 
 use Rattle.std.proofs.Common.{arith, ◌∙◌, ap, ⊎_elim}
 use Rattle.std.proofs.lemmas.Bool.{cases_eq, cases_lt}
 use Rattle.std.proofs.lemmas.Nat.{div-mul-add, div-add-mod', mod_below, mod-mul-add}
-use Rattle.bitvec_cells.specs.base.declared.part.Part.{Part}
+use Rattle.bitvec_base.specs.declared.part.Part.{Part}
 use Rattle.bitvec_cells.specs.Cost.{part_loads, touched_count}
 use Rattle.bitvec_cells.specs.WalkLaws.{div-order, touched-none, touched-some}
-use Rattle.bitvec_cells.specs.base.Memory.{HasWindow}
-use Rattle.bitvec_cells.specs.base.declared.window.Window.{Window}
-use Rattle.bitvec_cells.specs.store.Width.{IsWidth}
-use Rattle.bitvec_cells.specs.store.WidthLaws.{at_each_width, width_some}
+use Rattle.bitvec_base.specs.Memory.{HasWindow}
+use Rattle.bitvec_base.specs.declared.window.Window.{Window}
+use Rattle.bitvec_store.specs.Width.{IsWidth}
+use Rattle.bitvec_store.specs.WidthLaws.{at_each_width, width_some}
 use Rattle.bitvec_words.specs.FieldLaws.{element_of}
 
 -- a window touches an element

@@ -4,11 +4,11 @@ use Rattle.std.proofs.Common.{arith, ◌∙◌, ap, ⊎_elim}
 use Rattle.std.proofs.lemmas.Bool.{cases_lt}
 use Rattle.std.proofs.lemmas.Nat.{div-add-mod', mod_below, mod-mul-add}
 use Rattle.std.proofs.Math.Nat.{add-mul, le_of_mul-le-mul_right, mul-le-mul_left}
-use Rattle.bitvec_cells.specs.base.declared.window.Window.{Window}
-use Rattle.bitvec_cells.specs.base.Lists.{same_bits}
-use Rattle.bitvec_cells.specs.base.Memory.{HasWindow, Writes, list_in, memory_bits}
-use Rattle.bitvec_cells.specs.base.SliceLaws.{range-none}
-use Rattle.bitvec_cells.specs.base.Window.{window_of}
+use Rattle.bitvec_base.specs.declared.window.Window.{Window}
+use Rattle.bitvec_base.specs.Lists.{same_bits}
+use Rattle.bitvec_base.specs.Memory.{HasWindow, Writes, list_in, memory_bits}
+use Rattle.bitvec_base.specs.SliceLaws.{range-none}
+use Rattle.bitvec_base.specs.Window.{window_of}
 use Rattle.bitvec_cells.specs.Cost.{touched_count}
 use Rattle.bitvec_words.specs.Elements.{elements_window}
 use Rattle.bitvec_words.specs.TouchedLaws.{touched-first, touched-from, touched-inside}

@@ -2,12 +2,12 @@
 use Rattle.std.specs.Prelude.{◌≡◌, ℕ, ◌+◌, ◌*◌, ◌<◌, ◌≤◌, Bool, List, ◌++◌, length, take, drop, slice_range, refl}
 use Rattle.std.proofs.Common.{arith, sym, ap, ◌∙◌}
 use Rattle.std.proofs.Math.Nat.{add-mul, mul-le-mul_right}
-pub use Rattle.bitvec_cells.specs.PutLaws.{part-numbers}
-use Rattle.bitvec_cells.specs.base.Memory.{memory_bits}
-use Rattle.bitvec_cells.specs.base.MemoryLaws.{length-memory_bits, memory-range}
-use Rattle.bitvec_cells.specs.base.SliceLaws.{range-all, range-from_start, range-join, range-same, range-to_end}
-use Rattle.bitvec_cells.specs.base.Window.{write_at}
-use Rattle.bitvec_cells.specs.base.WriteLaws.{length-write_at, range-write_at, range-write_at_after, range-write_at_before}
+use Rattle.bitvec_cells.specs.PutLaws.{part-numbers}
+use Rattle.bitvec_base.specs.Memory.{memory_bits}
+use Rattle.bitvec_base.specs.MemoryLaws.{length-memory_bits, memory-range}
+use Rattle.bitvec_base.specs.SliceLaws.{range-all, range-from_start, range-join, range-same, range-to_end}
+use Rattle.bitvec_base.specs.Window.{write_at}
+use Rattle.bitvec_base.specs.WriteLaws.{length-write_at, range-write_at, range-write_at_after, range-write_at_before}
 
 -- elements that two memories have in common
 same-part : (b : ℕ) (at : ℕ → ℕ → ℕ) (xs zs : List ℕ) (a e : ℕ) → 0 < b → a ≤ e → e ≤ length xs → e ≤ length zs → slice_range zs a e ≡ slice_range xs a e

@@ -1,9 +1,9 @@
 //! Elements as a loop carries them from one pass to the next, to join each with the next one.
 ghost use Rattle.std.specs.Prelude.{◌≡◌, ℕ, ◌<◌, ◌++◌, take, drop, ⊤};
-ghost use Rattle.bitvec_cells.specs.base.Memory.{element_bits};
+ghost use Rattle.bitvec_base.specs.Memory.{element_bits};
 
+use bitvec_store::BitStore;
 use crate::{WordOrder, joined};
-use bitvec_cells::store::BitStore;
 
 /// An element that a loop loaded, in the form in which it joins it with the next one.
 pub trait Carried<T: BitStore>: Copy + Drop {

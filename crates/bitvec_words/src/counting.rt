@@ -1,15 +1,15 @@
 //! How many bits of a window are 1, or 0.
 ghost use Rattle.std.specs.Prelude.{◌≡◌, ◌+◌, ◌*◌, ◌/◌, ◌%◌, ◌<◌, ◌≤◌, not, count_by};
-ghost use Rattle.bitvec_cells.specs.base.Memory.{HasWindow, list_in};
+ghost use Rattle.bitvec_base.specs.Memory.{HasWindow, list_in};
 ghost use Rattle.bitvec_cells.specs.Access.{OnlyReads};
 ghost use Rattle.bitvec_cells.specs.Cost.{touched_count};
 ghost use Rattle.bitvec_words.specs.Elements.{elements_window};
 
+use bitvec_base::{BitOrder, Window};
+use bitvec_cells::{CellsRead, count_part};
+use bitvec_store::BitStore;
 use crate::split::{split_head, split_tail};
 use crate::word_parts::WORD_BITS;
-use bitvec_cells::base::{BitOrder, Window};
-use bitvec_cells::store::BitStore;
-use bitvec_cells::{CellsRead, count_part};
 
 /// The words of a block.
 const BLOCK_WORDS: usize = 4;

@@ -1,13 +1,13 @@
 //! The bits of one element, moved and joined many at a time.
 ghost use Rattle.std.specs.Prelude.{◌≡◌, ◌<◌, ◌≤◌, ◌++◌, take, drop, reverse, slice_range};
-ghost use Rattle.bitvec_cells.specs.base.Lists.{shifted_end, shifted_start};
-ghost use Rattle.bitvec_cells.specs.base.Memory.{element_bits};
-ghost use Rattle.bitvec_cells.specs.base.Window.{write_at};
+ghost use Rattle.bitvec_base.specs.Lists.{shifted_end, shifted_start};
+ghost use Rattle.bitvec_base.specs.Memory.{element_bits};
+ghost use Rattle.bitvec_base.specs.Window.{write_at};
 ghost use Rattle.bitvec_words.specs.Exchanged.{exchanged_bits};
 
+use bitvec_base::BitOrder;
+use bitvec_store::BitStore;
 use crate::WordOrder;
-use bitvec_cells::base::BitOrder;
-use bitvec_cells::store::BitStore;
 
 /// The element whose bits stand `by` places nearer to its start, with zeros at the end. Condition: `by` is below
 /// the width. Cost: one shift.

@@ -17,20 +17,6 @@ mod word_elements;
 mod word_order;
 mod word_parts;
 
-/// Counted access of `bitvec_cells`.
-pub mod cells {
-    pub use bitvec_cells::{Cells, CellsRead, Exclusive, Shared, fits_max_bits, has_window};
-}
-
-/// What `bitvec_cells` does with single bits and parts of elements.
-pub mod walk {
-    pub use bitvec_cells::{
-        count_part, fill_part, filled, first_in_element, first_in_part, get_bit, invert_part,
-        last_in_element, last_in_part, replace_bit, sought, swap_bits,
-    };
-}
-
-pub use bitvec_cells::{base, store};
 pub use carried::{Carried, Whole};
 pub use counting::{count, count_zeros};
 pub use element::{joined, merged, reversed, toward_end, toward_start};

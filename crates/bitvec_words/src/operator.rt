@@ -1,11 +1,11 @@
 //! What is made of two bits, one bit or one element at a time.
 ghost use Rattle.std.specs.Prelude.{◌≡◌};
-ghost use Rattle.bitvec_cells.specs.base.Lists.{combined};
-ghost use Rattle.bitvec_cells.specs.base.Memory.{element_bits};
+ghost use Rattle.bitvec_base.specs.Lists.{combined};
+ghost use Rattle.bitvec_base.specs.Memory.{element_bits};
 ghost use Rattle.bitvec_words.specs.Operator.{operator};
 
-use bitvec_cells::base::BitOrder;
-use bitvec_cells::store::BitStore;
+use bitvec_base::BitOrder;
+use bitvec_store::BitStore;
 
 /// What is made of two bits.
 #[derive(Clone, Copy, PartialEq, Eq, Debug)]

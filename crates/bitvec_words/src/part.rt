@@ -1,16 +1,16 @@
 //! Bits of one element or two, loaded to the front of an element or stored behind a mask.
 ghost use Rattle.std.specs.Prelude.{◌≡◌, ◌+◌, ◌-◌, ◌/◌, slice_index, slice_range, take};
-ghost use Rattle.bitvec_cells.specs.base.Memory.{Writes, element_bits, list_in};
-ghost use Rattle.bitvec_cells.specs.base.Parts.{HasPart, part_window};
+ghost use Rattle.bitvec_base.specs.Memory.{Writes, element_bits, list_in};
+ghost use Rattle.bitvec_base.specs.Parts.{HasPart, part_window};
 ghost use Rattle.bitvec_cells.specs.Access.{Costs, OnlyReads};
 ghost use Rattle.bitvec_cells.specs.Cost.{part_loads, touched_count};
 ghost use Rattle.bitvec_words.specs.ShortWindow.{HasShortWindow};
 
+use bitvec_base::{BitOrder, Part, Window};
+use bitvec_cells::{Cells, CellsRead};
+use bitvec_store::BitStore;
 use crate::WordOrder;
 use crate::element::{joined, merged, toward_start};
-use bitvec_cells::base::{BitOrder, Part, Window};
-use bitvec_cells::store::BitStore;
-use bitvec_cells::{Cells, CellsRead};
 
 /// Gives a part the bits that an element has at the same indices. Condition: the part is one of an element of the
 /// memory. It takes one store, and one load unless the part is a whole element.

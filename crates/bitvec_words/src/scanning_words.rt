@@ -1,19 +1,19 @@
 //! Searches of a window by blocks of words.
 ghost use Rattle.std.specs.Prelude.{◌≡◌, ◌*◌, ◌/◌, ◌%◌, ◌<◌, ◌++◌};
-ghost use Rattle.bitvec_cells.specs.base.Lists.{first_place};
-ghost use Rattle.bitvec_cells.specs.base.Memory.{HasWindow, element_bits, list_in};
+ghost use Rattle.bitvec_base.specs.Lists.{first_place};
+ghost use Rattle.bitvec_base.specs.Memory.{HasWindow, element_bits, list_in};
 ghost use Rattle.bitvec_cells.specs.Access.{OnlyReads, OnlyReadsAtMost};
 ghost use Rattle.bitvec_cells.specs.Cost.{touched_count};
 ghost use Rattle.bitvec_words.specs.Elements.{elements_window};
 
+use bitvec_base::{BitOrder, Lsb0, Window};
+use bitvec_cells::{CellsRead, filled, first_in_part};
+use bitvec_store::BitStore;
 use crate::scanning::{first_in_whole, first_whole};
 use crate::split::split_head;
 use crate::word_elements::{load_elements, ordered};
 use crate::word_order::WordOrder;
 use crate::word_parts::WORD_BITS;
-use bitvec_cells::base::{BitOrder, Lsb0, Window};
-use bitvec_cells::store::BitStore;
-use bitvec_cells::{CellsRead, filled, first_in_part};
 
 /// The bits of a block, which is four words.
 const BLOCK_BITS: usize = 4 * WORD_BITS;

@@ -1,12 +1,12 @@
 //! A window in two, split where an element begins.
 ghost use Rattle.std.specs.Prelude.{◌≡◌, ◌+◌, ◌-◌, ◌%◌, ◌^◌, ◌<◌};
-ghost use Rattle.bitvec_cells.specs.base.Parts.{first_part_of, part_window};
-ghost use Rattle.bitvec_cells.specs.base.Window.{window_after};
+ghost use Rattle.bitvec_base.specs.Parts.{first_part_of, part_window};
+ghost use Rattle.bitvec_base.specs.Window.{window_after};
 ghost use Rattle.bitvec_words.specs.Elements.{elements_window};
 ghost use Rattle.bitvec_words.specs.Split.{IsPart, Split};
 
-use bitvec_cells::base::{Part, Window, first_part, tail_part, whole_elements};
-use bitvec_cells::store::BitStore;
+use bitvec_base::{Part, Window, first_part, tail_part, whole_elements};
+use bitvec_store::BitStore;
 
 /// The part of a window's first element, and the window behind it. Condition: the window isn't empty, and its end
 /// is a `usize`.

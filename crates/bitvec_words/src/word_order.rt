@@ -1,7 +1,7 @@
 //! Bit orders that run through an element from one end to the other.
 ghost use Rattle.std.specs.Prelude.{◌≡◌, ℕ, ◌-◌, ◌<◌, Bool, true, false, if◌then◌else◌, refl};
 
-use bitvec_cells::base::{BitOrder, Lsb0, Msb0};
+use bitvec_base::{BitOrder, Lsb0, Msb0};
 
 /// An order whose indices run through an element from one end to the other.
 ///

@@ -1,18 +1,18 @@
 //! Fields: up to 64 bits of a window as the first bits of a word, and bits of one element at other indices of
 //! another.
 ghost use Rattle.std.specs.Prelude.{◌≡◌, ◌+◌, ◌≤◌, false, replicate, slice_range, take};
-ghost use Rattle.bitvec_cells.specs.base.Memory.{HasWindow, Writes, element_bits, list_in};
-ghost use Rattle.bitvec_cells.specs.base.Window.{write_at};
+ghost use Rattle.bitvec_base.specs.Memory.{HasWindow, Writes, element_bits, list_in};
+ghost use Rattle.bitvec_base.specs.Window.{write_at};
 ghost use Rattle.bitvec_cells.specs.Access.{CostsAtMost, OnlyReads};
 ghost use Rattle.bitvec_cells.specs.Cost.{fill_loads, touched_count};
 ghost use Rattle.bitvec_words.specs.ShortWindow.{lowest_bit, padded};
 
+use bitvec_base::Window;
+use bitvec_cells::{Cells, CellsRead};
+use bitvec_store::BitStore;
 use crate::WordOrder;
 use crate::part::store_part;
 use crate::split::split_head;
-use bitvec_cells::base::Window;
-use bitvec_cells::store::BitStore;
-use bitvec_cells::{Cells, CellsRead};
 
 /// The most bits that a word has.
 pub const WORD_BITS: usize = 64;

@@ -4,7 +4,10 @@ use Rattle.std.proofs.Common.{Err, Ok, arith, sym, ◌∙◌, ap, subst}
 use Rattle.std.specs.declared.result.Result.{Result}
 use Rattle.std.proofs.lemmas.List.{get_or_append_left, get_or_push, get_or-map, length-map, length_push, set-set}
 use Rattle.std.proofs.lemmas.List.Sums.{fold_push}
-use Rattle.bitrecord.specs.bits.{BitSliceMut, Order, Store, Window, length-seen_mut, seen_mut, written-none, written-then}
+use Rattle.bitvec.specs.Types.{BitSliceMut, Order, Store, Window}
+use Rattle.bitvec.specs.ShowingLaws.{length-seen_mut}
+use Rattle.bitvec.specs.Views.{seen_mut}
+use Rattle.bitvec.specs.WritesLaws.{written-none, written-then}
 use Rattle.bitrecord.specs.Layouts.{IsLayout, field_at, no_field}
 use Rattle.bitrecord.specs.Records.{IsBeside, WritesField, field_number, record_in}
 use Rattle.bitrecord.specs.declared.endian.Endian.TheVariants.{Big}

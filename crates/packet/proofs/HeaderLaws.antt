@@ -4,7 +4,7 @@ use Rattle.std.proofs.lemmas.List.{flat_map_more, get_or-map, length-map, take_m
 use Rattle.std.specs.List.{flat_map}
 use Rattle.std.proofs.lemmas.List.FromFn.{get_or-map-range_with_len, length-map-range_with_len}
 use Rattle.bitrecord.specs.Layouts.{IsLayout, field_at, no_field}
-use Rattle.bitrecord.specs.bits.{Window}
+use Rattle.bitvec.specs.Types.{Window}
 use Rattle.packet.specs.Checksums.{checksum_word, sum_words}
 use Rattle.packet.specs.Packets.{AreWords, HasHeaders, HeaderFault, IsHeader, Place, header_length, header_windows, number_at, numbers_at, packet_fields, place, places_of, windows_of, word_window, word_windows}
 use Rattle.packet.specs.Texts.{field_line, field_text, fields_text, verdict_text}

@@ -6,7 +6,7 @@ use Rattle.std.specs.Str.{bytes_eq}
 use Rattle.std.proofs.lemmas.List.{get_or-map, get_or_append_left, get_or_default, get_or_push, length-map}
 use Rattle.std.proofs.lemmas.List.Quantifiers.{position-Some}
 use Rattle.bitrecord.specs.Layouts.{field_at, no_field}
-use Rattle.bitrecord.specs.bits.{Window}
+use Rattle.bitvec.specs.Types.{Window}
 use Rattle.packet.specs.Packets.{Place, place, places_of, windows_of}
 use Rattle.packet.specs.Arguments.{Named}
 use Rattle.packet.specs.Changes.{CanChange}

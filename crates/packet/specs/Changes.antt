@@ -1,6 +1,8 @@
 -- Changes of fields.
 use Rattle.std.specs.Prelude.{◌≡◌, ℕ, ◌<◌, Bool, true, List, All, fold, length, slice_index_or, slice_set}
-use Rattle.bitrecord.specs.bits.{BitSliceMut, Order, Store, Window, WritesBits, seen_mut}
+use Rattle.bitvec.specs.Types.{BitSliceMut, Order, Store, Window}
+use Rattle.bitvec.specs.Writes.{WritesBits}
+use Rattle.bitvec.specs.Views.{seen_mut}
 use Rattle.bitrecord.specs.Layouts.{field_at}
 use Rattle.bitrecord.specs.Records.{Fits, IsBeside, record_in}
 use Rattle.bitrecord.specs.declared.endian.Endian.TheVariants.{Big}

@@ -2,7 +2,8 @@
 use denote.Ref.{Bor}
 use Rattle.std.specs.Prelude.{◌≡◌, ◌≢◌, ℕ, ◌+◌, ◌*◌, ◌<◌, ◌≤◌, Bool, true, ◌==◌, if◌then◌else◌, List, [], ◌++◌, length, map}
 use Rattle.std.specs.List.{range_with_len}
-use Rattle.bitrecord.specs.bits.{Window, msb0_bits}
+use Rattle.bitvec.specs.Types.{Window}
+use Rattle.bitvec.specs.Arrays.{msb0_bits}
 use Rattle.bitrecord.specs.Layouts.{IsLayout, field_at}
 use Rattle.bitrecord.specs.Records.{field_number, record_in}
 use Rattle.bitrecord.specs.declared.endian.Endian.TheVariants.{Big}

@@ -1,6 +1,6 @@
 //! Changes of fields.
 ghost use Rattle.std.specs.Prelude.{◌≡◌, ◌*◌, ◌≤◌, All, length};
-ghost use Rattle.bitrecord.specs.bits.{seen_mut};
+ghost use Rattle.bitvec.specs.Views.{seen_mut};
 ghost use Rattle.bitrecord.specs.Views.{bits_of, fields_of};
 ghost use Rattle.packet.specs.Changes.{CanChange, SetsFields, WritesChanges};
 ghost use Rattle.packet.specs.Packets.{AreLayouts};

@@ -1,6 +1,6 @@
 //! The checksum of the header.
 ghost use Rattle.std.specs.Prelude.{◌≡◌, ◌<◌, All, true};
-ghost use Rattle.bitrecord.specs.bits.{seen, seen_mut};
+ghost use Rattle.bitvec.specs.Views.{seen, seen_mut};
 ghost use Rattle.bitrecord.specs.Records.{record_in};
 ghost use Rattle.bitrecord.specs.Views.{bits_of, fields_of};
 ghost use Rattle.packet.specs.Changes.{MakesRight};

@@ -1,14 +1,15 @@
 //! Walks over the bits of arrays of bits.
 ghost use Rattle.std.specs.Prelude.{◌≡◌, ◌≤◌, length};
-ghost use Rattle.bitvec_edit.specs.base.Window.{max_bits};
+ghost use Rattle.bitvec_base.specs.Window.{max_bits};
 
+use bitvec_base::BitOrder;
+use bitvec_domain::BitRef;
+use bitvec_slice::Iter;
+use bitvec_store::BitStore;
 use crate::BitArray;
-use bitvec_edit::base::BitOrder;
-use bitvec_edit::slice::{BitRef, Iter};
-use bitvec_edit::store::BitStore;
 
 impl<T: BitStore, O: BitOrder, const N: usize> BitArray<T, O, N> {
-    ghost use Rattle.bitvec_edit.specs.slice.Walks.{YieldsBits, remaining_bits, walked};
+    ghost use Rattle.bitvec_slice.specs.Walks.{YieldsBits, remaining_bits, walked};
     ghost use Rattle.bitvec_owned.specs.Arrays.{in_array};
 
     /// The bits, one by one.
@@ -23,7 +24,7 @@ impl<T: BitStore, O: BitOrder, const N: usize> BitArray<T, O, N> {
 }
 
 impl<'a, T: BitStore, O: BitOrder, const N: usize> IntoIterator for &'a BitArray<T, O, N> {
-    ghost use Rattle.bitvec_edit.specs.slice.Walks.{YieldsBits, remaining_bits};
+    ghost use Rattle.bitvec_slice.specs.Walks.{YieldsBits, remaining_bits};
     ghost use Rattle.bitvec_owned.specs.Arrays.{in_array};
 
     type Item = BitRef<'a, T, O>;

@@ -1,11 +1,11 @@
 //! The texts of arrays of bits.
 ghost use Rattle.std.specs.Prelude.{Some};
-ghost use Rattle.bitvec_edit.specs.traits.Listing.{bits_text};
+ghost use Rattle.bitvec_domain.specs.Listing.{bits_text};
 ghost use Rattle.bitvec_owned.specs.Arrays.{in_array};
 
+use bitvec_base::BitOrder;
+use bitvec_store::BitStore;
 use crate::BitArray;
-use bitvec_edit::base::BitOrder;
-use bitvec_edit::store::BitStore;
 use std::fmt;
 
 /// The bits as a list, as `[0, 1, 0]`.

@@ -1,5 +1,5 @@
 use Rattle.std.proofs.Common.{sym, ◌∙◌}
-use Rattle.bitvec_cells.specs.base.Memory.{place_bit}
+use Rattle.bitvec_base.specs.Memory.{place_bit}
 use Rattle.bitvec_cells.proofs.BitLemmas.{tested, get-window}
 use Rattle.bitvec_cells.proofs.bit.get_bit.Goals as goal
 

@@ -1,8 +1,8 @@
 use Rattle.std.proofs.Common.{arith, sym, ◌∙◌, rules}
 use Rattle.std.proofs.lemmas.List.{length-set}
-use Rattle.bitvec_cells.specs.base.Memory.{place_bit}
-use Rattle.bitvec_cells.specs.base.MemoryLaws.{within-bits}
-use Rattle.bitvec_cells.specs.base.WindowLaws.{length-window, window-set}
+use Rattle.bitvec_base.specs.Memory.{place_bit}
+use Rattle.bitvec_base.specs.MemoryLaws.{within-bits}
+use Rattle.bitvec_base.specs.WindowLaws.{length-window, window-set}
 use Rattle.bitvec_cells.proofs.BitLemmas.{tested, get-window}
 use Rattle.bitvec_cells.proofs.PartLemmas.{place-put}
 use Rattle.bitvec_cells.proofs.bit.replace_bit.Goals as goal

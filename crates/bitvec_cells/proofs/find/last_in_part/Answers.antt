@@ -1,6 +1,6 @@
 use Rattle.std.proofs.Common.{Bool, List, ap, sym, ◌∙◌}
-use Rattle.bitvec_cells.specs.base.Lists.{last_place}
-use Rattle.bitvec_cells.specs.base.PartLaws.{part-range}
+use Rattle.bitvec_base.specs.Lists.{last_place}
+use Rattle.bitvec_base.specs.PartLaws.{part-range}
 use Rattle.bitvec_cells.proofs.PartLemmas.{part-list}
 use Rattle.bitvec_cells.proofs.find.last_in_part.Goals as goal
 

@@ -1,5 +1,5 @@
 use Rattle.std.proofs.Common.{◌∙◌, sym, ap, Bool, List, count_by}
-use Rattle.bitvec_cells.specs.base.PartLaws.{part-count}
+use Rattle.bitvec_base.specs.PartLaws.{part-count}
 use Rattle.bitvec_cells.proofs.PartLemmas.{part-list}
 use Rattle.bitvec_cells.proofs.part.count_part.Goals as goal
 

@@ -1,7 +1,7 @@
 use Rattle.std.proofs.Common.{◌∙◌, rules}
 use Rattle.std.proofs.lemmas.List.Edits.{length-swap}
-use Rattle.bitvec_cells.specs.base.MemoryLaws.{within-bits}
-use Rattle.bitvec_cells.specs.base.WindowLaws.{length-window, swap-writes}
+use Rattle.bitvec_base.specs.MemoryLaws.{within-bits}
+use Rattle.bitvec_base.specs.WindowLaws.{length-window, swap-writes}
 use Rattle.bitvec_cells.proofs.swap.swap_bits.Goals as goal
 
 pub returns-clause-writes : goal.returns-clause-writes

@@ -1,9 +1,9 @@
 use Rattle.std.proofs.Common.{rules, refl, sym, ◌∙◌, ◌<◌, length, map}
 use Rattle.std.proofs.lemmas.List.{get_or-map, length-map}
-use Rattle.bitvec_checked.specs.commands.FieldRows.{field_outcome}
-use Rattle.bitvec_checked.specs.commands.RanLaws.{Ran-next, list-whole}
-use Rattle.bitvec_checked.specs.commands.base.Memory.{list_in, memory_bits}
-use Rattle.bitvec_checked.specs.commands.base.WritesLaws.{Writes-nothing}
+use Rattle.bitvec_run.specs.FieldRows.{field_outcome}
+use Rattle.bitvec_run.specs.RanLaws.{Ran-next, list-whole}
+use Rattle.bitvec_base.specs.Memory.{list_in, memory_bits}
+use Rattle.bitvec_base.specs.WritesLaws.{Writes-nothing}
 use Rattle.bitvec_checked_run.specs.Steps.{raw_reply, step_of}
 use Rattle.bitvec_checked_run.specs.declared.steps.RawStep.{RawStep}
 use Rattle.bitvec_checked_run.proofs.RunLemmas.{has-place, raw-next, rest-next}

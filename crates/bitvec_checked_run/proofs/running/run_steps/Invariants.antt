@@ -1,8 +1,8 @@
 use Rattle.std.proofs.Common.{◌≡◌, drop, length, map, take}
-use Rattle.bitvec_checked.specs.commands.FieldRows.{field_list, field_outcome, field_reply}
-use Rattle.bitvec_checked.specs.commands.Fold.{replies_of}
-use Rattle.bitvec_checked.specs.commands.RanLaws.{Ran}
-use Rattle.bitvec_checked.specs.commands.base.Memory.{list_in, memory_bits}
+use Rattle.bitvec_run.specs.FieldRows.{field_list, field_outcome, field_reply}
+use Rattle.bitvec_run.specs.Fold.{replies_of}
+use Rattle.bitvec_run.specs.RanLaws.{Ran}
+use Rattle.bitvec_base.specs.Memory.{list_in, memory_bits}
 use Rattle.bitvec_checked_run.specs.Steps.{raw_reply, step_of}
 use Rattle.bitvec_checked_run.proofs.running.run_steps.Given as goal
 

@@ -1,13 +1,13 @@
 use Rattle.std.proofs.Common.{◌≡◌, ◌-◌, ◌++◌, ◌∙◌, arith, ap, refl, true, Bool, List, length, length-append, []}
-use Rattle.bitvec_move.specs.base.Lists.{combined}
-use Rattle.bitvec_move.specs.base.Memory.{list_in}
-use Rattle.bitvec_move.specs.base.Window.{window_after, window_until}
-use Rattle.bitvec_move.specs.base.WritesLaws.{Writes-is, length-list}
-use Rattle.bitvec_move.specs.store.WidthLaws.{width_some}
-use Rattle.bitvec_move.specs.walk.CostLaws.{touched_read, touched_stored}
-use Rattle.bitvec_move.specs.words.CombinedLaws.{Writes-both, combined-enough, combined-short}
-use Rattle.bitvec_move.specs.words.FieldLaws.{list-parted}
-use Rattle.bitvec_move.specs.words.Operator.{operator}
+use Rattle.bitvec_base.specs.Lists.{combined}
+use Rattle.bitvec_base.specs.Memory.{list_in}
+use Rattle.bitvec_base.specs.Window.{window_after, window_until}
+use Rattle.bitvec_base.specs.WritesLaws.{Writes-is, length-list}
+use Rattle.bitvec_store.specs.WidthLaws.{width_some}
+use Rattle.bitvec_cells.specs.CostLaws.{touched_read, touched_stored}
+use Rattle.bitvec_words.specs.CombinedLaws.{Writes-both, combined-enough, combined-short}
+use Rattle.bitvec_words.specs.FieldLaws.{list-parted}
+use Rattle.bitvec_words.specs.Operator.{operator}
 use Rattle.bitvec_combine.specs.CombineLaws.{combines-beside, touched-met, touched-passed}
 use Rattle.bitvec_combine.proofs.CostLemmas.{costs-both, costs-most, reads-most}
 use Rattle.bitvec_combine.proofs.combining.combine.Goals as goal

@@ -1,6 +1,6 @@
 use Rattle.std.proofs.Common.{arith, rules, ◌+◌}
 use Rattle.std.proofs.lemmas.Nat.{mod_below}
-use Rattle.bitvec_move.specs.store.WidthLaws.{width_some}
+use Rattle.bitvec_store.specs.WidthLaws.{width_some}
 use Rattle.bitvec_combine.specs.CombineLaws.{combines-beside}
 use Rattle.bitvec_combine.proofs.combining.combine_equal.Goals as goal
 

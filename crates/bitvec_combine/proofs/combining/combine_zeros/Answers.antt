@@ -1,6 +1,6 @@
 use Rattle.std.proofs.Common.{◌∙◌, ap, replicate, false, ℕ, sym, rules, refl}
-use Rattle.bitvec_move.specs.base.WritesLaws.{Writes-is, Writes-nothing, length-list}
-use Rattle.bitvec_move.specs.words.CombinedLaws.{combined-and_zeros, combined-kept}
+use Rattle.bitvec_base.specs.WritesLaws.{Writes-is, Writes-nothing, length-list}
+use Rattle.bitvec_words.specs.CombinedLaws.{combined-and_zeros, combined-kept}
 use Rattle.bitvec_combine.proofs.combining.combine_zeros.Goals as goal
 
 pub returns-in-And-clause-writes : goal.returns-in-And-clause-writes

@@ -1,6 +1,6 @@
 use Rattle.std.proofs.Common.{arith}
-use Rattle.bitvec_move.specs.base.CompareLaws.{same-unequal}
-use Rattle.bitvec_move.specs.base.WritesLaws.{length-list}
+use Rattle.bitvec_base.specs.CompareLaws.{same-unequal}
+use Rattle.bitvec_base.specs.WritesLaws.{length-list}
 use Rattle.bitvec_combine.specs.DifferLaws.{equal_enough, equal_enough_right}
 use Rattle.bitvec_combine.proofs.CostLemmas.{reads-most}
 use Rattle.bitvec_combine.proofs.comparing.equal.Goals as goal

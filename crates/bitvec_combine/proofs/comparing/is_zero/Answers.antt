@@ -1,7 +1,7 @@
 use Rattle.std.proofs.Common.{◌≡◌, ℕ, ◌==◌, ◌/◌, ◌%◌, arith, ap, ◌∙◌, bit_or}
 use Rattle.std.proofs.lemmas.Bool.Decides.{nat_tests}
 use Rattle.std.proofs.lemmas.Nat.{div-add-mod'}
-use Rattle.bitvec_move.specs.words.SameLaws.{or_zero}
+use Rattle.bitvec_words.specs.SameLaws.{or_zero}
 use Rattle.bitvec_combine.proofs.comparing.is_zero.Goals as goal
 
 -- a number is 0 where its halves are

@@ -1,7 +1,7 @@
 use Rattle.std.specs.Prelude.{Bool}
 use Rattle.std.specs.Fn.{Called, Takes}
 use Rattle.std.proofs.Common.{rules, sym, subst, arith}
-use Rattle.bitvec_cells.specs.base.WritesLaws.{length-list}
+use Rattle.bitvec_base.specs.WritesLaws.{length-list}
 use Rattle.bitvec_domain.proofs.Answered.{answered-next, answered-none, answered-shown, answered-window, may-now, may-next}
 use Rattle.bitvec_domain.proofs.answering.for_each_in.Goals as goal
 

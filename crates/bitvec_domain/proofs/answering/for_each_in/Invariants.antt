@@ -1,6 +1,6 @@
 use Rattle.std.proofs.Common.{◌≡◌, false, length, map, slice_index_or}
 use Rattle.std.specs.Fn.{Called, Takes}
-use Rattle.bitvec_cells.specs.base.Memory.{list_in}
+use Rattle.bitvec_base.specs.Memory.{list_in}
 use Rattle.bitvec_cells.specs.Accessors.{exclusive_borrow, exclusive_numbers}
 use Rattle.bitvec_domain.proofs.Answered.{Answered, MayGoOn}
 use Rattle.bitvec_domain.proofs.answering.for_each_in.Given as goal

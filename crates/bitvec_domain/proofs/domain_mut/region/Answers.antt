@@ -1,4 +1,4 @@
-use Rattle.bitvec_cells.specs.base.SliceLaws.{range-rest}
+use Rattle.bitvec_base.specs.SliceLaws.{range-rest}
 use Rattle.bitvec_domain.proofs.Parts.{head_part, tail_part}
 use Rattle.bitvec_domain.proofs.domain_mut.region.Goals as goal
 

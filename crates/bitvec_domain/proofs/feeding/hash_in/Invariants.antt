@@ -1,5 +1,5 @@
 use Rattle.std.proofs.Common.{◌≡◌, fold, map, take}
-use Rattle.bitvec_cells.specs.base.Memory.{list_in}
+use Rattle.bitvec_base.specs.Memory.{list_in}
 use Rattle.bitvec_domain.specs.Feeding.{bits_fed}
 use Rattle.bitvec_domain.proofs.feeding.hash_in.Given as goal
 

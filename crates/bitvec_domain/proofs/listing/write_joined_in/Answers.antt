@@ -1,8 +1,8 @@
 use Rattle.std.proofs.Common.{◌++◌, arith, false, map, rules}
 use Rattle.std.specs.Fmt.{HasWritten}
 use Rattle.std.proofs.Output.{has_written_append, has_written_of_eq}
-use Rattle.bitvec_cells.specs.base.Memory.{list_in}
-use Rattle.bitvec_cells.specs.base.WritesLaws.{length-list}
+use Rattle.bitvec_base.specs.Memory.{list_in}
+use Rattle.bitvec_base.specs.WritesLaws.{length-list}
 use Rattle.bitvec_domain.specs.Listing.{bit_text, separator}
 use Rattle.bitvec_domain.specs.ListingLaws.{join_by-more}
 use Rattle.bitvec_domain.proofs.listing.write_joined_in.Goals as goal

@@ -1,7 +1,7 @@
 use Rattle.std.proofs.Common.{map, take}
 use Rattle.std.specs.Fmt.{HasWritten, IsPlainFormatter}
 use Rattle.std.specs.List.{join_by}
-use Rattle.bitvec_cells.specs.base.Memory.{list_in}
+use Rattle.bitvec_base.specs.Memory.{list_in}
 use Rattle.bitvec_domain.specs.Listing.{bit_text, comma}
 use Rattle.bitvec_domain.proofs.listing.write_joined_in.Given as goal
 

@@ -1,12 +1,12 @@
 use Rattle.std.proofs.Common.{◌≡◌, ℕ, ◌<◌, ◌^◌, length, ap, sym, ◌∙◌, ℤ, arith}
 use Rattle.std.proofs.Math.Nat.{mod-eq_of_lt}
-use Rattle.bitvec_field.specs.Integers.{remainder_of}
-use Rattle.bitvec_field.specs.segments.LoadLaws.{loaded_le-below}
-use Rattle.bitvec_field.specs.segments.Segments.{loaded_le, stored_le}
-use Rattle.bitvec_field.specs.segments.StoreLaws.{loaded_le-stores}
+use Rattle.bitvec_segments.specs.Integers.{remainder_of}
+use Rattle.bitvec_segments.specs.LoadLaws.{loaded_le-below}
+use Rattle.bitvec_segments.specs.Segments.{loaded_le, stored_le}
+use Rattle.bitvec_segments.specs.StoreLaws.{loaded_le-stores}
 use Rattle.std.proofs.Math.Pow.{pow_mono}
-use Rattle.bitvec_field.specs.slice.Views.{seen_mut}
-use Rattle.bitvec_field.specs.store.WidthLaws.{width_some}
+use Rattle.bitvec_slice.specs.Views.{seen_mut}
+use Rattle.bitvec_store.specs.WidthLaws.{width_some}
 use Rattle.bitvec_edit_tests.proofs.number_laws.loaded_then_stored_le.Goals as goal
 
 pub returns : goal.returns

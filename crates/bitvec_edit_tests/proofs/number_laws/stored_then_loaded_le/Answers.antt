@@ -1,10 +1,10 @@
 use Rattle.std.proofs.Common.{◌≡◌, ℕ, ◌%◌, ◌^◌, length, ap, sym, ◌∙◌}
-use Rattle.bitvec_field.specs.base.declared.window.Window.{Window}
-use Rattle.bitvec_field.specs.Integers.{integer_of, remainder_of}
+use Rattle.bitvec_base.specs.declared.window.Window.{Window}
+use Rattle.bitvec_segments.specs.Integers.{integer_of, remainder_of}
 use Rattle.bitvec_field.specs.IntegersLaws.{remainder-narrow}
-use Rattle.bitvec_field.specs.segments.StoreLaws.{stored_le-loads}
-use Rattle.bitvec_field.specs.slice.Views.{seen_mut}
-use Rattle.bitvec_field.specs.store.WidthLaws.{width_some}
+use Rattle.bitvec_segments.specs.StoreLaws.{stored_le-loads}
+use Rattle.bitvec_slice.specs.Views.{seen_mut}
+use Rattle.bitvec_store.specs.WidthLaws.{width_some}
 use Rattle.bitvec_edit_tests.proofs.number_laws.stored_then_loaded_le.Goals as goal
 
 pub returns : goal.returns

@@ -1,14 +1,14 @@
 use Rattle.std.proofs.Common.{arith, map, refl, ◌∙◌}
 use Rattle.std.proofs.lemmas.List.{length-replicate}
-use Rattle.bitvec_elements.specs.base.Lists.{combined}
-use Rattle.bitvec_elements.specs.base.ListsLaws.{length-combined}
-use Rattle.bitvec_elements.specs.base.Memory.{list_in}
-use Rattle.bitvec_elements.specs.base.WritesLaws.{length-list}
-use Rattle.bitvec_elements.specs.words.Operator.{operator}
+use Rattle.bitvec_base.specs.Lists.{combined}
+use Rattle.bitvec_base.specs.ListsLaws.{length-combined}
+use Rattle.bitvec_base.specs.Memory.{list_in}
+use Rattle.bitvec_base.specs.WritesLaws.{length-list}
+use Rattle.bitvec_words.specs.Operator.{operator}
 use Rattle.bitvec_elements.proofs.RecutLemmas.{block-combined}
 use Rattle.bitvec_elements.proofs.StoreLemmas.{range-inside, range-kept, stretch-all, stretch-none}
 use Rattle.std.proofs.lemmas.Nat.{mul-le}
-use Rattle.bitvec_elements.specs.store.WidthLaws.{width_some}
+use Rattle.bitvec_store.specs.WidthLaws.{width_some}
 use Rattle.bitvec_elements.proofs.combining.combine_blocks.Goals as goal
 
 pub loop-from-init : goal.loop-from-init

@@ -1,7 +1,7 @@
 use Rattle.std.proofs.Common.{◌≡◌, ◌-◌, ◌≤◌, length, map, take}
-use Rattle.bitvec_elements.specs.base.Lists.{combined}
-use Rattle.bitvec_elements.specs.base.Memory.{Writes, list_in}
-use Rattle.bitvec_elements.specs.words.Operator.{operator}
+use Rattle.bitvec_base.specs.Lists.{combined}
+use Rattle.bitvec_base.specs.Memory.{Writes, list_in}
+use Rattle.bitvec_words.specs.Operator.{operator}
 use Rattle.bitvec_elements.proofs.StoreLemmas.{until}
 use Rattle.bitvec_elements.proofs.combining.combine_blocks.Given as goal
 

@@ -1,9 +1,9 @@
 use Rattle.std.proofs.Common.{◌-◌, map}
 use Rattle.bitvec_engine.specs.Direction.{Runs}
-use Rattle.bitvec_elements.specs.base.Lists.{combined}
-use Rattle.bitvec_elements.specs.base.Memory.{list_in}
-use Rattle.bitvec_elements.specs.store.WidthLaws.{width_some}
-use Rattle.bitvec_elements.specs.words.Operator.{operator}
+use Rattle.bitvec_base.specs.Lists.{combined}
+use Rattle.bitvec_base.specs.Memory.{list_in}
+use Rattle.bitvec_store.specs.WidthLaws.{width_some}
+use Rattle.bitvec_words.specs.Operator.{operator}
 use Rattle.bitvec_elements.proofs.StoreLemmas.{Edits-agrees}
 use Rattle.bitvec_elements.proofs.combining.combine_in.Goals as goal
 

@@ -1,6 +1,6 @@
 use Rattle.std.proofs.Common.{arith}
-use Rattle.bitvec_elements.specs.base.CompareLaws.{order-same}
-use Rattle.bitvec_elements.specs.base.WritesLaws.{length-list}
+use Rattle.bitvec_base.specs.CompareLaws.{order-same}
+use Rattle.bitvec_base.specs.WritesLaws.{length-list}
 use Rattle.bitvec_elements.proofs.DifferenceLemmas.{common-differ}
 use Rattle.bitvec_elements.proofs.comparing.compare_at.Goals as goal
 

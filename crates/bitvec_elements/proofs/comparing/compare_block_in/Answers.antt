@@ -1,6 +1,6 @@
 use Rattle.std.proofs.Common.{◌+◌, ◌∙◌, arith, sym}
-use Rattle.bitvec_engine.specs.base.CompareLaws.{order-behind, order-same, same-stretch}
-use Rattle.bitvec_engine.specs.base.WritesLaws.{HasWindow-range, length-list, list-after, list-range}
+use Rattle.bitvec_base.specs.CompareLaws.{order-behind, order-same, same-stretch}
+use Rattle.bitvec_base.specs.WritesLaws.{HasWindow-range, length-list, list-after, list-range}
 use Rattle.bitvec_elements.proofs.StoreLemmas.{range-inside}
 use Rattle.bitvec_elements.proofs.comparing.compare_block_in.Goals as goal
 

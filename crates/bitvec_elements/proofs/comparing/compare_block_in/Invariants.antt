@@ -1,6 +1,6 @@
 use Rattle.std.proofs.Common.{◌-◌, ◌≤◌, map}
-use Rattle.bitvec_engine.specs.base.CompareLaws.{SameBelow}
-use Rattle.bitvec_engine.specs.base.Memory.{list_in}
+use Rattle.bitvec_base.specs.CompareLaws.{SameBelow}
+use Rattle.bitvec_base.specs.Memory.{list_in}
 use Rattle.bitvec_elements.proofs.comparing.compare_block_in.Given as goal
 
 abbrev pub invariant-loop-from : goal.invariant-loop-from

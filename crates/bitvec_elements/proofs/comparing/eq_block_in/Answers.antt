@@ -1,8 +1,8 @@
 use Rattle.std.proofs.Common.{◌-◌, ◌∙◌}
 use Rattle.bitvec_engine.specs.Direction.{Runs}
-use Rattle.bitvec_elements.specs.base.CompareLaws.{same-unequal}
-use Rattle.bitvec_elements.specs.base.WritesLaws.{length-list}
-use Rattle.bitvec_elements.specs.store.WidthLaws.{width_some}
+use Rattle.bitvec_base.specs.CompareLaws.{same-unequal}
+use Rattle.bitvec_base.specs.WritesLaws.{length-list}
+use Rattle.bitvec_store.specs.WidthLaws.{width_some}
 use Rattle.bitvec_engine.proofs.DirectionLemmas.{same-agrees}
 use Rattle.bitvec_elements.proofs.comparing.eq_block_in.Goals as goal
 

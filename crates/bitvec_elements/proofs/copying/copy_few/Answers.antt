@@ -1,7 +1,7 @@
 use Rattle.std.proofs.Common.{◌∙◌, map, rules, sym}
-use Rattle.bitvec_elements.specs.base.Memory.{list_in}
-use Rattle.bitvec_elements.specs.base.WritesLaws.{Writes-is, length-list}
-use Rattle.bitvec_elements.specs.words.MovedLaws.{take-word}
+use Rattle.bitvec_base.specs.Memory.{list_in}
+use Rattle.bitvec_base.specs.WritesLaws.{Writes-is, length-list}
+use Rattle.bitvec_words.specs.MovedLaws.{take-word}
 use Rattle.bitvec_elements.proofs.copying.copy_few.Goals as goal
 
 pub returns : goal.returns

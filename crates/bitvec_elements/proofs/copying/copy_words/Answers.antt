@@ -1,6 +1,6 @@
 use Rattle.std.proofs.Common.{◌+◌, ◌≤◌, arith, map, refl, rules, sym, ◌∙◌}
-use Rattle.bitvec_elements.specs.base.Memory.{list_in}
-use Rattle.bitvec_elements.specs.base.WritesLaws.{length-list}
+use Rattle.bitvec_base.specs.Memory.{list_in}
+use Rattle.bitvec_base.specs.WritesLaws.{length-list}
 use Rattle.bitvec_elements.proofs.StoreLemmas.{copied-stretch, range-inside, range-kept, stretch-all, stretch-none, stretch-stored}
 use Rattle.bitvec_elements.proofs.copying.copy_words.Goals as goal
 

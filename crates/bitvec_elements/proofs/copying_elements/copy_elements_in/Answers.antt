@@ -1,6 +1,6 @@
 use Rattle.std.proofs.Common.{◌∙◌, refl, sym, ◌≤◌, ◌-◌, ◌%◌, arith}
 use Rattle.std.proofs.lemmas.Nat.{mod_below}
-use Rattle.bitvec_elements.specs.store.WidthLaws.{width_some}
+use Rattle.bitvec_store.specs.WidthLaws.{width_some}
 use Rattle.bitvec_elements.proofs.ElementLemmas.{edges-cut, phase-on, span-range}
 use Rattle.bitvec_elements.proofs.StoreLemmas.{stretches-copied}
 use Rattle.bitvec_elements.proofs.copying_elements.copy_elements_in.Goals as goal

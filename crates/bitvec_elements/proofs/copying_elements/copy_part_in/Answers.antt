@@ -1,8 +1,8 @@
 use Rattle.std.proofs.Common.{rules, arith}
-use Rattle.bitvec_elements.specs.store.WidthLaws.{width_some}
+use Rattle.bitvec_store.specs.WidthLaws.{width_some}
 use Rattle.bitvec_elements.proofs.ElementLemmas.{none-copied, part-copied, first-inside}
-use Rattle.bitvec_elements.specs.words.PartWalkLaws.{HasPart-first}
-use Rattle.bitvec_elements.specs.walk.WalkLaws.{Walked-start}
+use Rattle.bitvec_words.specs.PartWalkLaws.{HasPart-first}
+use Rattle.bitvec_cells.specs.WalkLaws.{Walked-start}
 use Rattle.bitvec_elements.proofs.copying_elements.copy_part_in.Goals as goal
 
 pub returns-then-to-eq0 : goal.returns-then-to-eq0

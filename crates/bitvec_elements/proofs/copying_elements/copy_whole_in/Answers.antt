@@ -1,4 +1,4 @@
-use Rattle.bitvec_elements.specs.store.WidthLaws.{width_some}
+use Rattle.bitvec_store.specs.WidthLaws.{width_some}
 use Rattle.bitvec_elements.proofs.ElementLemmas.{elements-copied}
 use Rattle.bitvec_elements.proofs.copying_elements.copy_whole_in.Goals as goal
 

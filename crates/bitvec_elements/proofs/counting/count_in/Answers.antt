@@ -1,7 +1,7 @@
 use Rattle.std.proofs.Common.{◌-◌, ◌∙◌, ap, arith, sym, Bool, List, count_by}
 use Rattle.bitvec_engine.specs.Direction.{Runs}
-use Rattle.bitvec_elements.specs.base.OrderLaws.{lsb0_permutes, msb0_permutes}
-use Rattle.bitvec_elements.specs.store.WidthLaws.{width_some}
+use Rattle.bitvec_base.specs.OrderLaws.{lsb0_permutes, msb0_permutes}
+use Rattle.bitvec_store.specs.WidthLaws.{width_some}
 use Rattle.bitvec_engine.proofs.DirectionLemmas.{list-agrees}
 use Rattle.bitvec_engine.proofs.FewLemmas.{word-ones}
 use Rattle.bitvec_elements.proofs.counting.count_in.Goals as goal

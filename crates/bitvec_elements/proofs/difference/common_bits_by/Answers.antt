@@ -1,5 +1,5 @@
 use Rattle.std.proofs.Common.{◌+◌, arith, sym, ◌∙◌}
-use Rattle.bitvec_elements.specs.base.WritesLaws.{length-list}
+use Rattle.bitvec_base.specs.WritesLaws.{length-list}
 use Rattle.bitvec_elements.proofs.DifferenceLemmas.{windows-apart, windows-same}
 use Rattle.bitvec_elements.proofs.StoreLemmas.{loaded-range, range-inside}
 use Rattle.bitvec_elements.proofs.difference.common_bits_by.Goals as goal

@@ -1,11 +1,11 @@
 use Rattle.std.proofs.Common.{◌+◌, ◌∙◌, arith, sym}
 use Rattle.std.proofs.lemmas.List.{length-replicate}
-use Rattle.bitvec_elements.specs.base.CompareLaws.{same-stretch}
-use Rattle.bitvec_elements.specs.base.WritesLaws.{HasWindow-range, length-list, list-after, list-range}
+use Rattle.bitvec_base.specs.CompareLaws.{same-stretch}
+use Rattle.bitvec_base.specs.WritesLaws.{HasWindow-range, length-list, list-after, list-range}
 use Rattle.bitvec_elements.proofs.DifferenceLemmas.{differs-behind}
 use Rattle.bitvec_elements.proofs.StoreLemmas.{range-inside}
 use Rattle.std.proofs.lemmas.Nat.{mul-le}
-use Rattle.bitvec_elements.specs.store.WidthLaws.{width_some}
+use Rattle.bitvec_store.specs.WidthLaws.{width_some}
 use Rattle.bitvec_elements.proofs.difference.common_blocks.Goals as goal
 
 pub hold-held-requires-clause-window : goal.hold-held-requires-clause-window

@@ -1,6 +1,6 @@
 use Rattle.std.proofs.Common.{◌≡◌, ◌-◌, ◌≤◌, length, map}
-use Rattle.bitvec_elements.specs.base.CompareLaws.{SameBelow}
-use Rattle.bitvec_elements.specs.base.Memory.{list_in}
+use Rattle.bitvec_base.specs.CompareLaws.{SameBelow}
+use Rattle.bitvec_base.specs.Memory.{list_in}
 use Rattle.bitvec_elements.proofs.difference.common_blocks.Given as goal
 
 abbrev pub invariant-loop-from : goal.invariant-loop-from

@@ -1,10 +1,10 @@
 use Rattle.std.proofs.Common.{ℕ, ◌<◌, ◌≤◌, min, arith, sym, ◌∙◌, ⊎_elim}
 use Rattle.std.proofs.lemmas.Bool.{cases_lt}
-use Rattle.bitvec_elements.specs.base.CompareLaws.{same-unequal}
-use Rattle.bitvec_elements.specs.base.ListsLaws.{is_prefix-long}
-use Rattle.bitvec_elements.specs.base.NeedleLaws.{prefix-part}
-use Rattle.bitvec_elements.specs.base.Window.{window_range}
-use Rattle.bitvec_elements.specs.base.WritesLaws.{HasWindow-range, within-list, length-list}
+use Rattle.bitvec_base.specs.CompareLaws.{same-unequal}
+use Rattle.bitvec_base.specs.ListsLaws.{is_prefix-long}
+use Rattle.bitvec_base.specs.NeedleLaws.{prefix-part}
+use Rattle.bitvec_base.specs.Window.{window_range}
+use Rattle.bitvec_base.specs.WritesLaws.{HasWindow-range, within-list, length-list}
 use Rattle.bitvec_elements.proofs.prefixes.starts_with_in.Goals as goal
 
 pub returns : goal.returns

@@ -1,6 +1,6 @@
 use Rattle.std.proofs.Common.{refl}
 use Rattle.std.proofs.lemmas.List.{length-map}
-use Rattle.bitvec_elements.specs.base.WritesLaws.{Writes-holds}
+use Rattle.bitvec_base.specs.WritesLaws.{Writes-holds}
 use Rattle.bitvec_elements.proofs.RecutLemmas.{block-window}
 use Rattle.bitvec_elements.proofs.recutting.hold.Goals as goal
 

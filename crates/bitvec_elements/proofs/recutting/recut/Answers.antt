@@ -1,6 +1,6 @@
 use Rattle.std.proofs.Common.{◌-◌}
 use Rattle.bitvec_engine.specs.Direction.{Runs}
-use Rattle.bitvec_elements.specs.store.WidthLaws.{width_some}
+use Rattle.bitvec_store.specs.WidthLaws.{width_some}
 use Rattle.bitvec_elements.proofs.StoreLemmas.{List-agrees}
 use Rattle.bitvec_elements.proofs.recutting.recut.Goals as goal
 

@@ -1,8 +1,8 @@
 use Rattle.std.proofs.Common.{◌∙◌, arith, map, refl, rules, sym}
 use Rattle.std.proofs.lemmas.Nat.{mod_below}
-use Rattle.bitvec_elements.specs.base.Memory.{list_in}
-use Rattle.bitvec_elements.specs.base.WritesLaws.{length-list}
-use Rattle.bitvec_elements.specs.store.WidthLaws.{width_some}
+use Rattle.bitvec_base.specs.Memory.{list_in}
+use Rattle.bitvec_base.specs.WritesLaws.{length-list}
+use Rattle.bitvec_store.specs.WidthLaws.{width_some}
 use Rattle.bitvec_elements.proofs.RecutLemmas.{edge-window, word-inside, word-recut, word-window, word-place}
 use Rattle.bitvec_elements.proofs.StoreLemmas.{stretch-all, stretch-none}
 use Rattle.bitvec_elements.proofs.recutting.recut_words.Goals as goal

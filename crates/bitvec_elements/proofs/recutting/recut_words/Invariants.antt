@@ -1,6 +1,6 @@
 use Rattle.std.proofs.Common.{◌≡◌, ◌*◌, map, take}
-use Rattle.bitvec_elements.specs.base.Memory.{Writes, list_in}
-use Rattle.bitvec_elements.specs.cells.Accessors.{exclusive_borrow, exclusive_numbers}
+use Rattle.bitvec_base.specs.Memory.{Writes, list_in}
+use Rattle.bitvec_cells.specs.Accessors.{exclusive_borrow, exclusive_numbers}
 use Rattle.bitvec_elements.proofs.StoreLemmas.{until}
 use Rattle.bitvec_elements.proofs.recutting.recut_words.Given as goal
 

@@ -1,11 +1,11 @@
 use Rattle.std.proofs.Common.{arith, map, refl, sym, ◌∙◌}
 use Rattle.std.proofs.lemmas.List.{length-map, length-replicate}
-use Rattle.bitvec_elements.specs.base.Memory.{list_in}
-use Rattle.bitvec_elements.specs.base.WritesLaws.{Writes-holds, length-list, HasWindow-kept}
+use Rattle.bitvec_base.specs.Memory.{list_in}
+use Rattle.bitvec_base.specs.WritesLaws.{Writes-holds, length-list, HasWindow-kept}
 use Rattle.bitvec_elements.proofs.RecutLemmas.{block-swapped}
 use Rattle.bitvec_elements.proofs.StoreLemmas.{range-kept, stretch-all, stretch-none}
 use Rattle.std.proofs.lemmas.Nat.{mul-le}
-use Rattle.bitvec_elements.specs.store.WidthLaws.{width_some}
+use Rattle.bitvec_store.specs.WidthLaws.{width_some}
 use Rattle.bitvec_elements.proofs.swapping.swap_blocks.Goals as goal
 
 pub loop-from-init : goal.loop-from-init

@@ -1,5 +1,5 @@
 use Rattle.std.proofs.Common.{◌≡◌, ◌-◌, ◌≤◌, length, map, take}
-use Rattle.bitvec_elements.specs.base.Memory.{Writes, list_in}
+use Rattle.bitvec_base.specs.Memory.{Writes, list_in}
 use Rattle.bitvec_elements.proofs.StoreLemmas.{until}
 use Rattle.bitvec_elements.proofs.swapping.swap_blocks.Given as goal
 

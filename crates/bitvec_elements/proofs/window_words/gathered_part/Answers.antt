@@ -1,9 +1,9 @@
 use Rattle.std.proofs.Common.{◌/◌, ◌<◌, ap, arith, ◌∙◌}
-use Rattle.bitvec_elements.specs.base.Memory.{element_bits}
-use Rattle.bitvec_elements.specs.base.MemoryLaws.{length-element_bits}
-use Rattle.bitvec_elements.specs.base.PartLaws.{element-none}
-use Rattle.bitvec_elements.specs.words.ShortWindow.{padded}
-use Rattle.bitvec_elements.specs.words.MovedLaws.{padded-none}
+use Rattle.bitvec_base.specs.Memory.{element_bits}
+use Rattle.bitvec_base.specs.MemoryLaws.{length-element_bits}
+use Rattle.bitvec_base.specs.PartLaws.{element-none}
+use Rattle.bitvec_words.specs.ShortWindow.{padded}
+use Rattle.bitvec_words.specs.MovedLaws.{padded-none}
 use Rattle.bitvec_engine.proofs.WordLemmas.{eights-all, eights-next, eights-none, eights-whole}
 use Rattle.bitvec_elements.proofs.window_words.gathered_part.Goals as goal
 

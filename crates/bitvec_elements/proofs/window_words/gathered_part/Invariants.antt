@@ -1,6 +1,6 @@
 use Rattle.std.proofs.Common.{◌≡◌, ◌*◌, take}
-use Rattle.bitvec_elements.specs.base.Memory.{element_bits}
-use Rattle.bitvec_elements.specs.words.ShortWindow.{padded}
+use Rattle.bitvec_base.specs.Memory.{element_bits}
+use Rattle.bitvec_words.specs.ShortWindow.{padded}
 use Rattle.bitvec_elements.proofs.window_words.gathered_part.Given as goal
 
 abbrev pub invariant-loop-step : goal.invariant-loop-step

@@ -1,13 +1,13 @@
 use Rattle.std.proofs.Common.{◌≡◌, ℕ, ◌-◌, ◌<◌, ◌≤◌, arith, ap, refl, sym, ◌∙◌}
-use Rattle.bitvec_elements.specs.base.declared.part.Part.{Part}
-use Rattle.bitvec_elements.specs.base.PartLaws.{element-none}
-use Rattle.bitvec_elements.specs.base.Parts.{first_part_of}
-use Rattle.bitvec_elements.specs.base.declared.window.Window.{Window}
-use Rattle.bitvec_elements.specs.store.WidthLaws.{width_some}
-use Rattle.bitvec_elements.specs.walk.WalkLaws.{Walked-start, Walked-next, first-len, passed-none}
-use Rattle.bitvec_elements.specs.words.ShortWindow.{padded}
-use Rattle.bitvec_elements.specs.words.PartWalkLaws.{HasPart-first}
-use Rattle.bitvec_elements.specs.words.MovedLaws.{padded-none}
+use Rattle.bitvec_base.specs.declared.part.Part.{Part}
+use Rattle.bitvec_base.specs.PartLaws.{element-none}
+use Rattle.bitvec_base.specs.Parts.{first_part_of}
+use Rattle.bitvec_base.specs.declared.window.Window.{Window}
+use Rattle.bitvec_store.specs.WidthLaws.{width_some}
+use Rattle.bitvec_cells.specs.WalkLaws.{Walked-start, Walked-next, first-len, passed-none}
+use Rattle.bitvec_words.specs.ShortWindow.{padded}
+use Rattle.bitvec_words.specs.PartWalkLaws.{HasPart-first}
+use Rattle.bitvec_words.specs.MovedLaws.{padded-none}
 use Rattle.bitvec_engine.proofs.WordLemmas.{gathered-next}
 use Rattle.bitvec_elements.proofs.window_words.gathered_word.Goals as goal
 

@@ -1,7 +1,7 @@
 use Rattle.std.proofs.Common.{◌≡◌, map}
-use Rattle.bitvec_elements.specs.base.Memory.{element_bits, list_in}
-use Rattle.bitvec_elements.specs.walk.Walk.{Walked, passed}
-use Rattle.bitvec_elements.specs.words.ShortWindow.{padded}
+use Rattle.bitvec_base.specs.Memory.{element_bits, list_in}
+use Rattle.bitvec_cells.specs.Walk.{Walked, passed}
+use Rattle.bitvec_words.specs.ShortWindow.{padded}
 use Rattle.bitvec_elements.proofs.window_words.gathered_word.Given as goal
 
 abbrev pub invariant-loop-rest : goal.invariant-loop-rest

@@ -1,10 +1,10 @@
 use Rattle.std.proofs.Common.{ℕ, ◌+◌, ◌*◌, ◌/◌, ◌%◌, arith, ap, sym, ◌∙◌, map, slice_range}
 use Rattle.std.proofs.lemmas.Nat.{div-add-mod', mod_below}
-use Rattle.bitvec_elements.specs.base.Memory.{memory_bits}
-use Rattle.bitvec_elements.specs.base.Window.{window_of}
-use Rattle.bitvec_elements.specs.base.WritesLaws.{length-list}
-use Rattle.bitvec_elements.specs.moves.WordLaws.{padded-all, word_whole}
-use Rattle.bitvec_elements.specs.store.WidthLaws.{width_some}
+use Rattle.bitvec_base.specs.Memory.{memory_bits}
+use Rattle.bitvec_base.specs.Window.{window_of}
+use Rattle.bitvec_base.specs.WritesLaws.{length-list}
+use Rattle.bitvec_words.specs.WordLaws.{padded-all, word_whole}
+use Rattle.bitvec_store.specs.WidthLaws.{width_some}
 use Rattle.bitvec_elements.proofs.window_words.run_word.Goals as goal
 
 pub word_behind-requires-clause-window : goal.word_behind-requires-clause-window

@@ -1,7 +1,7 @@
 use Rattle.std.proofs.Common.{◌-◌, ap, sym, ◌∙◌}
 use Rattle.bitvec_engine.specs.Direction.{Runs}
-use Rattle.bitvec_elements.specs.store.WidthLaws.{width_some}
-use Rattle.bitvec_elements.specs.words.ShortWindow.{padded}
+use Rattle.bitvec_store.specs.WidthLaws.{width_some}
+use Rattle.bitvec_words.specs.ShortWindow.{padded}
 use Rattle.bitvec_engine.proofs.DirectionLemmas.{list-agrees}
 use Rattle.bitvec_elements.proofs.window_words.window_word.Goals as goal
 

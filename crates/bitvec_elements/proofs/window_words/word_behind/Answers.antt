@@ -1,10 +1,11 @@
 use Rattle.std.proofs.Common.{◌≡◌, ℕ, ◌+◌, ◌*◌, ◌/◌, ◌<◌, ◌≤◌, arith, ap, sym, ◌∙◌, length, map, slice_range}
 use Rattle.std.proofs.lemmas.List.{get_or-map, length-map}
-use Rattle.bitvec_elements.specs.base.Memory.{element_bits, memory_bits}
-use Rattle.bitvec_elements.specs.base.MemoryLaws.{element-range, element_fits, length-memory_bits}
-use Rattle.bitvec_elements.specs.base.Window.{window_of}
-use Rattle.bitvec_elements.specs.moves.WordLaws.{word-across, word_whole}
-use Rattle.bitvec_elements.specs.words.FieldLaws.{element_of}
+use Rattle.bitvec_base.specs.Memory.{element_bits, memory_bits}
+use Rattle.bitvec_base.specs.MemoryLaws.{element-range, element_fits, length-memory_bits}
+use Rattle.bitvec_base.specs.Window.{window_of}
+use Rattle.bitvec_move.specs.WordLaws.{word-across}
+use Rattle.bitvec_words.specs.WordLaws.{word_whole}
+use Rattle.bitvec_words.specs.FieldLaws.{element_of}
 use Rattle.bitvec_elements.proofs.ElementLemmas.{next-inside}
 use Rattle.bitvec_elements.proofs.window_words.word_behind.Goals as goal
 

@@ -1,6 +1,6 @@
 use Rattle.std.proofs.Common.{arith, ◌∙◌, sym, rules}
-use Rattle.bitvec_combine.specs.base.WritesLaws.{length-list}
-use Rattle.bitvec_combine.specs.base.TransferLaws.{transfer-none, transfer-next, transfer-all}
+use Rattle.bitvec_base.specs.WritesLaws.{length-list}
+use Rattle.bitvec_base.specs.TransferLaws.{transfer-none, transfer-next, transfer-all}
 use Rattle.bitvec_engine.proofs.by_bits.bits_copy.Goals as goal
 
 pub loop-index-init : goal.loop-index-init

@@ -1,6 +1,6 @@
-use Rattle.bitvec_combine.specs.base.Memory.{Writes, list_in}
-use Rattle.bitvec_combine.specs.base.TransferLaws.{overwritten}
-use Rattle.bitvec_combine.specs.cells.Access.{Costs, OnlyReads}
+use Rattle.bitvec_base.specs.Memory.{Writes, list_in}
+use Rattle.bitvec_base.specs.TransferLaws.{overwritten}
+use Rattle.bitvec_cells.specs.Access.{Costs, OnlyReads}
 use Rattle.bitvec_engine.proofs.by_bits.bits_copy.Given as goal
 
 abbrev pub invariant-loop-index : goal.invariant-loop-index

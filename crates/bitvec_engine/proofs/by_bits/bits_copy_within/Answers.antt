@@ -1,6 +1,6 @@
 use Rattle.std.proofs.Common.{◌≡◌, ◌+◌, ◌-◌, ◌<◌, ◌≤◌, false, slice_set, slice_index_or, arith, rules}
-use Rattle.bitvec_combine.specs.base.CopyLaws.{copied_within-none, copy-ascending, copy-descending}
-use Rattle.bitvec_combine.specs.base.WritesLaws.{length-list, Writes-start, Writes-next}
+use Rattle.bitvec_base.specs.CopyLaws.{copied_within-none, copy-ascending, copy-descending}
+use Rattle.bitvec_base.specs.WritesLaws.{length-list, Writes-start, Writes-next}
 use Rattle.bitvec_engine.proofs.by_bits.bits_copy_within.Goals as goal
 use Rattle.bitvec_engine.proofs.by_bits.bits_copy_within.Goals.{then-dest-from, else-dest-from}
 

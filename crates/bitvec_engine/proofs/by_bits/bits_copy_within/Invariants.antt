@@ -1,7 +1,7 @@
 use Rattle.std.proofs.Common.{◌+◌, ◌-◌, ◌*◌, ◌<◌, ◌≤◌}
-use Rattle.bitvec_combine.specs.base.Lists.{copied_within}
-use Rattle.bitvec_combine.specs.base.Memory.{Writes, list_in}
-use Rattle.bitvec_combine.specs.cells.Access.{Costs}
+use Rattle.bitvec_base.specs.Lists.{copied_within}
+use Rattle.bitvec_base.specs.Memory.{Writes, list_in}
+use Rattle.bitvec_cells.specs.Access.{Costs}
 use Rattle.bitvec_engine.proofs.by_bits.bits_copy_within.Given as goal
 
 abbrev pub invariant-loop-step : goal.invariant-loop-step

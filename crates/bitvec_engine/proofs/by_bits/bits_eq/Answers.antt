@@ -1,8 +1,8 @@
 use Rattle.std.proofs.Common.{◌∙◌}
 use Rattle.std.proofs.lemmas.Bool.{ne_eqb}
-use Rattle.bitvec_combine.specs.base.CompareLaws.{same-unequal}
-use Rattle.bitvec_combine.specs.base.Memory.{list_in}
-use Rattle.bitvec_combine.specs.base.WritesLaws.{length-list}
+use Rattle.bitvec_base.specs.CompareLaws.{same-unequal}
+use Rattle.bitvec_base.specs.Memory.{list_in}
+use Rattle.bitvec_base.specs.WritesLaws.{length-list}
 use Rattle.bitvec_engine.proofs.CompareLemmas.{same-ordered}
 use Rattle.bitvec_engine.proofs.by_bits.bits_eq.Goals as goal
 

@@ -1,12 +1,12 @@
 use Rattle.std.proofs.Common.{◌≡◌, ◌+◌, false, min, slice_index_or, arith, ◌∙◌, sym, rules}
 use Rattle.std.proofs.lemmas.Bool.{le-ltb}
-use Rattle.bitvec_combine.specs.base.ListsLaws.{length-combined, get-combined}
-use Rattle.bitvec_combine.specs.base.Memory.{list_in}
-use Rattle.bitvec_combine.specs.base.TransferLaws.{transfer-none, transfer-next, transfer-rest, transfer-all}
-use Rattle.bitvec_combine.specs.base.WindowLaws.{window-past}
-use Rattle.bitvec_combine.specs.base.WritesLaws.{length-list, within-list}
-use Rattle.bitvec_combine.specs.cells.Access.{OnlyReads}
-use Rattle.bitvec_combine.specs.words.Operator.{operator}
+use Rattle.bitvec_base.specs.ListsLaws.{length-combined, get-combined}
+use Rattle.bitvec_base.specs.Memory.{list_in}
+use Rattle.bitvec_base.specs.TransferLaws.{transfer-none, transfer-next, transfer-rest, transfer-all}
+use Rattle.bitvec_base.specs.WindowLaws.{window-past}
+use Rattle.bitvec_base.specs.WritesLaws.{length-list, within-list}
+use Rattle.bitvec_cells.specs.Access.{OnlyReads}
+use Rattle.bitvec_words.specs.Operator.{operator}
 use Rattle.bitvec_engine.proofs.by_bits.bits_op.Goals as goal
 use Rattle.bitvec_engine.proofs.by_bits.bits_op.Goals.{then-index-from, else-index-from}
 

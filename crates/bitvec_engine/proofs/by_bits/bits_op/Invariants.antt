@@ -1,9 +1,9 @@
 use Rattle.std.proofs.Common.{◌*◌, min}
-use Rattle.bitvec_combine.specs.base.Lists.{combined}
-use Rattle.bitvec_combine.specs.base.Memory.{Writes, list_in}
-use Rattle.bitvec_combine.specs.base.TransferLaws.{overwritten}
-use Rattle.bitvec_combine.specs.cells.Access.{Costs, OnlyReads}
-use Rattle.bitvec_combine.specs.words.Operator.{operator}
+use Rattle.bitvec_base.specs.Lists.{combined}
+use Rattle.bitvec_base.specs.Memory.{Writes, list_in}
+use Rattle.bitvec_base.specs.TransferLaws.{overwritten}
+use Rattle.bitvec_cells.specs.Access.{Costs, OnlyReads}
+use Rattle.bitvec_words.specs.Operator.{operator}
 use Rattle.bitvec_engine.proofs.by_bits.bits_op.Given as goal
 
 abbrev pub invariant-loop-index : goal.invariant-loop-index

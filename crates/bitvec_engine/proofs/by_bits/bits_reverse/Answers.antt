@@ -1,8 +1,7 @@
 use Rattle.std.proofs.Common.{◌-◌, arith, rules, sym, ◌∙◌}
 use Rattle.std.specs.List.{swap}
-use Rattle.bitvec_combine.specs.base.ReversalLaws.{mirror-none, mirror-step, mirror-all}
-use Rattle.bitvec_combine.specs.base.WritesLaws.{length-list, Writes-is}
-use Rattle.bitvec_combine.specs.base.WritesLaws.{Writes-start, Writes-next}
+use Rattle.bitvec_base.specs.ReversalLaws.{mirror-none, mirror-step, mirror-all}
+use Rattle.bitvec_base.specs.WritesLaws.{length-list, Writes-is, Writes-start, Writes-next}
 use Rattle.bitvec_engine.proofs.by_bits.bits_reverse.Goals as goal
 
 pub loop-low-init : goal.loop-low-init

@@ -1,7 +1,7 @@
 use Rattle.std.proofs.Common.{◌≡◌, ◌+◌, ◌*◌, ◌≤◌, reverse, slice_range}
-use Rattle.bitvec_combine.specs.base.Memory.{Writes, list_in}
-use Rattle.bitvec_combine.specs.base.Window.{write_at}
-use Rattle.bitvec_combine.specs.cells.Access.{Costs}
+use Rattle.bitvec_base.specs.Memory.{Writes, list_in}
+use Rattle.bitvec_base.specs.Window.{write_at}
+use Rattle.bitvec_cells.specs.Access.{Costs}
 use Rattle.bitvec_engine.proofs.by_bits.bits_reverse.Given as goal
 
 abbrev pub invariant-loop-low : goal.invariant-loop-low

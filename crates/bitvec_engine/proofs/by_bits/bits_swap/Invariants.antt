@@ -1,7 +1,7 @@
 use Rattle.std.proofs.Common.{◌*◌}
-use Rattle.bitvec_combine.specs.base.Memory.{Writes, list_in}
-use Rattle.bitvec_combine.specs.base.TransferLaws.{overwritten}
-use Rattle.bitvec_combine.specs.cells.Access.{Costs}
+use Rattle.bitvec_base.specs.Memory.{Writes, list_in}
+use Rattle.bitvec_base.specs.TransferLaws.{overwritten}
+use Rattle.bitvec_cells.specs.Access.{Costs}
 use Rattle.bitvec_engine.proofs.by_bits.bits_swap.Given as goal
 
 abbrev pub invariant-loop-index : goal.invariant-loop-index

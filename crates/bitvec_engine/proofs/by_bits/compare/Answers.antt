@@ -1,6 +1,6 @@
 use Rattle.std.proofs.Common.{arith}
-use Rattle.bitvec_combine.specs.base.CompareLaws.{order-differ, order-same}
-use Rattle.bitvec_combine.specs.base.WritesLaws.{length-list}
+use Rattle.bitvec_base.specs.CompareLaws.{order-differ, order-same}
+use Rattle.bitvec_base.specs.WritesLaws.{length-list}
 use Rattle.bitvec_engine.proofs.by_bits.compare.Goals as goal
 
 pub returns-then-bit-other-clause-value : goal.returns-then-bit-other-clause-value

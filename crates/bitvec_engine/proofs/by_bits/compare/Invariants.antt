@@ -1,6 +1,6 @@
-use Rattle.bitvec_combine.specs.base.CompareLaws.{SameBelow}
-use Rattle.bitvec_combine.specs.base.Memory.{list_in}
-use Rattle.bitvec_combine.specs.cells.Access.{OnlyReads}
+use Rattle.bitvec_base.specs.CompareLaws.{SameBelow}
+use Rattle.bitvec_base.specs.Memory.{list_in}
+use Rattle.bitvec_cells.specs.Access.{OnlyReads}
 use Rattle.bitvec_engine.proofs.by_bits.compare.Given as goal
 
 abbrev pub invariant-loop-index : goal.invariant-loop-index

@@ -1,14 +1,14 @@
 use Rattle.std.proofs.Common.{◌≡◌, ℕ, ◌+◌, ◌-◌, ◌<◌, ◌≤◌, ◌++◌, [], min, ◌∙◌, ap, sym, arith, Bool, List, length, take}
 use Rattle.std.proofs.Math.Seq.{take-append_seam}
-use Rattle.bitvec_combine.specs.base.Lists.{combined}
-use Rattle.bitvec_combine.specs.base.Memory.{list_in}
-use Rattle.bitvec_combine.specs.base.Window.{window_after, window_until}
-use Rattle.bitvec_combine.specs.base.WritesLaws.{length-list}
-use Rattle.bitvec_combine.specs.store.WidthLaws.{width_some}
-use Rattle.bitvec_combine.specs.walk.CostLaws.{read_enough, store_enough, touched_bits, write_enough}
-use Rattle.bitvec_combine.specs.words.CombinedLaws.{Writes-both, combined-first}
-use Rattle.bitvec_combine.specs.words.FieldLaws.{list-parted}
-use Rattle.bitvec_combine.specs.words.Operator.{operator}
+use Rattle.bitvec_base.specs.Lists.{combined}
+use Rattle.bitvec_base.specs.Memory.{list_in}
+use Rattle.bitvec_base.specs.Window.{window_after, window_until}
+use Rattle.bitvec_base.specs.WritesLaws.{length-list}
+use Rattle.bitvec_store.specs.WidthLaws.{width_some}
+use Rattle.bitvec_cells.specs.CostLaws.{read_enough, store_enough, touched_bits, write_enough}
+use Rattle.bitvec_words.specs.CombinedLaws.{Writes-both, combined-first}
+use Rattle.bitvec_words.specs.FieldLaws.{list-parted}
+use Rattle.bitvec_words.specs.Operator.{operator}
 use Rattle.bitvec_combine.proofs.CostLemmas.{costs-within, reads-within, reads-most}
 use Rattle.bitvec_engine.proofs.by_elements.elements_op.Goals as goal
 

@@ -1,7 +1,7 @@
 use Rattle.std.proofs.Common.{ap, arith, false}
-use Rattle.bitvec_combine.specs.store.WidthLaws.{width_some}
-use Rattle.bitvec_combine.specs.walk.Cost.{read_loads, write_stores}
-use Rattle.bitvec_combine.specs.walk.CostLaws.{read_enough, store_enough, touched_read, touched_stored, write_enough}
+use Rattle.bitvec_store.specs.WidthLaws.{width_some}
+use Rattle.bitvec_cells.specs.Cost.{read_loads, write_stores}
+use Rattle.bitvec_cells.specs.CostLaws.{read_enough, store_enough, touched_read, touched_stored, write_enough}
 use Rattle.bitvec_combine.proofs.CostLemmas.{costs-within}
 use Rattle.bitvec_engine.proofs.by_elements.elements_swap.Goals as goal
 

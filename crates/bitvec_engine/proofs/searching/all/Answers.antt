@@ -1,6 +1,6 @@
 use Rattle.std.proofs.Common.{ap, sym, ◌∙◌, not}
 use Rattle.std.proofs.Math.Bool.{not-not}
-use Rattle.bitvec_combine.specs.base.PlacesLaws.{list_all-first_place}
+use Rattle.bitvec_base.specs.PlacesLaws.{list_all-first_place}
 use Rattle.bitvec_engine.proofs.searching.all.Goals as goal
 
 pub returns-clause-value : goal.returns-clause-value

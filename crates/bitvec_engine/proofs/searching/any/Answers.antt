@@ -1,4 +1,4 @@
-use Rattle.bitvec_combine.specs.base.PlacesLaws.{list_any-first_place}
+use Rattle.bitvec_base.specs.PlacesLaws.{list_any-first_place}
 use Rattle.bitvec_engine.proofs.searching.any.Goals as goal
 
 pub returns-clause-value : goal.returns-clause-value

@@ -1,8 +1,8 @@
 use Rattle.std.proofs.Common.{◌≡◌, false, arith, rules, sym, ◌∙◌}
-use Rattle.bitvec_combine.specs.base.Lists.{stands_at}
-use Rattle.bitvec_combine.specs.base.ListsLaws.{stands_in-found}
-use Rattle.bitvec_combine.specs.base.NeedleLaws.{stands-nowhere}
-use Rattle.bitvec_combine.specs.base.WritesLaws.{length-list}
+use Rattle.bitvec_base.specs.Lists.{stands_at}
+use Rattle.bitvec_base.specs.ListsLaws.{stands_in-found}
+use Rattle.bitvec_base.specs.NeedleLaws.{stands-nowhere}
+use Rattle.bitvec_base.specs.WritesLaws.{length-list}
 use Rattle.bitvec_engine.proofs.NeedleLemmas.{cost-more, reads-found, stands-found}
 use Rattle.bitvec_engine.proofs.searching.contains.Goals as goal
 use borrow.Author.Count.{below_more}

@@ -1,8 +1,8 @@
 use Rattle.std.proofs.Common.{◌≡◌, ℕ, ◌*◌, ◌<◌, false}
-use Rattle.bitvec_combine.specs.base.Lists.{stands_at}
-use Rattle.bitvec_combine.specs.base.Memory.{list_in}
-use Rattle.bitvec_combine.specs.cells.Access.{OnlyReadsAtMost}
-use Rattle.bitvec_combine.specs.walk.Cost.{read_loads}
+use Rattle.bitvec_base.specs.Lists.{stands_at}
+use Rattle.bitvec_base.specs.Memory.{list_in}
+use Rattle.bitvec_cells.specs.Access.{OnlyReadsAtMost}
+use Rattle.bitvec_cells.specs.Cost.{read_loads}
 use Rattle.bitvec_engine.proofs.searching.contains.Given as goal
 
 abbrev pub invariant-loop-from : goal.invariant-loop-from

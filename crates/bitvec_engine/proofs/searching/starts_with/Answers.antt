@@ -1,9 +1,9 @@
 use Rattle.std.proofs.Common.{◌∙◌, arith, sym}
 use Rattle.std.proofs.lemmas.Bool.{lt-leb}
-use Rattle.bitvec_combine.specs.base.ListsLaws.{is_prefix-long}
-use Rattle.bitvec_combine.specs.base.NeedleLaws.{prefix-part}
-use Rattle.bitvec_combine.specs.base.Window.{window_range}
-use Rattle.bitvec_combine.specs.base.WritesLaws.{length-list, within-list}
+use Rattle.bitvec_base.specs.ListsLaws.{is_prefix-long}
+use Rattle.bitvec_base.specs.NeedleLaws.{prefix-part}
+use Rattle.bitvec_base.specs.Window.{window_range}
+use Rattle.bitvec_base.specs.WritesLaws.{length-list, within-list}
 use Rattle.bitvec_engine.proofs.searching.starts_with.Goals as goal
 
 pub returns-then-needle-window-clause-value : goal.returns-then-needle-window-clause-value

@@ -1,5 +1,5 @@
 use Rattle.std.proofs.Common.{reverse, refl, arith, sym}
-use Rattle.bitvec_combine.specs.base.WritesLaws.{HasWindow-kept, Writes-next, length-list}
+use Rattle.bitvec_base.specs.WritesLaws.{HasWindow-kept, Writes-next, length-list}
 use Rattle.bitvec_engine.proofs.RotationLemmas.{Writes-reversed, parts-rotate, reversed_part}
 use Rattle.bitvec_engine.proofs.shifting.rotate_left.Goals as goal
 

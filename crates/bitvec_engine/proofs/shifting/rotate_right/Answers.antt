@@ -1,8 +1,8 @@
 use Rattle.std.proofs.Common.{ℕ, ◌-◌, ap, sym, ◌∙◌}
-use Rattle.bitvec_combine.specs.base.Lists.{rotated_left}
-use Rattle.bitvec_combine.specs.base.Memory.{list_in}
-use Rattle.bitvec_combine.specs.base.RotationLaws.{rotated_right-left}
-use Rattle.bitvec_combine.specs.base.WritesLaws.{length-list, Writes-is}
+use Rattle.bitvec_base.specs.Lists.{rotated_left}
+use Rattle.bitvec_base.specs.Memory.{list_in}
+use Rattle.bitvec_base.specs.RotationLaws.{rotated_right-left}
+use Rattle.bitvec_base.specs.WritesLaws.{length-list, Writes-is}
 use Rattle.bitvec_engine.proofs.shifting.rotate_right.Goals as goal
 
 pub returns-clause-writes : goal.returns-clause-writes

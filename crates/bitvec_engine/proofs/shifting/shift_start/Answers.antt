@@ -1,8 +1,7 @@
 use Rattle.std.proofs.Common.{◌≡◌, ◌-◌, false, replicate, arith, sym}
-use Rattle.bitvec_combine.specs.base.CopyLaws.{copy-shifts_start}
-use Rattle.bitvec_combine.specs.base.Window.{write_at}
-use Rattle.bitvec_combine.specs.base.WritesLaws.{length-list, HasWindow-kept, Writes-range}
-use Rattle.bitvec_combine.specs.base.WritesLaws.{Writes-next}
+use Rattle.bitvec_base.specs.CopyLaws.{copy-shifts_start}
+use Rattle.bitvec_base.specs.Window.{write_at}
+use Rattle.bitvec_base.specs.WritesLaws.{length-list, HasWindow-kept, Writes-range, Writes-next}
 use Rattle.bitvec_engine.proofs.shifting.shift_start.Goals as goal
 
 pub returns-clause-writes : goal.returns-clause-writes

@@ -1,7 +1,7 @@
 use Rattle.std.proofs.Common.{◌%◌, ◌/◌, ◌+◌, ap, arith, length, refl, ◌∙◌}
-use Rattle.bitvec_combine.specs.moves.WordLaws.{word-next}
-use Rattle.bitvec_combine.specs.store.WidthLaws.{width_some}
-use Rattle.bitvec_combine.specs.words.TouchedLaws.{part_loads-most}
+use Rattle.bitvec_move.specs.WordLaws.{word-next}
+use Rattle.bitvec_store.specs.WidthLaws.{width_some}
+use Rattle.bitvec_words.specs.TouchedLaws.{part_loads-most}
 use Rattle.bitvec_engine.proofs.FewLemmas.{stored-across, touched-across}
 use Rattle.bitvec_engine.proofs.storing.store_across.Goals as goal
 

@@ -1,11 +1,11 @@
 use Rattle.std.proofs.Common.{◌≡◌, ◌%◌, ◌/◌, arith, sym}
 use Rattle.std.proofs.lemmas.Nat.{div-add-mod'}
-use Rattle.bitvec_combine.specs.base.MemoryLaws.{length-element_bits}
-use Rattle.bitvec_combine.specs.base.WritesLaws.{Writes-is}
-use Rattle.bitvec_combine.specs.moves.WordLaws.{take-all, word_whole}
-use Rattle.bitvec_combine.specs.words.Elements.{elements_window}
-use Rattle.bitvec_combine.specs.words.TouchedLaws.{touched-word}
-use Rattle.bitvec_combine.specs.words.WholeLaws.{Writes-same}
+use Rattle.bitvec_base.specs.MemoryLaws.{length-element_bits}
+use Rattle.bitvec_base.specs.WritesLaws.{Writes-is}
+use Rattle.bitvec_words.specs.WordLaws.{take-all, word_whole}
+use Rattle.bitvec_words.specs.Elements.{elements_window}
+use Rattle.bitvec_words.specs.TouchedLaws.{touched-word}
+use Rattle.bitvec_words.specs.WholeLaws.{Writes-same}
 use Rattle.bitvec_engine.proofs.storing.store_few.Goals as goal
 
 pub returns-else-window-bits-gt0-clause-cost : goal.returns-else-window-bits-gt0-clause-cost

@@ -1,12 +1,12 @@
 use Rattle.std.proofs.Common.{◌≡◌, ℕ, ◌-◌, ◌+◌, arith, refl, ap, sym, ◌∙◌, take}
-use Rattle.bitvec_combine.specs.base.declared.part.Part.{Part}
-use Rattle.bitvec_combine.specs.base.Memory.{element_bits}
-use Rattle.bitvec_combine.specs.base.Parts.{first_part_of}
-use Rattle.bitvec_combine.specs.base.WritesLaws.{Writes-empty, Writes-is}
-use Rattle.bitvec_combine.specs.moves.PlaceLaws.{head-part}
-use Rattle.bitvec_combine.specs.store.WidthLaws.{width_some}
-use Rattle.bitvec_combine.specs.words.FillingLaws.{fill_loads-some}
-use Rattle.bitvec_combine.specs.words.TouchedLaws.{part_loads-most, touched-first}
+use Rattle.bitvec_base.specs.declared.part.Part.{Part}
+use Rattle.bitvec_base.specs.Memory.{element_bits}
+use Rattle.bitvec_base.specs.Parts.{first_part_of}
+use Rattle.bitvec_base.specs.WritesLaws.{Writes-empty, Writes-is}
+use Rattle.bitvec_move.specs.PlaceLaws.{head-part}
+use Rattle.bitvec_store.specs.WidthLaws.{width_some}
+use Rattle.bitvec_words.specs.FillingLaws.{fill_loads-some}
+use Rattle.bitvec_words.specs.TouchedLaws.{part_loads-most, touched-first}
 use Rattle.bitvec_engine.proofs.FewLemmas.{stored-one, stored-two, touched-short}
 use Rattle.bitvec_engine.proofs.storing.store_short.Goals as goal
 

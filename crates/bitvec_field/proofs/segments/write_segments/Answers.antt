@@ -1,8 +1,8 @@
 use Rattle.std.proofs.Common.{◌≡◌, ◌∙◌, ◌+◌, ℕ, ap, arith, rules, slice_range}
 use Rattle.std.specs.Fmt.{HasWritten}
 use Rattle.std.proofs.Output.{has_written_append, has_written_of_eq}
-use Rattle.bitvec_slice.specs.store.WidthLaws.{width_some}
-use Rattle.bitvec_slice.specs.traits.Listing.{separator}
+use Rattle.bitvec_store.specs.WidthLaws.{width_some}
+use Rattle.bitvec_domain.specs.Listing.{separator}
 use Rattle.bitvec_slice.specs.Views.{seen}
 use Rattle.bitvec_field.specs.Radix.{digits_text}
 use Rattle.bitvec_field.proofs.SegmentsFrom.{joined_from, joined_from-end, joined_from-next, joined_from-start, segments_from-end, segments_from-later, segments_from-next, segments_from-start}

@@ -6,7 +6,7 @@ use Rattle.bitvec_slice.specs.Views.{seen}
 use Rattle.bitvec_field.specs.Radix.{digits_text}
 use Rattle.bitvec_field.proofs.SegmentsFrom.{joined_from, segments_from}
 use Rattle.bitvec_field.proofs.Written.{WrittenBut}
-use Rattle.bitvec_slice.specs.traits.Listing.{comma}
+use Rattle.bitvec_domain.specs.Listing.{comma}
 use Rattle.bitvec_field.proofs.segments.write_segments.Given as goal
 
 abbrev pub invariant-loop-from : goal.invariant-loop-from

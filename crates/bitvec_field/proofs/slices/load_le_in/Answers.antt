@@ -1,6 +1,6 @@
 use Rattle.std.proofs.Common.{map}
-use Rattle.bitvec_slice.specs.base.Memory.{list_in}
-use Rattle.bitvec_slice.specs.base.WritesLaws.{length-list}
+use Rattle.bitvec_base.specs.Memory.{list_in}
+use Rattle.bitvec_base.specs.WritesLaws.{length-list}
 use Rattle.bitvec_segments.specs.LoadLaws.{loaded_le-below}
 use Rattle.bitvec_field.proofs.slices.load_le_in.Goals as goal
 

@@ -1,5 +1,5 @@
 use Rattle.std.proofs.Common.{subst, sym}
-use Rattle.bitvec_field.specs.domain.Asked.{FillsWith}
+use Rattle.bitvec_domain.specs.Asked.{FillsWith}
 use Rattle.bitvec_in_place.proofs.Windows.{written_outside, written_range}
 use Rattle.bitvec_in_place.proofs.answering.fill_with.Goals as goal
 

@@ -1,5 +1,5 @@
 use Rattle.std.proofs.Common.{subst, sym}
-use Rattle.bitvec_field.specs.domain.Asked.{CallableOnBits}
+use Rattle.bitvec_domain.specs.Asked.{CallableOnBits}
 use Rattle.bitvec_in_place.proofs.Refilled.{refilled_range}
 use Rattle.bitvec_in_place.proofs.Windows.{window_is, written_outside}
 use Rattle.bitvec_in_place.proofs.answering.for_each.Goals as goal

@@ -1,4 +1,4 @@
-use Rattle.bitvec_field.specs.slice.WriteLaws.{written}
+use Rattle.bitvec_slice.specs.WriteLaws.{written}
 use Rattle.bitvec_in_place.proofs.Windows.{window_is}
 use Rattle.bitvec_in_place.proofs.exchanging.swap_with.Goals as goal
 

@@ -1,6 +1,6 @@
 use Rattle.std.proofs.Common.{arith, map}
-use Rattle.bitvec_field.specs.base.CountLaws.{ones_and_zeros}
-use Rattle.bitvec_field.specs.base.Memory.{memory_bits}
+use Rattle.bitvec_base.specs.CountLaws.{ones_and_zeros}
+use Rattle.bitvec_base.specs.Memory.{memory_bits}
 use Rattle.bitvec_in_place.specs.MovedLaws.{length-bits_of}
 use Rattle.bitvec_in_place.specs.RangeBitsLaws.{length-bits_in}
 use Rattle.bitvec_in_place.specs.Ranges.{bits_in}

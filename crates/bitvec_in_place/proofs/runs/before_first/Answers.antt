@@ -1,9 +1,9 @@
 use Rattle.std.specs.Option.{unwrap_or}
 use Rattle.std.proofs.Common.{arith, ap, map, sym, ◌∙◌, ◌≡◌, ℕ, length, Bool, List, Option}
-use Rattle.bitvec_field.specs.base.LeadingLaws.{first_run}
-use Rattle.bitvec_field.specs.base.Lists.{first_place}
-use Rattle.bitvec_field.specs.base.Memory.{memory_bits}
-use Rattle.bitvec_field.specs.base.declared.window.Window.{Window}
+use Rattle.bitvec_base.specs.LeadingLaws.{first_run}
+use Rattle.bitvec_base.specs.Lists.{first_place}
+use Rattle.bitvec_base.specs.Memory.{memory_bits}
+use Rattle.bitvec_base.specs.declared.window.Window.{Window}
 use Rattle.bitvec_in_place.specs.MovedLaws.{length-bits_of}
 use Rattle.bitvec_in_place.specs.RangeBitsLaws.{length-bits_in}
 use Rattle.bitvec_in_place.specs.Ranges.{bits_in}

@@ -1,4 +1,4 @@
-use Rattle.bitvec_slice.specs.store.WidthLaws.{width_some}
+use Rattle.bitvec_store.specs.WidthLaws.{width_some}
 use Rattle.bitvec_iter.specs.PartLaws.{part_seen}
 use Rattle.bitvec_iter.proofs.parts.part_of.Goals as goal
 

@@ -1,6 +1,6 @@
 use Rattle.std.proofs.Common.{◌+◌, ◌*◌}
-use Rattle.bitvec_words.specs.base.Memory.{list_in}
-use Rattle.bitvec_words.specs.cells.Access.{OnlyReads}
+use Rattle.bitvec_base.specs.Memory.{list_in}
+use Rattle.bitvec_cells.specs.Access.{OnlyReads}
 use Rattle.bitvec_words.specs.Elements.{elements_window, elements_window_from}
 use Rattle.bitvec_move.specs.Acts.{IsCarried}
 use Rattle.bitvec_move.proofs.acting_on_windows.act_in_spans.Given as goal

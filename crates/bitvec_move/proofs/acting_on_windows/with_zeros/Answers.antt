@@ -1,6 +1,6 @@
 use Rattle.std.proofs.Common.{◌≡◌, ◌+◌, arith, sym}
-use Rattle.bitvec_words.specs.base.MemoryLaws.{length-element_bits}
-use Rattle.bitvec_words.specs.base.PartLaws.{element-none, length-part}
+use Rattle.bitvec_base.specs.MemoryLaws.{length-element_bits}
+use Rattle.bitvec_base.specs.PartLaws.{element-none, length-part}
 use Rattle.bitvec_move.specs.ActLaws.{padded-full, padded-part}
 use Rattle.bitvec_move.proofs.acting_on_windows.with_zeros.Goals as goal
 

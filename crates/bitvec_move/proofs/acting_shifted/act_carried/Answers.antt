@@ -1,6 +1,7 @@
 use Rattle.std.proofs.Common.{◌≡◌, ◌*◌, ◌∙◌, ap, arith, refl, rules, slice_index}
 use Rattle.bitvec_move.proofs.StretchActs.{element-joined, first-word, skip-some, source-word, stretch-join, stretch-none}
-use Rattle.bitvec_move.specs.PlaceLaws.{inside, next-inside, next-word}
+use Rattle.bitvec_words.specs.WordLaws.{inside}
+use Rattle.bitvec_move.specs.PlaceLaws.{next-inside, next-word}
 use Rattle.bitvec_move.proofs.acting_shifted.act_carried.Goals as goal
 
 pub load-requires : goal.load-requires

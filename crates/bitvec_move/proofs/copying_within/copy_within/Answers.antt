@@ -1,6 +1,6 @@
 use Rattle.std.proofs.Common.{◌+◌, ◌-◌, arith}
-use Rattle.bitvec_words.specs.base.Lists.{copied_within}
-use Rattle.bitvec_words.specs.base.WritesLaws.{HasWindow-range, Writes-is, Writes-range, list-range}
+use Rattle.bitvec_base.specs.Lists.{copied_within}
+use Rattle.bitvec_base.specs.WritesLaws.{HasWindow-range, Writes-is, Writes-range, list-range}
 use Rattle.bitvec_move.proofs.copying_within.copy_within.Goals as goal
 
 pub move_window-requires : goal.move_window-requires

@@ -2,14 +2,14 @@ use Rattle.std.proofs.Common.{◌≡◌, ◌≢◌, ℕ, min, Bool, true, false,
 use Rattle.std.proofs.lemmas.Bool.{cases_eq}
 use Rattle.std.proofs.lemmas.Nat.{div-add-mod', mod_below}
 use Rattle.std.proofs.Math.Nat.{div-mul-le_self}
-use Rattle.bitvec_words.specs.base.declared.part.Part.{Part}
-use Rattle.bitvec_words.specs.base.declared.window.Window.{Window}
-use Rattle.bitvec_words.specs.base.Memory.{HasWindow}
-use Rattle.bitvec_words.specs.base.Parts.{first_part_of}
-use Rattle.bitvec_words.specs.base.Window.{window_after}
-use Rattle.bitvec_words.specs.base.WritesLaws.{HasWindow-kept}
-use Rattle.bitvec_words.specs.store.WidthLaws.{width_some}
-use Rattle.bitvec_words.specs.walk.WalkLaws.{div-order}
+use Rattle.bitvec_base.specs.declared.part.Part.{Part}
+use Rattle.bitvec_base.specs.declared.window.Window.{Window}
+use Rattle.bitvec_base.specs.Memory.{HasWindow}
+use Rattle.bitvec_base.specs.Parts.{first_part_of}
+use Rattle.bitvec_base.specs.Window.{window_after}
+use Rattle.bitvec_base.specs.WritesLaws.{HasWindow-kept}
+use Rattle.bitvec_store.specs.WidthLaws.{width_some}
+use Rattle.bitvec_cells.specs.WalkLaws.{div-order}
 use Rattle.bitvec_words.specs.FieldLaws.{first_part-long}
 use Rattle.bitvec_words.specs.TouchedLaws.{head_edge, touched-head, touched-parts}
 use Rattle.bitvec_words.specs.WholeLaws.{HasWindow-part, behind-mod, window-end}

@@ -1,5 +1,5 @@
 use Rattle.std.proofs.Common.{◌∙◌}
-use Rattle.bitvec_words.specs.base.MemoryLaws.{length-element_bits}
+use Rattle.bitvec_base.specs.MemoryLaws.{length-element_bits}
 use Rattle.bitvec_move.proofs.WordMoveLemmas.{word-behind}
 use Rattle.bitvec_move.proofs.moving_words.load_skipped.Goals as goal
 

@@ -1,4 +1,4 @@
-use Rattle.bitvec_words.specs.base.MemoryLaws.{length-element_bits}
+use Rattle.bitvec_base.specs.MemoryLaws.{length-element_bits}
 use Rattle.bitvec_move.proofs.WordMoveLemmas.{placed-range}
 use Rattle.bitvec_move.proofs.moving_words.placed.Goals as goal
 

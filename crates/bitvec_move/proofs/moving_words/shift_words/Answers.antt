@@ -1,6 +1,6 @@
 use Rattle.std.proofs.Common.{ℕ, Bool, ◌≡◌, ◌≤◌, ◌+◌, ◌*◌, ◌∙◌, arith, if◌then◌else◌, nat_eq, not, refl, rules}
 use Rattle.std.proofs.Math.Nat.{le_refl}
-use Rattle.bitvec_words.specs.base.WritesLaws.{HasWindow-kept}
+use Rattle.bitvec_base.specs.WritesLaws.{HasWindow-kept}
 use Rattle.bitvec_words.specs.WholeLaws.{HasWindow-part}
 use Rattle.bitvec_move.specs.WithinLaws.{CopiesSome-none}
 use Rattle.bitvec_move.proofs.WordMoveLemmas.{CopiesSome-all, CopiesSome-word, carried_place, is_earlier, is_later, next_place, word-carried, word-joined, word-left, word-window, word_place}

@@ -1,7 +1,7 @@
 use Rattle.std.proofs.Common.{◌≡◌, ℕ, ◌+◌, ◌-◌, ◌*◌, ◌<◌, arith, ◌∙◌, true}
-use Rattle.bitvec_words.specs.store.WidthLaws.{width_some}
-use Rattle.bitvec_words.specs.walk.Cost.{step_span, work_steps}
-use Rattle.bitvec_words.specs.walk.CostLaws.{touched_enough}
+use Rattle.bitvec_store.specs.WidthLaws.{width_some}
+use Rattle.bitvec_cells.specs.Cost.{step_span, work_steps}
+use Rattle.bitvec_cells.specs.CostLaws.{touched_enough}
 use Rattle.bitvec_move.proofs.ReversalLemmas.{Writes-ends, work-some}
 use Rattle.bitvec_move.proofs.reversing.exchange_ends.Goals as goal
 

@@ -1,7 +1,7 @@
 use Rattle.std.proofs.Common.{ℕ, ◌-◌, ◌%◌, arith, map, refl, rules}
 use Rattle.std.proofs.lemmas.Nat.{mod_below}
-use Rattle.bitvec_words.specs.base.declared.window.Window.{Window}
-use Rattle.bitvec_words.specs.store.WidthLaws.{width_some}
+use Rattle.bitvec_base.specs.declared.window.Window.{Window}
+use Rattle.bitvec_store.specs.WidthLaws.{width_some}
 use Rattle.bitvec_move.proofs.MirroredLemmas.{amid-moved}
 use Rattle.bitvec_move.proofs.reversing.in_phase.Goals as goal
 

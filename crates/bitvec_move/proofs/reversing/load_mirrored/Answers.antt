@@ -1,11 +1,11 @@
 use Rattle.std.proofs.Common.{◌≡◌, ℕ, List, ◌<◌, ◌≤◌, ◌+◌, ◌-◌, ◌*◌, ◌/◌, ◌%◌, arith, rules, ap, sym, ◌∙◌, length, map, reverse, refl}
 use Rattle.std.proofs.lemmas.List.{length-map, map-set}
 use Rattle.std.proofs.lemmas.Nat.{div-add-mod', mod_below}
-use Rattle.bitvec_words.specs.base.Memory.{HasWindow}
-use Rattle.bitvec_words.specs.store.Width.{IsWidth}
-use Rattle.bitvec_words.specs.store.WidthLaws.{width_some}
-use Rattle.bitvec_words.specs.base.declared.window.Window.{Window}
-use Rattle.bitvec_words.specs.base.WritesLaws.{HasWindow-kept, Writes-holds, Writes-is}
+use Rattle.bitvec_base.specs.Memory.{HasWindow}
+use Rattle.bitvec_store.specs.Width.{IsWidth}
+use Rattle.bitvec_store.specs.WidthLaws.{width_some}
+use Rattle.bitvec_base.specs.declared.window.Window.{Window}
+use Rattle.bitvec_base.specs.WritesLaws.{HasWindow-kept, Writes-holds, Writes-is}
 use Rattle.bitvec_words.specs.FieldLaws.{Writes-no_element, element_of}
 use Rattle.bitvec_words.specs.Elements.{elements_window}
 use Rattle.bitvec_words.specs.WholeLaws.{list-empty}

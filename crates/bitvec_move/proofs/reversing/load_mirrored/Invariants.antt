@@ -1,6 +1,6 @@
 use Rattle.std.proofs.Common.{◌+◌, ◌-◌, map, reverse}
-use Rattle.bitvec_words.specs.base.Memory.{Writes, list_in}
-use Rattle.bitvec_words.specs.cells.Access.{OnlyReads}
+use Rattle.bitvec_base.specs.Memory.{Writes, list_in}
+use Rattle.bitvec_cells.specs.Access.{OnlyReads}
 use Rattle.bitvec_words.specs.Elements.{elements_window}
 use Rattle.bitvec_move.proofs.reversing.load_mirrored.Given as goal
 

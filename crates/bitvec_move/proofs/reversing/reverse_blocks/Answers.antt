@@ -1,7 +1,7 @@
 use Rattle.std.proofs.Common.{◌≡◌, ◌+◌, ◌-◌, ◌*◌, ◌/◌, arith, rules, sym, ◌∙◌, true}
 use Rattle.std.proofs.Math.Nat.{mul-le-mul_left}
-use Rattle.bitvec_words.specs.base.WritesLaws.{Writes-is, Writes-start, length-list}
-use Rattle.bitvec_words.specs.walk.Cost.{reverse_loads, reverse_stores, step_span}
+use Rattle.bitvec_base.specs.WritesLaws.{Writes-is, Writes-start, length-list}
+use Rattle.bitvec_cells.specs.Cost.{reverse_loads, reverse_stores, step_span}
 use Rattle.bitvec_move.proofs.ReversalLemmas.{Writes-mirrored, block-next, block-words, half-steps, mirrored-all, mirrored-none, room-words}
 use Rattle.bitvec_move.proofs.reversing.reverse_blocks.Goals as goal
 

@@ -1,8 +1,8 @@
 use Rattle.std.proofs.Common.{◌≡◌, ◌+◌, ◌-◌, ◌*◌, ◌%◌, ◌<◌, ◌≤◌, reverse, slice_range, true}
-use Rattle.bitvec_words.specs.base.Memory.{Writes, list_in}
-use Rattle.bitvec_words.specs.base.Window.{write_at}
-use Rattle.bitvec_words.specs.cells.Access.{CostsAtMost}
-use Rattle.bitvec_words.specs.walk.Cost.{step_span, work_steps}
+use Rattle.bitvec_base.specs.Memory.{Writes, list_in}
+use Rattle.bitvec_base.specs.Window.{write_at}
+use Rattle.bitvec_cells.specs.Access.{CostsAtMost}
+use Rattle.bitvec_cells.specs.Cost.{step_span, work_steps}
 use Rattle.bitvec_move.proofs.reversing.reverse_blocks.Given as goal
 
 abbrev pub invariant-loop-low : goal.invariant-loop-low

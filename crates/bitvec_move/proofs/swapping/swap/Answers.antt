@@ -1,7 +1,7 @@
 use Rattle.std.proofs.Common.{sym, ◌∙◌, arith, refl}
 use Rattle.bitvec_words.specs.FieldLaws.{Writes-none}
-use Rattle.bitvec_words.specs.store.WidthLaws.{width_some}
-use Rattle.bitvec_move.specs.PlaceLaws.{width-some}
+use Rattle.bitvec_store.specs.WidthLaws.{width_some}
+use Rattle.bitvec_words.specs.WordLaws.{width-some}
 use Rattle.bitvec_move.proofs.MoveLemmas.{touched-read, touched-stored}
 use Rattle.bitvec_move.proofs.swapping.swap.Goals as goal
 

@@ -1,9 +1,10 @@
 use Rattle.std.proofs.Common.{arith, rules, refl}
-use Rattle.bitvec_words.specs.store.WidthLaws.{width_some}
+use Rattle.bitvec_store.specs.WidthLaws.{width_some}
 use Rattle.bitvec_move.specs.SwapLaws.{Swaps-joined, beside-tail}
 use Rattle.bitvec_words.specs.TouchedLaws.{touched-full, touched-more}
 use Rattle.bitvec_words.specs.WholeLaws.{window-end}
-use Rattle.bitvec_move.specs.PlaceLaws.{tail-inside, tail-part, tail-word, whole-span, width-some}
+use Rattle.bitvec_move.specs.PlaceLaws.{tail-inside, tail-part, tail-word, whole-span}
+use Rattle.bitvec_words.specs.WordLaws.{width-some}
 use Rattle.bitvec_move.proofs.MoveLemmas.{Swaps-same}
 use Rattle.std.proofs.lemmas.Nat.{div-add-mod'}
 use Rattle.bitvec_move.proofs.swapping_equal.swap_aligned.Goals as goal

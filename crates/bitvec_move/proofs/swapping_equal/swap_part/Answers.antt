@@ -1,7 +1,7 @@
 use Rattle.std.proofs.Common.{refl}
-use Rattle.bitvec_words.specs.base.declared.part.Part.{Part}
-use Rattle.bitvec_words.specs.base.Parts.{HasPart}
-use Rattle.bitvec_words.specs.store.WidthLaws.{width_some}
+use Rattle.bitvec_base.specs.declared.part.Part.{Part}
+use Rattle.bitvec_base.specs.Parts.{HasPart}
+use Rattle.bitvec_store.specs.WidthLaws.{width_some}
 use Rattle.bitvec_move.specs.SwapLaws.{Writes-exchanged_part}
 use Rattle.bitvec_move.proofs.swapping_equal.swap_part.Goals as goal
 

@@ -1,4 +1,4 @@
-use Rattle.bitvec_words.specs.cells.Access.{Costs}
+use Rattle.bitvec_cells.specs.Access.{Costs}
 use Rattle.bitvec_words.specs.Elements.{elements_window}
 use Rattle.bitvec_move.specs.Moves.{Swaps}
 use Rattle.bitvec_move.proofs.swapping_equal.swap_whole.Given as goal

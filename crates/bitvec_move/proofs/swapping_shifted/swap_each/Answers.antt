@@ -1,12 +1,13 @@
 use Rattle.std.proofs.Common.{◌∙◌, ◌+◌, arith, rules, ap, slice_index, ◌≡◌}
-use Rattle.bitvec_words.specs.store.WidthLaws.{width_some}
-use Rattle.bitvec_words.specs.base.Memory.{element_bits}
-use Rattle.bitvec_words.specs.base.MemoryLaws.{length-element_bits}
-use Rattle.bitvec_words.specs.base.Window.{write_at}
+use Rattle.bitvec_store.specs.WidthLaws.{width_some}
+use Rattle.bitvec_base.specs.Memory.{element_bits}
+use Rattle.bitvec_base.specs.MemoryLaws.{length-element_bits}
+use Rattle.bitvec_base.specs.Window.{write_at}
 use Rattle.bitvec_words.specs.FieldLaws.{Writes-no_element}
 use Rattle.bitvec_move.specs.SwapLaws.{next_element}
 use Rattle.bitvec_move.specs.WaitingLaws.{across-bits, across-element, across-next, across-none, ends-joined, ends-next, ends-start, range-carried}
-use Rattle.bitvec_move.specs.PlaceLaws.{inside, inside-word, next-word}
+use Rattle.bitvec_words.specs.WordLaws.{inside, inside-word}
+use Rattle.bitvec_move.specs.PlaceLaws.{next-word}
 use Rattle.bitvec_move.proofs.swapping_shifted.swap_each.Goals as goal
 
 pub overflow_add-first : goal.overflow_add-first

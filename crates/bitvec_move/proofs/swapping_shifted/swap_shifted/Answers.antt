@@ -1,16 +1,17 @@
 use Rattle.std.proofs.Common.{◌≡◌, ◌≤◌, ℕ, ◌+◌, ◌-◌, arith, rules, ◌∙◌, ap, refl, length}
 use Rattle.std.proofs.lemmas.List.{set-get_or, length-set}
 use Rattle.std.proofs.lemmas.Nat.{mod_below}
-use Rattle.bitvec_words.specs.base.declared.part.Part.{Part}
-use Rattle.bitvec_words.specs.base.Parts.{first_part_of}
-use Rattle.bitvec_words.specs.store.WidthLaws.{width_some}
-use Rattle.bitvec_words.specs.walk.Cost.{touched_count}
+use Rattle.bitvec_base.specs.declared.part.Part.{Part}
+use Rattle.bitvec_base.specs.Parts.{first_part_of}
+use Rattle.bitvec_store.specs.WidthLaws.{width_some}
+use Rattle.bitvec_cells.specs.Cost.{touched_count}
 use Rattle.bitvec_words.specs.FieldLaws.{first_part-long}
 use Rattle.bitvec_move.specs.SwapLaws.{Swaps-joined, beside-head, beside-parted}
 use Rattle.bitvec_words.specs.TouchedLaws.{apart_edge, inside_element, touched-first, touched-head, touched-inside, touched-rest}
 use Rattle.bitvec_words.specs.WholeLaws.{window-end}
 use Rattle.bitvec_move.specs.WithinLaws.{part-first}
-use Rattle.bitvec_move.specs.PlaceLaws.{behind-edge, head-element, head-part, width-some}
+use Rattle.bitvec_move.specs.PlaceLaws.{behind-edge, head-element, head-part}
+use Rattle.bitvec_words.specs.WordLaws.{width-some}
 use Rattle.bitvec_move.proofs.MoveLemmas.{head-fits, head-order, place-element}
 use Rattle.bitvec_move.proofs.swapping_shifted.swap_shifted.Goals as goal
 

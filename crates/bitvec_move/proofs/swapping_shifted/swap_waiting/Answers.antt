@@ -1,13 +1,13 @@
 use Rattle.std.proofs.Common.{◌+◌, ◌-◌, ◌%◌, ◌≤◌, Bool, List, length, take, slice_index, slice_range, arith, rules, ap, sym, ◌∙◌, refl}
 use Rattle.std.proofs.lemmas.Nat.{mod_below}
-use Rattle.bitvec_words.specs.base.Memory.{element_bits}
-use Rattle.bitvec_words.specs.base.MemoryLaws.{length-element_bits}
-use Rattle.bitvec_words.specs.base.WritesLaws.{Writes-is}
-use Rattle.bitvec_words.specs.store.WidthLaws.{width_some}
+use Rattle.bitvec_base.specs.Memory.{element_bits}
+use Rattle.bitvec_base.specs.MemoryLaws.{length-element_bits}
+use Rattle.bitvec_base.specs.WritesLaws.{Writes-is}
+use Rattle.bitvec_store.specs.WidthLaws.{width_some}
 use Rattle.bitvec_words.specs.FieldLaws.{list-part, part-stored, range-shifted}
 use Rattle.bitvec_words.specs.TouchedLaws.{touched-one, touched-two}
 use Rattle.bitvec_move.specs.WaitingLaws.{range-moved, range-moved_across, waiting-across, waiting-beyond, waiting-front, waiting-inside}
-use Rattle.bitvec_move.specs.PlaceLaws.{width-some}
+use Rattle.bitvec_words.specs.WordLaws.{width-some}
 use Rattle.bitvec_move.proofs.MoveLemmas.{place-element, second-element, second-word}
 use Rattle.bitvec_move.proofs.swapping_shifted.swap_waiting.Goals as goal
 

@@ -1,8 +1,8 @@
 use Rattle.std.proofs.Common.{◌≡◌, ◌∙◌, arith, length, sym}
 use Rattle.std.proofs.lemmas.Grind.{common_steps}
-use Rattle.bitvec_edit.specs.store.WidthLaws.{width_some}
-use Rattle.bitvec_edit.specs.slice.ShowingLaws.{length-seen}
-use Rattle.bitvec_edit.specs.slice.Views.{seen}
+use Rattle.bitvec_store.specs.WidthLaws.{width_some}
+use Rattle.bitvec_slice.specs.ShowingLaws.{length-seen}
+use Rattle.bitvec_slice.specs.Views.{seen}
 use Rattle.bitvec_owned.proofs.Held.{held}
 use Rattle.bitvec_owned.specs.WritesLaws.{refilled, same_length}
 use Rattle.bitvec_owned.proofs.copying.copy_of.Goals as goal

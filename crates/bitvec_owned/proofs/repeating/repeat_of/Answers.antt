@@ -2,11 +2,11 @@ use Rattle.std.proofs.Common.{◌≡◌, ◌∙◌, ◌*◌, ◌-◌, ◌+◌, �
 use Rattle.std.specs.Int.{div_ceil}
 use Rattle.std.proofs.Math.Nat.{lt_of_mul-lt-mul_right}
 use Rattle.std.proofs.lemmas.Grind.{common_steps, div_ceil_times}
-use Rattle.bitvec_edit.specs.base.Memory.{memory_bits}
-use Rattle.bitvec_edit.specs.base.Window.{max_bits}
-use Rattle.bitvec_edit.specs.base.WriteLaws.{write_at-nil}
-use Rattle.bitvec_edit.specs.store.WidthLaws.{width_some}
-use Rattle.bitvec_edit.specs.slice.Views.{seen}
+use Rattle.bitvec_base.specs.Memory.{memory_bits}
+use Rattle.bitvec_base.specs.Window.{max_bits}
+use Rattle.bitvec_base.specs.WriteLaws.{write_at-nil}
+use Rattle.bitvec_store.specs.WidthLaws.{width_some}
+use Rattle.bitvec_slice.specs.Views.{seen}
 use Rattle.bitvec_owned.proofs.Held.{held}
 use Rattle.bitvec_owned.specs.WritesLaws.{refilled}
 use Rattle.bitvec_owned.proofs.Repeats.{length-repeated, repeat-none}

@@ -1,10 +1,10 @@
 use Rattle.std.proofs.Common.{◌≡◌, ◌∙◌, ◌*◌, ap, arith, length, map, refl, rules, sym}
 use Rattle.std.proofs.lemmas.List.{length-map}
-use Rattle.bitvec_edit.specs.base.Memory.{memory_bits}
-use Rattle.bitvec_edit.specs.base.WriteLaws.{write_at-nil}
-use Rattle.bitvec_edit.specs.slice.SeenLaws.{length-memory}
-use Rattle.bitvec_edit.specs.slice.ShowingLaws.{length-seen}
-use Rattle.bitvec_edit.specs.slice.Views.{seen}
+use Rattle.bitvec_base.specs.Memory.{memory_bits}
+use Rattle.bitvec_base.specs.WriteLaws.{write_at-nil}
+use Rattle.bitvec_slice.specs.SeenLaws.{length-memory}
+use Rattle.bitvec_slice.specs.ShowingLaws.{length-seen}
+use Rattle.bitvec_slice.specs.Views.{seen}
 use Rattle.bitvec_owned.proofs.Repeats.{repeat-fits, repeat-next}
 use Rattle.bitvec_owned.proofs.repeating.write_copies.Goals as goal
 

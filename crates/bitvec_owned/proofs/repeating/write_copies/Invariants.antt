@@ -1,8 +1,8 @@
 use Rattle.std.proofs.Common.{◌≡◌, length, map}
 use Rattle.std.specs.List.{repeat}
-use Rattle.bitvec_edit.specs.base.Memory.{memory_bits}
-use Rattle.bitvec_edit.specs.base.Window.{write_at}
-use Rattle.bitvec_edit.specs.slice.Views.{seen}
+use Rattle.bitvec_base.specs.Memory.{memory_bits}
+use Rattle.bitvec_base.specs.Window.{write_at}
+use Rattle.bitvec_slice.specs.Views.{seen}
 use Rattle.bitvec_owned.proofs.repeating.write_copies.Given as goal
 
 abbrev pub invariant-loop-number : goal.invariant-loop-number

@@ -1,5 +1,5 @@
 use Rattle.std.proofs.Common.{◌-◌, map}
-use Rattle.bitvec_slice.specs.base.Memory.{list_in}
+use Rattle.bitvec_base.specs.Memory.{list_in}
 use Rattle.bitvec_query.specs.Kept.{Keeps}
 use Rattle.bitvec_query.proofs.kept.take_kept.Given as goal
 

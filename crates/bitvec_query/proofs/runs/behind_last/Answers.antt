@@ -1,5 +1,5 @@
 use Rattle.std.proofs.Common.{arith}
-use Rattle.bitvec_slice.specs.base.LeadingLaws.{last_run}
+use Rattle.bitvec_base.specs.LeadingLaws.{last_run}
 use Rattle.bitvec_query.proofs.runs.behind_last.Goals as goal
 
 pub overflow_sub-result : goal.overflow_sub-result

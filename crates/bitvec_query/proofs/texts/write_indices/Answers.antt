@@ -2,7 +2,7 @@ use Rattle.std.proofs.Common.{◌∙◌, [], ◌∷◌, ◌++◌, ap, append-nil
 use Rattle.std.specs.Fmt.{HasWritten, decimal}
 use Rattle.std.specs.List.{join_by}
 use Rattle.std.proofs.Output.{has_written_append, has_written_of_eq}
-use Rattle.bitvec_slice.specs.traits.Listing.{comma, separator}
+use Rattle.bitvec_domain.specs.Listing.{comma, separator}
 use Rattle.bitvec_query.specs.Indices.{remaining_indices}
 use Rattle.bitvec_query.proofs.PushedLemmas.{joined-push, separator-later}
 use Rattle.bitvec_query.proofs.texts.write_indices.Goals as goal

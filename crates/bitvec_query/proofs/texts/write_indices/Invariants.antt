@@ -1,7 +1,7 @@
 use Rattle.std.proofs.Common.{◌≡◌, ◌++◌, length}
 use Rattle.std.specs.Fmt.{HasWritten, IsPlainFormatter, decimal}
 use Rattle.std.specs.List.{join_by}
-use Rattle.bitvec_slice.specs.traits.Listing.{comma, separator}
+use Rattle.bitvec_domain.specs.Listing.{comma, separator}
 use Rattle.bitvec_query.specs.Indices.{remaining_indices}
 use Rattle.bitvec_query.proofs.texts.write_indices.Given as goal
 

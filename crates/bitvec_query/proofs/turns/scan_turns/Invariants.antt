@@ -1,7 +1,7 @@
 use Rattle.std.proofs.Common.{◌≡◌, ◌+◌, ◌≤◌, ◌++◌, drop, take}
-use Rattle.bitvec_slice.specs.base.Lists.{places_of}
-use Rattle.bitvec_slice.specs.base.Memory.{list_in}
-use Rattle.bitvec_slice.specs.walk.Cost.{touched_count}
+use Rattle.bitvec_base.specs.Lists.{places_of}
+use Rattle.bitvec_base.specs.Memory.{list_in}
+use Rattle.bitvec_cells.specs.Cost.{touched_count}
 use Rattle.bitvec_query.specs.Loads.{rest_loads}
 use Rattle.bitvec_query.specs.Places.{IsRestOf, places_left}
 use Rattle.bitvec_query.specs.Turns.{count_given, turns_give}

@@ -1,7 +1,7 @@
 use Rattle.std.proofs.Common.{arith, rules, inr, ◌≡◌, ◌∙◌, ap, ◌+◌, ◌++◌, ◌-◌, ℕ, List, length, drop, map, min, take}
 use mathlib.Core.List.{append-nil}
 use Rattle.std.proofs.lemmas.List.{length-drop, length-map, take_all}
-use Rattle.bitvec_slice.specs.base.Memory.{list_in}
+use Rattle.bitvec_base.specs.Memory.{list_in}
 use Rattle.bitvec_query.specs.Places.{places_in}
 use Rattle.bitvec_query.specs.PlacesLaws.{places-empty, places-join}
 use Rattle.bitvec_query.specs.WordOnes.{order_ones}

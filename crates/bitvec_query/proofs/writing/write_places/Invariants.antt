@@ -1,5 +1,5 @@
 use Rattle.std.proofs.Common.{◌≡◌, ◌-◌, ◌≤◌, length, map, min}
-use Rattle.bitvec_slice.specs.base.Memory.{list_in}
+use Rattle.bitvec_base.specs.Memory.{list_in}
 use Rattle.bitvec_query.specs.Places.{places_in}
 use Rattle.bitvec_query.proofs.WrittenLemmas.{Written}
 use Rattle.bitvec_query.proofs.writing.write_places.Given as goal

@@ -1,6 +1,6 @@
 use Rattle.std.proofs.Common.{Err, rules}
-use Rattle.bitvec_engine.specs.base.Memory.{memory_bits}
-use Rattle.bitvec_engine.specs.base.WritesLaws.{HasWindow-kept}
+use Rattle.bitvec_base.specs.Memory.{memory_bits}
+use Rattle.bitvec_base.specs.WritesLaws.{HasWindow-kept}
 use Rattle.bitvec_run.specs.FieldRows.{field_outcome}
 use Rattle.bitvec_run.specs.RanLaws.{HasWindow-whole, RunsBy-all, RunsBy-next, RunsBy-start, list-whole}
 use Rattle.bitvec_run.specs.RunsLaws.{errs-exactly}

@@ -1,5 +1,5 @@
 use Rattle.std.proofs.Common.{◌≡◌, ◌≤◌, length, take, vec_len, vec_capacity}
-use Rattle.bitvec_engine.specs.base.Memory.{memory_bits}
+use Rattle.bitvec_base.specs.Memory.{memory_bits}
 use Rattle.bitvec_run.specs.FieldRows.{field_outcome}
 use Rattle.bitvec_run.specs.Runs.{RunsBy}
 use Rattle.bitvec_run.proofs.field_runner.run_fields.Given as goal

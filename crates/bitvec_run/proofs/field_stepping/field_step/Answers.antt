@@ -1,5 +1,5 @@
 use Rattle.std.proofs.Common.{arith, refl, sym}
-use Rattle.bitvec_engine.specs.base.Memory.{list_in}
+use Rattle.bitvec_base.specs.Memory.{list_in}
 use Rattle.bitvec_run.specs.FollowsLaws.{Answers-follow, Follows-range}
 use Rattle.bitvec_run.specs.FieldRowsLaws.{is-transfer, plain-is, transfer-does, transfer-refused}
 use Rattle.bitvec_run.proofs.field_stepping.field_step.Goals as goal

@@ -1,5 +1,5 @@
 use Rattle.std.proofs.Common.{rules, Bool, List, ap}
-use Rattle.bitvec_engine.specs.base.WritesLaws.{Writes-nothing}
+use Rattle.bitvec_base.specs.WritesLaws.{Writes-nothing}
 use Rattle.bitvec_run.specs.declared.command.Reply.TheVariants.{Number}
 use Rattle.bitvec_run.proofs.field_stepping.transfer.Goals as goal
 

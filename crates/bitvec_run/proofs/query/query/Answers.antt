@@ -1,6 +1,6 @@
 use Rattle.std.proofs.Common.{rules, Bool, List, true, false}
-use Rattle.bitvec_engine.specs.store.WidthLaws.{width_some}
-use Rattle.bitvec_engine.specs.walk.WalkLaws.{first_loads-most, last_loads-most}
+use Rattle.bitvec_store.specs.WidthLaws.{width_some}
+use Rattle.bitvec_cells.specs.WalkLaws.{first_loads-most, last_loads-most}
 use Rattle.bitvec_run.proofs.query.query.Goals as goal
 
 pub returns-in-FirstOne : goal.returns-in-FirstOne

@@ -1,6 +1,6 @@
 use Rattle.std.proofs.Common.{arith, refl, sym, ◌∙◌, Some}
-use Rattle.bitvec_engine.specs.base.Memory.{list_in}
-use Rattle.bitvec_engine.specs.base.WritesLaws.{length-list}
+use Rattle.bitvec_base.specs.Memory.{list_in}
+use Rattle.bitvec_base.specs.WritesLaws.{length-list}
 use Rattle.bitvec_run.specs.FollowsLaws.{Answers-follow, Follows-range}
 use Rattle.bitvec_run.specs.RunsLaws.{outcome-is, step-does}
 use Rattle.bitvec_run.specs.Runs.{step_row}

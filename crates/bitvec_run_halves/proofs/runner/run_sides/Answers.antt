@@ -1,7 +1,7 @@
 use Rattle.std.proofs.Common.{arith, rules, refl, sym, ◌∙◌, ap}
 use Rattle.std.proofs.lemmas.List.{take_all, take_more_set}
-use Rattle.bitvec_slice.specs.base.Memory.{list_in}
-use Rattle.bitvec_slice.specs.base.WritesLaws.{HasWindow-kept, Writes-is}
+use Rattle.bitvec_base.specs.Memory.{list_in}
+use Rattle.bitvec_base.specs.WritesLaws.{HasWindow-kept, Writes-is}
 use Rattle.bitvec_run.specs.FoldLaws.{after-all, replies-all}
 use Rattle.bitvec_run_halves.specs.Sides.{halves_of, joined, side_lists, side_reply}
 use Rattle.bitvec_run_halves.specs.SidesLaws.{RanSides-next, RanSides-none, side-has}

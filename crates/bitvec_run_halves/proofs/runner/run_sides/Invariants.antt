@@ -1,5 +1,5 @@
 use Rattle.std.proofs.Common.{◌≡◌, length, take}
-use Rattle.bitvec_slice.specs.base.Memory.{list_in}
+use Rattle.bitvec_base.specs.Memory.{list_in}
 use Rattle.bitvec_run_halves.specs.SidesLaws.{RanSides}
 use Rattle.bitvec_run_halves.proofs.runner.run_sides.Given as goal
 

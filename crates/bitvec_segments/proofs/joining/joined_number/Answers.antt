@@ -4,7 +4,7 @@ use Rattle.std.proofs.lemmas.Nat.{and_mask, div-add-mod'}
 use Rattle.std.proofs.lemmas.Nat.Bits.{ones_shr}
 use Rattle.std.proofs.Math.Nat.{mul-pos}
 use Rattle.bitvec_words.specs.FieldLaws.{element_of}
-use Rattle.bitvec_words.specs.store.WidthLaws.{width_some}
+use Rattle.bitvec_store.specs.WidthLaws.{width_some}
 use Rattle.bitvec_segments.proofs.JoinedWindow.{HasWindow-elements, number-below, number-cut, number-element, number-next, number-one, touched-elements}
 use Rattle.bitvec_segments.proofs.joining.joined_number.Goals as goal
 

@@ -1,6 +1,6 @@
 use Rattle.std.proofs.Common.{◌≡◌, ◌+◌, ◌-◌, ◌*◌, ◌/◌, ◌%◌, ◌<◌}
-use Rattle.bitvec_words.specs.base.Memory.{list_in}
-use Rattle.bitvec_words.specs.cells.Access.{OnlyReads}
+use Rattle.bitvec_base.specs.Memory.{list_in}
+use Rattle.bitvec_cells.specs.Access.{OnlyReads}
 use Rattle.bitvec_segments.specs.Segments.{segment_number}
 use Rattle.bitvec_words.specs.Elements.{elements_window}
 use Rattle.bitvec_segments.proofs.joining.joined_number.Given as goal

@@ -1,8 +1,8 @@
 use Rattle.std.proofs.Common.{◌≡◌, ◌-◌, arith, refl, ◌∙◌}
 use Rattle.bitvec_words.specs.PartWalkLaws.{HasPart-first}
 use Rattle.bitvec_words.specs.WholeLaws.{HasWindow-part, window-end}
-use Rattle.bitvec_words.specs.store.WidthLaws.{width_some}
-use Rattle.bitvec_words.specs.walk.WalkLaws.{Walked-start, first-len}
+use Rattle.bitvec_store.specs.WidthLaws.{width_some}
+use Rattle.bitvec_cells.specs.WalkLaws.{Walked-start, first-len}
 use Rattle.bitvec_segments.proofs.WalkLemmas.{Begins-next, Loaded-all, Loaded-fits, Loaded-next, Loaded-start, element-below, none-left, parts_kept, some-left, turn}
 use Rattle.bitvec_segments.proofs.loading.load_in.Goals as goal
 

@@ -1,8 +1,8 @@
 use Rattle.std.specs.Prelude.{◌==◌, not}
 use Rattle.std.proofs.Common.{◌≡◌, ◌-◌, ◌≤◌}
-use Rattle.bitvec_words.specs.base.Memory.{HasWindow}
-use Rattle.bitvec_words.specs.cells.Access.{OnlyReads}
-use Rattle.bitvec_words.specs.walk.Cost.{touched_count}
+use Rattle.bitvec_base.specs.Memory.{HasWindow}
+use Rattle.bitvec_cells.specs.Access.{OnlyReads}
+use Rattle.bitvec_cells.specs.Cost.{touched_count}
 use Rattle.bitvec_segments.proofs.WalkLemmas.{Begins, Loaded}
 use Rattle.bitvec_segments.proofs.loading.load_in.Given as goal
 

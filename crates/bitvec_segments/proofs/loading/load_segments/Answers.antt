@@ -1,6 +1,6 @@
 use Rattle.std.proofs.Common.{◌≡◌, arith, refl, sym}
-use Rattle.bitvec_words.specs.store.WidthLaws.{width_some}
-use Rattle.bitvec_words.specs.walk.WalkLaws.{touched-none}
+use Rattle.bitvec_store.specs.WidthLaws.{width_some}
+use Rattle.bitvec_cells.specs.WalkLaws.{touched-none}
 use Rattle.bitvec_words.specs.TouchedLaws.{touched-one}
 use Rattle.bitvec_segments.proofs.JoinedWindow.{touched-elements, touched-last}
 use Rattle.bitvec_segments.proofs.WalkLemmas.{Loaded-all, Loaded-start}

@@ -1,4 +1,4 @@
-use Rattle.bitvec_words.specs.base.WritesLaws.{Writes-is}
+use Rattle.bitvec_base.specs.WritesLaws.{Writes-is}
 use Rattle.bitvec_segments.proofs.PartLemmas.{number-part}
 use Rattle.bitvec_segments.proofs.part.store_part_number.Goals as goal
 

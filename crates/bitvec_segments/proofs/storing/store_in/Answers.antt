@@ -1,9 +1,9 @@
 use Rattle.std.proofs.Common.{arith, rules, refl}
 use Rattle.bitvec_words.specs.PartWalkLaws.{HasPart-first}
 use Rattle.bitvec_words.specs.WholeLaws.{HasWindow-part, window-end}
-use Rattle.bitvec_words.specs.base.WritesLaws.{HasWindow-kept}
-use Rattle.bitvec_words.specs.store.WidthLaws.{width_some}
-use Rattle.bitvec_words.specs.walk.WalkLaws.{Walked-start, Walked-next, edge_loads-next, first-len}
+use Rattle.bitvec_base.specs.WritesLaws.{HasWindow-kept}
+use Rattle.bitvec_store.specs.WidthLaws.{width_some}
+use Rattle.bitvec_cells.specs.WalkLaws.{Walked-start, Walked-next, edge_loads-next, first-len}
 use Rattle.bitvec_segments.proofs.WalkLemmas.{Begins-next, edges-all, Left-next, Left-start, element-below, none-left, some-left, stored-nothing, turn}
 use Rattle.bitvec_segments.proofs.storing.store_in.Goals as goal
 

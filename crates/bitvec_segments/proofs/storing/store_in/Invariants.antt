@@ -1,9 +1,9 @@
 use Rattle.std.specs.Prelude.{◌==◌, not}
 use Rattle.std.proofs.Common.{◌≡◌, ◌-◌, ◌≤◌}
-use Rattle.bitvec_words.specs.base.Memory.{HasWindow}
-use Rattle.bitvec_words.specs.cells.Access.{CostsAtMost}
-use Rattle.bitvec_words.specs.walk.Cost.{touched_count}
-use Rattle.bitvec_words.specs.walk.Walk.{Walked, edge_loads}
+use Rattle.bitvec_base.specs.Memory.{HasWindow}
+use Rattle.bitvec_cells.specs.Access.{CostsAtMost}
+use Rattle.bitvec_cells.specs.Cost.{touched_count}
+use Rattle.bitvec_cells.specs.Walk.{Walked, edge_loads}
 use Rattle.bitvec_segments.proofs.WalkLemmas.{Begins, Left}
 use Rattle.bitvec_segments.proofs.storing.store_in.Given as goal
 

@@ -1,10 +1,10 @@
 use Rattle.std.proofs.Common.{◌≡◌, ℕ, ◌-◌, ◌%◌, arith, ap, sym, ◌∙◌}
 use Rattle.bitvec_words.specs.FillingLaws.{fill_loads-some}
 use Rattle.bitvec_words.specs.TouchedLaws.{part_loads-most, touched-parts}
-use Rattle.bitvec_words.specs.base.Parts.{first_part_of}
-use Rattle.bitvec_words.specs.base.Window.{window_after}
-use Rattle.bitvec_words.specs.store.WidthLaws.{width_some}
-use Rattle.bitvec_words.specs.walk.WalkLaws.{first-len}
+use Rattle.bitvec_base.specs.Parts.{first_part_of}
+use Rattle.bitvec_base.specs.Window.{window_after}
+use Rattle.bitvec_store.specs.WidthLaws.{width_some}
+use Rattle.bitvec_cells.specs.WalkLaws.{first-len}
 use Rattle.bitvec_segments.proofs.JoinedWindow.{touched-last}
 use Rattle.bitvec_segments.proofs.WalkLemmas.{first-part, stored-joined}
 use Rattle.bitvec_segments.proofs.storing.store_segments.Goals as goal

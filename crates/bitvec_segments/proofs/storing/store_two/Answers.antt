@@ -1,10 +1,10 @@
 use Rattle.std.proofs.Common.{◌≡◌, ℕ, ◌+◌, arith, ap, refl, sym, ◌∙◌, min}
 use Rattle.bitvec_words.specs.TouchedLaws.{part_loads-most, touched-parts}
 use Rattle.bitvec_words.specs.WholeLaws.{HasWindow-part}
-use Rattle.bitvec_words.specs.base.Parts.{first_part_of}
-use Rattle.bitvec_words.specs.base.Window.{window_after}
-use Rattle.bitvec_words.specs.base.WritesLaws.{HasWindow-kept}
-use Rattle.bitvec_words.specs.store.WidthLaws.{width_some}
+use Rattle.bitvec_base.specs.Parts.{first_part_of}
+use Rattle.bitvec_base.specs.Window.{window_after}
+use Rattle.bitvec_base.specs.WritesLaws.{HasWindow-kept}
+use Rattle.bitvec_store.specs.WidthLaws.{width_some}
 use Rattle.bitvec_segments.proofs.WalkLemmas.{edge-len, edge-place, first-part, stored-joined, stored-one, whole-none}
 use Rattle.bitvec_segments.proofs.storing.store_two.Goals as goal
 

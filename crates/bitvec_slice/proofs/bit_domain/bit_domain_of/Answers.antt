@@ -3,7 +3,7 @@ use Rattle.std.proofs.Common.{arith, ◌∙◌, ap}
 use Rattle.std.proofs.Math.Nat.{mul-le-mul_left}
 use Rattle.std.proofs.lemmas.List.{length-map}
 use Rattle.std.proofs.lemmas.Option.{IfSome_then}
-use Rattle.bitvec_elements.specs.base.WriteLaws.{length-slice_range}
+use Rattle.bitvec_base.specs.WriteLaws.{length-slice_range}
 use Rattle.bitvec_slice.specs.Domains.{views_in}
 use Rattle.bitvec_slice.specs.Domains.Views.{region}
 use Rattle.bitvec_slice.specs.Seen.{shown}

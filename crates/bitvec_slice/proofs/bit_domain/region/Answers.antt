@@ -1,6 +1,6 @@
 use Rattle.std.specs.Prelude.{◌≡◌, ℕ, ◌-◌, ◌*◌, drop, length, take}
 use Rattle.std.proofs.Common.{arith, ◌∙◌, ap, length-drop, length-take}
-use Rattle.bitvec_elements.specs.base.SliceLaws.{range-rest}
+use Rattle.bitvec_base.specs.SliceLaws.{range-rest}
 use Rattle.bitvec_slice.proofs.DomainBits.{head_view, tail_view}
 use Rattle.bitvec_slice.proofs.bit_domain.region.Goals as goal
 

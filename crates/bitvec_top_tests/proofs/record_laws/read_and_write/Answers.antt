@@ -2,7 +2,8 @@ use Rattle.std.proofs.Common.{◌≡◌, List, ℕ, ◌∙◌}
 use Rattle.bitrecord.specs.Records.{record_in}
 use Rattle.bitrecord.specs.RecordLaws.{encodable-accepted, encodable-back, encoded-back, is-layout, seen-record}
 use Rattle.bitrecord.specs.Views.{fields_of}
-use Rattle.bitrecord.specs.bits.{seen, seen_mut, width_some}
+use Rattle.bitvec.specs.Views.{seen, seen_mut}
+use Rattle.bitvec.specs.WidthLaws.{width_some}
 use Rattle.bitvec_top_tests.proofs.record_laws.read_and_write.Goals as goal
 
 pub returns-clause-accepted : goal.returns-clause-accepted

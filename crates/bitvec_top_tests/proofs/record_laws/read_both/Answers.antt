@@ -2,7 +2,10 @@ use Rattle.std.proofs.Common.{ap, sym, ◌∙◌}
 use Rattle.bitrecord.specs.Records.{record_in}
 use Rattle.bitrecord.specs.RecordLaws.{is-layout, record-determines}
 use Rattle.bitrecord.specs.Views.{fields_of}
-use Rattle.bitrecord.specs.bits.{Window, length-seen, seen, width_some}
+use Rattle.bitvec.specs.Types.{Window}
+use Rattle.bitvec.specs.ShowingLaws.{length-seen}
+use Rattle.bitvec.specs.Views.{seen}
+use Rattle.bitvec.specs.WidthLaws.{width_some}
 use Rattle.bitvec_top_tests.proofs.record_laws.read_both.Goals as goal
 
 pub returns : goal.returns

@@ -1,7 +1,7 @@
 use Rattle.std.proofs.lemmas.List.Sorted.{IsPermutation-sym}
 use Rattle.bitrecord.specs.RecordLaws.{is-layout, on-ok-both, order-free, writes-determine}
 use Rattle.bitrecord.specs.Views.{fields_of}
-use Rattle.bitrecord.specs.bits.{width_some}
+use Rattle.bitvec.specs.WidthLaws.{width_some}
 use Rattle.bitvec_top_tests.proofs.record_laws.write_in_orders.Goals as goal
 
 pub returns : goal.returns

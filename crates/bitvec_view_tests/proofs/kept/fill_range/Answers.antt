@@ -1,6 +1,6 @@
 use Rattle.std.proofs.Common.{arith, sym}
-use Rattle.bitvec_edit.specs.store.WidthLaws.{width_some}
-use Rattle.bitvec_edit.specs.slice.KeptLaws.{lent_bits-keep}
+use Rattle.bitvec_store.specs.WidthLaws.{width_some}
+use Rattle.bitvec_slice.specs.KeptLaws.{lent_bits-keep}
 use Rattle.bitvec_view_tests.proofs.kept.fill_range.Goals as goal
 
 pub returns : goal.returns

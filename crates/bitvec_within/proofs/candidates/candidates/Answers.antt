@@ -1,7 +1,7 @@
 use Rattle.std.proofs.Common.{◌≡◌, ℕ, arith, ap, rules, ◌∙◌, ◌+◌, ◌++◌, false, slice_index_or}
 use Rattle.std.proofs.lemmas.List.{length-append}
-use Rattle.bitvec_elements.specs.base.Memory.{element_bits}
-use Rattle.bitvec_elements.specs.base.MemoryLaws.{length-element_bits}
+use Rattle.bitvec_base.specs.Memory.{element_bits}
+use Rattle.bitvec_base.specs.MemoryLaws.{length-element_bits}
 use Rattle.bitvec_within.proofs.CandidateLemmas.{bits-first, bits-moved, bits-own, bits-passed, bits-second, starts-all, starts-enough, starts-next}
 use Rattle.bitvec_within.proofs.candidates.candidates.Goals as goal
 

@@ -1,5 +1,5 @@
 use Rattle.std.proofs.Common.{◌+◌, ◌++◌}
-use Rattle.bitvec_elements.specs.base.Memory.{element_bits}
+use Rattle.bitvec_base.specs.Memory.{element_bits}
 use Rattle.bitvec_elements.specs.BitsFrom.{HasBitsFrom}
 use Rattle.bitvec_within.specs.Candidates.{HasStarts}
 use Rattle.bitvec_within.proofs.candidates.candidates.Given as goal

@@ -1,7 +1,7 @@
 use Rattle.std.proofs.Common.{◌*◌, ◌<◌, arith, refl}
 use Rattle.std.proofs.lemmas.Grind.{div_ceil_times}
-use Rattle.bitvec_elements.specs.base.WritesLaws.{HasWindow-kept}
-use Rattle.bitvec_elements.specs.store.WidthLaws.{width_some}
+use Rattle.bitvec_base.specs.WritesLaws.{HasWindow-kept}
+use Rattle.bitvec_store.specs.WidthLaws.{width_some}
 use Rattle.bitvec_within.proofs.Turns.{block-begins, block-some, done-all, done-next, done-none}
 use Rattle.bitvec_within.proofs.combining_within.combine_blocks.Goals as goal
 

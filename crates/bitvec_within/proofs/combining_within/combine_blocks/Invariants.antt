@@ -1,5 +1,5 @@
 use Rattle.std.proofs.Common.{◌-◌, ◌*◌, map, min}
-use Rattle.bitvec_elements.specs.words.Operator.{operator}
+use Rattle.bitvec_words.specs.Operator.{operator}
 use Rattle.bitvec_within.proofs.Turns.{Done}
 use Rattle.bitvec_within.proofs.combining_within.combine_blocks.Given as goal
 

@@ -1,5 +1,5 @@
 use Rattle.std.proofs.Common.{◌+◌, arith}
-use Rattle.bitvec_elements.specs.base.WritesLaws.{Writes-start, length-list}
+use Rattle.bitvec_base.specs.WritesLaws.{Writes-start, length-list}
 use Rattle.bitvec_within.specs.CombinedLaws.{combined_within-none}
 use Rattle.bitvec_within.proofs.combining_within.combine_few.Goals as goal
 

@@ -1,9 +1,9 @@
 use Rattle.std.proofs.Common.{◌≡◌, ℕ, ◌+◌, ◌≤◌, List, ◌++◌, map, arith, ap, refl, subst, sym, ◌∙◌}
 use Rattle.std.proofs.lemmas.List.{map-append}
-use Rattle.bitvec_elements.specs.base.Memory.{HasWindow, Writes, list_in}
-use Rattle.bitvec_elements.specs.base.declared.window.Window.{Window}
-use Rattle.bitvec_elements.specs.store.WidthLaws.{width_some}
-use Rattle.bitvec_elements.specs.words.Operator.{operator}
+use Rattle.bitvec_base.specs.Memory.{HasWindow, Writes, list_in}
+use Rattle.bitvec_base.specs.declared.window.Window.{Window}
+use Rattle.bitvec_store.specs.WidthLaws.{width_some}
+use Rattle.bitvec_words.specs.Operator.{operator}
 use Rattle.bitvec_within.specs.Combined.{combined_within}
 use Rattle.bitvec_within.proofs.Edges.{edge-inside, edge-place, front-combined}
 use Rattle.bitvec_within.proofs.combining_within.combine_front.Goals as goal

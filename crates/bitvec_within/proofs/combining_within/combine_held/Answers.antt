@@ -1,7 +1,7 @@
 use Rattle.std.proofs.Common.{ℕ, ◌≡◌, ◌+◌, ◌-◌, ◌*◌, ◌≤◌, ap, arith, length, map}
 use Rattle.std.proofs.lemmas.List.{length-map}
-use Rattle.bitvec_elements.specs.base.declared.window.Window.{Window}
-use Rattle.bitvec_elements.specs.store.WidthLaws.{width_some}
+use Rattle.bitvec_base.specs.declared.window.Window.{Window}
+use Rattle.bitvec_store.specs.WidthLaws.{width_some}
 use Rattle.bitvec_within.proofs.Aside.{aside-combined, first-before, held-list, held-room}
 use Rattle.bitvec_within.proofs.combining_within.combine_held.Goals as goal
 

@@ -1,5 +1,5 @@
 use Rattle.std.proofs.lemmas.Nat.{mod_below}
-use Rattle.bitvec_elements.specs.store.WidthLaws.{width_some}
+use Rattle.bitvec_store.specs.WidthLaws.{width_some}
 use Rattle.bitvec_within.proofs.Edges.{edge-next}
 use Rattle.bitvec_within.proofs.combining_within.until_edge.Goals as goal
 

@@ -1,8 +1,8 @@
 use Rattle.std.proofs.Common.{◌+◌, ◌-◌, ◌∙◌, arith, map, rules}
-use Rattle.bitvec_elements.specs.base.Lists.{copied_within}
-use Rattle.bitvec_elements.specs.base.Memory.{list_in}
-use Rattle.bitvec_elements.specs.base.WritesLaws.{HasWindow-range, Writes-is, Writes-range, length-list, list-range}
-use Rattle.bitvec_elements.specs.words.MovedLaws.{take-word}
+use Rattle.bitvec_base.specs.Lists.{copied_within}
+use Rattle.bitvec_base.specs.Memory.{list_in}
+use Rattle.bitvec_base.specs.WritesLaws.{HasWindow-range, Writes-is, Writes-range, length-list, list-range}
+use Rattle.bitvec_words.specs.MovedLaws.{take-word}
 use Rattle.bitvec_within.proofs.copying_within.copy_within_few.Goals as goal
 
 pub few_word-word-requires-clause-window : goal.few_word-word-requires-clause-window

@@ -1,8 +1,8 @@
 use Rattle.std.proofs.Common.{◌≡◌, ℕ, ◌+◌, ◌<◌, arith, false, slice_index_or, true}
-use Rattle.bitvec_elements.specs.base.Lists.{stands_at}
-use Rattle.bitvec_elements.specs.base.Memory.{element_bits}
-use Rattle.bitvec_elements.specs.base.NeedleLaws.{stands-nowhere}
-use Rattle.bitvec_elements.specs.base.WritesLaws.{length-list}
+use Rattle.bitvec_base.specs.Lists.{stands_at}
+use Rattle.bitvec_base.specs.Memory.{element_bits}
+use Rattle.bitvec_base.specs.NeedleLaws.{stands-nowhere}
+use Rattle.bitvec_base.specs.WritesLaws.{length-list}
 use Rattle.bitvec_within.proofs.CandidateLemmas.{no-bit}
 use Rattle.bitvec_within.proofs.StandingLemmas.{absent-next}
 use Rattle.bitvec_within.proofs.needles.contains_by.Goals as goal

@@ -1,6 +1,6 @@
 use Rattle.std.proofs.Common.{◌≡◌, ℕ, ◌+◌, ◌-◌, ◌<◌, ◌≤◌, false, map}
-use Rattle.bitvec_elements.specs.base.Lists.{stands_at}
-use Rattle.bitvec_elements.specs.base.Memory.{list_in}
+use Rattle.bitvec_base.specs.Lists.{stands_at}
+use Rattle.bitvec_base.specs.Memory.{list_in}
 use Rattle.bitvec_elements.specs.BitsFrom.{HasBitsFrom}
 use Rattle.bitvec_within.proofs.needles.contains_by.Given as goal
 

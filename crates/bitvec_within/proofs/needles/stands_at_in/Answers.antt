@@ -1,8 +1,8 @@
 use Rattle.std.proofs.Common.{arith, sym, ◌+◌}
-use Rattle.bitvec_elements.specs.base.ListsLaws.{stands_at-long}
-use Rattle.bitvec_elements.specs.base.NeedleLaws.{stands-part}
-use Rattle.bitvec_elements.specs.base.Window.{window_range}
-use Rattle.bitvec_elements.specs.base.WritesLaws.{length-list, within-list}
+use Rattle.bitvec_base.specs.ListsLaws.{stands_at-long}
+use Rattle.bitvec_base.specs.NeedleLaws.{stands-part}
+use Rattle.bitvec_base.specs.Window.{window_range}
+use Rattle.bitvec_base.specs.WritesLaws.{length-list, within-list}
 use Rattle.bitvec_within.proofs.needles.stands_at_in.Goals as goal
 
 pub returns-then-end-left_window : goal.returns-then-end-left_window

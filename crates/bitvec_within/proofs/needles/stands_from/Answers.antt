@@ -1,8 +1,8 @@
 use Rattle.std.proofs.Common.{◌≡◌, ◌+◌, arith, false, slice_index_or, sym, true, ◌∙◌}
 use borrow.Author.Count.{below_more}
-use Rattle.bitvec_elements.specs.base.Lists.{stands_at}
-use Rattle.bitvec_elements.specs.base.ListsLaws.{stands_in-found}
-use Rattle.bitvec_elements.specs.base.Memory.{element_bits}
+use Rattle.bitvec_base.specs.Lists.{stands_at}
+use Rattle.bitvec_base.specs.ListsLaws.{stands_in-found}
+use Rattle.bitvec_base.specs.Memory.{element_bits}
 use Rattle.bitvec_within.proofs.CandidateLemmas.{bit-not_tested}
 use Rattle.bitvec_within.proofs.StandingLemmas.{begins_inside}
 use Rattle.bitvec_within.proofs.needles.stands_from.Goals as goal

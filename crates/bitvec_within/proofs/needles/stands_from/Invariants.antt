@@ -1,6 +1,6 @@
 use Rattle.std.proofs.Common.{◌≡◌, ℕ, ◌+◌, ◌<◌, false, map, slice_index_or, true}
-use Rattle.bitvec_elements.specs.base.Lists.{stands_at}
-use Rattle.bitvec_elements.specs.base.Memory.{element_bits, list_in}
+use Rattle.bitvec_base.specs.Lists.{stands_at}
+use Rattle.bitvec_base.specs.Memory.{element_bits, list_in}
 use Rattle.bitvec_within.proofs.needles.stands_from.Given as goal
 
 abbrev pub invariant-loop-index : goal.invariant-loop-index

@@ -1,9 +1,9 @@
 use Rattle.std.proofs.Common.{◌∙◌, map, refl, rules}
 use Rattle.std.specs.Prelude.{reverse}
 use Rattle.std.proofs.lemmas.List.{length-reverse}
-use Rattle.bitvec_elements.specs.base.Memory.{list_in}
-use Rattle.bitvec_elements.specs.base.MemoryLaws.{length-element_bits}
-use Rattle.bitvec_elements.specs.base.WritesLaws.{length-list}
+use Rattle.bitvec_base.specs.Memory.{list_in}
+use Rattle.bitvec_base.specs.MemoryLaws.{length-element_bits}
+use Rattle.bitvec_base.specs.WritesLaws.{length-list}
 use Rattle.bitvec_within.proofs.FewLemmas.{few-edited, reversed-word}
 use Rattle.bitvec_within.proofs.reversing.reverse_few.Goals as goal
 

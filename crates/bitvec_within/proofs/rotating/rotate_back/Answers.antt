@@ -1,7 +1,7 @@
 use Rattle.std.proofs.Common.{◌-◌, ◌∙◌, arith, sym, map}
 use Rattle.std.proofs.lemmas.List.{length-map}
-use Rattle.bitvec_elements.specs.base.Memory.{list_in}
-use Rattle.bitvec_elements.specs.base.WritesLaws.{Writes-start, length-list}
+use Rattle.bitvec_base.specs.Memory.{list_in}
+use Rattle.bitvec_base.specs.WritesLaws.{Writes-start, length-list}
 use Rattle.bitvec_within.proofs.Rotated.{Writes-aside, back-held, rotated-all}
 use Rattle.bitvec_elements.proofs.StoreLemmas.{range-inside, range-kept}
 use Rattle.bitvec_within.proofs.Aside.{held-inside}

@@ -1,6 +1,6 @@
 use Rattle.std.proofs.Common.{◌≡◌, ◌+◌, ◌-◌, ◌≤◌, map, min}
-use Rattle.bitvec_elements.specs.base.Lists.{rotated_left}
-use Rattle.bitvec_elements.specs.base.Memory.{Writes, list_in}
+use Rattle.bitvec_base.specs.Lists.{rotated_left}
+use Rattle.bitvec_base.specs.Memory.{Writes, list_in}
 use Rattle.bitvec_within.proofs.Rotated.{rotated_behind}
 use Rattle.bitvec_within.proofs.rotating.rotate_blocks.Given as goal
 

@@ -1,8 +1,8 @@
 use Rattle.std.proofs.Common.{◌∙◌, map, rules}
-use Rattle.bitvec_elements.specs.base.LengthLaws.{length-rotated_left}
-use Rattle.bitvec_elements.specs.base.Lists.{rotated_left}
-use Rattle.bitvec_elements.specs.base.Memory.{list_in}
-use Rattle.bitvec_elements.specs.base.WritesLaws.{length-list}
+use Rattle.bitvec_base.specs.LengthLaws.{length-rotated_left}
+use Rattle.bitvec_base.specs.Lists.{rotated_left}
+use Rattle.bitvec_base.specs.Memory.{list_in}
+use Rattle.bitvec_base.specs.WritesLaws.{length-list}
 use Rattle.bitvec_within.proofs.FewLemmas.{few-edited}
 use Rattle.bitvec_within.proofs.rotating.rotate_few.Goals as goal
 

@@ -1,8 +1,8 @@
 use Rattle.std.proofs.Common.{ℕ, ◌-◌, ap, sym, ◌∙◌, map}
-use Rattle.bitvec_elements.specs.base.Lists.{rotated_left}
-use Rattle.bitvec_elements.specs.base.Memory.{list_in}
-use Rattle.bitvec_elements.specs.base.RotationLaws.{rotated_right-left}
-use Rattle.bitvec_elements.specs.base.WritesLaws.{Writes-is, length-list}
+use Rattle.bitvec_base.specs.Lists.{rotated_left}
+use Rattle.bitvec_base.specs.Memory.{list_in}
+use Rattle.bitvec_base.specs.RotationLaws.{rotated_right-left}
+use Rattle.bitvec_base.specs.WritesLaws.{Writes-is, length-list}
 use Rattle.bitvec_within.proofs.rotating.rotate_right_in.Goals as goal
 
 pub returns : goal.returns

@@ -1,9 +1,9 @@
 use Rattle.std.proofs.Common.{◌∙◌, arith, map, rules}
-use Rattle.bitvec_elements.specs.base.LengthLaws.{length-shifted_end}
-use Rattle.bitvec_elements.specs.base.Lists.{shifted_end}
-use Rattle.bitvec_elements.specs.base.Memory.{list_in}
-use Rattle.bitvec_elements.specs.base.MemoryLaws.{length-element_bits}
-use Rattle.bitvec_elements.specs.base.WritesLaws.{length-list}
+use Rattle.bitvec_base.specs.LengthLaws.{length-shifted_end}
+use Rattle.bitvec_base.specs.Lists.{shifted_end}
+use Rattle.bitvec_base.specs.Memory.{list_in}
+use Rattle.bitvec_base.specs.MemoryLaws.{length-element_bits}
+use Rattle.bitvec_base.specs.WritesLaws.{length-list}
 use Rattle.bitvec_within.proofs.FewLemmas.{few-edited, shifted-end_word}
 use Rattle.bitvec_within.proofs.shifting.shift_end_few.Goals as goal
 

@@ -1,5 +1,5 @@
 use Rattle.std.proofs.Common.{◌≡◌, arith, rules}
-use Rattle.bitvec_elements.specs.base.Lists.{shifted_end}
+use Rattle.bitvec_base.specs.Lists.{shifted_end}
 use Rattle.bitvec_within.proofs.FewLemmas.{Edits-range, copied-shifts_end}
 use Rattle.bitvec_within.proofs.shifting.shift_end_in.Goals as goal
 

@@ -1,7 +1,7 @@
 use Rattle.std.proofs.Common.{◌-◌}
-use Rattle.bitvec_elements.specs.base.Lists.{shifted_end}
-use Rattle.bitvec_elements.specs.engine.Direction.{Runs}
-use Rattle.bitvec_elements.specs.store.WidthLaws.{width_some}
+use Rattle.bitvec_base.specs.Lists.{shifted_end}
+use Rattle.bitvec_engine.specs.Direction.{Runs}
+use Rattle.bitvec_store.specs.WidthLaws.{width_some}
 use Rattle.bitvec_elements.proofs.StoreLemmas.{Edits-agrees}
 use Rattle.bitvec_within.proofs.shifting.shift_end_word.Goals as goal
 

@@ -1,5 +1,5 @@
 use Rattle.std.proofs.Common.{◌≡◌, ◌-◌, arith, rules}
-use Rattle.bitvec_elements.specs.base.Lists.{shifted_start}
+use Rattle.bitvec_base.specs.Lists.{shifted_start}
 use Rattle.bitvec_within.proofs.FewLemmas.{Edits-range, copied-shifts_start}
 use Rattle.bitvec_within.proofs.shifting.shift_start_in.Goals as goal
 

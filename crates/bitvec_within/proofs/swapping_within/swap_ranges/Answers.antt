@@ -1,8 +1,8 @@
 use Rattle.std.proofs.Common.{◌≡◌, ◌+◌, ◌-◌, ◌<◌, ◌∙◌, ap, arith, map, inl}
 use Rattle.std.proofs.lemmas.Nat.{mod_below}
-use Rattle.bitvec_elements.specs.base.Memory.{list_in}
-use Rattle.bitvec_elements.specs.base.WritesLaws.{Writes-next, length-list}
-use Rattle.bitvec_elements.specs.store.WidthLaws.{width_some}
+use Rattle.bitvec_base.specs.Memory.{list_in}
+use Rattle.bitvec_base.specs.WritesLaws.{Writes-next, length-list}
+use Rattle.bitvec_store.specs.WidthLaws.{width_some}
 use Rattle.bitvec_within.specs.Swaps.{swapped_within}
 use Rattle.bitvec_within.proofs.Swapped.{swapped-next}
 use Rattle.bitvec_within.proofs.swapping_within.swap_ranges.Goals as goal

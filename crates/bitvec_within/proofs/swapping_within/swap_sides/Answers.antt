@@ -1,9 +1,9 @@
 use Rattle.std.specs.Prelude.{◌≡◌, ℕ, ◌+◌, ◌*◌, ◌%◌, ◌≤◌, List, ◌++◌, length, map, refl}
 use Rattle.std.proofs.Common.{arith, ap, subst, sym, ◌∙◌}
 use Rattle.std.proofs.lemmas.List.{map-append}
-use Rattle.bitvec_elements.specs.base.Memory.{HasWindow, Writes, list_in}
-use Rattle.bitvec_elements.specs.base.declared.window.Window.{Window}
-use Rattle.bitvec_elements.specs.store.WidthLaws.{width_some}
+use Rattle.bitvec_base.specs.Memory.{HasWindow, Writes, list_in}
+use Rattle.bitvec_base.specs.declared.window.Window.{Window}
+use Rattle.bitvec_store.specs.WidthLaws.{width_some}
 use Rattle.bitvec_within.specs.Swaps.{swapped_within}
 use Rattle.bitvec_within.proofs.Edges.{cut-inside, cut-place, sides-swapped}
 use Rattle.bitvec_within.proofs.swapping_within.swap_sides.Goals as goal

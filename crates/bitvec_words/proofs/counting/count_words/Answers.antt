@@ -1,5 +1,5 @@
 use Rattle.std.proofs.Common.{arith, rules, sym, ap, Bool, List, count_by}
-use Rattle.bitvec_cells.specs.store.WidthLaws.{width_some}
+use Rattle.bitvec_store.specs.WidthLaws.{width_some}
 use Rattle.bitvec_words.specs.WholeLaws.{elements-inside, list-empty}
 use Rattle.bitvec_words.proofs.CountLemmas.{count-block, count-block_few, word-block, word-ones}
 use Rattle.bitvec_words.proofs.SliceWordLemmas.{word-listed}

@@ -1,6 +1,6 @@
 use Rattle.std.proofs.Common.{sym}
-use Rattle.bitvec_cells.specs.base.CountLaws.{ones_within, zeros_left}
-use Rattle.bitvec_cells.specs.base.WritesLaws.{length-list}
+use Rattle.bitvec_base.specs.CountLaws.{ones_within, zeros_left}
+use Rattle.bitvec_base.specs.WritesLaws.{length-list}
 use Rattle.bitvec_words.proofs.counting.count_zeros.Goals as goal
 
 pub overflow_sub-result : goal.overflow_sub-result

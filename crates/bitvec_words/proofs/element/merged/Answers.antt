@@ -1,4 +1,4 @@
-use Rattle.bitvec_cells.specs.base.PartLaws.{element-combine}
+use Rattle.bitvec_base.specs.PartLaws.{element-combine}
 use Rattle.bitvec_words.proofs.element.merged.Goals as goal
 
 pub returns : goal.returns

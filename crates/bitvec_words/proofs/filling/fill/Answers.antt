@@ -1,6 +1,6 @@
 use Rattle.std.proofs.Common.{arith, refl, sym, ◌∙◌}
-use Rattle.bitvec_cells.specs.base.WritesLaws.{HasWindow-kept, Writes-empty, Writes-is}
-use Rattle.bitvec_cells.specs.store.WidthLaws.{width_some}
+use Rattle.bitvec_base.specs.WritesLaws.{HasWindow-kept, Writes-empty, Writes-is}
+use Rattle.bitvec_store.specs.WidthLaws.{width_some}
 use Rattle.bitvec_cells.specs.WalkLaws.{touched-none}
 use Rattle.bitvec_words.specs.FillingLaws.{fill_loads-some, replicate-is}
 use Rattle.bitvec_words.specs.TouchedLaws.{part_loads-most}

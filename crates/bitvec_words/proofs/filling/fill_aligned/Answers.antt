@@ -1,6 +1,6 @@
 use Rattle.std.proofs.Common.{arith, refl}
-use Rattle.bitvec_cells.specs.base.WritesLaws.{HasWindow-kept, Writes-is}
-use Rattle.bitvec_cells.specs.store.WidthLaws.{width_some}
+use Rattle.bitvec_base.specs.WritesLaws.{HasWindow-kept, Writes-is}
+use Rattle.bitvec_store.specs.WidthLaws.{width_some}
 use Rattle.bitvec_words.specs.FillingLaws.{replicate-is}
 use Rattle.bitvec_words.specs.TouchedLaws.{part_loads-most, touched-whole}
 use Rattle.bitvec_words.specs.WholeLaws.{window-end}

@@ -1,5 +1,5 @@
 use Rattle.std.proofs.Common.{rules, ◌≡◌, arith}
-use Rattle.bitvec_cells.specs.store.WidthLaws.{width_some}
+use Rattle.bitvec_store.specs.WidthLaws.{width_some}
 use Rattle.bitvec_words.specs.FillingLaws.{Writes-flipped, Writes-none_flipped}
 use Rattle.bitvec_words.proofs.PlaceLemmas.{element-few, element-inside}
 use Rattle.bitvec_words.proofs.filling.invert_whole.Goals as goal

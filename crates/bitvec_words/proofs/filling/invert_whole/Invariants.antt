@@ -1,5 +1,5 @@
 use Rattle.std.proofs.Common.{map, not}
-use Rattle.bitvec_cells.specs.base.Memory.{Writes, list_in}
+use Rattle.bitvec_base.specs.Memory.{Writes, list_in}
 use Rattle.bitvec_cells.specs.Access.{Costs}
 use Rattle.bitvec_words.specs.Elements.{elements_window}
 use Rattle.bitvec_words.proofs.filling.invert_whole.Given as goal

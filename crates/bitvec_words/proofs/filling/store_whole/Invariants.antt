@@ -1,5 +1,5 @@
 use Rattle.std.proofs.Common.{◌≡◌, ◌-◌, ◌*◌, ◌^◌, if◌then◌else◌, Bool, length, replicate}
-use Rattle.bitvec_cells.specs.base.Memory.{Writes}
+use Rattle.bitvec_base.specs.Memory.{Writes}
 use Rattle.bitvec_cells.specs.Access.{Costs}
 use Rattle.bitvec_words.specs.Elements.{elements_window}
 use Rattle.bitvec_words.proofs.filling.store_whole.Given as goal

@@ -1,5 +1,5 @@
 use Rattle.std.proofs.Common.{◌≡◌, arith, rules, refl}
-use Rattle.bitvec_cells.specs.base.Parts.{first_part_of}
+use Rattle.bitvec_base.specs.Parts.{first_part_of}
 use Rattle.bitvec_words.specs.Front.{front_window}
 use Rattle.bitvec_words.specs.WholeLaws.{window-end}
 use Rattle.bitvec_words.proofs.FrontLemmas.{part-front}

@@ -1,5 +1,5 @@
 use Rattle.std.proofs.Common.{◌∙◌, ap, refl}
-use Rattle.bitvec_cells.specs.base.MemoryLaws.{length-element_bits}
+use Rattle.bitvec_base.specs.MemoryLaws.{length-element_bits}
 use Rattle.bitvec_words.specs.WordLaws.{padded-all}
 use Rattle.bitvec_words.specs.ShortWindow.{padded}
 use Rattle.bitvec_words.proofs.ScanLemmas.{range-element}

@@ -1,7 +1,7 @@
 use Rattle.std.proofs.Common.{◌≡◌, ℕ, arith, rules, ap, sym, ◌∙◌, slice_range}
-use Rattle.bitvec_cells.specs.base.Memory.{element_bits}
-use Rattle.bitvec_cells.specs.base.PartLaws.{element-none}
-use Rattle.bitvec_cells.specs.base.SliceLaws.{range-none}
+use Rattle.bitvec_base.specs.Memory.{element_bits}
+use Rattle.bitvec_base.specs.PartLaws.{element-none}
+use Rattle.bitvec_base.specs.SliceLaws.{range-none}
 use Rattle.bitvec_words.specs.ShortWindow.{padded}
 use Rattle.bitvec_words.specs.MovedLaws.{padded-none}
 use Rattle.bitvec_words.proofs.FrontLemmas.{gathered-none, gathered-one}

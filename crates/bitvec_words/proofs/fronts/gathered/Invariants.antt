@@ -1,5 +1,5 @@
 use Rattle.std.proofs.Common.{◌≡◌, slice_range}
-use Rattle.bitvec_cells.specs.base.Memory.{element_bits}
+use Rattle.bitvec_base.specs.Memory.{element_bits}
 use Rattle.bitvec_words.specs.ShortWindow.{padded}
 use Rattle.bitvec_words.proofs.fronts.gathered.Given as goal
 

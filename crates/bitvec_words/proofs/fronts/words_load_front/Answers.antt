@@ -1,7 +1,7 @@
 use Rattle.std.proofs.Common.{◌≡◌, ◌+◌, ◌-◌, ◌≤◌, arith, rules, refl, ◌∙◌, slice_range}
-use Rattle.bitvec_cells.specs.base.Memory.{element_bits}
-use Rattle.bitvec_cells.specs.base.PartLaws.{length-part}
-use Rattle.bitvec_cells.specs.base.Parts.{first_part_of}
+use Rattle.bitvec_base.specs.Memory.{element_bits}
+use Rattle.bitvec_base.specs.PartLaws.{length-part}
+use Rattle.bitvec_base.specs.Parts.{first_part_of}
 use Rattle.bitvec_words.specs.Front.{front_window}
 use Rattle.bitvec_words.specs.MovedLaws.{written-padded}
 use Rattle.bitvec_words.specs.TouchedLaws.{touched-word}

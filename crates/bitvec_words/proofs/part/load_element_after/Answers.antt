@@ -1,6 +1,6 @@
 use Rattle.std.proofs.Common.{arith, rules, refl}
 use Rattle.std.proofs.lemmas.Nat.{mod_below}
-use Rattle.bitvec_cells.specs.store.WidthLaws.{width_some}
+use Rattle.bitvec_store.specs.WidthLaws.{width_some}
 use Rattle.bitvec_words.specs.FieldLaws.{list-across, list-front}
 use Rattle.bitvec_words.specs.TouchedLaws.{last-first, last-next, next-inside, touched-one, touched-two}
 use Rattle.bitvec_words.specs.WordLaws.{width-some}

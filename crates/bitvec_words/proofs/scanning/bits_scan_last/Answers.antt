@@ -1,8 +1,8 @@
 use Rattle.std.proofs.Common.{arith, sym, ◌∙◌, ap, Bool, List}
-use Rattle.bitvec_cells.specs.base.Lists.{last_place}
-use Rattle.bitvec_cells.specs.base.Parts.{part_window}
-use Rattle.bitvec_cells.specs.base.PlacesLaws.{last_place-nil}
-use Rattle.bitvec_cells.specs.store.WidthLaws.{width_some}
+use Rattle.bitvec_base.specs.Lists.{last_place}
+use Rattle.bitvec_base.specs.Parts.{part_window}
+use Rattle.bitvec_base.specs.PlacesLaws.{last_place-nil}
+use Rattle.bitvec_store.specs.WidthLaws.{width_some}
 use Rattle.bitvec_words.specs.WholeLaws.{list-empty, window-end}
 use Rattle.bitvec_words.proofs.CostLemmas.{reads-both, reads-exact, reads-most}
 use Rattle.bitvec_words.proofs.ScanLemmas.{last-inside, last_loads-some}

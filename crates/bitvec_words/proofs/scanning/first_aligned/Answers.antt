@@ -1,4 +1,4 @@
-use Rattle.bitvec_cells.specs.store.WidthLaws.{width_some}
+use Rattle.bitvec_store.specs.WidthLaws.{width_some}
 use Rattle.bitvec_words.specs.WordLaws.{width-some}
 use Rattle.bitvec_words.proofs.CostLemmas.{reads-most}
 use Rattle.bitvec_words.proofs.WordScanLemmas.{HasWindow-touched, first-touched, first-touched_all, first-touched_lacks, first-touched_loads}

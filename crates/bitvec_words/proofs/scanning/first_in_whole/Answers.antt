@@ -1,5 +1,5 @@
 use Rattle.std.proofs.Common.{arith, ◌∙◌, ap}
-use Rattle.bitvec_cells.specs.base.Lists.{first_place}
+use Rattle.bitvec_base.specs.Lists.{first_place}
 use Rattle.bitvec_words.proofs.ScanLemmas.{range-element}
 use Rattle.bitvec_words.proofs.scanning.first_in_whole.Goals as goal
 

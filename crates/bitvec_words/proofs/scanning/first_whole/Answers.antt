@@ -1,8 +1,8 @@
 use Rattle.std.proofs.Common.{◌+◌, ◌-◌, ◌*◌, arith, rules, sym, ◌∙◌, ap, Bool, List, ◌≡◌}
 use Rattle.std.proofs.Math.Nat.{mul-le-mul_left}
-use Rattle.bitvec_cells.specs.store.WidthLaws.{width_some}
-use Rattle.bitvec_cells.specs.base.Lists.{first_place}
-use Rattle.bitvec_cells.specs.base.PlacesLaws.{first_place-nil}
+use Rattle.bitvec_store.specs.WidthLaws.{width_some}
+use Rattle.bitvec_base.specs.Lists.{first_place}
+use Rattle.bitvec_base.specs.PlacesLaws.{first_place-nil}
 use Rattle.bitvec_words.specs.TouchedLaws.{touched-first, touched-whole}
 use Rattle.bitvec_words.specs.WholeLaws.{list-empty, window-end}
 use Rattle.bitvec_words.proofs.CostLemmas.{reads-exact, reads-most}

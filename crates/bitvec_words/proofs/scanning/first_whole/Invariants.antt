@@ -1,6 +1,6 @@
 use Rattle.std.proofs.Common.{◌≡◌, None}
-use Rattle.bitvec_cells.specs.base.Lists.{first_place}
-use Rattle.bitvec_cells.specs.base.Memory.{list_in}
+use Rattle.bitvec_base.specs.Lists.{first_place}
+use Rattle.bitvec_base.specs.Memory.{list_in}
 use Rattle.bitvec_cells.specs.Access.{OnlyReads}
 use Rattle.bitvec_words.specs.Elements.{elements_window}
 use Rattle.bitvec_words.proofs.scanning.first_whole.Given as goal

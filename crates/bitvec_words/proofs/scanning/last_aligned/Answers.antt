@@ -1,6 +1,6 @@
 use Rattle.std.proofs.Common.{arith, refl, ◌∙◌, ap}
-use Rattle.bitvec_cells.specs.base.Lists.{last_place}
-use Rattle.bitvec_cells.specs.store.WidthLaws.{width_some}
+use Rattle.bitvec_base.specs.Lists.{last_place}
+use Rattle.bitvec_store.specs.WidthLaws.{width_some}
 use Rattle.bitvec_words.specs.WholeLaws.{window-end}
 use Rattle.bitvec_words.proofs.CostLemmas.{reads-both, reads-exact, reads-most}
 use Rattle.bitvec_words.proofs.ScanLemmas.{last-inside, last_loads-some}

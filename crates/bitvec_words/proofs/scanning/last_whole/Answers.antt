@@ -1,7 +1,7 @@
 use Rattle.std.proofs.Common.{◌≡◌, ◌<◌, ℕ, ◌+◌, ◌-◌, ◌*◌, arith, rules, refl, sym, ◌∙◌, ap, Bool, List, Some}
-use Rattle.bitvec_cells.specs.store.WidthLaws.{width_some}
-use Rattle.bitvec_cells.specs.base.Lists.{last_place}
-use Rattle.bitvec_cells.specs.base.PlacesLaws.{last_place-nil}
+use Rattle.bitvec_store.specs.WidthLaws.{width_some}
+use Rattle.bitvec_base.specs.Lists.{last_place}
+use Rattle.bitvec_base.specs.PlacesLaws.{last_place-nil}
 use Rattle.bitvec_words.specs.Elements.{elements_window}
 use Rattle.bitvec_words.specs.TouchedLaws.{touched-whole}
 use Rattle.bitvec_words.specs.WholeLaws.{list-empty, window-end}

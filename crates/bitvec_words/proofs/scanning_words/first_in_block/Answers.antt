@@ -1,8 +1,8 @@
 use Rattle.std.proofs.Common.{◌/◌, arith, sym, ◌∙◌, ap}
 use Rattle.std.proofs.Math.Nat.{div-le_self}
-use Rattle.bitvec_cells.specs.base.Lists.{first_place}
-use Rattle.bitvec_cells.specs.base.PlacesLaws.{first_place-below}
-use Rattle.bitvec_cells.specs.store.WidthLaws.{width_some}
+use Rattle.bitvec_base.specs.Lists.{first_place}
+use Rattle.bitvec_base.specs.PlacesLaws.{first_place-below}
+use Rattle.bitvec_store.specs.WidthLaws.{width_some}
 use Rattle.bitvec_words.specs.WordLaws.{width-some}
 use Rattle.bitvec_words.proofs.CostLemmas.{reads-four}
 use Rattle.bitvec_words.proofs.OrderedLemmas.{block-lacks, block-ordered}

@@ -1,6 +1,6 @@
 use Rattle.std.proofs.Common.{◌/◌, arith, rules, sym, ◌∙◌, ap, Bool, List, ◌≡◌}
-use Rattle.bitvec_cells.specs.base.Lists.{first_place}
-use Rattle.bitvec_cells.specs.base.PlacesLaws.{first_place-nil}
+use Rattle.bitvec_base.specs.Lists.{first_place}
+use Rattle.bitvec_base.specs.PlacesLaws.{first_place-nil}
 use Rattle.bitvec_words.specs.WholeLaws.{list-empty}
 use Rattle.bitvec_words.specs.WordLaws.{width-some}
 use Rattle.bitvec_words.proofs.CostLemmas.{reads-before, reads-both, reads-exact, reads-sum}

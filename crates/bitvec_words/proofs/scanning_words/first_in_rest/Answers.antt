@@ -1,7 +1,7 @@
 use Rattle.std.proofs.Common.{◌/◌, arith, rules, sym, ◌∙◌, ap, Bool, List, ◌≡◌}
-use Rattle.bitvec_cells.specs.store.WidthLaws.{width_some}
-use Rattle.bitvec_cells.specs.base.Lists.{first_place}
-use Rattle.bitvec_cells.specs.base.PlacesLaws.{first_place-nil}
+use Rattle.bitvec_store.specs.WidthLaws.{width_some}
+use Rattle.bitvec_base.specs.Lists.{first_place}
+use Rattle.bitvec_base.specs.PlacesLaws.{first_place-nil}
 use Rattle.bitvec_words.specs.WholeLaws.{list-empty}
 use Rattle.bitvec_words.specs.WordLaws.{width-some, word_whole}
 use Rattle.bitvec_words.proofs.CostLemmas.{reads-before, reads-both, reads-exact, reads-most, reads-sum}

@@ -1,5 +1,5 @@
 use Rattle.std.proofs.Common.{arith, refl, sym}
-use Rattle.bitvec_cells.specs.base.MemoryLaws.{length-element_bits}
+use Rattle.bitvec_base.specs.MemoryLaws.{length-element_bits}
 use Rattle.bitvec_words.proofs.ScanLemmas.{first-behind, first-below, first-front, first-lacks}
 use Rattle.bitvec_words.proofs.WordScanLemmas.{width-most}
 use Rattle.bitvec_words.proofs.scanning_words.first_of_two.Goals as goal

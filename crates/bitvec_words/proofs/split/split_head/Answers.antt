@@ -1,5 +1,5 @@
 use Rattle.std.proofs.Common.{arith, refl}
-use Rattle.bitvec_cells.specs.store.WidthLaws.{width_some}
+use Rattle.bitvec_store.specs.WidthLaws.{width_some}
 use Rattle.bitvec_words.specs.WordLaws.{width-some}
 use Rattle.bitvec_words.proofs.SplitLemmas.{head-part, head-split, head-within}
 use Rattle.bitvec_words.proofs.split.split_head.Goals as goal

@@ -1,6 +1,6 @@
 use Rattle.std.proofs.Common.{refl}
 use Rattle.std.proofs.lemmas.Nat.{mod_below}
-use Rattle.bitvec_cells.specs.store.WidthLaws.{width_some}
+use Rattle.bitvec_store.specs.WidthLaws.{width_some}
 use Rattle.bitvec_words.specs.WordLaws.{width-some}
 use Rattle.bitvec_words.proofs.SplitLemmas.{tail-split}
 use Rattle.bitvec_words.proofs.split.split_tail.Goals as goal

@@ -1,5 +1,5 @@
 use Rattle.std.proofs.Common.{◌≡◌, ◌/◌, arith, ap, sym, ◌∙◌}
-use Rattle.bitvec_cells.specs.base.PartLaws.{element-none}
+use Rattle.bitvec_base.specs.PartLaws.{element-none}
 use Rattle.bitvec_words.specs.ShortWindow.{padded}
 use Rattle.bitvec_words.specs.MovedLaws.{padded-none}
 use Rattle.bitvec_words.specs.WordLaws.{list-no_element, width-some, word-place}

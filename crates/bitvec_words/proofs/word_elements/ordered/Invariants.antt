@@ -1,6 +1,6 @@
 use Rattle.std.proofs.Common.{◌≡◌}
 use Rattle.std.specs.Prelude.{ℕ, List}
-use Rattle.bitvec_cells.specs.base.Memory.{element_bits, list_in}
+use Rattle.bitvec_base.specs.Memory.{element_bits, list_in}
 use Rattle.bitvec_words.specs.Elements.{HasElements, elements_window}
 use Rattle.bitvec_words.specs.ShortWindow.{padded}
 use Rattle.bitvec_words.proofs.word_elements.ordered.Given as goal

@@ -1,5 +1,5 @@
 use Rattle.std.proofs.Common.{◌/◌}
-use Rattle.bitvec_cells.specs.store.WidthLaws.{width_some}
+use Rattle.bitvec_store.specs.WidthLaws.{width_some}
 use Rattle.bitvec_words.specs.WholeLaws.{elements-inside}
 use Rattle.bitvec_words.proofs.SliceWordLemmas.{word-stored}
 use Rattle.bitvec_words.proofs.word_elements.store_elements.Goals as goal

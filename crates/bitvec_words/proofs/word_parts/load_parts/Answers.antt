@@ -1,7 +1,7 @@
 use Rattle.std.proofs.Common.{◌≡◌, ◌-◌, arith, ap, refl, sym, ◌∙◌}
-use Rattle.bitvec_cells.specs.base.PartLaws.{element-none}
-use Rattle.bitvec_cells.specs.base.Parts.{first_part_of}
-use Rattle.bitvec_cells.specs.store.WidthLaws.{width_some}
+use Rattle.bitvec_base.specs.PartLaws.{element-none}
+use Rattle.bitvec_base.specs.Parts.{first_part_of}
+use Rattle.bitvec_store.specs.WidthLaws.{width_some}
 use Rattle.bitvec_cells.specs.WalkLaws.{Walked-start, Walked-next, first-len, passed-none, touched-next, touched-none}
 use Rattle.bitvec_words.specs.ShortWindow.{padded}
 use Rattle.bitvec_words.specs.MovedLaws.{padded-none}

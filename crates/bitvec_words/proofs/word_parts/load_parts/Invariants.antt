@@ -1,5 +1,5 @@
 use Rattle.std.proofs.Common.{◌≡◌}
-use Rattle.bitvec_cells.specs.base.Memory.{element_bits, list_in}
+use Rattle.bitvec_base.specs.Memory.{element_bits, list_in}
 use Rattle.bitvec_cells.specs.Access.{OnlyReads}
 use Rattle.bitvec_cells.specs.Cost.{touched_count}
 use Rattle.bitvec_cells.specs.Walk.{Walked, passed}

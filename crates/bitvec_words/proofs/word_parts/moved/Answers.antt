@@ -1,5 +1,5 @@
 use Rattle.std.proofs.Common.{arith, ap, ◌∙◌}
-use Rattle.bitvec_cells.specs.base.Memory.{element_bits}
+use Rattle.bitvec_base.specs.Memory.{element_bits}
 use Rattle.bitvec_words.specs.MovedLaws.{cut-fits, cut-masked, word-element, word-none, lowest_bit-fits}
 use Rattle.bitvec_words.proofs.word_parts.moved.Goals as goal
 

@@ -1,8 +1,8 @@
 use Rattle.std.proofs.Common.{◌≡◌, ℕ, ◌-◌, arith, rules, ap, refl, sym, take, ◌∙◌}
-use Rattle.bitvec_cells.specs.base.Memory.{element_bits}
-use Rattle.bitvec_cells.specs.base.Parts.{first_part_of}
-use Rattle.bitvec_cells.specs.base.WritesLaws.{HasWindow-kept, Writes-is}
-use Rattle.bitvec_cells.specs.store.WidthLaws.{width_some}
+use Rattle.bitvec_base.specs.Memory.{element_bits}
+use Rattle.bitvec_base.specs.Parts.{first_part_of}
+use Rattle.bitvec_base.specs.WritesLaws.{HasWindow-kept, Writes-is}
+use Rattle.bitvec_store.specs.WidthLaws.{width_some}
 use Rattle.bitvec_cells.specs.WalkLaws.{Walked-start, Walked-next, Writes-none_passed, edge_loads-next, first-len, touched-next, touched-none}
 use Rattle.bitvec_words.specs.PartWalkLaws.{HasWindow-rest, Writes-next_field}
 use Rattle.bitvec_words.specs.WholeLaws.{window-end}

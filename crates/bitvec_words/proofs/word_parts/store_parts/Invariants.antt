@@ -1,5 +1,5 @@
 use Rattle.std.proofs.Common.{take}
-use Rattle.bitvec_cells.specs.base.Memory.{Writes, element_bits}
+use Rattle.bitvec_base.specs.Memory.{Writes, element_bits}
 use Rattle.bitvec_cells.specs.Access.{CostsAtMost}
 use Rattle.bitvec_cells.specs.Cost.{touched_count}
 use Rattle.bitvec_cells.specs.Walk.{Walked, edge_loads, passed}

@@ -1,6 +1,7 @@
 use Rattle.std.proofs.Common.{◌<◌, sym, subst, ◌∙◌}
 use Rattle.std.specs.Prelude.{All}
-use Rattle.bitrecord.specs.bits.{length-seen, seen}
+use Rattle.bitvec.specs.ShowingLaws.{length-seen}
+use Rattle.bitvec.specs.Views.{seen}
 use Rattle.bitrecord.specs.RecordLaws.{is-layout}
 use Rattle.bitrecord.specs.Views.{bits_of, fields_of}
 use Rattle.packet.proofs.ChangeLaws.{words-below}

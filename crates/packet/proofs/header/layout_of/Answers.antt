@@ -1,6 +1,6 @@
 use Rattle.std.proofs.Common.{◌≡◌, ◌*◌, ◌⊎◌, List, length, IfErr, IfOk, sym, subst, ◌∙◌}
 use Rattle.bitrecord.specs.Layouts.{IsLayout}
-use Rattle.bitrecord.specs.bits.{Window}
+use Rattle.bitvec.specs.Types.{Window}
 use Rattle.packet.specs.Packets.{IsLayoutOf, places_of, windows_of}
 use Rattle.packet.specs.declared.fault.Fault.{Fault}
 use Rattle.packet.specs.declared.fault.Fault.TheVariants.{Memory, Truncated}

@@ -1,5 +1,6 @@
 use Rattle.std.proofs.Common.{ℕ, ◌^◌, ◌<◌, sym, subst, ◌∙◌, true}
-use Rattle.bitrecord.specs.bits.{length-seen, seen}
+use Rattle.bitvec.specs.ShowingLaws.{length-seen}
+use Rattle.bitvec.specs.Views.{seen}
 use Rattle.bitrecord.specs.Layouts.{field_at}
 use Rattle.bitrecord.specs.RecordLaws.{is-layout}
 use Rattle.bitrecord.specs.Views.{bits_of, fields_of}

@@ -1,5 +1,5 @@
 use Rattle.std.proofs.Common.{List, sym, subst}
-use Rattle.bitrecord.specs.bits.{Window}
+use Rattle.bitvec.specs.Types.{Window}
 use Rattle.packet.specs.Packets.{AreWords}
 use Rattle.packet.proofs.HeaderLaws.{header-words}
 use Rattle.packet.proofs.print.packet_sum.Goals as goal

@@ -2,7 +2,7 @@ use Rattle.std.proofs.Common.{◌≡◌, ℕ, ◌<◌, List, [], get_or, length,
 use Rattle.std.specs.Io.KnownBytes.{Appends}
 use Rattle.std.proofs.lemmas.List.{get_or_default}
 use Rattle.bitrecord.specs.Layouts.{field_at}
-use Rattle.bitrecord.specs.bits.{Window}
+use Rattle.bitvec.specs.Types.{Window}
 use Rattle.packet.specs.Packets.{number_at}
 use Rattle.packet.specs.declared.field.Field.{Field}
 use Rattle.packet.proofs.ByteLaws.{Appends-more}

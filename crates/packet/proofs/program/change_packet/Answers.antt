@@ -1,7 +1,7 @@
 use Rattle.std.proofs.Common.{◌≡◌, List, map, rules, sym, ap, subst, ◌∙◌}
 use Rattle.std.specs.Prelude.{All}
 use Rattle.std.proofs.lemmas.Result.{err_from_is_err_and}
-use Rattle.bitrecord.specs.bits.{Window}
+use Rattle.bitvec.specs.Types.{Window}
 use Rattle.packet.specs.Arguments.{named}
 use Rattle.packet.specs.Changes.{CanChange}
 use Rattle.packet.specs.Packets.{AreWords, packet_fields, places_of, windows_of}

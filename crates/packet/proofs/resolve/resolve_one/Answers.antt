@@ -1,6 +1,6 @@
 use Rattle.std.proofs.Common.{◌≡◌, ◌^◌, ◌<◌, [], Some, refl, sym, subst, ◌∙◌, arith}
 use Rattle.std.proofs.lemmas.List.{length-map}
-use Rattle.bitrecord.specs.bits.{Window}
+use Rattle.bitvec.specs.Types.{Window}
 use Rattle.packet.specs.Packets.{Place, place, places_of}
 use Rattle.packet.specs.Resolved.{place_of}
 use Rattle.packet.proofs.PlaceLaws.{place-below, window-at}

@@ -1,9 +1,9 @@
 use Rattle.std.proofs.Common.{◌≡◌, ℕ, ◌+◌, ◌^◌, ◌<◌, List, [], ◌∷◌, length, slice_set, arith, ap, sym, ◌∙◌, add-one, refl}
 use Rattle.std.specs.Simd.Lanes.{digits_l}
 use Rattle.std.proofs.lemmas.Nat.{and_mask}
-use Rattle.bitvec_cells.specs.base.Window.{write_at}
-use Rattle.bitvec_cells.specs.base.WriteLaws.{length-write_at, set-is_write, write_at-next, write_at-nil}
-use Rattle.bitvec_cells.specs.store.DigitLaws.{digits-more, length-digits}
+use Rattle.bitvec_base.specs.Window.{write_at}
+use Rattle.bitvec_base.specs.WriteLaws.{length-write_at, set-is_write, write_at-next, write_at-nil}
+use Rattle.bitvec_store.specs.DigitLaws.{digits-more, length-digits}
 use Rattle.bitvec_cells.proofs.cells.Cells.store_word.Goals as goal
 
 pub loop-step-init : goal.loop-step-init

@@ -1,6 +1,6 @@
 use Rattle.std.proofs.Common.{◌≡◌, ◌+◌, ◌^◌}
 use Rattle.std.specs.Simd.Lanes.{digits_l}
-use Rattle.bitvec_cells.specs.base.Window.{write_at}
+use Rattle.bitvec_base.specs.Window.{write_at}
 use Rattle.bitvec_cells.proofs.cells.Cells.store_word.Given as goal
 
 abbrev pub invariant-loop-step : goal.invariant-loop-step

@@ -1,6 +1,6 @@
 use Rattle.std.proofs.Common.{ℕ, ◌+◌, List, drop, slice_index, arith, ap, sym, ◌∙◌, add-one}
 use Rattle.std.proofs.lemmas.List.{get_or-drop, length-drop, take_more}
-use Rattle.bitvec_cells.specs.store.DigitLaws.{digit-above, digit-most, digit-placed, digits-next}
+use Rattle.bitvec_store.specs.DigitLaws.{digit-above, digit-most, digit-placed, digits-next}
 use Rattle.bitvec_cells.proofs.cells.CellsRead.load_word.Goals as goal
 
 pub overflow_add-first : goal.overflow_add-first

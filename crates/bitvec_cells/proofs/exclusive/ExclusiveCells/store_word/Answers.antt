@@ -1,7 +1,7 @@
 use Rattle.std.proofs.Common.{◌≡◌, ◌+◌, ◌-◌, ◌/◌, map, arith, ap, sym, ◌∙◌}
 use Rattle.std.proofs.lemmas.List.{length-map, take_all}
-use Rattle.bitvec_cells.specs.base.WriteLaws.{length-slice_range}
-use Rattle.bitvec_cells.specs.base.Window.{write_at}
+use Rattle.bitvec_base.specs.WriteLaws.{length-slice_range}
+use Rattle.bitvec_base.specs.Window.{write_at}
 use Rattle.bitvec_cells.specs.PutLaws.{part-numbers}
 use Rattle.bitvec_cells.proofs.exclusive.ExclusiveCells.store_word.Goals as goal
 

@@ -1,5 +1,5 @@
 use Rattle.std.proofs.Common.{ap, arith}
-use Rattle.bitvec_split.specs.base.declared.window.Window.{Window}
+use Rattle.bitvec_base.specs.declared.window.Window.{Window}
 use Rattle.bitvec_closures.specs.InPlaceLaws.{piece-is, shown-within}
 use Rattle.bitvec_closures.proofs.edit_parts.EditParts.narrow.Goals as goal
 

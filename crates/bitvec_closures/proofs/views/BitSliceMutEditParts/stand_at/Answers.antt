@@ -1,5 +1,5 @@
-use Rattle.bitvec_split.specs.slice.SeenLaws.{length-memory}
-use Rattle.bitvec_split.specs.slice.Views.{seen_mut}
+use Rattle.bitvec_slice.specs.SeenLaws.{length-memory}
+use Rattle.bitvec_slice.specs.Views.{seen_mut}
 use Rattle.bitvec_closures.proofs.views.BitSliceMutEditParts.stand_at.Goals as goal
 
 pub stand_at-requires : goal.stand_at-requires

@@ -1,5 +1,5 @@
 use Rattle.std.proofs.Common.{rules}
-use Rattle.bitvec_move.specs.store.WidthLaws.{width_some}
+use Rattle.bitvec_store.specs.WidthLaws.{width_some}
 use Rattle.bitvec_combine.specs.CombineLaws.{combines-whole}
 use Rattle.bitvec_combine.proofs.combining.ApplyAct.whole.Goals as goal
 

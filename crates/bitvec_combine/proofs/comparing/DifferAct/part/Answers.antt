@@ -1,9 +1,9 @@
 use Rattle.std.proofs.Common.{arith, rules}
 use Rattle.std.proofs.lemmas.Nat.{mod-mul-add}
-use Rattle.bitvec_move.specs.base.MemoryLaws.{length-element_bits}
-use Rattle.bitvec_move.specs.base.WriteLaws.{length-slice_range}
-use Rattle.bitvec_move.specs.words.FieldLaws.{list-part}
-use Rattle.bitvec_move.specs.words.SameLaws.{same-between}
+use Rattle.bitvec_base.specs.MemoryLaws.{length-element_bits}
+use Rattle.bitvec_base.specs.WriteLaws.{length-slice_range}
+use Rattle.bitvec_words.specs.FieldLaws.{list-part}
+use Rattle.bitvec_words.specs.SameLaws.{same-between}
 use Rattle.bitvec_combine.specs.DifferLaws.{finds-one}
 use Rattle.bitvec_combine.proofs.comparing.DifferAct.part.Goals as goal
 

@@ -1,9 +1,9 @@
 use Rattle.std.proofs.Common.{arith, rules}
 use Rattle.std.proofs.Math.Nat.{mul-mod_left}
-use Rattle.bitvec_move.specs.base.MemoryLaws.{length-element_bits}
-use Rattle.bitvec_move.specs.store.WidthLaws.{width_some}
-use Rattle.bitvec_move.specs.words.FieldLaws.{list-whole}
-use Rattle.bitvec_move.specs.words.SameLaws.{same-whole}
+use Rattle.bitvec_base.specs.MemoryLaws.{length-element_bits}
+use Rattle.bitvec_store.specs.WidthLaws.{width_some}
+use Rattle.bitvec_words.specs.FieldLaws.{list-whole}
+use Rattle.bitvec_words.specs.SameLaws.{same-whole}
 use Rattle.bitvec_combine.specs.DifferLaws.{finds-one}
 use Rattle.bitvec_combine.proofs.comparing.DifferAct.whole.Goals as goal
 

@@ -1,5 +1,5 @@
 use Rattle.std.proofs.lemmas.List.{length-map}
-use Rattle.bitvec_cells.specs.store.WidthLaws.{width_some}
+use Rattle.bitvec_store.specs.WidthLaws.{width_some}
 use Rattle.bitvec_domain.specs.CutLaws.{cut_is}
 use Rattle.bitvec_domain.proofs.cut.Cut.of_elements.Goals as goal
 

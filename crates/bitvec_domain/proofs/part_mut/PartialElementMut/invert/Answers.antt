@@ -1,8 +1,8 @@
 use Rattle.std.specs.Prelude.{not, refl}
 use Rattle.std.proofs.Common.{◌∙◌}
 use Rattle.std.proofs.lemmas.List.{length-map}
-use Rattle.bitvec_cells.specs.base.MemoryLaws.{element-xor_mask}
-use Rattle.bitvec_cells.specs.base.PartLaws.{length-part}
+use Rattle.bitvec_base.specs.MemoryLaws.{element-xor_mask}
+use Rattle.bitvec_base.specs.PartLaws.{length-part}
 use Rattle.bitvec_domain.specs.Parts.{seen_part_mut}
 use Rattle.bitvec_domain.proofs.Parts.{writes_part}
 use Rattle.bitvec_domain.proofs.part_mut.PartialElementMut.invert.Goals as goal

@@ -1,4 +1,4 @@
-use Rattle.bitvec_cells.specs.base.PartLaws.{element-and_mask}
+use Rattle.bitvec_base.specs.PartLaws.{element-and_mask}
 use Rattle.bitvec_domain.proofs.part_mut.PartialElementMut.load_value.Goals as goal
 
 pub returns-clause-bits : goal.returns-clause-bits

@@ -1,5 +1,5 @@
 use Rattle.std.specs.Prelude.{refl}
-use Rattle.bitvec_cells.specs.base.PartLaws.{element-combine, length-part}
+use Rattle.bitvec_base.specs.PartLaws.{element-combine, length-part}
 use Rattle.bitvec_domain.proofs.Parts.{writes_part}
 use Rattle.bitvec_domain.proofs.part_mut.PartialElementMut.store_value.Goals as goal
 

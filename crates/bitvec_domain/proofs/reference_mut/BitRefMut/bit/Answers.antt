@@ -1,5 +1,5 @@
 use Rattle.std.proofs.Common.{◌∙◌}
-use Rattle.bitvec_cells.specs.base.WindowLaws.{get-one}
+use Rattle.bitvec_base.specs.WindowLaws.{get-one}
 use Rattle.bitvec_domain.specs.References.{bit_of_ref_mut, memory_of_ref_mut}
 use Rattle.bitvec_domain.proofs.reference_mut.BitRefMut.bit.Goals as goal
 

@@ -1,4 +1,4 @@
-use Rattle.bitvec_cells.specs.base.WritesLaws.{Writes-one}
+use Rattle.bitvec_base.specs.WritesLaws.{Writes-one}
 use Rattle.bitvec_domain.proofs.reference_mut.BitRefMut.commit.Goals as goal
 
 pub returns : goal.returns

@@ -1,6 +1,6 @@
 use Rattle.std.specs.Prelude.{refl}
 use Rattle.std.proofs.Common.{◌∙◌}
-use Rattle.bitvec_cells.specs.base.WindowLaws.{get-one}
+use Rattle.bitvec_base.specs.WindowLaws.{get-one}
 use Rattle.bitvec_domain.specs.References.{bit_of_ref_mut, memory_of_ref_mut}
 use Rattle.bitvec_domain.proofs.References.{writes_bit}
 use Rattle.bitvec_domain.proofs.reference_mut.BitRefMut.replace.Goals as goal

@@ -1,6 +1,6 @@
 use Rattle.std.proofs.Common.{length, ap, refl, subst, sym, ◌∙◌}
-use Rattle.bitvec_slice.specs.base.declared.window.Window.{Window}
-use Rattle.bitvec_slice.specs.domain.Asked.{RefillsWith}
+use Rattle.bitvec_base.specs.declared.window.Window.{Window}
+use Rattle.bitvec_domain.specs.Asked.{RefillsWith}
 use Rattle.bitvec_edit.proofs.edits.BitEdits.for_each.Goals as goal
 
 pub returns : goal.returns

@@ -1,6 +1,6 @@
 use Rattle.std.proofs.Common.{arith, rules}
-use Rattle.bitvec_combine.specs.store.WidthLaws.{width_some}
-use Rattle.bitvec_combine.specs.walk.WalkLaws.{first_loads-most}
+use Rattle.bitvec_store.specs.WidthLaws.{width_some}
+use Rattle.bitvec_cells.specs.WalkLaws.{first_loads-most}
 use Rattle.bitvec_engine.proofs.slice_order.SliceOrder.find_first.Goals as goal
 
 pub returns-clause-reads : goal.returns-clause-reads

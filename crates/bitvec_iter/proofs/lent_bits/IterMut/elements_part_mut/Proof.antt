@@ -1,5 +1,9 @@
 -- `elements_part_mut` of `IterMut` lends a range of what its first field points at, and the walk follows it. Assumes `Logic`.
-use Rattle.bitvec_slice.specs.lends.Steps.{refl, [], ◌∷◌, full_share, a_type, dcons, dnil, erased, NamedLft, layout, bounded, copied, param, copied_laws, param_laws, part_apart, of_two, tail, behind_ty, behind, lends_range}
+use Rattle.bitvec_domain.specs.Steps.{refl, [], ◌∷◌, full_share, a_type, dcons, dnil, erased, NamedLft, layout, bounded, copied, param, copied_laws, param_laws, part_apart}
+use Rattle.bitvec_domain.specs.Arity.{of_two}
+use Rattle.bitvec_domain.specs.Through.{tail}
+use Rattle.bitvec_domain.specs.Lender.{behind_ty, behind}
+use Rattle.bitvec_domain.specs.PartLender.{lends_range}
 use Rattle.bitvec_iter.specs.BitsLending.{with_elements}
 use Rattle.bitvec_iter.specs.contracts.lent_bits.IterMut.{struct, the_type, the_row}
 use Rattle.bitvec_iter.specs.contracts.lent_bits.IterMut.elements_part_mut.Key.{name as #self}

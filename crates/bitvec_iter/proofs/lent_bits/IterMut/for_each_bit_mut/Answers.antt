@@ -3,12 +3,12 @@ use Rattle.std.proofs.Common.{arith, ap, subst, sym, ◌∙◌}
 use Rattle.std.proofs.lemmas.List.{length-map}
 use Rattle.bitvec_slice.specs.Seen.{shown}
 use Rattle.bitvec_slice.specs.SeenLaws.{has_window}
-use Rattle.bitvec_slice.specs.base.Memory.{Writes, list_in}
-use Rattle.bitvec_slice.specs.base.Window.{max_bits, window_range, write_at}
-use Rattle.bitvec_slice.specs.base.WriteLaws.{range-write_at}
-use Rattle.bitvec_slice.specs.base.WritesLaws.{Writes-holds, Writes-range, length-list, list-range}
-use Rattle.bitvec_slice.specs.base.declared.window.Window.{Window}
-use Rattle.bitvec_slice.specs.domain.Asked.{CallableOnBits, RefillsWith}
+use Rattle.bitvec_base.specs.Memory.{Writes, list_in}
+use Rattle.bitvec_base.specs.Window.{max_bits, window_range, write_at}
+use Rattle.bitvec_base.specs.WriteLaws.{range-write_at}
+use Rattle.bitvec_base.specs.WritesLaws.{Writes-holds, Writes-range, length-list, list-range}
+use Rattle.bitvec_base.specs.declared.window.Window.{Window}
+use Rattle.bitvec_domain.specs.Asked.{CallableOnBits, RefillsWith}
 use Rattle.bitvec_iter.specs.LentBits.{BitsLeft, WritesLeft, bits_in_place, bits_to_come, start_of}
 use Rattle.bitvec_iter.proofs.lent_bits.IterMut.for_each_bit_mut.Goals as goal
 

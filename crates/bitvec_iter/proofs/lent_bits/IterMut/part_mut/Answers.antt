@@ -1,5 +1,5 @@
 use Rattle.std.proofs.Common.{refl, sym}
-use Rattle.bitvec_slice.specs.store.WidthLaws.{width_some}
+use Rattle.bitvec_store.specs.WidthLaws.{width_some}
 use Rattle.bitvec_slice.specs.SeenLaws.{part_view}
 use Rattle.bitvec_slice.specs.TouchedLaws.{touched_end, touched_few, touched_holds}
 use Rattle.bitvec_iter.proofs.lent_bits.IterMut.part_mut.Goals as goal

@@ -1,7 +1,7 @@
 use Rattle.std.proofs.Common.{◌≡◌, ap, rules, slice_range}
 use Rattle.std.specs.Fmt.{HasWritten}
 use Rattle.std.proofs.Output.{has_written_append, has_written_of_eq}
-use Rattle.bitvec_slice.specs.traits.Listing.{bits_text, comma}
+use Rattle.bitvec_domain.specs.Listing.{bits_text, comma}
 use Rattle.bitvec_slice.specs.Views.{seen}
 use Rattle.bitvec_iter.specs.Halves.{mid_of, seen_halves}
 use Rattle.bitvec_iter.proofs.lent_halves.HalvesMut.write_halves.Goals as goal

@@ -5,8 +5,8 @@ use Rattle.std.proofs.Output.{has_written_append, has_written_of_eq}
 use Rattle.std.proofs.lemmas.List.{take_all}
 use Rattle.bitvec_cutting.specs.Cutting.{cut}
 use Rattle.bitvec_cutting.specs.WalkLaws.{walk_at, walk_length}
-use Rattle.bitvec_slice.specs.ListingLaws.{join_by-more}
-use Rattle.bitvec_slice.specs.traits.Listing.{bits_text, comma, separator}
+use Rattle.bitvec_domain.specs.ListingLaws.{join_by-more}
+use Rattle.bitvec_domain.specs.Listing.{bits_text, comma, separator}
 use Rattle.bitvec_slice.specs.Views.{seen}
 use Rattle.bitvec_iter.specs.LentPieces.{walk_of}
 use Rattle.bitvec_iter.specs.LentWalk.{lists_left}

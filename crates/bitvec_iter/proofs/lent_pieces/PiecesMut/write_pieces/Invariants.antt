@@ -1,7 +1,7 @@
 use Rattle.std.proofs.Common.{take}
 use Rattle.std.specs.Fmt.{HasWritten, IsPlainFormatter}
 use Rattle.std.specs.List.{join_by}
-use Rattle.bitvec_slice.specs.traits.Listing.{bits_text, comma}
+use Rattle.bitvec_domain.specs.Listing.{bits_text, comma}
 use Rattle.bitvec_iter.specs.LentPieces.{walk_of}
 use Rattle.bitvec_iter.specs.LentWalk.{lists_left}
 use Rattle.bitvec_iter.proofs.lent_pieces.PiecesMut.write_pieces.Given as goal

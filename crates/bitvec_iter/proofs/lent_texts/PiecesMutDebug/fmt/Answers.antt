@@ -1,6 +1,6 @@
 use Rattle.std.proofs.Common.{arith}
 use Rattle.std.proofs.lemmas.Grind.{common_steps}
-use Rattle.bitvec_slice.specs.traits.Listing.{listed}
+use Rattle.bitvec_domain.specs.Listing.{listed}
 use Rattle.bitvec_iter.proofs.lent_texts.PiecesMutDebug.fmt.Goals as goal
 
 pub returns : goal.returns

@@ -4,8 +4,8 @@ use Rattle.std.specs.List.{join_by}
 use Rattle.std.proofs.Output.{has_written_append, has_written_of_eq}
 use Rattle.std.proofs.lemmas.List.{take_all}
 use Rattle.bitvec_cutting.specs.WalkLaws.{walk_at}
-use Rattle.bitvec_slice.specs.ListingLaws.{join_by-more}
-use Rattle.bitvec_slice.specs.traits.Listing.{bits_text, comma, separator}
+use Rattle.bitvec_domain.specs.ListingLaws.{join_by-more}
+use Rattle.bitvec_domain.specs.Listing.{bits_text, comma, separator}
 use Rattle.bitvec_slice.specs.Views.{seen}
 use Rattle.bitvec_iter.specs.Left.{piece_at, pieces_left}
 use Rattle.bitvec_iter.specs.LeftLaws.{left, left_length}

@@ -1,7 +1,7 @@
 use Rattle.std.proofs.Common.{take}
 use Rattle.std.specs.Fmt.{HasWritten, IsPlainFormatter}
 use Rattle.std.specs.List.{join_by}
-use Rattle.bitvec_slice.specs.traits.Listing.{bits_text, comma}
+use Rattle.bitvec_domain.specs.Listing.{bits_text, comma}
 use Rattle.bitvec_iter.specs.Left.{pieces_left}
 use Rattle.bitvec_iter.proofs.pieces.Pieces.write_pieces.Given as goal
 

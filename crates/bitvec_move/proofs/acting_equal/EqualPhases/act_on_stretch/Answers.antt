@@ -1,5 +1,5 @@
 use Rattle.std.proofs.Common.{◌≡◌, ◌*◌, arith, refl, rules}
-use Rattle.bitvec_move.specs.PlaceLaws.{inside}
+use Rattle.bitvec_words.specs.WordLaws.{inside}
 use Rattle.bitvec_move.proofs.StretchActs.{element-alone, first-word, source-inside, source-word, stretch-join, stretch-none}
 use Rattle.bitvec_move.proofs.acting_equal.EqualPhases.act_on_stretch.Goals as goal
 

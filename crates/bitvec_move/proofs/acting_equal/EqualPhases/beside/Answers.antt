@@ -1,8 +1,8 @@
 use Rattle.std.proofs.Common.{◌+◌, ◌/◌, arith, refl, rules, sym, ◌∙◌}
 use Rattle.std.proofs.lemmas.Nat.{div-add-mod'}
-use Rattle.bitvec_words.specs.base.declared.part.Part.{Part}
-use Rattle.bitvec_words.specs.base.Parts.{part_window}
-use Rattle.bitvec_words.specs.store.WidthLaws.{width_some}
+use Rattle.bitvec_base.specs.declared.part.Part.{Part}
+use Rattle.bitvec_base.specs.Parts.{part_window}
+use Rattle.bitvec_store.specs.WidthLaws.{width_some}
 use Rattle.bitvec_words.specs.FieldLaws.{list-part}
 use Rattle.bitvec_words.specs.TouchedLaws.{touched-one}
 use Rattle.bitvec_words.specs.WholeLaws.{list-same}

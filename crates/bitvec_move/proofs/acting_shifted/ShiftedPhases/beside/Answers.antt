@@ -1,6 +1,6 @@
 use Rattle.std.proofs.Common.{◌+◌, arith, refl, ◌∙◌}
-use Rattle.bitvec_words.specs.base.Memory.{element_bits}
-use Rattle.bitvec_words.specs.base.MemoryLaws.{length-element_bits}
+use Rattle.bitvec_base.specs.Memory.{element_bits}
+use Rattle.bitvec_base.specs.MemoryLaws.{length-element_bits}
 use Rattle.bitvec_words.specs.FieldLaws.{range-shifted}
 use Rattle.bitvec_move.proofs.acting_shifted.ShiftedPhases.beside.Goals as goal
 

@@ -1,9 +1,9 @@
 use Rattle.std.proofs.Common.{◌≡◌, ◌*◌, ◌≤◌, List, length, ℕ, refl, rules, subst, sym}
 use Rattle.std.specs.Coded.{le_prop}
 use Rattle.std.proofs.lemmas.List.{take_all}
-use Rattle.bitvec_edit.specs.base.Window.{max_bits}
-use Rattle.bitvec_edit.specs.base.declared.order.BitOrder.{Ghosts as Order}
-use Rattle.bitvec_edit.specs.store.declared.store.BitStore.{Ghosts as Store}
+use Rattle.bitvec_base.specs.Window.{max_bits}
+use Rattle.bitvec_base.specs.declared.order.BitOrder.{Ghosts as Order}
+use Rattle.bitvec_store.specs.declared.store.BitStore.{Ghosts as Store}
 use Rattle.bitvec_owned.specs.ArrayLending.{with_elements}
 use Rattle.bitvec_owned.specs.declared.array.BitArray.{BitArray}
 use Rattle.bitvec_owned.proofs.array.BitArray.as_raw_mut_slice.Goals as goal

@@ -1,7 +1,7 @@
 use Rattle.std.proofs.Common.{◌≡◌, ◌∙◌, ap, map, refl, rules, sym, take}
 use Rattle.std.proofs.lemmas.List.{take_all}
-use Rattle.bitvec_edit.specs.base.Memory.{memory_bits}
-use Rattle.bitvec_edit.specs.slice.SeenLaws.{covered_bits}
+use Rattle.bitvec_base.specs.Memory.{memory_bits}
+use Rattle.bitvec_slice.specs.SeenLaws.{covered_bits}
 use Rattle.bitvec_owned.proofs.array.BitArray.new.Goals as goal
 
 pub returns-clause-bits : goal.returns-clause-bits

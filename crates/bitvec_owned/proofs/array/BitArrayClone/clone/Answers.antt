@@ -1,8 +1,8 @@
 use Rattle.std.proofs.Common.{◌≡◌, ◌*◌, ◌≤◌, ℕ}
 use Rattle.std.specs.Coded.{le_prop}
-use Rattle.bitvec_edit.specs.base.Window.{max_bits}
-use Rattle.bitvec_edit.specs.base.declared.order.BitOrder.{Ghosts as Order}
-use Rattle.bitvec_edit.specs.store.declared.store.BitStore.{Ghosts as Store}
+use Rattle.bitvec_base.specs.Window.{max_bits}
+use Rattle.bitvec_base.specs.declared.order.BitOrder.{Ghosts as Order}
+use Rattle.bitvec_store.specs.declared.store.BitStore.{Ghosts as Store}
 use Rattle.bitvec_owned.specs.declared.array.BitArray.{BitArray}
 use Rattle.bitvec_owned.proofs.array.BitArrayClone.clone.Goals as goal
 

@@ -4,9 +4,9 @@ use Rattle.std.specs.Int.{div_ceil}
 use Rattle.std.specs.Prelude.{vec_len}
 use Rattle.std.specs.Vec.{with_items}
 use native.Mathlib.Nat.{ℕ_set}
-use Rattle.bitvec_edit.specs.base.Window.{max_bits}
-use Rattle.bitvec_edit.specs.base.declared.order.BitOrder.{Ghosts as Order}
-use Rattle.bitvec_edit.specs.store.declared.store.BitStore.{Ghosts as Store}
+use Rattle.bitvec_base.specs.Window.{max_bits}
+use Rattle.bitvec_base.specs.declared.order.BitOrder.{Ghosts as Order}
+use Rattle.bitvec_store.specs.declared.store.BitStore.{Ghosts as Store}
 use Rattle.bitvec_owned.specs.Lending.{with_elements}
 use Rattle.bitvec_owned.specs.declared.bit_vec.BitVec.{BitVec}
 use Rattle.bitvec_owned.proofs.bit_vec.BitVec.as_raw_mut_slice.Goals as goal

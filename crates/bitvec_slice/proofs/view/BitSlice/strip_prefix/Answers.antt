@@ -1,5 +1,5 @@
 use Rattle.std.proofs.Common.{arith, sym, ◌∙◌}
-use Rattle.bitvec_elements.specs.base.NeedleLaws.{is_prefix-no_longer}
+use Rattle.bitvec_base.specs.NeedleLaws.{is_prefix-no_longer}
 use Rattle.bitvec_slice.specs.Views.{seen}
 use Rattle.bitvec_slice.proofs.view.BitSlice.strip_prefix.Goals as goal
 

@@ -1,5 +1,8 @@
 -- `elements_mut` lends what the view's first field points at, and the view follows it. Assumes `Logic`.
-use Rattle.bitvec_domain.specs.Steps.{refl, [], ◌∷◌, full_share, a_type, dcons, dnil, erased, NamedLft, layout, bounded, copied, param, copied_laws, param_laws, part_apart, of_two, tail, behind_ty, behind, lends_first}
+use Rattle.bitvec_domain.specs.Steps.{refl, [], ◌∷◌, full_share, a_type, dcons, dnil, erased, NamedLft, layout, bounded, copied, param, copied_laws, param_laws, part_apart}
+use Rattle.bitvec_domain.specs.Arity.{of_two}
+use Rattle.bitvec_domain.specs.Through.{tail}
+use Rattle.bitvec_domain.specs.Lender.{behind_ty, behind, lends_first}
 use Rattle.bitvec_slice.specs.Lending.{with_elements}
 use Rattle.bitvec_slice.specs.contracts.view_mut.BitSliceMut.{struct, the_type, the_row}
 use Rattle.bitvec_slice.specs.contracts.view_mut.BitSliceMut.elements_mut.Key.{name as #self}

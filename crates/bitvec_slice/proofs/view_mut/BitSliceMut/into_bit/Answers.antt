@@ -1,5 +1,5 @@
 use Rattle.std.proofs.Common.{◌≡◌, ℕ, ◌+◌, Bool, List, false, slice_index_or, arith, ◌∙◌, ap}
-use Rattle.bitvec_elements.specs.base.WriteLaws.{get-slice_range}
+use Rattle.bitvec_base.specs.WriteLaws.{get-slice_range}
 use Rattle.bitvec_slice.specs.Views.{seen_mut}
 use Rattle.bitvec_slice.proofs.view_mut.BitSliceMut.into_bit.Goals as goal
 

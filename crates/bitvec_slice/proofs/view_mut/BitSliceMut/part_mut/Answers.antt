@@ -1,6 +1,6 @@
 use Rattle.std.proofs.Common.{sym}
 use Rattle.bitvec_domain.specs.Refill.{with_range}
-use Rattle.bitvec_elements.specs.store.WidthLaws.{width_some}
+use Rattle.bitvec_store.specs.WidthLaws.{width_some}
 use Rattle.bitvec_slice.specs.Lending.{with_elements}
 use Rattle.bitvec_slice.specs.SeenLaws.{part_view}
 use Rattle.bitvec_slice.specs.TouchedLaws.{touched_end, touched_few, touched_holds}

@@ -41,15 +41,15 @@ use denote.Triple.Clauses.{lasts}
 use denote.Triple.Spec.{triple_of}
 use denote.Triple.Table.{framed}
 use denote.Triple.Walked.{Stays, walk_of, stay_dropped, Goes-spent_slice, ends_at}
-use Rattle.bitvec_elements.specs.base.Window.{max_bits}
-use Rattle.bitvec_elements.specs.base.declared.span_error.BitSpanError.{BitSpanError}
-use Rattle.bitvec_elements.specs.base.declared.span_error.BitSpanError.TheVariants.{TooLong}
+use Rattle.bitvec_base.specs.Window.{max_bits}
+use Rattle.bitvec_base.specs.declared.span_error.BitSpanError.{BitSpanError}
+use Rattle.bitvec_base.specs.declared.span_error.BitSpanError.TheVariants.{TooLong}
 use Rattle.bitvec_elements.proofs.base.BitSpanError.TheLaws.{the_row_laws as error_laws}
 use Rattle.bitvec_slice.specs.Views.{IsWholeOf, name_of}
 use Rattle.bitvec_slice.specs.contracts.view_mut.BitSliceMut.try_from_slice_mut as f
-use Rattle.bitvec_slice.specs.contracts.constructors.bits_in as bits_in
-use Rattle.bitvec_slice.specs.contracts.view_mut.BitSliceMut.too_long as too_long
-use Rattle.bitvec_slice.specs.contracts.view_mut.BitSliceMut.all_of as all_of
+use Rattle.bitvec_slice.specs.contracts.constructors.bits_in
+use Rattle.bitvec_slice.specs.contracts.view_mut.BitSliceMut.too_long
+use Rattle.bitvec_slice.specs.contracts.view_mut.BitSliceMut.all_of
 use Rattle.bitvec_slice.proofs.view_mut.BitSliceMut.TheLaws.{the_row_laws as view_laws}
 use Rattle.bitvec_slice.proofs.constructors.bits_in.Met.{met as bits_in_met}
 use Rattle.bitvec_slice.proofs.view_mut.BitSliceMut.too_long.Met.{met as too_long_met}

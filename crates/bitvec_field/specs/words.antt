@@ -1,3 +1,0 @@
--- Items of `bitvec_words` that crates above use.
-pub use Rattle.bitvec_slice.specs.words.Operator
-pub use Rattle.bitvec_slice.specs.words.declared

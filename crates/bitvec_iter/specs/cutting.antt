@@ -1,2 +1,0 @@
--- Items of `bitvec_cutting` that crates above use.
-pub use Rattle.bitvec_cutting.specs.Cutting

@@ -1,2 +1,0 @@
--- Items of `bitvec_store` that crates above use.
-pub use Rattle.bitvec_slice.specs.store.declared
