@@ -1,2 +1,4 @@
 pub mod CostLemmas
+pub mod MetActs
 pub mod RoomLemmas
+pub mod StretchActs

@@ -25,7 +25,7 @@ use Rattle.bitvec_words.specs.FieldLaws.{list-part, list-whole, part-stored}
 use Rattle.bitvec_words.specs.Operator.{operator}
 use Rattle.bitvec_words.specs.ShortWindow.{padded}
 use Rattle.bitvec_words.specs.TouchedLaws.{touched-edge, touched-one}
-use Rattle.bitvec_move.specs.Acts.{IsCut, bits_beside}
+use Rattle.bitvec_combine.specs.Acts.{IsCut, bits_beside}
 use Rattle.bitvec_combine.specs.Sides.{Combines, CombinesBits}
 
 -- a window by its first t bits, which end where an element does or are all, and what is left

@@ -19,8 +19,8 @@ use Rattle.bitvec_cells.specs.WalkLaws.{touched-less}
 use Rattle.bitvec_words.specs.SameLaws.{or_zero, same-joined}
 use Rattle.bitvec_words.specs.TouchedLaws.{touched-edge, touched-one}
 use Rattle.bitvec_words.specs.WholeLaws.{HasWindow-part, list-empty, same-empty}
-use Rattle.bitvec_move.specs.ActLaws.{padded-full}
-use Rattle.bitvec_move.specs.Acts.{IsCut, bits_beside}
+use Rattle.bitvec_combine.specs.ActLaws.{padded-full}
+use Rattle.bitvec_combine.specs.Acts.{IsCut, bits_beside}
 use Rattle.bitvec_combine.specs.Sides.{FindsDifference}
 
 -- bits compared by two windows, after others

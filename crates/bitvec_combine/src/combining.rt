@@ -14,7 +14,7 @@ ghost use Rattle.bitvec_combine.specs.Sides.{Combines, CombinesBits};
 
 use bitvec_base::{BitOrder, Part, Window};
 use bitvec_cells::{Cells, CellsRead};
-use bitvec_move::{Act, Equal, act, act_phased};
+use crate::{Act, Equal, act, act_phased};
 use bitvec_store::BitStore;
 use bitvec_words::{BitOp, WordOrder, fill, merged};
 

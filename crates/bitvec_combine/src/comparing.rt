@@ -11,7 +11,7 @@ ghost use Rattle.bitvec_combine.specs.Sides.{FindsDifference};
 
 use bitvec_base::{BitOrder, Part, Window};
 use bitvec_cells::CellsRead;
-use bitvec_move::{Act, Equal, Phases, Shifted, act_phased};
+use crate::{Act, Equal, Phases, Shifted, act_phased};
 use bitvec_store::BitStore;
 use bitvec_words::{WORD_BITS, WordOrder};
 

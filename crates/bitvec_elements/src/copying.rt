@@ -3,7 +3,7 @@ ghost use Rattle.std.specs.Prelude.{◌≡◌, ◌≤◌, map};
 ghost use Rattle.bitvec_engine.specs.Pairs.{HasPair};
 ghost use Rattle.bitvec_base.specs.Memory.{HasWindow, Writes, list_in};
 ghost use Rattle.bitvec_base.specs.Spans.{HasSpan};
-ghost use Rattle.bitvec_move.specs.Moves.{Copies};
+ghost use Rattle.bitvec_words.specs.Moves.{Copies};
 
 use bitvec_base::{BitOrder, Lsb0, Msb0, Window};
 use bitvec_cells::{Exclusive, Shared};

@@ -1,7 +1,7 @@
 //! Windows that begin at the same index of an element, copied by whole elements at once.
 ghost use Rattle.std.specs.Prelude.{◌≡◌, ◌+◌, ◌%◌, ◌≤◌, map};
 ghost use Rattle.bitvec_base.specs.Spans.{HasSpan};
-ghost use Rattle.bitvec_move.specs.Moves.{Copies};
+ghost use Rattle.bitvec_words.specs.Moves.{Copies};
 
 use bitvec_base::{BitOrder, Window, first_part};
 use bitvec_cells::Exclusive;

@@ -20,7 +20,7 @@ use Rattle.bitvec_base.specs.Window.{write_at}
 use Rattle.bitvec_base.specs.WriteLaws.{length-slice_range}
 use Rattle.bitvec_base.specs.WritesLaws.{Writes-is, Writes-join}
 use Rattle.bitvec_words.specs.WholeLaws.{Writes-same}
-use Rattle.bitvec_move.specs.WordLaws.{Writes-behind, first-values, length-first, word-tail}
+use Rattle.bitvec_words.specs.AcrossLaws.{Writes-behind, first-values, length-first, word-tail}
 use Rattle.bitvec_words.specs.WordLaws.{padded-all, take-all, word_whole}
 use Rattle.bitvec_store.specs.Width.{IsWidth}
 use Rattle.bitvec_store.specs.WidthLaws.{at_each_width, width_some}

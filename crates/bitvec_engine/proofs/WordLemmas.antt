@@ -7,7 +7,7 @@ use Rattle.bitvec_base.specs.Memory.{HasWindow, element_bits, list_in}
 use Rattle.bitvec_base.specs.Parts.{first_part_of, part_window}
 use Rattle.bitvec_base.specs.Window.{window_after, write_at}
 use Rattle.bitvec_base.specs.WriteLaws.{length-slice_range}
-use Rattle.bitvec_move.specs.WordLaws.{length-first}
+use Rattle.bitvec_words.specs.AcrossLaws.{length-first}
 use Rattle.bitvec_store.specs.Width.{IsWidth}
 use Rattle.bitvec_store.specs.WidthLaws.{at_each_width}
 use Rattle.bitvec_cells.specs.Walk.{Walked, passed}

@@ -1,4 +1,5 @@
 pub mod Direction
+pub mod Ends
 pub mod Pairs
 pub mod WordSteps
 pub mod WordStepsLaws

@@ -7,7 +7,9 @@ ghost use Rattle.std.specs.Prelude.{refl, true};
 use bitvec_base::{Lsb0, Msb0, Window};
 use bitvec_cells::{Cells, CellsRead};
 use bitvec_combine::{combine, equal};
-use bitvec_move::{copy, copy_within, reverse, swap};
+use bitvec_combine::copy;
+use bitvec_move::{copy_within, swap};
+use crate::reversing::words_reverse;
 use bitvec_words::{BitOp, WordOrder, reversed, words_load_front, words_scan_first};
 use crate::slice_order::{ByWords, SliceOrder};
 
@@ -77,7 +79,7 @@ impl<O: InWords> SliceOrder for O {
 
     #[inline(always)]
     fn block_reverse<C: Cells>(cells: &mut C, window: Window) {
-        reverse::<Self, C>(cells, window);
+        words_reverse::<Self, C>(cells, window);
     }
 
     #[inline(always)]

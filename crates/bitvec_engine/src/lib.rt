@@ -1,6 +1,7 @@
 //! Every bit operation on a window of a memory, through counted access to its elements.
 #![tactic(auto)]
 
+mod reversing;
 mod by_bits;
 mod by_elements;
 mod by_words;
@@ -19,3 +20,4 @@ pub use searching::{all, any, contains, ends_with, starts_with};
 pub use shifting::{reverse, rotate_left, rotate_right, shift_end, shift_start};
 pub use slice_order::{ByWords, SliceOrder};
 pub use storing::store_few;
+pub use reversing::words_reverse;

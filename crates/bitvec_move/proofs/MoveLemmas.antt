@@ -15,7 +15,7 @@ use Rattle.bitvec_cells.specs.CostLaws.{touched_read, touched_stored}
 use Rattle.bitvec_words.specs.TouchedLaws.{next-inside}
 use Rattle.bitvec_words.specs.WholeLaws.{HasWindow-part}
 use Rattle.bitvec_words.specs.WordLaws.{fits-word}
-use Rattle.bitvec_move.specs.Moves.{Copies, Swaps}
+use Rattle.bitvec_words.specs.Moves.{Copies, Swaps}
 
 -- ---- numbers
 

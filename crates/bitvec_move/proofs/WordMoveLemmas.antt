@@ -10,7 +10,7 @@ use Rattle.bitvec_base.specs.WritesLaws.{length-list, list-behind, list-range}
 use Rattle.bitvec_words.specs.Elements.{elements_window, elements_window_from}
 use Rattle.bitvec_words.specs.FieldLaws.{list-whole}
 use Rattle.bitvec_words.specs.WholeLaws.{HasWindow-part}
-use Rattle.bitvec_move.specs.Moves.{CopiesElements, CopiesSome, HasSkippedElements, IsToward, moved_place, nth_place, waiting_place}
+use Rattle.bitvec_words.specs.Moves.{CopiesElements, CopiesSome, HasSkippedElements, IsToward, moved_place, nth_place, waiting_place}
 use Rattle.bitvec_move.specs.WithinLaws.{list-ahead}
 
 -- ---- lists

@@ -1,10 +1,3 @@
-pub mod ActLaws
-pub mod Acts
-pub mod Ends
-pub mod Moves
-pub mod PlaceLaws
-pub mod PutLaws
 pub mod SwapLaws
 pub mod WaitingLaws
 pub mod WithinLaws
-pub mod WordLaws

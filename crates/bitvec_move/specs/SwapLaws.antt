@@ -16,7 +16,7 @@ use Rattle.bitvec_cells.specs.WalkLaws.{first-len}
 use Rattle.bitvec_words.specs.Elements.{elements_window, elements_window_from}
 use Rattle.bitvec_words.specs.FieldLaws.{element_of, list-part, list-whole, part-stored}
 use Rattle.bitvec_words.specs.WholeLaws.{HasWindow-part}
-use Rattle.bitvec_move.specs.Moves.{Swaps}
+use Rattle.bitvec_words.specs.Moves.{Swaps}
 
 -- ---- two windows side by side are a third
 

@@ -21,8 +21,8 @@ use Rattle.bitvec_words.specs.Elements.{elements_window, elements_window_from}
 use Rattle.bitvec_words.specs.FieldLaws.{Writes-none, element_of, list-both, list-whole}
 use Rattle.bitvec_words.specs.TouchedLaws.{head_edge, touched-after, touched-edge, touched-first, touched-inside}
 use Rattle.bitvec_words.specs.WholeLaws.{list-empty, touched-behind_from}
-use Rattle.bitvec_move.specs.Moves.{Copies, CopiesElements, CopiesSome, IsToward, late_words, nth_place, waiting_place}
-use Rattle.bitvec_move.specs.PlaceLaws.{next-inside}
+use Rattle.bitvec_words.specs.Moves.{Copies, CopiesElements, CopiesSome, IsToward, late_words, nth_place, waiting_place}
+use Rattle.bitvec_words.specs.MovedPlaceLaws.{next-inside}
 
 -- ---- writes side by side, the second place first
 

@@ -8,7 +8,7 @@ ghost use Rattle.bitvec_base.specs.Memory.{Edits, HasWindow};
 ghost use Rattle.bitvec_base.specs.Spans.{HasSpan};
 ghost use Rattle.bitvec_cells.specs.Access.{CostsAtMost};
 ghost use Rattle.bitvec_cells.specs.Cost.{edit_loads, write_stores};
-ghost use Rattle.bitvec_move.specs.Moves.{Copies};
+ghost use Rattle.bitvec_words.specs.Moves.{Copies};
 
 use bitvec_base::Window;
 use bitvec_cells::Cells;

@@ -7,15 +7,15 @@ ghost use Rattle.bitvec_base.specs.Spans.{HasSpan};
 ghost use Rattle.bitvec_cells.specs.Access.{Costs, CostsAtMost, OnlyReads};
 ghost use Rattle.bitvec_cells.specs.Cost.{touched_count};
 ghost use Rattle.bitvec_words.specs.Elements.{elements_window, elements_window_from};
-ghost use Rattle.bitvec_move.specs.Moves.{Copies, CopiesElements, HasSkippedElements, IsToward, late_words, nth_place, waiting_place};
+ghost use Rattle.bitvec_words.specs.Moves.{Copies, CopiesElements, HasSkippedElements, IsToward, late_words, nth_place, waiting_place};
 
 use bitvec_base::{BitOrder, Window, first_part};
 use bitvec_cells::{Cells, CellsRead};
 use bitvec_store::BitStore;
 use bitvec_words::{Carried, Lanes, Whole, WordOrder, load_element, store_part, toward_end};
 use crate::moving_words::{goes_by_words, shift_words};
-use crate::stretch::Stretch;
-use crate::{MANY_BITS, at_known_skip};
+use bitvec_words::Stretch;
+use bitvec_words::{MANY_BITS, at_known_skip};
 
 /// Moves the bits of a window to another of the same length. Condition: both lie in the memory, and
 /// aren't empty. The bits at both edges are loaded before the whole elements between them are moved,
@@ -76,7 +76,7 @@ fn store_edge<O: WordOrder, C: Cells>(cells: &mut C, window: Window, element: C:
 
 /// Moves a stretch of one memory to its whole elements.
 #[inline(always)]
-pub(crate) fn move_elements<O: WordOrder, C: Cells, const LATER: bool>(
+pub fn move_elements<O: WordOrder, C: Cells, const LATER: bool>(
     cells: &mut C,
     moved: Stretch,
 )

@@ -5,13 +5,13 @@ ghost use Rattle.std.specs.Prelude.{◌≡◌, ◌+◌, ◌<◌, ◌≤◌, ◌�
 ghost use Rattle.bitvec_base.specs.Memory.{HasWindow, element_bits, list_in};
 ghost use Rattle.bitvec_cells.specs.Access.{CostsAtMost, OnlyReads};
 ghost use Rattle.bitvec_words.specs.Elements.{elements_window_from};
-ghost use Rattle.bitvec_move.specs.Moves.{CopiesElements, HasSkippedElements, IsToward};
+ghost use Rattle.bitvec_words.specs.Moves.{CopiesElements, HasSkippedElements, IsToward};
 
 use bitvec_cells::{Cells, CellsRead};
 use bitvec_store::BitStore;
 use bitvec_words::{WORD_BITS, WordOrder, joined, load_elements, moved, store_elements};
 use crate::moving::{in_order, read_place};
-use crate::stretch::Stretch;
+use bitvec_words::Stretch;
 
 /// Whether so many bytes are moved by words: if they are many, but not very many, since those are moved faster by the
 /// loop for their shift.

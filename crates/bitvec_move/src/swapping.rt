@@ -3,7 +3,7 @@ ghost use Rattle.std.specs.Prelude.{true};
 ghost use Rattle.bitvec_base.specs.Spans.{HasSpan};
 ghost use Rattle.bitvec_cells.specs.Access.{CostsAtMost};
 ghost use Rattle.bitvec_cells.specs.Cost.{edit_loads, write_stores};
-ghost use Rattle.bitvec_move.specs.Moves.{Swaps};
+ghost use Rattle.bitvec_words.specs.Moves.{Swaps};
 
 use bitvec_base::{BitOrder, Window};
 use bitvec_cells::{Cells, CellsRead};

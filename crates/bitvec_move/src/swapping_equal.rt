@@ -5,7 +5,7 @@ ghost use Rattle.bitvec_base.specs.Spans.{HasSpan};
 ghost use Rattle.bitvec_cells.specs.Access.{Costs};
 ghost use Rattle.bitvec_cells.specs.Cost.{touched_count};
 ghost use Rattle.bitvec_words.specs.Elements.{elements_window};
-ghost use Rattle.bitvec_move.specs.Moves.{Swaps};
+ghost use Rattle.bitvec_words.specs.Moves.{Swaps};
 
 use bitvec_base::{BitOrder, Part, Window, first_part, tail_part, whole_elements};
 use bitvec_cells::{Cells, CellsRead};

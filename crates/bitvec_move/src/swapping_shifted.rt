@@ -5,14 +5,14 @@ ghost use Rattle.bitvec_base.specs.Parts.{part_window};
 ghost use Rattle.bitvec_base.specs.Spans.{HasSpan};
 ghost use Rattle.bitvec_cells.specs.Access.{Costs};
 ghost use Rattle.bitvec_cells.specs.Cost.{touched_count};
-ghost use Rattle.bitvec_move.specs.Moves.{HasPartSpan, HasSkippedElements, HasSkippedSpan, Swaps, SwapsElements};
+ghost use Rattle.bitvec_words.specs.Moves.{HasPartSpan, HasSkippedElements, HasSkippedSpan, Swaps, SwapsElements};
 
 use bitvec_base::{BitOrder, Part, Window, first_part, tail_part};
 use bitvec_cells::{Cells, CellsRead};
 use bitvec_store::BitStore;
 use bitvec_words::{WordOrder, joined, merged, toward_end, toward_start};
-use crate::stretch::Stretch;
-use crate::{MANY_BITS, at_known_skip};
+use bitvec_words::Stretch;
+use bitvec_words::{MANY_BITS, at_known_skip};
 
 /// Exchanges two windows whose first bits have different indices in their elements. Condition: as
 /// of [`crate::swap`], and the windows aren't empty.

@@ -3,7 +3,7 @@ use Rattle.std.proofs.lemmas.List.{get_or-map, length-map}
 use Rattle.bitvec_base.specs.Memory.{element_bits, memory_bits}
 use Rattle.bitvec_base.specs.MemoryLaws.{element-range, element_fits, length-memory_bits}
 use Rattle.bitvec_base.specs.Window.{window_of}
-use Rattle.bitvec_move.specs.WordLaws.{word-across}
+use Rattle.bitvec_words.specs.AcrossLaws.{word-across}
 use Rattle.bitvec_words.specs.WordLaws.{word_whole}
 use Rattle.bitvec_words.specs.FieldLaws.{element_of}
 use Rattle.bitvec_elements.proofs.ElementLemmas.{next-inside}

@@ -1,5 +1,5 @@
 use Rattle.std.proofs.Common.{◌%◌, ◌/◌, ◌+◌, ap, arith, length, refl, ◌∙◌}
-use Rattle.bitvec_move.specs.WordLaws.{word-next}
+use Rattle.bitvec_words.specs.AcrossLaws.{word-next}
 use Rattle.bitvec_store.specs.WidthLaws.{width_some}
 use Rattle.bitvec_words.specs.TouchedLaws.{part_loads-most}
 use Rattle.bitvec_engine.proofs.FewLemmas.{stored-across, touched-across}

@@ -3,7 +3,7 @@ use Rattle.bitvec_base.specs.declared.part.Part.{Part}
 use Rattle.bitvec_base.specs.Memory.{element_bits}
 use Rattle.bitvec_base.specs.Parts.{first_part_of}
 use Rattle.bitvec_base.specs.WritesLaws.{Writes-empty, Writes-is}
-use Rattle.bitvec_move.specs.PlaceLaws.{head-part}
+use Rattle.bitvec_words.specs.MovedPlaceLaws.{head-part}
 use Rattle.bitvec_store.specs.WidthLaws.{width_some}
 use Rattle.bitvec_words.specs.FillingLaws.{fill_loads-some}
 use Rattle.bitvec_words.specs.TouchedLaws.{part_loads-most, touched-first}

@@ -1,7 +1,7 @@
 use Rattle.std.proofs.Common.{ℕ, ◌≡◌, ◌*◌, ◌<◌, ◌≤◌, arith, refl}
 use Rattle.std.proofs.lemmas.Bool.Decides.{nat_tests}
-use Rattle.bitvec_move.specs.Moves.{late_words}
-use Rattle.bitvec_move.specs.PlaceLaws.{from-inside, from-word}
+use Rattle.bitvec_words.specs.Moves.{late_words}
+use Rattle.bitvec_words.specs.MovedPlaceLaws.{from-inside, from-word}
 use Rattle.bitvec_move.proofs.WordMoveLemmas.{waiting-below}
 use Rattle.bitvec_move.proofs.moving.move_elements.Goals as goal
 

@@ -1,7 +1,7 @@
 use Rattle.std.proofs.Common.{Bool, ◌≡◌, ◌+◌, ◌*◌, ◌∙◌, ap, arith, nat_eq, not, rules, slice_index}
 use Rattle.bitvec_base.specs.Memory.{element_bits, list_in}
 use Rattle.bitvec_store.specs.WidthLaws.{width_some}
-use Rattle.bitvec_move.specs.Moves.{nth_place}
+use Rattle.bitvec_words.specs.Moves.{nth_place}
 use Rattle.bitvec_move.specs.WithinLaws.{CopiesSome-kept, CopiesSome-more, CopiesSome-none, list-whole_next, nth-waiting}
 use Rattle.bitvec_move.proofs.moving.move_whole.Goals as goal
 

@@ -1,6 +1,6 @@
 use Rattle.std.proofs.Common.{nat_eq, not}
 use Rattle.bitvec_cells.specs.Access.{Costs}
-use Rattle.bitvec_move.specs.Moves.{CopiesSome}
+use Rattle.bitvec_words.specs.Moves.{CopiesSome}
 use Rattle.bitvec_move.proofs.moving.move_whole.Given as goal
 
 abbrev pub invariant-loop-passed : goal.invariant-loop-passed

@@ -1,7 +1,7 @@
 use Rattle.std.proofs.Common.{◌≡◌, ◌+◌, ◌*◌, if◌then◌else◌, nat_eq, not, slice_index, slice_range}
 use Rattle.bitvec_base.specs.Memory.{element_bits}
 use Rattle.bitvec_cells.specs.Access.{Costs}
-use Rattle.bitvec_move.specs.Moves.{CopiesSome, waiting_place}
+use Rattle.bitvec_words.specs.Moves.{CopiesSome, waiting_place}
 use Rattle.bitvec_move.proofs.moving_words.shift_words.Given as goal
 
 abbrev pub invariant-loop-step : goal.invariant-loop-step

@@ -3,7 +3,7 @@ use Rattle.bitvec_store.specs.WidthLaws.{width_some}
 use Rattle.bitvec_move.specs.SwapLaws.{Swaps-joined, beside-tail}
 use Rattle.bitvec_words.specs.TouchedLaws.{touched-full, touched-more}
 use Rattle.bitvec_words.specs.WholeLaws.{window-end}
-use Rattle.bitvec_move.specs.PlaceLaws.{tail-inside, tail-part, tail-word, whole-span}
+use Rattle.bitvec_words.specs.MovedPlaceLaws.{tail-inside, tail-part, tail-word, whole-span}
 use Rattle.bitvec_words.specs.WordLaws.{width-some}
 use Rattle.bitvec_move.proofs.MoveLemmas.{Swaps-same}
 use Rattle.std.proofs.lemmas.Nat.{div-add-mod'}

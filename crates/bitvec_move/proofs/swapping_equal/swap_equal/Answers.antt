@@ -7,7 +7,7 @@ use Rattle.bitvec_words.specs.FieldLaws.{first_part-long}
 use Rattle.bitvec_move.specs.SwapLaws.{Swaps-joined, beside-head}
 use Rattle.bitvec_words.specs.TouchedLaws.{touched-head, touched-rest}
 use Rattle.bitvec_words.specs.WholeLaws.{window-end}
-use Rattle.bitvec_move.specs.PlaceLaws.{behind-edge, head-element, head-part}
+use Rattle.bitvec_words.specs.MovedPlaceLaws.{behind-edge, head-element, head-part}
 use Rattle.bitvec_words.specs.WordLaws.{width-some}
 use Rattle.bitvec_move.proofs.MoveLemmas.{after-span, head-fits, head-order}
 use Rattle.bitvec_move.proofs.swapping_equal.swap_equal.Goals as goal

@@ -1,6 +1,6 @@
 use Rattle.bitvec_cells.specs.Access.{Costs}
 use Rattle.bitvec_words.specs.Elements.{elements_window}
-use Rattle.bitvec_move.specs.Moves.{Swaps}
+use Rattle.bitvec_words.specs.Moves.{Swaps}
 use Rattle.bitvec_move.proofs.swapping_equal.swap_whole.Given as goal
 
 abbrev pub invariant-loop-step : goal.invariant-loop-step

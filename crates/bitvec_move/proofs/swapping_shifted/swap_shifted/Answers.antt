@@ -10,7 +10,7 @@ use Rattle.bitvec_move.specs.SwapLaws.{Swaps-joined, beside-head, beside-parted}
 use Rattle.bitvec_words.specs.TouchedLaws.{apart_edge, inside_element, touched-first, touched-head, touched-inside, touched-rest}
 use Rattle.bitvec_words.specs.WholeLaws.{window-end}
 use Rattle.bitvec_move.specs.WithinLaws.{part-first}
-use Rattle.bitvec_move.specs.PlaceLaws.{behind-edge, head-element, head-part}
+use Rattle.bitvec_words.specs.MovedPlaceLaws.{behind-edge, head-element, head-part}
 use Rattle.bitvec_words.specs.WordLaws.{width-some}
 use Rattle.bitvec_move.proofs.MoveLemmas.{head-fits, head-order, place-element}
 use Rattle.bitvec_move.proofs.swapping_shifted.swap_shifted.Goals as goal

@@ -1,0 +1,52 @@
+-- What the act that copies leaves of a window, of a window cut in two, and of an element.
+use Rattle.std.specs.Prelude.{◌≡◌, ℕ, ◌+◌, ◌-◌, ◌*◌, ◌<◌, ◌≤◌, List, Bool, [], ◌++◌, refl}
+use Rattle.std.proofs.Common.{arith, rules}
+use Rattle.std.proofs.lemmas.List.{length-set}
+use Rattle.std.proofs.lemmas.Nat.{mod-mul-add}
+use Rattle.bitvec_base.specs.declared.part.Part.{Part}
+use Rattle.bitvec_base.specs.declared.window.Window.{Window}
+use Rattle.bitvec_base.specs.Memory.{HasWindow}
+use Rattle.bitvec_base.specs.MemoryLaws.{length-element_bits, set-element}
+use Rattle.bitvec_base.specs.Parts.{part_window}
+use Rattle.bitvec_base.specs.Spans.{HasSpan}
+use Rattle.bitvec_base.specs.WritesLaws.{Writes-empty, Writes-is, Writes-join, length-list}
+use Rattle.bitvec_cells.specs.declared.cells.CellsRead.{Ghosts as Access}
+use Rattle.bitvec_store.specs.Width.{IsWidth}
+use Rattle.bitvec_store.specs.WidthLaws.{width_some}
+use Rattle.bitvec_cells.specs.Cost.{part_loads}
+use Rattle.bitvec_words.specs.TouchedLaws.{touched-edge, touched-first}
+use Rattle.bitvec_combine.specs.Acts.{IsCut, PutsBits, bits_beside, inside_edges}
+use Rattle.bitvec_combine.specs.ActLaws.{padded-full}
+use Rattle.bitvec_words.specs.Moves.{Copies}
+
+-- ---- the laws of the act
+
+pub Puts-none : {E C : Type 0} (access : Access C E) (b : ℕ) (at : ℕ → ℕ → ℕ) (c : C) (window : Window) → HasWindow b (access.numbers c) window → window.len ≡ 0 → PutsBits access b at c c window []
+Puts-none access b at c window has none = record {
+  writes = Writes-empty _ _ _ _ window has none refl;
+  cost = search rules;
+}
+
+pub Puts-join : {E C : Type 0} (access : Access C E) (b : ℕ) (at : ℕ → ℕ → ℕ) (c d e : C) (whole first second : Window) (list other : List Bool) → IsWidth b → HasWindow b (access.numbers c) whole → IsCut b whole first second
+    → PutsBits access b at c d first list → PutsBits access b at d e second other → PutsBits access b at c e whole (list ++ other)
+Puts-join access b at c d e whole first second list other width has cut before after = record {
+  writes = Writes-join _ _ _ _ _ first second whole list other has cut.start cut.next cut.len before.writes after.writes;
+  cost = rw cut.len (grind (arith, touched-edge b whole.start first.len second.len (width_some b width)));
+}
+
+-- ---- a part of an element
+
+pub part-edges : (b : ℕ) (part : Part) → part.from < part.to → part.to ≤ b → part_loads b part ≤ inside_edges b (part_window b part)
+part-edges b part some bound =
+    let end : part.element * b + part.from + (part.to - part.from) ≡ part.element * b + part.to = omega arith in
+    rw end (grind (arith, mod-mul-add part.element b part.from, mod-mul-add part.element b part.to))
+
+-- one load unless it is all of the element, and one store, are within the bounds
+pub ruleset stored = (part-edges, set-element, length-element_bits, length-set, width_some, touched-first)
+
+-- ---- two windows as long
+
+pub Puts-beside : {E C : Type 0} {access : Access C E} {b : ℕ} {at : ℕ → ℕ → ℕ} {c d : C} {ys : List ℕ} {left right other : Window} → HasSpan b (access.numbers c) ys left right → other ≡ right
+    → PutsBits access b at c d left (bits_beside b at ys left other) → Copies b at (access.numbers c) (access.numbers d) left ys right
+Puts-beside {E} {C} {access} {b} {at} {c} {d} {ys} {left} {right} span is puts =
+    Writes-is _ _ _ _ _ _ _ puts.writes (rw (is, span.lengths) (padded-full right.len _ (length-list b at ys right span.beside)))

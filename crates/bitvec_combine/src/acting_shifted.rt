@@ -1,0 +1,132 @@
+//! Elements joined of two, for windows that begin at different indices of their elements.
+ghost use Rattle.std.specs.Prelude.{◌≡◌, false};
+ghost use Rattle.bitvec_combine.specs.Acts.{ActsOnStretch, HasStretch, stretch_at};
+
+use bitvec_base::Window;
+use bitvec_cells::CellsRead;
+use bitvec_store::BitStore;
+use bitvec_words::{Carried, Lanes, Whole, WordOrder, load_element_after, toward_end};
+use crate::acting::Act;
+use crate::phases::Phases;
+use bitvec_words::Stretch;
+use bitvec_words::{MANY_BITS, at_known_skip};
+
+/// The windows begin at different indices of their elements: the last element loaded is carried, and joined with the
+/// next one.
+pub struct Shifted {}
+
+impl<O: WordOrder> Phases<O> for Shifted {
+    ghost equal = { false };
+
+    #[inline(always)]
+    fn first<D: CellsRead>(right: &mut D, element: usize) -> D::Elem {
+        right.load(element)
+    }
+
+    #[inline(always)]
+    fn beside<D: CellsRead>(
+        right: &mut D,
+        window: Window,
+        index: usize,
+        carry: D::Elem,
+    ) -> (D::Elem, D::Elem) {
+        let (front, last) = load_element_after::<O, D>(right, window, carry);
+        (toward_end::<O, D::Elem>(front, index), last)
+    }
+
+    #[inline(always)]
+    fn act_on_stretch<C: CellsRead, D: CellsRead<Elem = C::Elem>, A: Act<C>>(
+        left: &mut C,
+        stretch: Stretch,
+        right: &mut D,
+        carry: C::Elem,
+        act: &mut A,
+    ) -> C::Elem {
+        if C::Elem::BITS == u128::BITS {
+            return act_on_pairs::<O, C, D, A>(left, stretch, right, carry, act);
+        }
+        let (from, at, skip, count) = (stretch.first, stretch.source, stretch.skip, stretch.count);
+        if C::Elem::BITS <= u16::BITS && count >= MANY_BITS / C::Elem::BITS as usize {
+            return at_known_skip!(
+                skip,
+                act_carried::<O, C, D, A, Whole<_>>(left, from, right, at, skip, count, carry, act)
+            );
+        }
+        act_carried::<O, C, D, A, Whole<_>>(left, from, right, at, skip, count, carry, act)
+    }
+
+    /// Out of line, with the act in registers.
+    fn act_on_span<C: CellsRead, D: CellsRead<Elem = C::Elem>, A: Act<C>>(
+        left: &mut C,
+        span: Stretch,
+        right: &mut D,
+        carry: C::Elem,
+        act: &mut A,
+    ) -> C::Elem {
+        let mut held = *act;
+        let last = <Self as Phases<O>>::act_on_stretch::<C, D, A>(
+            left, span, right, carry, &mut held,
+        );
+        *act = held;
+        last
+    }
+}
+
+/// Acts on elements of 128 bits, two a pass: the compiler unrolls a loop over such elements for no number of passes
+/// that it doesn't know.
+#[inline(always)]
+fn act_on_pairs<O: WordOrder, C: CellsRead, D: CellsRead<Elem = C::Elem>, A: Act<C>>(
+    left: &mut C,
+    stretch: Stretch,
+    right: &mut D,
+    carry: C::Elem,
+    act: &mut A,
+) -> C::Elem
+    requires wide { C.Elem.BITS ≡ 128 }
+    requires stretch { HasStretch C.Elem.BITS (C.numbers left.old) (D.numbers right.old) stretch false (C.Elem.value carry) }
+    ensures { ActsOnStretch D.CellsRead A.Done C.Elem.BITS O.at left.old left.new right.old right.new stretch false act.old act.new (C.Elem.value result) }
+{
+    let mut last = carry;
+    for pair in 0..stretch.count / 2 {
+        let two = stretch.part(2 * pair, 2);
+        let (from, at, skip) = (two.first, two.source, two.skip);
+        last = act_carried::<O, C, D, A, Lanes>(left, from, right, at, skip, 2, last, act);
+    }
+    let rest = stretch.part(stretch.count - stretch.count % 2, stretch.count % 2);
+    let (from, at, skip) = (rest.first, rest.source, rest.skip);
+    act_carried::<O, C, D, A, Lanes>(left, from, right, at, skip, rest.count, last, act)
+}
+
+/// Acts on whole elements, each given one that is joined of two, where each of the right ones is carried to the next pass
+/// in a form that fits the width. It takes a stretch's numbers: the compiler may know `skip`, and a struct's fields
+/// count where it is seen how much is inlined.
+#[inline(always)]
+fn act_carried<
+    O: WordOrder,
+    C: CellsRead,
+    D: CellsRead<Elem = C::Elem>,
+    A: Act<C>,
+    K: Carried<C::Elem>,
+>(
+    left: &mut C,
+    first: usize,
+    right: &mut D,
+    source: usize,
+    skip: usize,
+    count: usize,
+    carry: C::Elem,
+    act: &mut A,
+) -> C::Elem
+    requires form { K.fits C.Elem.BITS }
+    requires stretch { HasStretch C.Elem.BITS (C.numbers left.old) (D.numbers right.old) (stretch_at first source skip count) false (C.Elem.value carry) }
+    ensures { ActsOnStretch D.CellsRead A.Done C.Elem.BITS O.at left.old left.new right.old right.new (stretch_at first source skip count) false act.old act.new (C.Elem.value result) }
+{
+    let mut last = K::of(carry);
+    for step in 0..count {
+        let next = K::of(right.load(source + step + 1));
+        let other = last.joined::<O>(&next, skip);
+        act.whole::<O>(left, first + step, other);
+        last = next;
+    }
+    last.element()
+}
