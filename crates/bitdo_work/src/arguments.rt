@@ -2,8 +2,8 @@
 ghost use Rattle.std.specs.Prelude.{◌≡◌, ◌∷◌, [], map, string_bytes, option_and_then};
 ghost use Rattle.bitdo_work.specs.Arguments.{own_request, request_of};
 
-use bitvec_base::Window;
 use crate::words::parse_number;
+use bitvec_base::Window;
 
 /// The six arguments. All but the window are still words: the width and the order choose what runs,
 /// and the memories are read by the width.

@@ -7,16 +7,16 @@ ghost use Rattle.bitdo_work.specs.Faults.{status_of, fault_text};
 ghost use Rattle.bitdo_work.specs.Program.{IsRun, HasRun, HasFault, Works};
 ghost use Rattle.bitdo_work.specs.Texts.{line_of};
 
-use bitvec_base::{HiLo, Lsb0, Msb0, Window};
-use bitvec_cells::{Exclusive, Shared};
-use bitvec_engine::SliceOrder;
-use bitvec_run::{Reply, RunError, Step, run};
-use bitvec_store::BitStore;
 use crate::arguments::Arguments;
 use crate::elements::parse_elements;
 use crate::fault::Fault;
 use crate::input::read_steps;
 use crate::print::{print_fault, print_run};
+use bitvec_base::{HiLo, Lsb0, Msb0, Window};
+use bitvec_cells::{Exclusive, Shared};
+use bitvec_engine::SliceOrder;
+use bitvec_run::{Reply, RunError, Step, run};
+use bitvec_store::BitStore;
 use std::alloc::Allocator;
 use std::io::{Read, Write};
 

@@ -3,10 +3,10 @@ ghost use Rattle.std.specs.Prelude.{◌≡◌, ◌+◌, ◌-◌, ◌/◌, ◌%�
 ghost use Rattle.bitvec_base.specs.Memory.{Edits, HasWindow, list_in};
 ghost use Rattle.bitvec_cells.specs.Access.{Costs, OnlyReads};
 
-use bitvec_base::{BitOrder, Window};
-use bitvec_store::BitStore;
 use crate::part::put;
 use crate::{Cells, CellsRead};
+use bitvec_base::{BitOrder, Window};
+use bitvec_store::BitStore;
 
 /// The bit at an index of a window. Condition: the memory has at most `MAX_BITS` bits, the window
 /// lies in it, and the index is below the window's length. It takes one load.

@@ -3,10 +3,10 @@ ghost use Rattle.std.specs.Prelude.{◌≡◌, ◌+◌, ◌/◌, ◌^◌, ◌<�
 ghost use Rattle.std.specs.Simd.Lanes.{digits_l};
 ghost use Rattle.bitvec_cells.specs.Accessors.{exclusive_numbers, exclusive_borrow, exclusive_loads, exclusive_stores};
 
-use bitvec_store::BitStore;
 use crate::counts::Counts;
 use crate::shared::word_of;
 use crate::{Cells, CellsRead};
+use bitvec_store::BitStore;
 
 /// The accessor of an exclusive slice, which holds the accessor's list once it ends. It is as
 /// large as the slice's reference, since its counts take no bytes.

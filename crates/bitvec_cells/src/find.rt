@@ -6,10 +6,10 @@ ghost use Rattle.bitvec_base.specs.Parts.{HasPart, part_window};
 ghost use Rattle.bitvec_cells.specs.Access.{OnlyReads};
 ghost use Rattle.bitvec_cells.specs.Sought.{Shows};
 
-use bitvec_base::{BitOrder, Part};
-use bitvec_store::BitStore;
 use crate::CellsRead;
 use crate::part::masked;
+use bitvec_base::{BitOrder, Part};
+use bitvec_store::BitStore;
 
 /// The element whose ones are the bits of a part that are `want`. Condition: `from <= to`, and `to`
 /// is at most the width.

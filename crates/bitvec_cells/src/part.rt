@@ -7,9 +7,9 @@ ghost use Rattle.bitvec_cells.specs.Access.{Costs, OnlyReads};
 ghost use Rattle.bitvec_cells.specs.Cost.{part_loads};
 ghost use Rattle.bitvec_cells.specs.Element.{put_mask};
 
+use crate::{Cells, CellsRead};
 use bitvec_base::{BitOrder, Part};
 use bitvec_store::BitStore;
-use crate::{Cells, CellsRead};
 
 /// The element with the mask's bits set, or cleared.
 pub(crate) fn put<T: BitStore>(element: T, mask: T, bit: bool) -> T

@@ -3,9 +3,9 @@ ghost use Rattle.std.specs.Prelude.{◌≡◌, ◌+◌, ◌/◌, ◌^◌, ◌<�
 ghost use Rattle.std.specs.Simd.Lanes.{digits_l};
 ghost use Rattle.bitvec_cells.specs.Accessors.{shared_numbers, shared_borrow, shared_loads, shared_stores};
 
-use bitvec_store::BitStore;
 use crate::CellsRead;
 use crate::counts::Counts;
+use bitvec_store::BitStore;
 
 /// The accessor of a shared slice. It is as large as the slice's reference, since its counts take
 /// no bytes.

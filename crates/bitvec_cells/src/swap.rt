@@ -3,10 +3,10 @@ ghost use Rattle.std.specs.Prelude.{◌<◌, swap};
 ghost use Rattle.bitvec_base.specs.Memory.{Edits, HasWindow};
 ghost use Rattle.bitvec_cells.specs.Access.{Costs};
 
-use bitvec_base::{BitOrder, Window};
-use bitvec_store::BitStore;
 use crate::bit::{get_bit, replace_bit};
 use crate::{Cells, CellsRead};
+use bitvec_base::{BitOrder, Window};
+use bitvec_store::BitStore;
 
 /// Exchanges the bits at two indices of a window; all other bits of the memory stay. Condition: the
 /// memory has at most `MAX_BITS` bits, the window lies in it, and both indices, which may be one,

@@ -4,10 +4,10 @@ ghost use Rattle.bitvec_checked.specs.Calls.{Asks, Edits};
 ghost use Rattle.bitvec_checked.specs.Replies.{bit_of};
 ghost use Rattle.bitvec_checked.specs.Statuses.{bits_from};
 
+use crate::status::{DONE, index_status, indices_status, or_next, window_status};
 use bitvec_base::Window;
 use bitvec_domain::{bit_in, replace_in, set_in, swap_in};
 use bitvec_store::BitStore;
-use crate::status::{DONE, index_status, indices_status, or_next, window_status};
 
 /// The bit at an index of a window.
 pub fn get<T: BitStore>(

@@ -5,10 +5,10 @@ ghost use Rattle.bitvec_checked.specs.Calls.{AsksBeside};
 ghost use Rattle.bitvec_checked.specs.Replies.{bit_of, order_number, order_of};
 ghost use Rattle.bitvec_checked.specs.Statuses.{bits_from};
 
+use crate::status::{DONE, windows_status};
 use bitvec_base::Window;
 use bitvec_elements::{compare_block_in, eq_blocks_in};
 use bitvec_store::BitStore;
-use crate::status::{DONE, windows_status};
 use std::cmp::Ordering;
 
 /// Whether two windows have the same bits.

@@ -6,11 +6,11 @@ ghost use Rattle.bitvec_checked.specs.Calls.{Asks};
 ghost use Rattle.bitvec_checked.specs.Replies.{bit_of, count_of};
 ghost use Rattle.bitvec_checked.specs.Statuses.{bits_from};
 
+use crate::status::{DONE, window_status};
 use bitvec_base::{BitOrder, Window};
 use bitvec_cells::Shared;
 use bitvec_elements::{all_in, any_in, count_blocks_in};
 use bitvec_store::BitStore;
-use crate::status::{DONE, window_status};
 
 /// How many bits of a window are 1.
 pub fn count_ones<T: BitStore>(

@@ -3,10 +3,10 @@ ghost use Rattle.bitvec_run.specs.declared.command.Op.TheVariants.{Fill, Invert}
 ghost use Rattle.bitvec_checked.specs.Calls.{Edits};
 ghost use Rattle.bitvec_checked.specs.Statuses.{bits_from};
 
+use crate::status::{DONE, window_status};
 use bitvec_base::Window;
 use bitvec_elements::{fill_in, invert_in};
 use bitvec_store::BitStore;
-use crate::status::{DONE, window_status};
 
 /// Makes each bit of a window `bit`.
 pub fn fill<T: BitStore>(order: u32, elements: &mut [T], start: usize, len: usize, bit: bool) -> u32

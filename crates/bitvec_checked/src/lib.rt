@@ -31,5 +31,7 @@ pub use moving::{copy_within, reverse, rotate_left, rotate_right, shift_end, shi
 pub use needles::{contains, ends_with, starts_with};
 pub use numbers::{load_be, load_le, store_be, store_le};
 pub use scanning::{first_one, first_zero, last_one, last_zero};
-pub use status::{DONE, LSB0, MSB0, NONE, ORDER, SIZE, end_status, memories_status, or_next, window_status};
+pub use status::{
+    DONE, LSB0, MSB0, NONE, ORDER, SIZE, end_status, memories_status, or_next, window_status,
+};
 pub use transfers::{and, copy, or, swap, xor};

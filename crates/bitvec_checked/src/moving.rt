@@ -3,10 +3,12 @@ ghost use Rattle.bitvec_run.specs.declared.command.Op.TheVariants.{CopyWithin, R
 ghost use Rattle.bitvec_checked.specs.Calls.{Edits};
 ghost use Rattle.bitvec_checked.specs.Statuses.{bits_from};
 
+use crate::status::{DONE, amount_status, or_next, ranges_status, window_status};
 use bitvec_base::Window;
 use bitvec_store::BitStore;
-use bitvec_within::{copy_within_in, reverse_in, rotate_left_in, rotate_right_in, shift_end_in, shift_start_in};
-use crate::status::{DONE, amount_status, or_next, ranges_status, window_status};
+use bitvec_within::{
+    copy_within_in, reverse_in, rotate_left_in, rotate_right_in, shift_end_in, shift_start_in,
+};
 
 /// Puts the bits of a window in the opposite order.
 pub fn reverse<T: BitStore>(order: u32, elements: &mut [T], start: usize, len: usize) -> u32

@@ -7,11 +7,11 @@ ghost use Rattle.bitvec_checked.specs.Calls.{AsksBeside};
 ghost use Rattle.bitvec_checked.specs.Replies.{bit_of};
 ghost use Rattle.bitvec_checked.specs.Statuses.{bits_from};
 
+use crate::status::{DONE, windows_status};
 use bitvec_base::Window;
 use bitvec_cells::Shared;
 use bitvec_engine::SliceOrder;
 use bitvec_store::BitStore;
-use crate::status::{DONE, windows_status};
 
 /// Whether the bits of the right window begin those of a window.
 pub fn starts_with<T: BitStore>(
@@ -53,7 +53,12 @@ fn starts_with_in<T: BitStore, O: SliceOrder>(
 {
     let mut cells = Shared::new(elements);
     let mut beside = Shared::new(right);
-    bitvec_engine::starts_with::<O, Shared<T>, Shared<T>>(&mut cells, window, &mut beside, right_window)
+    bitvec_engine::starts_with::<O, Shared<T>, Shared<T>>(
+        &mut cells,
+        window,
+        &mut beside,
+        right_window,
+    )
 }
 
 /// Whether the bits of the right window end those of a window.
@@ -96,7 +101,12 @@ fn ends_with_in<T: BitStore, O: SliceOrder>(
 {
     let mut cells = Shared::new(elements);
     let mut beside = Shared::new(right);
-    bitvec_engine::ends_with::<O, Shared<T>, Shared<T>>(&mut cells, window, &mut beside, right_window)
+    bitvec_engine::ends_with::<O, Shared<T>, Shared<T>>(
+        &mut cells,
+        window,
+        &mut beside,
+        right_window,
+    )
 }
 
 /// Whether the bits of the right window stand together somewhere among those of a window.

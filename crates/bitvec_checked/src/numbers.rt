@@ -5,11 +5,11 @@ ghost use Rattle.bitvec_segments.specs.Segments.{loaded_be, loaded_le, stored_be
 ghost use Rattle.bitvec_checked.specs.Calls.{Loads, Stores};
 ghost use Rattle.bitvec_checked.specs.Statuses.{bits_from};
 
+use crate::status::{DONE, or_next, width_status, window_status};
 use bitvec_base::Window;
 use bitvec_cells::{Exclusive, Shared};
 use bitvec_segments::FieldOrder;
 use bitvec_store::BitStore;
-use crate::status::{DONE, or_next, width_status, window_status};
 
 /// The number of the bits of a window, the first segment lowest.
 pub fn load_le<T: BitStore>(

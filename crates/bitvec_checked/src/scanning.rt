@@ -3,10 +3,10 @@ ghost use Rattle.bitvec_run.specs.declared.command.Op.TheVariants.{FirstOne, Fir
 ghost use Rattle.bitvec_checked.specs.Calls.{Seeks};
 ghost use Rattle.bitvec_checked.specs.Statuses.{bits_from};
 
+use crate::status::{DONE, NONE, window_status};
 use bitvec_base::Window;
 use bitvec_elements::{find_first_in, find_last_in};
 use bitvec_store::BitStore;
-use crate::status::{DONE, NONE, window_status};
 
 /// The index of the first bit of a window that is 1.
 pub fn first_one<T: BitStore>(

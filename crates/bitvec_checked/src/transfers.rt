@@ -3,11 +3,11 @@ ghost use Rattle.bitvec_run.specs.declared.command.Op.TheVariants.{And, CopyFrom
 ghost use Rattle.bitvec_checked.specs.Calls.{EditsBeside, Swaps};
 ghost use Rattle.bitvec_checked.specs.Statuses.{bits_from};
 
+use crate::status::{DONE, equal_windows_status, windows_status};
 use bitvec_base::Window;
 use bitvec_elements::{combine_block_in, copy_from_long_block_in, swap_with_block_in};
 use bitvec_store::BitStore;
 use bitvec_words::BitOp;
-use crate::status::{DONE, equal_windows_status, windows_status};
 
 /// Copies the bits of the right window, which is as long.
 pub fn copy<T: BitStore>(

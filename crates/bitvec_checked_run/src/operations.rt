@@ -3,9 +3,9 @@ ghost use Rattle.std.specs.Prelude.{◌≡◌, ◌+◌, ◌*◌, ◌^◌, ◌<�
 ghost use Rattle.bitvec_run.specs.declared.field_step.FieldOp.TheVariants.{Plain};
 ghost use Rattle.bitvec_checked_run.specs.Steps.{operation_of};
 
+use crate::steps::RawStep;
 use bitvec_base::Window;
 use bitvec_run::{FieldOp, Op};
-use crate::steps::RawStep;
 
 pub const GET: u32 = 0;
 

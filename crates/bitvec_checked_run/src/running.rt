@@ -4,6 +4,9 @@ ghost use Rattle.bitvec_base.specs.Memory.{FitsMaxBits, HasWindow, Writes, list_
 ghost use Rattle.bitvec_checked_run.specs.Runs.{FitRoom, Runs, are_steps, list_after_steps, raw_replies, steps_status};
 ghost use Rattle.bitvec_checked.specs.Statuses.{bits_from};
 
+use crate::operations::OPERATIONS;
+use crate::replies::RawReply;
+use crate::steps::RawStep;
 use bitvec_base::{Lsb0, Msb0, Window};
 use bitvec_cells::{Cells, CellsRead, Exclusive, Shared};
 use bitvec_checked::{DONE, LSB0, memories_status, or_next};
@@ -11,9 +14,6 @@ use bitvec_engine::SliceOrder;
 use bitvec_run::{carry_out_field, whole};
 use bitvec_segments::FieldOrder;
 use bitvec_store::BitStore;
-use crate::operations::OPERATIONS;
-use crate::replies::RawReply;
-use crate::steps::RawStep;
 
 /// A step has the number of no operation.
 pub const OP: u32 = 12;

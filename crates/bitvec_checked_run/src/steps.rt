@@ -1,8 +1,8 @@
 //! Steps of a run as structs of numbers.
 ghost use Rattle.std.specs.Prelude.{◌≡◌, ◌<◌};
 
-use bitvec_run::FieldStep;
 use crate::operations::operation;
+use bitvec_run::FieldStep;
 
 /// One step of a run, on the bits `from` up to, without, `to` of its window. What its other fields mean
 /// says the operation.

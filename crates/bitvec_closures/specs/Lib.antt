@@ -1,16 +1,12 @@
 pub mod CoversLaws
 pub mod Elements
-pub mod ElementsLaws
 pub mod InPlace
 pub mod InPlaceLaws
 pub mod LeftLaws
-pub mod NumberedLaws
 pub mod Pieces
 pub mod SplitEdits
 pub mod SplitEditsLaws
 pub mod ToSplit
-pub mod ToSplitLaws
 pub mod InTurnLaws
-pub mod SplitCallsLaws
 pub mod ViewInPlace
 pub mod WritesLaws

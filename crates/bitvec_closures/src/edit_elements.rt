@@ -6,10 +6,10 @@ ghost use Rattle.bitvec_slice.specs.Seen.{CoversElements, IsWhole};
 ghost use Rattle.bitvec_closures.specs.Elements.{EditsElements};
 ghost use Rattle.bitvec_closures.specs.Pieces.{MayEdit};
 
+use crate::EditParts;
 use bitvec_base::BitOrder;
 use bitvec_slice::BitSliceMut;
 use bitvec_store::BitStore;
-use crate::EditParts;
 
 /// Edits of borrowed elements by a closure over a view of all their bits. So an array is edited in one
 /// function, or in a method of the struct whose field it is, and its bits are known afterwards. `bitvec`

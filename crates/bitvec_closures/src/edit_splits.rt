@@ -8,11 +8,11 @@ ghost use Rattle.bitvec_split.specs.Splits.{asked_of, row_of};
 ghost use Rattle.bitvec_closures.specs.ToSplit.{IsLeftOf, TakesFrom, left_at, limited_at};
 ghost use Rattle.bitvec_closures.specs.SplitEdits.{EditsGiven, MayEditGiven};
 
+use crate::{EditParts, ToSplit};
 use bitvec_base::BitOrder;
 use bitvec_slice::{Sealed, View};
 use bitvec_split::{Forward, Inclusive, Reversed, SplitKind, ask_row, cut_row};
 use bitvec_store::BitStore;
-use crate::{EditParts, ToSplit};
 use std::ops::Range;
 
 /// Edits of the pieces of a writable view that a predicate splits, by closures, which take the view

@@ -2,10 +2,10 @@
 ghost use Rattle.bitvec_slice.specs.Views.{name_of};
 ghost use Rattle.bitvec_closures.specs.ViewInPlace.{written_so};
 
+use crate::{EditParts, EditSplits};
 use bitvec_base::{BitOrder, Window};
 use bitvec_slice::{BitSliceMut, Sealed};
 use bitvec_store::BitStore;
-use crate::{EditParts, EditSplits};
 
 impl<'a, T: BitStore, O: BitOrder> EditParts<T, O> for BitSliceMut<'a, T, O> {
     ghost named = { name_of };

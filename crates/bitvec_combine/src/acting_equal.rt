@@ -1,11 +1,11 @@
 //! Elements as they are, for windows that begin at the same index of an element.
 ghost use Rattle.std.specs.Prelude.{true};
 
+use crate::acting::Act;
+use crate::phases::Phases;
 use bitvec_base::{BitOrder, Window};
 use bitvec_cells::CellsRead;
 use bitvec_store::BitStore;
-use crate::acting::Act;
-use crate::phases::Phases;
 use bitvec_words::Stretch;
 
 /// Both windows begin at the same index of an element: each element is taken as it is.

@@ -8,15 +8,14 @@ ghost use Rattle.bitvec_cells.specs.Cost.{touched_count};
 ghost use Rattle.bitvec_words.specs.ShortWindow.{padded};
 ghost use Rattle.bitvec_combine.specs.Acts.{HasBeside, HasMet, HasStretch, IsCarried, bits_beside, held, stretch_source, stretch_window};
 
-use bitvec_base::{BitOrder, Part, Window, first_part};
-use bitvec_cells::CellsRead;
-use bitvec_store::BitStore;
-use bitvec_words::{WordOrder, merged};
 use crate::acting::{Act, spans_in};
 use crate::acting_equal::Equal;
 use crate::acting_shifted::Shifted;
 use crate::phases::Phases;
-use bitvec_words::Stretch;
+use bitvec_base::{BitOrder, Part, Window, first_part};
+use bitvec_cells::CellsRead;
+use bitvec_store::BitStore;
+use bitvec_words::{Stretch, WordOrder, merged};
 
 /// Acts on a window, given one with its first bit at any index of an element. Condition: each memory has at most
 /// `MAX_BITS` bits, each window lies in its memory, and the right one isn't empty. It ends where the left one does, or

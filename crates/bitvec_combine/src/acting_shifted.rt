@@ -2,14 +2,15 @@
 ghost use Rattle.std.specs.Prelude.{◌≡◌, false};
 ghost use Rattle.bitvec_combine.specs.Acts.{ActsOnStretch, HasStretch, stretch_at};
 
+use crate::acting::Act;
+use crate::phases::Phases;
 use bitvec_base::Window;
 use bitvec_cells::CellsRead;
 use bitvec_store::BitStore;
-use bitvec_words::{Carried, Lanes, Whole, WordOrder, load_element_after, toward_end};
-use crate::acting::Act;
-use crate::phases::Phases;
-use bitvec_words::Stretch;
-use bitvec_words::{MANY_BITS, at_known_skip};
+use bitvec_words::{
+    Carried, Lanes, MANY_BITS, Stretch, Whole, WordOrder, at_known_skip, load_element_after,
+    toward_end,
+};
 
 /// The windows begin at different indices of their elements: the last element loaded is carried, and joined with the
 /// next one.

@@ -12,9 +12,9 @@ ghost use Rattle.bitvec_store.specs.WidthLaws.{width_some};
 ghost use Rattle.bitvec_combine.specs.CombineLaws.{combines-empty, combines-join};
 ghost use Rattle.bitvec_combine.specs.Sides.{Combines, CombinesBits};
 
+use crate::{Act, Equal, act, act_phased};
 use bitvec_base::{BitOrder, Part, Window};
 use bitvec_cells::{Cells, CellsRead};
-use crate::{Act, Equal, act, act_phased};
 use bitvec_store::BitStore;
 use bitvec_words::{BitOp, WordOrder, fill, merged};
 

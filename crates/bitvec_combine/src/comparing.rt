@@ -9,9 +9,9 @@ ghost use Rattle.bitvec_cells.specs.Cost.{equal_loads, touched_count};
 ghost use Rattle.bitvec_combine.specs.DifferLaws.{finds-both, finds-early, finds-none};
 ghost use Rattle.bitvec_combine.specs.Sides.{FindsDifference};
 
+use crate::{Act, Equal, Phases, Shifted, act_phased};
 use bitvec_base::{BitOrder, Part, Window};
 use bitvec_cells::CellsRead;
-use crate::{Act, Equal, Phases, Shifted, act_phased};
 use bitvec_store::BitStore;
 use bitvec_words::{WORD_BITS, WordOrder};
 

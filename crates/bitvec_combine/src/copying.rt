@@ -8,13 +8,13 @@ ghost use Rattle.bitvec_combine.specs.Acts.{PutsBits};
 ghost use Rattle.bitvec_words.specs.Moves.{Copies};
 ghost use Rattle.bitvec_combine.specs.PutLaws.{Puts-join, Puts-none};
 
+use crate::acting::Act;
+use crate::acting_equal::Equal;
+use crate::acting_on_windows::{act, act_phased};
 use bitvec_base::{BitOrder, Part, Window};
 use bitvec_cells::{Cells, CellsRead};
 use bitvec_store::BitStore;
 use bitvec_words::{WordOrder, store_part};
-use crate::acting::Act;
-use crate::acting_equal::Equal;
-use crate::acting_on_windows::{act, act_phased};
 
 /// The act that puts the other bits in the place of the window's.
 #[derive(Clone, Copy)]

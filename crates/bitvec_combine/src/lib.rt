@@ -1,20 +1,20 @@
 //! Two windows' bits, index by index, many at a time: combined by a Boolean operator, or compared.
 #![tactic(auto)]
 
-mod phases;
-mod copying;
-mod acting_shifted;
-mod acting_on_windows;
-mod acting_equal;
 mod acting;
+mod acting_equal;
+mod acting_on_windows;
+mod acting_shifted;
 mod combining;
 mod comparing;
+mod copying;
+mod phases;
 
-pub use combining::{combine, combine_equal, combine_zeros};
-pub use comparing::{equal, equal_unshifted};
 pub use acting::Act;
 pub use acting_equal::Equal;
 pub use acting_on_windows::{act, act_phased};
 pub use acting_shifted::Shifted;
+pub use combining::{combine, combine_equal, combine_zeros};
+pub use comparing::{equal, equal_unshifted};
 pub use copying::{copy, copy_equal};
 pub use phases::Phases;

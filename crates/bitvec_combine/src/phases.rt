@@ -5,9 +5,9 @@ ghost use Rattle.bitvec_cells.specs.Access.{OnlyReads};
 ghost use Rattle.bitvec_cells.specs.Cost.{touched_count};
 ghost use Rattle.bitvec_combine.specs.Acts.{ActsOnStretch, HasBeside, HasStretch, IsCarried, held};
 
+use crate::acting::Act;
 use bitvec_base::{BitOrder, Window};
 use bitvec_cells::CellsRead;
-use crate::acting::Act;
 use bitvec_words::Stretch;
 
 /// How bits of a right memory come to the indices of a left one's. An element that was loaded for the bits before may be

@@ -19,4 +19,3 @@ pub mod RefillLaws
 pub mod Steps
 pub mod Through
 pub mod Values
-pub mod ValuesLaws

@@ -6,10 +6,10 @@ ghost use Rattle.bitvec_domain.specs.Cuts.{IsPartWithin, cut_of};
 ghost use Rattle.bitvec_domain.specs.Domains.{enclave_of, part_in, part_in_if, pieces_in, pieces_of, region_of, seen_part_if};
 ghost use Rattle.bitvec_domain.specs.Parts.{seen_part};
 
-use bitvec_base::{BitOrder, Part, Window};
-use bitvec_store::BitStore;
 use crate::PartialElement;
 use crate::cut::Cut;
+use bitvec_base::{BitOrder, Part, Window};
+use bitvec_store::BitStore;
 
 /// The elements that a view touches, in their order: `bitvec`'s `Domain` over shared elements.
 #[derive(Drop)]

@@ -7,10 +7,10 @@ ghost use Rattle.bitvec_domain.specs.Domains.{enclave_of, part_in, part_in_if, p
 ghost use Rattle.bitvec_domain.specs.Parts.{seen_part_mut};
 ghost use Rattle.bitvec_domain.specs.declared.cut.Cut.TheVariants.{Across};
 
-use bitvec_base::{BitOrder, Part, Window};
-use bitvec_store::BitStore;
 use crate::PartialElementMut;
 use crate::cut::Cut;
+use bitvec_base::{BitOrder, Part, Window};
+use bitvec_store::BitStore;
 
 /// The elements that a writable view touches, in their order: `bitvec`'s `Domain` over exclusive
 /// elements.

@@ -3,9 +3,9 @@ ghost use Rattle.std.specs.Prelude.{◌≡◌, fold, map};
 ghost use Rattle.bitvec_base.specs.Memory.{HasWindow, list_in};
 ghost use Rattle.bitvec_domain.specs.Feeding.{bits_fed};
 
+use crate::bits::bit_in;
 use bitvec_base::{BitOrder, Window};
 use bitvec_store::BitStore;
-use crate::bits::bit_in;
 use std::hash::{Hash, Hasher};
 
 #[tactic(auto, using(crate::proofs::Steps::steps), unfolding(crate::specs::Feeding::bits_fed))]

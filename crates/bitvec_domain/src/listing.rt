@@ -5,9 +5,9 @@ ghost use Rattle.std.specs.List.{join_by};
 ghost use Rattle.bitvec_base.specs.Memory.{HasWindow, list_in};
 ghost use Rattle.bitvec_domain.specs.Listing.{bit_text, bits_text, comma, separator};
 
+use crate::bits::bit_in;
 use bitvec_base::{BitOrder, Window};
 use bitvec_store::BitStore;
-use crate::bits::bit_in;
 use std::fmt;
 
 /// Writes the bits of a window as `[0, 1, 0]`. Condition: the memory has at most `MAX_BITS` bits, and

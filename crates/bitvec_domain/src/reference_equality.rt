@@ -4,9 +4,9 @@ ghost use Rattle.std.specs.Bool.{beq};
 ghost use Rattle.std.specs.Cmp.Rules.{comparing};
 ghost use Rattle.bitvec_domain.specs.References.{bit_of_ref, bit_of_ref_mut};
 
+use crate::{BitRef, BitRefMut};
 use bitvec_base::BitOrder;
 use bitvec_store::BitStore;
-use crate::{BitRef, BitRefMut};
 
 impl<'a, T: BitStore, O: BitOrder> PartialEq for BitRef<'a, T, O> {
     ghost eq = { λ bit other. beq (bit_of_ref bit) (bit_of_ref other) };

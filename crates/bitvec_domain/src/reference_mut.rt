@@ -3,9 +3,9 @@ ghost use Rattle.std.specs.Prelude.{◌≡◌, [], ◌∷◌, false, map, slice_
 ghost use Rattle.bitvec_base.specs.Memory.{HasWindow, Writes, memory_bits};
 ghost use Rattle.bitvec_base.specs.Window.{bit_window};
 
+use crate::bits::{bit_in, replace_in, set_in};
 use bitvec_base::{BitOrder, Window};
 use bitvec_store::BitStore;
-use crate::bits::{bit_in, replace_in, set_in};
 use std::marker::PhantomData;
 use std::ops::Deref;
 

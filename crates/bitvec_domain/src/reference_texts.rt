@@ -2,9 +2,9 @@
 ghost use Rattle.std.specs.Prelude.{Some};
 ghost use Rattle.bitvec_domain.specs.References.{bit_of_ref, bit_of_ref_mut, truth_text};
 
+use crate::{BitRef, BitRefMut};
 use bitvec_base::BitOrder;
 use bitvec_store::BitStore;
-use crate::{BitRef, BitRefMut};
 use std::fmt;
 
 /// The bit, as `true` or `false`.

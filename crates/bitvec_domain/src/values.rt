@@ -4,9 +4,9 @@ ghost use Rattle.std.specs.Iterator.{YieldsFirstBy, YieldsLastBy, item_count};
 ghost use Rattle.bitvec_domain.specs.Domains.{pieces_of, seen_part_if};
 ghost use Rattle.bitvec_domain.specs.Values.{numbers_if, numbers_of_pieces};
 
+use crate::{Domain, PartialElement};
 use bitvec_base::BitOrder;
 use bitvec_store::BitStore;
-use crate::{Domain, PartialElement};
 use std::iter::FusedIterator;
 
 /// The values of the elements that a view touches, in their order and from both ends; in an element

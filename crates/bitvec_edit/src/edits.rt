@@ -16,7 +16,10 @@ use bitvec_elements::{combine_in, copy_from_in, fill_in, invert_in, swap_with_in
 use bitvec_engine::SliceOrder;
 use bitvec_slice::{BitSlice, BitSliceMut, Sealed, View, ViewMut};
 use bitvec_store::BitStore;
-use bitvec_within::{combine_within_in, copy_within_in, reverse_in, rotate_left_in, rotate_right_in, shift_end_in, shift_start_in, swap_within_in};
+use bitvec_within::{
+    combine_within_in, copy_within_in, reverse_in, rotate_left_in, rotate_right_in, shift_end_in,
+    shift_start_in, swap_within_in,
+};
 use bitvec_words::BitOp;
 use std::ops::Range;
 

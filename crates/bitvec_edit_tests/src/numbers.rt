@@ -1,12 +1,12 @@
 //! Numbers in views and in their chunks: worked rows, and what a load and a store come to together.
 ghost use Rattle.std.specs.Prelude.{◌≤◌};
 
+use crate::number_laws::{loaded_then_stored_be, loaded_then_stored_le, stored_then_loaded_le};
 use bitvec_base::{Lsb0, Msb0};
 use bitvec_field::{BitField, BitFieldMut, Integral};
 use bitvec_iter::PieceCallsMut;
 use bitvec_segments::FieldOrder;
 use bitvec_slice::{BitSlice, BitSliceMut};
-use crate::number_laws::{loaded_then_stored_be, loaded_then_stored_le, stored_then_loaded_le};
 
 /// The number of the bits 4 up to 12, `le` or else `be`.
 fn load_middle<O: FieldOrder>(bytes: &[u8; 2], le: bool) -> u8 {

@@ -4,12 +4,12 @@ ghost use Rattle.bitvec_base.specs.Lists.{combined};
 ghost use Rattle.bitvec_base.specs.Memory.{HasWindow, Writes, list_in};
 ghost use Rattle.bitvec_words.specs.Operator.{operator};
 
+use crate::recutting::hold;
 use bitvec_base::{BitOrder, Lsb0, Msb0, Window};
 use bitvec_cells::{Exclusive, Shared};
 use bitvec_engine::{Direction, SliceOrder, bits_op, direction_of};
 use bitvec_store::BitStore;
 use bitvec_words::{BitOp, WordOrder};
-use crate::recutting::hold;
 
 /// Replaces each bit of the left window by what the operator makes of it and the bit at its index in
 /// the right window, which may have elements of any type and order. Past its end the right window

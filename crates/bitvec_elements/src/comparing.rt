@@ -7,14 +7,14 @@ ghost use Rattle.bitvec_base.specs.Memory.{HasWindow, list_in};
 ghost use Rattle.bitvec_base.specs.Spans.{HasSpan};
 ghost use Rattle.bitvec_elements.specs.Difference.{DiffersFrom};
 
+use crate::converting::eq_converted;
+use crate::difference::{common_bits, common_words};
+use crate::window_words::few_word;
 use bitvec_base::{BitOrder, Lsb0, Msb0, Window};
 use bitvec_cells::{Shared, get_bit};
 use bitvec_engine::{Direction, SliceOrder, direction_of, elements_eq};
 use bitvec_store::BitStore;
 use bitvec_words::{WORD_BITS, WordOrder};
-use crate::converting::eq_converted;
-use crate::difference::{common_bits, common_words};
-use crate::window_words::few_word;
 use std::cmp::Ordering;
 
 /// How many equal bits [`compare_block_in`] passes at a time.

@@ -5,14 +5,14 @@ ghost use Rattle.bitvec_base.specs.Memory.{HasWindow, Writes, list_in};
 ghost use Rattle.bitvec_base.specs.Spans.{HasSpan};
 ghost use Rattle.bitvec_words.specs.Moves.{Copies};
 
+use crate::copying_elements::{AT_ONCE_BITS, copy_elements_in, copy_whole_in};
+use crate::recutting::recut;
+use crate::window_words::{few_word, window_word};
 use bitvec_base::{BitOrder, Lsb0, Msb0, Window};
 use bitvec_cells::{Exclusive, Shared};
 use bitvec_engine::{Direction, SliceOrder, bits_copy, direction_of, store_few};
 use bitvec_store::BitStore;
 use bitvec_words::{WORD_BITS, WordOrder};
-use crate::copying_elements::{AT_ONCE_BITS, copy_elements_in, copy_whole_in};
-use crate::recutting::recut;
-use crate::window_words::{few_word, window_word};
 
 /// Copies the bits of the right window, which may have elements of any type and order, to the left
 /// one. Condition: each memory has at most `MAX_BITS` bits, each window lies in its memory, and

@@ -2,12 +2,12 @@
 ghost use Rattle.std.specs.Prelude.{◌≡◌, count_by, map};
 ghost use Rattle.bitvec_base.specs.Memory.{HasWindow, list_in};
 
+use crate::window_words::few_word;
 use bitvec_base::{BitOrder, Lsb0, Msb0, Window};
 use bitvec_cells::Shared;
 use bitvec_engine::{Direction, direction_of};
 use bitvec_store::BitStore;
 use bitvec_words::{WORD_BITS, count};
-use crate::window_words::few_word;
 
 /// How many bits of a window are 1; at most 64 bits go as a word. Condition: the memory has at most
 /// `MAX_BITS` bits, and the window lies in it.

@@ -3,13 +3,13 @@ ghost use Rattle.std.specs.Prelude.{◌≤◌, map};
 ghost use Rattle.bitvec_base.specs.Memory.{HasWindow, list_in};
 ghost use Rattle.bitvec_elements.specs.Difference.{DiffersFrom};
 
+use crate::comparing::eq_blocks_in;
+use crate::recutting::hold;
+use crate::window_words::window_word;
 use bitvec_base::{BitOrder, Lsb0, Msb0, Window};
 use bitvec_engine::{Direction, SliceOrder, direction_of};
 use bitvec_store::BitStore;
 use bitvec_words::{WORD_BITS, WordOrder};
-use crate::comparing::eq_blocks_in;
-use crate::recutting::hold;
-use crate::window_words::window_word;
 
 /// So few bits are compared with no block.
 const FEW_BITS: usize = 2048;

@@ -3,9 +3,9 @@ ghost use Rattle.std.specs.Prelude.{◌≡◌, map};
 ghost use Rattle.bitvec_base.specs.Lists.{is_prefix, is_suffix};
 ghost use Rattle.bitvec_base.specs.Memory.{HasWindow, list_in};
 
+use crate::comparing::eq_in;
 use bitvec_base::{BitOrder, Window};
 use bitvec_store::BitStore;
-use crate::comparing::eq_in;
 
 /// Whether the left window's bits begin with the right window's. Condition: each memory has at most
 /// `MAX_BITS` bits, and each window lies in its memory.

@@ -3,13 +3,13 @@ ghost use Rattle.std.specs.Prelude.{◌≡◌, ◌+◌, ◌-◌, ◌*◌, ◌%�
 ghost use Rattle.bitvec_engine.specs.Pairs.{HasPair};
 ghost use Rattle.bitvec_base.specs.Memory.{HasWindow, Writes, list_in};
 
+use crate::copying::copy_words;
+use crate::window_words::{reordered, word_behind};
 use bitvec_base::{BitOrder, Lsb0, Msb0, Window};
 use bitvec_cells::Exclusive;
 use bitvec_engine::{Direction, direction_of};
 use bitvec_store::BitStore;
 use bitvec_words::{WORD_BITS, WordOrder, store_elements};
-use crate::copying::copy_words;
-use crate::window_words::{reordered, word_behind};
 
 /// Copies a window's bits to a block, and gives the window of the block that has them. Conditions: the window
 /// lies in a memory of at most `MAX_BITS` bits, and the block has at most 8192 elements and room for the bits.

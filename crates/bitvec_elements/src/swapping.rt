@@ -3,13 +3,13 @@ ghost use Rattle.std.specs.Prelude.{◌≡◌, ◌≤◌, map};
 ghost use Rattle.bitvec_engine.specs.Pairs.{HasPair};
 ghost use Rattle.bitvec_base.specs.Memory.{HasWindow, Writes, list_in};
 
+use crate::copying::copy_from_in;
+use crate::recutting::hold;
 use bitvec_base::{BitOrder, Lsb0, Msb0, Window};
 use bitvec_cells::Exclusive;
 use bitvec_engine::{Direction, SliceOrder, bits_swap, direction_of};
 use bitvec_store::BitStore;
 use bitvec_words::WordOrder;
-use crate::copying::copy_from_in;
-use crate::recutting::hold;
 
 /// Exchanges the bits of two windows of elements of any types and orders. Condition: each memory
 /// has at most `MAX_BITS` bits, each window lies in its memory, and both are equally long.

@@ -11,7 +11,10 @@ use bitvec_base::{BitOrder, Lsb0, Msb0, Part, Window, first_part};
 use bitvec_cells::{CellsRead, Shared};
 use bitvec_engine::Direction;
 use bitvec_store::BitStore;
-use bitvec_words::{WORD_BITS, WordOrder, gathered, joined, load_element, load_elements, load_parts, moved, reversed};
+use bitvec_words::{
+    WORD_BITS, WordOrder, gathered, joined, load_element, load_elements, load_parts, moved,
+    reversed,
+};
 
 /// The 64 bits of a window from an index on as a word, with zeros past the window's end. Conditions:
 /// the window lies in a memory of at most `MAX_BITS` bits, the index is at most 64 behind its end,

@@ -10,15 +10,14 @@ ghost use Rattle.bitvec_cells.specs.Access.{CostsAtMost, OnlyReadsAtMost};
 ghost use Rattle.bitvec_cells.specs.Cost.{edit_loads, equal_loads, read_loads, write_loads, write_stores};
 ghost use Rattle.bitvec_words.specs.Operator.{operator};
 
+use crate::by_bits::{bits_copy, bits_copy_within, bits_eq, bits_op, bits_reverse, bits_swap};
+use crate::slice_order::SliceOrder;
 use bitvec_base::{BitOrder, HiLo, Window};
 use bitvec_cells::{Cells, CellsRead};
-use bitvec_combine::{combine_equal, combine_zeros, equal_unshifted};
-use bitvec_combine::copy_equal;
+use bitvec_combine::{combine_equal, combine_zeros, copy_equal, equal_unshifted};
 use bitvec_move::swap_equal;
 use bitvec_store::BitStore;
 use bitvec_words::BitOp;
-use crate::by_bits::{bits_copy, bits_copy_within, bits_eq, bits_op, bits_reverse, bits_swap};
-use crate::slice_order::SliceOrder;
 
 /// Copies the bits of a window of another memory of the same elements: `block_copy` of an order
 /// without `WORDS`. Conditions and cost are those of `block_copy`.

@@ -4,14 +4,13 @@
 
 ghost use Rattle.std.specs.Prelude.{refl, true};
 
+use crate::reversing::words_reverse;
+use crate::slice_order::{ByWords, SliceOrder};
 use bitvec_base::{Lsb0, Msb0, Window};
 use bitvec_cells::{Cells, CellsRead};
-use bitvec_combine::{combine, equal};
-use bitvec_combine::copy;
+use bitvec_combine::{combine, copy, equal};
 use bitvec_move::{copy_within, swap};
-use crate::reversing::words_reverse;
 use bitvec_words::{BitOp, WordOrder, reversed, words_load_front, words_scan_first};
-use crate::slice_order::{ByWords, SliceOrder};
 
 /// The orders that work by words here. An order of another crate says itself how it works.
 trait InWords: WordOrder {}

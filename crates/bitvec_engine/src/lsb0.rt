@@ -10,11 +10,11 @@ ghost use Rattle.bitvec_base.specs.Spans.{HasSpan};
 ghost use Rattle.bitvec_words.specs.Operator.{operator};
 ghost use Rattle.bitvec_engine.specs.WordSteps.{EditsInSteps, ReadsInSteps, WritesInSteps, lsb0_at};
 
+use crate::slice_order::SliceOrder;
 use bitvec_base::{Lsb0, Window};
 use bitvec_cells::{Cells, CellsRead};
 use bitvec_store::BitStore;
 use bitvec_words::BitOp;
-use crate::slice_order::SliceOrder;
 
 /// Whether two windows have the same bits: [`SliceOrder::block_eq`]. Windows that aren't as long
 /// take no load.

@@ -8,11 +8,10 @@ ghost use Rattle.bitvec_engine.specs.Ends.{HasEnds, HoldsBeside, IsAmid, IsBlock
 
 use bitvec_base::Window;
 use bitvec_cells::{Cells, CellsRead, Exclusive, Shared};
-use bitvec_store::BitStore;
-use bitvec_words::{WordOrder, reversed};
 use bitvec_combine::copy_equal;
 use bitvec_move::move_elements;
-use bitvec_words::Stretch;
+use bitvec_store::BitStore;
+use bitvec_words::{Stretch, WordOrder, reversed};
 
 /// Reverses the bits of a window; all other bits of the memory stay. Condition: the memory has at
 /// most `MAX_BITS` bits, and the window lies in it.

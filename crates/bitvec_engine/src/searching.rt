@@ -6,10 +6,10 @@ ghost use Rattle.bitvec_base.specs.Memory.{HasWindow, list_in};
 ghost use Rattle.bitvec_cells.specs.Access.{OnlyReadsAtMost};
 ghost use Rattle.bitvec_cells.specs.Cost.{needle_loads, touched_count};
 
+use crate::slice_order::SliceOrder;
 use bitvec_base::Window;
 use bitvec_cells::CellsRead;
 use bitvec_store::BitStore;
-use crate::slice_order::SliceOrder;
 
 /// Whether a bit of a window is 1; none of an empty window's is. Condition: as for [`SliceOrder::find_first`]. It
 /// loads each element that the window touches at most once.

@@ -5,11 +5,11 @@ ghost use Rattle.bitvec_base.specs.Memory.{Edits, HasWindow};
 ghost use Rattle.bitvec_cells.specs.Access.{CostsAtMost};
 ghost use Rattle.bitvec_cells.specs.Cost.{edit_loads, fill_loads, reverse_loads, reverse_stores, rotate_loads, rotate_stores, touched_count, write_stores};
 
+use crate::slice_order::SliceOrder;
 use bitvec_base::Window;
 use bitvec_cells::{Cells, CellsRead};
 use bitvec_store::BitStore;
 use bitvec_words::fill;
-use crate::slice_order::SliceOrder;
 
 /// Reverses the bits of a window: [`SliceOrder::block_reverse`], out of line, since a rotation calls it three times.
 pub fn reverse<O: SliceOrder, C: Cells>(cells: &mut C, window: Window)

@@ -4,7 +4,9 @@
 
 use bitvec_base::{BitOrder, Lsb0, Msb0, Window};
 use bitvec_cells::{Cells, CellsRead, Exclusive, has_window};
-use bitvec_engine::{SliceOrder, bits_copy, bits_copy_within, bits_eq, bits_op, bits_reverse, bits_swap};
+use bitvec_engine::{
+    SliceOrder, bits_copy, bits_copy_within, bits_eq, bits_op, bits_reverse, bits_swap,
+};
 use bitvec_store::BitStore;
 use bitvec_words::{BitOp, invert};
 

@@ -1,11 +1,11 @@
 //! What the elements that a command stores are made of.
 
+use crate::tally::Tally;
 use bitvec_base::{HiLo, Lsb0, Msb0, Window};
 use bitvec_engine::SliceOrder;
 use bitvec_test_support::cells::{Cells, CellsRead, Exclusive, has_window};
 use bitvec_test_support::store::BitStore;
 use bitvec_words::BitOp;
-use crate::tally::Tally;
 
 /// An accessor whose elements are of no operation when they are loaded, and which adds up the
 /// operations of those that are stored; at most `u64::MAX`.

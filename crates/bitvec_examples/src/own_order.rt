@@ -5,7 +5,9 @@ ghost use Rattle.std.specs.Prelude.{false};
 ghost use Rattle.bitvec_examples.specs.Scattered.{scattered, scattered_permutes};
 
 use bitvec::cells::{Cells, CellsRead, Exclusive, Shared};
-use bitvec::engine::{BitOp, bits_copy_within, bits_reverse, elements_copy, elements_eq, elements_op, elements_swap};
+use bitvec::engine::{
+    BitOp, bits_copy_within, bits_reverse, elements_copy, elements_eq, elements_op, elements_swap,
+};
 use bitvec::index::Window;
 use bitvec::prelude::*;
 use bitvec::run::{Op, Reply, Step, run};

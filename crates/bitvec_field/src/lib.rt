@@ -14,5 +14,5 @@ mod views;
 
 pub use bit_field::{BitField, BitFieldMut};
 pub use integral::Integral;
-pub use slices::{load_be_in, load_le_in, store_be_in, store_le_in};
 pub use radix::{Binary, LowerHex, Octal, UpperHex};
+pub use slices::{load_be_in, load_le_in, store_be_in, store_le_in};

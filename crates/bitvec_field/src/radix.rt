@@ -1,10 +1,10 @@
 //! Views that print digits of their bits.
 ghost use Rattle.std.specs.Prelude.{Some, false, true};
 
+use crate::segments::write_radix;
 use bitvec_base::BitOrder;
 use bitvec_slice::BitSlice;
 use bitvec_store::BitStore;
-use crate::segments::write_radix;
 use std::fmt;
 
 /// A view that prints a digit for each bit, as `[0100, 0010]`: `{:b}` of `bitvec`. There is a text for

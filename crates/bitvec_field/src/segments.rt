@@ -7,11 +7,11 @@ ghost use Rattle.bitvec_slice.specs.Views.{seen};
 ghost use Rattle.bitvec_field.specs.Radix.{digits_text, radix_text};
 ghost use Rattle.bitvec_domain.specs.Listing.{comma};
 
+use crate::digits::{bits_in_element, write_digits};
 use bitvec_base::BitOrder;
 use bitvec_domain::separator_before;
 use bitvec_slice::BitSlice;
 use bitvec_store::BitStore;
-use crate::digits::{bits_in_element, write_digits};
 use std::fmt;
 
 /// Writes a list of the digits of each of a view's segments. Condition: a digit has one to four bits.

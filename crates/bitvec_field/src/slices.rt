@@ -4,11 +4,11 @@ ghost use Rattle.bitvec_base.specs.Memory.{Edits, HasWindow, list_in};
 ghost use Rattle.bitvec_segments.specs.Integers.{integer_of, remainder_of};
 ghost use Rattle.bitvec_segments.specs.Segments.{loaded_be, loaded_le, stored_be, stored_le};
 
+use crate::Integral;
 use bitvec_base::Window;
 use bitvec_cells::{Exclusive, Shared};
 use bitvec_segments::FieldOrder;
 use bitvec_store::BitStore;
-use crate::Integral;
 
 /// The integer of a window's bits, the first segment lowest. Condition: the memory has at most
 /// `MAX_BITS` bits, the window lies in it, and has from 1 to `I::BITS` bits.

@@ -2,11 +2,11 @@
 ghost use Rattle.bitvec_field.specs.Fields.{number_be, number_le, writes_number_be, writes_number_le};
 ghost use Rattle.bitvec_slice.specs.Views.{seen, seen_mut};
 
+use crate::slices::{load_be_in, load_le_in, store_be_in, store_le_in};
+use crate::{BitField, BitFieldMut, Integral};
 use bitvec_segments::FieldOrder;
 use bitvec_slice::{BitSlice, BitSliceMut, Sealed, ViewMut};
 use bitvec_store::BitStore;
-use crate::slices::{load_be_in, load_le_in, store_be_in, store_le_in};
-use crate::{BitField, BitFieldMut, Integral};
 
 impl<'a, T: BitStore, O: FieldOrder> BitField for BitSlice<'a, T, O> {
     ghost len = { λ view. (seen view).window.len };

@@ -4,10 +4,10 @@ ghost use Rattle.bitvec_base.specs.Memory.{memory_bits};
 ghost use Rattle.bitvec_domain.specs.Asked.{CallableBelow, CallableOnBits, FillsWith, RefillsWith};
 ghost use Rattle.bitvec_in_place.specs.Ranges.{ChangesOnly, HasBits, bits_in};
 
+use crate::spans::span;
 use bitvec_domain::{fill_with_in, for_each_in};
 use bitvec_engine::SliceOrder;
 use bitvec_store::BitStore;
-use crate::spans::span;
 use std::ops::Range;
 
 /// Makes each bit of a range what `f` answers for its index in the range, in ascending order from 0 on. Conditions: the

@@ -6,10 +6,10 @@ ghost use Rattle.std.specs.List.{list_all, list_any};
 ghost use Rattle.bitvec_base.specs.Memory.{memory_bits};
 ghost use Rattle.bitvec_in_place.specs.Ranges.{HasBits, bits_in};
 
+use crate::spans::span;
 use bitvec_elements::{all_in, any_in};
 use bitvec_engine::SliceOrder;
 use bitvec_store::BitStore;
-use crate::spans::span;
 use std::ops::Range;
 
 /// Whether some bit of a range is 1. An empty range has none. Condition: the slice has at most `MAX_BITS` bits, and the

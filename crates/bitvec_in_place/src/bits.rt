@@ -6,11 +6,11 @@ ghost use Rattle.std.specs.List.{swap as swapped};
 ghost use Rattle.bitvec_base.specs.Memory.{memory_bits};
 ghost use Rattle.bitvec_in_place.specs.Ranges.{HasBits};
 
+use crate::spans::whole;
 use bitvec_domain::{replace_in, set_in, swap_in};
 use bitvec_engine::SliceOrder;
 use bitvec_slice::BitSlice;
 use bitvec_store::BitStore;
-use crate::spans::whole;
 
 /// The bit at an index. Condition: the slice has at most `MAX_BITS` bits, and the index is below their number.
 ///

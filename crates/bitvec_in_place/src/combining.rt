@@ -9,13 +9,13 @@ ghost use Rattle.bitvec_words.specs.Operator.{operator};
 ghost use Rattle.bitvec_words.specs.declared.operator.BitOp.TheVariants.{And, Or, Xor};
 ghost use Rattle.bitvec_in_place.specs.Ranges.{HasBits, joined};
 
+use crate::spans::span;
 use bitvec_base::BitOrder;
 use bitvec_elements::{combine_in, copy_from_in};
 use bitvec_engine::SliceOrder;
 use bitvec_slice::BitSlice;
 use bitvec_store::BitStore;
 use bitvec_words::BitOp;
-use crate::spans::span;
 use std::ops::Range;
 
 /// Copies the bits of a view to a range. Condition: the slice has at most `MAX_BITS` bits, the range lies in them, and the

@@ -9,13 +9,13 @@ ghost use Rattle.bitvec_base.specs.Memory.{memory_bits};
 ghost use Rattle.bitvec_slice.specs.Views.{seen};
 ghost use Rattle.bitvec_in_place.specs.Ranges.{HasBits, bits_in};
 
+use crate::spans::span;
 use bitvec_base::BitOrder;
 use bitvec_elements::{compare_in, ends_with_in, eq_in, starts_with_in};
 use bitvec_engine::SliceOrder;
 use bitvec_slice::BitSlice;
 use bitvec_store::BitStore;
 use bitvec_within::contains_in;
-use crate::spans::span;
 use std::cmp::Ordering;
 use std::ops::Range;
 

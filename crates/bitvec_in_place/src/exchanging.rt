@@ -8,12 +8,12 @@ ghost use Rattle.bitvec_slice.specs.Views.{seen_mut};
 ghost use Rattle.bitvec_slice.specs.Writes.{WritesBits};
 ghost use Rattle.bitvec_in_place.specs.Ranges.{HasBits, bits_in};
 
+use crate::spans::span;
 use bitvec_base::BitOrder;
 use bitvec_elements::swap_with_in;
 use bitvec_engine::SliceOrder;
 use bitvec_slice::{BitSliceMut, Sealed, ViewMut};
 use bitvec_store::BitStore;
-use crate::spans::span;
 use std::ops::Range;
 
 /// Exchanges the bits of a range with those of a view. Condition: the slice has at most `MAX_BITS` bits, the range lies in

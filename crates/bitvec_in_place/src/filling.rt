@@ -5,10 +5,10 @@ ghost use Rattle.std.specs.Prelude.{◌≡◌, length, map};
 ghost use Rattle.bitvec_base.specs.Memory.{memory_bits};
 ghost use Rattle.bitvec_in_place.specs.Ranges.{HasBits, filled, flipped};
 
+use crate::spans::span;
 use bitvec_elements::{fill_in, invert_in};
 use bitvec_engine::SliceOrder;
 use bitvec_store::BitStore;
-use crate::spans::span;
 use std::ops::Range;
 
 /// Makes each bit of a range `bit`: `fill` of that part as a view. Condition: the slice has at most `MAX_BITS`

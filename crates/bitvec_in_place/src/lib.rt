@@ -23,7 +23,9 @@ pub use combining::{and_bits, copy_from, or_bits, xor_bits};
 pub use comparing::{cmp_bits, contains, ends_with, eq_bits, starts_with};
 pub use exchanging::swap_with;
 pub use filling::{fill, invert};
-pub use moving::{copy_within, reverse, rotate_left, rotate_right, shift_end, shift_start, swap_within};
+pub use moving::{
+    copy_within, reverse, rotate_left, rotate_right, shift_end, shift_start, swap_within,
+};
 pub use numbers::{load_be, load_le, store_be, store_le};
 pub use questions::{count_ones, count_zeros, first_one, first_zero, last_one, last_zero};
 pub use runs::{leading_ones, leading_zeros, trailing_ones, trailing_zeros};

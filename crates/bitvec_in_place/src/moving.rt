@@ -8,10 +8,13 @@ ghost use Rattle.bitvec_in_place.specs.Ranges.{HasBits, edited};
 ghost use Rattle.bitvec_in_place.specs.Rooms.{HasRoom};
 ghost use Rattle.bitvec_within.specs.Swaps.{LieApart, swapped_within};
 
+use crate::spans::{span, whole};
 use bitvec_engine::SliceOrder;
 use bitvec_store::BitStore;
-use bitvec_within::{copy_within_in, reverse_in, rotate_left_in, rotate_right_in, shift_end_in, shift_start_in, swap_within_in};
-use crate::spans::{span, whole};
+use bitvec_within::{
+    copy_within_in, reverse_in, rotate_left_in, rotate_right_in, shift_end_in, shift_start_in,
+    swap_within_in,
+};
 use std::ops::Range;
 
 /// Puts the bits of a range in the opposite order. Condition: the slice has at most `MAX_BITS` bits, and the range

@@ -6,10 +6,10 @@ ghost use Rattle.bitvec_segments.specs.Integers.{integer_of, remainder_of};
 ghost use Rattle.bitvec_base.specs.Memory.{memory_bits};
 ghost use Rattle.bitvec_in_place.specs.Ranges.{HasBits, number_in, numbered};
 
+use crate::spans::span;
 use bitvec_field::{Integral, load_be_in, load_le_in, store_be_in, store_le_in};
 use bitvec_segments::FieldOrder;
 use bitvec_store::BitStore;
-use crate::spans::span;
 use std::ops::Range;
 
 /// The integer of a range's bits, the first segment lowest. Condition: the slice has at most `MAX_BITS` bits, the range

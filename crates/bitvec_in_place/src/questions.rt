@@ -6,10 +6,10 @@ ghost use Rattle.bitvec_base.specs.Lists.{first_place, last_place};
 ghost use Rattle.bitvec_base.specs.Memory.{memory_bits};
 ghost use Rattle.bitvec_in_place.specs.Ranges.{HasBits, bits_in};
 
+use crate::spans::span;
 use bitvec_elements::{count_in, find_first_in, find_last_in};
 use bitvec_engine::SliceOrder;
 use bitvec_store::BitStore;
-use crate::spans::span;
 use std::ops::Range;
 
 /// How many bits of a range are 1. Condition: the slice has at most `MAX_BITS` bits, and the range lies in them.

@@ -8,11 +8,11 @@ ghost use Rattle.bitvec_words.specs.Operator.{operator};
 ghost use Rattle.bitvec_words.specs.declared.operator.BitOp.TheVariants.{And, Or, Xor};
 ghost use Rattle.bitvec_within.specs.Combined.{combined_within};
 
+use crate::spans::whole;
 use bitvec_engine::SliceOrder;
 use bitvec_store::BitStore;
 use bitvec_within::combine_within_in;
 use bitvec_words::BitOp;
-use crate::spans::whole;
 use std::ops::Range;
 
 /// Combines as many bits from `dest` on as a range has with those of the range, by "and", as both stood before the

@@ -4,11 +4,8 @@ pub mod HalvesLending
 pub mod JoinLaws
 pub mod Laws
 pub mod Left
-pub mod LeftLaws
 pub mod LentBits
 pub mod LentPieces
-pub mod LentPiecesLaws
 pub mod LentWalk
-pub mod PartLaws
 pub mod Parts
 pub mod PiecesLending

@@ -4,10 +4,10 @@ ghost use Rattle.bitvec_base.specs.Window.{max_bits};
 ghost use Rattle.bitvec_cutting.specs.Cutting.{back_chunk, chunk, chunk_count, whole_chunk, whole_count, window, window_count};
 ghost use Rattle.bitvec_iter.specs.Parts.{parts_of};
 
+use crate::PieceWalk;
 use bitvec_cutting::{InChunks, InChunksFromEnd, InExactChunks, InExactChunksFromEnd, InWindows};
 use bitvec_slice::Shows;
 use bitvec_store::BitStore;
-use crate::PieceWalk;
 
 /// The walks of `bitvec`'s `BitSlice` over its parts, for both view types: of a `BitSlice` they live as
 /// long as its elements, of a `&BitSliceMut` as long as that borrow. Sizes are in bits.

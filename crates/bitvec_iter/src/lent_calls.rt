@@ -3,11 +3,13 @@ ghost use Rattle.std.specs.Prelude.{◌≡◌, ◌-◌, ◌<◌, ◌≤◌};
 ghost use Rattle.std.specs.Borrow.{Array, follows, sem};
 ghost use Rattle.bitvec_cutting.specs.Cutting.{chunk_count, whole_count};
 
+use crate::{
+    ChunksExactMut, ChunksMut, HalvesMut, IterMut, PiecesMut, RChunksExactMut, RChunksMut,
+};
 use bitvec_base::BitOrder;
 use bitvec_cutting::{InChunks, InChunksFromEnd, InExactChunks, InExactChunksFromEnd};
 use bitvec_slice::{BitSliceMut, ViewMut};
 use bitvec_store::BitStore;
-use crate::{ChunksExactMut, ChunksMut, HalvesMut, IterMut, PiecesMut, RChunksExactMut, RChunksMut};
 
 /// `bitvec`'s calls on a `&mut BitSlice` that give pieces of it for writing, lent one at a time.
 /// Indices and sizes are in bits.

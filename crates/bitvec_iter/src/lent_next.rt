@@ -1,11 +1,11 @@
 //! The pieces of a writable walk, lent where one is left, after which a caller knows the walk.
 ghost use Rattle.std.specs.Prelude.{◌≡◌, ◌+◌, ◌-◌, ◌<◌, IsTrue, false, nat_lt, true};
 
+use crate::PiecesMut;
 use bitvec_base::BitOrder;
 use bitvec_cutting::Cutting;
 use bitvec_slice::{BitSliceMut, Lent};
 use bitvec_store::BitStore;
-use crate::PiecesMut;
 
 impl<'a, T: BitStore, O: BitOrder, C: Cutting> PiecesMut<'a, T, O, C> {
     ghost use Rattle.std.specs.Borrow.{sem};

@@ -1,10 +1,10 @@
 //! The bits of a writable walk, lent where one is left, after which a caller knows the walk.
 ghost use Rattle.std.specs.Prelude.{◌≡◌, ◌+◌, ◌-◌, ◌<◌, IsTrue, false, nat_lt, true};
 
+use crate::IterMut;
 use bitvec_base::BitOrder;
 use bitvec_slice::{BitSliceMut, Lent};
 use bitvec_store::BitStore;
-use crate::IterMut;
 
 impl<'a, T: BitStore, O: BitOrder> IterMut<'a, T, O> {
     ghost use Rattle.std.specs.Borrow.{sem};

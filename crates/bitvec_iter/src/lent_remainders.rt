@@ -1,11 +1,11 @@
 //! What no piece of an exact writable walk has.
 ghost use Rattle.std.specs.Prelude.{◌≡◌};
 
+use crate::PiecesMut;
 use bitvec_base::BitOrder;
 use bitvec_cutting::ExactCutting;
 use bitvec_slice::BitSliceMut;
 use bitvec_store::BitStore;
-use crate::PiecesMut;
 use std::ops::Range;
 
 impl<'a, T: BitStore, O: BitOrder, C: ExactCutting> PiecesMut<'a, T, O, C> {

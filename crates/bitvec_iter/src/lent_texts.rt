@@ -5,12 +5,12 @@ ghost use Rattle.std.specs.List.{join_by};
 ghost use Rattle.bitvec_domain.specs.Listing.{bits_text, comma, listed};
 ghost use Rattle.bitvec_iter.specs.LentWalk.{lists_left};
 
+use crate::{HalvesMut, IterMut, PiecesMut};
 use bitvec_base::BitOrder;
 use bitvec_cutting::Cutting;
 use bitvec_domain::separator_before;
 use bitvec_slice::{BitSlice, write_named};
 use bitvec_store::BitStore;
-use crate::{HalvesMut, IterMut, PiecesMut};
 use std::fmt;
 
 /// The bits that are left, as `IterMut([0, 1, 0])`.

@@ -6,12 +6,15 @@ ghost use Rattle.bitvec_base.specs.Window.{max_bits};
 ghost use Rattle.bitvec_slice.specs.Views.{seen};
 ghost use Rattle.bitvec_iter.specs.Parts.{subview};
 
-use bitvec_base::BitOrder;
-use bitvec_cutting::{Cutting, ExactCutting, InChunks, InChunksFromEnd, InExactChunks, InExactChunksFromEnd, InWindows};
-use bitvec_slice::BitSlice;
-use bitvec_store::BitStore;
 use crate::PieceWalk;
 use crate::parts::part_of;
+use bitvec_base::BitOrder;
+use bitvec_cutting::{
+    Cutting, ExactCutting, InChunks, InChunksFromEnd, InExactChunks, InExactChunksFromEnd,
+    InWindows,
+};
+use bitvec_slice::BitSlice;
+use bitvec_store::BitStore;
 use std::alloc::AllocError;
 use std::iter::FusedIterator;
 use std::ops::Range;
@@ -48,7 +51,7 @@ impl<'a, T: BitStore, O: BitOrder, C: Cutting> Pieces<'a, T, O, C> {
     ghost use Rattle.bitvec_iter.specs.Parts.{parts_of};
 
     /// All pieces of a view. `bitvec` has no such call: it has one for each way to cut.
-    #[tactic(auto, using(crate::specs::LeftLaws::stepping))]
+    #[tactic(auto, using(crate::proofs::LeftLaws::stepping))]
     pub fn new(view: BitSlice<'a, T, O>, cutting: C) -> Self
         ensures pieces { pieces_left result ≡ parts_of T.BITS (seen view.entry) (C.pieces cutting) (C.place cutting) }
         ensures view { walked result ≡ seen view.entry }
@@ -64,7 +67,7 @@ impl<'a, T: BitStore, O: BitOrder, C: Cutting> Pieces<'a, T, O, C> {
         }
     }
 
-    #[tactic(auto, using(crate::specs::LeftLaws::stepping))]
+    #[tactic(auto, using(crate::proofs::LeftLaws::stepping))]
     pub(crate) fn piece(&self, number: usize) -> BitSlice<'a, T, O>
         requires { number < C.pieces (cut_by self.now) (walked self.now).window.len }
         ensures { seen result ≡ piece_at self.now number }
@@ -123,13 +126,13 @@ impl<'a, T: BitStore, O: BitOrder, C: Cutting> Iterator for Pieces<'a, T, O, C> 
     ghost remaining = { item_count (λ it. pieces_left it) };
 
     /// The first of the pieces that are still to come.
-    #[tactic(auto, using(crate::specs::LeftLaws::stepping))]
+    #[tactic(auto, using(crate::proofs::LeftLaws::stepping))]
     fn next(&mut self) -> Option<BitSlice<'a, T, O>> {
         let number = self.numbers.next()?;
         Some(self.piece(number))
     }
 
-    #[tactic(auto, using(crate::specs::LeftLaws::stepping))]
+    #[tactic(auto, using(crate::proofs::LeftLaws::stepping))]
     fn size_hint(&self) -> (usize, Option<usize>)
         ensures lower { IsWithinCount result.0 (at_most (length (pieces_left self.now))) }
         ensures upper { IfSome result.1 (UpTo (at_most (length (pieces_left self.now)))) }
@@ -146,7 +149,7 @@ impl<'a, T: BitStore, O: BitOrder, C: Cutting> DoubleEndedIterator for Pieces<'a
     ghost next_back_gives = { λ before piece after. TakesLast before piece after };
 
     /// The last of the pieces that are still to come.
-    #[tactic(auto, using(crate::specs::LeftLaws::stepping))]
+    #[tactic(auto, using(crate::proofs::LeftLaws::stepping))]
     fn next_back(&mut self) -> Option<BitSlice<'a, T, O>> {
         let number = self.numbers.next_back()?;
         Some(self.piece(number))
@@ -155,7 +158,7 @@ impl<'a, T: BitStore, O: BitOrder, C: Cutting> DoubleEndedIterator for Pieces<'a
 
 impl<'a, T: BitStore, O: BitOrder, C: Cutting> ExactSizeIterator for Pieces<'a, T, O, C> {
     /// How many pieces are still to come.
-    #[tactic(auto, using(crate::specs::LeftLaws::stepping))]
+    #[tactic(auto, using(crate::proofs::LeftLaws::stepping))]
     fn len(&self) -> usize {
         self.numbers.len()
     }

@@ -4,11 +4,11 @@ ghost use Rattle.std.specs.Fmt.{WritesOnOk, debug_variant};
 ghost use Rattle.std.specs.List.{join_by};
 ghost use Rattle.bitvec_domain.specs.Listing.{bits_text, comma, listed};
 
+use crate::Pieces;
 use bitvec_base::BitOrder;
 use bitvec_cutting::Cutting;
 use bitvec_domain::separator_before;
 use bitvec_store::BitStore;
-use crate::Pieces;
 use std::fmt;
 
 /// The pieces that are still to come, as `Pieces([[0, 1], [1]])`.
@@ -31,7 +31,7 @@ impl<'a, T: BitStore, O: BitOrder, C: Cutting> fmt::Debug for Pieces<'a, T, O, C
 impl<'a, T: BitStore, O: BitOrder, C: Cutting> Pieces<'a, T, O, C> {
     ghost use Rattle.bitvec_iter.specs.Left.{pieces_left};
 
-    #[tactic(auto, using(crate::specs::LeftLaws::stepping))]
+    #[tactic(auto, using(crate::proofs::LeftLaws::stepping))]
     fn write_pieces<W: fmt::Write>(&self, f: &mut fmt::Formatter<W>) -> fmt::Result
         ensures { WritesOnOk W.write_str_gives f.old result (join_by (λ piece. bits_text piece.bits) comma (pieces_left self.now)) f.new }
     {

@@ -1,9 +1,9 @@
 //! Both view types can be walked.
+use crate::{Chunks, ChunksExact, IterCalls, Pieces, RChunks, RChunksExact, Windows};
 use bitvec_base::BitOrder;
 use bitvec_cutting::{InChunks, InChunksFromEnd, InExactChunks, InExactChunksFromEnd, InWindows};
 use bitvec_slice::{BitSlice, BitSliceMut};
 use bitvec_store::BitStore;
-use crate::{Chunks, ChunksExact, IterCalls, Pieces, RChunks, RChunksExact, Windows};
 
 impl<'a, T: BitStore, O: BitOrder> IterCalls<T> for BitSlice<'a, T, O> {
     type Windows = Windows<'a, T, O>;

@@ -1,9 +1,12 @@
 //! Walks over single bits.
 
+use crate::adapters::{
+    backwards, mixed_pairs, ones_by_chunks, parity, phase_behind_first, window_before_last,
+    window_behind,
+};
 use bitvec_base::Msb0;
 use bitvec_domain::BitRef;
 use bitvec_slice::{BitSlice, BitSliceMut};
-use crate::adapters::{backwards, mixed_pairs, ones_by_chunks, parity, phase_behind_first, window_before_last, window_behind};
 use std::alloc::Global;
 
 /// How many bits a piece has, and the number that they write, the first bit highest.

@@ -1,13 +1,13 @@
 //! Halves of a view.
 ghost use Rattle.std.specs.Prelude.{◌≤◌};
 
+use crate::walked::with_ones;
 use bitvec_base::{Lsb0, Window};
 use bitvec_edit::BitEdits;
 use bitvec_engine::SliceOrder;
 use bitvec_iter::{HalvesMut, PieceCallsMut};
 use bitvec_slice::BitSliceMut;
 use bitvec_test_support::MEMORIES;
-use crate::walked::with_ones;
 
 /// Sets the bits before `mid`, and clears those from it on.
 fn paint<O: SliceOrder>(bytes: &mut [u8; 1], mid: usize)

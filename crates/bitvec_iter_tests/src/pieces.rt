@@ -1,10 +1,10 @@
 //! Walks over the pieces of 0, 0, 0, 1, 0, 1, 1, 1, of which no two of one length above 2 are the same.
 
+use crate::bits::read;
 use bitvec_base::Msb0;
 use bitvec_cutting::Cutting;
 use bitvec_iter::{IterCalls, Pieces};
 use bitvec_slice::{BitSlice, BitSliceMut};
-use crate::bits::read;
 
 /// How many bits a piece has, and the number that they write.
 type Read = Option<(usize, u32)>;

@@ -3,7 +3,9 @@
 
 use bitvec_base::Lsb0;
 use bitvec_slice::{BitSlice, BitSliceMut};
-use bitvec_split::{Forward, Inclusive, Reversed, SplitKind, Splits, SplitsMut, SplitsN, SplitsNMut};
+use bitvec_split::{
+    Forward, Inclusive, Reversed, SplitKind, Splits, SplitsMut, SplitsN, SplitsNMut,
+};
 
 /// Says yes at ones.
 fn is_one(_index: usize, bit: &bool) -> bool {

@@ -1,2 +1,5 @@
 pub mod MoveLemmas
+pub mod SwapLaws
+pub mod WaitingLaws
+pub mod WithinLaws
 pub mod WordMoveLemmas

@@ -11,7 +11,7 @@ use Rattle.bitvec_words.specs.Elements.{elements_window, elements_window_from}
 use Rattle.bitvec_words.specs.FieldLaws.{list-whole}
 use Rattle.bitvec_words.specs.WholeLaws.{HasWindow-part}
 use Rattle.bitvec_words.specs.Moves.{CopiesElements, CopiesSome, HasSkippedElements, IsToward, moved_place, nth_place, waiting_place}
-use Rattle.bitvec_move.specs.WithinLaws.{list-ahead}
+use Rattle.bitvec_move.proofs.WithinLaws.{list-ahead}
 
 -- ---- lists
 

@@ -1,3 +1,0 @@
-pub mod SwapLaws
-pub mod WaitingLaws
-pub mod WithinLaws

@@ -10,10 +10,10 @@ ghost use Rattle.bitvec_cells.specs.Access.{CostsAtMost};
 ghost use Rattle.bitvec_cells.specs.Cost.{edit_loads, write_stores};
 ghost use Rattle.bitvec_words.specs.Moves.{Copies};
 
+use crate::moving::move_to;
 use bitvec_base::Window;
 use bitvec_cells::Cells;
 use bitvec_words::{WORD_BITS, WordOrder, load_parts, store_parts};
-use crate::moving::move_to;
 
 /// Copies the bits `from..to` of a window to `dest` on, also where they overlap; all other bits of
 /// the memory stay. Condition: the memory has at most `MAX_BITS` bits, the window lies in it,

@@ -9,13 +9,14 @@ ghost use Rattle.bitvec_cells.specs.Cost.{touched_count};
 ghost use Rattle.bitvec_words.specs.Elements.{elements_window, elements_window_from};
 ghost use Rattle.bitvec_words.specs.Moves.{Copies, CopiesElements, HasSkippedElements, IsToward, late_words, nth_place, waiting_place};
 
+use crate::moving_words::{goes_by_words, shift_words};
 use bitvec_base::{BitOrder, Window, first_part};
 use bitvec_cells::{Cells, CellsRead};
 use bitvec_store::BitStore;
-use bitvec_words::{Carried, Lanes, Whole, WordOrder, load_element, store_part, toward_end};
-use crate::moving_words::{goes_by_words, shift_words};
-use bitvec_words::Stretch;
-use bitvec_words::{MANY_BITS, at_known_skip};
+use bitvec_words::{
+    Carried, Lanes, MANY_BITS, Stretch, Whole, WordOrder, at_known_skip, load_element, store_part,
+    toward_end,
+};
 
 /// Moves the bits of a window to another of the same length. Condition: both lie in the memory, and
 /// aren't empty. The bits at both edges are loaded before the whole elements between them are moved,
@@ -76,10 +77,7 @@ fn store_edge<O: WordOrder, C: Cells>(cells: &mut C, window: Window, element: C:
 
 /// Moves a stretch of one memory to its whole elements.
 #[inline(always)]
-pub fn move_elements<O: WordOrder, C: Cells, const LATER: bool>(
-    cells: &mut C,
-    moved: Stretch,
-)
+pub fn move_elements<O: WordOrder, C: Cells, const LATER: bool>(cells: &mut C, moved: Stretch)
     requires span { HasSpan C.Elem.BITS (C.numbers cells.old) (C.numbers cells.old) (elements_window C.Elem.BITS moved.first moved.count) (elements_window_from C.Elem.BITS moved.source moved.skip moved.count) }
     requires bound { moved.skip < C.Elem.BITS }
     requires towards { IsToward LATER moved.first moved.source }

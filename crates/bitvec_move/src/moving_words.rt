@@ -7,11 +7,10 @@ ghost use Rattle.bitvec_cells.specs.Access.{CostsAtMost, OnlyReads};
 ghost use Rattle.bitvec_words.specs.Elements.{elements_window_from};
 ghost use Rattle.bitvec_words.specs.Moves.{CopiesElements, HasSkippedElements, IsToward};
 
+use crate::moving::{in_order, read_place};
 use bitvec_cells::{Cells, CellsRead};
 use bitvec_store::BitStore;
-use bitvec_words::{WORD_BITS, WordOrder, joined, load_elements, moved, store_elements};
-use crate::moving::{in_order, read_place};
-use bitvec_words::Stretch;
+use bitvec_words::{Stretch, WORD_BITS, WordOrder, joined, load_elements, moved, store_elements};
 
 /// Whether so many bytes are moved by words: if they are many, but not very many, since those are moved faster by the
 /// loop for their shift.

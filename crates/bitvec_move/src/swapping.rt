@@ -5,12 +5,12 @@ ghost use Rattle.bitvec_cells.specs.Access.{CostsAtMost};
 ghost use Rattle.bitvec_cells.specs.Cost.{edit_loads, write_stores};
 ghost use Rattle.bitvec_words.specs.Moves.{Swaps};
 
+use crate::swapping_equal::swap_equal;
+use crate::swapping_shifted::swap_shifted;
 use bitvec_base::{BitOrder, Window};
 use bitvec_cells::{Cells, CellsRead};
 use bitvec_store::BitStore;
 use bitvec_words::WordOrder;
-use crate::swapping_equal::swap_equal;
-use crate::swapping_shifted::swap_shifted;
 
 /// Exchanges the bits of two windows of two memories of the same elements. Condition: each memory
 /// has at most `MAX_BITS` bits, each window lies in its memory, and the windows are as long. On both

@@ -10,9 +10,9 @@ ghost use Rattle.bitvec_words.specs.Moves.{HasPartSpan, HasSkippedElements, HasS
 use bitvec_base::{BitOrder, Part, Window, first_part, tail_part};
 use bitvec_cells::{Cells, CellsRead};
 use bitvec_store::BitStore;
-use bitvec_words::{WordOrder, joined, merged, toward_end, toward_start};
-use bitvec_words::Stretch;
-use bitvec_words::{MANY_BITS, at_known_skip};
+use bitvec_words::{
+    MANY_BITS, Stretch, WordOrder, at_known_skip, joined, merged, toward_end, toward_start,
+};
 
 /// Exchanges two windows whose first bits have different indices in their elements. Condition: as
 /// of [`crate::swap`], and the windows aren't empty.

@@ -2,9 +2,9 @@
 ghost use Rattle.std.specs.Prelude.{◌≡◌};
 ghost use Rattle.bitvec_owned.specs.Owned.{owned};
 
+use crate::BitVec;
 use bitvec_base::BitOrder;
 use bitvec_store::BitStore;
-use crate::BitVec;
 use std::alloc::{AllocError, Allocator};
 
 impl<T: BitStore, O: BitOrder, A: Allocator + Clone> Clone for BitVec<T, O, A> {

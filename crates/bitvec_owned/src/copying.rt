@@ -4,13 +4,13 @@ ghost use Rattle.bitvec_owned.specs.Copies.{Holds, copy_start};
 ghost use Rattle.bitvec_owned.specs.Owned.{owned};
 ghost use Rattle.bitvec_slice.specs.Views.{seen};
 
+use crate::BitVec;
+use crate::zeros::zeros;
 use bitvec_base::Window;
 use bitvec_elements::copy_from_block_in;
 use bitvec_engine::SliceOrder;
 use bitvec_slice::BitSlice;
 use bitvec_store::BitStore;
-use crate::BitVec;
-use crate::zeros::zeros;
 use std::alloc::{AllocError, Allocator};
 
 /// A copy of a view's bits, from the index in its first element on at which the view begins.

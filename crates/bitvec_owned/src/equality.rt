@@ -4,9 +4,9 @@ ghost use Rattle.std.specs.Cmp.Rules.{comparing};
 ghost use Rattle.bitvec_base.specs.Lists.{same_bits};
 ghost use Rattle.bitvec_owned.specs.Owned.{owned};
 
+use crate::BitVec;
 use bitvec_engine::SliceOrder;
 use bitvec_store::BitStore;
-use crate::BitVec;
 use std::alloc::Allocator;
 
 impl<T: BitStore, O: SliceOrder, A: Allocator> PartialEq for BitVec<T, O, A> {

@@ -2,11 +2,11 @@
 ghost use Rattle.std.specs.Prelude.{◌≡◌, ◌≤◌, length};
 ghost use Rattle.bitvec_base.specs.Window.{max_bits};
 
+use crate::BitVec;
 use bitvec_base::BitOrder;
 use bitvec_domain::BitRef;
 use bitvec_slice::Iter;
 use bitvec_store::BitStore;
-use crate::BitVec;
 use std::alloc::Allocator;
 
 impl<T: BitStore, O: BitOrder, A: Allocator> BitVec<T, O, A> {

@@ -8,13 +8,13 @@ ghost use Rattle.bitvec_owned.specs.Owned.{owned};
 ghost use Rattle.bitvec_owned.specs.declared.repeating.RepeatError.TheVariants.{TooLong};
 ghost use Rattle.bitvec_slice.specs.Views.{seen};
 
+use crate::BitVec;
+use crate::zeros::zeros;
 use bitvec_base::{MAX_BITS, Window};
 use bitvec_elements::copy_from_block_in;
 use bitvec_engine::SliceOrder;
 use bitvec_slice::BitSlice;
 use bitvec_store::BitStore;
-use crate::BitVec;
-use crate::zeros::zeros;
 use std::alloc::Allocator;
 
 /// Why there is no repeat.

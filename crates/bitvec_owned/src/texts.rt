@@ -3,9 +3,9 @@ ghost use Rattle.std.specs.Prelude.{Some};
 ghost use Rattle.bitvec_domain.specs.Listing.{bits_text};
 ghost use Rattle.bitvec_owned.specs.Owned.{owned};
 
+use crate::BitVec;
 use bitvec_base::BitOrder;
 use bitvec_store::BitStore;
-use crate::BitVec;
 use std::alloc::Allocator;
 use std::fmt;
 

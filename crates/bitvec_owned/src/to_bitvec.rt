@@ -6,12 +6,12 @@ ghost use Rattle.bitvec_owned.specs.Copies.{Holds, copy_start};
 ghost use Rattle.bitvec_owned.specs.Owned.{owned};
 ghost use Rattle.bitvec_owned.specs.declared.repeating.RepeatError.TheVariants.{TooLong};
 
-use bitvec_engine::SliceOrder;
-use bitvec_slice::{BitSlice, BitSliceMut, View};
-use bitvec_store::BitStore;
 use crate::copying::copy_of;
 use crate::repeating::repeat_of;
 use crate::{BitArray, BitVec, RepeatError};
+use bitvec_engine::SliceOrder;
+use bitvec_slice::{BitSlice, BitSliceMut, View};
+use bitvec_store::BitStore;
 use std::alloc::{AllocError, Allocator};
 
 /// The calls of `bitvec`'s `BitSlice` that make an owned sequence, for both view types and for owned

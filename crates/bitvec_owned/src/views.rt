@@ -5,13 +5,13 @@ ghost use Rattle.bitvec_owned.specs.Owned.{owned};
 ghost use Rattle.bitvec_owned.specs.Writes.{WritesOwned};
 ghost use Rattle.bitvec_owned.specs.WritesLaws.{has_written, sequence_elements, sequence_written};
 
+use crate::BitVec;
 use bitvec_base::BitOrder;
 use bitvec_edit::BitEdits;
 use bitvec_engine::SliceOrder;
 use bitvec_query::BitQueries;
 use bitvec_slice::{BitSlice, Sealed, Shows, View, ViewMut};
 use bitvec_store::BitStore;
-use crate::BitVec;
 use std::alloc::Allocator;
 
 impl<T: BitStore, O: BitOrder, A: Allocator> Shows<T> for BitVec<T, O, A> {

@@ -15,7 +15,7 @@ use Rattle.bitvec_base.specs.WritesLaws.{HasWindow-range, within-list}
 use Rattle.bitvec_words.specs.Front.{IsFront}
 use Rattle.bitvec_query.specs.declared.rest.Rest.{Rest}
 use Rattle.bitvec_query.specs.Places.{places_in}
-use Rattle.bitvec_query.specs.PlacesLaws.{places-next, places-none}
+use Rattle.bitvec_query.proofs.PlacesLaws.{places-next, places-none}
 use Rattle.bitvec_cells.specs.Sought.{Shows}
 use Rattle.bitvec_words.specs.ShortWindow.{padded}
 use Rattle.bitvec_query.specs.Kept.{Keeps}

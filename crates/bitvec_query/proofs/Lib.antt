@@ -6,3 +6,8 @@ mod OrderOnesLemmas
 mod PushedLemmas
 mod TakingLemmas
 mod WrittenLemmas
+pub mod IndicesLaws
+pub mod KeptLaws
+pub mod LoadsLaws
+pub mod PlacesLaws
+pub mod TurnsLaws

@@ -13,7 +13,7 @@ use Rattle.std.proofs.lemmas.Nat.Bits.{bit_at-lt, bit_at-trailing_zeros, bit_at-
 use Rattle.std.proofs.lemmas.Simd.{bit_mask_l, mask_l-lt, ones-mask_l}
 use Rattle.bitvec_base.specs.ListsLaws.{range_with_len-add}
 use Rattle.bitvec_query.specs.WordOnes.{word_ones}
-use Rattle.bitvec_query.specs.PlacesLaws.{filter-none}
+use Rattle.bitvec_query.proofs.PlacesLaws.{filter-none}
 use Rattle.bitvec_query.proofs.LowestLemmas.{lowest-cleared, lowest-others}
 
 abbrev is_set : ℕ → ℕ → Bool

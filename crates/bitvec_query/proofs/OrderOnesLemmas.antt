@@ -12,7 +12,7 @@ use Rattle.bitvec_base.specs.Memory.{element_bits}
 use Rattle.bitvec_base.specs.MemoryLaws.{get-element_bits, length-element_bits}
 use Rattle.bitvec_cells.specs.Sought.{Shows}
 use Rattle.bitvec_query.specs.WordOnes.{order_ones, word_ones}
-use Rattle.bitvec_query.specs.PlacesLaws.{filter-none}
+use Rattle.bitvec_query.proofs.PlacesLaws.{filter-none}
 use Rattle.bitvec_query.proofs.OnesLemmas.{filter-same}
 
 -- ---- the word turned

@@ -1,11 +1,6 @@
 pub mod Indices
-pub mod IndicesLaws
 pub mod Kept
-pub mod KeptLaws
 pub mod Loads
-pub mod LoadsLaws
 pub mod Places
-pub mod PlacesLaws
 pub mod Turns
-pub mod TurnsLaws
 pub mod WordOnes

@@ -7,11 +7,11 @@ ghost use Rattle.bitvec_cells.specs.Sought.{Shows};
 ghost use Rattle.bitvec_query.specs.Kept.{Keeps};
 ghost use Rattle.bitvec_query.specs.Places.{IsRestOf, places_left};
 
+use crate::rest::Rest;
 use bitvec_base::{Lsb0, Part, Window};
 use bitvec_cells::{Shared, sought};
 use bitvec_engine::SliceOrder;
 use bitvec_store::BitStore;
-use crate::rest::Rest;
 
 /// The indices that a walk has yet to give of the elements that it loaded last.
 #[derive(Clone, Copy)]

@@ -6,13 +6,16 @@ ghost use Rattle.std.specs.Ordering.{bool_cmp};
 ghost use Rattle.bitvec_base.specs.Lists.{first_place, is_prefix, is_suffix, last_place, same_bits, stands_in};
 ghost use Rattle.bitvec_slice.specs.Views.{seen};
 
+use crate::runs::{before_first, behind_last};
 use bitvec_base::BitOrder;
-use bitvec_elements::{all_in, any_in, compare_in, count_in, ends_with_in, eq_in, find_first_in, find_last_in, starts_with_in};
+use bitvec_elements::{
+    all_in, any_in, compare_in, count_in, ends_with_in, eq_in, find_first_in, find_last_in,
+    starts_with_in,
+};
 use bitvec_engine::SliceOrder;
 use bitvec_slice::{BitSlice, View};
 use bitvec_store::BitStore;
 use bitvec_within::contains_in;
-use crate::runs::{before_first, behind_last};
 use std::cmp::Ordering;
 
 /// The questions that `bitvec`'s `BitSlice` answers about its bits, for both view types. A needle,

@@ -7,12 +7,12 @@ ghost use Rattle.bitvec_cells.specs.Cost.{touched_count};
 ghost use Rattle.bitvec_query.specs.Loads.{LoadsPassed};
 ghost use Rattle.bitvec_query.specs.Places.{IsRestOf, ShortensBack, places_left};
 
+use crate::rest::Rest;
 use bitvec_base::{BitOrder, Window};
 use bitvec_cells::CellsRead;
 use bitvec_engine::SliceOrder;
 use bitvec_store::BitStore;
 use bitvec_words::{count, count_zeros};
-use crate::rest::Rest;
 
 /// The first index of the rest whose bit is `want`, if there is one; the rest then begins behind
 /// it, or is empty. Condition: the memory has at most `MAX_BITS` bits, the window lies in it, and

@@ -5,10 +5,10 @@ ghost use Rattle.std.specs.List.{join_by};
 ghost use Rattle.bitvec_domain.specs.Listing.{comma, listed};
 ghost use Rattle.bitvec_query.specs.Indices.{remaining_indices};
 
+use crate::{Places, Wanted};
 use bitvec_domain::separator_before;
 use bitvec_engine::SliceOrder;
 use bitvec_store::BitStore;
-use crate::{Places, Wanted};
 use std::fmt;
 
 /// The indices that are still to come, as `Places([1, 4])`.

@@ -8,12 +8,12 @@ ghost use Rattle.bitvec_query.specs.Loads.{LoadsPassed};
 ghost use Rattle.bitvec_query.specs.Places.{IsRestOf, places_left};
 ghost use Rattle.bitvec_query.specs.Turns.{TurnGives, count_given, turns_give};
 
+use crate::rest::Rest;
+use crate::taking::{take_first, take_last};
 use bitvec_base::Window;
 use bitvec_cells::CellsRead;
 use bitvec_engine::SliceOrder;
 use bitvec_store::BitStore;
-use crate::rest::Rest;
-use crate::taking::{take_first, take_last};
 
 /// An end of a walk.
 #[derive(Clone, Copy, PartialEq, Eq, Debug)]

@@ -1,8 +1,8 @@
 //! The two view types answer questions, and their ones and zeros are walked.
+use crate::{BitQueries, IterOnes, IterZeros, OnesCalls, Places};
 use bitvec_engine::SliceOrder;
 use bitvec_slice::{BitSlice, BitSliceMut};
 use bitvec_store::BitStore;
-use crate::{BitQueries, IterOnes, IterZeros, OnesCalls, Places};
 
 impl<'a, T: BitStore, O: SliceOrder> BitQueries<T, O> for BitSlice<'a, T, O> {}
 

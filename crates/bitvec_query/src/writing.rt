@@ -4,12 +4,12 @@ ghost use Rattle.bitvec_base.specs.Memory.{HasWindow, list_in};
 ghost use Rattle.bitvec_query.specs.WordOnes.{order_ones, word_ones};
 ghost use Rattle.bitvec_query.specs.Places.{places_in};
 
+use crate::rest::Rest;
 use bitvec_base::{Part, Window};
 use bitvec_cells::{Shared, sought};
 use bitvec_engine::SliceOrder;
 use bitvec_store::BitStore;
 use bitvec_words::{WORD_BITS, WordOrder};
-use crate::rest::Rest;
 
 /// Writes to `indices` the indices, from `from` on, of a window's bits that are `want`: in ascending
 /// order, as many as there is room for. It returns how many these are. Conditions: the memory has at

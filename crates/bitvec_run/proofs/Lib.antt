@@ -1,0 +1,2 @@
+pub mod FieldRowsLaws
+pub mod FollowsLaws

@@ -2,11 +2,9 @@ pub mod Commands
 pub mod CommandsLaws
 pub mod Costs
 pub mod FieldRows
-pub mod FieldRowsLaws
 pub mod Fold
 pub mod FoldLaws
 pub mod Follows
-pub mod FollowsLaws
 pub mod Groups
 pub mod RanLaws
 pub mod Rows

@@ -5,12 +5,12 @@ ghost use Rattle.bitvec_run.specs.Commands.{op_row};
 ghost use Rattle.bitvec_run.specs.Follows.{Follows};
 ghost use Rattle.bitvec_run.specs.Groups.{Edit, FitsList, Move, group};
 
+use crate::{Op, Reply};
 use bitvec_base::Window;
 use bitvec_cells::{Cells, replace_bit, swap_bits};
 use bitvec_engine::{SliceOrder, rotate_left, rotate_right, shift_end, shift_start};
 use bitvec_store::BitStore;
 use bitvec_words::{fill, invert};
-use crate::{Op, Reply};
 
 /// An edit of bits where they stand, in the list that a window holds, whatever the right list.
 /// Condition: as for [`query`], with the indices that are named.

@@ -5,13 +5,13 @@ ghost use Rattle.bitvec_cells.specs.Access.{OnlyReads};
 ghost use Rattle.bitvec_run.specs.Runs.{CanRun, ErrsExactly, FailsRun, RunsBy};
 ghost use Rattle.bitvec_run.specs.FieldRows.{field_outcome};
 
+use crate::field_stepping::field_step;
+use crate::{FieldStep, Reply, RunError, whole};
 use bitvec_base::Window;
 use bitvec_cells::{Cells, CellsRead, fits_max_bits, has_window};
 use bitvec_engine::SliceOrder;
 use bitvec_segments::FieldOrder;
 use bitvec_store::BitStore;
-use crate::field_stepping::field_step;
-use crate::{FieldStep, Reply, RunError, whole};
 use std::alloc::Allocator;
 
 /// Runs commands through a window of a memory, loads and stores of numbers among them: [`run`](crate::run)

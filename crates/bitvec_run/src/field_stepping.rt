@@ -6,12 +6,12 @@ ghost use Rattle.bitvec_run.specs.Rows.{or_else, range_lies, unless};
 ghost use Rattle.bitvec_run.specs.declared.command.Refusal.{Refusal};
 ghost use Rattle.bitvec_run.specs.FieldRows.{FitsTransfer, IsTransfer, field_outcome, field_row, width_refusal};
 
+use crate::{FieldOp, FieldStep, Refusal, Reply, Step, carry_out};
 use bitvec_base::Window;
 use bitvec_cells::{Cells, CellsRead};
 use bitvec_engine::SliceOrder;
 use bitvec_segments::FieldOrder;
 use bitvec_store::BitStore;
-use crate::{FieldOp, FieldStep, Refusal, Reply, Step, carry_out};
 
 /// One step of a run in a window, whose right list is the one that `source` holds: it replies, and
 /// leaves in the window the list after it. Condition: each memory has at most `MAX_BITS` bits, and

@@ -5,12 +5,12 @@ ghost use Rattle.bitvec_run.specs.Commands.{op_row};
 ghost use Rattle.bitvec_run.specs.Follows.{Answers};
 ghost use Rattle.bitvec_run.specs.Groups.{FitsList, Query, group};
 
+use crate::{Op, Reply};
 use bitvec_base::Window;
 use bitvec_cells::{CellsRead, get_bit};
 use bitvec_engine::{SliceOrder, all, any};
 use bitvec_store::BitStore;
 use bitvec_words::{count, count_zeros};
-use crate::{Op, Reply};
 
 /// A query about the list that a window holds, whatever the right list. Condition: the memory has
 /// at most `MAX_BITS` bits, the window lies in it, and the index that is named in its list.

@@ -4,8 +4,8 @@ ghost use Rattle.bitvec_run.specs.Commands.{op_refusal};
 ghost use Rattle.bitvec_run.specs.Rows.{unless};
 ghost use Rattle.bitvec_run.specs.Runs.{StepFits, step_row};
 
-use bitvec_base::Window;
 use crate::{Op, Refusal, Step};
+use bitvec_base::Window;
 
 /// The first condition of a step that fails, if one does, on a window of `len` bits beside a right
 /// list of `source_len`.

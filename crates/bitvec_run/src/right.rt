@@ -7,12 +7,12 @@ ghost use Rattle.bitvec_run.specs.Follows.{FollowsBoth};
 ghost use Rattle.bitvec_run.specs.Groups.{Combine, Compare, FitsList, FitsRight, group};
 ghost use Rattle.bitvec_run.specs.Runs.{window_inside};
 
+use crate::{Op, Reply};
 use bitvec_base::Window;
 use bitvec_cells::{Cells, CellsRead};
 use bitvec_engine::{SliceOrder, contains, ends_with, starts_with};
 use bitvec_store::BitStore;
 use bitvec_words::BitOp;
-use crate::{Op, Reply};
 
 /// An edit of the list that a window holds, by bits of the right list, which `source` holds.
 /// Condition: each memory has at most `MAX_BITS` bits, each window lies in its memory, the right

@@ -4,12 +4,12 @@ ghost use Rattle.bitvec_base.specs.Memory.{FitsMaxBits, memory_bits};
 ghost use Rattle.bitvec_cells.specs.Access.{OnlyReads};
 ghost use Rattle.bitvec_run.specs.Runs.{CanRun, ErrsExactly, FailsRun, RunsBy, step_outcome, whole_window};
 
+use crate::step::carry_out;
+use crate::{Reply, RunError, Step};
 use bitvec_base::Window;
 use bitvec_cells::{Cells, CellsRead, fits_max_bits, has_window};
 use bitvec_engine::SliceOrder;
 use bitvec_store::BitStore;
-use crate::step::carry_out;
-use crate::{Reply, RunError, Step};
 use std::alloc::Allocator;
 
 /// Runs commands through a window of a memory.

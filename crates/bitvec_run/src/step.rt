@@ -6,15 +6,15 @@ ghost use Rattle.bitvec_run.specs.Follows.{FollowsBoth};
 ghost use Rattle.bitvec_run.specs.Groups.{FitsList, FitsRight};
 ghost use Rattle.bitvec_run.specs.Runs.{step_outcome};
 
-use bitvec_base::Window;
-use bitvec_cells::{Cells, CellsRead};
-use bitvec_engine::SliceOrder;
-use bitvec_store::BitStore;
 use crate::edit::{edit, rearrange};
 use crate::query::query;
 use crate::refusal::step_refusal;
 use crate::right::{combine, compare};
 use crate::{Op, Reply, Step};
+use bitvec_base::Window;
+use bitvec_cells::{Cells, CellsRead};
+use bitvec_engine::SliceOrder;
+use bitvec_store::BitStore;
 
 /// One step of a run in a window, whose right list is the one that `source` holds: it replies, and
 /// leaves in the window the list after it. Condition: each memory has at most `MAX_BITS` bits, and

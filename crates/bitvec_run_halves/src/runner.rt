@@ -6,14 +6,14 @@ ghost use Rattle.bitvec_slice.specs.Views.{seen, seen_mut};
 ghost use Rattle.bitvec_slice.specs.Writes.{WritesBits};
 ghost use Rattle.bitvec_run_halves.specs.Sides.{RunsSides, halves_of, joined, side_lists, side_reply};
 
+use crate::Side;
+use crate::halves::side_window;
 use bitvec_base::Window;
 use bitvec_cells::{Cells, CellsRead, Exclusive, Shared};
 use bitvec_engine::SliceOrder;
 use bitvec_run::{Reply, Step, carry_out};
 use bitvec_slice::{BitSlice, BitSliceMut, Sealed, ViewMut};
 use bitvec_store::BitStore;
-use crate::Side;
-use crate::halves::side_window;
 
 /// Runs commands through the two halves of a view, which meet at the index `mid`, in the order given.
 ///

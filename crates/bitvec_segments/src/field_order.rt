@@ -5,11 +5,11 @@ ghost use Rattle.bitvec_cells.specs.Access.{CostsAtMost, OnlyReads};
 ghost use Rattle.bitvec_segments.specs.Segments.{loaded_be, loaded_le, stored_be, stored_le};
 ghost use Rattle.bitvec_cells.specs.Cost.{fill_loads, touched_count};
 
+use crate::{loading, storing};
 use bitvec_base::{Lsb0, Msb0, Window};
 use bitvec_cells::{Cells, CellsRead};
 use bitvec_store::BitStore;
 use bitvec_words::WordOrder;
-use crate::{loading, storing};
 
 /// An order under which a window of at most 128 bits is loaded and stored as a number, whose segments
 /// are the window's bits cut at the edges of elements.

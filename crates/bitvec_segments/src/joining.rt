@@ -6,11 +6,11 @@ ghost use Rattle.bitvec_segments.specs.Segments.{segment_number};
 ghost use Rattle.bitvec_segments.specs.Windows.{FitsWord};
 ghost use Rattle.bitvec_cells.specs.Cost.{touched_count};
 
+use crate::part::bits_below;
 use bitvec_base::Window;
 use bitvec_cells::CellsRead;
 use bitvec_store::BitStore;
 use bitvec_words::{WORD_BITS, WordOrder};
-use crate::part::bits_below;
 
 /// The number of a window's bits, taken as one segment. Condition: the window isn't empty, lies in a
 /// memory of at most `MAX_BITS` bits, and the elements that it touches have at most 64 bits, one alone

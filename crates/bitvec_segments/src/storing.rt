@@ -4,12 +4,12 @@ ghost use Rattle.bitvec_cells.specs.Access.{CostsAtMost};
 ghost use Rattle.bitvec_segments.specs.Windows.{HasNumber, StoresIn};
 ghost use Rattle.bitvec_cells.specs.Cost.{fill_loads, touched_count};
 
+use crate::cutting::{lower_bits, part_at};
+use crate::part::store_part_number;
 use bitvec_base::Window;
 use bitvec_cells::Cells;
 use bitvec_store::BitStore;
 use bitvec_words::WordOrder;
-use crate::cutting::{lower_bits, part_at};
-use crate::part::store_part_number;
 
 /// Gives a window the bits for which `load` gives the number, without those of its bits for which the
 /// window is too short. Condition: as for `load`. It stores each element that the window touches once,

@@ -1,2 +1,4 @@
+pub mod ApartLaws
+pub mod BitPartsLaws
 pub mod DomainBits
 pub mod Rests

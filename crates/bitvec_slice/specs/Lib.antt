@@ -1,7 +1,5 @@
 pub mod Apart
-pub mod ApartLaws
 pub mod BitParts
-pub mod BitPartsLaws
 pub mod Domains
 pub mod DomainsLaws
 pub mod Indices

@@ -8,10 +8,10 @@ ghost use Rattle.bitvec_domain.specs.declared.cut.Cut.TheVariants.{Across};
 ghost use Rattle.bitvec_slice.specs.Domains.{enclave_part, region_parts, view_in, view_in_if, views_in, views_of, views_of_mut};
 ghost use Rattle.bitvec_slice.specs.Views.{seen, seen_mut};
 
+use crate::{BitSlice, BitSliceMut};
 use bitvec_base::{BitOrder, Part, Window};
 use bitvec_domain::Cut;
 use bitvec_store::BitStore;
-use crate::{BitSlice, BitSliceMut};
 
 /// A view, cut at the edges of elements: `bitvec`'s `BitDomain`, over the type of the parts, which is
 /// [`BitSlice`] of `bit_domain` and [`BitSliceMut`] of `bit_domain_mut`. In a `for` it gives them in their

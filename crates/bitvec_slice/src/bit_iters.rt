@@ -3,9 +3,9 @@ ghost use Rattle.std.specs.Prelude.{◌≡◌, Some, IfSome, length};
 ghost use Rattle.std.specs.Iterator.{UpTo, YieldsFirst, YieldsFirstRef, YieldsLast, YieldsLastRef, at_most, item_count};
 ghost use Rattle.std.specs.Iterator.SizeHint.{IsWithinCount};
 
+use crate::Iter;
 use bitvec_base::BitOrder;
 use bitvec_store::BitStore;
-use crate::Iter;
 use std::iter::FusedIterator;
 
 /// The bits of a view as `&bool`, from both ends: `by_refs` of [`Iter`] makes it.

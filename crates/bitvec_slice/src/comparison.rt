@@ -7,10 +7,10 @@ ghost use Rattle.std.specs.Ordering.{as_partial_cmp, bool_cmp, on};
 ghost use Rattle.bitvec_slice.specs.Views.{seen};
 ghost use Rattle.bitvec_elements.specs.OrderLaws.{same_bits-ties};
 
+use crate::BitSlice;
 use bitvec_elements::compare_block_in;
 use bitvec_engine::SliceOrder;
 use bitvec_store::BitStore;
-use crate::BitSlice;
 use std::cmp::Ordering;
 
 impl<'a, T: BitStore, O: SliceOrder> PartialOrd for BitSlice<'a, T, O> {

@@ -3,9 +3,9 @@ ghost use Rattle.std.specs.Prelude.{◌≡◌, ◌-◌, ◌*◌, ◌^◌, ◌≤
 ghost use Rattle.bitvec_base.specs.Window.{max_bits};
 ghost use Rattle.bitvec_base.specs.declared.span_error.BitSpanError.TheVariants.{TooLong};
 
+use crate::{BitSlice, BitSliceMut};
 use bitvec_base::{BitOrder, BitSpanError, MAX_BITS};
 use bitvec_store::BitStore;
-use crate::{BitSlice, BitSliceMut};
 
 /// How many bits so many elements have, or `usize::MAX` where a `usize` can't hold the number.
 pub(crate) fn bits_in<T: BitStore>(count: usize) -> usize

@@ -5,10 +5,10 @@ ghost use Rattle.bitvec_base.specs.Window.{max_bits};
 ghost use Rattle.bitvec_slice.specs.Seen.{IsEmpty, IsWhole};
 ghost use Rattle.bitvec_slice.specs.Views.{IsWholeOf, name_of, seen, seen_mut};
 
-use bitvec_base::{BitOrder, MAX_BITS};
-use bitvec_store::BitStore;
 use crate::constructors::bits_in;
 use crate::{BitSlice, BitSliceMut};
+use bitvec_base::{BitOrder, MAX_BITS};
+use bitvec_store::BitStore;
 
 /// The empty view.
 impl<'a, T: BitStore, O: BitOrder> Default for BitSlice<'a, T, O> {

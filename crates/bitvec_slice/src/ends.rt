@@ -1,10 +1,10 @@
 //! The first and the last bit of a view. Of a view without bits each call gives `None`.
 ghost use Rattle.std.specs.Prelude.{◌-◌, ◌<◌};
 
+use crate::{BitSlice, BitSliceMut};
 use bitvec_base::BitOrder;
 use bitvec_domain::{BitRef, BitRefMut};
 use bitvec_store::BitStore;
-use crate::{BitSlice, BitSliceMut};
 
 impl<'a, T: BitStore, O: BitOrder> BitSlice<'a, T, O> {
     ghost use Rattle.bitvec_slice.specs.Indices.{IsBitOf};

@@ -4,10 +4,10 @@ ghost use Rattle.std.specs.Cmp.Rules.{comparing};
 ghost use Rattle.bitvec_base.specs.Lists.{same_bits};
 ghost use Rattle.bitvec_slice.specs.Views.{seen, seen_mut};
 
+use crate::{BitSlice, BitSliceMut};
 use bitvec_elements::eq_block_in;
 use bitvec_engine::SliceOrder;
 use bitvec_store::BitStore;
-use crate::{BitSlice, BitSliceMut};
 
 impl<'a, T: BitStore, O: SliceOrder> PartialEq for BitSlice<'a, T, O> {
     ghost eq = { λ view other. same_bits (seen view).bits (seen other).bits };

@@ -3,10 +3,10 @@ ghost use Rattle.bitvec_slice.specs.Views.{seen};
 ghost use Rattle.bitvec_domain.specs.Feeding.{bits_fed};
 ghost use Rattle.bitvec_domain.specs.FeedingLaws.{fed_same};
 
+use crate::BitSlice;
 use bitvec_domain::hash_in;
 use bitvec_engine::SliceOrder;
 use bitvec_store::BitStore;
-use crate::BitSlice;
 use std::hash::{Hash, Hasher};
 
 impl<'a, T: BitStore, O: SliceOrder> Hash for BitSlice<'a, T, O> {

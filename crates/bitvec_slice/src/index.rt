@@ -1,10 +1,10 @@
 //! What a view is indexed by.
 ghost use Rattle.std.specs.Prelude.{◌≡◌, ℕ, ◌<◌, ◌↔◌, IsTrue};
 
+use crate::{BitSlice, BitSliceMut};
 use bitvec_base::BitOrder;
 use bitvec_domain::{BitRef, BitRefMut};
 use bitvec_store::BitStore;
-use crate::{BitSlice, BitSliceMut};
 
 /// A shared view, as [`BitSliceIndex`] needs it.
 #[doc(hidden)]

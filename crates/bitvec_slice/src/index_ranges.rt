@@ -2,9 +2,9 @@
 ghost use Rattle.std.specs.Prelude.{◌+◌, ◌<◌, ◌≤◌, ⊤};
 ghost use Rattle.std.specs.Range.{range_inclusive_start, range_inclusive_end};
 
+use crate::{BitSlice, BitSliceIndex, BitSliceMut};
 use bitvec_base::BitOrder;
 use bitvec_store::BitStore;
-use crate::{BitSlice, BitSliceIndex, BitSliceMut};
 use std::ops::{Range, RangeFrom, RangeFull, RangeInclusive, RangeTo, RangeToInclusive};
 
 impl<'a, T: BitStore + 'a, O: BitOrder> BitSliceIndex<BitSlice<'a, T, O>> for Range<usize> {

@@ -1,11 +1,11 @@
 //! Indices of a view, and ranges of them.
 ghost use Rattle.std.specs.Prelude.{◌≡◌, ◌+◌, ◌<◌, false, slice_index_or};
 
+use crate::touching::touched_range;
+use crate::{BitSlice, BitSliceIndex, BitSliceMut};
 use bitvec_base::BitOrder;
 use bitvec_domain::{BitRef, BitRefMut, bit_in};
 use bitvec_store::BitStore;
-use crate::touching::touched_range;
-use crate::{BitSlice, BitSliceIndex, BitSliceMut};
 use std::ops::{Index, Range};
 
 impl<'a, T: BitStore, O: BitOrder> BitSlice<'a, T, O> {

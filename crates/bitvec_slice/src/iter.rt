@@ -5,10 +5,10 @@ ghost use Rattle.std.specs.Iterator.SizeHint.{IsWithinCount};
 ghost use Rattle.bitvec_slice.specs.Indices.{HasRange};
 ghost use Rattle.bitvec_slice.specs.Views.{seen};
 
+use crate::{BitRefIter, BitSlice, BitValIter};
 use bitvec_base::BitOrder;
 use bitvec_domain::BitRef;
 use bitvec_store::BitStore;
-use crate::{BitRefIter, BitSlice, BitValIter};
 use std::alloc::AllocError;
 use std::iter::FusedIterator;
 use std::ops::Range;

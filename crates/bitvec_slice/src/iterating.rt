@@ -2,10 +2,10 @@
 ghost use Rattle.std.specs.Prelude.{◌≡◌, ◌≤◌, length};
 ghost use Rattle.bitvec_base.specs.Window.{max_bits};
 
+use crate::{BitSlice, BitSliceMut, Iter};
 use bitvec_base::BitOrder;
 use bitvec_domain::BitRef;
 use bitvec_store::BitStore;
-use crate::{BitSlice, BitSliceMut, Iter};
 
 impl<'a, T: BitStore, O: BitOrder> BitSlice<'a, T, O> {
     ghost use Rattle.bitvec_slice.specs.Views.{seen};

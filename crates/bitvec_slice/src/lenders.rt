@@ -1,9 +1,9 @@
 //! The parts of a writable view, lent where the view has them.
 ghost use Rattle.std.specs.Prelude.{◌≡◌, ◌+◌, ◌-◌, IsTrue, false, nat_lt, true};
 
+use crate::{BitSliceMut, Lent, LentIndex};
 use bitvec_base::BitOrder;
 use bitvec_store::BitStore;
-use crate::{BitSliceMut, Lent, LentIndex};
 use std::ops::Range;
 
 impl<'a, T: BitStore, O: BitOrder> BitSliceMut<'a, T, O> {

@@ -1,10 +1,10 @@
 //! What a call that lends gives, also where there is nothing to lend.
 ghost use Rattle.std.specs.Prelude.{◌≡◌, ◌↔◌, IfSome, IsSome, IsTrue, not};
 
+use crate::BitSliceMut;
 use bitvec_base::BitOrder;
 use bitvec_domain::BitRefMut;
 use bitvec_store::BitStore;
-use crate::BitSliceMut;
 
 /// A piece that was lent, if there is one: what a call gives whose name ends in `_lent`, where `bitvec`'s
 /// ends in `_mut` and gives an `Option`. [`Lent::some`] and [`Lent::bit`] give the `Option`.

@@ -6,12 +6,12 @@ ghost use Rattle.bitvec_words.specs.declared.operator.BitOp.TheVariants.{And, Or
 ghost use Rattle.bitvec_slice.specs.Views.{seen, seen_mut};
 ghost use Rattle.bitvec_slice.specs.Writes.{WritesBits};
 
+use crate::{BitSlice, BitSliceMut};
 use bitvec_base::BitOrder;
 use bitvec_elements::{combine_block_in, invert_in};
 use bitvec_engine::SliceOrder;
 use bitvec_store::BitStore;
 use bitvec_words::BitOp;
-use crate::{BitSlice, BitSliceMut};
 use std::ops::{BitAndAssign, BitOrAssign, BitXorAssign, Not};
 
 impl<'a, T: BitStore, O: BitOrder> Not for BitSliceMut<'a, T, O> {

@@ -4,9 +4,9 @@ ghost use Rattle.bitvec_base.specs.Memory.{HasWindow};
 ghost use Rattle.bitvec_slice.specs.Showing.{ShowsElements, shows_elements};
 ghost use Rattle.bitvec_slice.specs.Views.{seen, seen_mut};
 
+use crate::{BitSlice, BitSliceMut};
 use bitvec_base::{BitOrder, Window};
 use bitvec_store::BitStore;
-use crate::{BitSlice, BitSliceMut};
 
 /// What shows bits: views of both types, a borrow of a writable one, and owned sequences. It has no call:
 /// what contracts see is a member, so that the clauses of all traits of calls can name it.

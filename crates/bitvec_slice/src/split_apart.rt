@@ -1,10 +1,10 @@
 //! A writable view's bits, cut in two that are written at once.
 ghost use Rattle.std.specs.Prelude.{◌≡◌, ◌+◌, ◌%◌, ◌<◌, ◌≤◌, ◌↔◌, IfSome, IsSome};
 
-use bitvec_base::{BitOrder, comes_apart};
-use bitvec_store::BitStore;
 use crate::BitSliceMut;
 use crate::touching::touched_range;
+use bitvec_base::{BitOrder, comes_apart};
+use bitvec_store::BitStore;
 
 impl<'a, T: BitStore, O: BitOrder> BitSliceMut<'a, T, O> {
     ghost use Rattle.bitvec_base.specs.Apart.{ComesApart};

@@ -1,9 +1,9 @@
 //! A view's bits, cut in two.
 ghost use Rattle.std.specs.Prelude.{◌≤◌};
 
+use crate::{BitSlice, BitSliceMut};
 use bitvec_base::BitOrder;
 use bitvec_store::BitStore;
-use crate::{BitSlice, BitSliceMut};
 
 impl<'a, T: BitStore, O: BitOrder> BitSlice<'a, T, O> {
     ghost use Rattle.bitvec_slice.specs.Seen.{AreHalves};

@@ -2,10 +2,10 @@
 ghost use Rattle.std.specs.Prelude.{◌≡◌, ◌-◌, true};
 ghost use Rattle.bitvec_base.specs.Lists.{is_prefix, is_suffix};
 
+use crate::{BitSlice, BitSliceMut};
 use bitvec_base::BitOrder;
 use bitvec_elements::{ends_with_in, starts_with_in};
 use bitvec_store::BitStore;
-use crate::{BitSlice, BitSliceMut};
 
 impl<'a, T: BitStore, O: BitOrder> BitSlice<'a, T, O> {
     ghost use Rattle.bitvec_slice.specs.Seen.{IsGiven, IsRangeOf};

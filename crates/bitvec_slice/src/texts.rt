@@ -3,10 +3,10 @@ ghost use Rattle.std.specs.Prelude.{Some};
 ghost use Rattle.bitvec_slice.specs.Views.{seen, seen_mut};
 ghost use Rattle.bitvec_domain.specs.Listing.{bits_text};
 
+use crate::{BitSlice, BitSliceMut};
 use bitvec_base::BitOrder;
 use bitvec_domain::write_bits_in;
 use bitvec_store::BitStore;
-use crate::{BitSlice, BitSliceMut};
 use std::fmt;
 
 /// The bits as a list, as `[0, 1, 0]`.

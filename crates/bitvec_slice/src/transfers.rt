@@ -2,10 +2,10 @@
 //! trait can't have them: its check doesn't take an argument whose type has the trait's own bounds.
 ghost use Rattle.std.specs.Prelude.{◌≡◌};
 
+use crate::{BitSlice, BitSliceMut};
 use bitvec_elements::{copy_from_block_in, swap_with_block_in};
 use bitvec_engine::SliceOrder;
 use bitvec_store::BitStore;
-use crate::{BitSlice, BitSliceMut};
 
 impl<'a, T: BitStore, O: SliceOrder> BitSliceMut<'a, T, O> {
     ghost use Rattle.bitvec_slice.specs.Views.{seen, seen_mut};

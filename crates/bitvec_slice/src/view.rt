@@ -2,12 +2,12 @@
 ghost use Rattle.std.specs.Prelude.{◌≡◌, ◌+◌, ◌*◌, ◌≤◌, ◌==◌, ⊤, length, map};
 ghost use Rattle.bitvec_base.specs.Window.{max_bits};
 
-use bitvec_base::{BitOrder, MAX_BITS, Window};
-use bitvec_domain::{Domain, domain_of};
-use bitvec_store::BitStore;
 use crate::BitDomain;
 use crate::bit_domain::bit_domain_of;
 use crate::touching::touched_range;
+use bitvec_base::{BitOrder, MAX_BITS, Window};
+use bitvec_domain::{Domain, domain_of};
+use bitvec_store::BitStore;
 use std::alloc::AllocError;
 use std::marker::PhantomData;
 use std::ops::Range;

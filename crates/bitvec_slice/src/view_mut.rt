@@ -2,12 +2,12 @@
 ghost use Rattle.std.specs.Prelude.{◌≡◌, ◌+◌, ◌*◌, ◌≤◌, ◌==◌, length, map, slice_range};
 ghost use Rattle.bitvec_base.specs.Window.{max_bits};
 
-use bitvec_base::{BitOrder, Window};
-use bitvec_domain::{Domain, DomainMut, domain_mut_of};
-use bitvec_store::BitStore;
 use crate::bit_domain::bit_domain_mut_of;
 use crate::touching::touched_range;
 use crate::{BitDomain, BitDomainMut, BitSlice, Sealed};
+use bitvec_base::{BitOrder, Window};
+use bitvec_domain::{Domain, DomainMut, domain_mut_of};
+use bitvec_store::BitStore;
 use std::marker::PhantomData;
 use std::ops::Range;
 

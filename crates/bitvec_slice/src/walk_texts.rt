@@ -4,9 +4,9 @@ ghost use Rattle.std.specs.Fmt.{DisplaysOnOk, debug_variant};
 ghost use Rattle.bitvec_domain.specs.Listing.{bits_text};
 ghost use Rattle.bitvec_slice.specs.Views.{seen};
 
+use crate::{BitRefIter, BitSlice, BitValIter, Iter};
 use bitvec_base::BitOrder;
 use bitvec_store::BitStore;
-use crate::{BitRefIter, BitSlice, BitValIter, Iter};
 use std::fmt;
 
 /// Writes a name, and behind it the view in parentheses.

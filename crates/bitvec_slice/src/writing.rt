@@ -7,9 +7,9 @@ ghost use Rattle.bitvec_slice.specs.Lending.{with_elements};
 ghost use Rattle.bitvec_slice.specs.WriteLaws.{has_written, written};
 ghost use Rattle.bitvec_slice.specs.Writes.{WritesBits};
 
+use crate::{BitSliceMut, Sealed, View};
 use bitvec_base::BitOrder;
 use bitvec_store::BitStore;
-use crate::{BitSliceMut, Sealed, View};
 
 /// Types whose bits can be written: writable views, and owned sequences.
 pub trait ViewMut<T: BitStore, O: BitOrder>: View<T, O> {

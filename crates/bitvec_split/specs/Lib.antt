@@ -1,11 +1,8 @@
-pub mod AnyLender
 pub mod Asked
 pub mod AskedLaws
-pub mod SplitStateLaws
 pub mod SplitStates
 pub mod FoundLaws
 pub mod Lent
-pub mod LentLaws
 pub mod LentViews
 pub mod SplitLaws
 pub mod Splits

@@ -2,10 +2,10 @@
 ghost use Rattle.std.specs.Prelude.{◌≡◌, false, true};
 ghost use Rattle.bitvec_split.specs.Splits.{unsplit};
 
+use crate::{LimitedSplitWalk, RSplit, RSplitN, Split, SplitInclusive, SplitN, SplitWalk};
 use bitvec_base::BitOrder;
 use bitvec_slice::{BitSlice, BitSliceMut, Shows};
 use bitvec_store::BitStore;
-use crate::{LimitedSplitWalk, RSplit, RSplitN, Split, SplitInclusive, SplitN, SplitWalk};
 
 /// Splits of a view by a predicate, for both view types: of a `BitSlice` they live as long as its
 /// elements, of a `&BitSliceMut` as long as that borrow. A predicate is called with the index of a bit

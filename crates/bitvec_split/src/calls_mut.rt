@@ -3,10 +3,10 @@ ghost use Rattle.std.specs.Prelude.{◌≡◌, false, true};
 ghost use Rattle.std.specs.Borrow.{Array, follows, sem};
 ghost use Rattle.bitvec_split.specs.Lent.{unsplit_in};
 
+use crate::{RSplitMut, RSplitNMut, SplitInclusiveMut, SplitMut, SplitNMut};
 use bitvec_base::BitOrder;
 use bitvec_slice::{BitSliceMut, ViewMut};
 use bitvec_store::BitStore;
-use crate::{RSplitMut, RSplitNMut, SplitInclusiveMut, SplitMut, SplitNMut};
 
 /// Splits of a writable view by a predicate, whose pieces are lent one at a time. The view is lent for as
 /// long as the split is; afterwards a caller knows its window and its number of elements.

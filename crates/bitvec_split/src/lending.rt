@@ -2,11 +2,11 @@
 ghost use Rattle.std.specs.Prelude.{◌≡◌, ◌+◌, ◌*◌, ◌≤◌, ◌==◌, ◌&&◌, ◌||◌, Some, length, option_map, slice_range};
 ghost use Rattle.bitvec_base.specs.Window.{max_bits};
 
+use crate::split_state::{SplitState, look};
+use crate::{AtMost, Every, Forward, Inclusive, Reversed, SplitKind, SplitLimit};
 use bitvec_base::{BitOrder, Window};
 use bitvec_slice::{BitSlice, BitSliceMut, Sealed, ViewMut, touched_range};
 use bitvec_store::BitStore;
-use crate::split_state::{SplitState, look};
-use crate::{AtMost, Every, Forward, Inclusive, Reversed, SplitKind, SplitLimit};
 use std::marker::PhantomData;
 use std::ops::Range;
 

@@ -4,12 +4,12 @@ ghost use Rattle.std.specs.Fmt.{debug_variant, decimal};
 ghost use Rattle.bitvec_domain.specs.Listing.{bits_text, comma};
 ghost use Rattle.bitvec_split.specs.Lent.{uncut_in};
 
-use bitvec_base::BitOrder;
-use bitvec_slice::write_named;
-use bitvec_store::BitStore;
 use crate::split_state::look;
 use crate::texts::write_limited;
 use crate::{AtMost, Every, SplitsMut};
+use bitvec_base::BitOrder;
+use bitvec_slice::write_named;
+use bitvec_store::BitStore;
 use std::fmt;
 
 /// The bits that no piece has yet, as `SplitsMut([0, 1, 0])`: none once the last piece was found.

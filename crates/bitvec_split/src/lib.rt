@@ -17,7 +17,9 @@ mod walks;
 pub use calls::SplitCalls;
 pub use calls_mut::SplitCallsMut;
 pub use kinds::{AtMost, Every, Forward, Inclusive, Reversed, SplitKind, SplitLimit};
-pub use lending::{RSplitMut, RSplitNMut, SplitInclusiveMut, SplitMut, SplitNMut, SplitsMut, SplitsNMut};
+pub use lending::{
+    RSplitMut, RSplitNMut, SplitInclusiveMut, SplitMut, SplitNMut, SplitsMut, SplitsNMut,
+};
 pub use limiting::{RSplitN, SplitN, SplitsN};
 #[doc(hidden)]
 pub use rows::{ask_row, cut_row};

@@ -3,10 +3,10 @@ ghost use Rattle.std.specs.Prelude.{◌≡◌, IfSome, Some, min, option_map};
 ghost use Rattle.std.specs.Iterator.{UpTo, at_most};
 ghost use Rattle.std.specs.Iterator.SizeHint.{IsWithinCount};
 
+use crate::{Forward, Reversed, SplitKind, Splits};
 use bitvec_base::BitOrder;
 use bitvec_slice::BitSlice;
 use bitvec_store::BitStore;
-use crate::{Forward, Reversed, SplitKind, Splits};
 
 /// The pieces of a split up to a number of them. The last that this number permits is all that is left,
 /// about which the predicate isn't asked.

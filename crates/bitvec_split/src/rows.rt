@@ -4,12 +4,12 @@ ghost use Rattle.bitvec_slice.specs.Views.{seen};
 ghost use Rattle.bitvec_split.specs.Asked.{Asked, MayAsk};
 ghost use Rattle.bitvec_split.specs.Splits.{IsCutBy, LieBeside, asked_of, row_of};
 
-use bitvec_base::BitOrder;
-use bitvec_slice::BitSlice;
-use bitvec_store::BitStore;
 use crate::SplitKind;
 use crate::asking::{ask_down, ask_up};
 use crate::kinds::{asked_behind, end_of};
+use bitvec_base::BitOrder;
+use bitvec_slice::BitSlice;
+use bitvec_store::BitStore;
 use std::ops::Range;
 
 /// The index at which `pred` says yes first, asked as a call from the front of these bits asks, or as one

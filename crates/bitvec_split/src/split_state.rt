@@ -7,11 +7,11 @@ ghost use Rattle.bitvec_split.specs.SplitStates.{left_on, limited_on};
 ghost use Rattle.bitvec_split.specs.Lent.{MayGoOnIn, NextIn, SplitNextBackIn, SplitRestIn, SplitStepIn, StaysIn, capped, least_in, most_in, uncut_in, unsplit_in};
 ghost use Rattle.bitvec_split.specs.Splits.{row_of};
 
+use crate::rows::{ask_row, cut_row};
+use crate::{SplitKind, SplitLimit};
 use bitvec_base::BitOrder;
 use bitvec_slice::BitSlice;
 use bitvec_store::BitStore;
-use crate::rows::{ask_row, cut_row};
-use crate::{SplitKind, SplitLimit};
 use std::marker::PhantomData;
 use std::ops::Range;
 

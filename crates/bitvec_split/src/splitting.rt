@@ -3,11 +3,11 @@ ghost use Rattle.std.specs.Prelude.{◌≡◌, ◌<◌, IfSome, Some, option_map
 ghost use Rattle.std.specs.Iterator.{UpTo, at_most};
 ghost use Rattle.std.specs.Iterator.SizeHint.{IsWithinCount};
 
+use crate::rows::{ask_row, cut_row};
+use crate::{Forward, Inclusive, Reversed, SplitKind};
 use bitvec_base::BitOrder;
 use bitvec_slice::BitSlice;
 use bitvec_store::BitStore;
-use crate::rows::{ask_row, cut_row};
-use crate::{Forward, Inclusive, Reversed, SplitKind};
 use std::marker::PhantomData;
 
 /// The pieces of a view between the bits at which a predicate says yes, from both ends.

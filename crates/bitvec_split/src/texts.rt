@@ -5,10 +5,10 @@ ghost use Rattle.bitvec_slice.specs.Views.{seen};
 ghost use Rattle.bitvec_domain.specs.Listing.{bits_text, comma};
 ghost use Rattle.bitvec_split.specs.Splits.{uncut};
 
+use crate::{Splits, SplitsN};
 use bitvec_base::BitOrder;
 use bitvec_slice::{BitSlice, write_named};
 use bitvec_store::BitStore;
-use crate::{Splits, SplitsN};
 use std::fmt;
 
 /// Writes a name, and behind it in parentheses a view and how many pieces may come.

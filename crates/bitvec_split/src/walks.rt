@@ -1,7 +1,7 @@
 //! What contracts see of splits.
+use crate::{Splits, SplitsN};
 use bitvec_base::BitOrder;
 use bitvec_store::BitStore;
-use crate::{Splits, SplitsN};
 
 /// A split of a view of elements `T` by a predicate. It has no call; what contracts see of a split is a
 /// member, so that the clauses of [`SplitCalls`](crate::SplitCalls) can name it.

@@ -1,8 +1,11 @@
 //! Operations on the bits of two views in loops, each in one of its own.
-use bitrecord::bits::{BitEdits, BitQueries, BitSliceMut, BitStore, SliceOrder};
-use crate::acts::{Act, Compared, Copied, CopiedWithin, Counted, Ended, Equal, Filled, Found, Inverted, Joined, Reversed, Rotated, Shifted, Started, Swapped};
+use crate::acts::{
+    Act, Compared, Copied, CopiedWithin, Counted, Ended, Equal, Filled, Found, Inverted, Joined,
+    Reversed, Rotated, Shifted, Started, Swapped,
+};
 use crate::bits::{BITS, Place, zeros_and_one};
 use crate::rows::rows_times;
+use bitrecord::bits::{BitEdits, BitQueries, BitSliceMut, BitStore, SliceOrder};
 use std::alloc::Allocator;
 
 /// How many bits stand before the first view: whole elements of each width.

@@ -1,5 +1,10 @@
 //! Each operation once, and each status, on windows of three bytes from bit 3 on.
-use bitvec_checked::{DONE, LSB0, MSB0, NONE, ORDER, all, and, any, compare, contains, copy, copy_within, count_ones, count_zeros, ends_with, equal, fill, first_one, first_zero, get, invert, last_one, last_zero, load_be, load_le, or, replace, reverse, rotate_left, rotate_right, set, shift_end, shift_start, starts_with, store_be, store_le, swap, swap_bits, xor};
+use bitvec_checked::{
+    DONE, LSB0, MSB0, NONE, ORDER, all, and, any, compare, contains, copy, copy_within, count_ones,
+    count_zeros, ends_with, equal, fill, first_one, first_zero, get, invert, last_one, last_zero,
+    load_be, load_le, or, replace, reverse, rotate_left, rotate_right, set, shift_end, shift_start,
+    starts_with, store_be, store_le, swap, swap_bits, xor,
+};
 
 #[test]
 fn edits_write_their_window(rt: HostRuntime) {

@@ -1,9 +1,9 @@
 //! How many loads and stores a run makes.
+use crate::run_slices::{StepRow, step};
 use bitvec_base::{Lsb0, Window};
 use bitvec_cells::{Exclusive, Shared};
 use bitvec_run::{Op, run};
 use bitvec_test_support::Counted;
-use crate::run_slices::{StepRow, step};
 use std::alloc::Global;
 use std::process::Abort;
 

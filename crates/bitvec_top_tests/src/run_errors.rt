@@ -1,8 +1,8 @@
 //! When a run isn't made, and what its errors print.
+use crate::run_slices::{answer, four_nibbles};
 use bitvec_base::{Lsb0, Window};
 use bitvec_run::RunError;
 use bitvec_test_support::prints;
-use crate::run_slices::{answer, four_nibbles};
 
 #[test]
 fn a_window_outside_is_an_error(rt: HostRuntime) {

@@ -1,8 +1,8 @@
 //! A run for whose replies there is no room.
+use crate::run_slices::{FOUR_NIBBLES_REPLIES, answer, four_nibbles};
 use bitvec_base::{Lsb0, Window};
 use bitvec_run::RunError;
 use bitvec_test_support::Refusing;
-use crate::run_slices::{FOUR_NIBBLES_REPLIES, answer, four_nibbles};
 use std::alloc::Global;
 use std::mem::size_of_val;
 

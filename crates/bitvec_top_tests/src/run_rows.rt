@@ -1,9 +1,9 @@
 //! Worked rows: what a run replies, and the memory that it leaves.
+use crate::run_slices::{FOUR_NIBBLES_REPLIES, answer, four_nibbles};
 use bitvec_base::{HiLo, Lsb0, Window};
 use bitvec_engine::SliceOrder;
 use bitvec_run::{Op, Refusal, Reply, RunError, Step};
 use bitvec_store::BitStore;
-use crate::run_slices::{FOUR_NIBBLES_REPLIES, answer, four_nibbles};
 use std::process::Abort;
 
 #[derive(Drop)]

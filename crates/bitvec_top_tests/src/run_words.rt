@@ -1,11 +1,11 @@
 //! Worked rows of what goes by words: the memory afterwards, within so many loads and stores.
+use crate::run_slices::{StepRow, step};
 use bitvec_base::{Lsb0, Msb0, Window};
 use bitvec_cells::{Exclusive, Shared};
 use bitvec_engine::SliceOrder;
 use bitvec_run::{Op, Reply, run};
 use bitvec_store::BitStore;
 use bitvec_test_support::Counted;
-use crate::run_slices::{StepRow, step};
 use std::alloc::Allocator;
 use std::process::Abort;
 

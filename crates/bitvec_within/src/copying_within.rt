@@ -3,13 +3,13 @@ ghost use Rattle.std.specs.Prelude.{◌-◌, ◌≤◌, map};
 ghost use Rattle.bitvec_base.specs.Lists.{FitsWithin, copied_within};
 ghost use Rattle.bitvec_base.specs.Memory.{Edits, HasWindow};
 
+use crate::few::is_few;
 use bitvec_base::{Lsb0, Msb0, Window};
 use bitvec_cells::Exclusive;
 use bitvec_elements::few_word;
 use bitvec_engine::{Direction, SliceOrder, direction_of, store_few};
 use bitvec_store::BitStore;
 use bitvec_words::WordOrder;
-use crate::few::is_few;
 use std::ops::Range;
 
 /// Copies the bits of a range of a window to the places from `dest` on; the two may overlap.

@@ -3,12 +3,12 @@ ghost use Rattle.std.specs.Prelude.{◌≡◌, ℕ, ◌+◌, ◌<◌, ◌≤◌,
 ghost use Rattle.bitvec_base.specs.Lists.{stands_at, stands_in};
 ghost use Rattle.bitvec_base.specs.Memory.{HasWindow, element_bits, list_in};
 
+use crate::candidates::candidates;
 use bitvec_base::{BitOrder, Lsb0, Msb0, Window};
 use bitvec_elements::{eq_in, word_from};
 use bitvec_engine::{Direction, direction_of};
 use bitvec_store::BitStore;
 use bitvec_words::{WORD_BITS, WordOrder};
-use crate::candidates::candidates;
 
 /// Whether the right window's bits occur in the left one's, from some index on. Words rule out most of
 /// 64 indices at a time; at those that remain the bits are compared as by [`bitvec_elements::eq_in`], whose

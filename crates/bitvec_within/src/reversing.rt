@@ -2,13 +2,13 @@
 ghost use Rattle.std.specs.Prelude.{◌≤◌, map, reverse as reversal};
 ghost use Rattle.bitvec_base.specs.Memory.{Edits, HasWindow};
 
+use crate::few::is_few;
 use bitvec_base::{Lsb0, Msb0, Window};
 use bitvec_cells::Exclusive;
 use bitvec_elements::few_word;
 use bitvec_engine::{Direction, SliceOrder, direction_of, store_few};
 use bitvec_store::BitStore;
 use bitvec_words::{WORD_BITS, WordOrder, moved, reversed};
-use crate::few::is_few;
 
 /// Reverses the bits of a window, as the order does it. Condition: the memory has at most `MAX_BITS`
 /// bits, and the window lies in it. A window no longer than an element, or of 64 bits, is reversed as

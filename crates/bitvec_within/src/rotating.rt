@@ -4,14 +4,14 @@ ghost use Rattle.bitvec_base.specs.Lists.{rotated_left, rotated_right};
 ghost use Rattle.bitvec_base.specs.Memory.{Edits, HasWindow, element_bits};
 ghost use Rattle.bitvec_words.specs.ShortWindow.{padded};
 
+use crate::copying_within::copy_within_in;
+use crate::swapping_within::swap_ranges;
 use bitvec_base::{Lsb0, Msb0, Window};
 use bitvec_cells::Exclusive;
 use bitvec_elements::{copy_from_long_block_in, few_word};
 use bitvec_engine::{Direction, SliceOrder, direction_of, rotate_left, store_few};
 use bitvec_store::BitStore;
 use bitvec_words::{WORD_BITS, WordOrder, moved};
-use crate::copying_within::copy_within_in;
-use crate::swapping_within::swap_ranges;
 
 /// Rotates the bits of a window so that the bit at `by` comes first. Condition: the memory has at
 /// most `MAX_BITS` bits, the window lies in it, and `by` is at most the window's length. At most 64 bits

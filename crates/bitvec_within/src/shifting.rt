@@ -5,13 +5,13 @@ ghost use Rattle.bitvec_base.specs.Memory.{Edits, HasWindow};
 ghost use Rattle.bitvec_engine.specs.Direction.{Runs};
 ghost use Rattle.bitvec_engine.specs.declared.order_direction.Direction.TheVariants.{Other};
 
+use crate::few::is_few;
 use bitvec_base::{BitOrder, Lsb0, Msb0, Window};
 use bitvec_cells::Exclusive;
 use bitvec_elements::few_word;
 use bitvec_engine::{Direction, SliceOrder, direction_of, shift_end, shift_start, store_few};
 use bitvec_store::BitStore;
 use bitvec_words::{WORD_BITS, WordOrder, moved};
-use crate::few::is_few;
 
 /// Shifts the bits of a window towards its start, and zeros in at its end. Condition: the memory has at
 /// most `MAX_BITS` bits, the window lies in it, and `by` is at most the window's length. Under an order that

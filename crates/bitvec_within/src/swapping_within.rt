@@ -4,11 +4,11 @@ ghost use Rattle.bitvec_base.specs.Lists.{FitsWithin};
 ghost use Rattle.bitvec_base.specs.Memory.{Edits, HasWindow};
 ghost use Rattle.bitvec_within.specs.Swaps.{LieApart, swapped_within};
 
+use crate::copying_within::copy_within_in;
 use bitvec_base::Window;
 use bitvec_elements::{copy_from_long_block_in, swap_with_block_in};
 use bitvec_engine::SliceOrder;
 use bitvec_store::BitStore;
-use crate::copying_within::copy_within_in;
 use std::ops::Range;
 
 /// Exchanges the bits of a range of a window with as many from `dest` on. Conditions: the memory has at

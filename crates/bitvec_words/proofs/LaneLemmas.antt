@@ -13,8 +13,8 @@ use Rattle.bitvec_base.specs.MemoryLaws.{get-element_bits, length-element_bits}
 use Rattle.bitvec_words.specs.ElementLaws.{element-or}
 use Rattle.bitvec_words.specs.Lanes.{AreJoined, AreWords, IsJoined, number_of_words, words_between}
 use Rattle.bitvec_words.specs.OrderEnd.{RunsFrom}
-use Rattle.bitvec_words.specs.OrderEndLaws.{shl-high, shl-low, shr-high, shr-low}
-use Rattle.bitvec_words.specs.ShiftedLaws.{shifted-joined_twice}
+use Rattle.bitvec_words.proofs.OrderEndLaws.{shl-high, shl-low, shr-high, shr-low}
+use Rattle.bitvec_words.proofs.ShiftedLaws.{shifted-joined_twice}
 
 -- ---- one word joined of two
 

@@ -1,11 +1,13 @@
 pub mod CostLemmas
 pub mod CountLemmas
+pub mod ExchangeLemmas
 pub mod FrontLemmas
 pub mod LaneLemmas
+pub mod OrderEndLaws
 pub mod OrderedLemmas
 pub mod PlaceLemmas
 pub mod ScanLemmas
+pub mod ShiftedLaws
 pub mod SliceWordLemmas
 pub mod SplitLemmas
-pub mod ExchangeLemmas
 pub mod WordScanLemmas

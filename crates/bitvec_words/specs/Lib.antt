@@ -12,10 +12,8 @@ pub mod MovedPlaceLaws
 pub mod Moves
 pub mod Operator
 pub mod OrderEnd
-pub mod OrderEndLaws
 pub mod PartWalkLaws
 pub mod SameLaws
-pub mod ShiftedLaws
 pub mod ShortWindow
 pub mod Split
 pub mod TouchedLaws

@@ -2,8 +2,8 @@
 ghost use Rattle.std.specs.Prelude.{◌≡◌, ℕ, ◌<◌, ◌++◌, take, drop, ⊤};
 ghost use Rattle.bitvec_base.specs.Memory.{element_bits};
 
-use bitvec_store::BitStore;
 use crate::{WordOrder, joined};
+use bitvec_store::BitStore;
 
 /// An element that a loop loaded, in the form in which it joins it with the next one.
 pub trait Carried<T: BitStore>: Copy + Drop {

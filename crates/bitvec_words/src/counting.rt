@@ -5,11 +5,11 @@ ghost use Rattle.bitvec_cells.specs.Access.{OnlyReads};
 ghost use Rattle.bitvec_cells.specs.Cost.{touched_count};
 ghost use Rattle.bitvec_words.specs.Elements.{elements_window};
 
+use crate::split::{split_head, split_tail};
+use crate::word_parts::WORD_BITS;
 use bitvec_base::{BitOrder, Window};
 use bitvec_cells::{CellsRead, count_part};
 use bitvec_store::BitStore;
-use crate::split::{split_head, split_tail};
-use crate::word_parts::WORD_BITS;
 
 /// The words of a block.
 const BLOCK_WORDS: usize = 4;

@@ -5,9 +5,9 @@ ghost use Rattle.bitvec_base.specs.Memory.{element_bits};
 ghost use Rattle.bitvec_base.specs.Window.{write_at};
 ghost use Rattle.bitvec_words.specs.Exchanged.{exchanged_bits};
 
+use crate::WordOrder;
 use bitvec_base::BitOrder;
 use bitvec_store::BitStore;
-use crate::WordOrder;
 
 /// The element whose bits stand `by` places nearer to its start, with zeros at the end. Condition: `by` is below
 /// the width. Cost: one shift.

@@ -5,10 +5,10 @@ ghost use Rattle.bitvec_cells.specs.Access.{Costs, CostsAtMost};
 ghost use Rattle.bitvec_cells.specs.Cost.{fill_loads, touched_count};
 ghost use Rattle.bitvec_words.specs.Elements.{elements_window};
 
+use crate::split::{split_head, split_tail};
 use bitvec_base::{BitOrder, Window};
 use bitvec_cells::{Cells, CellsRead, fill_part, invert_part};
 use bitvec_store::BitStore;
-use crate::split::{split_head, split_tail};
 
 /// Makes each bit of a window `bit`; all other bits of the memory stay. Condition: the memory has at most
 /// `MAX_BITS` bits, and the window lies in it. It stores each element that the window touches once, and loads at

@@ -6,13 +6,13 @@ ghost use Rattle.bitvec_words.specs.Front.{IsFront, front_window};
 ghost use Rattle.bitvec_cells.specs.Cost.{touched_count};
 ghost use Rattle.bitvec_words.specs.ShortWindow.{padded};
 
-use bitvec_base::{BitOrder, Lsb0, Part, Window};
-use bitvec_cells::CellsRead;
-use bitvec_store::BitStore;
 use crate::split::split_head;
 use crate::word_elements::load_elements;
 use crate::word_order::WordOrder;
 use crate::word_parts::{WORD_BITS, moved};
+use bitvec_base::{BitOrder, Lsb0, Part, Window};
+use bitvec_cells::CellsRead;
+use bitvec_store::BitStore;
 
 /// The first bits of a window as the first bits of a word, and how many they are: 64 where it begins with an
 /// element that isn't wider and has so many, else those of the first element, up to 64. Condition: the window isn't

@@ -2,8 +2,8 @@
 ghost use Rattle.std.specs.Prelude.{◌≡◌, ◌^◌, ◌<◌};
 ghost use Rattle.bitvec_words.specs.Lanes.{AreJoined, AreWords, number_of_words, words_between};
 
-use bitvec_store::BitStore;
 use crate::{Carried, WordOrder};
+use bitvec_store::BitStore;
 use std::simd::prelude::*;
 
 /// How many numbers a word has.

@@ -2,7 +2,6 @@
 //! words, loaded and stored; windows filled, flipped, counted and searched.
 #![tactic(auto)]
 
-mod stretch;
 mod carried;
 mod counting;
 mod element;
@@ -14,6 +13,7 @@ mod part;
 mod scanning;
 mod scanning_words;
 mod split;
+mod stretch;
 mod word_elements;
 mod word_order;
 mod word_parts;

@@ -6,11 +6,11 @@ ghost use Rattle.bitvec_cells.specs.Access.{Costs, OnlyReads};
 ghost use Rattle.bitvec_cells.specs.Cost.{part_loads, touched_count};
 ghost use Rattle.bitvec_words.specs.ShortWindow.{HasShortWindow};
 
+use crate::WordOrder;
+use crate::element::{joined, merged, toward_start};
 use bitvec_base::{BitOrder, Part, Window};
 use bitvec_cells::{Cells, CellsRead};
 use bitvec_store::BitStore;
-use crate::WordOrder;
-use crate::element::{joined, merged, toward_start};
 
 /// Gives a part the bits that an element has at the same indices. Condition: the part is one of an element of the
 /// memory. It takes one store, and one load unless the part is a whole element.

@@ -6,10 +6,12 @@ ghost use Rattle.bitvec_cells.specs.Access.{OnlyReadsAtMost};
 ghost use Rattle.bitvec_cells.specs.Cost.{first_loads, last_loads};
 ghost use Rattle.bitvec_words.specs.Elements.{elements_window};
 
-use bitvec_base::{BitOrder, Part, Window};
-use bitvec_cells::{CellsRead, filled, first_in_element, first_in_part, last_in_element, last_in_part};
-use bitvec_store::BitStore;
 use crate::split::{split_head, split_tail};
+use bitvec_base::{BitOrder, Part, Window};
+use bitvec_cells::{
+    CellsRead, filled, first_in_element, first_in_part, last_in_element, last_in_part,
+};
+use bitvec_store::BitStore;
 
 /// The index of a window's first bit that is `want`, if there is one. Condition: the memory has at most `MAX_BITS`
 /// bits, and the window lies in it. It loads each element that the window touches at most once, from the first on,

@@ -6,14 +6,14 @@ ghost use Rattle.bitvec_cells.specs.Access.{OnlyReads, OnlyReadsAtMost};
 ghost use Rattle.bitvec_cells.specs.Cost.{touched_count};
 ghost use Rattle.bitvec_words.specs.Elements.{elements_window};
 
-use bitvec_base::{BitOrder, Lsb0, Window};
-use bitvec_cells::{CellsRead, filled, first_in_part};
-use bitvec_store::BitStore;
 use crate::scanning::{first_in_whole, first_whole};
 use crate::split::split_head;
 use crate::word_elements::{load_elements, ordered};
 use crate::word_order::WordOrder;
 use crate::word_parts::WORD_BITS;
+use bitvec_base::{BitOrder, Lsb0, Window};
+use bitvec_cells::{CellsRead, filled, first_in_part};
+use bitvec_store::BitStore;
 
 /// The bits of a block, which is four words.
 const BLOCK_BITS: usize = 4 * WORD_BITS;

@@ -4,11 +4,11 @@ ghost use Rattle.bitvec_base.specs.Memory.{HasWindow, Writes, element_bits, list
 ghost use Rattle.bitvec_cells.specs.Access.{Costs, OnlyReads};
 ghost use Rattle.bitvec_words.specs.Elements.{SameElements, elements_window};
 
+use crate::word_order::WordOrder;
+use crate::word_parts::{WORD_BITS, moved};
 use bitvec_base::Lsb0;
 use bitvec_cells::{Cells, CellsRead};
 use bitvec_store::BitStore;
-use crate::word_order::WordOrder;
-use crate::word_parts::{WORD_BITS, moved};
 
 /// The bits of the elements of one word from the element `first` on. Condition: they are not wider than a word, and
 /// lie in a memory of at most `MAX_BITS` bits. It loads each of them once.

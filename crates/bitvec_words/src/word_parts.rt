@@ -7,12 +7,12 @@ ghost use Rattle.bitvec_cells.specs.Access.{CostsAtMost, OnlyReads};
 ghost use Rattle.bitvec_cells.specs.Cost.{fill_loads, touched_count};
 ghost use Rattle.bitvec_words.specs.ShortWindow.{lowest_bit, padded};
 
-use bitvec_base::Window;
-use bitvec_cells::{Cells, CellsRead};
-use bitvec_store::BitStore;
 use crate::WordOrder;
 use crate::part::store_part;
 use crate::split::split_head;
+use bitvec_base::Window;
+use bitvec_cells::{Cells, CellsRead};
+use bitvec_store::BitStore;
 
 /// The most bits that a word has.
 pub const WORD_BITS: usize = 64;

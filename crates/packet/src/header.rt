@@ -4,10 +4,12 @@ ghost use Rattle.bitrecord.specs.Layouts.{IsLayout, field_at};
 ghost use Rattle.bitrecord.specs.Views.{bits_of, fields_of};
 ghost use Rattle.packet.specs.Packets.{HeaderFault, IsHeader, IsLayoutOf, IsShape, fields_by, internet_fields, number_at, placed_all, places_of, protocol_rows, row, windows_of, word_windows};
 
+use crate::fault::Fault;
+use crate::field::{
+    DATAGRAM, Field, HEADER_LENGTH, INTERNET, PROTOCOL, Row, TRANSMISSION, VERSION,
+};
 use bitrecord::bits::{BitSlice, Msb0, Window};
 use bitrecord::{Endian, Layout, LayoutError, decode_one};
-use crate::fault::Fault;
-use crate::field::{DATAGRAM, Field, HEADER_LENGTH, INTERNET, PROTOCOL, Row, TRANSMISSION, VERSION};
 use std::alloc::Allocator;
 
 /// The headers of a packet: their fields, and the layouts of these and of the words that the checksum

@@ -4,9 +4,9 @@ ghost use Rattle.std.specs.Cmp.Rules.{comparing};
 ghost use Rattle.bitvec_base.specs.Lists.{same_bits};
 ghost use Rattle.bitvec_owned.specs.Arrays.{in_array};
 
+use crate::BitArray;
 use bitvec_engine::SliceOrder;
 use bitvec_store::BitStore;
-use crate::BitArray;
 
 impl<T: BitStore, O: SliceOrder, const N: usize> PartialEq for BitArray<T, O, N> {
     ghost eq = { λ bits other. same_bits (in_array bits).bits (in_array other).bits };

@@ -2,11 +2,11 @@
 ghost use Rattle.std.specs.Prelude.{◌≡◌, ◌≤◌, length};
 ghost use Rattle.bitvec_base.specs.Window.{max_bits};
 
+use crate::BitArray;
 use bitvec_base::BitOrder;
 use bitvec_domain::BitRef;
 use bitvec_slice::Iter;
 use bitvec_store::BitStore;
-use crate::BitArray;
 
 impl<T: BitStore, O: BitOrder, const N: usize> BitArray<T, O, N> {
     ghost use Rattle.bitvec_slice.specs.Walks.{YieldsBits, remaining_bits, walked};

@@ -3,9 +3,9 @@ ghost use Rattle.std.specs.Prelude.{Some};
 ghost use Rattle.bitvec_domain.specs.Listing.{bits_text};
 ghost use Rattle.bitvec_owned.specs.Arrays.{in_array};
 
+use crate::BitArray;
 use bitvec_base::BitOrder;
 use bitvec_store::BitStore;
-use crate::BitArray;
 use std::fmt;
 
 /// The bits as a list, as `[0, 1, 0]`.

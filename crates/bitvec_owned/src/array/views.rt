@@ -4,13 +4,13 @@ ghost use Rattle.bitvec_owned.specs.ArrayLaws.{array_elements, array_written, ha
 ghost use Rattle.bitvec_owned.specs.ArrayWrites.{WritesArray};
 ghost use Rattle.bitvec_owned.specs.Arrays.{in_array};
 
+use crate::BitArray;
 use bitvec_base::BitOrder;
 use bitvec_edit::BitEdits;
 use bitvec_engine::SliceOrder;
 use bitvec_query::BitQueries;
 use bitvec_slice::{BitSlice, Sealed, Shows, View, ViewMut};
 use bitvec_store::BitStore;
-use crate::BitArray;
 
 impl<T: BitStore, O: BitOrder, const N: usize> Shows<T> for BitArray<T, O, N> {
     ghost shows = { in_array };

@@ -1,5 +1,5 @@
 use Rattle.bitvec_store.specs.WidthLaws.{width_some}
-use Rattle.bitvec_iter.specs.PartLaws.{part_seen}
+use Rattle.bitvec_iter.proofs.PartLaws.{part_seen}
 use Rattle.bitvec_iter.proofs.parts.part_of.Goals as goal
 
 pub returns : goal.returns

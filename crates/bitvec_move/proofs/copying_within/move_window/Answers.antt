@@ -3,7 +3,7 @@ use Rattle.bitvec_base.specs.WritesLaws.{Writes-is, length-list}
 use Rattle.bitvec_words.specs.MovedLaws.{take-word}
 use Rattle.bitvec_store.specs.WidthLaws.{width_some}
 use Rattle.bitvec_cells.specs.CostLaws.{edges_loaded}
-use Rattle.bitvec_move.specs.WithinLaws.{late-read, late-stored}
+use Rattle.bitvec_move.proofs.WithinLaws.{late-read, late-stored}
 use Rattle.bitvec_move.proofs.MoveLemmas.{touched-read, touched-stored}
 use Rattle.bitvec_move.proofs.copying_within.move_window.Goals as goal
 

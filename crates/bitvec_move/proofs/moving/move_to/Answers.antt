@@ -14,7 +14,7 @@ use Rattle.bitvec_words.specs.FieldLaws.{first_part-long}
 use Rattle.bitvec_words.specs.TouchedLaws.{head_edge, touched-head, touched-parts}
 use Rattle.bitvec_words.specs.WholeLaws.{HasWindow-part, behind-mod, window-end}
 use Rattle.bitvec_words.specs.Moves.{IsToward}
-use Rattle.bitvec_move.specs.WithinLaws.{Copies-parted, late-order, touched-split, touched-split_whole}
+use Rattle.bitvec_move.proofs.WithinLaws.{Copies-parted, late-order, touched-split, touched-split_whole}
 use Rattle.bitvec_move.proofs.moving.move_to.Goals as goal
 
 -- ---- the places of the bits before the first edge, t of them, and of those behind

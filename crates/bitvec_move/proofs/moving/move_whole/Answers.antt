@@ -2,7 +2,7 @@ use Rattle.std.proofs.Common.{Bool, ◌≡◌, ◌+◌, ◌*◌, ◌∙◌, ap, 
 use Rattle.bitvec_base.specs.Memory.{element_bits, list_in}
 use Rattle.bitvec_store.specs.WidthLaws.{width_some}
 use Rattle.bitvec_words.specs.Moves.{nth_place}
-use Rattle.bitvec_move.specs.WithinLaws.{CopiesSome-kept, CopiesSome-more, CopiesSome-none, list-whole_next, nth-waiting}
+use Rattle.bitvec_move.proofs.WithinLaws.{CopiesSome-kept, CopiesSome-more, CopiesSome-none, list-whole_next, nth-waiting}
 use Rattle.bitvec_move.proofs.moving.move_whole.Goals as goal
 
 pub loop-passed-init : goal.loop-passed-init

@@ -2,7 +2,7 @@ use Rattle.std.proofs.Common.{ℕ, Bool, ◌≡◌, ◌+◌, ◌∙◌, ap, arit
 use Rattle.bitvec_base.specs.Memory.{element_bits}
 use Rattle.bitvec_store.specs.WidthLaws.{width_some}
 use Rattle.bitvec_words.specs.Moves.{waiting_place}
-use Rattle.bitvec_move.specs.WithinLaws.{CopiesSome-kept, CopiesSome-more, CopiesSome-none, list-joined_next, nth-waiting}
+use Rattle.bitvec_move.proofs.WithinLaws.{CopiesSome-kept, CopiesSome-more, CopiesSome-none, list-joined_next, nth-waiting}
 use Rattle.bitvec_words.specs.MovedPlaceLaws.{from-inside, from-word}
 use Rattle.bitvec_words.specs.WordLaws.{inside, inside-word}
 use Rattle.bitvec_move.proofs.WordMoveLemmas.{nth-inside, waiting-below}

@@ -7,7 +7,7 @@ use Rattle.bitvec_base.specs.WritesLaws.{Writes-empty, Writes-is}
 use Rattle.bitvec_store.specs.WidthLaws.{width_some}
 use Rattle.bitvec_words.specs.FieldLaws.{range-shifted}
 use Rattle.bitvec_words.specs.TouchedLaws.{part_loads-most, touched-one}
-use Rattle.bitvec_move.specs.WithinLaws.{part-first}
+use Rattle.bitvec_move.proofs.WithinLaws.{part-first}
 use Rattle.bitvec_move.proofs.moving.store_edge.Goals as goal
 
 pub returns-then-window-eq0-clause-writes : goal.returns-then-window-eq0-clause-writes

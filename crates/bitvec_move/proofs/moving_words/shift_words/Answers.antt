@@ -2,7 +2,7 @@ use Rattle.std.proofs.Common.{ℕ, Bool, ◌≡◌, ◌≤◌, ◌+◌, ◌*◌,
 use Rattle.std.proofs.Math.Nat.{le_refl}
 use Rattle.bitvec_base.specs.WritesLaws.{HasWindow-kept}
 use Rattle.bitvec_words.specs.WholeLaws.{HasWindow-part}
-use Rattle.bitvec_move.specs.WithinLaws.{CopiesSome-none}
+use Rattle.bitvec_move.proofs.WithinLaws.{CopiesSome-none}
 use Rattle.bitvec_move.proofs.WordMoveLemmas.{CopiesSome-all, CopiesSome-word, carried_place, is_earlier, is_later, next_place, word-carried, word-joined, word-left, word-window, word_place}
 use Rattle.bitvec_move.proofs.moving_words.shift_words.Goals.{then-this-ne0, else-this-ne0, then-this-ne0-2, else-this-ne0-2, then-this-ne0-3, else-this-ne0-3}
 use Rattle.bitvec_move.proofs.moving_words.shift_words.Goals as goal

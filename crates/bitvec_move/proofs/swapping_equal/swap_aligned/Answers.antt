@@ -1,6 +1,6 @@
 use Rattle.std.proofs.Common.{arith, rules, refl}
 use Rattle.bitvec_store.specs.WidthLaws.{width_some}
-use Rattle.bitvec_move.specs.SwapLaws.{Swaps-joined, beside-tail}
+use Rattle.bitvec_move.proofs.SwapLaws.{Swaps-joined, beside-tail}
 use Rattle.bitvec_words.specs.TouchedLaws.{touched-full, touched-more}
 use Rattle.bitvec_words.specs.WholeLaws.{window-end}
 use Rattle.bitvec_words.specs.MovedPlaceLaws.{tail-inside, tail-part, tail-word, whole-span}

@@ -4,7 +4,7 @@ use Rattle.bitvec_base.specs.Parts.{first_part_of}
 use Rattle.bitvec_store.specs.WidthLaws.{width_some}
 use Rattle.bitvec_cells.specs.Cost.{touched_count}
 use Rattle.bitvec_words.specs.FieldLaws.{first_part-long}
-use Rattle.bitvec_move.specs.SwapLaws.{Swaps-joined, beside-head}
+use Rattle.bitvec_move.proofs.SwapLaws.{Swaps-joined, beside-head}
 use Rattle.bitvec_words.specs.TouchedLaws.{touched-head, touched-rest}
 use Rattle.bitvec_words.specs.WholeLaws.{window-end}
 use Rattle.bitvec_words.specs.MovedPlaceLaws.{behind-edge, head-element, head-part}

@@ -2,7 +2,7 @@ use Rattle.std.proofs.Common.{refl}
 use Rattle.bitvec_base.specs.declared.part.Part.{Part}
 use Rattle.bitvec_base.specs.Parts.{HasPart}
 use Rattle.bitvec_store.specs.WidthLaws.{width_some}
-use Rattle.bitvec_move.specs.SwapLaws.{Writes-exchanged_part}
+use Rattle.bitvec_move.proofs.SwapLaws.{Writes-exchanged_part}
 use Rattle.bitvec_move.proofs.swapping_equal.swap_part.Goals as goal
 
 pub returns-clause-swaps : goal.returns-clause-swaps

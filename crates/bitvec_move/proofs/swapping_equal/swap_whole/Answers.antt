@@ -1,7 +1,7 @@
 use Rattle.std.proofs.Common.{arith, rules, ◌≡◌}
 use Rattle.bitvec_store.specs.WidthLaws.{width_some}
 use Rattle.bitvec_words.specs.FieldLaws.{Writes-no_element}
-use Rattle.bitvec_move.specs.SwapLaws.{Writes-exchanged_element, next_element}
+use Rattle.bitvec_move.proofs.SwapLaws.{Writes-exchanged_element, next_element}
 use Rattle.bitvec_words.specs.WordLaws.{inside, inside-word}
 use Rattle.bitvec_move.proofs.swapping_equal.swap_whole.Goals as goal
 

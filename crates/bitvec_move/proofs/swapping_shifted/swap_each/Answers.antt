@@ -4,8 +4,8 @@ use Rattle.bitvec_base.specs.Memory.{element_bits}
 use Rattle.bitvec_base.specs.MemoryLaws.{length-element_bits}
 use Rattle.bitvec_base.specs.Window.{write_at}
 use Rattle.bitvec_words.specs.FieldLaws.{Writes-no_element}
-use Rattle.bitvec_move.specs.SwapLaws.{next_element}
-use Rattle.bitvec_move.specs.WaitingLaws.{across-bits, across-element, across-next, across-none, ends-joined, ends-next, ends-start, range-carried}
+use Rattle.bitvec_move.proofs.SwapLaws.{next_element}
+use Rattle.bitvec_move.proofs.WaitingLaws.{across-bits, across-element, across-next, across-none, ends-joined, ends-next, ends-start, range-carried}
 use Rattle.bitvec_words.specs.WordLaws.{inside, inside-word}
 use Rattle.bitvec_words.specs.MovedPlaceLaws.{next-word}
 use Rattle.bitvec_move.proofs.swapping_shifted.swap_each.Goals as goal

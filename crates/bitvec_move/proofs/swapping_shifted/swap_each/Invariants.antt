@@ -1,7 +1,7 @@
 use Rattle.bitvec_base.specs.Memory.{element_bits}
 use Rattle.bitvec_cells.specs.Access.{Costs}
 use Rattle.bitvec_words.specs.Moves.{SwapsElements}
-use Rattle.bitvec_move.specs.WaitingLaws.{JoinsEnds}
+use Rattle.bitvec_move.proofs.WaitingLaws.{JoinsEnds}
 use Rattle.bitvec_move.proofs.swapping_shifted.swap_each.Given as goal
 
 abbrev pub invariant-loop-step : goal.invariant-loop-step

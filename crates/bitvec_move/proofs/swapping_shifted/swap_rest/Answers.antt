@@ -3,9 +3,9 @@ use Rattle.std.proofs.lemmas.List.{length-set}
 use Rattle.std.proofs.lemmas.Nat.{div-add-mod', mod_below}
 use Rattle.bitvec_store.specs.WidthLaws.{width_some}
 use Rattle.bitvec_base.specs.WritesLaws.{HasWindow-kept}
-use Rattle.bitvec_move.specs.SwapLaws.{Swaps-joined, beside-after, beside-tail}
+use Rattle.bitvec_move.proofs.SwapLaws.{Swaps-joined, beside-after, beside-tail}
 use Rattle.bitvec_words.specs.TouchedLaws.{touched-first, touched-from_full, touched-from_more, touched-full, touched-more}
-use Rattle.bitvec_move.specs.WaitingLaws.{HasWindow-set, behind-element}
+use Rattle.bitvec_move.proofs.WaitingLaws.{HasWindow-set, behind-element}
 use Rattle.bitvec_words.specs.MovedPlaceLaws.{from-inside, from-word, tail-span, whole-span_from, whole-window_from}
 use Rattle.bitvec_words.specs.WordLaws.{width-some}
 use Rattle.bitvec_move.proofs.MoveLemmas.{Swaps-same, place-element}

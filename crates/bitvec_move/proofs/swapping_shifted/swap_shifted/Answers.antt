@@ -6,10 +6,10 @@ use Rattle.bitvec_base.specs.Parts.{first_part_of}
 use Rattle.bitvec_store.specs.WidthLaws.{width_some}
 use Rattle.bitvec_cells.specs.Cost.{touched_count}
 use Rattle.bitvec_words.specs.FieldLaws.{first_part-long}
-use Rattle.bitvec_move.specs.SwapLaws.{Swaps-joined, beside-head, beside-parted}
+use Rattle.bitvec_move.proofs.SwapLaws.{Swaps-joined, beside-head, beside-parted}
 use Rattle.bitvec_words.specs.TouchedLaws.{apart_edge, inside_element, touched-first, touched-head, touched-inside, touched-rest}
 use Rattle.bitvec_words.specs.WholeLaws.{window-end}
-use Rattle.bitvec_move.specs.WithinLaws.{part-first}
+use Rattle.bitvec_move.proofs.WithinLaws.{part-first}
 use Rattle.bitvec_words.specs.MovedPlaceLaws.{behind-edge, head-element, head-part}
 use Rattle.bitvec_words.specs.WordLaws.{width-some}
 use Rattle.bitvec_move.proofs.MoveLemmas.{head-fits, head-order, place-element}

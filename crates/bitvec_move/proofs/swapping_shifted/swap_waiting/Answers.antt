@@ -6,7 +6,7 @@ use Rattle.bitvec_base.specs.WritesLaws.{Writes-is}
 use Rattle.bitvec_store.specs.WidthLaws.{width_some}
 use Rattle.bitvec_words.specs.FieldLaws.{list-part, part-stored, range-shifted}
 use Rattle.bitvec_words.specs.TouchedLaws.{touched-one, touched-two}
-use Rattle.bitvec_move.specs.WaitingLaws.{range-moved, range-moved_across, waiting-across, waiting-beyond, waiting-front, waiting-inside}
+use Rattle.bitvec_move.proofs.WaitingLaws.{range-moved, range-moved_across, waiting-across, waiting-beyond, waiting-front, waiting-inside}
 use Rattle.bitvec_words.specs.WordLaws.{width-some}
 use Rattle.bitvec_move.proofs.MoveLemmas.{place-element, second-element, second-word}
 use Rattle.bitvec_move.proofs.swapping_shifted.swap_waiting.Goals as goal

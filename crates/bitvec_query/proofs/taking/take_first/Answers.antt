@@ -2,8 +2,8 @@ use Rattle.std.proofs.Common.{◌+◌, arith, rules}
 use Rattle.std.proofs.Math.Nat.{sub_self}
 use Rattle.bitvec_store.specs.WidthLaws.{width_some}
 use Rattle.bitvec_cells.specs.WalkLaws.{touched-none}
-use Rattle.bitvec_query.specs.LoadsLaws.{touched-passed}
-use Rattle.bitvec_query.specs.PlacesLaws.{places-empty}
+use Rattle.bitvec_query.proofs.LoadsLaws.{touched-passed}
+use Rattle.bitvec_query.proofs.PlacesLaws.{places-empty}
 use Rattle.bitvec_query.proofs.TakingLemmas.{first-below, first-taken, none-left}
 use Rattle.bitvec_query.proofs.taking.take_first.Goals as goal
 

@@ -1,6 +1,6 @@
 use Rattle.std.proofs.Common.{◌≡◌, ◌+◌, ◌-◌, arith, rules, refl, sym, ap, List, ℕ}
 use Rattle.bitvec_base.specs.WritesLaws.{length-list}
-use Rattle.bitvec_query.specs.PlacesLaws.{all_places}
+use Rattle.bitvec_query.proofs.PlacesLaws.{all_places}
 use Rattle.bitvec_query.specs.Turns.{turns_give}
 use Rattle.bitvec_query.proofs.turns.scan_turns.Goals as goal
 

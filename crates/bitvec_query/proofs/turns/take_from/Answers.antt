@@ -1,4 +1,4 @@
-use Rattle.bitvec_query.specs.TurnsLaws.{turn-back}
+use Rattle.bitvec_query.proofs.TurnsLaws.{turn-back}
 use Rattle.bitvec_query.proofs.turns.take_from.Goals as goal
 
 pub returns-in-Back-clause-inside : goal.returns-in-Back-clause-inside

@@ -3,7 +3,7 @@ use mathlib.Core.List.{append-nil}
 use Rattle.std.proofs.lemmas.List.{length-drop, length-map, take_all}
 use Rattle.bitvec_base.specs.Memory.{list_in}
 use Rattle.bitvec_query.specs.Places.{places_in}
-use Rattle.bitvec_query.specs.PlacesLaws.{places-empty, places-join}
+use Rattle.bitvec_query.proofs.PlacesLaws.{places-empty, places-join}
 use Rattle.bitvec_query.specs.WordOnes.{order_ones}
 use Rattle.bitvec_query.proofs.OrderOnesLemmas.{order-none}
 use Rattle.bitvec_query.proofs.WrittenLemmas.{more-most, more-written, written-count, written-none, written-of}

@@ -1,7 +1,7 @@
 use Rattle.std.proofs.Common.{arith, refl, sym}
 use Rattle.bitvec_base.specs.Memory.{list_in}
-use Rattle.bitvec_run.specs.FollowsLaws.{Answers-follow, Follows-range}
-use Rattle.bitvec_run.specs.FieldRowsLaws.{is-transfer, plain-is, transfer-does, transfer-refused}
+use Rattle.bitvec_run.proofs.FollowsLaws.{Answers-follow, Follows-range}
+use Rattle.bitvec_run.proofs.FieldRowsLaws.{is-transfer, plain-is, transfer-does, transfer-refused}
 use Rattle.bitvec_run.proofs.field_stepping.field_step.Goals as goal
 
 pub returns-in-Plain : goal.returns-in-Plain

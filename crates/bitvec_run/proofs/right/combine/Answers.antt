@@ -1,5 +1,5 @@
 use Rattle.std.proofs.Common.{rules}
-use Rattle.bitvec_run.specs.FollowsLaws.{list-inside}
+use Rattle.bitvec_run.proofs.FollowsLaws.{list-inside}
 use Rattle.bitvec_run.proofs.right.combine.Goals as goal
 
 pub returns-in-CopyFrom : goal.returns-in-CopyFrom

@@ -1,6 +1,6 @@
 use Rattle.std.proofs.Common.{ap, refl}
 use Rattle.bitvec_run.specs.declared.command.Reply.TheVariants.{Bit, Order}
-use Rattle.bitvec_run.specs.FollowsLaws.{Answers-follow, list-inside}
+use Rattle.bitvec_run.proofs.FollowsLaws.{Answers-follow, list-inside}
 use Rattle.bitvec_run.proofs.right.compare.Goals as goal
 
 pub returns-in-Eq : goal.returns-in-Eq

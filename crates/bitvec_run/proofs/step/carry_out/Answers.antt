@@ -1,7 +1,7 @@
 use Rattle.std.proofs.Common.{arith, refl, sym, ◌∙◌, Some}
 use Rattle.bitvec_base.specs.Memory.{list_in}
 use Rattle.bitvec_base.specs.WritesLaws.{length-list}
-use Rattle.bitvec_run.specs.FollowsLaws.{Answers-follow, Follows-range}
+use Rattle.bitvec_run.proofs.FollowsLaws.{Answers-follow, Follows-range}
 use Rattle.bitvec_run.specs.RunsLaws.{outcome-is, step-does}
 use Rattle.bitvec_run.specs.Runs.{step_row}
 use Rattle.bitvec_run.proofs.step.carry_out.Goals as goal

@@ -1,5 +1,5 @@
 use Rattle.std.proofs.Common.{arith, refl}
-use Rattle.bitvec_run.specs.FollowsLaws.{Answers-follow}
+use Rattle.bitvec_run.proofs.FollowsLaws.{Answers-follow}
 use Rattle.bitvec_run.proofs.step.command.Goals as goal
 
 pub returns-in-Get : goal.returns-in-Get

@@ -4,7 +4,7 @@ use Rattle.bitvec_base.specs.Memory.{list_in}
 use Rattle.bitvec_base.specs.WritesLaws.{HasWindow-kept, Writes-is}
 use Rattle.bitvec_run.specs.FoldLaws.{after-all, replies-all}
 use Rattle.bitvec_run_halves.specs.Sides.{halves_of, joined, side_lists, side_reply}
-use Rattle.bitvec_run_halves.specs.SidesLaws.{RanSides-next, RanSides-none, side-has}
+use Rattle.bitvec_run_halves.proofs.SidesLaws.{RanSides-next, RanSides-none, side-has}
 use Rattle.bitvec_run_halves.proofs.runner.run_sides.Goals as goal
 
 pub loop-index-init : goal.loop-index-init

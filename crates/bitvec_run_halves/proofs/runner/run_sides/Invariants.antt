@@ -1,6 +1,6 @@
 use Rattle.std.proofs.Common.{◌≡◌, length, take}
 use Rattle.bitvec_base.specs.Memory.{list_in}
-use Rattle.bitvec_run_halves.specs.SidesLaws.{RanSides}
+use Rattle.bitvec_run_halves.proofs.SidesLaws.{RanSides}
 use Rattle.bitvec_run_halves.proofs.runner.run_sides.Given as goal
 
 -- what is promised of all steps, of those so far

@@ -1,6 +1,6 @@
 use Rattle.bitvec_base.specs.MemoryLaws.{length-element_bits}
 use Rattle.bitvec_words.specs.ElementLaws.{element-xor}
-use Rattle.bitvec_words.specs.ShiftedLaws.{shifted-joined}
+use Rattle.bitvec_words.proofs.ShiftedLaws.{shifted-joined}
 use Rattle.bitvec_words.proofs.element.joined.Goals as goal
 
 pub returns : goal.returns

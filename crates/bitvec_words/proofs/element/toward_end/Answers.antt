@@ -1,5 +1,5 @@
 use Rattle.std.proofs.Common.{◌∙◌, sym}
-use Rattle.bitvec_words.specs.OrderEndLaws.{shr-high, shl-low}
+use Rattle.bitvec_words.proofs.OrderEndLaws.{shr-high, shl-low}
 use Rattle.bitvec_words.proofs.element.toward_end.Goals as goal
 
 pub returns-then-HIGH : goal.returns-then-HIGH

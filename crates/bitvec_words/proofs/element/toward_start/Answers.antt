@@ -1,5 +1,5 @@
 use Rattle.std.proofs.Common.{◌∙◌, sym}
-use Rattle.bitvec_words.specs.OrderEndLaws.{shl-high, shr-low}
+use Rattle.bitvec_words.proofs.OrderEndLaws.{shl-high, shr-low}
 use Rattle.bitvec_words.proofs.element.toward_start.Goals as goal
 
 pub returns-then-HIGH : goal.returns-then-HIGH

@@ -27,6 +27,6 @@ loop-word-preserved c =
     let text : List ℕ = string_bytes {Z = Global} c.word-item.result in
     let key : number_of 64 text ≡ Some c.in_ok-parse_u64.field-0 = grind (arith, common_steps) in
     let more : numbers_of (map (string_bytes {Z = Global}) (take (i + 1) words)) ≡ with_number (numbers_of (map (string_bytes {Z = Global}) (take i words))) text =
-        numbers_of-more (string_bytes {Z = Global}) words i c.word-item.result c.loop-word-test.true ∙ (λ k. with_number (numbers_of (map (string_bytes {Z = Global}) (take i words))) (string_bytes {Z = Global} (sym c.word-item.is k))) in
+    numbers_of-more (string_bytes {Z = Global}) words i c.word-item.result c.loop-word-test.true ∙ (λ k. with_number (numbers_of (map (string_bytes {Z = Global}) (take i words))) (string_bytes {Z = Global} (sym c.word-item.is k))) in
     subst (λ (numbers : Option (List ℕ)). IsSomeAnd numbers (λ keys. IsFilter keys c.insert.new.self)) (sym more)
     (filter-more _ text c.in_ok-parse_u64.field-0 c.loop-word.filter c.insert.new.self c.loop-word.invariant key c.insert.ensures.inserted c.insert.ensures.kept)

@@ -1,5 +1,5 @@
 use Rattle.std.proofs.Common.{◌∙◌, ap, length}
-use Rattle.bitvec_closures.specs.ElementsLaws.{length-whole, whole-left}
+use Rattle.bitvec_closures.proofs.ElementsLaws.{length-whole, whole-left}
 use Rattle.bitvec_closures.proofs.edit_elements.EditElements.edit_elements.Goals as goal
 
 pub from_view-requires : goal.from_view-requires

@@ -1,5 +1,5 @@
 use Rattle.std.proofs.Common.{arith, refl}
-use Rattle.bitvec_closures.specs.NumberedLaws.{next-is, next-lies, pieces-all, pieces-next, pieces-none}
+use Rattle.bitvec_closures.proofs.NumberedLaws.{next-is, next-lies, pieces-all, pieces-next, pieces-none}
 use Rattle.bitvec_closures.specs.InPlaceLaws.{may-return, returned}
 use Rattle.bitvec_closures.proofs.edit_parts.EditParts.for_each_piece_mut.Goals as goal
 

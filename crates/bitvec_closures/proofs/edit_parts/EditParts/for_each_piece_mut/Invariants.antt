@@ -1,4 +1,4 @@
-use Rattle.bitvec_closures.specs.NumberedLaws.{PiecesSoFar}
+use Rattle.bitvec_closures.proofs.NumberedLaws.{PiecesSoFar}
 use Rattle.bitvec_closures.specs.Pieces.{way_of}
 use Rattle.bitvec_closures.proofs.edit_parts.EditParts.for_each_piece_mut.Given as goal
 

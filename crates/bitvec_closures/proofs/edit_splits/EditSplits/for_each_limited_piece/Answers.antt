@@ -2,7 +2,7 @@ use Rattle.std.proofs.Common.{Some, [], refl}
 use Rattle.bitvec_closures.specs.InPlaceLaws.{may-return, returned}
 use Rattle.bitvec_closures.specs.ToSplit.{limited_at}
 use Rattle.bitvec_closures.specs.SplitEdits.{Editing}
-use Rattle.bitvec_closures.specs.SplitCallsLaws.{given-piece, limited-on, piece-given, piece-lies, in_turn-may, in_turn-next}
+use Rattle.bitvec_closures.proofs.SplitCallsLaws.{given-piece, limited-on, piece-given, piece-lies, in_turn-may, in_turn-next}
 use Rattle.bitvec_closures.proofs.edit_splits.EditSplits.for_each_limited_piece.Goals as goal
 
 pub edit-requires : goal.edit-requires

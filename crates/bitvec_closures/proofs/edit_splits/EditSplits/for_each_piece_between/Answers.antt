@@ -2,7 +2,7 @@ use Rattle.std.proofs.Common.{Some, [], refl}
 use Rattle.bitvec_closures.specs.InPlaceLaws.{may-return, returned}
 use Rattle.bitvec_closures.specs.ToSplit.{left_at}
 use Rattle.bitvec_closures.specs.SplitEdits.{Editing}
-use Rattle.bitvec_closures.specs.SplitCallsLaws.{given-piece, piece-given, piece-lies, step-on, in_turn-may, in_turn-next}
+use Rattle.bitvec_closures.proofs.SplitCallsLaws.{given-piece, piece-given, piece-lies, step-on, in_turn-may, in_turn-next}
 use Rattle.bitvec_closures.proofs.edit_splits.EditSplits.for_each_piece_between.Goals as goal
 
 pub edit-requires : goal.edit-requires

@@ -1,4 +1,4 @@
-use Rattle.bitvec_closures.specs.ToSplitLaws.{takes-beside}
+use Rattle.bitvec_closures.proofs.ToSplitLaws.{takes-beside}
 use Rattle.bitvec_closures.proofs.edit_splits.EditSplits.step.Goals as goal
 
 pub returns-clause-takes : goal.returns-clause-takes

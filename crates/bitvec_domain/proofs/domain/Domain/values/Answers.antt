@@ -1,4 +1,4 @@
-use Rattle.bitvec_domain.specs.ValuesLaws.{values_yielded}
+use Rattle.bitvec_domain.proofs.ValuesLaws.{values_yielded}
 use Rattle.bitvec_domain.proofs.domain.Domain.values.Goals as goal
 
 pub returns-in-Enclave-clause-runs : goal.returns-in-Enclave-clause-runs

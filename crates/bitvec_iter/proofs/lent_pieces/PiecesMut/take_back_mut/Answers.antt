@@ -1,6 +1,6 @@
 use Rattle.std.specs.Prelude.{◌-◌}
 use Rattle.std.proofs.Common.{rules}
-use Rattle.bitvec_iter.specs.LentPiecesLaws.{same-with}
+use Rattle.bitvec_iter.proofs.LentPiecesLaws.{same-with}
 use Rattle.bitvec_iter.proofs.lent_pieces.PiecesMut.take_back_mut.Goals as goal
 
 pub returns : goal.returns

@@ -1,4 +1,4 @@
-use Rattle.bitvec_iter.specs.LeftLaws.{pieces_yielded}
+use Rattle.bitvec_iter.proofs.LeftLaws.{pieces_yielded}
 use Rattle.bitvec_iter.proofs.pieces.Pieces.new.Goals as goal
 
 pub returns-clause-runs : goal.returns-clause-runs

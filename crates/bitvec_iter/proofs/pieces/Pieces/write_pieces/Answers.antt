@@ -8,7 +8,7 @@ use Rattle.bitvec_domain.specs.ListingLaws.{join_by-more}
 use Rattle.bitvec_domain.specs.Listing.{bits_text, comma, separator}
 use Rattle.bitvec_slice.specs.Views.{seen}
 use Rattle.bitvec_iter.specs.Left.{piece_at, pieces_left}
-use Rattle.bitvec_iter.specs.LeftLaws.{left, left_length}
+use Rattle.bitvec_iter.proofs.LeftLaws.{left, left_length}
 use Rattle.bitvec_iter.proofs.pieces.Pieces.write_pieces.Goals as goal
 
 pub loop-index-preserved : goal.loop-index-preserved

@@ -1,4 +1,4 @@
-use Rattle.bitvec_query.specs.IndicesLaws.{runs_in_order, runs_in_reverse}
+use Rattle.bitvec_query.proofs.IndicesLaws.{runs_in_order, runs_in_reverse}
 use Rattle.bitvec_query.proofs.places.Places.new.Goals as goal
 
 pub returns-clause-runs : goal.returns-clause-runs

@@ -1,4 +1,4 @@
-use Rattle.bitvec_query.specs.KeptLaws.{same-walk}
+use Rattle.bitvec_query.proofs.KeptLaws.{same-walk}
 use Rattle.bitvec_query.proofs.places.PlacesClone.clone.Goals as goal
 
 pub returns : goal.returns

@@ -1,4 +1,4 @@
-use Rattle.bitvec_slice.specs.BitPartsLaws.{parts_yielded}
+use Rattle.bitvec_slice.proofs.BitPartsLaws.{parts_yielded}
 use Rattle.bitvec_slice.proofs.bit_domain.BitDomain.parts.Goals as goal
 
 pub returns-in-Enclave-clause-runs : goal.returns-in-Enclave-clause-runs

@@ -2,7 +2,7 @@ use Rattle.std.proofs.Common.{◌≡◌, ℕ, ◌+◌, ◌-◌, ◌*◌, ◌%◌
 use Rattle.std.proofs.Math.Nat.{mul-le-mul_left}
 use Rattle.std.specs.Prelude.{min}
 use Rattle.bitvec_store.specs.WidthLaws.{width_some}
-use Rattle.bitvec_slice.specs.ApartLaws.{front-half, rest-half}
+use Rattle.bitvec_slice.proofs.ApartLaws.{front-half, rest-half}
 use Rattle.bitvec_slice.specs.Touched.{end_touched, first_touched}
 use Rattle.bitvec_slice.specs.TouchedLaws.{touches}
 use Rattle.bitvec_slice.proofs.view_mut.BitSliceMut.into_halves.Goals as goal

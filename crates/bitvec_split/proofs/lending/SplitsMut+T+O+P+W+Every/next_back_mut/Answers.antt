@@ -1,5 +1,5 @@
 use Rattle.bitvec_split.specs.Lent.{SplitNextBackIn}
-use Rattle.bitvec_split.specs.LentLaws.{lends_so}
+use Rattle.bitvec_split.proofs.LentLaws.{lends_so}
 use Rattle.bitvec_split.specs.LentViews.{found_in, left_in}
 use Rattle.bitvec_split.proofs.lending.SplitsMut+T+O+P+W+Every.next_back_mut.Goals as goal
 

@@ -1,5 +1,5 @@
 use Rattle.std.specs.Prelude.{Some, None}
-use Rattle.bitvec_split.specs.SplitStateLaws.{step_on}
+use Rattle.bitvec_split.proofs.SplitStateLaws.{step_on}
 use Rattle.bitvec_split.specs.Lent.{NextIn, StaysIn}
 use Rattle.bitvec_split.proofs.lending.SplitsMut.advance.Goals as goal
 

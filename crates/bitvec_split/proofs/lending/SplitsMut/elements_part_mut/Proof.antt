@@ -3,7 +3,7 @@ use Rattle.bitvec_domain.specs.Steps.{refl, [], ◌∷◌, full_share, a_type, d
 use Rattle.bitvec_domain.specs.Through.{tail}
 use Rattle.bitvec_domain.specs.Lender.{behind_ty}
 use denote.Struct.Field.{rows}
-use Rattle.bitvec_split.specs.AnyLender.{of_five, begins, lends_range}
+use Rattle.bitvec_split.proofs.AnyLender.{of_five, begins, lends_range}
 use Rattle.bitvec_split.specs.SplitsLending.{with_elements}
 use Rattle.bitvec_split.specs.contracts.lending.SplitsMut.{struct, the_type, the_row}
 use Rattle.bitvec_split.specs.contracts.lending.SplitsMut.elements_part_mut.Key.{name as #self}

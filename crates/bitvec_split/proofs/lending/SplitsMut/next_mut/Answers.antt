@@ -1,4 +1,4 @@
-use Rattle.bitvec_split.specs.LentLaws.{lends_next, lends_nothing}
+use Rattle.bitvec_split.proofs.LentLaws.{lends_next, lends_nothing}
 use Rattle.bitvec_split.specs.LentViews.{found_in, limited_in}
 use Rattle.bitvec_split.proofs.lending.SplitsMut.next_mut.Goals as goal
 

@@ -10,7 +10,7 @@ use Rattle.bitvec_base.specs.declared.order.BitOrder.{Ghosts as Order}
 use Rattle.bitvec_slice.specs.Views.{seen}
 use Rattle.bitvec_query.specs.declared.rest.Rest.{Rest}
 use Rattle.bitvec_query.specs.Places.{IsRestOf}
-use Rattle.bitvec_query.specs.PlacesLaws.{IsRestOf-prop}
+use Rattle.bitvec_query.proofs.PlacesLaws.{IsRestOf-prop}
 use Rattle.bitvec_query.specs.Kept.{Keeps}
 use Rattle.bitvec_query.specs.declared.kept.Kept.{Kept}
 use Rattle.bitvec_query.specs.declared.places.Places.{Places}

@@ -11,7 +11,7 @@ use Rattle.bitvec_base.specs.Memory.{element_bits}
 use Rattle.bitvec_base.specs.MemoryLaws.{length-element_bits, get-element_bits}
 use Rattle.bitvec_base.specs.ShiftLaws.{bit_at_shl, bit_at_shl_left, bit_at_shr}
 use Rattle.bitvec_words.specs.OrderEnd.{RunsFrom}
-use Rattle.bitvec_words.specs.ShiftedLaws.{get-shifted_start, get-shifted_start_left, get-shifted_end, get-shifted_end_left}
+use Rattle.bitvec_words.proofs.ShiftedLaws.{get-shifted_start, get-shifted_start_left, get-shifted_end, get-shifted_end_left}
 
 -- which end that is, once it is known
 runs_from : (high found : Bool) (b : ℕ) (at : ℕ → ℕ → ℕ) → RunsFrom high b at → high ≡ found → RunsFrom found b at

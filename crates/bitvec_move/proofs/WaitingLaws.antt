@@ -14,7 +14,7 @@ use Rattle.bitvec_base.specs.WritesLaws.{HasWindow-kept, Writes-is, Writes-join}
 use Rattle.bitvec_words.specs.Elements.{elements_window, elements_window_from}
 use Rattle.bitvec_words.specs.FieldLaws.{Writes-none, element_of, list-across, list-both, list-front, list-whole}
 use Rattle.bitvec_words.specs.TouchedLaws.{last-first, last-next, next-inside}
-use Rattle.bitvec_move.specs.SwapLaws.{Writes-exchanged, Writes-set, beside-element, beside-element_from, first_elements, next_element}
+use Rattle.bitvec_move.proofs.SwapLaws.{Writes-exchanged, Writes-set, beside-element, beside-element_from, first_elements, next_element}
 use Rattle.bitvec_words.specs.WholeLaws.{HasWindow-part, Writes-same}
 
 -- ---- lists

@@ -1,0 +1,4 @@
+pub mod ElementsLaws
+pub mod NumberedLaws
+pub mod SplitCallsLaws
+pub mod ToSplitLaws

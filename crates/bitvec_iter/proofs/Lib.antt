@@ -1,0 +1,3 @@
+pub mod LeftLaws
+pub mod LentPiecesLaws
+pub mod PartLaws

@@ -1,0 +1,3 @@
+pub mod AnyLender
+pub mod LentLaws
+pub mod SplitStateLaws
