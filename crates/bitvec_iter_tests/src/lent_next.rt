@@ -3,19 +3,29 @@
 
 use bitvec_base::Lsb0;
 use bitvec_edit::BitEdits;
-use bitvec_iter::PieceCallsMut;
+use bitvec_iter::{ChunksMut, IterMut, PieceCallsMut};
 use bitvec_slice::BitSliceMut;
+
+/// Fills the first chunk that is left, if there is one.
+fn fill_first(chunks: &mut ChunksMut<'_, u8, Lsb0>) {
+    if let Some(mut piece) = chunks.next_lent().some() {
+        piece.fill(true);
+    }
+}
+
+/// Fills the last chunk that is left, if there is one.
+fn fill_last(chunks: &mut ChunksMut<'_, u8, Lsb0>) {
+    if let Some(mut piece) = chunks.next_back_lent().some() {
+        piece.fill(true);
+    }
+}
 
 /// Fills the first chunk of three bits and the last, and says how many are left.
 fn fill_ends(bytes: &mut [u8; 1]) -> usize {
     let mut view = BitSliceMut::<u8, Lsb0>::from_slice_mut(bytes);
     let mut chunks = view.chunks_mut(3);
-    if let Some(mut piece) = chunks.next_lent().some() {
-        piece.fill(true);
-    }
-    if let Some(mut piece) = chunks.next_back_lent().some() {
-        piece.fill(true);
-    }
+    fill_first(&mut chunks);
+    fill_last(&mut chunks);
     chunks.len()
 }
 
@@ -27,16 +37,26 @@ fn lends_none(bytes: &mut [u8; 1]) -> bool {
     is_none && chunks.next_back_lent().is_none()
 }
 
+/// Sets the first bit that is left, if there is one.
+fn set_first(bits: &mut IterMut<'_, u8, Lsb0>) {
+    if let Some(mut bit) = bits.next_lent().some() {
+        bit.fill(true);
+    }
+}
+
+/// Sets the last bit that is left, if there is one.
+fn set_last(bits: &mut IterMut<'_, u8, Lsb0>) {
+    if let Some(mut bit) = bits.next_back_lent().some() {
+        bit.fill(true);
+    }
+}
+
 /// Sets the first bit and the last, and says how many are left.
 fn set_ends(bytes: &mut [u8; 1]) -> usize {
     let mut view = BitSliceMut::<u8, Lsb0>::from_slice_mut(bytes);
     let mut bits = view.iter_mut();
-    if let Some(mut bit) = bits.next_lent().some() {
-        bit.fill(true);
-    }
-    if let Some(mut bit) = bits.next_back_lent().some() {
-        bit.fill(true);
-    }
+    set_first(&mut bits);
+    set_last(&mut bits);
     bits.len()
 }
 
