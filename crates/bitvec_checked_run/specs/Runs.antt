@@ -3,7 +3,10 @@ use Rattle.std.specs.Prelude.{◌≡◌, ◌≢◌, ◌≤◌, ℕ, Bool, List, 
 use Rattle.std.specs.List.{list_all}
 use Rattle.bitvec_base.specs.declared.window.Window.{Window}
 use Rattle.bitvec_base.specs.Memory.{Writes, list_in, memory_bits}
-use Rattle.bitvec_run.specs.FieldRows.{field_list, field_reply}
+use Rattle.bitvec_run.specs.declared.command.Reply.{Reply}
+use Rattle.bitvec_run.specs.declared.field_step.FieldStep.{FieldStep}
+use Rattle.bitvec_run.specs.FieldRows.{field_outcome}
+use Rattle.bitvec_run.specs.Rows.{row_list, row_reply}
 use Rattle.bitvec_run.specs.Fold.{list_after, replies_of}
 use Rattle.bitvec_checked_run.specs.declared.replies.RawReply.{RawReply}
 use Rattle.bitvec_checked_run.specs.declared.steps.RawStep.{RawStep}
@@ -23,6 +26,13 @@ steps_status steps room = if are_steps steps then (if nat_le (length steps) room
 pub record FitRoom (steps : List RawStep) (places : ℕ) : Type 0 where
   pub known : are_steps steps ≡ true
   pub room : length steps ≤ places
+
+-- the reply of a step on a list beside a right list, and the list after it; `s` is the place of the list's first bit in the memory
+abbrev pub field_reply : Bool → ℕ → ℕ → List Bool → List Bool → FieldStep → Reply
+field_reply high b s right = row_reply (field_outcome high b s right)
+
+abbrev pub field_list : Bool → ℕ → ℕ → List Bool → List Bool → FieldStep → List Bool
+field_list high b s right = row_list (field_outcome high b s right)
 
 -- the replies of steps on a list, beside a right list, and the list after them; `s` is the place of the list's first bit in the memory
 abbrev pub raw_replies : Bool → ℕ → ℕ → List Bool → List Bool → List RawStep → List RawReply

@@ -1,5 +1,6 @@
 use Rattle.std.proofs.Common.{◌≡◌, drop, length, map, take}
-use Rattle.bitvec_run.specs.FieldRows.{field_list, field_outcome, field_reply}
+use Rattle.bitvec_run.specs.FieldRows.{field_outcome}
+use Rattle.bitvec_checked_run.specs.Runs.{field_list, field_reply}
 use Rattle.bitvec_run.specs.Fold.{replies_of}
 use Rattle.bitvec_run.specs.RanLaws.{Ran}
 use Rattle.bitvec_base.specs.Memory.{list_in, memory_bits}

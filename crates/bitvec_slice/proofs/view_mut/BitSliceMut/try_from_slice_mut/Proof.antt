@@ -44,7 +44,7 @@ use denote.Triple.Walked.{Stays, walk_of, stay_dropped, Goes-spent_slice, ends_a
 use Rattle.bitvec_base.specs.Window.{max_bits}
 use Rattle.bitvec_base.specs.declared.span_error.BitSpanError.{BitSpanError}
 use Rattle.bitvec_base.specs.declared.span_error.BitSpanError.TheVariants.{TooLong}
-use Rattle.bitvec_elements.proofs.base.BitSpanError.TheLaws.{the_row_laws as error_laws}
+use Rattle.bitvec_base.proofs.span_error.BitSpanError.TheLaws.{the_row_laws as error_laws}
 use Rattle.bitvec_slice.specs.Views.{IsWholeOf, name_of}
 use Rattle.bitvec_slice.specs.contracts.view_mut.BitSliceMut.try_from_slice_mut as f
 use Rattle.bitvec_slice.specs.contracts.constructors.bits_in
