@@ -1,5 +1,5 @@
 //! What a caller knows of several edits of one sequence, and of one array of bits.
-ghost use Rattle.std.specs.Prelude.{◌≡◌, ◌<◌, map, not, slice_set, true};
+ghost use Rattle.std.specs.Prelude.{◌<◌};
 ghost use Rattle.bitvec.specs.ArrayWrites.{WritesArray};
 ghost use Rattle.bitvec.specs.BitArrays.{in_array};
 ghost use Rattle.bitvec.specs.Owned.{owned};
@@ -7,16 +7,6 @@ ghost use Rattle.bitvec.specs.OwnedWrites.{WritesOwned};
 
 use bitvec::prelude::*;
 use std::alloc::Global;
-
-/// Flips all bits of a sequence, and sets one then: one edit.
-#[tactic(auto, using(bitvec::specs::Laws::composed))]
-pub fn flip_and_set<T: BitStore, O: SliceOrder>(bits: &mut BitVec<T, O, Global>, index: usize)
-    requires { index < (owned bits.old).window.len }
-    ensures { WritesOwned bits.old bits.new (slice_set (map not (owned bits.old).bits) index true) }
-{
-    bits.invert();
-    bits.set(index, true);
-}
 
 /// Raises a line, and another if it is said to: one edit, whether or not.
 #[tactic(auto, using(bitvec::specs::Laws::composed))]
