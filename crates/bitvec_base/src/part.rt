@@ -1,4 +1,4 @@
-//! Where a window is cut at the edges of elements: the one place that decides it.
+//! Where a window is cut at the edges of elements: its first part and its last part.
 ghost use Rattle.std.specs.Prelude.{◌≡◌, ◌+◌, ◌-◌, ◌/◌, ◌^◌, ◌<◌, ◌≤◌};
 ghost use Rattle.bitvec_base.specs.Parts.{first_part_of, last_part_of, tail_part_of};
 
