@@ -199,3 +199,50 @@ class FewBits {
         return sum;
     }
 };
+
+// ---- numbers in a row
+
+// The numbers of 12 bits in 2^20 bits, of which one in three is 1, under `Lsb0`: an element or two are joined, shifted
+// and masked.
+template <class Element, bool whole>
+class NumbersInARow {
+    static constexpr unsigned width = 8 * sizeof(Element), field = 12;
+    std::vector<Element> memory = std::vector<Element>(single_bits / width);
+
+    static uint64_t number(const Element *p, size_t place) {
+        const unsigned from = place % width;
+        p += place / width;
+        uint64_t word = uint64_t(p[0]) >> from;
+        if (from + field > width)
+            word |= uint64_t(p[1]) << (width - from);
+        return word & 0xFFF;
+    }
+
+    [[gnu::noinline]] static size_t numbers(const Element *p) {
+        size_t sum = 0, place = 0;
+        for (; place + field <= single_bits; place += field)
+            sum += number(p, place);
+        if (!whole && place < single_bits)
+            sum += p[place / width] >> place % width;
+        return sum;
+    }
+
+  public:
+    NumbersInARow() {
+        for (size_t i = 0; i < single_bits; i += 3)
+            memory[i / width] = Element(memory[i / width] | Element(1) << i % width);
+    }
+
+    size_t round(size_t number) {
+        const size_t place = number % 64;
+        memory[place / width] = Element(memory[place / width] & ~(Element(1) << place % width));
+        return numbers(memory.data());
+    }
+
+    size_t ones_left() const {
+        size_t sum = 0;
+        for (const Element element : memory)
+            sum += size_t(__builtin_popcountll(element));
+        return sum;
+    }
+};

@@ -250,6 +250,31 @@ static void bits(const char *program) {
     fews<uint8_t, 64>(program);
 }
 
+// Numbers of 12 bits in chunks of views and by hand, in nanoseconds a number.
+template <class Element, bool whole>
+static void numbers(const char *program, const char *said) {
+    constexpr size_t width = 8 * sizeof(Element), times = 400, count = single_bits / 12;
+    const Task task{"numbers", {width, whole ? 0 : 1}};
+    auto round = [](auto &bits, size_t i) { return bits.round(i); };
+    const double by_hand = time_by_hand<NumbersInARow<Element, whole>>(program, task, 3, times, round);
+    const double by_views = time_runs(program, task, times);
+    std::printf("| %s | u%zu | %.3g | %.3g | %.3g |\n", said, width, by_views / count, by_hand / count, by_hand / by_views);
+}
+
+template <class Element>
+static void numbers_of(const char *program) {
+    numbers<Element, true>(program, "`chunks_exact`");
+    numbers<Element, false>(program, "`chunks`");
+}
+
+static void walked_numbers(const char *program) {
+    std::printf("\n### Numbers of 12 bits, added up in a walk, in ns a number\n\n"
+                "| walk | elements | views | by hand | views / by hand, speed |\n|---|---|---|---|---|\n");
+    numbers_of<uint8_t>(program);
+    numbers_of<uint32_t>(program);
+    numbers_of<uint64_t>(program);
+}
+
 constexpr size_t window_bits = 1024;
 
 // Operations on windows that begin at these places of an element, and the fastest of the peers. The time of a peer is of
@@ -324,6 +349,7 @@ int main(int, char **words) {
     mixed(words[1]);
     walks(words[1]);
     bits(words[1]);
+    walked_numbers(words[1]);
     windows(words[1]);
     within(words[1]);
 }

@@ -13,7 +13,7 @@ import tarfile
 import tempfile
 
 import library
-from library import BITVEC, FORMAT, LIST, RECORDS, Progress, Refused, member
+from library import FORMAT, LIST, ROOTS, Progress, Refused, member
 
 UNZIP = ["zstd", "-q", "-d", "--long=27", "-c"]
 ZSTD_BEGINS, XZ_BEGINS = b"\x28\xb5\x2f\xfd", b"\xfd7zXZ\x00"
@@ -144,7 +144,7 @@ def tell(top, listing, why):
     for name, it in why.items():
         if it not in (None, BUILT):
             print(f"left {name}: {it}")
-    rest = [name for name in library.below(library.lines_of(top), BITVEC, RECORDS) if why.get(name, "") not in (None, BUILT)]
+    rest = [name for name in library.below(library.lines_of(top), *ROOTS) if why.get(name, "") not in (None, BUILT)]
     print(f"a check still proves these, unless they are built here: {' '.join(rest)}" if rest else "a check of a crate above proves that crate alone")
 
 

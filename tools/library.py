@@ -7,6 +7,8 @@ import sys
 
 TOP = pathlib.Path(__file__).resolve().parent.parent
 BITVEC, RECORDS = "bitvec", "bitrecord"
+# What an archive holds, with all below: README's first command stands on the last of these.
+ROOTS = (BITVEC, RECORDS, "bitdo_work")
 SOURCES = ("src", "specs", "proofs")
 # An archive of proofs begins with this list, in this form.
 LIST, FORMAT = "proofs.json", "fehimbary proofs 1"

@@ -9,7 +9,7 @@ import sys
 import tarfile
 
 import library
-from library import BITVEC, FORMAT, LIST, RECORDS, TOP, Progress, Refused, member
+from library import FORMAT, LIST, ROOTS, TOP, Progress, Refused, member
 
 # The long distance is for what libraries have in common.
 ZIP = ["zstd", "-q", "-T0", "-9", "--long=27", "-c"]
@@ -17,7 +17,7 @@ ZIP = ["zstd", "-q", "-T0", "-9", "--long=27", "-c"]
 
 def build(lines):
     """Has `rt` build what isn't built."""
-    for root in (BITVEC, RECORDS):
+    for root in ROOTS:
         if root in lines and subprocess.run(["rt", "lib"], cwd=TOP / "crates" / root, stdout=sys.stderr).returncode:
             raise Refused(f"rt lib doesn't build {root}")
 
@@ -71,7 +71,7 @@ def write(file, listing):
 
 def pack(file):
     lines = library.lines_of(TOP)
-    names = library.below(lines, BITVEC, RECORDS)
+    names = library.below(lines, *ROOTS)
     commit = library.commit(["crates.txt", *(f"crates/{name}" for name in names)])
     sums = sums_of_sources(lines, names)
     build(lines)

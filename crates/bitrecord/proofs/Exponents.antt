@@ -38,8 +38,5 @@ pub moved-kept : (number len : ℕ) → number < 2 ^ len → len ≤ 64 → numb
 moved-kept number len fits bound =
     mod-eq_of_lt (subst (λ (k : ℕ). number * 2 ^ (64 - len) < 2 ^ k) (let e : len + (64 - len) ≡ 64 = omega arith in e) (shl_below number len (64 - len) fits))
 
-pub joined-fits : (v w j k : ℕ) → v < 2 ^ j → w < 2 ^ k → k + j ≤ 64 → v * 2 ^ k + w < 2 ^ 64
-joined-fits v w j k high low most = below-more (v * 2 ^ k + w) (2 ^ (k + j)) (2 ^ 64) (joined_below v w j k high low) (pow_mono most)
-
 pub split-low : (high : Bool) (word len power : ℕ) → high ≡ false → power ≡ 2 ^ len → SplitsOff high word len (bit_and word (power - 1)) (word / 2 ^ len)
 split-low high word len power is pow = rw (is, pow, and_mask word len) (sym (div-add-mod' word (2 ^ len)), mod_below word (2 ^ len) (pow_pos len))

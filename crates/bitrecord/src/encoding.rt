@@ -11,9 +11,9 @@ ghost use Rattle.bitrecord.specs.Views.{bits_of, fields_of};
 use crate::coding::{put, put_wide, put_word};
 use crate::decoding::is_seamless;
 use crate::fitting::first_too_large;
-use crate::words::with_next;
 use crate::{EncodeError, Endian, Layout};
 use bitvec::index::Window;
+use bitvec::order::with_next;
 use bitvec::prelude::*;
 use std::alloc::Allocator;
 

@@ -54,21 +54,3 @@ pub(crate) fn last_of<O: WordOrder>(word: u64, len: usize) -> u64
         word >> (64 - len) as u32
     }
 }
-
-/// The number of `len` bits and of `more` behind them. Condition: they are at most 64, `more` is below 64
-/// and some, and the numbers have no more bits.
-#[inline(always)]
-pub(crate) fn with_next<O: WordOrder>(word: u64, len: usize, next: u64, more: usize) -> u64
-    requires some { 0 < more }
-    requires narrow { more < 64 }
-    requires bound { len + more ≤ 64 }
-    requires word { word < 2 ^ len }
-    requires next { next < 2 ^ more }
-    ensures { result ≡ (if O.HIGH then word * 2 ^ more + next else next * 2 ^ len + word) }
-{
-    if O::HIGH {
-        word * power(more) + next
-    } else {
-        next * power(len) + word
-    }
-}

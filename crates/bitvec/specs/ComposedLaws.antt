@@ -76,3 +76,7 @@ module _ {T O A : Type 0} {t : Store T} {o : Order O} (some : 0 < t.BITS) where
         length = two.length ∙ one.length;
         holds = λ list from held. two.holds x from (one.holds list from held);
       }
+
+  -- told by the last bits
+  pub owned-both : (first second last : BitVec T O A t o) (x y : List Bool) → WritesOwned first second x → WritesOwned second last y → WritesOwned first last (owned last).bits
+  owned-both first second last x y one two = subst (λ (l : List Bool). WritesOwned first last l) (sym two.bits) (owned-then first second last x y one two)

@@ -8,19 +8,28 @@ use Rattle.bitvec_base.specs.FillLaws.{flip-undoes}
 use Rattle.bitvec_base.specs.FilledLaws.{all-filled, any-filled, bits-zeros, equal-same, first-filled, first-of_filled, last-filled, same-equal}
 use Rattle.bitvec_base.specs.PlacesLaws.{first_place-absent, first_place-before, first_place-below, first_place-bit, last_place-absent, last_place-after, last_place-below, last_place-bit}
 use Rattle.bitvec_base.specs.RotationLaws.{rotated_left-undoes, rotated_right-undoes}
+use Rattle.bitvec_base.specs.MemoryLaws.{length-element_bits, length-memory_bits}
 use Rattle.bitvec_base.specs.WindowLaws.{get-window, length-window}
 use Rattle.bitvec_base.specs.WriteLaws.{get-slice_range, get-write_at_above, get-write_at_below, get-write_at_inside, length-slice_range, length-write_at, range-write_at, range-write_at_after, range-write_at_before}
 use Rattle.bitvec_cells.specs.CostLaws.{enough}
 use Rattle.bitvec_field.specs.IntegersLaws.{remainder-narrow}
+use Rattle.bitvec_in_place.specs.FrontLaws.{front-all, front-filled, front-grown, front-inserted, front-last, front-longer, front-none, front-range, front-removed, front-set_behind, front-set_inside, front-set_next, front-shorter, front-written, front-written_behind, front-written_inside, get-front, get-inserted_behind, get-removed_behind, length-front, length-inserted, length-removed, range-set_after, range-set_before, range-set_inside}
 use Rattle.bitvec_in_place.specs.Laws.{asked as in_range, lengths as kept_lengths, listed, numbers, parts, ranged}
+use Rattle.bitvec_in_place.specs.MovedLaws.{length-bits_of}
 use Rattle.bitvec_in_place.specs.RangesLaws.{worded as words}
 use Rattle.bitvec_iter.specs.JoinLaws.{joining as chunks}
 use Rattle.bitvec_iter.specs.Laws.{walked as walks}
 use Rattle.bitvec_segments.specs.LoadLaws.{loaded-one, loaded_be-phase, loaded_le-phase}
-use Rattle.bitvec_segments.specs.StoreLaws.{loaded_be-determines, loaded_be-stores, loaded_le-determines, loaded_le-stores, stored_be-loads, stored_le-loads}
+use Rattle.bitvec_segments.specs.StoreLaws.{length-stored, loaded_be-determines, loaded_be-stores, loaded_le-determines, loaded_le-stores, stored_be-loads, stored_le-loads}
+use Rattle.bitvec_owned.specs.AroundLaws.{around-then, around-written, holds-then}
+use Rattle.bitvec_owned.specs.WritesLaws.{length-owned}
 use Rattle.bitvec_split.specs.AskedLaws.{may_ask_always}
 use Rattle.bitvec_closures.specs.WritesLaws.{written-around, written-none, written-then}
-use Rattle.bitvec.specs.ComposedLaws.{array-none, array-then, owned-none, owned-then}
+use Rattle.bitvec.specs.ComposedLaws.{array-none, array-then, owned-both, owned-none, owned-then}
+use Rattle.bitvec.specs.ChangesLaws.{changes-none, changes-then, number-unchanged}
+use Rattle.bitvec.specs.FoundLaws.{all_in-false, all_in-none, all_in-true, any_in-false, any_in-true, first_in-absent, first_in-before, first_in-below, first_in-bit, last_in-absent, last_in-after, last_in-below, last_in-bit, number-at_one, number-before_one, number-without_one}
+use Rattle.bitvec.specs.NumberSidesLaws.{get-high_number, get-low_number, number-high_sides, number-high_stored, number-low_sides, number-low_stored, number-none, number-one, number-ones, number-zeros}
+use Rattle.bitvec.specs.SeamlessLaws.{loaded-seamless, number-seamless, numbered-seamless, stored-seamless}
 use Rattle.bitvec.specs.ClosureLaws.{callable_below-always, callable_on_bits-always}
 use Rattle.bitvec.specs.MatchLaws.{contained, contains-absent, prefix-bit, prefix-fits, prefix-found, prefix-stripped, suffix-bit, suffix-fits, suffix-stripped}
 use Rattle.bitvec_slice.specs.SeenLaws.{length_bits}
@@ -31,21 +40,24 @@ use Rattle.bitvec_elements.specs.OrderLaws.{ordered as orders}
 -- a view has as many bits as its window
 pub ruleset lengths = (length_bits)
 
+-- and elements have `BITS` times as many
+pub ruleset sized = (lengths, length-memory_bits, length-bits_of)
+
 -- after `first_one`, `first_zero`, `last_one`, `last_zero`: the place is below the length, it has the bit,
--- none before it or after it has; or none has
-pub ruleset found = (lengths, first_place-below, first_place-bit, first_place-before, first_place-absent, last_place-below, last_place-bit, last_place-after, last_place-absent)
+-- none before it or after it has; or none has; of a view, and of a range in place
+pub ruleset found = (lengths, first_place-below, first_place-bit, first_place-before, first_place-absent, last_place-below, last_place-bit, last_place-after, last_place-absent, first_in-below, first_in-bit, first_in-before, first_in-absent, last_in-below, last_in-bit, last_in-after, last_in-absent, number-before_one, number-at_one, number-without_one, all_in-true, all_in-none, all_in-false, any_in-true, any_in-false)
 
 -- after `set`: what `get` and `bits[i]` give at the index and at another
 pub ruleset written = (lengths, get_or-set_at, get_or-set_other, length-set)
 
 -- after `edit_with`: what stands before the part, in it and behind it
-pub ruleset spliced = (lengths, get-window, get-slice_range, get-write_at_below, get-write_at_inside, get-write_at_above, length-slice_range, length-window, length-write_at, range-write_at, range-write_at_before, range-write_at_after)
+pub ruleset spliced = (lengths, get-window, get-slice_range, get-write_at_below, get-write_at_inside, get-write_at_above, length-slice_range, length-window, length-write_at, length-stored, range-write_at, range-write_at_before, range-write_at_after, range-set_before, range-set_inside, range-set_after)
 
 -- after `and_within`, `or_within`, `xor_within`: each bit and range, those that were written and those beside them
 pub ruleset overlaid = (lengths, get-combined_within_below, get-combined_within_inside, get-combined_within_above, length-combined_within, range-combined_within, range-combined_within_before, range-combined_within_after)
 
--- edits of one view, one sequence or one array of bits, one after the other, as one edit
-pub ruleset composed = (written-none, written-then, written-around, width_some, owned-none, owned-then, array-none, array-then)
+-- edits of one view, one sequence or one array of bits, one after the other, as one edit; and of one range of an array
+pub ruleset composed = (written-none, written-then, written-around, width_some, owned-none, owned-then, owned-both, array-none, array-then, changes-none, changes-then)
 
 -- `count_ones` and `count_zeros`: both make the length; after `set`; after calls that move bits or flip them
 pub ruleset counted = (lengths, ones_and_zeros, ones-more, ones-fewer, zeros-more, zeros-fewer, ones-flipped, zeros-flipped)
@@ -66,6 +78,9 @@ pub ruleset matched = (lengths, prefix-fits, prefix-bit, prefix-stripped, prefix
 
 -- after `cmp`, `<` and their kin: the order is total and agrees with `==`; and equal views feed a hasher the same
 pub ruleset ordered = (orders, fed_same)
+
+-- sequences that grow: how many bits there are, and what one held with zeros around it, through several calls
+pub ruleset grown = (width_some, length-owned, around-then, around-written, holds-then)
 
 -- what std's adapters make of a walk: the items of a run, one after the other, are those that were to come
 pub ruleset walked = (walks)
@@ -93,10 +108,19 @@ pub ruleset own_order = (enough)
 pub ruleset bitwise = (lengths, kept_lengths, listed, ranged)
 
 -- the number of a range: stored there it is what was stored, as far as it fits; beside an edit it stays; and its bound
-pub ruleset fields = (lengths, kept_lengths, numbers, width_some)
+pub ruleset fields = (lengths, kept_lengths, numbers, number-unchanged, length-stored, width_some)
 
 -- a stored number by its bits and parts, from its other end, or moved; and the number of a range that was filled
 pub ruleset portions = (lengths, kept_lengths, parts, width_some)
+
+-- the number of a range by those of two side by side, by its bits, and of one bit, of zeros and of ones
+pub ruleset summed = (lengths, kept_lengths, number-high_sides, number-low_sides, number-high_stored, number-low_stored, number-none, number-one, number-zeros, number-ones, get-high_number, get-low_number, width_some)
+
+-- numbers from the order's own end, `le` under `Lsb0` and `be` under `Msb0`: one family of words for views and arrays
+pub ruleset seamless = (lengths, kept_lengths, loaded-seamless, stored-seamless, number-seamless, numbered-seamless, length-element_bits, length-slice_range, width_some)
+
+-- the first bits of an array that has room for more: each, how many, and after an edit among them, behind them or at their end
+pub ruleset fronts = (lengths, kept_lengths, length-front, get-front, front-none, front-all, front-shorter, front-longer, front-last, front-range, front-set_inside, front-set_behind, front-set_next, front-written, front-written_inside, front-written_behind, front-filled, front-grown, front-inserted, front-removed, length-inserted, length-removed, get-inserted_behind, get-removed_behind, width_some)
 
 -- questions of `in_place` about a range: beside an edit, and after `fill`
 pub ruleset asked = (lengths, kept_lengths, in_range)

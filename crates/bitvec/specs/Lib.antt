@@ -1,11 +1,15 @@
 pub mod Arrays
+pub mod ChangesLaws
 pub mod ClosureLaws
 pub mod ComposedLaws
 pub mod Domains
+pub mod FoundLaws
 pub mod Laws
 pub mod MatchLaws
 pub mod NthLaws
+pub mod NumberSidesLaws
 pub mod Operators
+pub mod SeamlessLaws
 pub mod Types
 pub use Rattle.bitvec_base.specs.BitsFixMemory
 pub use Rattle.bitvec_base.specs.Counts
@@ -35,6 +39,10 @@ pub use Rattle.bitvec_field.specs.DomainParts
 pub use Rattle.bitvec_field.specs.DomainPartsLaws
 pub use Rattle.bitvec_segments.specs.Integers
 pub use Rattle.bitvec_field.specs.IntegersLaws
+pub use Rattle.bitvec_in_place.specs.Cursors
+pub use Rattle.bitvec_in_place.specs.FrontLaws
+pub use Rattle.bitvec_in_place.specs.Fronts
+pub use Rattle.bitvec_in_place.specs.Inserted
 pub use Rattle.bitvec_in_place.specs.MovedLaws
 pub use Rattle.bitvec_in_place.specs.NumbersLaws
 pub use Rattle.bitvec_in_place.specs.NumberPartsLaws
@@ -57,6 +65,8 @@ pub use Rattle.bitvec_query.specs.Loads
 pub use Rattle.bitvec_query.specs.Places
 pub use Rattle.bitvec_query.specs.Turns
 pub use Rattle.bitvec_owned.specs.ArrayWrites
+pub use Rattle.bitvec_owned.specs.Around
+pub use Rattle.bitvec_owned.specs.AroundLaws
 pub use Rattle.bitvec_owned.specs.Arrays as BitArrays
 pub use Rattle.bitvec_owned.specs.Copies
 pub use Rattle.bitvec_owned.specs.Owned
@@ -83,6 +93,7 @@ pub use Rattle.bitvec_segments.specs.Segments
 pub use Rattle.bitvec_segments.specs.StoreLaws
 pub use Rattle.bitvec_slice.specs.Indices
 pub use Rattle.bitvec_slice.specs.Apart
+pub use Rattle.bitvec_base.specs.Apart as ApartAt
 pub use Rattle.bitvec_slice.specs.KeptLaws
 pub use Rattle.bitvec_slice.specs.Seen
 pub use Rattle.bitvec_slice.specs.SeenLaws

@@ -1,11 +1,11 @@
 -- What a true answer of `starts_with`, `ends_with` and `contains` says of bits, and what a false one does.
 use Rattle.std.specs.Prelude.{◌≡◌, ℕ, ◌+◌, ◌-◌, ◌<◌, ◌≤◌, Bool, true, false, List, [], ◌∷◌, ◌++◌, drop, length, slice_index_or, slice_range, take}
 use Rattle.std.specs.List.{list_any, range_with_len}
-use Rattle.std.proofs.Common.{arith, sym, ◌∙◌, ap, ⊎_elim, get_or-drop, get_or-take, length-drop, length-take}
+use Rattle.std.proofs.Common.{arith, sym, ◌∙◌, ap, ⊎_elim, get_or-drop, get_or-take, length-take}
 use Rattle.std.proofs.lemmas.Bool.{cases_Bool, cases_lt}
 use Rattle.std.proofs.lemmas.List.{same_lists, take-append-drop}
 use Rattle.bitvec_base.specs.SliceLaws.{range-from_start, range-to_end}
-use Rattle.bitvec_base.specs.Lists.{is_prefix, is_suffix, same_bits, stands_at, stands_in}
+use Rattle.bitvec_base.specs.Lists.{is_prefix, is_suffix, stands_at, stands_in}
 use Rattle.bitvec_base.specs.ListsLaws.{is_prefix-fits, is_prefix-long, is_suffix-fits, is_suffix-long, same_bits-decides, stands_at-fits, stands_at-long, stands_in-found}
 
 -- ---- at the start

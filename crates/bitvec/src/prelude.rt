@@ -5,6 +5,7 @@ pub use bitvec_domain::{BitRef, BitRefMut, Domain, DomainMut};
 pub use bitvec_edit::BitEdits;
 pub use bitvec_engine::SliceOrder;
 pub use bitvec_field::{Binary, BitField, BitFieldMut, Integral, LowerHex, Octal, UpperHex};
+pub use bitvec_in_place::own_edit::Edit;
 pub use bitvec_iter::{IterCalls, PieceCallsMut};
 pub use bitvec_owned::{BitArray, BitVec, RepeatError, ToBitVec};
 pub use bitvec_query::{BitQueries, OnesCalls};

@@ -4,7 +4,7 @@ ghost use Rattle.bitvec_checked.specs.Calls.{Asks, Edits};
 ghost use Rattle.bitvec_checked.specs.Replies.{bit_of};
 ghost use Rattle.bitvec_checked.specs.Statuses.{bits_from};
 
-use crate::status::{DONE, index_status, indices_status, or_next, window_status};
+use crate::status::{index_status, indices_status, or_next, window_status};
 use bitvec_base::Window;
 use bitvec_domain::{bit_in, replace_in, set_in, swap_in};
 use bitvec_store::BitStore;
@@ -25,10 +25,7 @@ pub fn get<T: BitStore>(
         window_status(order, elements, window),
         index_status(index, len),
     );
-    if status == DONE {
-        *bit = under!(order, bit_in::<T>(elements, window, index));
-    }
-    status
+    tested!(status, *bit, order, bit_in::<T>(elements, window, index))
 }
 
 /// Makes the bit at an index of a window `bit`.
@@ -47,10 +44,7 @@ pub fn set<T: BitStore>(
         window_status(order, elements, window),
         index_status(index, len),
     );
-    if status == DONE {
-        under!(order, set_in::<T>(elements, window, index, bit));
-    }
-    status
+    tested!(status, order, set_in::<T>(elements, window, index, bit))
 }
 
 /// Makes the bit at an index of a window `bit`, and gives the old one.
@@ -71,10 +65,12 @@ pub fn replace<T: BitStore>(
         window_status(order, elements, window),
         index_status(index, len),
     );
-    if status == DONE {
-        *old = under!(order, replace_in::<T>(elements, window, index, bit));
-    }
-    status
+    tested!(
+        status,
+        *old,
+        order,
+        replace_in::<T>(elements, window, index, bit)
+    )
 }
 
 /// Exchanges the bits at two indices of a window.
@@ -93,8 +89,5 @@ pub fn swap_bits<T: BitStore>(
         window_status(order, elements, window),
         indices_status(first, second, len),
     );
-    if status == DONE {
-        under!(order, swap_in::<T>(elements, window, first, second));
-    }
-    status
+    tested!(status, order, swap_in::<T>(elements, window, first, second))
 }

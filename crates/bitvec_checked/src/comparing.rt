@@ -30,13 +30,12 @@ pub fn equal<T: BitStore>(
         len: right_len,
     };
     let status = windows_status(order, elements, window, right, right_window);
-    if status == DONE {
-        *answer = under!(
-            order,
-            eq_blocks_in::<T>(elements, window, right, right_window)
-        );
-    }
-    status
+    tested!(
+        status,
+        *answer,
+        order,
+        eq_blocks_in::<T>(elements, window, right, right_window)
+    )
 }
 
 /// How the bits of two windows compare, as lists of truth values do: -1, 0 or 1.

@@ -6,7 +6,7 @@ ghost use Rattle.bitvec_checked.specs.Calls.{Asks};
 ghost use Rattle.bitvec_checked.specs.Replies.{bit_of, count_of};
 ghost use Rattle.bitvec_checked.specs.Statuses.{bits_from};
 
-use crate::status::{DONE, window_status};
+use crate::status::window_status;
 use bitvec_base::{BitOrder, Window};
 use bitvec_cells::Shared;
 use bitvec_elements::{all_in, any_in, count_blocks_in};
@@ -24,10 +24,7 @@ pub fn count_ones<T: BitStore>(
 {
     let window = Window { start, len };
     let status = window_status(order, elements, window);
-    if status == DONE {
-        *ones = under!(order, count_blocks_in::<T>(elements, window));
-    }
-    status
+    tested!(status, *ones, order, count_blocks_in::<T>(elements, window))
 }
 
 /// How many bits of a window are 0.
@@ -42,10 +39,7 @@ pub fn count_zeros<T: BitStore>(
 {
     let window = Window { start, len };
     let status = window_status(order, elements, window);
-    if status == DONE {
-        *zeros = under!(order, count_zeros_in::<T>(elements, window));
-    }
-    status
+    tested!(status, *zeros, order, count_zeros_in::<T>(elements, window))
 }
 
 fn count_zeros_in<T: BitStore, O: BitOrder>(elements: &[T], window: Window) -> usize
@@ -68,10 +62,7 @@ pub fn any<T: BitStore>(
 {
     let window = Window { start, len };
     let status = window_status(order, elements, window);
-    if status == DONE {
-        *answer = under!(order, any_in::<T>(elements, window));
-    }
-    status
+    tested!(status, *answer, order, any_in::<T>(elements, window))
 }
 
 /// Whether each bit of a window is 1.
@@ -86,8 +77,5 @@ pub fn all<T: BitStore>(
 {
     let window = Window { start, len };
     let status = window_status(order, elements, window);
-    if status == DONE {
-        *answer = under!(order, all_in::<T>(elements, window));
-    }
-    status
+    tested!(status, *answer, order, all_in::<T>(elements, window))
 }

@@ -3,7 +3,7 @@ ghost use Rattle.bitvec_run.specs.declared.command.Op.TheVariants.{Fill, Invert}
 ghost use Rattle.bitvec_checked.specs.Calls.{Edits};
 ghost use Rattle.bitvec_checked.specs.Statuses.{bits_from};
 
-use crate::status::{DONE, window_status};
+use crate::status::window_status;
 use bitvec_base::Window;
 use bitvec_elements::{fill_in, invert_in};
 use bitvec_store::BitStore;
@@ -14,10 +14,7 @@ pub fn fill<T: BitStore>(order: u32, elements: &mut [T], start: usize, len: usiz
 {
     let window = Window { start, len };
     let status = window_status(order, elements, window);
-    if status == DONE {
-        under!(order, fill_in::<T>(elements, window, bit));
-    }
-    status
+    tested!(status, order, fill_in::<T>(elements, window, bit))
 }
 
 /// Flips each bit of a window.
@@ -26,8 +23,5 @@ pub fn invert<T: BitStore>(order: u32, elements: &mut [T], start: usize, len: us
 {
     let window = Window { start, len };
     let status = window_status(order, elements, window);
-    if status == DONE {
-        under!(order, invert_in::<T>(elements, window));
-    }
-    status
+    tested!(status, order, invert_in::<T>(elements, window))
 }

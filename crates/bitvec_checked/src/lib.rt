@@ -12,6 +12,23 @@ macro_rules! under {
     };
 }
 
+/// Gives a status, and calls a function of the order of a number where it says that the tests have passed. A place in
+/// front of the order gets the answer.
+macro_rules! tested {
+    ($status:ident, $order:ident, $($call:tt)*) => {{
+        if $status == $crate::status::DONE {
+            under!($order, $($call)*);
+        }
+        $status
+    }};
+    ($status:ident, $answer:expr, $order:ident, $($call:tt)*) => {{
+        if $status == $crate::status::DONE {
+            $answer = under!($order, $($call)*);
+        }
+        $status
+    }};
+}
+
 mod bits;
 mod comparing;
 mod counting;

@@ -3,7 +3,7 @@ ghost use Rattle.bitvec_run.specs.declared.command.Op.TheVariants.{CopyWithin, R
 ghost use Rattle.bitvec_checked.specs.Calls.{Edits};
 ghost use Rattle.bitvec_checked.specs.Statuses.{bits_from};
 
-use crate::status::{DONE, amount_status, or_next, ranges_status, window_status};
+use crate::status::{amount_status, or_next, ranges_status, window_status};
 use bitvec_base::Window;
 use bitvec_store::BitStore;
 use bitvec_within::{
@@ -16,10 +16,7 @@ pub fn reverse<T: BitStore>(order: u32, elements: &mut [T], start: usize, len: u
 {
     let window = Window { start, len };
     let status = window_status(order, elements, window);
-    if status == DONE {
-        under!(order, reverse_in::<T>(elements, window));
-    }
-    status
+    tested!(status, order, reverse_in::<T>(elements, window))
 }
 
 /// Shifts the bits of a window towards its start: as many zeros as were lost follow the others.
@@ -37,10 +34,7 @@ pub fn shift_start<T: BitStore>(
         window_status(order, elements, window),
         amount_status(by, len),
     );
-    if status == DONE {
-        under!(order, shift_start_in::<T>(elements, window, by));
-    }
-    status
+    tested!(status, order, shift_start_in::<T>(elements, window, by))
 }
 
 /// Shifts the bits of a window towards its end: as many zeros as were lost stand before the others.
@@ -58,10 +52,7 @@ pub fn shift_end<T: BitStore>(
         window_status(order, elements, window),
         amount_status(by, len),
     );
-    if status == DONE {
-        under!(order, shift_end_in::<T>(elements, window, by));
-    }
-    status
+    tested!(status, order, shift_end_in::<T>(elements, window, by))
 }
 
 /// Rotates the bits of a window so that the one at `by` comes first.
@@ -79,10 +70,7 @@ pub fn rotate_left<T: BitStore>(
         window_status(order, elements, window),
         amount_status(by, len),
     );
-    if status == DONE {
-        under!(order, rotate_left_in::<T>(elements, window, by));
-    }
-    status
+    tested!(status, order, rotate_left_in::<T>(elements, window, by))
 }
 
 /// Rotates the bits of a window so that the last `by` come first.
@@ -100,10 +88,7 @@ pub fn rotate_right<T: BitStore>(
         window_status(order, elements, window),
         amount_status(by, len),
     );
-    if status == DONE {
-        under!(order, rotate_right_in::<T>(elements, window, by));
-    }
-    status
+    tested!(status, order, rotate_right_in::<T>(elements, window, by))
 }
 
 /// Copies the bits `from` up to, without, `to` of a window to those from `dest` on, also where they overlap.
@@ -123,8 +108,9 @@ pub fn copy_within<T: BitStore>(
         window_status(order, elements, window),
         ranges_status(from, to, dest, len),
     );
-    if status == DONE {
-        under!(order, copy_within_in::<T>(elements, window, from..to, dest));
-    }
-    status
+    tested!(
+        status,
+        order,
+        copy_within_in::<T>(elements, window, from..to, dest)
+    )
 }

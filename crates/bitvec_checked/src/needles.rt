@@ -7,7 +7,7 @@ ghost use Rattle.bitvec_checked.specs.Calls.{AsksBeside};
 ghost use Rattle.bitvec_checked.specs.Replies.{bit_of};
 ghost use Rattle.bitvec_checked.specs.Statuses.{bits_from};
 
-use crate::status::{DONE, windows_status};
+use crate::status::windows_status;
 use bitvec_base::Window;
 use bitvec_cells::Shared;
 use bitvec_engine::SliceOrder;
@@ -32,13 +32,12 @@ pub fn starts_with<T: BitStore>(
         len: right_len,
     };
     let status = windows_status(order, elements, window, right, right_window);
-    if status == DONE {
-        *answer = under!(
-            order,
-            starts_with_in::<T>(elements, window, right, right_window)
-        );
-    }
-    status
+    tested!(
+        status,
+        *answer,
+        order,
+        starts_with_in::<T>(elements, window, right, right_window)
+    )
 }
 
 fn starts_with_in<T: BitStore, O: SliceOrder>(
@@ -80,13 +79,12 @@ pub fn ends_with<T: BitStore>(
         len: right_len,
     };
     let status = windows_status(order, elements, window, right, right_window);
-    if status == DONE {
-        *answer = under!(
-            order,
-            ends_with_in::<T>(elements, window, right, right_window)
-        );
-    }
-    status
+    tested!(
+        status,
+        *answer,
+        order,
+        ends_with_in::<T>(elements, window, right, right_window)
+    )
 }
 
 fn ends_with_in<T: BitStore, O: SliceOrder>(
@@ -128,13 +126,12 @@ pub fn contains<T: BitStore>(
         len: right_len,
     };
     let status = windows_status(order, elements, window, right, right_window);
-    if status == DONE {
-        *answer = under!(
-            order,
-            contains_in::<T>(elements, window, right, right_window)
-        );
-    }
-    status
+    tested!(
+        status,
+        *answer,
+        order,
+        contains_in::<T>(elements, window, right, right_window)
+    )
 }
 
 fn contains_in<T: BitStore, O: SliceOrder>(

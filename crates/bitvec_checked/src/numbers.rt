@@ -5,7 +5,7 @@ ghost use Rattle.bitvec_segments.specs.Segments.{loaded_be, loaded_le, stored_be
 ghost use Rattle.bitvec_checked.specs.Calls.{Loads, Stores};
 ghost use Rattle.bitvec_checked.specs.Statuses.{bits_from};
 
-use crate::status::{DONE, or_next, width_status, window_status};
+use crate::status::{or_next, width_status, window_status};
 use bitvec_base::Window;
 use bitvec_cells::{Exclusive, Shared};
 use bitvec_segments::FieldOrder;
@@ -23,10 +23,7 @@ pub fn load_le<T: BitStore>(
 {
     let window = Window { start, len };
     let status = or_next(window_status(order, elements, window), width_status(len));
-    if status == DONE {
-        *number = under!(order, load_le_in::<T>(elements, window));
-    }
-    status
+    tested!(status, *number, order, load_le_in::<T>(elements, window))
 }
 
 fn load_le_in<T: BitStore, O: FieldOrder>(elements: &[T], window: Window) -> u64
@@ -50,10 +47,7 @@ pub fn load_be<T: BitStore>(
 {
     let window = Window { start, len };
     let status = or_next(window_status(order, elements, window), width_status(len));
-    if status == DONE {
-        *number = under!(order, load_be_in::<T>(elements, window));
-    }
-    status
+    tested!(status, *number, order, load_be_in::<T>(elements, window))
 }
 
 fn load_be_in<T: BitStore, O: FieldOrder>(elements: &[T], window: Window) -> u64
@@ -77,10 +71,7 @@ pub fn store_le<T: BitStore>(
 {
     let window = Window { start, len };
     let status = or_next(window_status(order, elements, window), width_status(len));
-    if status == DONE {
-        under!(order, store_le_in::<T>(elements, window, number));
-    }
-    status
+    tested!(status, order, store_le_in::<T>(elements, window, number))
 }
 
 fn store_le_in<T: BitStore, O: FieldOrder>(elements: &mut [T], window: Window, number: u64)
@@ -104,10 +95,7 @@ pub fn store_be<T: BitStore>(
 {
     let window = Window { start, len };
     let status = or_next(window_status(order, elements, window), width_status(len));
-    if status == DONE {
-        under!(order, store_be_in::<T>(elements, window, number));
-    }
-    status
+    tested!(status, order, store_be_in::<T>(elements, window, number))
 }
 
 fn store_be_in<T: BitStore, O: FieldOrder>(elements: &mut [T], window: Window, number: u64)

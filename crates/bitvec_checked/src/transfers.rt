@@ -3,7 +3,7 @@ ghost use Rattle.bitvec_run.specs.declared.command.Op.TheVariants.{And, CopyFrom
 ghost use Rattle.bitvec_checked.specs.Calls.{EditsBeside, Swaps};
 ghost use Rattle.bitvec_checked.specs.Statuses.{bits_from};
 
-use crate::status::{DONE, equal_windows_status, windows_status};
+use crate::status::{equal_windows_status, windows_status};
 use bitvec_base::Window;
 use bitvec_elements::{combine_block_in, copy_from_long_block_in, swap_with_block_in};
 use bitvec_store::BitStore;
@@ -27,13 +27,11 @@ pub fn copy<T: BitStore>(
         len: right_len,
     };
     let status = equal_windows_status(order, elements, window, right, right_window);
-    if status == DONE {
-        under!(
-            order,
-            copy_from_long_block_in::<T>(elements, window, right, right_window)
-        );
-    }
-    status
+    tested!(
+        status,
+        order,
+        copy_from_long_block_in::<T>(elements, window, right, right_window)
+    )
 }
 
 /// Makes each bit of a window that bit and the one at its index in the right window, 0 past its end.
@@ -54,13 +52,11 @@ pub fn and<T: BitStore>(
         len: right_len,
     };
     let status = windows_status(order, elements, window, right, right_window);
-    if status == DONE {
-        under!(
-            order,
-            combine_block_in::<T>(elements, window, right, right_window, BitOp::And)
-        );
-    }
-    status
+    tested!(
+        status,
+        order,
+        combine_block_in::<T>(elements, window, right, right_window, BitOp::And)
+    )
 }
 
 /// Makes each bit of a window that bit or the one at its index in the right window, 0 past its end.
@@ -81,13 +77,11 @@ pub fn or<T: BitStore>(
         len: right_len,
     };
     let status = windows_status(order, elements, window, right, right_window);
-    if status == DONE {
-        under!(
-            order,
-            combine_block_in::<T>(elements, window, right, right_window, BitOp::Or)
-        );
-    }
-    status
+    tested!(
+        status,
+        order,
+        combine_block_in::<T>(elements, window, right, right_window, BitOp::Or)
+    )
 }
 
 /// Makes each bit of a window whether it differs from the one at its index in the right window, 0 past its
@@ -109,13 +103,11 @@ pub fn xor<T: BitStore>(
         len: right_len,
     };
     let status = windows_status(order, elements, window, right, right_window);
-    if status == DONE {
-        under!(
-            order,
-            combine_block_in::<T>(elements, window, right, right_window, BitOp::Xor)
-        );
-    }
-    status
+    tested!(
+        status,
+        order,
+        combine_block_in::<T>(elements, window, right, right_window, BitOp::Xor)
+    )
 }
 
 /// Exchanges the bits of two windows, which are as long.
@@ -136,11 +128,9 @@ pub fn swap<T: BitStore>(
         len: right_len,
     };
     let status = equal_windows_status(order, elements, window, right, right_window);
-    if status == DONE {
-        under!(
-            order,
-            swap_with_block_in::<T>(elements, window, right, right_window)
-        );
-    }
-    status
+    tested!(
+        status,
+        order,
+        swap_with_block_in::<T>(elements, window, right, right_window)
+    )
 }

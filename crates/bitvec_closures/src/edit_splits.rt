@@ -4,7 +4,7 @@ ghost use Rattle.bitvec_cutting.specs.Cutting.{cut};
 ghost use Rattle.bitvec_slice.specs.Indices.{HasRange};
 ghost use Rattle.bitvec_split.specs.Asked.{Asked, MayAsk};
 ghost use Rattle.bitvec_split.specs.Lent.{LimitedNextIn, MayGoOnIn, SplitNextIn, unsplit_in};
-ghost use Rattle.bitvec_split.specs.Splits.{asked_of, row_of};
+ghost use Rattle.bitvec_split.specs.Splits.{asked_of, left_of_row, row_of};
 ghost use Rattle.bitvec_closures.specs.ToSplit.{IsLeftOf, TakesFrom, left_at, limited_at};
 ghost use Rattle.bitvec_closures.specs.SplitEdits.{EditsGiven, MayEditGiven};
 
@@ -39,7 +39,7 @@ pub trait EditSplits<T: BitStore, O: BitOrder>: EditParts<T, O> {
         requires range { HasRange range (Self.shows self.now).window.len }
         requires callable { MayAsk P.FnMut (range.end - range.start) pred.old }
         ensures asked { Asked P.FnMut (cut (Self.shows self.now).bits range) pred.old (row_of W.INCLUSIVE W.REVERSED (range.end - range.start)).asks result pred.new }
-        ensures callable { MayAsk P.FnMut (range.end - range.start) pred.new }
+        ensures callable { IfSome result (λ index. MayAsk P.FnMut (left_of_row W.INCLUSIVE W.REVERSED (range.end - range.start) index) pred.new) }
         ensures inside { IfSome result (λ index. index < asked_of W.INCLUSIVE W.REVERSED (range.end - range.start)) }
     {
         ask_row::<W, T, O, P>(self.as_bitslice().into_part(range), W::REVERSED, pred)
@@ -48,7 +48,7 @@ pub trait EditSplits<T: BitStore, O: BitOrder>: EditParts<T, O> {
     /// The range of the next piece. Conditions: the view has the range that is left; `pred` may be asked
     /// about its bits.
     #[doc(hidden)]
-    #[tactic(auto, using(bitvec_split::specs::AskedLaws::may_ask_of_fewer, bitvec_split::specs::AskedLaws::may_ask_either))]
+    #[tactic(auto, using(bitvec_split::specs::AskedLaws::may_ask_of_fewer, bitvec_split::specs::AskedLaws::may_ask_unfinished))]
     final fn step<W: SplitKind, P: FnMut(usize, &bool) -> bool>(
         &self,
         left: &mut ToSplit,
@@ -102,7 +102,7 @@ pub trait EditSplits<T: BitStore, O: BitOrder>: EditParts<T, O> {
 
     /// The range of the next piece of a limited split. Conditions: as for `step`.
     #[doc(hidden)]
-    #[tactic(auto, using(bitvec_split::specs::AskedLaws::may_ask_of_fewer, bitvec_split::specs::AskedLaws::may_ask_either))]
+    #[tactic(auto, using(bitvec_split::specs::AskedLaws::may_ask_of_fewer, bitvec_split::specs::AskedLaws::may_ask_unfinished))]
     final fn limited_step<W: SplitKind, P: FnMut(usize, &bool) -> bool>(
         &self,
         left: &mut ToSplit,

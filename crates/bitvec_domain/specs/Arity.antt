@@ -1,6 +1,6 @@
 -- What the type parameters of a lender bring into its method's signature and code.
 --     Arity            how many they are, and what their lifetimes owe
---     of_two, of_three     of a struct over T and O, and over T, O and C, which holds a `&'a mut [T]`
+--     of_two, of_three, of_five     of a struct over T and O, over T, O and C, and over T, O, P, W and L, which holds a `&'a mut [T]`
 --     lived            the facts before an assertion, one after the other;  ⊢ lived facts P → P
 use Prim.Native.Nat.{ℕ, suc}
 use mathlib.Core.List.{List, [], ◌∷◌}
@@ -39,6 +39,17 @@ of_three T O C = record {
   coded = (2, 0) ∷ (3, 0) ∷ (4, 0) ∷ (2, 1) ∷ [];
   facts = λ κs. (κs.1.1.0 ⊑ T.lives) ∷ (κs.1.1.1.0 ⊑ O.lives) ∷ (κs.1.1.1.1.0 ⊑ C.lives) ∷ [];
   args = tcons (ty_param 0) (tcons (ty_param 1) (tcons (ty_param 2) tnil));
+}
+
+abbrev pub of_five : RattleType → RattleType → RattleType → RattleType → RattleType → Arity
+of_five T O P W L = record {
+  more = 5;
+  bounds = record { long = 2; long_ok = tt; short = named 0; short_ok = tt } ∷ record { long = 3; long_ok = tt; short = named 0; short_ok = tt }
+      ∷ record { long = 4; long_ok = tt; short = named 0; short_ok = tt } ∷ record { long = 5; long_ok = tt; short = named 0; short_ok = tt }
+      ∷ record { long = 6; long_ok = tt; short = named 0; short_ok = tt } ∷ record { long = 2; long_ok = tt; short = named 1; short_ok = tt } ∷ [];
+  coded = (2, 0) ∷ (3, 0) ∷ (4, 0) ∷ (5, 0) ∷ (6, 0) ∷ (2, 1) ∷ [];
+  facts = λ κs. (κs.1.1.0 ⊑ T.lives) ∷ (κs.1.1.1.0 ⊑ O.lives) ∷ (κs.1.1.1.1.0 ⊑ P.lives) ∷ (κs.1.1.1.1.1.0 ⊑ W.lives) ∷ (κs.1.1.1.1.1.1.0 ⊑ L.lives) ∷ [];
+  args = tcons (ty_param 0) (tcons (ty_param 1) (tcons (ty_param 2) (tcons (ty_param 3) (tcons (ty_param 4) tnil))));
 }
 
 module _ {M : Type 1} (𝓤 : Ura M) where

@@ -1,8 +1,10 @@
 -- `fn elements_part_mut(&mut self, start: usize, end: usize) -> &mut [T] { &mut self.elements[start..end] }`, proved once for every struct whose first field is `elements: &'a mut [T]`.
 --     function T N ν τs       the code, at a struct of the name ν with the fields τs behind the first
 --     ended, clauses          its contract: the struct, of the type R a at the lifetime a, follows the result by F of the list with what is left in the range's place, and the result is at first what stood there
+--     Begins                  a struct's machine value begins with this one
+--     begins                  it does where its fields' values are known to be some
 --     lends_range             the code meets the contract
--- What it asks of the struct is what `Lender.antt` asks. Assumes `Logic`.
+-- What it asks of the struct is what `Lender.antt` asks, but of its machine value the first field alone (`begun`). Assumes `Logic`.
 use Prim.Native.Nat.{ℕ, zero, suc, ◌+◌, ◌-◌, ◌*◌, ◌^◌, ◌<◌, ◌≤◌}
 use native.Mathlib.Omega.{arith}
 use native.Mathlib.Nat.{lt_of_le_of_lt, mul-le-mul_right, zero-mul, suc-mul}
@@ -17,7 +19,7 @@ use base.Logic.{SProp, sep}
 use base.Fml.{Lft, Share, GName, fsep, fat, flft}
 use mir.Syntax.{Fn, Body, Ty, Tys, Sym, Lifetime, Callee, named, erased, mut, unsigned, mul, sub as minus, offset, size_of, w64, ty_ptr, ty_ref, ty_named, ty_int, ty_param, local, value_local, place, deref, field, copy, op2, rv_opd, addr_of, aggregate, assign, seq, return}
 use mir.Raw.{raw as raw_ty}
-use mir.Val.{Val, Vals, vstruct, vcons, vptr, vint}
+use mir.Val.{Val, Vals, vstruct, vcons, vptr, vint, of_list}
 use prog.Model.{Model}
 use prog.Wp.{Closed}
 use contract.Running.{Running, tables}
@@ -32,7 +34,7 @@ use types.Mut.{open_ref, close_ref}
 use borrow.Table.Elements.{at, at_mul}
 use borrow.Rule.Slice.PartMut.{Post-is, put_same}
 use denote.Exit.{no, yes}
-use denote.RattleType.{RattleType, owns}
+use denote.RattleType.{RattleType, Valss, flat, owns}
 use denote.Laws.{Is, shows}
 use denote.Memory.{mem, cell_at, cell_raw, raw_all, part_at, part_of}
 use denote.Param.{layout, copied}
@@ -142,14 +144,20 @@ uncapped (suc i) k h =
     let up = suc-mul i k in
     ap (λ (j : ℕ). suc i * j) (capped_is k (omega arith))
 
+-- a struct's machine value begins with this one
+abbrev pub Begins : Val → List Val → Type 0
+Begins v us = (vs : Vals) × (us ≡ vstruct (vcons v vs) ∷ [])
+
+pub begins : (v : Val) (Rs : List RattleType) (us ws : List Val) (vss : Valss Rs) → us ≡ vstruct (of_list (ws ++ flat Rs vss)) ∷ [] → ws ≡ v ∷ [] → Begins v us
+begins v Rs us ws vss whole first = (of_list (flat Rs vss), whole ∙ ap (λ (l : List Val). vstruct (of_list (l ++ flat Rs vss)) ∷ []) first)
+
 module _ (T : RattleType) (N : Arity) (ν : Sym) (τs : Tys) (R : NamedLft → RattleType) (args : NamedLft → List Lifetime) (types : NamedLft → List RattleType) (Fs : NamedLft → List Field)
     (view : (a : NamedLft) → (R a).Denot → Values (parts (copied 0 T) a ν (args a) (types a) (Fs a))) (F : (a : NamedLft) → (R a).Denot → List T.Denot → (R a).Denot)
     (loose : (a : NamedLft) → Looses (parts (copied 0 T) a ν (args a) (types a) (Fs a)))
     (same : (a : NamedLft) (s : (R a).Denot) (b e : ℕ) → part_at (R a) full_share s b e ≡ part_at (row (Flat (copied 0 T) a ν (args a) (types a) (Fs a))) full_share (view a s) b e)
     (put : (a : NamedLft) (s : (R a).Denot) (ws : List T.Denot) → view a (F a s ws) ≡ (at_last (view a s).0 (refill (length (view a s).0.now) (view a s).0.now ws), (view a s).1))
-    (others : (a : NamedLft) → (R a).Denot → Vals)
     (is_raw : (a : NamedLft) → raw_all (R a).mir ≡ raw_ty (spelled T N ν τs) ∷ [])
-    (told : (a : NamedLft) (s : (R a).Denot) (us : List Val) → Is (R a) s us → (us ≡ vstruct (vcons (slice_val (view a s).0.ref_ptr (length (view a s).0.now)) (others a s)) ∷ []) × Room (copied 0 T) (length (view a s).0.now)) where
+    (begun : (a : NamedLft) (s : (R a).Denot) (us : List Val) → Is (R a) s us → Begins (slice_val (view a s).0.ref_ptr (length (view a s).0.now)) us × Room (copied 0 T) (length (view a s).0.now)) where
   abbrev pub slice_of : (a : NamedLft) → (R a).Denot → MutBor (List T.Denot)
   slice_of a s = (view a s).0
 
@@ -182,7 +190,6 @@ module _ (T : RattleType) (N : Arity) (ν : Sym) (τs : Tys) (R : NamedLft → R
         let mid : List Y.Denot = slice_range xs start end in
         let rest : List Y.Denot = drop end xs in
         let from : ℕ = at h.ref_ptr.1 (mem Y).size (length front) in
-        let low : Val = vstruct (vcons (slice_val h.ref_ptr (length xs)) (others v s)) in
         let τ : Ty = spelled T N ν τs in
         let y : (walk_of 𝓛 En hs con).Ghost = ((κs, qs, bounds, a, (mut_vals a.0, (uint_vals w64 start, (uint_vals w64 end, tt)))), gh) in
         let Post : Val → SProp 𝓤 = (walk_of 𝓛 En hs con).post y in
@@ -194,8 +201,9 @@ module _ (T : RattleType) (N : Arity) (ν : Sym) (τs : Tys) (R : NamedLft → R
         split ! $ split ! $ move ! (2 ∷ []) $ fsplit ! $ fsplit3 ! $ keep ! (1 ∷ 2 ∷ 4 ∷ 5 ∷ []) $
         enter ! 𝓣.C 𝓣.Λ fn (mut_vals a.0 ++ (uint_vals w64 start ++ uint_vals w64 end)) Post $ alloc_all ! (λ l. pass_all ! refl ((tt, tt), ((tt, record { fits = are.1.0.1 }), ((tt, record { fits = are.1.1.0.1 }), tt))) $
         open_ref ! tt (mem G) {x = s} $ fpick ! (λ us. fsplit ! $ move ! (1 ∷ []) $ peeks ! G (Is G) (shows 𝓛 G) s us (λ is_it.
-        let word : us ≡ low ∷ [] = (told v s us is_it).0 in
-        let room : Room Y (length xs) = (told v s us is_it).1 in
+        let low : Val = vstruct (vcons (slice_val h.ref_ptr (length xs)) (begun v s us is_it).0.0) in
+        let word : us ≡ low ∷ [] = (begun v s us is_it).0.1 in
+        let room : Room Y (length xs) = (begun v s us is_it).1 in
         let size : ℕ = (mem Y).size in
         let far : start * size < 2 ^ 64 = omega (arith, times_below start (length xs) size (2 ^ 63) (omega arith) room.1) in
         let fitting : Room Y (length mid) = (omega (arith, count xs start end order bound, room.0), times_below (length mid) (length xs) size (2 ^ 63) (omega (arith, count xs start end order bound)) room.1) in

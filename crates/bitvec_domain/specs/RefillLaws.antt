@@ -1,5 +1,5 @@
 -- A list of which a range was lent keeps the others.
-use Rattle.std.specs.Prelude.{◌≡◌, ℕ, ◌+◌, ◌-◌, ◌≤◌, List, ◌++◌, drop, length, slice_range, take, refl}
+use Rattle.std.specs.Prelude.{◌≡◌, ℕ, ◌-◌, ◌≤◌, List, ◌++◌, drop, length, slice_range, take, refl}
 use Rattle.std.specs.List.{refill, length_refill}
 use Rattle.std.proofs.Common.{arith, rules, sym, subst, ◌∙◌, length-drop, length-take}
 use Rattle.std.proofs.lemmas.List.{places, same_lists, take_at}

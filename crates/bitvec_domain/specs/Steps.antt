@@ -7,7 +7,3 @@ pub use denote.Ref.{NamedLft}
 pub use denote.Param.{layout, bounded, copied, param}
 pub use denote.Param.Laws.{copied_copy, copied_laws, copy_told, param_laws}
 pub use borrow.Struct.Apart.{part_apart}
-use Rattle.bitvec_domain.specs.Arity.{of_two}
-use Rattle.bitvec_domain.specs.Through.{tail}
-use Rattle.bitvec_domain.specs.Lender.{behind_ty, behind, lends_first}
-use Rattle.bitvec_domain.specs.PartLender.{lends_range}

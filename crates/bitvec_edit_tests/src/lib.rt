@@ -8,6 +8,10 @@ mod copies;
 mod digits;
 #[cfg(test)]
 mod edits;
+#[cfg(test)]
+mod growing;
+#[cfg(test)]
+mod growth_refused;
 pub mod limits;
 #[cfg(test)]
 mod number_laws;

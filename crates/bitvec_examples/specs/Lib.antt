@@ -1,2 +1,1 @@
 pub mod Scattered
-pub mod Slots

@@ -1,5 +1,6 @@
-//! What a caller knows of a bit that is lent.
-ghost use Rattle.std.specs.Prelude.{◌≡◌, ◌<◌, ◌↔◌, IfSome, IsSome, false, slice_index_or};
+//! What a caller knows of a bit that is lent, and of two parts of a view that are written at once.
+ghost use Rattle.std.specs.Prelude.{◌≡◌, ◌<◌, ◌≤◌, ◌↔◌, IfSome, IsSome, IsTrue, false, slice_index_or};
+ghost use Rattle.bitvec.specs.ApartAt.{ComesApart};
 ghost use Rattle.bitvec.specs.Views.{seen_mut};
 
 use bitvec::prelude::*;
@@ -15,5 +16,24 @@ pub fn bit_at<T: BitStore, O: BitOrder>(
     match view.get_mut(index) {
         Some(bit) => Some(*bit),
         None => None,
+    }
+}
+
+/// Fills the bits before `mid` and flips those from it on, if they share no element, and says
+/// whether it did.
+pub fn fill_and_flip<T: BitStore, O: SliceOrder>(
+    view: &mut BitSliceMut<'_, T, O>,
+    mid: usize,
+) -> bool
+    requires { mid ≤ (seen_mut view.old).window.len }
+    ensures { IsTrue result ↔ ComesApart T.BITS (seen_mut view.old).window mid }
+{
+    match view.split_apart_mut(mid) {
+        Some((mut front, mut rest)) => {
+            front.fill(true);
+            rest.invert();
+            true
+        }
+        None => false,
     }
 }

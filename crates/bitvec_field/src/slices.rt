@@ -12,6 +12,7 @@ use bitvec_store::BitStore;
 
 /// The integer of a window's bits, the first segment lowest. Condition: the memory has at most
 /// `MAX_BITS` bits, the window lies in it, and has from 1 to `I::BITS` bits.
+#[inline(always)]
 pub fn load_le_in<T: BitStore, O: FieldOrder, I: Integral>(elements: &[T], window: Window) -> I
     requires window { HasWindow T.BITS (map T.value elements.now) window }
     requires some { 0 < window.len }
@@ -25,6 +26,7 @@ pub fn load_le_in<T: BitStore, O: FieldOrder, I: Integral>(elements: &[T], windo
 }
 
 /// The integer of a window's bits, the first segment highest. Condition: as for [`load_le_in`].
+#[inline(always)]
 pub fn load_be_in<T: BitStore, O: FieldOrder, I: Integral>(elements: &[T], window: Window) -> I
     requires window { HasWindow T.BITS (map T.value elements.now) window }
     requires some { 0 < window.len }

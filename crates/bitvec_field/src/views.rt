@@ -15,10 +15,12 @@ impl<'a, T: BitStore, O: FieldOrder> BitField for BitSlice<'a, T, O> {
 
     ghost be = { λ view. number_be O.HIGH T.BITS (seen view) };
 
+    #[inline(always)]
     fn load_le<I: Integral>(&self) -> I {
         load_le_in::<T, O, I>(self.elements(), self.window())
     }
 
+    #[inline(always)]
     fn load_be<I: Integral>(&self) -> I {
         load_be_in::<T, O, I>(self.elements(), self.window())
     }
@@ -31,10 +33,12 @@ impl<'a, T: BitStore, O: FieldOrder> BitField for BitSliceMut<'a, T, O> {
 
     ghost be = { λ view. number_be O.HIGH T.BITS (seen_mut view) };
 
+    #[inline(always)]
     fn load_le<I: Integral>(&self) -> I {
         self.as_ref().load_le::<I>()
     }
 
+    #[inline(always)]
     fn load_be<I: Integral>(&self) -> I {
         self.as_ref().load_be::<I>()
     }

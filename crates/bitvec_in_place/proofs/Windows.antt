@@ -4,6 +4,7 @@ use Rattle.std.specs.List.{swap}
 use Rattle.std.proofs.Common.{arith, sym, ◌∙◌, ap}
 use Rattle.std.proofs.lemmas.List.{length-set}
 use Rattle.std.proofs.lemmas.List.Edits.{length-swap}
+use Rattle.bitvec_base.specs.LengthLaws as lasting
 use Rattle.bitvec_within.specs.Combined.{combined_within}
 use Rattle.bitvec_within.specs.CombinedLaws.{length-combined_within}
 use Rattle.bitvec_base.specs.Lists.{combined, copied_within}
@@ -16,7 +17,7 @@ use Rattle.bitvec_base.specs.WriteLaws.{length-slice_range, range-write_at, writ
 use Rattle.bitvec_base.specs.declared.window.Window.{Window}
 use Rattle.bitvec_segments.specs.Segments.{loaded, stored}
 use Rattle.bitvec_within.specs.Swaps.{swapped_within}
-use Rattle.bitvec_in_place.specs.MovedLaws.{get-put_outside, length-bits_of, length-copied, length-put, length-swapped}
+use Rattle.bitvec_in_place.specs.MovedLaws.{get-put_outside, length-bits_of, length-put, length-swapped}
 use Rattle.bitvec_in_place.specs.RangeBitsLaws.{length-bits_in}
 use Rattle.bitvec_in_place.specs.Ranges.{ChangesOnly, bits_in, edited, flipped, joined, number_in, numbered}
 use Rattle.bitvec_in_place.specs.RangesLaws.{filled-write}
@@ -68,7 +69,7 @@ module _ (bits : List Bool) (n : ℕ) (all : n ≡ length bits) where
   whole-swap i j = ap (λ (list : List Bool). write_at bits 0 (swap list i j)) window_all ∙ write_at-all bits (swap bits i j) (length-swap bits i j)
 
   pub whole-copy : (from to dest : ℕ) → to ≤ n → dest + (to - from) ≤ n → write_at bits 0 (copied_within from to dest (window_of bits (record { start = 0; len = n }))) ≡ copied_within from to dest bits
-  whole-copy from to dest source room = ap (λ (list : List Bool). write_at bits 0 (copied_within from to dest list)) window_all ∙ write_at-all bits (copied_within from to dest bits) (length-copied from to dest bits (omega arith) (omega arith))
+  whole-copy from to dest source room = ap (λ (list : List Bool). write_at bits 0 (copied_within from to dest list)) window_all ∙ write_at-all bits (copied_within from to dest bits) (lasting.length-copied_within from to dest bits (omega arith) (omega arith))
 
   pub whole-exchange : (from to dest : ℕ) → from ≤ to → to ≤ n → dest + (to - from) ≤ n → write_at bits 0 (swapped_within from to dest (window_of bits (record { start = 0; len = n }))) ≡ swapped_within from to dest bits
   whole-exchange from to dest order source room = ap (λ (list : List Bool). write_at bits 0 (swapped_within from to dest list)) window_all ∙ write_at-all bits (swapped_within from to dest bits) (length-swapped from to dest bits order (omega arith) (omega arith))

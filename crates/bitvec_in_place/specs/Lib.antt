@@ -1,3 +1,7 @@
+pub mod Cursors
+pub mod FrontLaws
+pub mod Fronts
+pub mod Inserted
 pub mod Laws
 pub mod MovedLaws
 pub mod NumberPartsLaws

@@ -20,26 +20,6 @@ use Rattle.bitvec_within.specs.Swaps.{LieApart, swapped_within}
 pub length-bits_of : {T : Type 0} (b : ℕ) (at : ℕ → ℕ → ℕ) (value : T → ℕ) (elements : List T) → length (memory_bits b at (map value elements)) ≡ b * length elements
 length-bits_of b at value elements = length-memory_bits b at (map value elements) ∙ ap (λ (n : ℕ). b * n) (length-map elements value)
 
-pub length-rotation_left : {X : Type 0} (by : ℕ) (list : List X) → length (rotated_left by list) ≡ length list
-unfolding rotated_left
-length-rotation_left by list = omega (arith, length-append (drop by list) (take by list), length-take by list, length-drop by list)
-
-pub length-rotation_right : {X : Type 0} (by : ℕ) (list : List X) → length (rotated_right by list) ≡ length list
-unfolding rotated_right rotated_left
-length-rotation_right by list = length-rotation_left (length list - by) list
-
-pub length-shift_start : (by : ℕ) (list : List Bool) → by ≤ length list → length (shifted_start by list) ≡ length list
-unfolding shifted_start
-length-shift_start by list fits = omega (arith, length-append (drop by list) (replicate by false), length-drop by list, length-replicate by false)
-
-pub length-shift_end : (by : ℕ) (list : List Bool) → by ≤ length list → length (shifted_end by list) ≡ length list
-unfolding shifted_end
-length-shift_end by list fits =
-    let kept = length list - by in
-    omega (arith, length-append (replicate by false) (take kept list), length-take kept list, length-replicate by false)
-
--- ---- a list as long as a range, written there
-
 module _ {X : Type 0} (list : List X) (from to : ℕ) (new : List X) (order : from ≤ to) (inside : to ≤ length list) (long : length new ≡ to - from) where
   pub length-put : length (write_at list from new) ≡ length list
   length-put = length-write_at list from new (omega arith)
@@ -94,10 +74,6 @@ get-shifted_end_kept by list k d late inside = grind (arith, places)
 
 -- copied
 module _ {X : Type 0} (from to dest : ℕ) (list : List X) where
-  pub length-copied : to ≤ length list → dest + (to - from) ≤ length list → length (copied_within from to dest list) ≡ length list
-  unfolding copied_within
-  length-copied source room = let long = length-slice_range list from to source in length-write_at list dest (slice_range list from to) (omega arith)
-
   pub get-copied_inside : (k : ℕ) (d : X) → to ≤ length list → dest + (to - from) ≤ length list → dest ≤ k → k < dest + (to - from) → slice_index_or (copied_within from to dest list) k d ≡ slice_index_or list (from + (k - dest)) d
   unfolding copied_within
   get-copied_inside k d source room low high =

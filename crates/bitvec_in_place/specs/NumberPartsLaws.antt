@@ -4,6 +4,7 @@ use Rattle.std.proofs.Common.{arith, sym, ◌∙◌, ap, ⊎_elim, inl, inr}
 use Rattle.std.proofs.Math.Nat.{div-div-eq-div-mul, mod-add-mod}
 use Rattle.std.proofs.lemmas.List.{drop-replicate, length-replicate, same_lists, take-replicate}
 use Rattle.std.proofs.lemmas.Nat.{mod_below, pow-add, pow_pos}
+use Rattle.bitvec_base.specs.LengthLaws as lasting
 use Rattle.bitvec_base.specs.Lists.{copied_within}
 use Rattle.bitvec_base.specs.MemoryLaws.{get-element_bits, length-element_bits}
 use Rattle.bitvec_base.specs.WriteLaws.{length-slice_range}
@@ -15,7 +16,7 @@ use Rattle.bitvec_segments.specs.SegmentsLaws.{first_len}
 use Rattle.bitvec_segments.specs.StoreLaws.{length-stored, stored-loads}
 use Rattle.bitvec_within.specs.Combined.{combined_within}
 use Rattle.bitvec_within.specs.Swaps.{LieApart, swapped_within}
-use Rattle.bitvec_in_place.specs.MovedLaws.{get-copied_inside, get-put_inside, get-swapped_back, get-swapped_front, length-copied, length-swapped}
+use Rattle.bitvec_in_place.specs.MovedLaws.{get-copied_inside, get-put_inside, get-swapped_back, get-swapped_front, length-swapped}
 use Rattle.bitvec_in_place.specs.Ranges.{bits_in, filled, number_in, numbered}
 use Rattle.bitvec_in_place.specs.RangeBitsLaws.{bits-combined, bits-in_filled, bits-swapped, get-bits_in, length-bits_in}
 use Rattle.bitvec_in_place.specs.RangesLaws.{length-numbered}
@@ -39,7 +40,7 @@ number-joined_is big high b list a e some within joins =
     loaded-joined big high b a (slice_range list a e) some (rw long joins)
 
 -- and a store leaves the bits of one
-stored-joined : (big high : Bool) (b s v : ℕ) (list : List Bool) → 0 < b → (big ≡ high) ⊎ (s % b + length list ≤ b) → stored big high b s v list ≡ segment_bits high (length list) v
+pub stored-joined : (big high : Bool) (b s v : ℕ) (list : List Bool) → 0 < b → (big ≡ high) ⊎ (s % b + length list ≤ b) → stored big high b s v list ≡ segment_bits high (length list) v
 stored-joined big high b s v list some joins =
     let new : List Bool = stored big high b s v list in
     let long : length new ≡ length list = length-stored big high b s v list in
@@ -234,7 +235,7 @@ module _ (big high : Bool) (b from to dest : ℕ) (list : List Bool) (a e : ℕ)
   -- with `copied_within` and `swapped_within` to `dest`, and with the latter from there
   pub number-copied_to : dest ≤ a → e ≤ dest + (to - from) → (big ≡ high) ⊎ (from % b ≡ dest % b) → number_in big high b (copied_within from to dest list) a e ≡ number_in big high b list (from + (a - dest)) (from + (e - dest))
   number-copied_to low high_end whole =
-      number-moved big high b list (copied_within from to dest list) a e from dest some order low (length-copied from to dest list inside room) (omega arith) (omega arith) whole
+      number-moved big high b list (copied_within from to dest list) a e from dest some order low (lasting.length-copied_within from to dest list inside room) (omega arith) (omega arith) whole
       (λ k d above below. get-copied_inside from to dest list k d inside room (omega arith) (omega arith))
 
   pub number-swapped_to : dest ≤ a → e ≤ dest + (to - from) → (big ≡ high) ⊎ (from % b ≡ dest % b) → number_in big high b (swapped_within from to dest list) a e ≡ number_in big high b list (from + (a - dest)) (from + (e - dest))

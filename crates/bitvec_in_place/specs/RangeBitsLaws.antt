@@ -1,9 +1,10 @@
 -- The bits of a range: how many there are, each of them, beside an edit, and in a range that was filled.
-use Rattle.std.specs.Prelude.{◌≡◌, ◌≢◌, ℕ, ◌+◌, ◌-◌, ◌<◌, ◌≤◌, ◌⊎◌, Bool, true, false, not, None, Some, List, count_by, length, reverse, replicate, slice_index_or, slice_range, slice_set}
+use Rattle.std.specs.Prelude.{◌≡◌, ◌≢◌, ℕ, ◌+◌, ◌-◌, ◌<◌, ◌≤◌, ◌⊎◌, Bool, true, false, not, None, Some, List, count_by, length, reverse, replicate, slice_index_or, slice_set}
 use Rattle.std.specs.List.{list_all, list_any, swap}
 use Rattle.std.proofs.Common.{arith, sym, ◌∙◌, ap, ⊎_elim, inl, inr}
 use Rattle.std.proofs.lemmas.List.{get_or-replicate, get_or-set_other, length-replicate, length-set, same_lists}
 use Rattle.std.proofs.lemmas.List.Edits.{length-swap}
+use Rattle.bitvec_base.specs.LengthLaws as lasting
 use Rattle.bitvec_base.specs.CountedLaws.{ones-all, ones-none, zeros-all, zeros-none}
 use Rattle.bitvec_base.specs.FilledLaws.{all-filled, any-filled, first-filled, first-of_filled, last-filled}
 use Rattle.bitvec_base.specs.Lists.{copied_within, first_place, last_place, rotated_left, rotated_right, shifted_end, shifted_start}
@@ -12,7 +13,7 @@ use Rattle.bitvec_base.specs.WriteLaws.{get-slice_range, length-slice_range, ran
 use Rattle.bitvec_within.specs.Combined.{combined_within}
 use Rattle.bitvec_within.specs.CombinedLaws.{get-combined_within_above, get-combined_within_below, length-combined_within}
 use Rattle.bitvec_within.specs.Swaps.{swapped_within}
-use Rattle.bitvec_in_place.specs.MovedLaws.{get-copied_outside, get-swap_other, get-swapped_outside, length-copied, length-swapped}
+use Rattle.bitvec_in_place.specs.MovedLaws.{get-copied_outside, get-swap_other, get-swapped_outside, length-swapped}
 use Rattle.bitvec_in_place.specs.Ranges.{bits_in, edited, filled, flipped, joined, numbered}
 use Rattle.bitvec_in_place.specs.RangesLaws.{get-filled_inside, get-filled_outside, get-flipped_outside, get-joined_outside, get-moved_end_outside, get-moved_start_outside, get-numbered_outside, get-reversed_outside, get-rotated_left_outside, get-rotated_right_outside, length-filled, length-flipped, length-joined, length-moved_end, length-moved_start, length-numbered, length-reversed, length-rotated_left, length-rotated_right}
 
@@ -108,7 +109,7 @@ module _ (list : List Bool) (from to : ℕ) (a e : ℕ) where
 
   pub bits-copied : (dest : ℕ) → to ≤ length list → dest + (to - from) ≤ length list → e ≤ length list → (e ≤ dest) ⊎ (dest + (to - from) ≤ a) → bits_in (copied_within from to dest list) a e ≡ bits_in list a e
   bits-copied dest source room within apart =
-      bits-same list (copied_within from to dest list) a e (length-copied from to dest list source room) within
+      bits-same list (copied_within from to dest list) a e (lasting.length-copied_within from to dest list source room) within
       (λ k d low high. get-copied_outside from to dest list k d source room (beside dest (dest + (to - from)) a e k apart low high))
 
   pub bits-swapped : (dest : ℕ) → from ≤ to → to ≤ length list → dest + (to - from) ≤ length list → e ≤ length list → (e ≤ from) ⊎ (to ≤ a) → (e ≤ dest) ⊎ (dest + (to - from) ≤ a) → bits_in (swapped_within from to dest list) a e ≡ bits_in list a e

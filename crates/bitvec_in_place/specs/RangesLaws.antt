@@ -2,13 +2,14 @@
 use Rattle.std.specs.Prelude.{◌≡◌, ℕ, ◌+◌, ◌-◌, ◌<◌, ◌≤◌, ◌⊎◌, Bool, false, not, List, length, map, replicate, reverse, slice_index_or, slice_range, refl}
 use Rattle.std.proofs.Common.{arith, ◌∙◌, ap, ⊎_elim}
 use Rattle.std.proofs.lemmas.List.{get_or-replicate, get_or-reverse, length-map, length-replicate, length-reverse}
+use Rattle.bitvec_base.specs.LengthLaws as lasting
 use Rattle.bitvec_base.specs.Lists.{combined, rotated_left, rotated_right, shifted_end, shifted_start}
 use Rattle.bitvec_base.specs.ListsLaws.{get-combined, length-combined}
 use Rattle.bitvec_base.specs.Window.{write_at}
 use Rattle.bitvec_base.specs.WriteLaws.{get-slice_range, length-slice_range, range-write_at_after, range-write_at_before}
 use Rattle.bitvec_segments.specs.Segments.{loaded, stored}
 use Rattle.bitvec_segments.specs.StoreLaws.{length-stored}
-use Rattle.bitvec_in_place.specs.MovedLaws.{get-flip, get-put_inside, get-put_outside, get-rotated_left_early, get-rotated_left_late, get-rotated_right_early, get-rotated_right_late, get-shifted_end_kept, get-shifted_end_zero, get-shifted_start_kept, get-shifted_start_zero, length-put, length-rotation_left, length-rotation_right, length-shift_end, length-shift_start}
+use Rattle.bitvec_in_place.specs.MovedLaws.{get-flip, get-put_inside, get-put_outside, get-rotated_left_early, get-rotated_left_late, get-rotated_right_early, get-rotated_right_late, get-shifted_end_kept, get-shifted_end_zero, get-shifted_start_kept, get-shifted_start_zero, length-put}
 use Rattle.bitvec_in_place.specs.Ranges.{edited, filled, flipped, joined, number_in, numbered}
 
 -- ---- a list as long as a range, written there
@@ -118,7 +119,7 @@ module _ (list : List Bool) (from to : ℕ) where
 
 module _ (by : ℕ) (list : List Bool) (from to : ℕ) where
   long-rotated_left : to ≤ length list → length (rotated_left by (slice_range list from to)) ≡ to - from
-  long-rotated_left inside = let long = length-slice_range list from to inside in length-rotation_left by (slice_range list from to) ∙ long
+  long-rotated_left inside = let long = length-slice_range list from to inside in lasting.length-rotated_left by (slice_range list from to) ∙ long
 
   pub length-rotated_left : from ≤ to → to ≤ length list → length (edited (rotated_left by) list from to) ≡ length list
   length-rotated_left order inside = length-edited (rotated_left by) list from to order inside (long-rotated_left inside)
@@ -147,7 +148,7 @@ module _ (by : ℕ) (list : List Bool) (from to : ℕ) where
 
 module _ (by : ℕ) (list : List Bool) (from to : ℕ) where
   long-rotated_right : to ≤ length list → length (rotated_right by (slice_range list from to)) ≡ to - from
-  long-rotated_right inside = let long = length-slice_range list from to inside in length-rotation_right by (slice_range list from to) ∙ long
+  long-rotated_right inside = let long = length-slice_range list from to inside in lasting.length-rotated_right by (slice_range list from to) ∙ long
 
   pub length-rotated_right : from ≤ to → to ≤ length list → length (edited (rotated_right by) list from to) ≡ length list
   length-rotated_right order inside = length-edited (rotated_right by) list from to order inside (long-rotated_right inside)
@@ -176,7 +177,7 @@ module _ (by : ℕ) (list : List Bool) (from to : ℕ) where
 
 module _ (by : ℕ) (list : List Bool) (from to : ℕ) where
   long-moved_start : to ≤ length list → by ≤ to - from → length (shifted_start by (slice_range list from to)) ≡ to - from
-  long-moved_start inside fits = let long = length-slice_range list from to inside in length-shift_start by (slice_range list from to) (omega arith) ∙ long
+  long-moved_start inside fits = let long = length-slice_range list from to inside in lasting.length-shifted_start by (slice_range list from to) (omega arith) ∙ long
 
   pub length-moved_start : from ≤ to → to ≤ length list → by ≤ to - from → length (edited (shifted_start by) list from to) ≡ length list
   length-moved_start order inside fits = length-edited (shifted_start by) list from to order inside (long-moved_start inside fits)
@@ -204,7 +205,7 @@ module _ (by : ℕ) (list : List Bool) (from to : ℕ) where
 
 module _ (by : ℕ) (list : List Bool) (from to : ℕ) where
   long-moved_end : to ≤ length list → by ≤ to - from → length (shifted_end by (slice_range list from to)) ≡ to - from
-  long-moved_end inside fits = let long = length-slice_range list from to inside in length-shift_end by (slice_range list from to) (omega arith) ∙ long
+  long-moved_end inside fits = let long = length-slice_range list from to inside in lasting.length-shifted_end by (slice_range list from to) (omega arith) ∙ long
 
   pub length-moved_end : from ≤ to → to ≤ length list → by ≤ to - from → length (edited (shifted_end by) list from to) ≡ length list
   length-moved_end order inside fits = length-edited (shifted_end by) list from to order inside (long-moved_end inside fits)

@@ -71,3 +71,40 @@ pub fn store_be<T: BitStore, O: FieldOrder, I: Integral>(
 {
     store_be_in::<T, O, I>(elements, span(range), value);
 }
+
+/// The integer of a range's bits, the first of them lowest under an order that begins with the lowest bit, else highest.
+/// Condition: as for [`load_le`].
+pub(crate) fn load_plain<T: BitStore, O: FieldOrder, I: Integral>(
+    elements: &[T],
+    range: Range<usize>,
+) -> I
+    requires range { HasBits T.BITS (length elements.now) range.start range.end }
+    requires some { range.start < range.end }
+    requires bound { range.end ≤ range.start + I.BITS }
+    ensures { I.value result ≡ integer_of I.SIGNED (range.end - range.start)
+        (number_in O.HIGH O.HIGH T.BITS (memory_bits T.BITS O.at (map T.value elements.now)) range.start range.end) }
+{
+    if O::HIGH {
+        load_be::<T, O, I>(elements, range)
+    } else {
+        load_le::<T, O, I>(elements, range)
+    }
+}
+
+/// Stores an integer in a range, the first bit as [`load_plain`] takes it. Condition: as for [`store_le`].
+pub(crate) fn store_plain<T: BitStore, O: FieldOrder, I: Integral>(
+    elements: &mut [T],
+    range: Range<usize>,
+    value: I,
+)
+    requires range { HasBits T.BITS (length elements.old) range.start range.end }
+    requires bound { range.end ≤ range.start + I.BITS }
+    ensures bits { memory_bits T.BITS O.at (map T.value elements.new) ≡ numbered O.HIGH O.HIGH T.BITS (memory_bits T.BITS O.at (map T.value elements.old)) range.start range.end (remainder_of I.BITS (I.value value)) }
+    ensures len { length elements.new ≡ length elements.old }
+{
+    if O::HIGH {
+        store_be::<T, O, I>(elements, range, value);
+    } else {
+        store_le::<T, O, I>(elements, range, value);
+    }
+}

@@ -1,6 +1,6 @@
 -- A walk is what its fields that aren't facts are.
 use Rattle.std.specs.Prelude.{◌≡◌, ℕ, ◌+◌, ◌*◌, ◌≤◌, Bool, List, length}
-use Rattle.std.proofs.Common.{◌∙◌, ap}
+use Rattle.std.proofs.Common.{◌∙◌, ap, subst}
 use Rattle.std.proofs.Math.Bridge.{le_prop}
 use Rattle.bitvec_store.specs.declared.store.BitStore.{Ghosts as Store}
 use Rattle.bitvec_base.specs.declared.order.BitOrder.{Ghosts as Order}
@@ -14,7 +14,7 @@ module _ {T O C : Type 0} {t : Store T} {o : Order O} {c : Cuts C} (p : PiecesMu
   abbrev pub at : p.head + p.len ≤ t.BITS * length p.elements.now → t.BITS * length p.elements.now ≤ max_bits → back ≤ c.pieces p.cutting p.len → PiecesMut T O C t o c
   at inside bounded numbered = record p { front = front; back = back; taken = taken; inside = inside; bounded = bounded; numbered = numbered }
 
-  same-walk : (inside inside' : p.head + p.len ≤ t.BITS * length p.elements.now) (bounded bounded' : t.BITS * length p.elements.now ≤ max_bits) (numbered numbered' : back ≤ c.pieces p.cutting p.len)
+  pub same-walk : (inside inside' : p.head + p.len ≤ t.BITS * length p.elements.now) (bounded bounded' : t.BITS * length p.elements.now ≤ max_bits) (numbered numbered' : back ≤ c.pieces p.cutting p.len)
       → at inside bounded numbered ≡ at inside' bounded' numbered'
   same-walk inside inside' bounded bounded' numbered numbered' =
       ap (λ i. at i bounded numbered) (le_prop inside inside') ∙ ap (λ b. at inside' b numbered) (le_prop bounded bounded') ∙ ap (λ n. at inside' bounded' n) (le_prop numbered numbered')
@@ -22,3 +22,10 @@ module _ {T O C : Type 0} {t : Store T} {o : Order O} {c : Cuts C} (p : PiecesMu
   pub same-with : (inside inside' : p.head + p.len ≤ t.BITS * length p.elements.now) (bounded bounded' : t.BITS * length p.elements.now ≤ max_bits) (numbered numbered' : back ≤ c.pieces p.cutting p.len) (xs : List T)
       → with_elements (at inside bounded numbered) xs ≡ with_elements (at inside' bounded' numbered') xs
   same-with inside inside' bounded bounded' numbered numbered' xs = ap (λ q. with_elements q xs) (same-walk inside inside' bounded bounded' numbered numbered')
+
+module _ {T O C : Type 0} {t : Store T} {o : Order O} {c : Cuts C} (p : PiecesMut T O C t o c) {front front' back back' : ℕ} (taken : Bool) where
+  pub same-at : front ≡ front' → back ≡ back' → (inside inside' : p.head + p.len ≤ t.BITS * length p.elements.now) (bounded bounded' : t.BITS * length p.elements.now ≤ max_bits) (numbered : back ≤ c.pieces p.cutting p.len) (numbered' : back' ≤ c.pieces p.cutting p.len)
+      → at p front back taken inside bounded numbered ≡ at p front' back' taken inside' bounded' numbered'
+  same-at first last inside inside' bounded bounded' numbered numbered' =
+      subst (λ (b : ℕ). (n : b ≤ c.pieces p.cutting p.len) → at p front back taken inside bounded numbered ≡ at p front' b taken inside' bounded' n) last
+      (λ n. same-walk p front back taken inside inside' bounded bounded' numbered n ∙ ap (λ (f : ℕ). at p f back taken inside' bounded' n) first) numbered'

@@ -1,3 +1,4 @@
 pub mod LeftLaws
 pub mod LentPiecesLaws
 pub mod PartLaws
+pub mod PassedLaws

@@ -35,16 +35,40 @@ module _ {T O : Type 0} {t : Store T} {o : Order O} where
   abbrev pub passed_back : IterMut T O t o → ℕ → IterMut T O t o
   passed_back i count = record i { back = i.back - min count (i.back - i.front); numbered = omega (arith, i.numbered) }
 
+  -- what a walk ends as, of which the first bit that is left was lent, if one is: without it, and with ws in the element that it touches
+  abbrev pub ends_next : IterMut T O t o → List T → IterMut T O t o
+  ends_next from ws =
+      let start = first_touched t.BITS (from.head + from.front) in
+      let end = end_touched t.BITS (from.head + (from.front + 1)) in
+      if nat_lt from.front from.back then with_elements (without_first from) (with_range from.elements.now start end ws) else with_elements from from.elements.now
+
+  -- and the last
+  abbrev pub ends_next_back : IterMut T O t o → List T → IterMut T O t o
+  ends_next_back from ws =
+      let start = first_touched t.BITS (from.head + (from.back - 1)) in
+      let end = end_touched t.BITS (from.head + (from.back - 1 + 1)) in
+      if nat_lt from.front from.back then with_elements (without_last from) (with_range from.elements.now start end ws) else with_elements from from.elements.now
+
   -- a walk is what its fields that aren't facts are
   module _ (i : IterMut T O t o) (front back : ℕ) where
     abbrev pub at : i.head + i.len ≤ t.BITS * length i.elements.now → t.BITS * length i.elements.now ≤ max_bits → back ≤ i.len → IterMut T O t o
     at inside bounded numbered = record i { front = front; back = back; inside = inside; bounded = bounded; numbered = numbered }
 
+    pub same-walk : (inside inside' : i.head + i.len ≤ t.BITS * length i.elements.now) (bounded bounded' : t.BITS * length i.elements.now ≤ max_bits) (numbered numbered' : back ≤ i.len)
+        → at inside bounded numbered ≡ at inside' bounded' numbered'
+    same-walk inside inside' bounded bounded' numbered numbered' =
+        ap (λ f. at f bounded numbered) (le_prop inside inside') ∙ ap (λ f. at inside' f numbered) (le_prop bounded bounded') ∙ ap (λ f. at inside' bounded' f) (le_prop numbered numbered')
+
     pub same-with : (inside inside' : i.head + i.len ≤ t.BITS * length i.elements.now) (bounded bounded' : t.BITS * length i.elements.now ≤ max_bits) (numbered numbered' : back ≤ i.len) (xs : List T)
         → with_elements (at inside bounded numbered) xs ≡ with_elements (at inside' bounded' numbered') xs
-    same-with inside inside' bounded bounded' numbered numbered' xs =
-        ap (λ q. with_elements q xs)
-        (ap (λ f. at f bounded numbered) (le_prop inside inside') ∙ ap (λ f. at inside' f numbered) (le_prop bounded bounded') ∙ ap (λ f. at inside' bounded' f) (le_prop numbered numbered'))
+    same-with inside inside' bounded bounded' numbered numbered' xs = ap (λ q. with_elements q xs) (same-walk inside inside' bounded bounded' numbered numbered')
+
+  module _ (i : IterMut T O t o) {front front' back back' : ℕ} where
+    pub same-at : front ≡ front' → back ≡ back' → (inside inside' : i.head + i.len ≤ t.BITS * length i.elements.now) (bounded bounded' : t.BITS * length i.elements.now ≤ max_bits) (numbered : back ≤ i.len) (numbered' : back' ≤ i.len)
+        → at i front back inside bounded numbered ≡ at i front' back' inside' bounded' numbered'
+    same-at first last inside inside' bounded bounded' numbered numbered' =
+        subst (λ (b : ℕ). (n : b ≤ i.len) → at i front back inside bounded numbered ≡ at i front' b inside' bounded' n) last
+        (λ n. same-walk i front back inside inside' bounded bounded' numbered n ∙ ap (λ (f : ℕ). at i f back inside' bounded' n) first) numbered'
 
 module _ (T O : RattleType) {t : Store T.Denot} {o : Order O.Denot} where
   -- the elements from `start` up to `end` were lent under this name, and the walk ends with what is left there and its other elements, and besides as `next` says
@@ -67,16 +91,8 @@ module _ (T O : RattleType) {t : Store T.Denot} {o : Order O.Denot} where
 
   -- that of the first bit that is left of the walk `from`, if one is, was lent, and the walk ends without it; else none, and it ends as `from`
   abbrev pub lends_next : MutBor (IterMut T.Denot O.Denot t o) → IterMut T.Denot O.Denot t o → GName → Fml
-  lends_next i from name =
-      let start = first_touched t.BITS (from.head + from.front) in
-      let end = end_touched t.BITS (from.head + (from.front + 1)) in
-      follows (the_row of_lender T O t o) (Array T 0) i.ghost_name name (λ ws. if nat_lt from.front from.back
-      then with_elements (without_first from) (with_range from.elements.now start end ws) else with_elements from from.elements.now)
+  lends_next i from name = follows (the_row of_lender T O t o) (Array T 0) i.ghost_name name (ends_next from)
 
   -- so was that of the last
   abbrev pub lends_next_back : MutBor (IterMut T.Denot O.Denot t o) → IterMut T.Denot O.Denot t o → GName → Fml
-  lends_next_back i from name =
-      let start = first_touched t.BITS (from.head + (from.back - 1)) in
-      let end = end_touched t.BITS (from.head + (from.back - 1 + 1)) in
-      follows (the_row of_lender T O t o) (Array T 0) i.ghost_name name (λ ws. if nat_lt from.front from.back
-      then with_elements (without_last from) (with_range from.elements.now start end ws) else with_elements from from.elements.now)
+  lends_next_back i from name = follows (the_row of_lender T O t o) (Array T 0) i.ghost_name name (ends_next_back from)

@@ -42,6 +42,22 @@ module _ {T O C : Type 0} {t : Store T} {o : Order O} {c : Cuts C} where
   abbrev pub without_rest : PiecesMut T O C t o c → PiecesMut T O C t o c
   without_rest p = record p { taken = true }
 
+  -- what a walk ends as, of which the first piece that is left was lent, if one is: without it, and with ws in the elements that it touches
+  abbrev pub ends_next : (C → ℕ → ℕ → Range ℕ) → PiecesMut T O C t o c → List T → PiecesMut T O C t o c
+  ends_next place from ws =
+      let range = place from.cutting from.len from.front in
+      let start = first_touched t.BITS (from.head + range.start) in
+      let end = end_touched t.BITS (from.head + range.end) in
+      if nat_lt from.front from.back then with_elements (without_first from) (with_range from.elements.now start end ws) else with_elements from from.elements.now
+
+  -- and the last
+  abbrev pub ends_next_back : (C → ℕ → ℕ → Range ℕ) → PiecesMut T O C t o c → List T → PiecesMut T O C t o c
+  ends_next_back place from ws =
+      let range = place from.cutting from.len (from.back - 1) in
+      let start = first_touched t.BITS (from.head + range.start) in
+      let end = end_touched t.BITS (from.head + range.end) in
+      if nat_lt from.front from.back then with_elements (without_last from) (with_range from.elements.now start end ws) else with_elements from from.elements.now
+
 -- the elements from `start` up to `end` were lent under this name, and the walk ends with what is left there and its other elements
 abbrev pub lends_part : (T O C : RattleType) {t : Store T.Denot} {o : Order O.Denot} {c : Cuts C.Denot} → MutBor (PiecesMut T.Denot O.Denot C.Denot t o c) → ℕ → ℕ → GName → Fml
 lends_part T O C {t} {o} {c} p start end name =
@@ -72,18 +88,8 @@ module _ (T O C : RattleType) {t : Store T.Denot} {o : Order O.Denot} {c : Cuts 
 
   -- the first piece that is left of the walk `from`, if one is, was lent, and the walk ends without it; else none of the elements, and it ends as `from`
   abbrev pub lends_next : (C.Denot → ℕ → ℕ → Range ℕ) → MutBor (PiecesMut T.Denot O.Denot C.Denot t o c) → PiecesMut T.Denot O.Denot C.Denot t o c → GName → Fml
-  lends_next place p from name =
-      let range = place from.cutting from.len from.front in
-      let start = first_touched t.BITS (from.head + range.start) in
-      let end = end_touched t.BITS (from.head + range.end) in
-      follows (the_row of_lender T O C t o c) (Array T 0) p.ghost_name name (λ ws. if nat_lt from.front from.back
-      then with_elements (without_first from) (with_range from.elements.now start end ws) else with_elements from from.elements.now)
+  lends_next place p from name = follows (the_row of_lender T O C t o c) (Array T 0) p.ghost_name name (ends_next place from)
 
   -- so was the last
   abbrev pub lends_next_back : (C.Denot → ℕ → ℕ → Range ℕ) → MutBor (PiecesMut T.Denot O.Denot C.Denot t o c) → PiecesMut T.Denot O.Denot C.Denot t o c → GName → Fml
-  lends_next_back place p from name =
-      let range = place from.cutting from.len (from.back - 1) in
-      let start = first_touched t.BITS (from.head + range.start) in
-      let end = end_touched t.BITS (from.head + range.end) in
-      follows (the_row of_lender T O C t o c) (Array T 0) p.ghost_name name (λ ws. if nat_lt from.front from.back
-      then with_elements (without_last from) (with_range from.elements.now start end ws) else with_elements from from.elements.now)
+  lends_next_back place p from name = follows (the_row of_lender T O C t o c) (Array T 0) p.ghost_name name (ends_next_back place from)

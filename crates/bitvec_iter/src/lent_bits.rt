@@ -33,7 +33,7 @@ impl<'a, T: BitStore, O: BitOrder> IterMut<'a, T, O> {
     ghost use Rattle.bitvec_slice.specs.Lending.{lends};
     ghost use Rattle.bitvec_slice.specs.Seen.{IsGiven, IsRangeOf, shown};
     ghost use Rattle.bitvec_slice.specs.Views.{name_of, seen, seen_mut};
-    ghost use Rattle.bitvec_iter.specs.BitsLending.{lends_bits, lends_first, lends_last, lends_part};
+    ghost use Rattle.bitvec_iter.specs.BitsLending.{lends_bits, lends_first, lends_last, lends_part, passed, passed_back};
     ghost use Rattle.bitvec_iter.specs.LentBits.{IsAllOf, WritesLeft, bit_walk_of, bits_in_place, bits_to_come, name_of_bits, past_back_bits, past_bits, start_of};
     ghost use Rattle.bitvec_domain.specs.Asked.{CallableOnBits, RefillsWith};
 
@@ -175,6 +175,7 @@ impl<'a, T: BitStore, O: BitOrder> IterMut<'a, T, O> {
     pub fn pass(&mut self, count: usize)
         ensures walk { bit_walk_of self.new ≡ past_bits (bit_walk_of self.old) count }
         ensures name { name_of_bits self.new ≡ name_of_bits self.old }
+        ensures whole { self.new ≡ passed self.old count }
     {
         self.front += count.min(self.len());
     }
@@ -183,52 +184,47 @@ impl<'a, T: BitStore, O: BitOrder> IterMut<'a, T, O> {
     pub fn pass_back(&mut self, count: usize)
         ensures walk { bit_walk_of self.new ≡ past_back_bits (bit_walk_of self.old) count }
         ensures name { name_of_bits self.new ≡ name_of_bits self.old }
+        ensures whole { self.new ≡ passed_back self.old count }
     {
         self.back -= count.min(self.len());
     }
 
     /// The first bit that is left: `None` exactly where none is.
+    #[tactic(auto, using(crate::proofs::PassedLaws::one_bit))]
     pub fn next_mut(&mut self) -> Option<BitRefMut<'_, T, O>>
         ensures { IsGiven ((bit_walk_of self.old).front < (bit_walk_of self.old).back)
             (WritesBitOf (bit_walk_of self.old).view (bit_walk_of self.old).front) result }
     {
-        if self.is_empty() {
-            None
-        } else {
-            Some(self.take_mut())
-        }
+        self.next_lent().bit()
     }
 
     /// The last bit that is left: `None` exactly where none is.
+    #[tactic(auto, using(crate::proofs::PassedLaws::one_bit))]
     pub fn next_back_mut(&mut self) -> Option<BitRefMut<'_, T, O>>
         ensures { IsGiven ((bit_walk_of self.old).front < (bit_walk_of self.old).back)
             (WritesBitOf (bit_walk_of self.old).view ((bit_walk_of self.old).back - 1)) result }
     {
-        if self.is_empty() {
-            None
-        } else {
-            Some(self.take_back_mut())
-        }
+        self.next_back_lent().bit()
     }
 
     /// The bit behind the first `skipped` that are left: `None` exactly where there are no more than
     /// `skipped`.
+    #[tactic(auto, using(crate::proofs::PassedLaws::one_bit))]
     pub fn nth_mut(&mut self, skipped: usize) -> Option<BitRefMut<'_, T, O>>
         ensures { IsGiven (skipped < (bit_walk_of self.old).back - (bit_walk_of self.old).front)
             (WritesBitOf (bit_walk_of self.old).view ((bit_walk_of self.old).front + skipped)) result }
     {
-        self.pass(skipped);
-        self.next_mut()
+        self.nth_lent(skipped).bit()
     }
 
     /// The bit before the last `skipped` that are left: `None` exactly where there are no more than
     /// `skipped`.
+    #[tactic(auto, using(crate::proofs::PassedLaws::one_bit))]
     pub fn nth_back_mut(&mut self, skipped: usize) -> Option<BitRefMut<'_, T, O>>
         ensures { IsGiven (skipped < (bit_walk_of self.old).back - (bit_walk_of self.old).front)
             (WritesBitOf (bit_walk_of self.old).view ((bit_walk_of self.old).back - 1 - skipped)) result }
     {
-        self.pass_back(skipped);
-        self.next_back_mut()
+        self.nth_back_lent(skipped).bit()
     }
 
     fn bit_mut(&mut self, index: usize) -> BitRefMut<'_, T, O>

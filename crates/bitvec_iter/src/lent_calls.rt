@@ -1,5 +1,5 @@
 //! The calls on writable views that lend pieces.
-ghost use Rattle.std.specs.Prelude.{◌≡◌, ◌-◌, ◌<◌, ◌≤◌};
+ghost use Rattle.std.specs.Prelude.{◌≡◌, ◌-◌, ◌<◌, ◌≤◌, min, nat_lt};
 ghost use Rattle.std.specs.Borrow.{Array, follows, sem};
 ghost use Rattle.bitvec_cutting.specs.Cutting.{chunk_count, whole_count};
 
@@ -8,12 +8,13 @@ use crate::{
 };
 use bitvec_base::BitOrder;
 use bitvec_cutting::{InChunks, InChunksFromEnd, InExactChunks, InExactChunksFromEnd};
-use bitvec_slice::{BitSliceMut, ViewMut};
+use bitvec_slice::{BitSliceMut, Lent, ViewMut};
 use bitvec_store::BitStore;
 
 /// `bitvec`'s calls on a `&mut BitSlice` that give pieces of it for writing, lent one at a time.
 /// Indices and sizes are in bits.
 pub trait PieceCallsMut<T: BitStore, O: BitOrder>: ViewMut<T, O> {
+    ghost use Rattle.bitvec_slice.specs.MayLend.{is_lent, piece_of};
     ghost use Rattle.bitvec_slice.specs.Seen.{IsGiven};
     ghost use Rattle.bitvec_iter.specs.LentBits.{IsAllOf, bit_walk_of, name_of_bits};
     ghost use Rattle.bitvec_iter.specs.Halves.{IsCutOf, name_of_halves};
@@ -55,6 +56,20 @@ pub trait PieceCallsMut<T: BitStore, O: BitOrder>: ViewMut<T, O> {
     fn split_last_mut(&mut self) -> Option<HalvesMut<'_, T, O>>
         ensures { IsGiven (0 < (Self.shows self.old).window.len)
             (IsCutOf (Self.shows self.old) ((Self.shows self.old).window.len - 1)) result };
+
+    /// The first bit as the left half, and the others, if there is a bit: `split_first_mut`, after which a caller
+    /// knows the view.
+    fn split_first_lent(&mut self) -> Lent<HalvesMut<'_, T, O>>
+        ensures* writes_back { sem 𝓛 (follows Self.row (Array T.row 0) self.entry.ghost_name (name_of_halves (piece_of result)) (Self.with_elements self.old)) }
+        ensures lent { is_lent result ≡ nat_lt 0 (Self.shows self.old).window.len }
+        ensures halves { IsCutOf (Self.shows self.old) (min 1 (Self.shows self.old).window.len) (piece_of result) };
+
+    /// The last bit as the right half, and the others, if there is a bit: `split_last_mut`, after which a caller
+    /// knows the view.
+    fn split_last_lent(&mut self) -> Lent<HalvesMut<'_, T, O>>
+        ensures* writes_back { sem 𝓛 (follows Self.row (Array T.row 0) self.entry.ghost_name (name_of_halves (piece_of result)) (Self.with_elements self.old)) }
+        ensures lent { is_lent result ≡ nat_lt 0 (Self.shows self.old).window.len }
+        ensures halves { IsCutOf (Self.shows self.old) ((Self.shows self.old).window.len - 1) (piece_of result) };
 
     /// The chunks of `size` bits from the first bit on: the last may be shorter. Condition: `size` is
     /// not 0.
@@ -124,20 +139,21 @@ impl<'a, T: BitStore, O: BitOrder> PieceCallsMut<T, O> for BitSliceMut<'a, T, O>
     }
 
     fn split_first_mut(&mut self) -> Option<HalvesMut<'_, T, O>> {
-        if self.is_empty() {
-            None
-        } else {
-            Some(HalvesMut::new(self, 1))
-        }
+        self.split_first_lent().some()
     }
 
     fn split_last_mut(&mut self) -> Option<HalvesMut<'_, T, O>> {
-        if self.is_empty() {
-            None
-        } else {
-            let mid = self.len() - 1;
-            Some(HalvesMut::new(self, mid))
-        }
+        self.split_last_lent().some()
+    }
+
+    fn split_first_lent(&mut self) -> Lent<HalvesMut<'_, T, O>> {
+        let mid = self.len().min(1);
+        Lent::new(HalvesMut::new(self, mid), mid == 1)
+    }
+
+    fn split_last_lent(&mut self) -> Lent<HalvesMut<'_, T, O>> {
+        let len = self.len();
+        Lent::new(HalvesMut::new(self, len.saturating_sub(1)), len > 0)
     }
 
     fn chunks_mut(&mut self, size: usize) -> ChunksMut<'_, T, O> {

@@ -12,7 +12,7 @@ impl<'a, T: BitStore, O: BitOrder> IterMut<'a, T, O> {
     ghost use Rattle.bitvec_slice.specs.Seen.{IsRangeOf};
     ghost use Rattle.bitvec_slice.specs.Views.{name_of, seen_mut};
     ghost use Rattle.bitvec_iter.specs.LentBits.{bit_walk_of};
-    ghost use Rattle.bitvec_iter.specs.BitsLending.{lends_first, lends_last, lends_next, lends_next_back, lends_part};
+    ghost use Rattle.bitvec_iter.specs.BitsLending.{lends_first, lends_last, lends_next, lends_next_back, lends_part, passed, passed_back};
 
     /// The first bit that is left, if there is one: `next_mut`, after which a caller knows the walk.
     pub fn next_lent(&mut self) -> Lent<BitSliceMut<'_, T, O>>
@@ -36,6 +36,26 @@ impl<'a, T: BitStore, O: BitOrder> IterMut<'a, T, O> {
             return self.lent_last();
         }
         self.lent_nothing()
+    }
+
+    /// The bit behind the first `skipped` that are left, if there is one: `nth_mut`, after which a caller knows the walk.
+    pub fn nth_lent(&mut self, skipped: usize) -> Lent<BitSliceMut<'_, T, O>>
+        ensures* writes_back { sem 𝓛 (lends_next T.row O.row self.entry (passed self.old skipped) (name_of (piece_of result))) }
+        ensures lent { is_lent result ≡ nat_lt skipped ((bit_walk_of self.old).back - (bit_walk_of self.old).front) }
+        ensures bit { IsTrue (is_lent result) → IsRangeOf T.BITS (bit_walk_of self.old).view ((bit_walk_of self.old).front + skipped) ((bit_walk_of self.old).front + skipped + 1) (seen_mut (piece_of result)) }
+    {
+        self.pass(skipped);
+        self.next_lent()
+    }
+
+    /// The bit before the last `skipped` that are left, if there is one: `nth_back_mut`, after which a caller knows the walk.
+    pub fn nth_back_lent(&mut self, skipped: usize) -> Lent<BitSliceMut<'_, T, O>>
+        ensures* writes_back { sem 𝓛 (lends_next_back T.row O.row self.entry (passed_back self.old skipped) (name_of (piece_of result))) }
+        ensures lent { is_lent result ≡ nat_lt skipped ((bit_walk_of self.old).back - (bit_walk_of self.old).front) }
+        ensures bit { IsTrue (is_lent result) → IsRangeOf T.BITS (bit_walk_of self.old).view ((bit_walk_of self.old).back - 1 - skipped) ((bit_walk_of self.old).back - 1 - skipped + 1) (seen_mut (piece_of result)) }
+    {
+        self.pass_back(skipped);
+        self.next_back_lent()
     }
 
     fn lent_first(&mut self) -> Lent<BitSliceMut<'_, T, O>>

@@ -49,7 +49,7 @@ impl<'a, T: BitStore, O: BitOrder, C: Cutting> PiecesMut<'a, T, O, C> {
     ghost use Rattle.bitvec_slice.specs.Seen.{IsGiven, IsRangeOf, shown};
     ghost use Rattle.bitvec_slice.specs.Views.{name_of, seen_mut};
     ghost use Rattle.bitvec_iter.specs.LentWalk.{IsPieceOfWalk, IsWalkOf, past, past_back};
-    ghost use Rattle.bitvec_iter.specs.PiecesLending.{lends_bits, lends_first, lends_last, lends_part};
+    ghost use Rattle.bitvec_iter.specs.PiecesLending.{lends_bits, lends_first, lends_last, lends_part, passed, passed_back};
     ghost use Rattle.bitvec_iter.specs.LentPieces.{name_of_pieces, walk_of};
 
     /// The pieces of a view. `bitvec` has no such call: `chunks_mut` and its kin are made of it.
@@ -123,6 +123,7 @@ impl<'a, T: BitStore, O: BitOrder, C: Cutting> PiecesMut<'a, T, O, C> {
     pub fn pass(&mut self, count: usize)
         ensures walk { walk_of self.new ≡ past (walk_of self.old) count }
         ensures name { name_of_pieces self.new ≡ name_of_pieces self.old }
+        ensures whole { self.new ≡ passed self.old count }
     {
         self.front += count.min(self.len());
     }
@@ -131,6 +132,7 @@ impl<'a, T: BitStore, O: BitOrder, C: Cutting> PiecesMut<'a, T, O, C> {
     pub fn pass_back(&mut self, count: usize)
         ensures walk { walk_of self.new ≡ past_back (walk_of self.old) count }
         ensures name { name_of_pieces self.new ≡ name_of_pieces self.old }
+        ensures whole { self.new ≡ passed_back self.old count }
     {
         self.back -= count.min(self.len());
     }
@@ -140,11 +142,7 @@ impl<'a, T: BitStore, O: BitOrder, C: Cutting> PiecesMut<'a, T, O, C> {
         ensures { IsGiven ((walk_of self.old).front < (walk_of self.old).back)
             (λ part. IsPieceOfWalk T.BITS C.place (walk_of self.old) (walk_of self.old).front (seen_mut part)) result }
     {
-        if self.is_empty() {
-            None
-        } else {
-            Some(self.take_mut())
-        }
+        self.next_lent().some()
     }
 
     /// The last piece that is left: `None` exactly where none is.
@@ -152,11 +150,7 @@ impl<'a, T: BitStore, O: BitOrder, C: Cutting> PiecesMut<'a, T, O, C> {
         ensures { IsGiven ((walk_of self.old).front < (walk_of self.old).back)
             (λ part. IsPieceOfWalk T.BITS C.place (walk_of self.old) ((walk_of self.old).back - 1) (seen_mut part)) result }
     {
-        if self.is_empty() {
-            None
-        } else {
-            Some(self.take_back_mut())
-        }
+        self.next_back_lent().some()
     }
 
     /// The piece behind the first `skipped` that are left, as the last of so many calls of `next_mut`
@@ -165,8 +159,7 @@ impl<'a, T: BitStore, O: BitOrder, C: Cutting> PiecesMut<'a, T, O, C> {
         ensures { IsGiven (skipped < (walk_of self.old).back - (walk_of self.old).front)
             (λ part. IsPieceOfWalk T.BITS C.place (walk_of self.old) ((walk_of self.old).front + skipped) (seen_mut part)) result }
     {
-        self.pass(skipped);
-        self.next_mut()
+        self.nth_lent(skipped).some()
     }
 
     /// The piece before the last `skipped` that are left, as the last of so many calls of
@@ -175,8 +168,7 @@ impl<'a, T: BitStore, O: BitOrder, C: Cutting> PiecesMut<'a, T, O, C> {
         ensures { IsGiven (skipped < (walk_of self.old).back - (walk_of self.old).front)
             (λ part. IsPieceOfWalk T.BITS C.place (walk_of self.old) ((walk_of self.old).back - 1 - skipped) (seen_mut part)) result }
     {
-        self.pass_back(skipped);
-        self.next_back_mut()
+        self.nth_back_lent(skipped).some()
     }
 
     pub(crate) fn into_view(self) -> BitSliceMut<'a, T, O>

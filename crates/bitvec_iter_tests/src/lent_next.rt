@@ -60,6 +60,73 @@ fn set_ends(bytes: &mut [u8; 1]) -> usize {
     bits.len()
 }
 
+/// Fills the chunk behind the first, if there is one.
+fn fill_second(chunks: &mut ChunksMut<'_, u8, Lsb0>) {
+    if let Some(mut piece) = chunks.nth_lent(1).some() {
+        piece.fill(true);
+    }
+}
+
+/// Fills the chunk before the last, if there is one.
+fn fill_last_but_one(chunks: &mut ChunksMut<'_, u8, Lsb0>) {
+    if let Some(mut piece) = chunks.nth_back_lent(1).some() {
+        piece.fill(true);
+    }
+}
+
+/// Fills both of the chunks of one bit, and says how many are left.
+fn fill_skipping(bytes: &mut [u8; 1]) -> usize {
+    let mut view = BitSliceMut::<u8, Lsb0>::from_slice_mut(bytes);
+    let mut chunks = view.chunks_mut(1);
+    fill_second(&mut chunks);
+    fill_last_but_one(&mut chunks);
+    chunks.len()
+}
+
+/// Sets the bit behind the first two, if there is one.
+fn set_third(bits: &mut IterMut<'_, u8, Lsb0>) {
+    if let Some(mut bit) = bits.nth_lent(2).some() {
+        bit.fill(true);
+    }
+}
+
+/// Sets the bit before the last two, if there is one.
+fn set_last_but_two(bits: &mut IterMut<'_, u8, Lsb0>) {
+    if let Some(mut bit) = bits.nth_back_lent(2).some() {
+        bit.fill(true);
+    }
+}
+
+/// Sets both, and says how many bits are left.
+fn set_skipping(bytes: &mut [u8; 1]) -> usize {
+    let mut view = BitSliceMut::<u8, Lsb0>::from_slice_mut(bytes);
+    let mut bits = view.iter_mut();
+    set_third(&mut bits);
+    set_last_but_two(&mut bits);
+    bits.len()
+}
+
+/// Whether a walk lends no piece behind so many, from either end, and then has none left.
+fn lends_none_behind(bytes: &mut [u8; 1], skipped: usize) -> bool {
+    let mut view = BitSliceMut::<u8, Lsb0>::from_slice_mut(bytes);
+    let mut chunks = view.chunks_mut(3);
+    let is_none = chunks.nth_lent(skipped).is_none();
+    is_none && chunks.is_empty() && chunks.nth_back_lent(0).is_none()
+}
+
+#[test]
+fn pieces_are_lent_behind_others(rt: HostRuntime) {
+    let mut chunks = [0x00];
+    let pieces = fill_skipping(&mut chunks);
+    let mut bits = [0x00];
+    let left = set_skipping(&mut bits);
+    assert!(rt; [pieces, left] == [4, 2]);
+    assert!(rt; [chunks, bits] == [[0x42], [0x24]]);
+    for skipped in [3, usize::MAX] {
+        assert!(rt; lends_none_behind(&mut chunks, skipped));
+    }
+}
+
 #[test]
 fn pieces_are_lent_from_both_ends(rt: HostRuntime) {
     let mut chunks = [0x00];

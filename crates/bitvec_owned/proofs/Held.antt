@@ -1,13 +1,14 @@
 -- Elements that were 0, and into which a list was written.
-use Rattle.std.specs.Prelude.{◌≡◌, ℕ, zero, suc, ◌+◌, ◌*◌, ◌<◌, ◌≤◌, Bool, false, List, length, map, replicate, refl}
+use Rattle.std.specs.Prelude.{◌≡◌, ℕ, zero, suc, ◌+◌, ◌*◌, ◌<◌, ◌≤◌, Bool, false, List, [], length, map, replicate, refl}
 use Rattle.std.specs.Int.{div_ceil}
-use Rattle.std.proofs.Common.{◌∙◌, ap, arith}
+use Rattle.std.proofs.Common.{◌∙◌, ap, arith, sym}
+use Rattle.std.proofs.Math.Nat.{lt_of_mul-lt-mul_right}
 use Rattle.std.proofs.lemmas.Grind.{div_ceil_times}
 use Rattle.std.proofs.lemmas.List.{length-replicate}
 use Rattle.bitvec_base.specs.FilledLaws.{bits-zeros}
 use Rattle.bitvec_base.specs.Memory.{memory_bits}
 use Rattle.bitvec_base.specs.Window.{window_of, write_at}
-use Rattle.bitvec_base.specs.WriteLaws.{range-write_at}
+use Rattle.bitvec_base.specs.WriteLaws.{range-write_at, write_at-nil}
 use Rattle.bitvec_slice.specs.Seen.{Seen, shown}
 use Rattle.bitvec_owned.specs.Copies.{Holds}
 
@@ -45,3 +46,10 @@ module _ {T : Type 0} (b : ℕ) (at : ℕ → ℕ → ℕ) (value : T → ℕ) (
       let size : length elements ≡ count = many ∙ ap length filled ∙ length-replicate count none in
       let before : memory_bits b at (map value old) ≡ replicate (b * length elements) false = rw (size, filled) (zeros none count is_zero) in
       rw is (holds elements from n list long (size ∙ rounded) (written ∙ ap (λ (memory : List Bool). write_at memory from list) before))
+
+  -- a sequence of no element
+  pub held_none : (none : T) (elements : List T) (sequence : Seen T) → value none ≡ 0 → elements ≡ [] → sequence ≡ shown b at value elements 0 0 → Holds b [] 0 sequence
+  held_none none elements sequence is_zero empty is =
+      let rounded = div_ceil_times (0 + 0) b some in
+      let none_touched : div_ceil (0 + 0) b < 1 = lt_of_mul-lt-mul_right b (omega arith) in
+      held none [] [] 0 0 0 [] sequence is_zero refl refl (omega arith) refl (sym (write_at-nil (memory_bits b at []) 0 (omega arith))) (rw empty at is)

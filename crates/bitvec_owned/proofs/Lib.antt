@@ -1,2 +1,5 @@
+mod FrontLists
+mod Fronts
 mod Held
+mod Middles
 mod Repeats

@@ -1,10 +1,10 @@
 -- What an array of bits shows, and what it is after its elements were written.
-use Rattle.std.specs.Prelude.{◌≡◌, ℕ, ◌+◌, ◌*◌, ◌≤◌, Bool, List, length, map, refl, take}
-use Rattle.std.proofs.Common.{arith, sym, ◌∙◌, ap, length-take}
+use Rattle.std.specs.Prelude.{◌≡◌, ℕ, ◌+◌, ◌*◌, ◌≤◌, Bool, List, length, map, take}
+use Rattle.std.proofs.Common.{arith, ◌∙◌, ap, length-take}
 use Rattle.std.proofs.Math.Nat.{mul-le-mul_left}
 use Rattle.std.proofs.lemmas.List.{take_all}
 use Rattle.bitvec_base.specs.Memory.{Writes, memory_bits}
-use Rattle.bitvec_base.specs.Window.{max_bits, write_at}
+use Rattle.bitvec_base.specs.Window.{max_bits}
 use Rattle.bitvec_base.specs.WriteLaws.{write_at-all}
 use Rattle.bitvec_base.specs.declared.order.BitOrder.{Ghosts as Order}
 use Rattle.bitvec_base.specs.declared.window.Window.{Window}

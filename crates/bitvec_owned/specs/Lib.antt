@@ -1,8 +1,11 @@
+pub mod Around
+pub mod AroundLaws
 pub mod ArrayLaws
 pub mod ArrayLending
 pub mod ArrayWrites
 pub mod Arrays
 pub mod Copies
+pub mod Fronts
 pub mod Lending
 pub mod Owned
 pub mod Writes

@@ -11,7 +11,7 @@ use Rattle.bitvec_base.specs.WriteLaws.{drop-write_at, take-write_at, write_at-o
 use Rattle.bitvec_base.specs.declared.order.BitOrder.{Ghosts as Order}
 use Rattle.bitvec_base.specs.declared.window.Window.{Window}
 use Rattle.bitvec_slice.specs.Seen.{Seen, outside_of, shown}
-use Rattle.bitvec_slice.specs.SeenLaws.{within_memory}
+use Rattle.bitvec_slice.specs.SeenLaws.{length_bits, within_memory}
 use Rattle.bitvec_slice.specs.Showing.{ShowsElements, shows_elements}
 use Rattle.bitvec_store.specs.declared.store.BitStore.{Ghosts as Store}
 use Rattle.bitvec_owned.specs.Copies.{Holds}
@@ -68,11 +68,14 @@ module _ {T : Type 0} (b : ℕ) (at : ℕ → ℕ → ℕ) (value : T → ℕ) (
       }
 
 module _ {T O A : Type 0} {t : Store T} {o : Order O} (some : 0 < t.BITS) (v : BitVec T O A t o) where
-  inside : v.head + v.len ≤ t.BITS * length v.elements.items
+  pub inside : v.head + v.len ≤ t.BITS * length v.elements.items
   inside =
       let rounded = div_ceil_times (v.head + v.len) t.BITS some in
       let touched = v.touched in
       rw (sym v.elements.ok.0, touched) (omega arith)
+
+  pub length-owned : length (owned v).bits ≡ v.len
+  length-owned = length_bits t.BITS o.at t.value v.elements.items v.head v.len inside
 
   pub sequence_elements : ShowsElements t.BITS o.at t.value (owned v)
   sequence_elements =

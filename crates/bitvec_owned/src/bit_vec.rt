@@ -13,8 +13,8 @@ use std::marker::PhantomData;
 /// A sequence of bits in memory of its own.
 ///
 /// It has just the elements that its bits touch, and the index in the first of them at which it begins.
-/// Contracts see it as they see a view of its bits. It has as many bits as it was made with: `bitvec`'s
-/// calls that add or take bits are not here.
+/// Contracts see it as they see a view of its bits. Calls that add or take bits have std's meaning on the list of
+/// them, and leave it where it begins; docs/DIFFERENCES.md says what differs.
 #[derive(Drop)]
 pub struct BitVec<T: BitStore, O: BitOrder, A: Allocator> {
     pub(crate) elements: Vec<T, A>,

@@ -1,5 +1,5 @@
-//! Owned bits, which are asked, edited, walked, compared and printed as views are: sequences, copies and repeats
-//! of views, and arrays.
+//! Owned bits, which are asked, edited, walked, compared and printed as views are: sequences, which get more bits and
+//! fewer, copies and repeats of views, and arrays.
 #![tactic(auto)]
 
 mod array;
@@ -7,6 +7,7 @@ mod bit_vec;
 mod cloning;
 mod copying;
 mod equality;
+mod growing;
 mod iterating;
 mod repeating;
 mod texts;

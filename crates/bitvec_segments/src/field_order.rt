@@ -21,6 +21,7 @@ use bitvec_words::WordOrder;
 pub trait FieldOrder: WordOrder {
     /// The number of a window, its first segment lowest. It loads each element that the window
     /// touches once.
+    #[inline(always)]
     fn load_le<C: CellsRead>(cells: &mut C, window: Window) -> u128
         requires window { HasWindow C.Elem.BITS (C.numbers cells.old) window }
         requires bound { window.len ≤ 128 }
@@ -33,6 +34,7 @@ pub trait FieldOrder: WordOrder {
 
     /// The number of a window, its first segment highest. It loads each element that the window
     /// touches once.
+    #[inline(always)]
     fn load_be<C: CellsRead>(cells: &mut C, window: Window) -> u128
         requires window { HasWindow C.Elem.BITS (C.numbers cells.old) window }
         requires bound { window.len ≤ 128 }

@@ -39,13 +39,14 @@ pub(crate) fn joined_number<O: WordOrder, C: CellsRead>(cells: &mut C, window: W
     (word >> below) & (u64::MAX >> (WORD_BITS - window.len))
 }
 
-/// The number of `width` bits and of `bits` more behind them. Condition: they are at least one each and
-/// at most 64, and the numbers have no more bits.
+/// The number of `width` bits and of `bits` more behind them. Condition: they are at most 64, `bits` is below 64 and some,
+/// and the numbers have no more bits. `bitvec` has no such call.
+#[doc(hidden)]
 #[tactic(auto, using(crate::proofs::JoinedWindow::moved_kept, crate::proofs::JoinedWindow::joined_fits))]
 #[inline(always)]
-fn with_next<O: WordOrder>(word: u64, width: usize, next: u64, bits: usize) -> u64
-    requires some { 0 < width }
-    requires more { 0 < bits }
+pub fn with_next<O: WordOrder>(word: u64, width: usize, next: u64, bits: usize) -> u64
+    requires some { 0 < bits }
+    requires narrow { bits < 64 }
     requires bound { width + bits ≤ 64 }
     requires word { word < 2 ^ width }
     requires next { next < 2 ^ bits }

@@ -12,3 +12,4 @@ mod storing;
 
 pub use field_order::FieldOrder;
 pub use integers::{extended, reduced};
+pub use joining::with_next;

@@ -1,22 +1,23 @@
 //! The number of the bits of a window.
-ghost use Rattle.std.specs.Prelude.{◌≡◌, ◌≤◌};
+ghost use Rattle.std.specs.Prelude.{◌≡◌, ◌<◌, ◌≤◌};
 ghost use Rattle.bitvec_cells.specs.Access.{OnlyReads};
 ghost use Rattle.bitvec_segments.specs.Windows.{HasNumber, loaded_in};
 ghost use Rattle.bitvec_cells.specs.Cost.{touched_count};
 
 use crate::cutting::{lower_bits, part_at};
 use crate::joining::joined_number;
-use crate::part::part_number;
+use crate::part::{number_between, part_number};
 use bitvec_base::Window;
 use bitvec_cells::CellsRead;
 use bitvec_store::BitStore;
-use bitvec_words::{WORD_BITS, WordOrder, load_elements};
+use bitvec_words::{WORD_BITS, WordOrder, load_element, load_elements};
 
 /// The number of a window's segments. Condition: the window has at most 128 bits, and lies in a
 /// memory of at most `MAX_BITS` bits. It loads each element that the window touches once, and takes no
 /// loop where the window lies in one element or two.
 ///
-/// Where the segments make one number under the order, elements of a word are loaded at once.
+/// Where the segments make one number under the order, the elements of a word are loaded at once, and a window no
+/// longer than an element as an element.
 #[inline(always)]
 pub(crate) fn load<const BIG: bool, O: WordOrder, C: CellsRead>(
     cells: &mut C,
@@ -26,14 +27,23 @@ pub(crate) fn load<const BIG: bool, O: WordOrder, C: CellsRead>(
     ensures value { result ≡ loaded_in BIG O.HIGH C.Elem.BITS O.at (C.numbers cells.old) window }
     ensures reads { OnlyReads C.CellsRead cells.old cells.new (touched_count C.Elem.BITS window.start window.len) }
 {
+    if window.len == 0 {
+        return 0;
+    }
     let bits = C::Elem::BITS as usize;
     let from = window.start % bits;
-    if BIG == O::HIGH && bits <= WORD_BITS {
-        if from == 0 && window.len == WORD_BITS {
-            return load_elements::<O, C>(cells, window.start / bits) as u128;
+    if BIG == O::HIGH {
+        if bits <= WORD_BITS {
+            if from == 0 && window.len == WORD_BITS {
+                return load_elements::<O, C>(cells, window.start / bits) as u128;
+            }
+            if from + window.len <= WORD_BITS {
+                return joined_number::<O, C>(cells, window) as u128;
+            }
         }
-        if window.len > 0 && from + window.len <= WORD_BITS {
-            return joined_number::<O, C>(cells, window) as u128;
+        if window.len <= bits {
+            let (front, _) = load_element::<O, C>(cells, window);
+            return number_between::<O, C::Elem>(front, 0, window.len);
         }
     }
     load_segments::<BIG, O, C>(cells, window)
@@ -41,13 +51,11 @@ pub(crate) fn load<const BIG: bool, O: WordOrder, C: CellsRead>(
 
 /// `load` by parts of elements: the compiler unrolls the loop where there are one or two.
 fn load_segments<const BIG: bool, O: WordOrder, C: CellsRead>(cells: &mut C, window: Window) -> u128
-    requires { HasNumber C.Elem.BITS (C.numbers cells.old) window }
+    requires number { HasNumber C.Elem.BITS (C.numbers cells.old) window }
+    requires some { 0 < window.len }
     ensures value { result ≡ loaded_in BIG O.HIGH C.Elem.BITS O.at (C.numbers cells.old) window }
     ensures reads { OnlyReads C.CellsRead cells.old cells.new (touched_count C.Elem.BITS window.start window.len) }
 {
-    if window.len == 0 {
-        return 0;
-    }
     let bits = C::Elem::BITS as usize;
     let end = window.start % bits + window.len;
     if end <= bits {

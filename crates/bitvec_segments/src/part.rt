@@ -1,6 +1,6 @@
 //! The number of the bits of one part of an element.
-ghost use Rattle.std.specs.Prelude.{◌≡◌, ◌-◌, ◌<◌, ◌≤◌};
-ghost use Rattle.bitvec_base.specs.Memory.{Writes, list_in};
+ghost use Rattle.std.specs.Prelude.{◌≡◌, ◌-◌, ◌<◌, ◌≤◌, slice_range};
+ghost use Rattle.bitvec_base.specs.Memory.{Writes, element_bits, list_in};
 ghost use Rattle.bitvec_base.specs.Parts.{HasPart, part_window};
 ghost use Rattle.bitvec_cells.specs.Access.{Costs, OnlyReads};
 ghost use Rattle.bitvec_segments.specs.Segments.{segment_bits, segment_number};
@@ -30,9 +30,19 @@ pub(crate) fn part_number<O: WordOrder, C: CellsRead>(cells: &mut C, part: Part)
     ensures value { result ≡ segment_number O.HIGH (list_in C.Elem.BITS O.at (C.numbers cells.old) (part_window C.Elem.BITS part)) }
     ensures reads { OnlyReads C.CellsRead cells.old cells.new 1 }
 {
-    let below = bits_below::<O>(C::Elem::BITS as usize, part.from, part.to);
-    let mask = C::Elem::ALL.shr(C::Elem::BITS - part.len() as u32);
     let element = cells.load(part.element);
+    number_between::<O, C::Elem>(element, part.from, part.to)
+}
+
+/// The number of an element's bits at the indices from `from` up to, without, `to`. Condition: there are some.
+#[inline(always)]
+pub(crate) fn number_between<O: WordOrder, T: BitStore>(element: T, from: usize, to: usize) -> u128
+    requires some { from < to }
+    requires bound { to ≤ T.BITS }
+    ensures { result ≡ segment_number O.HIGH (slice_range (element_bits T.BITS O.at (T.value element)) from to) }
+{
+    let below = bits_below::<O>(T::BITS as usize, from, to);
+    let mask = T::ALL.shr(T::BITS - (to - from) as u32);
     element.shr(below as u32).and(mask).to_u128()
 }
 

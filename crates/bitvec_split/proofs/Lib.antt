@@ -1,3 +1,2 @@
-pub mod AnyLender
 pub mod LentLaws
 pub mod SplitStateLaws

@@ -1,5 +1,5 @@
 -- What a predicate is asked about the bits of a view, and what it answered.
-use Rattle.std.specs.Prelude.{◌≡◌, ℕ, ◌<◌, zero, suc, Bool, false, List, [], ◌∷◌, Option, Some, None, ⊤, slice_index_or}
+use Rattle.std.specs.Prelude.{◌≡◌, ℕ, ◌<◌, ◌≤◌, zero, suc, Bool, false, List, [], ◌∷◌, length, Option, Some, None, ⊤, slice_index_or}
 use Rattle.std.specs.Bool.{MatchBool}
 use Rattle.std.specs.Borrow.{Bor}
 use Rattle.std.specs.Fn.{Called, Mut, Takes}
@@ -34,6 +34,10 @@ module _ {P : Type 0} (g : Mut P (ℕ × (Bor Bool × Unit {0})) Bool) where
       q.0 < n → ((shown : Bor Bool) → shown.now ≡ q.1 → Takes g pred (q.0, (shown, tt)))
       × ((answer : Bool) (next : P) → Asks pred q.0 q.1 answer next → MayAskEach n next more)
 
-  -- it may be asked about any index below n, with either bit, however often, whatever it answered before
-  pub record MayAsk (n : ℕ) (pred : P) : Type 0 where
-    pub at : (questions : List (ℕ × Bool)) → MayAskEach n pred questions
+  -- it may be asked about any index below n, with either bit, so many times at most, whatever it answered before
+  pub record MayAskTimes (n times : ℕ) (pred : P) : Type 0 where
+    pub at : (questions : List (ℕ × Bool)) → length questions ≤ times → MayAskEach n pred questions
+
+  -- about n bits, as a split of them asks: n times at most
+  abbrev pub MayAsk : ℕ → P → Type 0
+  MayAsk n pred = MayAskTimes n n pred

@@ -5,7 +5,7 @@ use Rattle.std.specs.Fn.{Mut, Takes, always_mut}
 use Rattle.std.specs.List.{range_with_len}
 use Rattle.std.specs.Bool.{MatchBool}
 use Rattle.std.proofs.Common.{◌⊎◌, arith, ap, cond, find, inl, inr, subst}
-use Rattle.bitvec_split.specs.Asked.{Asked, Asks, MayAsk, MayAskEach, downward}
+use Rattle.bitvec_split.specs.Asked.{Asked, Asks, MayAskEach, MayAskTimes, downward}
 
 by_answer : (A B : Type 0) (i : ℕ) (found rest : Option ℕ) (answer test : Bool) → answer ≡ test → MatchBool answer ((found ≡ Some i) × A) B → (B → found ≡ rest) → found ≡ cond test (Some i) rest
 by_answer A B i found rest true true is met later = met.0
@@ -27,25 +27,31 @@ module _ {P : Type 0} (g : Mut P (ℕ × (Bor Bool × Unit {0})) Bool) where
   )
 
 module _ {P : Type 0} {g : Mut P (ℕ × (Bor Bool × Unit {0})) Bool} where
-  module _ {n : ℕ} {pred : P} (may : MayAsk g n pred) where
-    -- it may be asked now, and again afterwards
+  module _ {n times : ℕ} {pred : P} (may : MayAskTimes g n times pred) (left : 0 < times) where
+    -- it may be asked now, and once less afterwards
     pub may_ask-now : (index : ℕ) (shown : Bor Bool) → index < n → Takes g pred (index, (shown, tt))
-    may_ask-now index shown below = (may.at ((index, shown.now) ∷ []) below).0 shown refl
+    may_ask-now index shown below = (may.at ((index, shown.now) ∷ []) (omega (arith, left)) below).0 shown refl
 
-    pub may_ask-next : {index : ℕ} {bit answer : Bool} {next : P} → index < n → Asks g pred index bit answer next → MayAsk g n next
-    may_ask-next {index} {bit} below asks = record { at = λ more. (may.at ((index, bit) ∷ more) below).1 _ _ asks }
+    pub may_ask-next : {index : ℕ} {bit answer : Bool} {next : P} → index < n → Asks g pred index bit answer next → MayAskTimes g n (times - 1) next
+    may_ask-next {index} {bit} below asks = record { at = λ more few. (may.at ((index, bit) ∷ more) (omega (arith, left, few)) below).1 _ _ asks }
 
-  -- about fewer bits, too
-  pub may_ask_of_fewer : {m n : ℕ} {pred : P} → MayAsk g n pred → m ≤ n → MayAsk g m pred
-  may_ask_of_fewer {m} {n} {pred} may order = record { at = λ questions. less_each g m n pred questions order (may.at questions) }
+  -- about fewer bits, and fewer times, too
+  pub may_ask_of_fewer : {m n less times : ℕ} {pred : P} → MayAskTimes g n times pred → m ≤ n → less ≤ times → MayAskTimes g m less pred
+  may_ask_of_fewer {m} {n} {less} {times} {pred} may order rarer =
+      record { at = λ questions few. less_each g m n pred questions order (may.at questions (omega (arith, rarer, few))) }
 
   -- a predicate that may always be called may be asked
-  pub may_ask_always : {n : ℕ} {pred : P} → always_mut g pred → MayAsk g n pred
-  may_ask_always {n} {pred} always = record { at = λ questions. always_each g n pred questions always }
+  pub may_ask_always : {n times : ℕ} {pred : P} → always_mut g pred → MayAskTimes g n times pred
+  may_ask_always {n} {times} {pred} always = record { at = λ questions few. always_each g n pred questions always }
 
-  pub may_ask_either : {n : ℕ} {pred : P} → always_mut g pred ⊎ MayAsk g n pred → MayAsk g n pred
+  pub may_ask_either : {n times : ℕ} {pred : P} → always_mut g pred ⊎ MayAskTimes g n times pred → MayAskTimes g n times pred
   may_ask_either (inl always) = may_ask_always always
   may_ask_either (inr may) = may
+
+  -- what a split that isn't finished may ask
+  pub may_ask_unfinished : {n times : ℕ} {finished : Bool} {pred : P} → finished ≡ false → always_mut g pred ⊎ (finished ≡ false → MayAskTimes g n times pred) → MayAskTimes g n times pred
+  may_ask_unfinished going (inl always) = may_ask_always always
+  may_ask_unfinished going (inr may) = may going
 
   -- the askings that go on with a yes, or with a no and the others
   module _ (bits : List Bool) {pred next : P} {index : ℕ} (indices more : List ℕ) (are : indices ≡ index ∷ more) where

@@ -1,6 +1,6 @@
 -- What is left of a split that lends its pieces, and what each call asks, lends and leaves. The bits that are
 -- left are a range of the view that was split.
-use Rattle.std.specs.Prelude.{◌≡◌, ℕ, ◌+◌, ◌-◌, ◌==◌, ◌&&◌, ◌⊎◌, Bool, true, List, [], Option, Some, None, IfSome, MatchOption, if◌then◌else◌, min, not, slice_range}
+use Rattle.std.specs.Prelude.{◌≡◌, ℕ, ◌+◌, ◌-◌, ◌==◌, ◌&&◌, ◌⊎◌, Bool, true, false, List, [], Option, Some, None, IfSome, MatchOption, if◌then◌else◌, min, not, slice_range}
 use Rattle.std.specs.Bool.{MatchBool}
 use Rattle.std.specs.Borrow.{Bor}
 use Rattle.std.specs.Fn.{Mut, always_mut}
@@ -58,9 +58,9 @@ module _ {T P : Type 0} where
     pub finished : t.finished ≡ (inclusive && (t.to - t.from == 0))
 
 module _ {T P : Type 0} (g : Mut P (ℕ × (Bor Bool × Unit {0})) Bool) where
-  -- the predicate may always be called, or at least asked about all that is left
+  -- the predicate may always be called, or at least asked about all that is left of a split that isn't finished
   abbrev pub MayGoOnIn : LeftIn T P → Type 0
-  MayGoOnIn s = always_mut g s.pred ⊎ MayAsk g (s.to - s.from) s.pred
+  MayGoOnIn s = always_mut g s.pred ⊎ (s.finished ≡ false → MayAsk g (s.to - s.from) s.pred)
 
   -- as `SplitStep`, of ranges of the view
   abbrev pub SplitStepIn : Bool → SplitRule → LeftIn T P → Option (Range ℕ) → LeftIn T P → Type 0

@@ -40,9 +40,9 @@ module _ {T P : Type 0} where
   abbrev pub uncut : Left T P → List Bool
   uncut s = if s.finished then [] else s.rest.bits
 
--- the predicate may always be called, or at least asked about all that is left
+-- the predicate may always be called, or at least asked about all that is left of a split that isn't finished
 abbrev pub MayGoOn : {T P : Type 0} → Mut P (ℕ × (Bor Bool × Unit {0})) Bool → Left T P → Type 0
-MayGoOn g s = always_mut g s.pred ⊎ MayAsk g s.rest.window.len s.pred
+MayGoOn g s = always_mut g s.pred ⊎ (s.finished ≡ false → MayAsk g s.rest.window.len s.pred)
 
 -- where a piece ends whose match is at j: an inclusive split keeps the matched bit, others leave it out
 abbrev pub end_of : Bool → ℕ → ℕ
@@ -74,6 +74,10 @@ row_of inclusive reversed n = if reversed then back inclusive n else front inclu
 -- how many of n bits a call asks about at most
 abbrev pub asked_of : Bool → Bool → ℕ → ℕ
 asked_of inclusive reversed n = if reversed then asked_behind inclusive n else n
+
+-- how many of n bits are left where the match is at j
+abbrev pub left_of_row : Bool → Bool → ℕ → ℕ → ℕ
+left_of_row inclusive reversed n j = if reversed then end_of inclusive j else n - (j + 1)
 
 -- the piece and what is left where the match is at j are those of the row
 pub record IsCutBy (row : SplitRule) (j : ℕ) (piece rest : Range ℕ) : Type 0 where

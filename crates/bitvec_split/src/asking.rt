@@ -1,7 +1,7 @@
 //! A predicate is asked about the bits of a view, in turn, until it says yes.
-ghost use Rattle.std.specs.Prelude.{◌<◌, ◌≤◌, IfSome};
+ghost use Rattle.std.specs.Prelude.{◌+◌, ◌-◌, ◌<◌, ◌≤◌, IfSome};
 ghost use Rattle.bitvec_slice.specs.Views.{seen};
-ghost use Rattle.bitvec_split.specs.Asked.{Asked, MayAsk, downward, upward};
+ghost use Rattle.bitvec_split.specs.Asked.{Asked, MayAsk, MayAskTimes, downward, upward};
 
 use bitvec_base::BitOrder;
 use bitvec_slice::BitSlice;
@@ -16,7 +16,7 @@ pub fn ask_up<T: BitStore, O: BitOrder, P: FnMut(usize, &bool) -> bool>(
 ) -> Option<usize>
     requires { MayAsk P.FnMut (seen bits).window.len pred.old }
     ensures asked { Asked P.FnMut (seen bits.entry).bits pred.old (upward (seen bits.entry).window.len) result pred.new }
-    ensures callable { MayAsk P.FnMut (seen bits.entry).window.len pred.new }
+    ensures callable { IfSome result (λ index. MayAskTimes P.FnMut (seen bits.entry).window.len ((seen bits.entry).window.len - (index + 1)) pred.new) }
     ensures inside { IfSome result (λ index. index < (seen bits.entry).window.len) }
 {
     for index in 0..bits.len() {
@@ -39,7 +39,7 @@ pub fn ask_down<T: BitStore, O: BitOrder, P: FnMut(usize, &bool) -> bool>(
     requires end { end ≤ (seen bits).window.len }
     requires callable { MayAsk P.FnMut (seen bits).window.len pred.old }
     ensures asked { Asked P.FnMut (seen bits.entry).bits pred.old (downward end) result pred.new }
-    ensures callable { MayAsk P.FnMut (seen bits.entry).window.len pred.new }
+    ensures callable { IfSome result (λ index. MayAskTimes P.FnMut (seen bits.entry).window.len ((seen bits.entry).window.len - (end - index)) pred.new) }
     ensures inside { IfSome result (λ index. index < end) }
 {
     for last in (0..end).rev() {

@@ -12,7 +12,7 @@ use bitvec_store::BitStore;
 /// among those that no piece has yet, and with that bit.
 ///
 /// The predicate's state goes from each call to the next. The condition of each call of an iterator is that
-/// its predicate may be called for the bits that are left, in any order and however often.
+/// its predicate may be called for the bits that are left, in any order and as often as there are such bits.
 pub trait SplitCalls<T, P>: Shows<T> {
     /// What `split` makes.
     type Split: SplitWalk<T, P>;

@@ -2,7 +2,7 @@
 ghost use Rattle.std.specs.Prelude.{◌<◌, IfSome};
 ghost use Rattle.bitvec_slice.specs.Views.{seen};
 ghost use Rattle.bitvec_split.specs.Asked.{Asked, MayAsk};
-ghost use Rattle.bitvec_split.specs.Splits.{IsCutBy, LieBeside, asked_of, row_of};
+ghost use Rattle.bitvec_split.specs.Splits.{IsCutBy, LieBeside, asked_of, left_of_row, row_of};
 
 use crate::SplitKind;
 use crate::asking::{ask_down, ask_up};
@@ -15,6 +15,7 @@ use std::ops::Range;
 /// The index at which `pred` says yes first, asked as a call from the front of these bits asks, or as one
 /// from the `back`. `bitvec` has no such call.
 #[doc(hidden)]
+#[tactic(auto, using(crate::specs::AskedLaws::may_ask_of_fewer))]
 pub fn ask_row<W: SplitKind, T: BitStore, O: BitOrder, P: FnMut(usize, &bool) -> bool>(
     bits: BitSlice<'_, T, O>,
     back: bool,
@@ -22,7 +23,7 @@ pub fn ask_row<W: SplitKind, T: BitStore, O: BitOrder, P: FnMut(usize, &bool) ->
 ) -> Option<usize>
     requires { MayAsk P.FnMut (seen bits).window.len pred.old }
     ensures asked { Asked P.FnMut (seen bits.entry).bits pred.old (row_of W.INCLUSIVE back (seen bits.entry).window.len).asks result pred.new }
-    ensures callable { MayAsk P.FnMut (seen bits.entry).window.len pred.new }
+    ensures callable { IfSome result (λ index. MayAsk P.FnMut (left_of_row W.INCLUSIVE back (seen bits.entry).window.len index) pred.new) }
     ensures inside { IfSome result (λ index. index < asked_of W.INCLUSIVE back (seen bits.entry).window.len) }
 {
     if back {

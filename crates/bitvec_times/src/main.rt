@@ -7,7 +7,8 @@
 //! `OPERATION WIDTH ORDER PHASE LEFT BITS TIMES` it is under the order `lsb0` or `msb0` and of so many bits,
 //! and the left side begins LEFT bits into an element. Or it is `eq_bits`, `cmp_bits`, `or_bits` or
 //! `clone_from_bitslice`, whose right side has elements of 16 bits. Or it is `walk`, over the ones of as many
-//! bits, of which one in PHASE is 1. Or it is `encode` or `decode`, of the header of a packet, in bytes.
+//! bits, of which one in PHASE is 1. Or it is `numbers`, of 12 bits each, of the whole chunks where PHASE is 0 and
+//! else of all. Or it is `encode` or `decode`, of the header of a packet, in bytes.
 //!
 //! Or it is `or_rows`, `or_rows_within` or `or_rows_overlapping`, of rows of so many bits of two matrices or of
 //! one, which change from round to round and begin at indices of an element that lie PHASE apart.
@@ -27,6 +28,7 @@ mod record;
 mod rows;
 mod single;
 mod walk;
+mod walked_numbers;
 
 use bitrecord::bits::{Lsb0, Msb0, SliceOrder};
 use bits::{BITS, Place};
@@ -40,6 +42,7 @@ use std::env;
 use std::process::ExitCode;
 use std::rt::Env;
 use walk::walk_times;
+use walked_numbers::numbers_times;
 
 /// The number that a word writes.
 fn number(word: &String) -> Option<usize> {
@@ -68,6 +71,7 @@ fn sum<A: Allocator + Copy>(alloc: A, words: &[String]) -> Option<u128> {
     }
     let sum = match (name, Mixed::of(name), words.get(2)?.as_str()) {
         ("walk", _, _) => sum_of_walk(alloc, width, place.right, times)?,
+        ("numbers", _, _) => sum_of_numbers(alloc, width, place.right == 0, times)?,
         (_, Some(mixed), _) => sum_of_mixed(alloc, mixed, width, times)?,
         (_, _, "msb0") => sum_of_operation::<Msb0, A>(alloc, name, width, place, times)?,
         (_, _, "lsb0") => sum_of_operation::<Lsb0, A>(alloc, name, width, place, times)?,
@@ -155,6 +159,21 @@ fn sum_of_walk<A: Allocator + Copy>(
         "8" => walk_times::<u8, A>(alloc, every, times),
         "64" => walk_times::<u64, A>(alloc, every, times),
         "128" => walk_times::<u128, A>(alloc, every, times),
+        _ => None,
+    }
+}
+
+/// The sum of the numbers in elements of a width. None where no such width is timed.
+fn sum_of_numbers<A: Allocator + Copy>(
+    alloc: A,
+    width: &str,
+    whole: bool,
+    times: usize,
+) -> Option<usize> {
+    match width {
+        "8" => numbers_times::<u8, A>(alloc, whole, times),
+        "32" => numbers_times::<u32, A>(alloc, whole, times),
+        "64" => numbers_times::<u64, A>(alloc, whole, times),
         _ => None,
     }
 }

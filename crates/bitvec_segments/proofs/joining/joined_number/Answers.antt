@@ -36,8 +36,8 @@ with_next-word-requires g c =
     let inv = c.loop-width.invariant in
     let some = width_some _ g.met.C.Elem.BitStore.width_law in
     rw (c.BITS-bits.ensures, inv.width) (record {
-      some = mul-pos inv.some some;
-      more = some;
+      some = some;
+      narrow = grind (arith, g.met.C.Elem.BitStore.width_law, mul-pos inv.some some);
       bound = grind (arith, g.met.C.Elem.BitStore.width_law);
       word = number-below _ _ _ _ _ _ (HasWindow-elements _ _ c.args.window c.loop-width.count c.requires.window inv.some inv.last) inv.value;
       next = c.to_u128-next.ensures.in_range;

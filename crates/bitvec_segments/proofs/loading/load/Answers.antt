@@ -1,9 +1,23 @@
 use Rattle.std.specs.Prelude.{◌==◌, not}
-use Rattle.std.proofs.Common.{◌≡◌, arith, rules, sym, ◌∙◌}
+use Rattle.std.proofs.Common.{◌≡◌, ap, arith, refl, rules, sym, ◌∙◌}
+use Rattle.bitvec_base.specs.SliceLaws.{range-from_start}
+use Rattle.bitvec_cells.specs.WalkLaws.{touched-none}
 use Rattle.bitvec_words.specs.TouchedLaws.{touched-word}
 use Rattle.bitvec_segments.specs.PlainLaws.{loaded-plain}
+use Rattle.bitvec_segments.specs.Segments.{segment_number}
 use Rattle.bitvec_segments.proofs.JoinedWindow.{number-word}
+use Rattle.bitvec_segments.proofs.WalkLemmas.{Loaded-all, Loaded-start}
 use Rattle.bitvec_segments.proofs.loading.load.Goals as goal
+
+pub returns-then-window-eq0-clause-value : goal.returns-then-window-eq0-clause-value
+returns-then-window-eq0-clause-value g c =
+    let none = c.if-window-eq0.true in
+    Loaded-all _ _ _ _ _ c.args.window c.args.window 0 (omega arith) (Loaded-start _ _ _ _ _ c.args.window)
+
+pub returns-then-window-eq0-clause-reads : goal.returns-then-window-eq0-clause-reads
+returns-then-window-eq0-clause-reads g c =
+    let none : c.args.window.len ≡ 0 = let zero_len = c.if-window-eq0.true in omega arith in
+    rw (none, touched-none g.C.Elem.BitStore.BITS c.args.window.start) (record { numbers = refl; borrow = refl; loads = omega arith; stores = refl })
 
 pub returns-then-window-eq-WORD_BITS-clause-value : goal.returns-then-window-eq-WORD_BITS-clause-value
 returns-then-window-eq-WORD_BITS-clause-value g c =
@@ -24,3 +38,10 @@ pub returns-then-from-window-le-WORD_BITS-clause-value : goal.returns-then-from-
 returns-then-from-window-le-WORD_BITS-clause-value g c =
     let plain : not (g.row.BIG == 0) ≡ g.O.WordOrder.HIGH = search rules in
     c.joined_number.ensures.value ∙ sym (loaded-plain (not (g.row.BIG == 0)) g.O.WordOrder.HIGH _ _ _ plain)
+
+pub returns-then-window-bits-clause-value : goal.returns-then-window-bits-clause-value
+returns-then-window-bits-clause-value g c =
+    let plain : not (g.row.BIG == 0) ≡ g.O.WordOrder.HIGH = search rules in
+    c.number_between.ensures
+    ∙ ap (segment_number g.O.WordOrder.HIGH) (range-from_start _ _ _ refl ∙ c.load_element-front.ensures.value)
+    ∙ sym (loaded-plain (not (g.row.BIG == 0)) g.O.WordOrder.HIGH _ _ _ plain)

@@ -1,10 +1,10 @@
 use Rattle.std.proofs.Common.{arith}
 use Rattle.bitvec_slice.specs.Views.{seen}
-use Rattle.bitvec_split.specs.AskedLaws.{asked-no, asked-yes, may_ask-next, may_ask-now, upward-from}
+use Rattle.bitvec_split.specs.AskedLaws.{asked-no, asked-yes, may_ask-next, may_ask-now, may_ask_of_fewer, upward-from}
 use Rattle.bitvec_split.proofs.asking.ask_up.Goals as goal
 
 pub pred-requires : goal.pred-requires
-pred-requires g c = may_ask-now c.loop-index.invariant.callable _ c.index.result (omega arith)
+pred-requires g c = may_ask-now c.loop-index.invariant.callable (omega arith) _ c.index.result (omega arith)
 
 pub returns-then-pred-clause-asked : goal.returns-then-pred-clause-asked
 returns-then-pred-clause-asked g c =
@@ -13,11 +13,11 @@ returns-then-pred-clause-asked g c =
 
 pub returns-then-pred-clause-callable : goal.returns-then-pred-clause-callable
 returns-then-pred-clause-callable g c =
-    may_ask-next c.loop-index.invariant.callable (omega arith) (record { shown = c.index.result; shows = c.index.ensures; called = c.if-pred.ensures })
+    may_ask_of_fewer (may_ask-next c.loop-index.invariant.callable (omega arith) (omega arith) (record { shown = c.index.result; shows = c.index.ensures; called = c.if-pred.ensures })) (omega arith) (omega arith)
 
 pub loop-index-preserved : goal.loop-index-preserved
 loop-index-preserved g c = record {
-  callable = may_ask-next c.loop-index.invariant.callable (omega arith) (record { shown = c.index.result; shows = c.index.ensures; called = c.if-pred.ensures });
+  callable = may_ask_of_fewer (may_ask-next c.loop-index.invariant.callable (omega arith) (omega arith) (record { shown = c.index.result; shows = c.index.ensures; called = c.if-pred.ensures })) (omega arith) (omega arith);
   asked = λ found last more. c.loop-index.invariant.asked found last
       (asked-no (seen c.args.bits).bits _ _ (upward-from _ _ (omega arith)) found last (record { shown = c.index.result; shows = c.index.ensures; called = c.if-pred.ensures }) more);
 }

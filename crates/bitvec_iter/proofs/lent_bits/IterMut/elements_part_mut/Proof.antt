@@ -22,5 +22,5 @@ elements_part_mut_spec 𝓤 𝓛 𝓜 𝓡 wired T O LT LO CT g gd c cd o od _ _
     (λ a. the_row a X Y g o) (λ a. (N a).args) (λ a. (N a).types) (λ a. tail (N a).parts)
     (λ a s. (N a).as_values s) (λ a. with_elements) (λ a. the_loose a X Y g o LX LY)
     (λ a s b e. part_apart (the_type a X Y g o) full_share s ((N a).as_values s) refl b e) (λ a s ws. refl)
-    (λ a s. behind (lowered a X Y g o LX LY s)) (λ a. refl) (λ a s us is. ((lowers a X Y g o LX LY).val_is s us is, is.1.1.0.0.1))
+    (λ a. refl) (λ a s us is. ((behind (lowered a X Y g o LX LY s), (lowers a X Y g o LX LY).val_is s us is), is.1.1.0.0.1))
     𝓛 𝓜 𝓡 (#self (bounded (a_type ∷ a_type ∷ []) (T, (O, tt)) (dcons gd (dcons cd (dcons od dnil))))) (code.unfolded 𝓤 𝓛.H 𝓜 𝓡 wired (T, (O, tt)) gd cd od)

@@ -1,4 +1,4 @@
-use Rattle.std.specs.Prelude.{◌+◌, ◌-◌}
+use Rattle.std.specs.Prelude.{◌-◌}
 use Rattle.std.proofs.Common.{rules}
 use Rattle.bitvec_iter.specs.BitsLending.{same-with}
 use Rattle.bitvec_iter.proofs.lent_bits.IterMut.lent_last.Goals as goal

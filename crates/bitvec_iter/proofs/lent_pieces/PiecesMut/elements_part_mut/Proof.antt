@@ -25,5 +25,5 @@ elements_part_mut_spec 𝓤 𝓛 𝓜 𝓡 wired T O C LT LO LC CT CC g gd c cd 
     (λ a. the_row a X Y Z g o k) (λ a. (N a).args) (λ a. (N a).types) (λ a. tail (N a).parts)
     (λ a s. (N a).as_values s) (λ a. with_elements) (λ a. the_loose a X Y Z g o k LX LY LZ)
     (λ a s b e. part_apart (the_type a X Y Z g o k) full_share s ((N a).as_values s) refl b e) (λ a s ws. refl)
-    (λ a s. behind (lowered a X Y Z g o k LX LY LZ told s)) (λ a. refl) (λ a s us is. ((lowers a X Y Z g o k LX LY LZ told).val_is s us is, is.1.1.0.0.1))
+    (λ a. refl) (λ a s us is. ((behind (lowered a X Y Z g o k LX LY LZ told s), (lowers a X Y Z g o k LX LY LZ told).val_is s us is), is.1.1.0.0.1))
     𝓛 𝓜 𝓡 (#self (bounded (a_type ∷ a_type ∷ a_type ∷ []) (T, (O, (C, tt))) (dcons gd (dcons cd (dcons od (dcons kd (dcons jd dnil))))))) (code.unfolded 𝓤 𝓛.H 𝓜 𝓡 wired (T, (O, (C, tt))) gd cd od kd jd)

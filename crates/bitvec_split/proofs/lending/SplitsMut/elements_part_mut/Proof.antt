@@ -1,9 +1,10 @@
 -- `elements_part_mut` of `SplitsMut` lends a range of what its first field points at, and the split follows it. Assumes `Logic`.
 use Rattle.bitvec_domain.specs.Steps.{refl, [], ◌∷◌, full_share, a_type, dcons, dnil, erased, NamedLft, layout, bounded, copied, param, copied_laws, param_laws, part_apart}
 use Rattle.bitvec_domain.specs.Through.{tail}
+use Rattle.bitvec_domain.specs.Arity.{of_five}
 use Rattle.bitvec_domain.specs.Lender.{behind_ty}
+use Rattle.bitvec_domain.specs.PartLender.{begins, lends_range}
 use denote.Struct.Field.{rows}
-use Rattle.bitvec_split.proofs.AnyLender.{of_five, begins, lends_range}
 use Rattle.bitvec_split.specs.SplitsLending.{with_elements}
 use Rattle.bitvec_split.specs.contracts.lending.SplitsMut.{struct, the_type, the_row}
 use Rattle.bitvec_split.specs.contracts.lending.SplitsMut.elements_part_mut.Key.{name as #self}

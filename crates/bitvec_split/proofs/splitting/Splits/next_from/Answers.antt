@@ -1,12 +1,10 @@
 use Rattle.std.proofs.Common.{Some, arith, inr, rules}
-use Rattle.bitvec_split.specs.AskedLaws.{may_ask_either, may_ask_of_fewer}
+use Rattle.bitvec_split.specs.AskedLaws.{may_ask_of_fewer, may_ask_unfinished}
+use Rattle.bitvec_split.proofs.SplitStateLaws.{left-kept}
 use Rattle.bitvec_split.proofs.splitting.Splits.next_from.Goals as goal
 
 pub ask_row-requires : goal.ask_row-requires
-ask_row-requires g c = may_ask_either c.requires
-
-pub returns-in_default-clause-callable : goal.returns-in_default-clause-callable
-returns-in_default-clause-callable g c = inr c.ask_row.ensures.callable
+ask_row-requires g c = may_ask_unfinished c.if-self.false c.requires
 
 pub returns-clause-piece : goal.returns-clause-piece
 returns-clause-piece g c =
@@ -14,4 +12,6 @@ returns-clause-piece g c =
     (c.if-self.false, (Some c.in-Some.index, c.in-Some.ensures.asked, record { gives = rw (row.start, row.end) at c.into_part.ensures; keeps = rw (row.from, row.to) at c.into_part-self.ensures; finished = search rules }))
 
 pub returns-clause-callable : goal.returns-clause-callable
-returns-clause-callable g c = inr (may_ask_of_fewer c.ask_row.ensures.callable (omega arith))
+returns-clause-callable g c =
+    let kept = left-kept g.W.SplitKind.INCLUSIVE c.args.back _ _ c.in-Some.index _ _ c.len.ensures.window c.cut_row.ensures.row in
+    inr (λ going. may_ask_of_fewer c.in-Some.ensures.callable (omega (arith, kept, c.into_part-self.ensures.len)) (omega (arith, kept, c.into_part-self.ensures.len)))

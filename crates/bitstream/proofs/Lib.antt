@@ -1,0 +1,2 @@
+pub mod CodeLaws
+pub mod ListLaws

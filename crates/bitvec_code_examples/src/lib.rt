@@ -1,0 +1,16 @@
+//! Callers of `bitvec` as codecs, maps and containers need it: numbers of ranges side by side, what was found in place, the
+//! front of an array, cursors, and edits of a type of one's own.
+#![tactic(auto)]
+
+#[cfg(test)]
+mod cursors;
+#[cfg(test)]
+mod found;
+#[cfg(test)]
+mod fronts;
+#[cfg(test)]
+mod number_sides;
+#[cfg(test)]
+mod numbers_in_views;
+#[cfg(test)]
+mod own_edits;

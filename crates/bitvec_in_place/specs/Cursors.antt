@@ -1,0 +1,27 @@
+-- What contracts see of a reader and of a writer of bits.
+use Rattle.std.specs.Prelude.{ℕ, Bool, List, map}
+use Rattle.std.specs.Borrow.{GName}
+use Rattle.bitvec_store.specs.declared.store.BitStore.{Ghosts as Store}
+use Rattle.bitvec_base.specs.declared.order.BitOrder.{Ghosts as Order}
+use Rattle.bitvec_base.specs.Memory.{memory_bits}
+use Rattle.bitvec_in_place.specs.declared.reader.BitReader.{BitReader}
+use Rattle.bitvec_in_place.specs.declared.writer.BitWriter.{BitWriter}
+
+-- the bits of the elements, and how many of them were passed
+pub record Cursor : Type 0 where
+  pub bits : List Bool
+  pub position : ℕ
+
+module _ {T O : Type 0} {t : Store T} {o : Order O} where
+  abbrev pub reading : BitReader T O t o → Cursor
+  reading reader = record { bits = memory_bits t.BITS o.at (map t.value reader.elements.now); position = reader.position }
+
+  abbrev pub writing : BitWriter T O t o → Cursor
+  writing writer = record { bits = memory_bits t.BITS o.at (map t.value writer.elements.now); position = writer.position }
+
+  -- the elements of a writer, and by which name among borrows it borrows them
+  abbrev pub elements_of : BitWriter T O t o → List T
+  elements_of writer = writer.elements.now
+
+  abbrev pub lender_of : BitWriter T O t o → GName
+  lender_of writer = writer.elements.ghost_name

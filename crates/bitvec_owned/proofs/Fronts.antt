@@ -1,0 +1,248 @@
+-- What is left of a sequence whose elements got more bits at their end, or lost their last ones.
+use Rattle.std.specs.Prelude.{◌≡◌, ℕ, zero, suc, ◌+◌, ◌-◌, ◌*◌, ◌<◌, ◌≤◌, Bool, false, List, [], ◌∷◌, ◌++◌, drop, length, map, replicate, slice_range, take, refl}
+use Rattle.std.specs.Int.{div_ceil}
+use Rattle.std.proofs.Common.{◌∙◌, ap, arith, length-append, sym}
+use Rattle.std.proofs.Math.Nat.{lt_of_mul-lt-mul_right, mul-le-mul_left}
+use Rattle.std.proofs.lemmas.Grind.{div_ceil_times}
+use Rattle.std.proofs.lemmas.List.{drop-append-le, drop_at, length-map, length-replicate, length-take-le, map-append, take-append-le, take-map, take-take, take_at}
+use Rattle.std.proofs.lemmas.Slice.{between_from_start}
+use Rattle.bitvec_base.specs.FilledLaws.{bits-zeros}
+use Rattle.bitvec_base.specs.Memory.{memory_bits}
+use Rattle.bitvec_base.specs.MemoryLaws.{length-memory_bits, memory-range}
+use Rattle.bitvec_base.specs.SliceLaws.{range-all, range-join, range-rest, range-to_end}
+use Rattle.bitvec_base.specs.Window.{window_of, write_at}
+use Rattle.bitvec_slice.specs.Seen.{shown}
+use Rattle.bitvec_slice.specs.SeenLaws.{length-memory, length_bits}
+use Rattle.bitvec_owned.specs.Around.{KeepsAround}
+use Rattle.bitvec_owned.specs.Copies.{Holds}
+use Rattle.bitvec_owned.specs.Fronts.{LeavesFront}
+use Rattle.bitvec_owned.proofs.FrontLists.{cut-front, cut-zeros, grown-front, grown-zeros, taken-front, taken-zeros, write_around, zeros_before, zeros_behind}
+
+-- the two parts of a list, as slices
+range-front : {X : Type 0} (xs ys : List X) → slice_range (xs ++ ys) 0 (length xs) ≡ xs
+range-front xs ys = between_from_start (xs ++ ys) (length xs) ∙ take_at xs ys (length xs) refl
+
+range-behind : {X : Type 0} (xs ys : List X) → slice_range (xs ++ ys) (length xs) (length (xs ++ ys)) ≡ ys
+range-behind xs ys = range-to_end (xs ++ ys) (length xs) (length (xs ++ ys)) (omega arith) ∙ drop_at xs ys (length xs) refl
+
+times : (b x d c : ℕ) → x + d ≡ c → b * x + b * d ≡ b * c
+times b x d c is = rw (← is) (omega arith)
+
+module _ {T : Type 0} (b : ℕ) (at : ℕ → ℕ → ℕ) (value : T → ℕ) (some : 0 < b) where
+  abbrev bits_of : List T → List Bool
+  bits_of elements = memory_bits b at (map value elements)
+
+  -- the bits of a list's first elements, and those of a list with zeros behind it
+  pub bits-first : (elements : List T) (n : ℕ) → n ≤ length elements → bits_of (take n elements) ≡ take (b * n) (bits_of elements)
+  bits-first elements n few =
+      let xs = map value elements in
+      let long = length-map elements value in
+      let first : 0 * b ≡ 0 = omega arith in
+      let last : n * b ≡ b * n = omega arith in
+      ap (memory_bits b at) (sym (take-map value n elements) ∙ sym (between_from_start xs n))
+      ∙ memory-range b at xs 0 n some (omega arith) (omega arith)
+      ∙ rw (first, last) (between_from_start (memory_bits b at xs) (b * n))
+
+  append : (xs ys : List ℕ) → memory_bits b at (xs ++ ys) ≡ memory_bits b at xs ++ memory_bits b at ys
+  append xs ys =
+      let all = xs ++ ys in
+      let m = length xs in
+      let n = length all in
+      let sum = length-append xs ys in
+      let whole = length-memory_bits b at all in
+      let product : n * b ≡ b * n = omega arith in
+      sym (
+      ap (λ (l : List Bool). l ++ memory_bits b at ys) (ap (memory_bits b at) (sym (range-front xs ys)) ∙ memory-range b at all 0 m some (omega arith) (omega arith))
+      ∙ ap (λ (l : List Bool). slice_range (memory_bits b at all) (0 * b) (m * b) ++ l) (ap (memory_bits b at) (sym (range-behind xs ys)) ∙ memory-range b at all m n some (omega arith) (omega arith))
+      ∙ range-join (memory_bits b at all) (0 * b) (m * b) (n * b) (omega arith) (rw sum (omega arith)) (omega arith)
+      ∙ ap (λ (s : ℕ). slice_range (memory_bits b at all) s (n * b)) (let first : 0 * b ≡ 0 = omega arith in first)
+      ∙ range-all (memory_bits b at all) (n * b) (omega arith))
+
+  zeros : (none : T) (n : ℕ) → value none ≡ 0 → map value (replicate n none) ≡ replicate n 0
+  zeros none zero is = refl
+  zeros none (suc n) is = rw (is, zeros none n is) refl
+
+  pub bits-more : (none : T) (elements : List T) (n : ℕ) → value none ≡ 0 → bits_of (elements ++ replicate n none) ≡ bits_of elements ++ replicate (b * n) false
+  bits-more none elements n is =
+      let xs = map value elements in
+      let ys : List ℕ = replicate n 0 in
+      let many = length-replicate {A = ℕ} n 0 in
+      ap (memory_bits b at) (map-append value elements (replicate n none) ∙ ap (λ (l : List ℕ). xs ++ l) (zeros none n is))
+      ∙ append xs ys
+      ∙ ap (λ (l : List Bool). memory_bits b at xs ++ l) (bits-zeros b at ys (rw many refl) ∙ rw many refl)
+
+  -- ---- what follows from what was left
+
+  module _ (old new : List T) (start len : ℕ) (front : List Bool) (left : LeavesFront b at value old new (start + len) front) (inside : start + len ≤ b * length old)
+      (n : ℕ) (long : start + n ≡ length front) (kept : take start front ≡ take start (bits_of old)) where
+    room : length front ≤ b * length new
+    room = let rounded = div_ceil_times (length front) b some in let count = left.count in rw count (omega arith)
+
+    pub bits-left : (shown b at value new start n).bits ≡ drop start front
+    unfolding window_of
+    bits-left =
+        ap (λ (e : ℕ). slice_range (bits_of new) start e) long
+        ∙ sym (range-rest (bits_of new) start (length front))
+        ∙ ap (drop start) left.bits
+
+    holds : Holds b (shown b at value old start len).bits start (shown b at value old start len) → Holds b (shown b at value new start n).bits start (shown b at value new start n)
+    unfolding window_of
+    holds was =
+        let many = length-memory b at value old in
+        let more = length-memory b at value new in
+        let all = room in
+        let size : length (shown b at value new start n).bits ≡ n = length_bits b at value new start n (omega arith) in
+        let was_size : length (shown b at value old start len).bits ≡ len = length_bits b at value old start len inside in
+        let place : start + length (shown b at value old start len).bits ≤ b * length old = omega arith in
+        let before = zeros_before (bits_of old) (shown b at value old start len).bits (b * length old) start place was.memory in
+        let behind = zeros_behind (bits_of old) (shown b at value old start len).bits (b * length old) start place was.memory (start + len) (omega arith) in
+        let first : take start (bits_of new) ≡ replicate start false =
+        sym (take-take start (length front) (bits_of new) (omega arith)) ∙ ap (take start) left.bits ∙ kept ∙ before in
+        record {
+          bits = refl;
+          start = refl;
+          len = sym size;
+          count = rw (size, long) left.count;
+          memory = rw long (write_around (bits_of new) (b * length new) start (length front) more (omega arith) all first (left.zeros behind));
+        }
+
+    pub around-left : KeepsAround b (shown b at value old start len) (shown b at value new start n)
+    around-left = record { start = refl; zeros = holds }
+
+  -- elements that stayed
+  pub same-around : (old new : List T) (start len : ℕ) → new ≡ old → KeepsAround b (shown b at value old start len) (shown b at value new start len)
+  same-around old new start len is = rw is (record { start = refl; zeros = λ was. was })
+
+  -- ---- bits added at the end
+
+  module _ (old new : List T) (start len : ℕ) (list : List Bool) (inside : start + len ≤ b * length old)
+      (left : LeavesFront b at value old new (start + len) (take (start + len) (bits_of old) ++ list)) (n : ℕ) (is : n ≡ len + length list) where
+    front : length (take (start + len) (bits_of old)) ≡ start + len
+    front = let many = length-memory b at value old in length-take-le (start + len) (bits_of old) (omega arith)
+
+    long : start + n ≡ length (take (start + len) (bits_of old) ++ list)
+    long = let first = front in let both = length-append (take (start + len) (bits_of old)) list in omega arith
+
+    kept : take start (take (start + len) (bits_of old) ++ list) ≡ take start (bits_of old)
+    kept =
+        let first = front in
+        take-append-le start (take (start + len) (bits_of old)) list (omega arith) ∙ take-take start (start + len) (bits_of old) (omega arith)
+
+    pub added-bits : (shown b at value new start n).bits ≡ (shown b at value old start len).bits ++ list
+    unfolding window_of
+    added-bits =
+        let first = front in
+        bits-left old new start len _ left inside n long kept
+        ∙ drop-append-le start (take (start + len) (bits_of old)) list (omega arith)
+        ∙ ap (λ (l : List Bool). l ++ list) (range-rest (bits_of old) start (start + len))
+
+    pub added-around : KeepsAround b (shown b at value old start len) (shown b at value new start n)
+    added-around = around-left old new start len _ left inside n long kept
+
+  -- ---- bits taken from the end
+
+  module _ (old new : List T) (start len end : ℕ) (inside : start + len ≤ b * length old) (left : LeavesFront b at value old new (start + len) (take end (bits_of old)))
+      (n : ℕ) (is : start + n ≡ end) (few : n ≤ len) where
+    cut-long : start + n ≡ length (take end (bits_of old))
+    cut-long = let many = length-memory b at value old in is ∙ sym (length-take-le end (bits_of old) (omega arith))
+
+    cut-kept : take start (take end (bits_of old)) ≡ take start (bits_of old)
+    cut-kept = take-take start end (bits_of old) (omega arith)
+
+    pub taken-bits : (shown b at value new start n).bits ≡ take n (shown b at value old start len).bits
+    unfolding window_of
+    taken-bits =
+        let size : end - start ≡ n = omega arith in
+        let all : start + len - start ≡ len = omega arith in
+        bits-left old new start len _ left inside n cut-long cut-kept
+        ∙ range-rest (bits_of old) start end
+        ∙ rw (size, all) (sym (take-take n len (drop start (bits_of old)) few))
+
+    pub taken-around : KeepsAround b (shown b at value old start len) (shown b at value new start n)
+    taken-around = around-left old new start len _ left inside n cut-long cut-kept
+
+  -- ---- what edits of elements leave
+
+  -- so many bits touch no more elements than there are
+  pub fewest : (end n : ℕ) → end ≤ b * n → div_ceil end b ≤ n
+  fewest end n inside =
+      let rounded = div_ceil_times end b some in
+      let less : div_ceil end b < n + 1 = lt_of_mul-lt-mul_right b (omega arith) in
+      omega arith
+
+  -- elements that are 0 were added, and a list was written
+  grown_from : (none : T) (old between new : List T) (end : ℕ) (list : List Bool) → value none ≡ 0 → end ≤ b * length old
+      → between ≡ old ++ replicate (div_ceil (end + length list) b - length old) none → length old ≤ div_ceil (end + length list) b → length new ≡ length between
+      → bits_of new ≡ write_at (bits_of between) end list → LeavesFront b at value old new end (take end (bits_of old) ++ list)
+  grown_from none old between new end list is inside added fewer many wrote =
+      let count = div_ceil (end + length list) b in
+      let size = length-memory b at value old in
+      let front : length (take end (bits_of old)) ≡ end = length-take-le end (bits_of old) (omega arith) in
+      let long : length (take end (bits_of old) ++ list) ≡ end + length list = length-append (take end (bits_of old)) list ∙ ap (λ (k : ℕ). k + length list) front in
+      let both : length between ≡ count = ap length added ∙ length-append old (replicate (count - length old) none) ∙ ap (λ (k : ℕ). length old + k) (length-replicate (count - length old) none) ∙ omega arith in
+      let written : bits_of new ≡ write_at (bits_of old ++ replicate (b * (count - length old)) false) end list =
+      wrote ∙ ap (λ (l : List Bool). write_at l end list) (ap bits_of added ∙ bits-more none old (count - length old) is) in
+      let sum : b * length old + b * (count - length old) ≡ b * count = times b (length old) (count - length old) count (omega arith) in
+      let total : b * length new ≡ b * count = ap (λ (k : ℕ). b * k) (many ∙ both) in
+      record {
+        bits = rw long (grown-front (bits_of old) (bits_of new) list end (b * (count - length old)) (omega arith) written);
+        count = many ∙ both ∙ ap (λ (k : ℕ). div_ceil k b) (sym long);
+        zeros = λ behind. rw (long, total, ← sum, ← size) (grown-zeros (bits_of old) (bits_of new) list end (b * (count - length old)) (omega arith) written (rw size behind));
+      }
+
+  pub grown : (none : T) (old between new : List T) (end more n : ℕ) (list : List Bool) → value none ≡ 0 → n ≡ length old → n ≡ div_ceil end b → more ≡ length list
+      → between ≡ old ++ replicate (div_ceil (end + more) b - n) none → length new ≡ length between
+      → bits_of new ≡ write_at (bits_of between) end list → LeavesFront b at value old new end (take end (bits_of old) ++ list)
+  grown none old between new end more n list is size touched long added many wrote =
+      let below = div_ceil_times end b some in
+      let above = div_ceil_times (end + more) b some in
+      let fewer : div_ceil end b ≤ div_ceil (end + more) b = fewest end (div_ceil (end + more) b) (omega arith) in
+      let inside : end ≤ b * length old = rw (← size, touched) (omega arith) in
+      grown_from none old between new end list is inside (rw (← long, ← size) added) (rw (← long, ← size, touched) fewer) many wrote
+
+  -- the last elements were taken, and zeros written from a place on in those that were left
+  pub cut : (old between new : List T) (last end : ℕ) → between ≡ take (div_ceil end b) old → end ≤ b * length old → length new ≡ length between
+      → bits_of new ≡ write_at (bits_of between) end (replicate (b * div_ceil end b - end) false) → LeavesFront b at value old new last (take end (bits_of old))
+  cut old between new last end fewer inside many wrote =
+      let count = div_ceil end b in
+      let size = length-memory b at value old in
+      let front : length (take end (bits_of old)) ≡ end = length-take-le end (bits_of old) (omega arith) in
+      let rounded = div_ceil_times end b some in
+      let few : count ≤ length old = fewest end (length old) inside in
+      let total : length new ≡ count = many ∙ ap length fewer ∙ length-take-le count old few in
+      let product : b * length new ≡ b * count = ap (λ (k : ℕ). b * k) total in
+      let product_fits : b * count ≤ b * length old = mul-le-mul_left b few in
+      let written : bits_of new ≡ write_at (take (b * count) (bits_of old)) end (replicate (b * count - end) false) =
+      wrote ∙ ap (λ (l : List Bool). write_at l end (replicate (b * count - end) false)) (ap bits_of fewer ∙ bits-first old count few) in
+      record {
+        bits = rw front (cut-front (bits_of old) (bits_of new) end (b * count) (omega arith) (omega arith) written);
+        count = total ∙ ap (λ (k : ℕ). div_ceil k b) (sym front);
+        zeros = λ behind. rw (front, product) (cut-zeros (bits_of old) (bits_of new) end (b * count) (omega arith) (omega arith) written);
+      }
+
+  pub cut_by : (old between new : List T) (last end width count : ℕ) → width ≡ b → count ≡ div_ceil end width → between ≡ take count old → end ≤ b * length old → length new ≡ length between
+      → bits_of new ≡ write_at (bits_of between) end (replicate (count * width - end) false) → LeavesFront b at value old new last (take end (bits_of old))
+  cut_by old between new last end width count wide many_are fewer inside many wrote =
+      let rounded : count ≡ div_ceil end b = rw wide at many_are in
+      let product : count * width ≡ b * div_ceil end b = rw (wide, rounded) (omega arith) in
+      cut old between new last end (rw rounded at fewer) inside many (rw product at wrote)
+
+  -- a bit became 0, and the last elements were taken
+  pub taken : (old between new : List T) (last : ℕ) → last < b * length old → new ≡ take (div_ceil last b) between → length between ≡ length old
+      → bits_of between ≡ write_at (bits_of old) last (false ∷ []) → LeavesFront b at value old new (last + 1) (take last (bits_of old))
+  taken old between new last inside fewer many wrote =
+      let count = div_ceil last b in
+      let size = length-memory b at value old in
+      let front : length (take last (bits_of old)) ≡ last = length-take-le last (bits_of old) (omega arith) in
+      let rounded = div_ceil_times last b some in
+      let few : count ≤ length old = fewest last (length old) (omega arith) in
+      let total : length new ≡ count = ap length fewer ∙ length-take-le count between (omega arith) in
+      let product : b * length new ≡ b * count = ap (λ (k : ℕ). b * k) total in
+      let product_fits : b * count ≤ b * length old = mul-le-mul_left b few in
+      let written : bits_of new ≡ take (b * count) (write_at (bits_of old) last (false ∷ [])) =
+      ap bits_of fewer ∙ bits-first between count (omega arith) ∙ ap (take (b * count)) wrote in
+      record {
+        bits = rw front (taken-front (bits_of old) (bits_of new) last (b * count) (omega arith) (omega arith) written);
+        count = total ∙ ap (λ (k : ℕ). div_ceil k b) (sym front);
+        zeros = λ behind. rw (front, product) (taken-zeros (bits_of old) (bits_of new) last (b * count) (omega arith) (omega arith) written (rw size behind) (omega arith));
+      }

@@ -1,0 +1,11 @@
+use Rattle.std.proofs.Common.{◌-◌, ◌∙◌, ap, arith, refl, take}
+use Rattle.bitvec_owned.proofs.Middles.{closed}
+use Rattle.bitvec_owned.specs.Owned.{owned}
+use Rattle.bitvec_owned.proofs.bit_vec.BitVec.drain.Goals as goal
+
+pub returns-clause-bits : goal.returns-clause-bits
+returns-clause-bits g c =
+    let long = c.len-len.ensures.value in
+    c.truncate.ensures.bits
+    ∙ ap (take (c.len-len.result - (c.args.range.end - c.args.range.start))) c.copy_within.ensures.bits
+    ∙ closed (owned c.args.self.now).bits c.args.range.start c.args.range.end c.len-len.result _ long (omega arith) (omega arith) refl

@@ -1,0 +1,9 @@
+//! Sequences that get more bits, or fewer.
+mod adding;
+mod capacity;
+mod elements;
+mod ends;
+mod making;
+mod middle;
+mod parting;
+mod walking;

@@ -1,0 +1,79 @@
+//! Bits added to a sequence by blocks.
+ghost use Rattle.std.specs.Prelude.{◌≡◌, ◌-◌, [], ◌++◌, if◌then◌else◌, is_ok, length, replicate, take};
+ghost use Rattle.bitvec_owned.specs.Around.{KeepsAround};
+ghost use Rattle.bitvec_slice.specs.Views.{seen};
+
+use super::elements::{put_bits, put_block, put_same};
+use crate::BitVec;
+use bitvec_base::{BitOrder, MAX_BITS};
+use bitvec_engine::SliceOrder;
+use bitvec_slice::BitSlice;
+use bitvec_store::BitStore;
+use std::alloc::{AllocError, Allocator};
+
+impl<T: BitStore, O: BitOrder, A: Allocator> BitVec<T, O, A> {
+    ghost use Rattle.bitvec_owned.specs.Owned.{owned};
+
+    /// Keeps the first `len` bits, or adds as many of `bit` as there are `len` with them. An error where memory is refused,
+    /// and the bits are as before then.
+    pub fn resize(&mut self, len: usize, bit: bool) -> Result<(), AllocError>
+        ensures bits { (owned self.new).bits ≡ (if is_ok result
+            then take len (owned self.old).bits ++ replicate (len - length (owned self.old).bits) bit else (owned self.old).bits) }
+        ensures around { KeepsAround T.BITS (owned self.old) (owned self.new) }
+    {
+        if len <= self.len {
+            self.truncate(len);
+            return Ok(());
+        }
+        if len > MAX_BITS {
+            return Err(AllocError);
+        }
+        let end = self.head + self.len;
+        put_same::<T, O, A>(&mut self.elements, end, len - self.len, bit)?;
+        self.len = len;
+        Ok(())
+    }
+
+    /// Adds the bits of a view of any element type and order. An error where memory is refused, and the bits are as before
+    /// then.
+    pub fn extend_from_bitslice<U: BitStore, P: BitOrder>(
+        &mut self,
+        bits: BitSlice<'_, U, P>,
+    ) -> Result<(), AllocError>
+        ensures bits { (owned self.new).bits ≡ (if is_ok result then (owned self.old).bits ++ (seen bits.entry).bits else (owned self.old).bits) }
+        ensures around { KeepsAround T.BITS (owned self.old) (owned self.new) }
+    {
+        let more = bits.len();
+        put_bits::<T, O, U, P, A>(&mut self.elements, self.head + self.len, bits)?;
+        self.len += more;
+        Ok(())
+    }
+}
+
+impl<T: BitStore, O: SliceOrder, A: Allocator> BitVec<T, O, A> {
+    ghost use Rattle.bitvec_owned.specs.Owned.{owned};
+
+    /// Adds the bits of a view of the sequence's own element type and order: [`BitVec::extend_from_bitslice`] by the
+    /// order's own blocks.
+    pub(crate) fn extend_from_block(&mut self, bits: BitSlice<'_, T, O>) -> Result<(), AllocError>
+        ensures bits { (owned self.new).bits ≡ (if is_ok result then (owned self.old).bits ++ (seen bits.entry).bits else (owned self.old).bits) }
+        ensures around { KeepsAround T.BITS (owned self.old) (owned self.new) }
+    {
+        let more = bits.len();
+        put_block::<T, O, A>(&mut self.elements, self.head + self.len, bits)?;
+        self.len += more;
+        Ok(())
+    }
+
+    /// Moves the bits of another sequence to the end, and leaves it with none. An error where memory is refused, and the
+    /// bits of both are as before then.
+    pub fn append<B: Allocator>(&mut self, other: &mut BitVec<T, O, B>) -> Result<(), AllocError>
+        ensures bits { (owned self.new).bits ≡ (if is_ok result then (owned self.old).bits ++ (owned other.old).bits else (owned self.old).bits) }
+        ensures other { (owned other.new).bits ≡ (if is_ok result then [] else (owned other.old).bits) }
+        ensures around { KeepsAround T.BITS (owned self.old) (owned self.new) × KeepsAround T.BITS (owned other.old) (owned other.new) }
+    {
+        self.extend_from_block(other.as_bitslice())?;
+        other.clear();
+        Ok(())
+    }
+}

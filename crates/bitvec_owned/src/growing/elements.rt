@@ -1,0 +1,185 @@
+//! The elements of a sequence get more bits at their end, or lose the last ones.
+ghost use Rattle.std.specs.Prelude.{◌≡◌, ℕ, ◌+◌, ◌-◌, ◌*◌, ◌<◌, ◌≤◌, [], ◌∷◌, ◌++◌, OnErr, OnOk, false, if◌then◌else◌, is_ok, map, replicate, slice_index_or, take, vec_len};
+ghost use Rattle.std.specs.Int.{div_ceil};
+ghost use Rattle.bitvec_base.specs.Memory.{memory_bits};
+ghost use Rattle.bitvec_base.specs.Window.{max_bits};
+ghost use Rattle.bitvec_owned.specs.Fronts.{LeavesFront};
+ghost use Rattle.bitvec_slice.specs.Views.{seen};
+
+use bitvec_base::{BitOrder, MAX_BITS, Window};
+use bitvec_domain::{replace_in, set_in};
+use bitvec_elements::{copy_from_block_in, copy_from_in, fill_in};
+use bitvec_engine::SliceOrder;
+use bitvec_slice::BitSlice;
+use bitvec_store::BitStore;
+use std::alloc::{AllocError, Allocator};
+
+/// Adds the elements that the bits up to `end` touch and that aren't there, all 0. An error where memory is refused or
+/// they would have more than `MAX_BITS` bits; they are as before then.
+fn make_room<T: BitStore, A: Allocator>(
+    elements: &mut Vec<T, A>,
+    end: usize,
+) -> Result<(), AllocError>
+    requires { vec_len elements.old ≤ div_ceil end T.BITS }
+    ensures items { elements.new.items ≡ (if is_ok result then elements.old.items ++ replicate (div_ceil end T.BITS - vec_len elements.old) T.ZERO else elements.old.items) }
+    ensures len { vec_len elements.new ≡ (if is_ok result then div_ceil end T.BITS else vec_len elements.old) }
+    ensures fits { OnOk result (T.BITS * vec_len elements.new ≤ max_bits) }
+{
+    let width = T::BITS as usize;
+    let count = end.div_ceil(width);
+    if count > MAX_BITS / width {
+        return Err(AllocError);
+    }
+    elements.resize(count, T::ZERO)
+}
+
+/// [`make_room`] for one bit behind the first `end`.
+fn make_room_for_bit<T: BitStore, A: Allocator>(
+    elements: &mut Vec<T, A>,
+    end: usize,
+) -> Result<(), AllocError>
+    requires touched { vec_len elements.old ≡ div_ceil end T.BITS }
+    requires bounded { T.BITS * vec_len elements.old ≤ max_bits }
+    ensures items { elements.new.items ≡ (if is_ok result then elements.old.items ++ replicate (div_ceil (end + 1) T.BITS - vec_len elements.old) T.ZERO else elements.old.items) }
+    ensures len { vec_len elements.new ≡ (if is_ok result then div_ceil (end + 1) T.BITS else vec_len elements.old) }
+    ensures fits { OnOk result (T.BITS * vec_len elements.new ≤ max_bits) }
+{
+    let width = T::BITS as usize;
+    if end % width != 0 {
+        return Ok(());
+    }
+    if elements.len() >= MAX_BITS / width {
+        return Err(AllocError);
+    }
+    elements.push(T::ZERO)?;
+    Ok(())
+}
+
+/// Adds a bit behind the first `end`. An error where memory is refused; the elements are as before then.
+pub(crate) fn put_bit<T: BitStore, O: BitOrder, A: Allocator>(
+    elements: &mut Vec<T, A>,
+    end: usize,
+    bit: bool,
+) -> Result<(), AllocError>
+    requires touched { vec_len elements.old ≡ div_ceil end T.BITS }
+    requires bounded { T.BITS * vec_len elements.old ≤ max_bits }
+    ensures left { OnOk result (LeavesFront T.BITS O.at T.value elements.old.items elements.new.items end (take end (memory_bits T.BITS O.at (map T.value elements.old.items)) ++ bit ∷ [])) }
+    ensures kept { OnErr result (elements.new.items ≡ elements.old.items) }
+    ensures len { vec_len elements.new ≡ (if is_ok result then div_ceil (end + 1) T.BITS else vec_len elements.old) }
+    ensures fits { T.BITS * vec_len elements.new ≤ max_bits }
+{
+    make_room_for_bit(elements, end)?;
+    let window = Window { start: end, len: 1 };
+    set_in::<T, O>(elements.as_mut_slice(), window, 0, bit);
+    Ok(())
+}
+
+/// Adds the bits of a view behind the first `end`. An error where memory is refused; the elements are as before then.
+pub(crate) fn put_bits<T: BitStore, O: BitOrder, U: BitStore, P: BitOrder, A: Allocator>(
+    elements: &mut Vec<T, A>,
+    end: usize,
+    bits: BitSlice<'_, U, P>,
+) -> Result<(), AllocError>
+    requires touched { vec_len elements.old ≡ div_ceil end T.BITS }
+    requires bounded { T.BITS * vec_len elements.old ≤ max_bits }
+    ensures left { OnOk result (LeavesFront T.BITS O.at T.value elements.old.items elements.new.items end (take end (memory_bits T.BITS O.at (map T.value elements.old.items)) ++ (seen bits.entry).bits)) }
+    ensures kept { OnErr result (elements.new.items ≡ elements.old.items) }
+    ensures len { vec_len elements.new ≡ (if is_ok result then div_ceil (end + (seen bits.entry).window.len) T.BITS else vec_len elements.old) }
+    ensures fits { T.BITS * vec_len elements.new ≤ max_bits }
+{
+    let from = bits.window();
+    make_room(elements, end + from.len)?;
+    let to = Window {
+        start: end,
+        len: from.len,
+    };
+    copy_from_in::<T, O, U, P>(elements.as_mut_slice(), to, bits.elements(), from);
+    Ok(())
+}
+
+/// [`put_bits`] of a view of the elements' own type and order.
+pub(crate) fn put_block<T: BitStore, O: SliceOrder, A: Allocator>(
+    elements: &mut Vec<T, A>,
+    end: usize,
+    bits: BitSlice<'_, T, O>,
+) -> Result<(), AllocError>
+    requires touched { vec_len elements.old ≡ div_ceil end T.BITS }
+    requires bounded { T.BITS * vec_len elements.old ≤ max_bits }
+    ensures left { OnOk result (LeavesFront T.BITS O.at T.value elements.old.items elements.new.items end (take end (memory_bits T.BITS O.at (map T.value elements.old.items)) ++ (seen bits.entry).bits)) }
+    ensures kept { OnErr result (elements.new.items ≡ elements.old.items) }
+    ensures len { vec_len elements.new ≡ (if is_ok result then div_ceil (end + (seen bits.entry).window.len) T.BITS else vec_len elements.old) }
+    ensures fits { T.BITS * vec_len elements.new ≤ max_bits }
+{
+    let from = bits.window();
+    make_room(elements, end + from.len)?;
+    let to = Window {
+        start: end,
+        len: from.len,
+    };
+    copy_from_block_in::<T, O>(elements.as_mut_slice(), to, bits.elements(), from);
+    Ok(())
+}
+
+/// Adds so many of one bit behind the first `end`. An error where memory is refused; the elements are as before then.
+pub(crate) fn put_same<T: BitStore, O: BitOrder, A: Allocator>(
+    elements: &mut Vec<T, A>,
+    end: usize,
+    count: usize,
+    bit: bool,
+) -> Result<(), AllocError>
+    requires touched { vec_len elements.old ≡ div_ceil end T.BITS }
+    requires bounded { T.BITS * vec_len elements.old ≤ max_bits }
+    requires few { count ≤ max_bits }
+    ensures left { OnOk result (LeavesFront T.BITS O.at T.value elements.old.items elements.new.items end (take end (memory_bits T.BITS O.at (map T.value elements.old.items)) ++ replicate count bit)) }
+    ensures kept { OnErr result (elements.new.items ≡ elements.old.items) }
+    ensures len { vec_len elements.new ≡ (if is_ok result then div_ceil (end + count) T.BITS else vec_len elements.old) }
+    ensures fits { T.BITS * vec_len elements.new ≤ max_bits }
+{
+    make_room(elements, end + count)?;
+    let window = Window {
+        start: end,
+        len: count,
+    };
+    fill_in::<T, O>(elements.as_mut_slice(), window, bit);
+    Ok(())
+}
+
+/// Takes the bit at the place `last`, behind which no bit is.
+pub(crate) fn take_bit<T: BitStore, O: BitOrder, A: Allocator>(
+    elements: &mut Vec<T, A>,
+    last: usize,
+) -> bool
+    requires touched { vec_len elements.old ≡ div_ceil (last + 1) T.BITS }
+    requires bounded { T.BITS * vec_len elements.old ≤ max_bits }
+    ensures value { result ≡ slice_index_or (memory_bits T.BITS O.at (map T.value elements.old.items)) last false }
+    ensures left { LeavesFront T.BITS O.at T.value elements.old.items elements.new.items (last + 1) (take last (memory_bits T.BITS O.at (map T.value elements.old.items))) }
+    ensures len { vec_len elements.new ≡ div_ceil last T.BITS }
+    ensures fits { T.BITS * vec_len elements.new ≤ max_bits }
+{
+    let width = T::BITS as usize;
+    let window = Window {
+        start: last,
+        len: 1,
+    };
+    let bit = replace_in::<T, O>(elements.as_mut_slice(), window, 0, false);
+    elements.truncate(last.div_ceil(width));
+    bit
+}
+
+/// Drops all bits from the place `end` on. Condition: the elements have as many.
+pub(crate) fn cut_off<T: BitStore, O: BitOrder, A: Allocator>(elements: &mut Vec<T, A>, end: usize)
+    requires inside { end ≤ T.BITS * vec_len elements.old }
+    requires bounded { T.BITS * vec_len elements.old ≤ max_bits }
+    ensures left { (last : ℕ) → LeavesFront T.BITS O.at T.value elements.old.items elements.new.items last (take end (memory_bits T.BITS O.at (map T.value elements.old.items))) }
+    ensures len { vec_len elements.new ≡ div_ceil end T.BITS }
+    ensures fits { T.BITS * vec_len elements.new ≤ max_bits }
+{
+    let width = T::BITS as usize;
+    let count = end.div_ceil(width);
+    elements.truncate(count);
+    let window = Window {
+        start: end,
+        len: count * width - end,
+    };
+    fill_in::<T, O>(elements.as_mut_slice(), window, false);
+}

@@ -1,0 +1,63 @@
+//! Bits added and taken at the end of a sequence.
+ghost use Rattle.std.specs.Prelude.{◌≡◌, ◌<◌, ◌↔◌, [], ◌∷◌, ◌++◌, IsSome, if◌then◌else◌, is_ok, length, take};
+ghost use Rattle.std.specs.Option.{option_to_list};
+ghost use Rattle.bitvec_owned.specs.Around.{KeepsAround};
+
+use super::elements::{cut_off, put_bit, take_bit};
+use crate::BitVec;
+use bitvec_base::BitOrder;
+use bitvec_store::BitStore;
+use std::alloc::{AllocError, Allocator};
+
+impl<T: BitStore, O: BitOrder, A: Allocator> BitVec<T, O, A> {
+    ghost use Rattle.bitvec_owned.specs.Owned.{owned};
+
+    /// Adds a bit at the end. The elements grow as those of a `Vec`: an error where their memory is refused, and the bits
+    /// are as before then.
+    ///
+    /// ```
+    /// bits.push(true)?;
+    /// ```
+    pub fn push(&mut self, bit: bool) -> Result<(), AllocError>
+        ensures bits { (owned self.new).bits ≡ (if is_ok result then (owned self.old).bits ++ bit ∷ [] else (owned self.old).bits) }
+        ensures around { KeepsAround T.BITS (owned self.old) (owned self.new) }
+    {
+        put_bit::<T, O, A>(&mut self.elements, self.head + self.len, bit)?;
+        self.len += 1;
+        Ok(())
+    }
+
+    /// Takes the last bit, if there is one.
+    pub fn pop(&mut self) -> Option<bool>
+        ensures bits { (owned self.old).bits ≡ (owned self.new).bits ++ option_to_list result }
+        ensures some { IsSome result ↔ (0 < length (owned self.old).bits) }
+        ensures around { KeepsAround T.BITS (owned self.old) (owned self.new) }
+    {
+        if self.len == 0 {
+            return None;
+        }
+        let last = self.len - 1;
+        let bit = take_bit::<T, O, A>(&mut self.elements, self.head + last);
+        self.len = last;
+        Some(bit)
+    }
+
+    /// Keeps the first `len` bits, or all where there are fewer. Nothing is asked for, and the capacity stays.
+    pub fn truncate(&mut self, len: usize)
+        ensures bits { (owned self.new).bits ≡ take len (owned self.old).bits }
+        ensures around { KeepsAround T.BITS (owned self.old) (owned self.new) }
+    {
+        if len < self.len {
+            cut_off::<T, O, A>(&mut self.elements, self.head + len);
+            self.len = len;
+        }
+    }
+
+    /// Drops all bits. Nothing is asked for, and the capacity stays.
+    pub fn clear(&mut self)
+        ensures bits { (owned self.new).bits ≡ [] }
+        ensures around { KeepsAround T.BITS (owned self.old) (owned self.new) }
+    {
+        self.truncate(0);
+    }
+}

@@ -1,0 +1,54 @@
+//! Sequences made of bits, of truth values, and of elements.
+ghost use Rattle.std.specs.Prelude.{◌≡◌, ◌+◌, ◌*◌, ◌<◌, ◌≤◌, IfOk, IsOk, length, take, vec_len};
+ghost use Rattle.std.specs.Int.{div_ceil};
+ghost use Rattle.bitvec_base.specs.Window.{max_bits};
+ghost use Rattle.bitvec_owned.specs.Copies.{Holds};
+ghost use Rattle.bitvec_owned.specs.Owned.{owned};
+ghost use Rattle.bitvec_slice.specs.Seen.{shown};
+ghost use Rattle.bitvec_slice.specs.Views.{seen};
+
+use crate::BitVec;
+use bitvec_base::BitOrder;
+use bitvec_slice::BitSlice;
+use bitvec_store::BitStore;
+use std::alloc::{AllocError, Allocator};
+
+impl<T: BitStore, O: BitOrder, A: Allocator> BitVec<T, O, A> {
+    /// A copy of the bits of a view of any element type and order, from the first place on. An error where memory was
+    /// refused; a copy of no bits asks for none.
+    pub fn from_bitslice<U: BitStore, P: BitOrder>(
+        alloc: A,
+        bits: BitSlice<'_, U, P>,
+    ) -> Result<Self, AllocError>
+        ensures { IfOk result (λ made. Holds T.BITS (seen bits.entry).bits 0 (owned made)) }
+    {
+        let mut made = BitVec::new_in(alloc);
+        made.extend_from_bitslice(bits)?;
+        Ok(made)
+    }
+
+    /// The truth values of a slice as bits, from the first place on. An error where memory was refused.
+    pub fn from_bools(alloc: A, bools: &[bool]) -> Result<Self, AllocError>
+        ensures { IfOk result (λ made. Holds T.BITS bools.now 0 (owned made)) }
+    {
+        let mut made = BitVec::with_capacity_in(alloc, bools.len())?;
+        for bit in bools {
+            made.push(*bit)?;
+        }
+        Ok(made)
+    }
+
+    /// The bits of elements, `len` of them from the index `head` of the first element on. Elements that they don't touch
+    /// are dropped; no memory is asked for. `from_vec` of `bitvec` is this with all bits. Condition: the index is below the
+    /// width, the elements have the bits, and at most `MAX_BITS` of them.
+    pub fn from_elements(elements: Vec<T, A>, head: usize, len: usize) -> Self
+        requires begins { head < T.BITS }
+        requires inside { head + len ≤ T.BITS * vec_len elements }
+        requires fits { T.BITS * vec_len elements ≤ max_bits }
+        ensures { owned result ≡ shown T.BITS O.at T.value (take (div_ceil (head + len) T.BITS) elements.items) head len }
+    {
+        let mut elements = elements;
+        elements.truncate((head + len).div_ceil(T::BITS as usize));
+        BitVec::from_parts(elements, head, len)
+    }
+}
