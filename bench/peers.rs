@@ -128,3 +128,56 @@ pub extern "C" fn bit_vec_iter_ones(bits: &BitVec) -> usize {
     let ones = bits.iter().enumerate().filter(|&(_, bit)| bit);
     ones.fold(0, |sum, (index, _)| sum.wrapping_add(index))
 }
+
+// ---- sequences that get more bits or fewer, a round a call
+
+/// The bit of an index that a round adds.
+fn bit_of(index: usize, round: usize) -> bool {
+    (index ^ round) % 4 == 0
+}
+
+/// A vector of `len` bits: `front` ones, and then one in three that is 1.
+#[no_mangle]
+pub extern "C" fn bit_vec_of(front: usize, len: usize) -> *mut BitVec {
+    let bits = BitVec::from_fn(len, |i| i < front || (i - front) % 3 == 0);
+    Box::into_raw(Box::new(bits))
+}
+
+#[no_mangle]
+pub extern "C" fn bit_vec_push(bits: &mut BitVec, len: usize, round: usize) {
+    let mut made = BitVec::new();
+    for index in 0..len {
+        made.push(bit_of(index, round));
+    }
+    *bits = made;
+}
+
+#[no_mangle]
+pub extern "C" fn bit_vec_pop(bits: &mut BitVec, len: usize, round: usize) -> usize {
+    let mut ones = 0;
+    for _ in 0..len {
+        ones += usize::from(bits.pop() == Some(true));
+    }
+    bits.grow(len, round % 2 == 0);
+    ones
+}
+
+/// # Safety
+/// `bools` points to `count` truth values.
+#[no_mangle]
+pub unsafe extern "C" fn bit_vec_extend(bits: &mut BitVec, bools: *const bool, count: usize, front: usize) {
+    bits.truncate(front);
+    bits.extend(std::slice::from_raw_parts(bools, count).iter().copied());
+}
+
+#[no_mangle]
+pub extern "C" fn bit_vec_append(bits: &mut BitVec, more: &BitVec, front: usize) {
+    bits.truncate(front);
+    bits.append(&mut more.clone());
+}
+
+#[no_mangle]
+pub extern "C" fn bit_vec_resize(bits: &mut BitVec, len: usize, front: usize, round: usize) {
+    bits.truncate(front);
+    bits.grow(len - front, round % 2 == 0);
+}

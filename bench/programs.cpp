@@ -1,7 +1,8 @@
 // Times runs of `bitvec_times`, which is given as the first argument, and prints tables in Markdown: records beside a
 // struct of bit fields, elements of 128 bits beside those of 64, views of two types, walks over ones, single bits and few
-// bits beside loops by hand, and windows of 1024 bits beside peers.
+// bits beside loops by hand, and windows of 1024 bits and sequences that grow beside peers.
 #include "bits.hpp"
+#include "growing.hpp"
 #include "header.hpp"
 #include "peers.hpp"
 #include <algorithm>
@@ -343,6 +344,57 @@ static void within(const char *program) {
                 }
 }
 
+// A call that adds bits to a sequence or takes some: the round of each peer that has it and of the program, of so many bits
+// behind others. A time is given by so many parts of a round. The first rounds have the sum of those on a `std::vector<bool>`.
+template <class Round>
+static void grow(const char *program, const char *operation, const Growth &growth, size_t parts, size_t times, const Best &best,
+                 Round round) {
+    const std::string front = std::to_string(growth.front), len = std::to_string(growth.len);
+    std::printf("| %s | %s | %s |", operation, len.c_str(), front.c_str());
+    double least = std::numeric_limits<double>::infinity();
+    for (const char *order : {"lsb0", "msb0"})
+        for (size_t width : {8, 64}) {
+            const Task task{operation, {width}, {order, "0", front, len}};
+            VectorRounds checked(growth);
+            size_t sum = 0;
+            for (size_t i = 0; i < 5; ++i)
+                sum += round(checked, i);
+            check(program, task, 5, sum + checked.ones_left());
+            const double taken = time_runs(program, task, times);
+            std::printf(" %.3g |", taken / double(parts));
+            least = std::min(least, best.nanoseconds / taken);
+        }
+    for (const char *peer : {"vector<bool>", "dynamic_bitset", "bit-vec"})
+        if (const auto it = best.all.find(peer); it != best.all.end())
+            std::printf(" %.3g |", it->second / double(parts));
+        else
+            std::printf(" |");
+    std::printf(" %.3g |\n", least);
+}
+
+static void growing(const char *program) {
+    rounds = {7, 20e6, 1e9};
+    std::printf("\n### Sequences that get more bits or fewer, in ns: of `push`, `pop` and `extend` a bit, of the others a call\n\n"
+                "| operation | bits | behind | u8 Lsb0 | u64 Lsb0 | u8 Msb0 | u64 Msb0 | `vector<bool>` | `dynamic_bitset` | `bit-vec` | "
+                "slowest / best peer |\n|---|---|---|---|---|---|---|---|---|---|---|\n");
+    for (size_t len : {1000, 1'000'000}) {
+        const size_t loops = 30'000'000 / len, calls = 10'000'000 / (len / 500 + 10);
+        const Growth whole(len, 0), behind(len, 3);
+        const GrowingPeers peers(whole), peers_behind(behind);
+        grow(program, "push", whole, len, loops, peers.push(), [](auto &set, size_t i) { return set.push(i); });
+        grow(program, "pop", whole, len, loops, peers.pop(), [](auto &set, size_t i) { return set.pop(i); });
+        grow(program, "extend", whole, len, loops, peers.extend(), [](auto &set, size_t i) { return set.extend(i); });
+        auto join = [](auto &set, size_t i) { return set.extend_from_bitslice(i); };
+        grow(program, "extend_from_bitslice", whole, 1, calls, peers.extend_from_bitslice(), join);
+        grow(program, "extend_from_bitslice", behind, 1, calls, peers_behind.extend_from_bitslice(), join);
+        grow(program, "insert_first", whole, 1, calls, peers.insert_first(), [](auto &set, size_t i) { return set.insert_first(i); });
+        grow(program, "insert_middle", whole, 1, calls, peers.insert_middle(), [](auto &set, size_t i) { return set.insert_middle(i); });
+        grow(program, "remove_first", whole, 1, calls, peers.remove_first(), [](auto &set, size_t i) { return set.remove_first(i); });
+        grow(program, "remove_middle", whole, 1, calls, peers.remove_middle(), [](auto &set, size_t i) { return set.remove_middle(i); });
+        grow(program, "resize", behind, 1, calls, peers_behind.resize(), [](auto &set, size_t i) { return set.resize(i); });
+    }
+}
+
 int main(int, char **words) {
     records(words[1]);
     widths(words[1]);
@@ -352,4 +404,5 @@ int main(int, char **words) {
     walked_numbers(words[1]);
     windows(words[1]);
     within(words[1]);
+    growing(words[1]);
 }

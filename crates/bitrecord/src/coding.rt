@@ -184,8 +184,8 @@ pub fn encode_one<T: BitStore, O: FieldOrder, A: Allocator>(
     Ok(())
 }
 
-/// The number of one field, which has no more bits than the field. Conditions: the view has as many bits as a record, and
-/// there is such a field.
+/// The number of one field, which has no more bits than the field. Conditions: the view has as many bits as a record,
+/// and there is such a field.
 pub fn decode_one<T: BitStore, O: FieldOrder, A: Allocator>(
     layout: &Layout<A>,
     endian: Endian,

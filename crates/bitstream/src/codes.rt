@@ -46,8 +46,8 @@ pub fn put_code(writer: &mut Writer<'_>, number: u64) -> Result<(), CursorError>
     Ok(())
 }
 
-/// Writes the codes of numbers, one behind the other; every bit outside them stays. If there is too little room for all,
-/// the first of them are written. Condition: none of them is 0.
+/// Writes the codes of numbers, one behind the other; every bit outside them stays. If there is too little room for
+/// all, the first of them are written. Condition: none of them is 0.
 #[tactic(auto, using(crate::proofs::ListLaws::putting))]
 pub fn put_codes(writer: &mut Writer<'_>, numbers: &[u64]) -> Result<(), CursorError>
     requires { All (λ n. 0 < n) numbers.now }

@@ -8,8 +8,8 @@ ghost use Rattle.bitstream.specs.Codes.{AreCodes, LacksCodes, codes_len};
 use crate::codes::{Reader, Writer, put_codes, take_codes};
 use bitvec::in_place::CursorError;
 
-/// Writes the codes of numbers to bytes, from the first bit on, and tells how many bits they have. Conditions: the bytes
-/// have at most `MAX_BITS` bits, and none of the numbers is 0.
+/// Writes the codes of numbers to bytes, from the first bit on, and tells how many bits they have. Conditions: the
+/// bytes have at most `MAX_BITS` bits, and none of the numbers is 0.
 #[tactic(auto, using(bitvec::specs::Laws::sized))]
 pub fn encode(bytes: &mut [u8], numbers: &[u64]) -> Result<usize, CursorError>
     requires fits { 8 * length bytes.old ≤ max_bits }
@@ -37,8 +37,8 @@ pub fn decode(bytes: &[u8], numbers: &mut [u64]) -> Result<usize, CursorError>
     Ok(reader.position())
 }
 
-/// Writes the codes of numbers and reads as many numbers: they are the same, unless there is too little room. Conditions:
-/// as for [`encode`], and there are places for as many numbers.
+/// Writes the codes of numbers and reads as many numbers: they are the same, unless there is too little room.
+/// Conditions: as for [`encode`], and there are places for as many numbers.
 #[tactic(auto, using(crate::proofs::ListLaws::returning))]
 pub fn round_trip(bytes: &mut [u8], numbers: &[u64], taken: &mut [u64]) -> Result<(), CursorError>
     requires fits { 8 * length bytes.old ≤ max_bits }

@@ -29,6 +29,7 @@ use Rattle.bitvec.specs.ComposedLaws.{array-none, array-then, owned-both, owned-
 use Rattle.bitvec.specs.ChangesLaws.{changes-none, changes-then, number-unchanged}
 use Rattle.bitvec.specs.FoundLaws.{all_in-false, all_in-none, all_in-true, any_in-false, any_in-true, first_in-absent, first_in-before, first_in-below, first_in-bit, last_in-absent, last_in-after, last_in-below, last_in-bit, number-at_one, number-before_one, number-without_one}
 use Rattle.bitvec.specs.NumberSidesLaws.{get-high_number, get-low_number, number-high_sides, number-high_stored, number-low_sides, number-low_stored, number-none, number-one, number-ones, number-zeros}
+use Rattle.bitvec.specs.OwnViewsLaws.{bits-all, bits-front, bits-range}
 use Rattle.bitvec.specs.SeamlessLaws.{loaded-seamless, number-seamless, numbered-seamless, stored-seamless}
 use Rattle.bitvec.specs.ClosureLaws.{callable_below-always, callable_on_bits-always}
 use Rattle.bitvec.specs.MatchLaws.{contained, contains-absent, prefix-bit, prefix-fits, prefix-found, prefix-stripped, suffix-bit, suffix-fits, suffix-stripped}
@@ -103,6 +104,9 @@ pub ruleset zeroed = (bits-zeros)
 
 -- a `SliceOrder` of a user's own, whose functions call `bits_..` of `engine`
 pub ruleset own_order = (enough)
+
+-- the bits that a type of a user's own shows: those of its elements, of a range of them, and the first ones
+pub ruleset own_views = (bits-all, bits-range, bits-front)
 
 -- each bit, and the length, after edits of whole lists and of ranges, on views and in place
 pub ruleset bitwise = (lengths, kept_lengths, listed, ranged)

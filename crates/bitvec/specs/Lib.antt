@@ -9,6 +9,8 @@ pub mod MatchLaws
 pub mod NthLaws
 pub mod NumberSidesLaws
 pub mod Operators
+pub mod OwnViews
+pub mod OwnViewsLaws
 pub mod SeamlessLaws
 pub mod Types
 pub use Rattle.bitvec_base.specs.BitsFixMemory
@@ -68,8 +70,12 @@ pub use Rattle.bitvec_owned.specs.ArrayWrites
 pub use Rattle.bitvec_owned.specs.Around
 pub use Rattle.bitvec_owned.specs.AroundLaws
 pub use Rattle.bitvec_owned.specs.Arrays as BitArrays
+pub use Rattle.bitvec_owned.specs.Capacity
 pub use Rattle.bitvec_owned.specs.Copies
+pub use Rattle.bitvec_owned.specs.KeptBy
 pub use Rattle.bitvec_owned.specs.Owned
+pub use Rattle.bitvec_owned.specs.Retained
+pub use Rattle.bitvec_owned.specs.RetainedLaws
 pub use Rattle.bitvec_owned.specs.Writes as OwnedWrites
 pub use Rattle.bitvec_closures.specs.CoversLaws as SplitCoversLaws
 pub use Rattle.bitvec_closures.specs.Elements

@@ -1,5 +1,5 @@
 //! Callers of `bitvec` as codecs, maps and containers need it: numbers of ranges side by side, what was found in place, the
-//! front of an array, cursors, and edits of a type of one's own.
+//! front of an array, cursors, and types of one's own that edit and are asked.
 #![tactic(auto)]
 
 #[cfg(test)]
@@ -14,3 +14,5 @@ mod number_sides;
 mod numbers_in_views;
 #[cfg(test)]
 mod own_edits;
+#[cfg(test)]
+mod own_views;

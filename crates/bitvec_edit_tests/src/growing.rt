@@ -40,6 +40,17 @@ fn are<T: BitStore, O: SliceOrder>(bits: &BitVec<T, O, Global>, list: &[bool]) -
         && bits.iter().by_vals().eq(list.iter().copied())
 }
 
+/// Keeps the ones and every third bit of both.
+fn retain_some<T: BitStore, O: SliceOrder>(bits: &mut BitVec<T, O, Global>, list: &mut Vec<bool>) {
+    bits.retain(|place, bit| *bit || place % 3 == 0);
+    let mut place = 0usize;
+    list.retain(|bit| {
+        let keeps = *bit || place % 3 == 0;
+        place = place.wrapping_add(1);
+        keeps
+    });
+}
+
 /// A call at the end of both, as a number says.
 fn call_at_end<T: BitStore, O: SliceOrder>(
     bits: &mut BitVec<T, O, Global>,
@@ -49,7 +60,7 @@ fn call_at_end<T: BitStore, O: SliceOrder>(
 ) -> Result<bool, AllocError> {
     let bit = number % 3 == 0;
     let size = index.saturating_add((number >> 40) as usize % 100);
-    match (number >> 56) % 8 {
+    match (number >> 56) % 9 {
         0 | 1 | 2 => {
             bits.push(bit)?;
             list.push(bit)?;
@@ -71,6 +82,7 @@ fn call_at_end<T: BitStore, O: SliceOrder>(
             bits.truncate(300);
             list.truncate(300);
         }
+        7 => retain_some(bits, list),
         _ => {
             bits.truncate(index);
             list.truncate(index);
@@ -182,6 +194,41 @@ fn no_bits_and_the_ends(rt: HostRuntime) {
     assert!(rt; at_the_ends(rt.alloc()) == Ok(true));
 }
 
+/// Whether `retain` leaves no bits as they are, keeps all of some, then the last one, then none.
+fn retains_all_or_none(alloc: Global) -> Result<bool, AllocError> {
+    let mut nothing = Bytes::new_in(alloc);
+    nothing.retain(|_, bit| *bit);
+    let bools = [true, false, true, true, false, true, true, false, true];
+    let mut bits = Bytes::from_bools(alloc, &bools)?;
+    bits.retain(|_, _| true);
+    let all = bits.as_raw_slice() == [0x6D, 0x01].as_slice();
+    bits.retain(|place, _| place == 8);
+    let last = bits.as_raw_slice() == [0x01].as_slice();
+    bits.retain(|_, bit| !*bit);
+    Ok(nothing.is_empty() && all && last && bits.as_raw_slice().is_empty())
+}
+
+#[test]
+fn all_bits_are_retained_or_none(rt: HostRuntime) {
+    assert!(rt; retains_all_or_none(rt.alloc()) == Ok(true));
+}
+
+/// Whether a sequence has the memory that it asked for, and gives back what it doesn't need.
+fn has_room(alloc: Global) -> Result<bool, AllocError> {
+    let mut bits = Bytes::with_capacity_in(alloc, 17)?;
+    let room = bits.is_empty() && bits.capacity() == 24;
+    bits.resize(3, true)?;
+    bits.reserve(100)?;
+    let more = bits.len() == 3 && bits.capacity() >= 103;
+    bits.shrink_to_fit();
+    Ok(room && more && bits.capacity() == 8)
+}
+
+#[test]
+fn sequences_have_room(rt: HostRuntime) {
+    assert!(rt; has_room(rt.alloc()) == Ok(true));
+}
+
 /// Whether sequences are made of truth values, of views and of elements.
 fn are_made(alloc: Global) -> Result<bool, AllocError> {
     let bools = [true, false, true, true, false, false, false, false, true];
@@ -192,14 +239,11 @@ fn are_made(alloc: Global) -> Result<bool, AllocError> {
     )?;
     let elements = vec![in alloc; 0xD0, 0xE0, 0xFF]?;
     let part = Bytes::from_elements(elements, 4, 5);
-    let room = Bytes::with_capacity_in(alloc, 17)?;
     Ok(
         made.as_raw_slice() == [0x0D, 0x01].as_slice()
             && made == copy
             && part.as_raw_slice() == [0xD0, 0xE0].as_slice()
-            && part.len() == 5
-            && room.is_empty()
-            && room.capacity() >= 17,
+            && part.len() == 5,
     )
 }
 

@@ -90,6 +90,8 @@ fn too_many(none: &Refusing<Global>) -> bool {
     let mut bits = Refused::new_in(none);
     let most = BitSlice::<u8, Lsb0>::MAX_BITS;
     bits.resize(most.saturating_add(1), true) == Err(AllocError)
+        && bits.reserve(most) == Err(AllocError)
+        && Refused::with_capacity_in(none, most).is_err()
         && bits.is_empty()
         && none.refused() == 0
 }

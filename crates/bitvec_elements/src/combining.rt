@@ -5,9 +5,9 @@ ghost use Rattle.bitvec_base.specs.Memory.{HasWindow, Writes, list_in};
 ghost use Rattle.bitvec_words.specs.Operator.{operator};
 
 use crate::recutting::hold;
-use bitvec_base::{BitOrder, Lsb0, Msb0, Window};
+use bitvec_base::{BitOrder, Window};
 use bitvec_cells::{Exclusive, Shared};
-use bitvec_engine::{Direction, SliceOrder, bits_op, direction_of};
+use bitvec_engine::{SliceOrder, bits_op};
 use bitvec_store::BitStore;
 use bitvec_words::{BitOp, WordOrder};
 
@@ -28,15 +28,10 @@ pub fn combine_in<T: BitStore, O: BitOrder, U: BitStore, P: BitOrder>(
         (combined (operator op) (list_in T.BITS O.at (map T.value left.old) left_window)
         (list_in U.BITS P.at (map U.value right.now) right_window)) }
 {
-    match direction_of::<O, T>() {
-        Direction::Up => combine_run::<Lsb0, T, U, P>(left, left_window, right, right_window, op),
-        Direction::Down => combine_run::<Msb0, T, U, P>(left, left_window, right, right_window, op),
-        Direction::Other => {
-            let mut cells = Exclusive::new(left);
-            let mut source = Shared::new(right);
-            bits_op::<O, P, _, _>(&mut cells, left_window, &mut source, right_window, op);
-        }
-    }
+    return_by_direction!(O, T => combine_run::<_, T, U, P>(left, left_window, right, right_window, op));
+    let mut cells = Exclusive::new(left);
+    let mut source = Shared::new(right);
+    bits_op::<O, P, _, _>(&mut cells, left_window, &mut source, right_window, op);
 }
 
 /// [`combine_in`] under an order that runs from one end of an element to the other. The right bits are recut to
@@ -54,14 +49,7 @@ fn combine_run<W: WordOrder + SliceOrder, T: BitStore, U: BitStore, P: BitOrder>
         (combined (operator op) (list_in T.BITS W.at (map T.value left.old) left_window)
         (list_in U.BITS P.at (map U.value right.now) right_window)) }
 {
-    let bits = T::BITS as usize;
-    if left_window.len <= 8 * bits {
-        combine_blocks::<W, T, U, P, 8>(left, left_window, right, right_window, op);
-    } else if bits > 16 || left_window.len <= 258 * bits {
-        combine_blocks::<W, T, U, P, 258>(left, left_window, right, right_window, op);
-    } else {
-        combine_blocks::<W, T, U, P, 2050>(left, left_window, right, right_window, op);
-    }
+    with_room!(T, left_window.len => combine_blocks::<W, T, U, P, _>(left, left_window, right, right_window, op))
 }
 
 /// [`combine_run`] by blocks of `HELD` elements. Conditions: as for [`combine_in`], and `HELD` is from 1 to 8192.

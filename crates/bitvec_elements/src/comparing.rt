@@ -18,7 +18,7 @@ use bitvec_words::{WORD_BITS, WordOrder};
 use std::cmp::Ordering;
 
 /// How many equal bits [`compare_block_in`] passes at a time.
-const STRETCH: usize = 4096;
+const EQUAL_BITS: usize = 4096;
 
 /// Windows of fewer bits are short ones to [`eq_blocks_in`].
 const SHORT_BITS: usize = 2048;
@@ -72,11 +72,7 @@ pub fn eq_block_in<T: BitStore, O: SliceOrder>(
         return false;
     }
     if left_window.len <= WORD_BITS {
-        match direction_of::<O, T>() {
-            Direction::Up => return eq_few::<Lsb0, T>(left, left_window, right, right_window),
-            Direction::Down => return eq_few::<Msb0, T>(left, left_window, right, right_window),
-            Direction::Other => {}
-        }
+        return_by_direction!(O, T => eq_few::<_, T>(left, left_window, right, right_window));
     }
     eq_blocks_in::<T, O>(left, left_window, right, right_window)
 }
@@ -185,7 +181,7 @@ pub fn compare_block_in<T: BitStore, O: SliceOrder>(
     let len = left_window.len.min(right_window.len);
     let mut from = 0;
     while from < len {
-        let to = from + STRETCH.min(len - from);
+        let to = from + EQUAL_BITS.min(len - from);
         let part = left_window.range(from, to);
         let other = right_window.range(from, to);
         if !eq_blocks_in::<T, O>(left, part, right, other) {

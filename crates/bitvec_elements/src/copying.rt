@@ -8,9 +8,9 @@ ghost use Rattle.bitvec_words.specs.Moves.{Copies};
 use crate::copying_elements::{AT_ONCE_BITS, copy_elements_in, copy_whole_in};
 use crate::recutting::recut;
 use crate::window_words::{few_word, window_word};
-use bitvec_base::{BitOrder, Lsb0, Msb0, Window};
+use bitvec_base::{BitOrder, Window};
 use bitvec_cells::{Exclusive, Shared};
-use bitvec_engine::{Direction, SliceOrder, bits_copy, direction_of, store_few};
+use bitvec_engine::{SliceOrder, bits_copy, direction_of, store_few};
 use bitvec_store::BitStore;
 use bitvec_words::{WORD_BITS, WordOrder};
 
@@ -29,15 +29,10 @@ pub fn copy_from_in<T: BitStore, O: BitOrder, U: BitStore, P: BitOrder>(
     ensures writes { Writes T.BITS O.at (map T.value left.old) (map T.value left.new) left_window
         (list_in U.BITS P.at (map U.value right.now) right_window) }
 {
-    match direction_of::<O, T>() {
-        Direction::Up => recut::<Lsb0, P, T, U>(left, left_window, right, right_window),
-        Direction::Down => recut::<Msb0, P, T, U>(left, left_window, right, right_window),
-        Direction::Other => {
-            let mut cells = Exclusive::new(left);
-            let mut source = Shared::new(right);
-            bits_copy::<O, P, _, _>(&mut cells, left_window, &mut source, right_window);
-        }
-    }
+    return_by_direction!(O, T => recut::<_, P, T, U>(left, left_window, right, right_window));
+    let mut cells = Exclusive::new(left);
+    let mut source = Shared::new(right);
+    bits_copy::<O, P, _, _>(&mut cells, left_window, &mut source, right_window);
 }
 
 /// [`copy_from_in`] under an order that runs from one end of an element to the other, up to 64 bits
@@ -79,11 +74,7 @@ pub fn copy_from_block_in<T: BitStore, O: SliceOrder>(
         (list_in T.BITS O.at (map T.value right.now) right_window) }
 {
     if left_window.len <= WORD_BITS {
-        match direction_of::<O, T>() {
-            Direction::Up => return copy_few::<Lsb0, T>(left, left_window, right, right_window),
-            Direction::Down => return copy_few::<Msb0, T>(left, left_window, right, right_window),
-            Direction::Other => {}
-        }
+        return_by_direction!(O, T => copy_few::<_, T>(left, left_window, right, right_window));
     }
     copy_from_long_block_in::<T, O>(left, left_window, right, right_window);
 }

@@ -30,11 +30,8 @@ pub(crate) fn common_bits<T: BitStore, O: BitOrder, U: BitStore, P: BitOrder>(
     if left_window.len.min(right_window.len) <= FEW_BITS {
         return common_words::<T, O, U, P>(left, left_window, right, right_window);
     }
-    match direction_of::<O, T>() {
-        Direction::Up => common_run::<Lsb0, T, U, P>(left, left_window, right, right_window),
-        Direction::Down => common_run::<Msb0, T, U, P>(left, left_window, right, right_window),
-        Direction::Other => common_words::<T, O, U, P>(left, left_window, right, right_window),
-    }
+    return_by_direction!(O, T => common_run::<_, T, U, P>(left, left_window, right, right_window));
+    common_words::<T, O, U, P>(left, left_window, right, right_window)
 }
 
 /// [`common_bits`] under an order that runs from one end of an element to the other. The right bits are recut to
@@ -50,10 +47,7 @@ fn common_run<W: WordOrder + SliceOrder, T: BitStore, U: BitStore, P: BitOrder>(
     ensures { DiffersFrom (list_in T.BITS W.at (map T.value left.now) left_window)
         (list_in U.BITS P.at (map U.value right.now) right_window) result }
 {
-    if T::BITS > 16 {
-        return common_blocks::<W, T, U, P, 258>(left, left_window, right, right_window);
-    }
-    common_blocks::<W, T, U, P, 2050>(left, left_window, right, right_window)
+    with_room!(T, left_window.len => common_blocks::<W, T, U, P, _>(left, left_window, right, right_window))
 }
 
 /// [`common_run`] by blocks of `HELD` elements, and at first of fewer bits, since views often differ early.

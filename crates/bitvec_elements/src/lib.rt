@@ -1,6 +1,36 @@
 //! The bit operations on windows of borrowed slices of elements, without counts: what views call.
 #![tactic(auto)]
 
+/// Under an order that runs from one end of an element to the other, returns what a function gives under `Lsb0` or
+/// `Msb0`, which has the same bits at each index; under other orders it does nothing. The `_` stands for that order.
+macro_rules! return_by_direction {
+    ($order:ty, $element:ty => $function:ident::<_ $(, $kind:ty)*>($($argument:expr),* $(,)?)) => {
+        match bitvec_engine::direction_of::<$order, $element>() {
+            bitvec_engine::Direction::Up => {
+                return $function::<bitvec_base::Lsb0 $(, $kind)*>($($argument),*);
+            }
+            bitvec_engine::Direction::Down => {
+                return $function::<bitvec_base::Msb0 $(, $kind)*>($($argument),*);
+            }
+            bitvec_engine::Direction::Other => {}
+        }
+    };
+}
+
+/// Calls a function with the size of a block for so many bits: 8, 258 or 2,050 elements. The `_` stands for it.
+macro_rules! with_room {
+    ($element:ty, $len:expr => $function:ident::<$W:ty, $T:ty, $U:ty, $P:ty, _>($($argument:expr),*)) => {{
+        let bits = <$element>::BITS as usize;
+        if $len <= 8 * bits {
+            $function::<$W, $T, $U, $P, 8>($($argument),*)
+        } else if bits > 16 || $len <= 258 * bits {
+            $function::<$W, $T, $U, $P, 258>($($argument),*)
+        } else {
+            $function::<$W, $T, $U, $P, 2050>($($argument),*)
+        }
+    }};
+}
+
 mod combining;
 mod comparing;
 mod converting;

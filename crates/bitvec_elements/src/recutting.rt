@@ -5,9 +5,8 @@ ghost use Rattle.bitvec_base.specs.Memory.{HasWindow, Writes, list_in};
 
 use crate::copying::copy_words;
 use crate::window_words::{reordered, word_behind};
-use bitvec_base::{BitOrder, Lsb0, Msb0, Window};
+use bitvec_base::{BitOrder, Window};
 use bitvec_cells::Exclusive;
-use bitvec_engine::{Direction, direction_of};
 use bitvec_store::BitStore;
 use bitvec_words::{WORD_BITS, WordOrder, store_elements};
 
@@ -49,18 +48,14 @@ pub(crate) fn recut<W: WordOrder, P: BitOrder, T: BitStore, U: BitStore>(
 {
     let narrow = T::BITS as usize <= WORD_BITS && U::BITS as usize <= WORD_BITS;
     if narrow && to.len > WORD_BITS {
-        match direction_of::<P, U>() {
-            Direction::Up => return recut_run::<W, Lsb0, T, U>(left, to, right, from),
-            Direction::Down => return recut_run::<W, Msb0, T, U>(left, to, right, from),
-            Direction::Other => {}
-        }
+        return_by_direction!(P, U => recut_run::<_, W, T, U>(left, to, right, from));
     }
     copy_words::<W, T, U, P>(left, to, right, from);
 }
 
 /// [`recut`] where both orders run from one end of an element to the other. Conditions: as for [`recut`]; no element
 /// is wider than a word, and the windows have as many bits.
-fn recut_run<W: WordOrder, V: WordOrder, T: BitStore, U: BitStore>(
+fn recut_run<V: WordOrder, W: WordOrder, T: BitStore, U: BitStore>(
     left: &mut [T],
     to: Window,
     right: &[U],

@@ -5,9 +5,9 @@ ghost use Rattle.bitvec_base.specs.Memory.{HasWindow, Writes, list_in};
 
 use crate::copying::copy_from_in;
 use crate::recutting::hold;
-use bitvec_base::{BitOrder, Lsb0, Msb0, Window};
+use bitvec_base::{BitOrder, Window};
 use bitvec_cells::Exclusive;
-use bitvec_engine::{Direction, SliceOrder, bits_swap, direction_of};
+use bitvec_engine::{SliceOrder, bits_swap};
 use bitvec_store::BitStore;
 use bitvec_words::WordOrder;
 
@@ -27,15 +27,10 @@ pub fn swap_with_in<T: BitStore, O: BitOrder, U: BitStore, P: BitOrder>(
     ensures right_writes { Writes U.BITS P.at (map U.value right.old) (map U.value right.new) right_window
         (list_in T.BITS O.at (map T.value left.old) left_window) }
 {
-    match direction_of::<O, T>() {
-        Direction::Up => swap_run::<Lsb0, T, U, P>(left, left_window, right, right_window),
-        Direction::Down => swap_run::<Msb0, T, U, P>(left, left_window, right, right_window),
-        Direction::Other => {
-            let mut cells = Exclusive::new(left);
-            let mut others = Exclusive::new(right);
-            bits_swap::<O, P, _, _>(&mut cells, left_window, &mut others, right_window);
-        }
-    }
+    return_by_direction!(O, T => swap_run::<_, T, U, P>(left, left_window, right, right_window));
+    let mut cells = Exclusive::new(left);
+    let mut others = Exclusive::new(right);
+    bits_swap::<O, P, _, _>(&mut cells, left_window, &mut others, right_window);
 }
 
 /// [`swap_with_in`] where the left order runs from one end of an element to the other. The right bits are recut
@@ -52,14 +47,7 @@ fn swap_run<W: WordOrder + SliceOrder, T: BitStore, U: BitStore, P: BitOrder>(
     ensures right_writes { Writes U.BITS P.at (map U.value right.old) (map U.value right.new) right_window
         (list_in T.BITS W.at (map T.value left.old) left_window) }
 {
-    let bits = T::BITS as usize;
-    if left_window.len <= 8 * bits {
-        swap_blocks::<W, T, U, P, 8>(left, left_window, right, right_window);
-    } else if bits > 16 || left_window.len <= 258 * bits {
-        swap_blocks::<W, T, U, P, 258>(left, left_window, right, right_window);
-    } else {
-        swap_blocks::<W, T, U, P, 2050>(left, left_window, right, right_window);
-    }
+    with_room!(T, left_window.len => swap_blocks::<W, T, U, P, _>(left, left_window, right, right_window))
 }
 
 /// [`swap_run`] by blocks of `HELD` elements. Conditions: as for [`swap_with_in`], and `HELD` is from 1 to 8192.

@@ -30,7 +30,7 @@ pub struct BitReader<'a, T: BitStore, O: BitOrder> {
 
 #[tactic(auto, using(crate::proofs::Cursors::cursors))]
 impl<'a, T: BitStore, O: FieldOrder> BitReader<'a, T, O> {
-    ghost use Rattle.std.specs.Prelude.{◌≡◌, ◌+◌, ◌-◌, ◌<◌, ◌↔◌, IfErr, IfOk, IsOk, if◌then◌else◌, is_ok, map};
+    ghost use Rattle.std.specs.Prelude.{◌≡◌, ◌+◌, ◌-◌, ◌%◌, ◌<◌, ◌↔◌, IfErr, IfOk, IsOk, if◌then◌else◌, is_ok, map};
     ghost use Rattle.bitvec_base.specs.Memory.{memory_bits};
     ghost use Rattle.bitvec_in_place.specs.Cursors.{reading};
     ghost use Rattle.bitvec_in_place.specs.Ranges.{bits_in, number_in};
@@ -65,10 +65,11 @@ impl<'a, T: BitStore, O: FieldOrder> BitReader<'a, T, O> {
         T::BITS as usize * self.elements.len() - self.position
     }
 
-    /// The bits that are left, as a view.
+    /// The bits that are left, as a view, which begins at the index in its first element at which they do.
     pub fn rest(&self) -> BitSlice<'a, T, O>
         ensures bits { (seen result).bits ≡ bits_in (reading self.now).bits (reading self.now).position (length (reading self.now).bits) }
         ensures len { (seen result).window.len ≡ length (reading self.now).bits - (reading self.now).position }
+        ensures start { (seen result).window.start ≡ (reading self.now).position % T.BITS }
     {
         let all = BitSlice::from_slice(self.elements);
         let len = all.len();

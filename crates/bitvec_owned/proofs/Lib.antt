@@ -1,5 +1,6 @@
 mod FrontLists
 mod Fronts
 mod Held
+mod Kept
 mod Middles
 mod Repeats

@@ -4,9 +4,13 @@ pub mod ArrayLaws
 pub mod ArrayLending
 pub mod ArrayWrites
 pub mod Arrays
+pub mod Capacity
 pub mod Copies
 pub mod Fronts
+pub mod KeptBy
 pub mod Lending
 pub mod Owned
+pub mod Retained
+pub mod RetainedLaws
 pub mod Writes
 pub mod WritesLaws

@@ -1,5 +1,5 @@
 //! An owned sequence of bits.
-ghost use Rattle.std.specs.Prelude.{◌≡◌, ◌+◌, ◌*◌, ◌<◌, ◌≤◌, ◌==◌, length, map, vec_len};
+ghost use Rattle.std.specs.Prelude.{◌≡◌, ◌+◌, ◌-◌, ◌*◌, ◌<◌, ◌≤◌, ◌==◌, length, map, vec_capacity, vec_len};
 ghost use Rattle.std.specs.Borrow.{sem};
 ghost use Rattle.std.specs.Int.{div_ceil};
 ghost use Rattle.bitvec_base.specs.Window.{max_bits};
@@ -30,6 +30,7 @@ impl<T: BitStore, O: BitOrder, A: Allocator> BitVec<T, O, A> {
     ghost use Rattle.bitvec_base.specs.Memory.{HasWindow};
     ghost use Rattle.bitvec_slice.specs.Seen.{shown};
     ghost use Rattle.bitvec_slice.specs.Views.{name_of, seen, seen_mut};
+    ghost use Rattle.bitvec_owned.specs.Capacity.{bit_capacity, usable_bits};
     ghost use Rattle.bitvec_owned.specs.Lending.{lends};
     ghost use Rattle.bitvec_owned.specs.Owned.{owned};
 
@@ -37,7 +38,8 @@ impl<T: BitStore, O: BitOrder, A: Allocator> BitVec<T, O, A> {
         requires begins { head < T.BITS }
         requires touched { vec_len elements ≡ div_ceil (head + len) T.BITS }
         requires fits { T.BITS * vec_len elements ≤ max_bits }
-        ensures { owned result ≡ shown T.BITS O.at T.value elements.items head len }
+        ensures shows { owned result ≡ shown T.BITS O.at T.value elements.items head len }
+        ensures capacity { bit_capacity result ≡ usable_bits T.BITS (vec_capacity elements) - head }
     {
         BitVec {
             elements,

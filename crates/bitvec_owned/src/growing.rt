@@ -6,4 +6,5 @@ mod ends;
 mod making;
 mod middle;
 mod parting;
+mod retaining;
 mod walking;

@@ -104,11 +104,7 @@ impl<'a, T: BitStore, O: BitOrder> BitSliceMut<'a, T, O> {
     pub fn first_mut(&mut self) -> Option<BitRefMut<'_, T, O>>
         ensures { IsGiven (0 < (seen_mut self.old).window.len) (WritesBitOf (seen_mut self.old) 0) result }
     {
-        if self.is_empty() {
-            None
-        } else {
-            Some(self.bit_mut(0))
-        }
+        self.first_lent().bit()
     }
 
     /// The last bit for writing: `None` exactly where there is no bit.
@@ -116,11 +112,6 @@ impl<'a, T: BitStore, O: BitOrder> BitSliceMut<'a, T, O> {
         ensures { IsGiven (0 < (seen_mut self.old).window.len)
             (WritesBitOf (seen_mut self.old) ((seen_mut self.old).window.len - 1)) result }
     {
-        if self.is_empty() {
-            None
-        } else {
-            let last = self.len() - 1;
-            Some(self.bit_mut(last))
-        }
+        self.last_lent().bit()
     }
 }

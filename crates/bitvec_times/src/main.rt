@@ -13,6 +13,9 @@
 //! Or it is `or_rows`, `or_rows_within` or `or_rows_overlapping`, of rows of so many bits of two matrices or of
 //! one, which change from round to round and begin at indices of an element that lie PHASE apart.
 //!
+//! Or it is `push`, `pop`, `extend`, `extend_from_bitslice`, `insert_first`, `insert_middle`, `remove_first`,
+//! `remove_middle` or `resize`, of a sequence of so many bits; what `extend` and its kin add begins behind LEFT bits.
+//!
 //! Or it is `index`, `get`, `set` or `by_vals`, of each of 2^20 bits in a row, or `index_at_random` or
 //! `set_at_random`, of each in another order, under `Lsb0` where PHASE is 0 and else under `Msb0`. Or it
 //! is `copy_few`, `fill_few`, `count_ones_few` or `equality_few`, of PHASE bits, 8 or 64, whose place
@@ -22,6 +25,7 @@
 mod acts;
 mod bits;
 mod few;
+mod growing;
 mod mixed;
 mod operation;
 mod record;

@@ -4,6 +4,7 @@ use crate::acts::{
     Reversed, Rotated, Shifted, Started, Swapped,
 };
 use crate::bits::{BITS, Place, zeros_and_one};
+use crate::growing::growing_times;
 use crate::rows::rows_times;
 use bitrecord::bits::{BitEdits, BitQueries, BitSliceMut, BitStore, SliceOrder};
 use std::alloc::Allocator;
@@ -35,7 +36,10 @@ pub(crate) fn operation_times<T: BitStore, O: SliceOrder, A: Allocator + Copy>(
         "shift_start" => act_times::<Shifted, T, O, A>(alloc, place, times),
         "starts_with" => act_times::<Started, T, O, A>(alloc, place, times),
         "swap" => act_times::<Swapped, T, O, A>(alloc, place, times),
-        _ => rows_times::<T, O, A>(alloc, name, place, times),
+        "or_rows" | "or_rows_within" | "or_rows_overlapping" => {
+            rows_times::<T, O, A>(alloc, name, place, times)
+        }
+        _ => growing_times::<T, O, A>(alloc, name, place, times),
     }
 }
 

@@ -1,5 +1,5 @@
-//! One row of bits or-ed into another one, of a second matrix or of its own. The rows change from round to round, so that
-//! nothing about a call is known before it.
+//! One row of bits or-ed into another one, of a second matrix or of its own. The rows change from round to round, so
+//! that nothing about a call is known before it.
 use crate::bits::{BITS, Place, zeros_and_one};
 use bitrecord::bits::{BitEdits, BitQueries, BitSlice, BitSliceMut, BitStore, SliceOrder};
 use std::alloc::Allocator;
@@ -79,8 +79,8 @@ fn rounds<F: Join, T: BitStore, O: SliceOrder>(
     }
 }
 
-/// Joins rows so many times, and gives how many ones the left matrix has then. The rows of a pair begin at indices of an
-/// element that lie as far apart as the place says: rows that overlap are so many bits apart, or 64. None where no
+/// Joins rows so many times, and gives how many ones the left matrix has then. The rows of a pair begin at indices of
+/// an element that lie as far apart as the place says: rows that overlap are so many bits apart, or 64. None where no
 /// operation has the name, or memory was refused.
 pub(crate) fn rows_times<T: BitStore, O: SliceOrder, A: Allocator + Copy>(
     alloc: A,

@@ -1,5 +1,5 @@
-//! What stands on top: runs of commands on worked rows, the program on streams and memory that fail, operations and runs
-//! that test their arguments, and packed records. The commands themselves are compared with a model in `golden/`.
+//! What stands on top: runs of commands on worked rows, the program on streams and memory that fail, operations and
+//! runs that test their arguments, and packed records. The commands themselves are compared with a model in `golden/`.
 #![tactic(auto)]
 
 /// The steps of a table of rows: from, up to, and the command.

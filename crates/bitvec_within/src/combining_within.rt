@@ -281,11 +281,11 @@ fn combine_overlapping<T: BitStore, O: SliceOrder>(
     let bits = T::BITS as usize;
     let (most, touched) = (elements.len(), (window.start + from) % bits + len);
     if most >= 18 && touched <= 18 * bits {
-        combine_stretch::<T, O, 18>(elements, window, from, dest, len, op);
+        combine_aside::<T, O, 18>(elements, window, from, dest, len, op);
     } else if most >= 64 && touched <= 64 * bits {
-        combine_stretch::<T, O, 64>(elements, window, from, dest, len, op);
+        combine_aside::<T, O, 64>(elements, window, from, dest, len, op);
     } else if most >= 128 && touched <= 128 * bits {
-        combine_stretch::<T, O, 128>(elements, window, from, dest, len, op);
+        combine_aside::<T, O, 128>(elements, window, from, dest, len, op);
     } else {
         combine_long::<T, O>(elements, window, from, dest, len, op);
     }
@@ -312,7 +312,7 @@ fn combine_long<T: BitStore, O: SliceOrder>(
     }
     let (most, touched) = (elements.len(), (window.start + from) % bits + len);
     if most >= 258 && touched <= 258 * bits {
-        combine_stretch::<T, O, 258>(elements, window, from, dest, len, op);
+        combine_aside::<T, O, 258>(elements, window, from, dest, len, op);
     } else if most >= 4098 && bits <= 16 && len >= 4097 * bits {
         combine_blocks::<T, O, 4098>(elements, window, from, dest, len, op);
     } else if most >= 514 {
@@ -330,8 +330,8 @@ fn combine_long<T: BitStore, O: SliceOrder>(
     }
 }
 
-/// [`combine_overlapping`] by blocks of one element fewer than `HELD`, from the end at which no bit is written over before it
-/// is read. Conditions: `HELD` is from 2 to 8192, and the memory has as many elements.
+/// [`combine_overlapping`] by blocks of one element fewer than `HELD`, from the end at which no bit is written over
+/// before it is read. Conditions: `HELD` is from 2 to 8192, and the memory has as many elements.
 fn combine_blocks<T: BitStore, O: SliceOrder, const HELD: usize>(
     elements: &mut [T],
     window: Window,
@@ -354,7 +354,7 @@ fn combine_blocks<T: BitStore, O: SliceOrder, const HELD: usize>(
         let index = in_turn(from, dest, turn, count);
         let done = index * size;
         let block = size.min(len - done);
-        combine_stretch::<T, O, HELD>(elements, window, from + done, dest + done, block, op);
+        combine_aside::<T, O, HELD>(elements, window, from + done, dest + done, block, op);
     }
 }
 
@@ -401,13 +401,13 @@ fn combine_few<T: BitStore, O: SliceOrder>(
     if elements.len() > 1 {
         combine_held::<T, O, 2>(elements, window, from, dest, len, op);
     } else {
-        combine_stretch::<T, O, 1>(elements, window, from, dest, len, op);
+        combine_aside::<T, O, 1>(elements, window, from, dest, len, op);
     }
 }
 
 /// [`combine_held`], not inlined, with loops for each operator: they are not made once more for each call.
 #[inline(never)]
-fn combine_stretch<T: BitStore, O: SliceOrder, const HELD: usize>(
+fn combine_aside<T: BitStore, O: SliceOrder, const HELD: usize>(
     elements: &mut [T],
     window: Window,
     from: usize,

@@ -9,7 +9,7 @@ use crate::swapping_within::swap_ranges;
 use bitvec_base::{Lsb0, Msb0, Window};
 use bitvec_cells::Exclusive;
 use bitvec_elements::{copy_from_long_block_in, few_word};
-use bitvec_engine::{Direction, SliceOrder, direction_of, rotate_left, store_few};
+use bitvec_engine::{Direction, SliceOrder, direction_of, store_few};
 use bitvec_store::BitStore;
 use bitvec_words::{WORD_BITS, WordOrder, moved};
 
@@ -67,31 +67,22 @@ fn rotated_word<W: WordOrder>(word: u64, len: usize, by: usize) -> u64
     first | last
 }
 
-/// [`rotate_left_in`] of any length. Blocks are exchanged until the rest can be held aside. What holds it
-/// is a power of two of elements: no more than the memory has, and no more than 16 or than have 1,024
-/// bits. A memory of fewer than four elements takes three reversals.
+/// [`rotate_left_in`] of any length. Blocks are exchanged until the rest can be held aside, in an array of 1,024
+/// bits or more.
 fn rotate_many<T: BitStore, O: SliceOrder>(elements: &mut [T], window: Window, by: usize)
     requires window { HasWindow T.BITS (map T.value elements.old) window }
     requires bound { by ≤ window.len }
     ensures writes { Edits T.BITS O.at (map T.value elements.old) (map T.value elements.new) window (rotated_left by) }
 {
-    let most = (1024 / T::BITS as usize).max(16).min(elements.len());
-    match most {
-        128.. => rotate_aside::<T, O, 128>(elements, window, by),
-        64.. => rotate_aside::<T, O, 64>(elements, window, by),
-        32.. => rotate_aside::<T, O, 32>(elements, window, by),
-        16.. => rotate_aside::<T, O, 16>(elements, window, by),
-        8.. => rotate_aside::<T, O, 8>(elements, window, by),
-        4.. => rotate_aside::<T, O, 4>(elements, window, by),
-        _ => {
-            let mut accessor = Exclusive::new(elements);
-            rotate_left::<O, Exclusive<T>>(&mut accessor, window, by);
-        }
+    if T::BITS <= 32 {
+        rotate_aside::<T, O, 128>(elements, window, by);
+    } else {
+        rotate_aside::<T, O, 16>(elements, window, by);
     }
 }
 
 /// Rotates the bits of a window so that the bit at `by` comes first, with up to `HELD` elements held
-/// aside. Conditions: as for [`rotate_left_in`], and the memory has as many elements, which are at most 128.
+/// aside. Conditions: as for [`rotate_left_in`], and `HELD` is at most 128.
 fn rotate_aside<T: BitStore, O: SliceOrder, const HELD: usize>(
     elements: &mut [T],
     window: Window,
@@ -99,12 +90,9 @@ fn rotate_aside<T: BitStore, O: SliceOrder, const HELD: usize>(
 )
     requires window { HasWindow T.BITS (map T.value elements.old) window }
     requires bound { by ≤ window.len }
-    requires many { HELD ≤ length elements.old }
     requires few { HELD ≤ 128 }
     ensures writes { Edits T.BITS O.at (map T.value elements.old) (map T.value elements.new) window (rotated_left by) }
 {
-    // an array as large as a part of the memory takes no more bytes than there are
-    let _count = elements.len();
     T::fits_in_memory();
     let mut held = [T::ZERO; HELD];
     rotate_blocks::<T, O>(elements, window, by, &mut held);
@@ -114,7 +102,9 @@ fn rotate_aside<T: BitStore, O: SliceOrder, const HELD: usize>(
 /// at most 128 elements. Conditions: as for [`rotate_left_in`].
 ///
 /// The shorter of the two sides is exchanged with as many bits of the other, which are then in
-/// their place, until the shorter one can be held aside.
+/// their place, until the shorter one can be held aside. It is not inlined: its loops
+/// are slower among those of a caller.
+#[inline(never)]
 fn rotate_blocks<T: BitStore, O: SliceOrder>(
     elements: &mut [T],
     window: Window,

@@ -53,10 +53,10 @@ pub(crate) fn swap_ranges<T: BitStore, O: SliceOrder>(
     let edge = place - place % (T::BITS as usize);
     let before = edge.saturating_sub(window.start + first).min(len);
     if before == 0 {
-        return swap_stretch::<T, O>(elements, window, first, second, len);
+        return swap_few::<T, O>(elements, window, first, second, len);
     }
     swap_sides::<T, O>(elements, window, first, second, before);
-    swap_stretch::<T, O>(
+    swap_few::<T, O>(
         elements,
         window,
         first + before,
@@ -91,7 +91,7 @@ fn swap_sides<T: BitStore, O: SliceOrder>(
 /// Exchanges `count` bits of a window from `first` on with as many from `second` on, by copies: the first
 /// ones are held aside. Conditions: as for [`swap_within_in`]; and `count` is at most the bits of an
 /// element.
-fn swap_stretch<T: BitStore, O: SliceOrder>(
+fn swap_few<T: BitStore, O: SliceOrder>(
     elements: &mut [T],
     window: Window,
     first: usize,

@@ -5,7 +5,7 @@ ghost use Rattle.bitvec_slice.specs.Views.{seen};
 
 use super::elements::{put_bits, put_block, put_same};
 use crate::BitVec;
-use bitvec_base::{BitOrder, MAX_BITS};
+use bitvec_base::BitOrder;
 use bitvec_engine::SliceOrder;
 use bitvec_slice::BitSlice;
 use bitvec_store::BitStore;
@@ -24,9 +24,6 @@ impl<T: BitStore, O: BitOrder, A: Allocator> BitVec<T, O, A> {
         if len <= self.len {
             self.truncate(len);
             return Ok(());
-        }
-        if len > MAX_BITS {
-            return Err(AllocError);
         }
         let end = self.head + self.len;
         put_same::<T, O, A>(&mut self.elements, end, len - self.len, bit)?;

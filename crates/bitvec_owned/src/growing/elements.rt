@@ -120,7 +120,8 @@ pub(crate) fn put_block<T: BitStore, O: SliceOrder, A: Allocator>(
     Ok(())
 }
 
-/// Adds so many of one bit behind the first `end`. An error where memory is refused; the elements are as before then.
+/// Adds so many of one bit behind the first `end`. An error where memory is refused and for more than `MAX_BITS` bits; the
+/// elements are as before then.
 pub(crate) fn put_same<T: BitStore, O: BitOrder, A: Allocator>(
     elements: &mut Vec<T, A>,
     end: usize,
@@ -129,12 +130,14 @@ pub(crate) fn put_same<T: BitStore, O: BitOrder, A: Allocator>(
 ) -> Result<(), AllocError>
     requires touched { vec_len elements.old ≡ div_ceil end T.BITS }
     requires bounded { T.BITS * vec_len elements.old ≤ max_bits }
-    requires few { count ≤ max_bits }
     ensures left { OnOk result (LeavesFront T.BITS O.at T.value elements.old.items elements.new.items end (take end (memory_bits T.BITS O.at (map T.value elements.old.items)) ++ replicate count bit)) }
     ensures kept { OnErr result (elements.new.items ≡ elements.old.items) }
     ensures len { vec_len elements.new ≡ (if is_ok result then div_ceil (end + count) T.BITS else vec_len elements.old) }
     ensures fits { T.BITS * vec_len elements.new ≤ max_bits }
 {
+    if count > MAX_BITS {
+        return Err(AllocError);
+    }
     make_room(elements, end + count)?;
     let window = Window {
         start: end,

@@ -12,7 +12,7 @@ returns-clause-copy g c =
     let writes = rw (c.elements.ensures, c.window-from.ensures.value) at c.copy_from_block_in.ensures.writes in
     let begins = rw c.window-from.ensures.value at c.start_of_copy-head.ensures in
     let many : length c.copy_from_block_in.new.left ≡ length c.as_mut_slice.result.now = same_length g.T.BitStore.value _ _ c.copy_from_block_in.ensures.writes.elements in
-    let is = rw (refilled c.copy_from_block_in.new.left c.in_ok-elements.elements.items c.in_ok-elements.elements.len (many ∙ c.as_mut_slice.ensures.len), c.window-from.ensures.value) at c.from_parts.ensures in
+    let is = rw (refilled c.copy_from_block_in.new.left c.in_ok-elements.elements.items c.in_ok-elements.elements.len (many ∙ c.as_mut_slice.ensures.len), c.window-from.ensures.value) at c.from_parts.ensures.shows in
     rw (← begins)
     (held g.T.BitStore.BITS g.O.BitOrder.at g.T.BitStore.value (width_some _ g.met.T.BitStore.width_law) g.T.BitStore.ZERO c.as_mut_slice.result.now c.copy_from_block_in.new.left c.div_ceil-count.result c.start_of_copy-head.result (seen c.args.view).window.len (seen c.args.view).bits _
     g.met.T.BitStore.zero_law (c.as_mut_slice.ensures.value ∙ c.in_ok-elements.ensures.items) many (rw (c.BITS.ensures, c.window-from.ensures.value) at c.div_ceil-count.ensures) (sym (length-seen c.args.view)) writes.bits is)

@@ -29,7 +29,7 @@ pub returns-then-total-eq0-clause-copy : goal.returns-then-total-eq0-clause-copy
 returns-then-total-eq0-clause-copy g c =
     let bits = (seen c.args.view).bits in
     let all = total (length bits) c.args.copies c.saturating_mul-total.result (rw c.len.ensures.value at c.saturating_mul-total.ensures) c.if-total-gt-MAX_BITS.false in
-    let is = rw c.new.ensures.items at c.from_parts.ensures in
+    let is = rw c.new.ensures.items at c.from_parts.ensures.shows in
     let none = repeat-none bits c.args.copies (sym all ∙ c.if-total-eq0.true) in
     rw none (held g.T.BitStore.BITS g.O.BitOrder.at g.T.BitStore.value (width_some _ g.met.T.BitStore.width_law) g.T.BitStore.ZERO [] [] 0 0 0 [] _ g.met.T.BitStore.zero_law refl refl (no_elements _ (width_some _ g.met.T.BitStore.width_law)) refl (sym (write_at-nil (memory_bits g.T.BitStore.BITS g.O.BitOrder.at []) 0 (omega arith))) is)
 
@@ -38,7 +38,7 @@ returns-clause-copy g c =
     let bits = (seen c.args.view).bits in
     let all = total (length bits) c.args.copies c.saturating_mul-total.result (rw c.len.ensures.value at c.saturating_mul-total.ensures) c.if-total-gt-MAX_BITS.false in
     let long = length-repeated bits c.args.copies in
-    let is = rw (refilled c.write_copies.new.elements c.in-Ok.elements.items c.in-Ok.elements.len (c.write_copies.ensures.len ∙ c.as_mut_slice.ensures.len)) at c.from_parts-2.ensures in
+    let is = rw (refilled c.write_copies.new.elements c.in-Ok.elements.items c.in-Ok.elements.len (c.write_copies.ensures.len ∙ c.as_mut_slice.ensures.len)) at c.from_parts-2.ensures.shows in
     held g.T.BitStore.BITS g.O.BitOrder.at g.T.BitStore.value (width_some _ g.met.T.BitStore.width_law) g.T.BitStore.ZERO c.as_mut_slice.result.now c.write_copies.new.elements c.div_ceil-count.result 0 c.saturating_mul-total.result _ _
     g.met.T.BitStore.zero_law (c.as_mut_slice.ensures.value ∙ c.in-Ok.ensures.items) c.write_copies.ensures.len (rounded _ _ _ (rw c.BITS-width.ensures at c.div_ceil-count.ensures)) (all ∙ sym long) c.write_copies.ensures.bits is
 

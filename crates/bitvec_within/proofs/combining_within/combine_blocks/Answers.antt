@@ -53,11 +53,11 @@ overflow_add-dest g c =
     let end = c.requires.window.within.len in
     omega arith
 
-pub combine_stretch-requires-clause-window : goal.combine_stretch-requires-clause-window
-combine_stretch-requires-clause-window g c = HasWindow-kept _ _ _ _ c.requires.window c.loop-turn.invariant.kept
+pub combine_aside-requires-clause-window : goal.combine_aside-requires-clause-window
+combine_aside-requires-clause-window g c = HasWindow-kept _ _ _ _ c.requires.window c.loop-turn.invariant.kept
 
-pub combine_stretch-requires-clause-fits : goal.combine_stretch-requires-clause-fits
-combine_stretch-requires-clause-fits g c =
+pub combine_aside-requires-clause-fits : goal.combine_aside-requires-clause-fits
+combine_aside-requires-clause-fits g c =
     let size = c.room_beside-size.result in
     let some : 0 < size = rw c.room_beside-size.ensures (block-some _ _ (width_some _ g.met.T.BitStore.width_law) c.requires.held) in
     let low = block-begins size c.args.len _ c.in_turn-index.result some c.div_ceil-count.ensures c.in_turn-index.ensures.inside in
@@ -74,7 +74,7 @@ loop-turn-preserved g c =
     let low = block-begins size c.args.len _ c.in_turn-index.result some c.div_ceil-count.ensures c.in_turn-index.ensures.inside in
     let index = c.in_turn-index.result in
     done-next _ _ _ _ c.args.window c.args.from c.args.dest c.args.len c.requires.window source (omega arith) _ _ size c.div_ceil-count.result c.loop-turn.turn index (index * size) c.min-block.result c.loop-turn-test.true c.in_turn-index.ensures.up c.in_turn-index.ensures.down low refl c.min-block.ensures
-    c.loop-turn.invariant c.combine_stretch.ensures.writes
+    c.loop-turn.invariant c.combine_aside.ensures.writes
 
 pub returns : goal.returns
 returns g c =

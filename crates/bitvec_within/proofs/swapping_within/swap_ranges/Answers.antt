@@ -7,14 +7,14 @@ use Rattle.bitvec_within.specs.Swaps.{swapped_within}
 use Rattle.bitvec_within.proofs.Swapped.{swapped-next}
 use Rattle.bitvec_within.proofs.swapping_within.swap_ranges.Goals as goal
 
-pub swap_stretch-requires-clause-bound : goal.swap_stretch-requires-clause-bound
-swap_stretch-requires-clause-bound g c =
+pub swap_few-requires-clause-bound : goal.swap_few-requires-clause-bound
+swap_few-requires-clause-bound g c =
     let some : 0 < c.BITS.result = rw c.BITS.ensures (width_some _ g.met.T.BitStore.width_law) in
     let below = mod_below (c.args.window.start + c.args.second) _ some in
     omega arith
 
-pub swap_stretch-requires-2-clause-bound : goal.swap_stretch-requires-2-clause-bound
-swap_stretch-requires-2-clause-bound g c =
+pub swap_few-requires-2-clause-bound : goal.swap_few-requires-2-clause-bound
+swap_few-requires-2-clause-bound g c =
     let some : 0 < c.BITS.result = rw c.BITS.ensures (width_some _ g.met.T.BitStore.width_law) in
     let below = mod_below (c.args.window.start + c.args.second) _ some in
     omega arith
@@ -37,6 +37,6 @@ returns g c =
     let order = c.requires.order in
     let bound = c.requires.bound in
     record {
-      writes = Writes-next (swapped_within (first + before) (first + before + (len - before)) (second + before)) c.requires.window c.swap_sides.ensures.writes c.swap_stretch-2.ensures.writes
+      writes = Writes-next (swapped_within (first + before) (first + before + (len - before)) (second + before)) c.requires.window c.swap_sides.ensures.writes c.swap_few-2.ensures.writes
           (swapped-next list first second before (len - before) (omega arith) (omega arith) (inl (omega arith)) ∙ ap (λ n. swapped_within first (first + n) second list) all);
     }

@@ -2,7 +2,7 @@ use Rattle.std.proofs.Common.{arith, refl, rules}
 use Rattle.bitvec_elements.proofs.StoreLemmas.{range-inside, range-kept}
 use Rattle.bitvec_within.proofs.Aside.{held-inside}
 use Rattle.bitvec_within.proofs.Swapped.{stretch-swapped}
-use Rattle.bitvec_within.proofs.swapping_within.swap_stretch.Goals as goal
+use Rattle.bitvec_within.proofs.swapping_within.swap_few.Goals as goal
 
 pub copy_from_long_block_in-requires-clause-right_window : goal.copy_from_long_block_in-requires-clause-right_window
 copy_from_long_block_in-requires-clause-right_window g c = range-inside _ _ c.args.window _ _ _ c.requires.window c.range-near.ensures (omega arith) c.requires.first

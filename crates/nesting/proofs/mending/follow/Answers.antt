@@ -1,0 +1,5 @@
+use Rattle.nesting.proofs.BracketLaws.{next-group}
+use Rattle.nesting.proofs.mending.follow.Goals as goal
+
+pub returns-then-close_group-clause-followed : goal.returns-then-close_group-clause-followed
+returns-then-close_group-clause-followed c = rw c.in-41.is (next-group c.args.marks.now c.close_group.new.self c.if-close_group.ensures.group)
