@@ -25,7 +25,7 @@ range-front xs ys = between_from_start (xs ++ ys) (length xs) ∙ take_at xs ys 
 range-behind : {X : Type 0} (xs ys : List X) → slice_range (xs ++ ys) (length xs) (length (xs ++ ys)) ≡ ys
 range-behind xs ys = range-to_end (xs ++ ys) (length xs) (length (xs ++ ys)) (omega arith) ∙ drop_at xs ys (length xs) refl
 
-times : (b x d c : ℕ) → x + d ≡ c → b * x + b * d ≡ b * c
+pub times : (b x d c : ℕ) → x + d ≡ c → b * x + b * d ≡ b * c
 times b x d c is = rw (← is) (omega arith)
 
 module _ {T : Type 0} (b : ℕ) (at : ℕ → ℕ → ℕ) (value : T → ℕ) (some : 0 < b) where
@@ -43,7 +43,7 @@ module _ {T : Type 0} (b : ℕ) (at : ℕ → ℕ → ℕ) (value : T → ℕ) (
       ∙ memory-range b at xs 0 n some (omega arith) (omega arith)
       ∙ rw (first, last) (between_from_start (memory_bits b at xs) (b * n))
 
-  append : (xs ys : List ℕ) → memory_bits b at (xs ++ ys) ≡ memory_bits b at xs ++ memory_bits b at ys
+  pub append : (xs ys : List ℕ) → memory_bits b at (xs ++ ys) ≡ memory_bits b at xs ++ memory_bits b at ys
   append xs ys =
       let all = xs ++ ys in
       let m = length xs in

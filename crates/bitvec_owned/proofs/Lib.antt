@@ -1,3 +1,4 @@
+mod Fillings
 mod FrontLists
 mod Fronts
 mod Held

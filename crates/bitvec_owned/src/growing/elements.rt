@@ -1,8 +1,8 @@
 //! The elements of a sequence get more bits at their end, or lose the last ones.
-ghost use Rattle.std.specs.Prelude.{◌≡◌, ℕ, ◌+◌, ◌-◌, ◌*◌, ◌<◌, ◌≤◌, [], ◌∷◌, ◌++◌, OnErr, OnOk, false, if◌then◌else◌, is_ok, map, replicate, slice_index_or, take, vec_len};
+ghost use Rattle.std.specs.Prelude.{◌≡◌, ℕ, ◌+◌, ◌-◌, ◌*◌, ◌<◌, ◌≤◌, [], ◌∷◌, ◌++◌, OnErr, OnOk, false, if◌then◌else◌, is_ok, length, map, replicate, slice_index_or, take, vec_len};
 ghost use Rattle.std.specs.Int.{div_ceil};
-ghost use Rattle.bitvec_base.specs.Memory.{memory_bits};
-ghost use Rattle.bitvec_base.specs.Window.{max_bits};
+ghost use Rattle.bitvec_base.specs.Memory.{HasWindow, memory_bits};
+ghost use Rattle.bitvec_base.specs.Window.{max_bits, write_at};
 ghost use Rattle.bitvec_owned.specs.Fronts.{LeavesFront};
 ghost use Rattle.bitvec_slice.specs.Views.{seen};
 
@@ -14,8 +14,32 @@ use bitvec_slice::BitSlice;
 use bitvec_store::BitStore;
 use std::alloc::{AllocError, Allocator};
 
-/// Adds the elements that the bits up to `end` touch and that aren't there, all 0. An error where memory is refused or
-/// they would have more than `MAX_BITS` bits; they are as before then.
+/// Adds the elements that the bits up to `end` touch and that aren't there, with each bit `bit`. An error where memory is
+/// refused or they would have more than `MAX_BITS` bits; they are as before then.
+fn make_filled_room<T: BitStore, A: Allocator>(
+    elements: &mut Vec<T, A>,
+    end: usize,
+    bit: bool,
+) -> Result<(), AllocError>
+    requires { vec_len elements.old ≤ div_ceil end T.BITS }
+    ensures items { elements.new.items ≡ (if is_ok result then elements.old.items ++ replicate (div_ceil end T.BITS - vec_len elements.old) (if bit then T.ALL else T.ZERO) else elements.old.items) }
+    ensures len { vec_len elements.new ≡ (if is_ok result then div_ceil end T.BITS else vec_len elements.old) }
+    ensures fits { OnOk result (T.BITS * vec_len elements.new ≤ max_bits) }
+{
+    let width = T::BITS as usize;
+    let count = end.div_ceil(width);
+    if count > MAX_BITS / width {
+        return Err(AllocError);
+    }
+    // Of a value that is known at compile time, the elements are written by wide stores.
+    if bit {
+        elements.resize(count, T::ALL)
+    } else {
+        elements.resize(count, T::ZERO)
+    }
+}
+
+/// [`make_filled_room`] of elements that are 0.
 fn make_room<T: BitStore, A: Allocator>(
     elements: &mut Vec<T, A>,
     end: usize,
@@ -25,12 +49,7 @@ fn make_room<T: BitStore, A: Allocator>(
     ensures len { vec_len elements.new ≡ (if is_ok result then div_ceil end T.BITS else vec_len elements.old) }
     ensures fits { OnOk result (T.BITS * vec_len elements.new ≤ max_bits) }
 {
-    let width = T::BITS as usize;
-    let count = end.div_ceil(width);
-    if count > MAX_BITS / width {
-        return Err(AllocError);
-    }
-    elements.resize(count, T::ZERO)
+    make_filled_room(elements, end, false)
 }
 
 /// [`make_room`] for one bit behind the first `end`.
@@ -120,6 +139,24 @@ pub(crate) fn put_block<T: BitStore, O: SliceOrder, A: Allocator>(
     Ok(())
 }
 
+/// Makes each bit of a window `bit`, and then all from the place `end` on 0. Condition: the window and the place lie in the
+/// memory, which has at most `MAX_BITS` bits.
+fn fill_up_to<T: BitStore, O: BitOrder>(elements: &mut [T], window: Window, end: usize, bit: bool)
+    requires window { HasWindow T.BITS (map T.value elements.old) window }
+    requires inside { end ≤ T.BITS * length elements.old }
+    ensures bits { memory_bits T.BITS O.at (map T.value elements.new)
+        ≡ write_at (write_at (memory_bits T.BITS O.at (map T.value elements.old)) window.start (replicate window.len bit)) end
+        (replicate (T.BITS * length elements.old - end) false) }
+    ensures len { length elements.new ≡ length elements.old }
+{
+    fill_in::<T, O>(elements, window, bit);
+    let behind = Window {
+        start: end,
+        len: elements.len() * T::BITS as usize - end,
+    };
+    fill_in::<T, O>(elements, behind, false);
+}
+
 /// Adds so many of one bit behind the first `end`. An error where memory is refused and for more than `MAX_BITS` bits; the
 /// elements are as before then.
 pub(crate) fn put_same<T: BitStore, O: BitOrder, A: Allocator>(
@@ -138,12 +175,13 @@ pub(crate) fn put_same<T: BitStore, O: BitOrder, A: Allocator>(
     if count > MAX_BITS {
         return Err(AllocError);
     }
-    make_room(elements, end + count)?;
-    let window = Window {
+    let width = T::BITS as usize;
+    let last = Window {
         start: end,
-        len: count,
+        len: elements.len() * width - end,
     };
-    fill_in::<T, O>(elements.as_mut_slice(), window, bit);
+    make_filled_room(elements, end + count, bit)?;
+    fill_up_to::<T, O>(elements.as_mut_slice(), last, end + count, bit);
     Ok(())
 }
 
