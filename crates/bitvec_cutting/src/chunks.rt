@@ -35,9 +35,16 @@ impl Cutting for InChunks {
         len.div_ceil(self.size)
     }
 
+    #[tactic(auto, using(crate::specs::CuttingLaws::begins))]
     fn piece(&self, len: usize, number: usize) -> Range<usize> {
         let start = number * self.size;
-        start..start + self.size.min(len - start)
+        // Apart, so that the compiler takes the last chunk out of a walk's loop, and knows the length of the others there;
+        // by `min`, so that it has a bound of the last one's too.
+        if number == self.count(len) - 1 {
+            start..start + self.size.min(len - start)
+        } else {
+            start..start + self.size
+        }
     }
 
     ghost inside = { λ cutting len number below. chunk_inside cutting.size len cutting.some number below };

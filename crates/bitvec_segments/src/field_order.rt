@@ -70,6 +70,26 @@ pub trait FieldOrder: WordOrder {
     }
 }
 
-impl FieldOrder for Lsb0 {}
+impl FieldOrder for Lsb0 {
+    #[inline(always)]
+    fn load_le<C: CellsRead>(cells: &mut C, window: Window) -> u128 {
+        loading::load::<false, Lsb0, C>(cells, window)
+    }
 
-impl FieldOrder for Msb0 {}
+    #[inline(always)]
+    fn load_be<C: CellsRead>(cells: &mut C, window: Window) -> u128 {
+        loading::load::<true, Lsb0, C>(cells, window)
+    }
+}
+
+impl FieldOrder for Msb0 {
+    #[inline(always)]
+    fn load_le<C: CellsRead>(cells: &mut C, window: Window) -> u128 {
+        loading::load::<false, Msb0, C>(cells, window)
+    }
+
+    #[inline(always)]
+    fn load_be<C: CellsRead>(cells: &mut C, window: Window) -> u128 {
+        loading::load::<true, Msb0, C>(cells, window)
+    }
+}
