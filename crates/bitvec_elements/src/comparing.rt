@@ -10,9 +10,9 @@ ghost use Rattle.bitvec_elements.specs.Difference.{DiffersFrom};
 use crate::converting::eq_converted;
 use crate::difference::{common_bits, common_words};
 use crate::window_words::few_word;
-use bitvec_base::{BitOrder, Lsb0, Msb0, Window};
+use bitvec_base::{BitOrder, Window};
 use bitvec_cells::{Shared, get_bit};
-use bitvec_engine::{Direction, SliceOrder, direction_of, elements_eq};
+use bitvec_engine::{SliceOrder, elements_eq};
 use bitvec_store::BitStore;
 use bitvec_words::{WORD_BITS, WordOrder};
 use std::cmp::Ordering;
@@ -41,15 +41,7 @@ pub fn eq_in<T: BitStore, O: BitOrder, U: BitStore, P: BitOrder>(
         return false;
     }
     if left_window.len > WORD_BITS && T::BITS == U::BITS {
-        match (direction_of::<O, T>(), direction_of::<P, T>()) {
-            (Direction::Up, Direction::Up) => {
-                return eq_converted::<Lsb0, T, U>(left, left_window, right, right_window);
-            }
-            (Direction::Down, Direction::Down) => {
-                return eq_converted::<Msb0, T, U>(left, left_window, right, right_window);
-            }
-            _ => {}
-        }
+        return_by_directions!(O, P, T => eq_converted::<_, T, U>(left, left_window, right, right_window));
     }
     common_bits::<T, O, U, P>(left, left_window, right, right_window) == left_window.len
 }

@@ -1,12 +1,14 @@
-//! The bits of two windows of elements of one width, compared as elements of one type.
+//! The bits of two windows of elements of one width, compared, copied and combined as elements of one type.
 ghost use Rattle.std.specs.Prelude.{◌≡◌, map};
-ghost use Rattle.bitvec_base.specs.Lists.{same_bits};
-ghost use Rattle.bitvec_base.specs.Memory.{HasWindow, list_in};
+ghost use Rattle.bitvec_base.specs.Lists.{combined, same_bits};
+ghost use Rattle.bitvec_base.specs.Memory.{HasWindow, Writes, list_in};
+ghost use Rattle.bitvec_words.specs.Operator.{operator};
 
 use bitvec_base::Window;
-use bitvec_cells::{CellsRead, Shared};
+use bitvec_cells::{CellsRead, Exclusive, Shared};
 use bitvec_engine::SliceOrder;
 use bitvec_store::BitStore;
+use bitvec_words::BitOp;
 use std::marker::PhantomData;
 
 /// An accessor that reads the elements of a slice as those of another type with as many bits. Where
@@ -75,4 +77,46 @@ pub(crate) fn eq_converted<O: SliceOrder, T: BitStore, U: BitStore>(
     let mut left = Shared::new(left);
     let mut right = Converted::<T, U>::new(right);
     O::block_eq::<Shared<T>, Converted<T, U>>(&mut left, left_window, &mut right, right_window)
+}
+
+/// Copies the bits of the right window, whose elements have another type of one width, to the left one, as the order
+/// copies them. Condition: each memory has at most `MAX_BITS` bits, each window lies in its memory, and both are equally
+/// long.
+pub(crate) fn copy_converted<O: SliceOrder, T: BitStore, U: BitStore>(
+    left: &mut [T],
+    to: Window,
+    right: &[U],
+    from: Window,
+)
+    requires width { T.BITS ≡ U.BITS }
+    requires window { HasWindow T.BITS (map T.value left.old) to }
+    requires right_window { HasWindow T.BITS (map U.value right.now) from }
+    requires lengths { to.len ≡ from.len }
+    ensures writes { Writes T.BITS O.at (map T.value left.old) (map T.value left.new) to
+        (list_in T.BITS O.at (map U.value right.now) from) }
+{
+    let mut left = Exclusive::new(left);
+    let mut right = Converted::<T, U>::new(right);
+    O::block_copy::<Exclusive<T>, Converted<T, U>>(&mut left, to, &mut right, from);
+}
+
+/// Replaces each bit of the left window by what the operator makes of it and the bit at its index in the right window,
+/// whose elements have another type of one width, as the order does it. Condition: as for [`eq_converted`].
+pub(crate) fn combine_converted<O: SliceOrder, T: BitStore, U: BitStore>(
+    left: &mut [T],
+    to: Window,
+    right: &[U],
+    from: Window,
+    op: BitOp,
+)
+    requires width { T.BITS ≡ U.BITS }
+    requires window { HasWindow T.BITS (map T.value left.old) to }
+    requires right_window { HasWindow T.BITS (map U.value right.now) from }
+    ensures writes { Writes T.BITS O.at (map T.value left.old) (map T.value left.new) to
+        (combined (operator op) (list_in T.BITS O.at (map T.value left.old) to)
+        (list_in T.BITS O.at (map U.value right.now) from)) }
+{
+    let mut left = Exclusive::new(left);
+    let mut right = Converted::<T, U>::new(right);
+    O::block_op::<Exclusive<T>, Converted<T, U>>(&mut left, to, &mut right, from, op);
 }

@@ -5,6 +5,7 @@ ghost use Rattle.bitvec_base.specs.Memory.{HasWindow, Writes, list_in};
 ghost use Rattle.bitvec_base.specs.Spans.{HasSpan};
 ghost use Rattle.bitvec_words.specs.Moves.{Copies};
 
+use crate::converting::copy_converted;
 use crate::copying_elements::{AT_ONCE_BITS, copy_elements_in, copy_whole_in};
 use crate::recutting::recut;
 use crate::window_words::{few_word, window_word};
@@ -19,42 +20,45 @@ use bitvec_words::{WORD_BITS, WordOrder};
 /// both are equally long.
 pub fn copy_from_in<T: BitStore, O: BitOrder, U: BitStore, P: BitOrder>(
     left: &mut [T],
-    left_window: Window,
+    to: Window,
     right: &[U],
-    right_window: Window,
+    from: Window,
 )
-    requires window { HasWindow T.BITS (map T.value left.old) left_window }
-    requires right_window { HasWindow U.BITS (map U.value right.now) right_window }
-    requires lengths { left_window.len ≡ right_window.len }
-    ensures writes { Writes T.BITS O.at (map T.value left.old) (map T.value left.new) left_window
-        (list_in U.BITS P.at (map U.value right.now) right_window) }
+    requires window { HasWindow T.BITS (map T.value left.old) to }
+    requires right_window { HasWindow U.BITS (map U.value right.now) from }
+    requires lengths { to.len ≡ from.len }
+    ensures writes { Writes T.BITS O.at (map T.value left.old) (map T.value left.new) to
+        (list_in U.BITS P.at (map U.value right.now) from) }
 {
-    return_by_direction!(O, T => recut::<_, P, T, U>(left, left_window, right, right_window));
+    if to.len > WORD_BITS && T::BITS == U::BITS {
+        return_by_directions!(O, P, T => copy_converted::<_, T, U>(left, to, right, from));
+    }
+    return_by_direction!(O, T => recut::<_, P, T, U>(left, to, right, from));
     let mut cells = Exclusive::new(left);
     let mut source = Shared::new(right);
-    bits_copy::<O, P, _, _>(&mut cells, left_window, &mut source, right_window);
+    bits_copy::<O, P, _, _>(&mut cells, to, &mut source, from);
 }
 
 /// [`copy_from_in`] under an order that runs from one end of an element to the other, up to 64 bits
 /// at a time as a word.
 pub(crate) fn copy_words<W: WordOrder, T: BitStore, U: BitStore, P: BitOrder>(
     left: &mut [T],
-    left_window: Window,
+    to: Window,
     right: &[U],
-    right_window: Window,
+    from: Window,
 )
-    requires { HasPair T.BITS (map T.value left.old) left_window U.BITS (map U.value right.now) right_window }
-    ensures writes { Writes T.BITS W.at (map T.value left.old) (map T.value left.new) left_window
-        (list_in U.BITS P.at (map U.value right.now) right_window) }
+    requires { HasPair T.BITS (map T.value left.old) to U.BITS (map U.value right.now) from }
+    ensures writes { Writes T.BITS W.at (map T.value left.old) (map T.value left.new) to
+        (list_in U.BITS P.at (map U.value right.now) from) }
 {
     let direction = direction_of::<P, U>();
     let mut cells = Exclusive::new(left);
-    let mut from = 0;
-    while from < left_window.len {
-        let to = from + WORD_BITS.min(left_window.len - from);
-        let word = window_word::<W, P, U>(right, right_window.range(from, to), direction);
-        store_few::<W, Exclusive<T>>(&mut cells, left_window.range(from, to), word);
-        from = to;
+    let mut start = 0;
+    while start < to.len {
+        let end = start + WORD_BITS.min(to.len - start);
+        let word = window_word::<W, P, U>(right, from.range(start, end), direction);
+        store_few::<W, Exclusive<T>>(&mut cells, to.range(start, end), word);
+        start = end;
     }
 }
 
@@ -63,20 +67,20 @@ pub(crate) fn copy_words<W: WordOrder, T: BitStore, U: BitStore, P: BitOrder>(
 #[inline(always)]
 pub fn copy_from_block_in<T: BitStore, O: SliceOrder>(
     left: &mut [T],
-    left_window: Window,
+    to: Window,
     right: &[T],
-    right_window: Window,
+    from: Window,
 )
-    requires window { HasWindow T.BITS (map T.value left.old) left_window }
-    requires right_window { HasWindow T.BITS (map T.value right.now) right_window }
-    requires lengths { left_window.len ≡ right_window.len }
-    ensures writes { Writes T.BITS O.at (map T.value left.old) (map T.value left.new) left_window
-        (list_in T.BITS O.at (map T.value right.now) right_window) }
+    requires window { HasWindow T.BITS (map T.value left.old) to }
+    requires right_window { HasWindow T.BITS (map T.value right.now) from }
+    requires lengths { to.len ≡ from.len }
+    ensures writes { Writes T.BITS O.at (map T.value left.old) (map T.value left.new) to
+        (list_in T.BITS O.at (map T.value right.now) from) }
 {
-    if left_window.len <= WORD_BITS {
-        return_by_direction!(O, T => copy_few::<_, T>(left, left_window, right, right_window));
+    if to.len <= WORD_BITS {
+        return_by_direction!(O, T => copy_few::<_, T>(left, to, right, from));
     }
-    copy_from_long_block_in::<T, O>(left, left_window, right, right_window);
+    copy_from_long_block_in::<T, O>(left, to, right, from);
 }
 
 /// [`copy_from_block_in`] with no test for few bits: prefer it where the length is not a compile-time
@@ -84,23 +88,23 @@ pub fn copy_from_block_in<T: BitStore, O: SliceOrder>(
 #[inline(always)]
 pub fn copy_from_long_block_in<T: BitStore, O: SliceOrder>(
     left: &mut [T],
-    left_window: Window,
+    to: Window,
     right: &[T],
-    right_window: Window,
+    from: Window,
 )
-    requires window { HasWindow T.BITS (map T.value left.old) left_window }
-    requires right_window { HasWindow T.BITS (map T.value right.now) right_window }
-    requires lengths { left_window.len ≡ right_window.len }
-    ensures writes { Writes T.BITS O.at (map T.value left.old) (map T.value left.new) left_window
-        (list_in T.BITS O.at (map T.value right.now) right_window) }
+    requires window { HasWindow T.BITS (map T.value left.old) to }
+    requires right_window { HasWindow T.BITS (map T.value right.now) from }
+    requires lengths { to.len ≡ from.len }
+    ensures writes { Writes T.BITS O.at (map T.value left.old) (map T.value left.new) to
+        (list_in T.BITS O.at (map T.value right.now) from) }
 {
     let bits = T::BITS as usize;
-    let has_edges = left_window.start % bits == 0 && right_window.start % bits == 0;
-    if has_edges && left_window.len % bits == 0 {
-        copy_whole_in::<T, O>(left, left_window, right, right_window);
+    let has_edges = to.start % bits == 0 && from.start % bits == 0;
+    if has_edges && to.len % bits == 0 {
+        copy_whole_in::<T, O>(left, to, right, from);
         return;
     }
-    copy_parted_in::<T, O>(left, left_window, right, right_window);
+    copy_parted_in::<T, O>(left, to, right, from);
 }
 
 /// Copies a window. Many bits that begin at the same index of an element are copied as whole elements at once,

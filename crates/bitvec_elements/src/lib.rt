@@ -17,6 +17,24 @@ macro_rules! return_by_direction {
     };
 }
 
+/// [`return_by_direction`] for two orders: it returns where both run up through an element, or both down.
+macro_rules! return_by_directions {
+    ($order:ty, $other:ty, $element:ty => $function:ident::<_ $(, $kind:ty)*>($($argument:expr),* $(,)?)) => {
+        match (
+            bitvec_engine::direction_of::<$order, $element>(),
+            bitvec_engine::direction_of::<$other, $element>(),
+        ) {
+            (bitvec_engine::Direction::Up, bitvec_engine::Direction::Up) => {
+                return $function::<bitvec_base::Lsb0 $(, $kind)*>($($argument),*);
+            }
+            (bitvec_engine::Direction::Down, bitvec_engine::Direction::Down) => {
+                return $function::<bitvec_base::Msb0 $(, $kind)*>($($argument),*);
+            }
+            _ => {}
+        }
+    };
+}
+
 /// Calls a function with the size of a block for so many bits: 8, 258 or 2,050 elements. The `_` stands for it.
 macro_rules! with_room {
     ($element:ty, $len:expr => $function:ident::<$W:ty, $T:ty, $U:ty, $P:ty, _>($($argument:expr),*)) => {{

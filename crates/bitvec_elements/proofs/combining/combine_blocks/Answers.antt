@@ -11,31 +11,31 @@ use Rattle.std.proofs.lemmas.Nat.{mul-le}
 use Rattle.bitvec_store.specs.WidthLaws.{width_some}
 use Rattle.bitvec_elements.proofs.combining.combine_blocks.Goals as goal
 
-pub loop-from-init : goal.loop-from-init
-loop-from-init g c = record {
+pub loop-start-init : goal.loop-start-init
+loop-start-init g c = record {
   fits = omega arith;
   count = length-replicate _ _;
-  writes = stretch-none _ _ _ _ c.args.left_window (combined (operator c.args.op) (list_in g.T.BitStore.BITS g.W.BitOrder.at (map g.T.BitStore.value c.args.left.now) c.args.left_window) (list_in g.U.BitStore.BITS g.P.BitOrder.at (map g.U.BitStore.value c.args.right.now) c.args.right_window)) c.requires.window refl;
+  writes = stretch-none _ _ _ _ c.args.to (combined (operator c.args.op) (list_in g.T.BitStore.BITS g.W.BitOrder.at (map g.T.BitStore.value c.args.left.now) c.args.to) (list_in g.U.BitStore.BITS g.P.BitOrder.at (map g.U.BitStore.value c.args.right.now) c.args.from)) c.requires.window refl;
 }
 
 pub hold-held-requires-clause-window : goal.hold-held-requires-clause-window
-hold-held-requires-clause-window g c = range-inside _ _ c.args.right_window _ _ _ c.requires.right_window c.range-other.ensures (omega arith) (omega arith)
+hold-held-requires-clause-window g c = range-inside _ _ c.args.from _ _ _ c.requires.right_window c.range-other.ensures (omega arith) (omega arith)
 
 pub combine_block_in-requires-clause-window : goal.combine_block_in-requires-clause-window
-combine_block_in-requires-clause-window g c = range-kept _ _ _ c.args.left_window _ _ _ c.requires.window c.loop-from.invariant.writes.elements c.range.ensures (omega arith) (omega arith)
+combine_block_in-requires-clause-window g c = range-kept _ _ _ c.args.to _ _ _ c.requires.window c.loop-start.invariant.writes.elements c.range.ensures (omega arith) (omega arith)
 
-pub loop-from-preserved : goal.loop-from-preserved
-loop-from-preserved g c =
+pub loop-start-preserved : goal.loop-start-preserved
+loop-start-preserved g c =
     record {
       fits = omega arith;
-      count = c.hold-held.ensures.count ∙ c.loop-from.invariant.count;
-      writes = block-combined _ _ g.W.BitOrder.at g.P.BitOrder.at (operator c.args.op) _ _ _ _ c.args.left_window c.args.right_window _ _ _ c.loop-from.from _ c.args.right_window.len c.requires.window c.requires.right_window refl (omega arith) (omega arith) c.range.ensures (rw (c.min-in-loop-from.ensures, c.min-in-loop-from-2.ensures) at c.range-other.ensures) c.hold-held.ensures.bits c.loop-from.invariant.writes c.combine_block_in.ensures.writes;
+      count = c.hold-held.ensures.count ∙ c.loop-start.invariant.count;
+      writes = block-combined _ _ g.W.BitOrder.at g.P.BitOrder.at (operator c.args.op) _ _ _ _ c.args.to c.args.from _ _ _ c.loop-start.start _ c.args.from.len c.requires.window c.requires.right_window refl (omega arith) (omega arith) c.range.ensures (rw (c.min-in-loop-start.ensures, c.min-in-loop-start-2.ensures) at c.range-other.ensures) c.hold-held.ensures.bits c.loop-start.invariant.writes c.combine_block_in.ensures.writes;
     }
 
 pub returns : goal.returns
 returns g c =
     let long = length-list _ g.W.BitOrder.at _ _ c.requires.window in
-    record { writes = stretch-all _ g.W.BitOrder.at _ _ c.args.left_window _ c.loop-from.from (omega arith) (length-combined (operator c.args.op) _ _ ∙ long) c.loop-from.invariant.writes }
+    record { writes = stretch-all _ g.W.BitOrder.at _ _ c.args.to _ c.loop-start.start (omega arith) (length-combined (operator c.args.op) _ _ ∙ long) c.loop-start.invariant.writes }
 
-pub loop-from-smaller : goal.loop-from-smaller
-loop-from-smaller g c = let wide = width_some _ g.met.T.BitStore.width_law in omega (arith, mul-le 1 1 c.BITS.result g.row.HELD (omega arith) c.requires.some)
+pub loop-start-smaller : goal.loop-start-smaller
+loop-start-smaller g c = let wide = width_some _ g.met.T.BitStore.width_law in omega (arith, mul-le 1 1 c.BITS.result g.row.HELD (omega arith) c.requires.some)

@@ -4,42 +4,42 @@ use Rattle.bitvec_base.specs.WritesLaws.{length-list}
 use Rattle.bitvec_elements.proofs.StoreLemmas.{copied-stretch, range-inside, range-kept, stretch-all, stretch-none, stretch-stored}
 use Rattle.bitvec_elements.proofs.copying.copy_words.Goals as goal
 
-pub loop-from-init : goal.loop-from-init
-loop-from-init g c = record {
+pub loop-start-init : goal.loop-start-init
+loop-start-init g c = record {
   fits = omega arith;
-  writes = stretch-none _ _ _ _ c.args.left_window (list_in g.U.BitStore.BITS g.P.BitOrder.at (map g.U.BitStore.value c.args.right.now) c.args.right_window) c.requires.window c.new-cells.ensures.numbers;
+  writes = stretch-none _ _ _ _ c.args.to (list_in g.U.BitStore.BITS g.P.BitOrder.at (map g.U.BitStore.value c.args.right.now) c.args.from) c.requires.window c.new-cells.ensures.numbers;
   borrow = search rules;
 }
 
 pub window_word-word-requires-clause-window : goal.window_word-word-requires-clause-window
-window_word-word-requires-clause-window g c = range-inside _ _ c.args.right_window _ _ _ c.requires.beside c.range.ensures (omega arith) (omega arith)
+window_word-word-requires-clause-window g c = range-inside _ _ c.args.from _ _ _ c.requires.beside c.range.ensures (omega arith) (omega arith)
 
 pub window_word-word-requires-clause-bound : goal.window_word-word-requires-clause-bound
 window_word-word-requires-clause-bound g c = rw c.range.ensures (omega arith)
 
 pub store_few-requires-clause-window : goal.store_few-requires-clause-window
-store_few-requires-clause-window g c = range-kept _ _ _ c.args.left_window _ _ _ c.requires.window c.loop-from.invariant.writes.elements c.range-in-loop-from.ensures (omega arith) (omega arith)
+store_few-requires-clause-window g c = range-kept _ _ _ c.args.to _ _ _ c.requires.window c.loop-start.invariant.writes.elements c.range-in-loop-start.ensures (omega arith) (omega arith)
 
-pub loop-from-preserved : goal.loop-from-preserved
-loop-from-preserved g c =
-    let inv = c.loop-from.invariant in
-    let from = c.loop-from.from in
-    let to = from + c.min.result in
-    let bound : to ≤ c.args.left_window.len = omega arith in
+pub loop-start-preserved : goal.loop-start-preserved
+loop-start-preserved g c =
+    let inv = c.loop-start.invariant in
+    let start = c.loop-start.start in
+    let end = start + c.min.result in
+    let bound : end ≤ c.args.to.len = omega arith in
     let lengths = c.requires.lengths in
     let right = length-list _ g.P.BitOrder.at _ _ c.requires.beside in
     let word = rw c.range.ensures at c.window_word-word.ensures in
     record {
       fits = bound;
-      writes = stretch-stored _ _ _ _ _ _ c.args.left_window _ _ _ from to c.requires.window (omega arith) bound (right ∙ sym lengths) c.range-in-loop-from.ensures refl
-          (copied-stretch g.W.BitOrder.at _ g.P.BitOrder.at _ c.args.right_window from to _ _ c.requires.beside (omega arith) (omega arith) refl word)
+      writes = stretch-stored _ _ _ _ _ _ c.args.to _ _ _ start end c.requires.window (omega arith) bound (right ∙ sym lengths) c.range-in-loop-start.ensures refl
+          (copied-stretch g.W.BitOrder.at _ g.P.BitOrder.at _ c.args.from start end _ _ c.requires.beside (omega arith) (omega arith) refl word)
           inv.writes c.store_few.ensures.writes;
       borrow = search rules;
     }
 
 pub returns : goal.returns
 returns g c =
-    let inv = c.loop-from.invariant in
+    let inv = c.loop-start.invariant in
     let right = length-list _ g.P.BitOrder.at _ _ c.requires.beside in
-    let done = stretch-all _ g.W.BitOrder.at _ _ c.args.left_window _ c.loop-from.from (omega arith) (right ∙ sym c.requires.lengths) inv.writes in
+    let done = stretch-all _ g.W.BitOrder.at _ _ c.args.to _ c.loop-start.start (omega arith) (right ∙ sym c.requires.lengths) inv.writes in
     record { writes = record { bits = search (rules, done.bits); long = done.long; elements = search (rules, done.elements) } }
