@@ -1,21 +1,17 @@
 -- Bits that are held aside, combined with others.
-use Rattle.std.specs.Prelude.{◌≡◌, ℕ, ◌+◌, ◌-◌, ◌*◌, ◌/◌, ◌%◌, ◌^◌, ◌<◌, ◌≤◌, ◌⊎◌, Bool, List, length, map, min, slice_range, refl}
-use Rattle.std.proofs.Common.{arith, ap, inl, inr, ◌∙◌, ⊎_elim}
+use Rattle.std.specs.Prelude.{◌≡◌, ℕ, ◌+◌, ◌-◌, ◌*◌, ◌/◌, ◌%◌, ◌<◌, ◌≤◌, Bool, List, length, map, min, slice_range}
+use Rattle.std.proofs.Common.{arith, ap, ◌∙◌, ⊎_elim}
 use Rattle.std.proofs.Math.Nat.{div-add-mod, mul-le-mul_left}
 use Rattle.std.proofs.lemmas.Bool.{cases_lt}
 use Rattle.std.proofs.lemmas.List.{length-map}
-use Rattle.bitvec_base.specs.Lists.{combined}
-use Rattle.bitvec_base.specs.Memory.{HasWindow, Writes, list_in, memory_bits}
+use Rattle.bitvec_base.specs.Memory.{HasWindow, list_in, memory_bits}
 use Rattle.bitvec_base.specs.MemoryLaws.{length-memory_bits, memory-range}
 use Rattle.bitvec_base.specs.SliceLaws.{range-map}
-use Rattle.bitvec_base.specs.Window.{window_of, window_range}
+use Rattle.bitvec_base.specs.Window.{window_of}
 use Rattle.bitvec_base.specs.WriteLaws.{range-range}
-use Rattle.bitvec_base.specs.WritesLaws.{Writes-is, Writes-next, Writes-range, length-list, list-range}
 use Rattle.bitvec_base.specs.declared.window.Window.{Window}
 use Rattle.bitvec_store.specs.Width.{IsWidth}
 use Rattle.bitvec_store.specs.WidthLaws.{at_each_width}
-use Rattle.bitvec_within.specs.Combined.{combined_within}
-use Rattle.bitvec_within.specs.CombinedLaws.{combined_within-before, combined_within-next}
 
 -- some bits of the few elements that are held aside
 pub held-inside : (b : ℕ) (xs : List ℕ) (n : ℕ) (window : Window) → IsWidth b → length xs ≡ n → n ≤ 512 → window.start + window.len ≤ b * n → HasWindow b xs window
@@ -67,49 +63,3 @@ held-list b at value cells held place first count n some is fits before inside =
     ap (λ (l : List Bool). slice_range l skip (skip + n)) held-bits
     ∙ range-range (memory_bits b at xs) (first * b) ((first + count) * b) skip (skip + n) (omega arith) (omega arith)
     ∙ ap (λ (s : ℕ). slice_range (memory_bits b at xs) s (first * b + (skip + n))) place-is ∙ ap (λ (e : ℕ). slice_range (memory_bits b at xs) place e) place-end
-
--- what is held aside, combined with as many bits from the place d on
-pub aside-combined : (b : ℕ) (at : ℕ → ℕ → ℕ) (g : Bool → Bool → Bool) (old new held : List ℕ) (window aside source : Window) (f d n : ℕ) → HasWindow b old window
-    → f + n ≤ window.len → d + n ≤ window.len → source ≡ window_range window f (f + n)
-    → list_in b at held aside ≡ list_in b at old source
-    → Writes b at old new (window_range window d (d + n)) (combined g (list_in b at old (window_range window d (d + n))) (list_in b at held aside))
-    → Writes b at old new window (combined_within g f (f + n) d (list_in b at old window))
-unfolding combined_within
-aside-combined b at g old new held window aside source f d n has from-fits dest-fits is same writes =
-    let held-is = same ∙ ap (list_in b at old) is ∙ list-range b at old window f (f + n) has (omega arith) from-fits in
-    let dest-list = list-range b at old window d (d + n) has (omega arith) dest-fits in
-    let count : f + n - f ≡ n = omega arith in
-    Writes-is b at old new window _ _ (Writes-range b at old new window d (d + n) _ has (omega arith) dest-fits writes)
-    (rw (held-is, dest-list, count) refl)
-
--- some bits, and then those behind them
-pub piece-next : (b : ℕ) (at : ℕ → ℕ → ℕ) (g : Bool → Bool → Bool) (old mid new : List ℕ) (window : Window) (f d n m all : ℕ) → n + m ≡ all → HasWindow b old window
-    → f + all ≤ window.len → d + all ≤ window.len → (d ≤ f) ⊎ (f + all ≤ d)
-    → Writes b at old mid window (combined_within g f (f + n) d (list_in b at old window)) → Writes b at mid new window (combined_within g (f + n) (f + n + m) (d + n) (list_in b at mid window))
-    → Writes b at old new window (combined_within g f (f + all) d (list_in b at old window))
-piece-next b at g old mid new window f d n m all sum has source room kept first second =
-    let list = list_in b at old window in
-    let long = length-list b at old window has in
-    let apart : (d ≤ f) ⊎ (f + (n + m) ≤ d) = ⊎_elim (λ (before : d ≤ f). inl before) (λ (behind : f + all ≤ d). inr (omega arith)) kept in
-    Writes-next (λ (l : List Bool). combined_within g (f + n) (f + n + m) (d + n) l) has first second
-    (combined_within-next g list f d n m (omega arith) (omega arith) apart ∙ ap (λ (k : ℕ). combined_within g f (f + k) d list) sum)
-
--- some bits, and then those before them
-pub piece-before : (b : ℕ) (at : ℕ → ℕ → ℕ) (g : Bool → Bool → Bool) (old mid new : List ℕ) (window : Window) (f d n m f2 d2 e : ℕ) → f2 ≡ f + n → d2 ≡ d + n → e ≡ f + n + m → HasWindow b old window
-    → f + (n + m) ≤ window.len → d + (n + m) ≤ window.len → f ≤ d
-    → Writes b at old mid window (combined_within g f2 e d2 (list_in b at old window)) → Writes b at mid new window (combined_within g f (f + n) d (list_in b at mid window))
-    → Writes b at old new window (combined_within g f e d (list_in b at old window))
-piece-before b at g old mid new window f d n m f2 d2 e from-is dest-is end-is has source room kept first second =
-    let list = list_in b at old window in
-    let long = length-list b at old window has in
-    let end : f + (n + m) ≡ e = omega arith in
-    let was = ap (λ (k : ℕ). combined_within g k e d2 list) from-is ∙ ap (λ (k : ℕ). combined_within g (f + n) e k list) dest-is ∙ ap (λ (k : ℕ). combined_within g (f + n) k (d + n) list) end-is in
-    Writes-next (λ (l : List Bool). combined_within g f (f + n) d l) has (Writes-is b at old mid window _ _ first was) second
-    (combined_within-before g list f d n m (omega arith) (omega arith) kept ∙ ap (λ (k : ℕ). combined_within g f k d list) end)
-
--- all but one of some elements have so many bits that their number is a word
-pub room-fits : (b n : ℕ) → IsWidth b → n ≤ 8192 → b * (n - 1) < 2 ^ 64
-room-fits b n width few =
-    let most : b ≤ 128 = at_each_width (λ m. m ≤ 128) (omega arith) (omega arith) (omega arith) (omega arith) (omega arith) b width in
-    let room : b * (n - 1) ≤ b * 8192 = mul-le-mul_left b (let less : n - 1 ≤ 8192 = omega arith in less) in
-    omega arith

@@ -1,18 +1,15 @@
 -- A memory that is cut at the edge of an element.
 use Rattle.std.specs.Prelude.{◌≡◌, ℕ, ◌+◌, ◌-◌, ◌*◌, ◌/◌, ◌%◌, ◌<◌, ◌≤◌, Bool, List, ◌++◌, length, map, slice_range, refl}
 use Rattle.std.proofs.Common.{arith, rules, sym, ◌∙◌, ap, subst, length-append}
-use Rattle.std.proofs.Math.Nat.{add-mod-mod, div-add-mod, mul-add, mul-mod_right}
+use Rattle.std.proofs.Math.Nat.{div-add-mod, mul-add}
 use Rattle.std.proofs.lemmas.List.{length-map, map-append, places, same_lists}
-use Rattle.std.proofs.lemmas.Nat.{mod_below}
-use Rattle.bitvec_base.specs.Lists.{combined}
 use Rattle.bitvec_base.specs.Memory.{HasWindow, Writes, list_in, memory_bits}
 use Rattle.bitvec_base.specs.MemoryLaws.{length-memory_bits, memory-range}
 use Rattle.bitvec_base.specs.SliceLaws.{range-all, range-join}
 use Rattle.bitvec_base.specs.Window.{window_of, window_range, write_at}
-use Rattle.bitvec_base.specs.WritesLaws.{HasWindow-kept, Writes-is, Writes-next, Writes-range, list-range}
+use Rattle.bitvec_base.specs.WritesLaws.{HasWindow-kept, Writes-next, Writes-range, list-range}
 use Rattle.bitvec_base.specs.declared.window.Window.{Window}
 use Rattle.bitvec_words.specs.WholeLaws.{window-same}
-use Rattle.bitvec_within.specs.Combined.{combined_within}
 use Rattle.bitvec_within.specs.Swaps.{swapped_within}
 
 module _ {X : Type 0} (front rest : List X) where
@@ -60,7 +57,7 @@ module _ (b : ℕ) (at : ℕ → ℕ → ℕ) (some : 0 < b) where
     abbrev behind : Window → Window
     behind window = record { start = b * length front + window.start; len = window.len }
 
-    list-in_front : (window : Window) → HasWindow b front window → list_in b at (front ++ rest) window ≡ list_in b at front window
+    pub list-in_front : (window : Window) → HasWindow b front window → list_in b at (front ++ rest) window ≡ list_in b at front window
     unfolding window_of
     list-in_front window has =
         let long = length-memory_bits b at front in
@@ -69,7 +66,7 @@ module _ (b : ℕ) (at : ℕ → ℕ → ℕ) (some : 0 < b) where
         ap (λ (l : List Bool). slice_range l window.start (window.start + window.len)) (memory-append front rest)
         ∙ range-in_front (memory_bits b at front) (memory_bits b at rest) window.start (window.start + window.len) (omega arith)
 
-    list-in_rest : (window : Window) → list_in b at (front ++ rest) (behind window) ≡ list_in b at rest window
+    pub list-in_rest : (window : Window) → list_in b at (front ++ rest) (behind window) ≡ list_in b at rest window
     unfolding window_of
     list-in_rest window =
         let long = length-memory_bits b at front in
@@ -80,7 +77,7 @@ module _ (b : ℕ) (at : ℕ → ℕ → ℕ) (some : 0 < b) where
         ∙ ap (λ (e : ℕ). slice_range (memory_bits b at front ++ memory_bits b at rest) (length (memory_bits b at front) + window.start) e) end
         ∙ range-in_rest (memory_bits b at front) (memory_bits b at rest) window.start (window.start + window.len)
 
-    Writes-in_front : (new : List ℕ) (window : Window) (list : List Bool) → HasWindow b front window → Writes b at front new window list → Writes b at (front ++ rest) (new ++ rest) window list
+    pub Writes-in_front : (new : List ℕ) (window : Window) (list : List Bool) → HasWindow b front window → Writes b at front new window list → Writes b at (front ++ rest) (new ++ rest) window list
     Writes-in_front new window list has writes =
         let long = length-memory_bits b at front in
         let start = has.within.start in
@@ -94,7 +91,7 @@ module _ (b : ℕ) (at : ℕ → ℕ → ℕ) (some : 0 < b) where
           elements = omega (arith, writes.elements, length-append new rest, length-append front rest);
         }
 
-    Writes-in_rest : (new : List ℕ) (window : Window) (list : List Bool) → HasWindow b rest window → Writes b at rest new window list → Writes b at (front ++ rest) (front ++ new) (behind window) list
+    pub Writes-in_rest : (new : List ℕ) (window : Window) (list : List Bool) → HasWindow b rest window → Writes b at rest new window list → Writes b at (front ++ rest) (front ++ new) (behind window) list
     Writes-in_rest new window list has writes =
         let long = length-memory_bits b at front in
         let all = length-memory_bits b at rest in
@@ -134,41 +131,6 @@ module _ (b : ℕ) (at : ℕ → ℕ → ℕ) (some : 0 < b) where
       (Writes-range b at mid (left ++ right) window s (s + n) _ (HasWindow-kept b old mid window has one.elements) (omega arith) dest two)
       (rw (near-list, far-list, count) refl)
 
-  module _ (g : Bool → Bool → Bool) (front rest : List ℕ) (window near far : Window) (f s n : ℕ) (has : HasWindow b (front ++ rest) window) (near-has : HasWindow b front near) (far-has : HasWindow b rest far)
-      (near-start : near.start ≡ window.start + f) (near-len : near.len ≡ n) (far-start : b * length front + far.start ≡ window.start + s) (far-len : far.len ≡ n) (source : f + n ≤ window.len) (room : s + n ≤ window.len) where
-    abbrev list : List Bool
-    list = list_in b at (front ++ rest) window
-
-    near-list : list_in b at front near ≡ slice_range list f (f + n)
-    near-list =
-        let is : near ≡ window_range window f (f + n) = window-same _ _ near-start (omega arith) in
-        sym (list-in_front front rest near near-has) ∙ ap (list_in b at (front ++ rest)) is ∙ list-range b at (front ++ rest) window f (f + n) has (omega arith) source
-
-    far-list : list_in b at rest far ≡ slice_range list s (s + n)
-    far-list =
-        let is : behind front rest far ≡ window_range window s (s + n) = window-same _ _ far-start (omega arith) in
-        sym (list-in_rest front rest far) ∙ ap (list_in b at (front ++ rest)) is ∙ list-range b at (front ++ rest) window s (s + n) has (omega arith) room
-
-    -- a range of the first elements combined with one of the others
-    pub front-combined : (new : List ℕ) → Writes b at front new near (combined g (list_in b at front near) (list_in b at rest far)) → Writes b at (front ++ rest) (new ++ rest) window (combined_within g s (s + n) f list)
-    unfolding combined_within
-    front-combined new writes =
-        let is : near ≡ window_range window f (f + n) = window-same _ _ near-start (omega arith) in
-        let count : s + n - s ≡ n = omega arith in
-        let wrote = subst (λ (w : Window). Writes b at (front ++ rest) (new ++ rest) w (combined g (list_in b at front near) (list_in b at rest far))) is (Writes-in_front front rest new near _ near-has writes) in
-        Writes-is b at (front ++ rest) (new ++ rest) window _ _ (Writes-range b at (front ++ rest) (new ++ rest) window f (f + n) _ has (omega arith) source wrote)
-        (rw (near-list, far-list, count) refl)
-
-    -- and the other way
-    pub rest-combined : (new : List ℕ) → Writes b at rest new far (combined g (list_in b at rest far) (list_in b at front near)) → Writes b at (front ++ rest) (front ++ new) window (combined_within g f (f + n) s list)
-    unfolding combined_within
-    rest-combined new writes =
-        let is : behind front rest far ≡ window_range window s (s + n) = window-same _ _ far-start (omega arith) in
-        let count : f + n - f ≡ n = omega arith in
-        let wrote = subst (λ (w : Window). Writes b at (front ++ rest) (front ++ new) w (combined g (list_in b at rest far) (list_in b at front near))) is (Writes-in_rest front rest new far _ far-has writes) in
-        Writes-is b at (front ++ rest) (front ++ new) window _ _ (Writes-range b at (front ++ rest) (front ++ new) window s (s + n) _ has (omega arith) room wrote)
-        (rw (near-list, far-list, count) refl)
-
 -- the place at which the elements are cut
 pub cut-place : {A : Type 0} (b bits : ℕ) (value : A → ℕ) (front : List A) (window : Window) (s : ℕ) → bits ≡ b → length front ≡ (window.start + s) / bits → b * length (map value front) + (window.start + s) % bits ≡ window.start + s
 cut-place b bits value front window s same count =
@@ -189,29 +151,6 @@ cut-inside b bits value cells front rest window near f s n same has joined count
     let start = has.within.start in
     let end = has.within.len in
     rw range (record { fits = omega arith; within = record { start = omega arith; len = omega arith } }, record { fits = omega arith; within = record { start = omega arith; len = omega arith } })
-
--- a memory cut in two where the place is the edge of an element
-pub edge-place : {A : Type 0} (b bits : ℕ) (value : A → ℕ) (front : List A) (window : Window) (s : ℕ) → bits ≡ b → length front ≡ (window.start + s) / bits → (window.start + s) % b ≡ 0 → b * length (map value front) + 0 ≡ window.start + s
-edge-place b bits value front window s same count edge =
-    let cut = cut-place b bits value front window s same count in
-    let none : (window.start + s) % bits ≡ 0 = ap (λ (m : ℕ). (window.start + s) % m) same ∙ edge in
-    omega arith
-
-pub edge-inside : {A : Type 0} (b bits : ℕ) (value : A → ℕ) (cells front rest : List A) (window near : Window) (f s n : ℕ) → bits ≡ b → HasWindow b (map value cells) window → cells ≡ front ++ rest → length front ≡ (window.start + s) / bits
-    → near ≡ window_range window f (f + n) → (window.start + s) % b ≡ 0 → f + n ≤ s → s + n ≤ window.len
-    → HasWindow b (map value front) near × HasWindow b (map value rest) (record { start = 0; len = n })
-edge-inside b bits value cells front rest window near f s n same has joined count range edge order bound =
-    let sides = cut-inside b bits value cells front rest window near f s n same has joined count range (omega arith) bound in
-    let none : (window.start + s) % bits ≡ 0 = ap (λ (m : ℕ). (window.start + s) % m) same ∙ edge in
-    (sides.0, subst (λ (k : ℕ). HasWindow b (map value rest) (record { start = k; len = n })) none sides.1)
-
--- the next edge from a place on
-pub edge-next : (b place : ℕ) → 0 < b → (place + (b - place % b) % b) % b ≡ 0
-edge-next b place some =
-    let below = mod_below place b some in
-    let cut = div-add-mod place b in
-    let sum : place + (b - place % b) ≡ b * (place / b + 1) = omega arith in
-    add-mod-mod place (b - place % b) b ∙ ap (λ (n : ℕ). n % b) sum ∙ mul-mod_right b (place / b + 1)
 
 -- a number of whole elements
 pub whole-is : (b n : ℕ) → n % b ≡ 0 → n / b * b ≡ n

@@ -1,18 +1,13 @@
 -- Where a needle stands, by the words of the list and its own first bits.
-use Rattle.std.specs.Prelude.{◌≡◌, ℕ, ◌+◌, ◌-◌, ◌<◌, ◌≤◌, min, Bool, true, false, List, ◌++◌, length, slice_index_or, slice_range}
+use Rattle.std.specs.Prelude.{◌≡◌, ℕ, ◌+◌, ◌-◌, ◌<◌, ◌≤◌, Bool, true, false, List, ◌++◌, length, slice_index_or, slice_range}
 use Rattle.std.proofs.Common.{arith, sym, ◌∙◌, ap, ⊎_elim}
 use Rattle.std.proofs.lemmas.Bool.{cases_lt, false_from_ne_true}
 use Rattle.std.proofs.lemmas.List.{get_or_append_left, get_or-append_right}
-use Rattle.bitvec_base.specs.declared.window.Window.{Window}
 use Rattle.bitvec_base.specs.Lists.{stands_at}
 use Rattle.bitvec_base.specs.ListsLaws.{same_bits-decides, stands_at-fits, stands_at-long}
-use Rattle.bitvec_base.specs.Memory.{HasWindow, element_bits, list_in, memory_bits}
+use Rattle.bitvec_base.specs.Memory.{element_bits}
 use Rattle.bitvec_base.specs.MemoryLaws.{length-element_bits}
-use Rattle.bitvec_base.specs.Window.{window_range}
-use Rattle.bitvec_base.specs.WindowLaws.{window-past}
-use Rattle.bitvec_base.specs.WriteLaws.{get-slice_range, length-slice_range}
-use Rattle.bitvec_base.specs.WritesLaws.{length-list, list-range, within-list}
-use Rattle.bitvec_words.specs.ShortWindow.{padded}
+use Rattle.bitvec_base.specs.WriteLaws.{get-slice_range}
 use Rattle.bitvec_elements.specs.BitsFrom.{HasBitsFrom}
 use Rattle.bitvec_within.specs.Candidates.{HasStarts}
 

@@ -1,5 +1,5 @@
 -- Where some bits may stand among others, by words.
-use Rattle.std.specs.Prelude.{◌≡◌, ℕ, ◌+◌, ◌<◌, Bool, true, false, List, ◌++◌, slice_index_or}
+use Rattle.std.specs.Prelude.{◌≡◌, ℕ, ◌+◌, ◌<◌, true, false, ◌++◌, slice_index_or}
 use Rattle.bitvec_base.specs.Memory.{element_bits}
 
 -- each of the first 64 places of two words side by side from which they have the first `count` bits of the needle is a 1 of `starts`

@@ -1,4 +1,5 @@
 pub mod Candidates
 pub mod Combined
 pub mod CombinedLaws
+pub mod Ranges
 pub mod Swaps

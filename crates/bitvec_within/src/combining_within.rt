@@ -1,10 +1,12 @@
 //! Each bit of a range of a window with the one at its index in another range of it. What is met in loops is
 //! inlined into the caller, so that each operator has loops of its own.
-ghost use Rattle.std.specs.Prelude.{◌≡◌, ◌+◌, ◌-◌, ◌*◌, ◌%◌, ◌<◌, ◌≤◌, length, map};
-ghost use Rattle.bitvec_base.specs.Lists.{FitsWithin, combined};
-ghost use Rattle.bitvec_base.specs.Memory.{Edits, HasWindow, Writes, list_in};
+ghost use Rattle.std.specs.Prelude.{◌≡◌, ◌+◌, ◌-◌, ◌*◌, ◌%◌, ◌^◌, ◌<◌, ◌≤◌, length, map, max};
+ghost use Rattle.std.specs.Borrow.{Array, LendsBoth, sem};
+ghost use Rattle.bitvec_base.specs.Lists.{FitsWithin};
+ghost use Rattle.bitvec_base.specs.Memory.{Edits, HasWindow};
 ghost use Rattle.bitvec_words.specs.Operator.{operator};
 ghost use Rattle.bitvec_within.specs.Combined.{combined_within};
+ghost use Rattle.bitvec_within.specs.Ranges.{AreSides, Combines, HasRanges, LieApart, first_of, joined_sides, rest_of};
 
 use bitvec_base::Window;
 use bitvec_elements::combine_block_in;
@@ -12,6 +14,27 @@ use bitvec_engine::SliceOrder;
 use bitvec_store::BitStore;
 use bitvec_words::BitOp;
 use std::ops::Range;
+
+/// Two ranges of a memory: `len` bits from `from` on, which are read, and as many from `to` on, which are written.
+#[derive(Clone, Copy)]
+struct Ranges {
+    from: usize,
+    to: usize,
+    len: usize,
+}
+
+impl Ranges {
+    /// The first bits of each, and those behind them. Conditions: each has so many, and ends at a `usize`.
+    fn split_at(self, count: usize) -> (Ranges, Ranges)
+        requires bound { count ≤ self.len }
+        requires source { self.from + self.len < 2 ^ 64 }
+        requires target { self.to + self.len < 2 ^ 64 }
+        ensures { result ≡ (first_of self count, rest_of self count) }
+    {
+        let (from, to, len) = (self.from + count, self.to + count, self.len - count);
+        (Ranges { len: count, ..self }, Ranges { from, to, len })
+    }
+}
 
 /// Replaces as many bits from `dest` on as a range of a window has: each becomes what the operator makes of
 /// it and of the one at its index in the range, as that stood before the call, also where the two overlap.
@@ -30,68 +53,36 @@ pub fn combine_within_in<T: BitStore, O: SliceOrder>(
     ensures writes { Edits T.BITS O.at (map T.value elements.old) (map T.value elements.new) window
         (combined_within (operator op) src.start src.end dest) }
 {
+    let (from, to) = (window.start + src.start, window.start + dest);
     let len = src.end - src.start;
-    if src.end <= dest {
-        combine_later::<T, O>(elements, window, src.start, dest, len, op);
-    } else if dest + len <= src.start {
-        combine_earlier::<T, O>(elements, window, src.start, dest, len, op);
+    let ranges = Ranges { from, to, len };
+    if from + len <= to {
+        combine_apart::<T, O, true>(elements, ranges, op);
+    } else if to + len <= from {
+        combine_apart::<T, O, false>(elements, ranges, op);
     } else {
-        combine_overlapping::<T, O>(elements, window, src.start, dest, len, op);
+        combine_overlapping::<T, O>(elements, ranges, op);
     }
 }
 
-/// Combines `len` bits of a window from `dest` on with as many from `from` on. Conditions: as for
-/// [`combine_within_in`]; and the bits that are written stand behind the others.
+/// Combines ranges that lie apart. Whole elements of both go by a way of their own.
 #[inline(always)]
-fn combine_later<T: BitStore, O: SliceOrder>(
+fn combine_apart<T: BitStore, O: SliceOrder, const LATER: bool>(
     elements: &mut [T],
-    window: Window,
-    from: usize,
-    dest: usize,
-    len: usize,
+    ranges: Ranges,
     op: BitOp,
 )
-    requires window { HasWindow T.BITS (map T.value elements.old) window }
-    requires order { from + len ≤ dest }
-    requires bound { dest + len ≤ window.len }
-    ensures writes { Edits T.BITS O.at (map T.value elements.old) (map T.value elements.new) window
-        (combined_within (operator op) from (from + len) dest) }
+    requires ranges { HasRanges T.BITS (map T.value elements.old) ranges }
+    requires apart { LieApart LATER ranges }
+    ensures combines { Combines T.BITS O.at (map T.value elements.old) (map T.value elements.new) ranges op }
 {
     let bits = T::BITS as usize;
-    let (source, target) = (window.start + from, window.start + dest);
-    if len > bits && len % bits == 0 && source % bits == 0 && target % bits == 0 {
-        let start = whole::<T>(source) - window.start;
-        combine_rest::<T, O>(elements, window, start, dest, whole::<T>(len), op);
+    let Ranges { from, to, len } = ranges;
+    if len > bits && len % bits == 0 && from % bits == 0 && to % bits == 0 {
+        let (from, to, len) = (whole::<T>(from), whole::<T>(to), whole::<T>(len));
+        combine_cut::<T, O, LATER>(elements, Ranges { from, to, len }, op);
     } else {
-        combine_later_any::<T, O>(elements, window, from, dest, len, op);
-    }
-}
-
-/// Combines `len` bits of a window from `dest` on with as many from `from` on. Conditions: as for
-/// [`combine_within_in`]; and the bits that are written stand before the others, and not
-/// behind them as in [`combine_later`].
-#[inline(always)]
-fn combine_earlier<T: BitStore, O: SliceOrder>(
-    elements: &mut [T],
-    window: Window,
-    from: usize,
-    dest: usize,
-    len: usize,
-    op: BitOp,
-)
-    requires window { HasWindow T.BITS (map T.value elements.old) window }
-    requires order { dest + len ≤ from }
-    requires bound { from + len ≤ window.len }
-    ensures writes { Edits T.BITS O.at (map T.value elements.old) (map T.value elements.new) window
-        (combined_within (operator op) from (from + len) dest) }
-{
-    let bits = T::BITS as usize;
-    let (source, target) = (window.start + from, window.start + dest);
-    if len > bits && len % bits == 0 && source % bits == 0 && target % bits == 0 {
-        let start = whole::<T>(target) - window.start;
-        combine_front::<T, O>(elements, window, from, start, whole::<T>(len), op);
-    } else {
-        combine_earlier_any::<T, O>(elements, window, from, dest, len, op);
+        combine_any::<T, O, LATER>(elements, ranges, op);
     }
 }
 
@@ -105,360 +96,208 @@ fn whole<T: BitStore>(bits: usize) -> usize
     bits / each * each
 }
 
-/// [`combine_later`] of any bits, with loops for each operator. It is not inlined, so that loops in which whole
-/// elements are combined have few values to keep.
+/// [`combine_apart`] of any bits. It is not inlined, so that loops of whole elements have few values to keep.
 #[inline(never)]
-fn combine_later_any<T: BitStore, O: SliceOrder>(
+fn combine_any<T: BitStore, O: SliceOrder, const LATER: bool>(
     elements: &mut [T],
-    window: Window,
-    from: usize,
-    dest: usize,
-    len: usize,
+    ranges: Ranges,
     op: BitOp,
 )
-    requires window { HasWindow T.BITS (map T.value elements.old) window }
-    requires order { from + len ≤ dest }
-    requires bound { dest + len ≤ window.len }
-    ensures writes { Edits T.BITS O.at (map T.value elements.old) (map T.value elements.new) window
-        (combined_within (operator op) from (from + len) dest) }
+    requires ranges { HasRanges T.BITS (map T.value elements.old) ranges }
+    requires apart { LieApart LATER ranges }
+    ensures combines { Combines T.BITS O.at (map T.value elements.old) (map T.value elements.new) ranges op }
 {
     match op {
-        BitOp::And => combine_later_parts::<T, O>(elements, window, from, dest, len, BitOp::And),
-        BitOp::Or => combine_later_parts::<T, O>(elements, window, from, dest, len, BitOp::Or),
-        BitOp::Xor => combine_later_parts::<T, O>(elements, window, from, dest, len, BitOp::Xor),
+        BitOp::And => combine_parts::<T, O, LATER>(elements, ranges, BitOp::And),
+        BitOp::Or => combine_parts::<T, O, LATER>(elements, ranges, BitOp::Or),
+        BitOp::Xor => combine_parts::<T, O, LATER>(elements, ranges, BitOp::Xor),
     }
 }
 
-/// [`combine_later_any`] by an operator that is known at the call.
-///
-/// The two ranges share one element at most. The bits up to its end are written first, and then all others as for
-/// two memories.
+/// [`combine_any`] by an operator that is known at the call. The ranges share one element at most: the bits up to the
+/// first edge of the second range are combined first, and then all others as for two memories.
 #[inline(always)]
-fn combine_later_parts<T: BitStore, O: SliceOrder>(
+fn combine_parts<T: BitStore, O: SliceOrder, const LATER: bool>(
     elements: &mut [T],
-    window: Window,
-    from: usize,
-    dest: usize,
-    len: usize,
+    ranges: Ranges,
     op: BitOp,
 )
-    requires window { HasWindow T.BITS (map T.value elements.old) window }
-    requires order { from + len ≤ dest }
-    requires bound { dest + len ≤ window.len }
-    ensures writes { Edits T.BITS O.at (map T.value elements.old) (map T.value elements.new) window
-        (combined_within (operator op) from (from + len) dest) }
+    requires ranges { HasRanges T.BITS (map T.value elements.old) ranges }
+    requires apart { LieApart LATER ranges }
+    ensures combines { Combines T.BITS O.at (map T.value elements.old) (map T.value elements.new) ranges op }
 {
-    let head = until_edge::<T>(window.start + dest).min(len);
-    combine_few::<T, O>(elements, window, from, dest, head, op);
-    if head < len {
-        let rest = len - head;
-        combine_rest::<T, O>(elements, window, from + head, dest + head, rest, op);
+    let later = ranges.from.max(ranges.to);
+    let head = later.next_multiple_of(T::BITS as usize) - later;
+    let (first, rest) = ranges.split_at(head.min(ranges.len));
+    combine_few::<T, O>(elements, first, op);
+    if rest.len > 0 {
+        combine_cut::<T, O, LATER>(elements, rest, op);
     }
 }
 
-/// [`combine_earlier`] of any bits, as [`combine_later_any`].
-#[inline(never)]
-fn combine_earlier_any<T: BitStore, O: SliceOrder>(
-    elements: &mut [T],
-    window: Window,
-    from: usize,
-    dest: usize,
-    len: usize,
-    op: BitOp,
-)
-    requires window { HasWindow T.BITS (map T.value elements.old) window }
-    requires order { dest + len ≤ from }
-    requires bound { from + len ≤ window.len }
-    ensures writes { Edits T.BITS O.at (map T.value elements.old) (map T.value elements.new) window
-        (combined_within (operator op) from (from + len) dest) }
+/// The two parts of a memory that is cut at an element: the one that is written, the second where `LATER`, and the other.
+#[inline(always)]
+fn sides<T: BitStore, const LATER: bool>(elements: &mut [T], cut: usize) -> (&mut [T], &mut [T])
+    requires { cut ≤ length elements.old }
+    ensures* lends { sem 𝓛 (LendsBoth (Array T.row 0) (Array T.row 0) (Array T.row 0) elements.entry result (joined_sides LATER)) }
+    ensures parts { AreSides LATER cut elements.old result.0.now result.1.now }
 {
-    match op {
-        BitOp::And => combine_earlier_parts::<T, O>(elements, window, from, dest, len, BitOp::And),
-        BitOp::Or => combine_earlier_parts::<T, O>(elements, window, from, dest, len, BitOp::Or),
-        BitOp::Xor => combine_earlier_parts::<T, O>(elements, window, from, dest, len, BitOp::Xor),
-    }
+    let (front, rest) = elements.split_at_mut(cut);
+    if LATER { (rest, front) } else { (front, rest) }
 }
 
-/// [`combine_earlier_any`] by an operator that is known at the call. The bits up to the end of a shared element are
-/// read first.
+/// [`combine_apart`] where the second range begins an element: the memory is cut there.
 #[inline(always)]
-fn combine_earlier_parts<T: BitStore, O: SliceOrder>(
+fn combine_cut<T: BitStore, O: SliceOrder, const LATER: bool>(
     elements: &mut [T],
-    window: Window,
-    from: usize,
-    dest: usize,
-    len: usize,
+    ranges: Ranges,
     op: BitOp,
 )
-    requires window { HasWindow T.BITS (map T.value elements.old) window }
-    requires order { dest + len ≤ from }
-    requires bound { from + len ≤ window.len }
-    ensures writes { Edits T.BITS O.at (map T.value elements.old) (map T.value elements.new) window
-        (combined_within (operator op) from (from + len) dest) }
+    requires ranges { HasRanges T.BITS (map T.value elements.old) ranges }
+    requires apart { LieApart LATER ranges }
+    requires edge { max ranges.from ranges.to % T.BITS ≡ 0 }
+    ensures combines { Combines T.BITS O.at (map T.value elements.old) (map T.value elements.new) ranges op }
 {
-    let head = until_edge::<T>(window.start + from).min(len);
-    combine_few::<T, O>(elements, window, from, dest, head, op);
-    if head < len {
-        let rest = len - head;
-        combine_front::<T, O>(elements, window, from + head, dest + head, rest, op);
-    }
-}
-
-/// How many bits stand between a place and the next edge of an element; none, where the place is one.
-#[inline(always)]
-fn until_edge<T: BitStore>(place: usize) -> usize
-    ensures edge { (place + result) % T.BITS ≡ 0 }
-    ensures few { result < T.BITS }
-{
-    let bits = T::BITS as usize;
-    (bits - place % bits) % bits
-}
-
-/// [`combine_later`] where the first bit that is written begins an element.
-#[inline(always)]
-fn combine_rest<T: BitStore, O: SliceOrder>(
-    elements: &mut [T],
-    window: Window,
-    from: usize,
-    dest: usize,
-    len: usize,
-    op: BitOp,
-)
-    requires window { HasWindow T.BITS (map T.value elements.old) window }
-    requires order { from + len ≤ dest }
-    requires bound { dest + len ≤ window.len }
-    requires edge { (window.start + dest) % T.BITS ≡ 0 }
-    ensures writes { Edits T.BITS O.at (map T.value elements.old) (map T.value elements.new) window
-        (combined_within (operator op) from (from + len) dest) }
-{
-    let near = window.range(from, from + len);
+    let Ranges { from, to, len } = ranges;
     let far = Window { start: 0, len };
-    let (front, rest) = elements.split_at_mut((window.start + dest) / (T::BITS as usize));
-    combine_block_in::<T, O>(rest, far, &*front, near, op);
-}
-
-/// [`combine_earlier`] where the first bit that is read begins an element.
-#[inline(always)]
-fn combine_front<T: BitStore, O: SliceOrder>(
-    elements: &mut [T],
-    window: Window,
-    from: usize,
-    dest: usize,
-    len: usize,
-    op: BitOp,
-)
-    requires window { HasWindow T.BITS (map T.value elements.old) window }
-    requires order { dest + len ≤ from }
-    requires bound { from + len ≤ window.len }
-    requires edge { (window.start + from) % T.BITS ≡ 0 }
-    ensures writes { Edits T.BITS O.at (map T.value elements.old) (map T.value elements.new) window
-        (combined_within (operator op) from (from + len) dest) }
-{
-    let near = window.range(dest, dest + len);
-    let far = Window { start: 0, len };
-    let (front, rest) = elements.split_at_mut((window.start + from) / (T::BITS as usize));
-    combine_block_in::<T, O>(front, near, &*rest, far, op);
-}
-
-/// Combines `len` bits of a window from `dest` on with as many from `from` on, which overlap. Conditions: as for
-/// [`combine_within_in`].
-///
-/// The source is held aside in an array of at least as many elements as it touches; the memory has to have as many.
-#[inline(always)]
-fn combine_overlapping<T: BitStore, O: SliceOrder>(
-    elements: &mut [T],
-    window: Window,
-    from: usize,
-    dest: usize,
-    len: usize,
-    op: BitOp,
-)
-    requires window { HasWindow T.BITS (map T.value elements.old) window }
-    requires fits { FitsWithin from (from + len) dest window.len }
-    ensures writes { Edits T.BITS O.at (map T.value elements.old) (map T.value elements.new) window
-        (combined_within (operator op) from (from + len) dest) }
-{
-    let bits = T::BITS as usize;
-    let (most, touched) = (elements.len(), (window.start + from) % bits + len);
-    if most >= 18 && touched <= 18 * bits {
-        combine_aside::<T, O, 18>(elements, window, from, dest, len, op);
-    } else if most >= 64 && touched <= 64 * bits {
-        combine_aside::<T, O, 64>(elements, window, from, dest, len, op);
-    } else if most >= 128 && touched <= 128 * bits {
-        combine_aside::<T, O, 128>(elements, window, from, dest, len, op);
+    let (left, right) = sides::<T, LATER>(elements, from.max(to) / T::BITS as usize);
+    let windows = if LATER {
+        (far, Window { start: from, len })
     } else {
-        combine_long::<T, O>(elements, window, from, dest, len, op);
+        (Window { start: to, len }, far)
+    };
+    combine_block_in::<T, O>(left, windows.0, &*right, windows.1, op);
+}
+
+/// Combines ranges that overlap. The source is held aside, in an array where the memory has as many elements.
+#[inline(always)]
+fn combine_overlapping<T: BitStore, O: SliceOrder>(elements: &mut [T], ranges: Ranges, op: BitOp)
+    requires ranges { HasRanges T.BITS (map T.value elements.old) ranges }
+    ensures combines { Combines T.BITS O.at (map T.value elements.old) (map T.value elements.new) ranges op }
+{
+    let bits = T::BITS as usize;
+    let (most, touched) = (elements.len(), ranges.from % bits + ranges.len);
+    if most >= 18 && touched <= 18 * bits {
+        combine_aside::<T, O, 18>(elements, ranges, op);
+    } else if most >= 64 && touched <= 64 * bits {
+        combine_aside::<T, O, 64>(elements, ranges, op);
+    } else if most >= 128 && touched <= 128 * bits {
+        combine_aside::<T, O, 128>(elements, ranges, op);
+    } else if most >= 258 && touched <= 258 * bits {
+        combine_aside::<T, O, 258>(elements, ranges, op);
+    } else {
+        combine_long::<T, O>(elements, ranges, op);
     }
 }
 
 /// [`combine_overlapping`] where the source touches many elements, or the memory has few.
 #[inline(never)]
-fn combine_long<T: BitStore, O: SliceOrder>(
-    elements: &mut [T],
-    window: Window,
-    from: usize,
-    dest: usize,
-    len: usize,
-    op: BitOp,
-)
-    requires window { HasWindow T.BITS (map T.value elements.old) window }
-    requires fits { FitsWithin from (from + len) dest window.len }
-    ensures writes { Edits T.BITS O.at (map T.value elements.old) (map T.value elements.new) window
-        (combined_within (operator op) from (from + len) dest) }
+fn combine_long<T: BitStore, O: SliceOrder>(elements: &mut [T], ranges: Ranges, op: BitOp)
+    requires ranges { HasRanges T.BITS (map T.value elements.old) ranges }
+    ensures combines { Combines T.BITS O.at (map T.value elements.old) (map T.value elements.new) ranges op }
 {
-    let bits = T::BITS as usize;
-    if len <= bits {
-        return combine_few::<T, O>(elements, window, from, dest, len, op);
-    }
-    let (most, touched) = (elements.len(), (window.start + from) % bits + len);
-    if most >= 258 && touched <= 258 * bits {
-        combine_aside::<T, O, 258>(elements, window, from, dest, len, op);
-    } else if most >= 4098 && bits <= 16 && len >= 4097 * bits {
-        combine_blocks::<T, O, 4098>(elements, window, from, dest, len, op);
+    let (bits, most) = (T::BITS as usize, elements.len());
+    if ranges.len <= bits {
+        combine_few::<T, O>(elements, ranges, op);
+    } else if most >= 4098 && bits <= 16 && ranges.len >= 4097 * bits {
+        combine_blocks::<T, O, 4098>(elements, ranges, op);
     } else if most >= 514 {
-        combine_blocks::<T, O, 514>(elements, window, from, dest, len, op);
-    } else if most >= 258 {
-        combine_blocks::<T, O, 258>(elements, window, from, dest, len, op);
-    } else if most >= 64 {
-        combine_blocks::<T, O, 64>(elements, window, from, dest, len, op);
-    } else if most >= 18 {
-        combine_blocks::<T, O, 18>(elements, window, from, dest, len, op);
-    } else if most >= 4 {
-        combine_blocks::<T, O, 4>(elements, window, from, dest, len, op);
+        combine_blocks::<T, O, 514>(elements, ranges, op);
     } else {
-        combine_blocks::<T, O, 2>(elements, window, from, dest, len, op);
+        T::fits_in_memory();
+        let mut held = [T::ZERO; 514];
+        combine_held::<T, O>(elements, &mut held[..most], ranges, op);
     }
 }
 
-/// [`combine_overlapping`] by blocks of one element fewer than `HELD`, from the end at which no bit is written over
-/// before it is read. Conditions: `HELD` is from 2 to 8192, and the memory has as many elements.
+/// [`combine_overlapping`] by blocks of one element fewer than are held aside, from the end at which no bit is written
+/// over before it is read. Conditions: `HELD` is from 2 to 8192, and the memory has as many.
 fn combine_blocks<T: BitStore, O: SliceOrder, const HELD: usize>(
     elements: &mut [T],
-    window: Window,
-    from: usize,
-    dest: usize,
-    len: usize,
+    ranges: Ranges,
     op: BitOp,
 )
-    requires window { HasWindow T.BITS (map T.value elements.old) window }
-    requires fits { FitsWithin from (from + len) dest window.len }
+    requires ranges { HasRanges T.BITS (map T.value elements.old) ranges }
     requires held { 1 < HELD }
     requires few { HELD ≤ 8192 }
     requires many { HELD ≤ length elements.old }
-    ensures writes { Edits T.BITS O.at (map T.value elements.old) (map T.value elements.new) window
-        (combined_within (operator op) from (from + len) dest) }
+    ensures combines { Combines T.BITS O.at (map T.value elements.old) (map T.value elements.new) ranges op }
 {
-    let size = room_beside::<T>(HELD);
-    let count = len.div_ceil(size);
-    for turn in 0..count {
-        let index = in_turn(from, dest, turn, count);
-        let done = index * size;
-        let block = size.min(len - done);
-        combine_aside::<T, O, HELD>(elements, window, from + done, dest + done, block, op);
+    let size = T::BITS as usize * (HELD - 1);
+    let mut left = ranges;
+    while left.len > 0 {
+        let count = size.min(left.len);
+        let parts = if left.from < left.to {
+            let (first, last) = left.split_at(left.len - count);
+            (last, first)
+        } else {
+            left.split_at(count)
+        };
+        combine_aside::<T, O, HELD>(elements, parts.0, op);
+        left = parts.1;
     }
 }
 
-/// How many bits all but one of some elements have. Condition: they are from 1 to 8192.
-fn room_beside<T: BitStore>(count: usize) -> usize
-    requires some { 0 < count }
-    requires few { count ≤ 8192 }
-    ensures { result ≡ T.BITS * (count - 1) }
-{
-    T::BITS as usize * (count - 1)
-}
-
-/// Which of `count` blocks has its turn, where each is read before another one is written over it.
+/// Combines at most as many bits as an element has.
 #[inline(always)]
-fn in_turn(from: usize, dest: usize, turn: usize, count: usize) -> usize
-    requires { turn < count }
-    ensures inside { result < count }
-    ensures up { dest ≤ from → result ≡ turn }
-    ensures down { from < dest → result ≡ count - 1 - turn }
+fn combine_few<T: BitStore, O: SliceOrder>(elements: &mut [T], ranges: Ranges, op: BitOp)
+    requires ranges { HasRanges T.BITS (map T.value elements.old) ranges }
+    requires few { ranges.len ≤ T.BITS }
+    ensures combines { Combines T.BITS O.at (map T.value elements.old) (map T.value elements.new) ranges op }
 {
-    if from < dest { count - 1 - turn } else { turn }
-}
-
-/// Combines as many bits of a window from `dest` on with those from `from` on as an element has, or fewer.
-/// Conditions: as for [`combine_within_in`].
-#[inline(always)]
-fn combine_few<T: BitStore, O: SliceOrder>(
-    elements: &mut [T],
-    window: Window,
-    from: usize,
-    dest: usize,
-    len: usize,
-    op: BitOp,
-)
-    requires window { HasWindow T.BITS (map T.value elements.old) window }
-    requires fits { FitsWithin from (from + len) dest window.len }
-    requires few { len ≤ T.BITS }
-    ensures writes { Edits T.BITS O.at (map T.value elements.old) (map T.value elements.new) window
-        (combined_within (operator op) from (from + len) dest) }
-{
-    if len == 0 {
+    if ranges.len == 0 {
         return;
     }
     if elements.len() > 1 {
-        combine_held::<T, O, 2>(elements, window, from, dest, len, op);
+        T::fits_in_memory();
+        let mut held = [T::ZERO; 2];
+        combine_held::<T, O>(elements, &mut held, ranges, op);
     } else {
-        combine_aside::<T, O, 1>(elements, window, from, dest, len, op);
+        combine_aside::<T, O, 1>(elements, ranges, op);
     }
 }
 
-/// [`combine_held`], not inlined, with loops for each operator: they are not made once more for each call.
+/// [`combine_held`] with an array. It is not inlined: its loops are not made once more for each call.
 #[inline(never)]
 fn combine_aside<T: BitStore, O: SliceOrder, const HELD: usize>(
     elements: &mut [T],
-    window: Window,
-    from: usize,
-    dest: usize,
-    len: usize,
+    ranges: Ranges,
     op: BitOp,
 )
-    requires window { HasWindow T.BITS (map T.value elements.old) window }
-    requires fits { FitsWithin from (from + len) dest window.len }
+    requires ranges { HasRanges T.BITS (map T.value elements.old) ranges }
     requires many { HELD ≤ length elements.old }
-    requires held { (window.start + from) % T.BITS + len ≤ T.BITS * HELD }
-    ensures writes { Edits T.BITS O.at (map T.value elements.old) (map T.value elements.new) window
-        (combined_within (operator op) from (from + len) dest) }
+    requires held { ranges.from % T.BITS + ranges.len ≤ T.BITS * HELD }
+    ensures combines { Combines T.BITS O.at (map T.value elements.old) (map T.value elements.new) ranges op }
 {
-    match op {
-        BitOp::And => combine_held::<T, O, HELD>(elements, window, from, dest, len, BitOp::And),
-        BitOp::Or => combine_held::<T, O, HELD>(elements, window, from, dest, len, BitOp::Or),
-        BitOp::Xor => combine_held::<T, O, HELD>(elements, window, from, dest, len, BitOp::Xor),
-    }
-}
-
-/// Combines `len` bits of a window from `dest` on with as many from `from` on, of which the elements are held
-/// aside. Conditions: as for [`combine_within_in`]; the bits that are read lie in `HELD` elements, and the memory
-/// has as many.
-#[inline(always)]
-fn combine_held<T: BitStore, O: SliceOrder, const HELD: usize>(
-    elements: &mut [T],
-    window: Window,
-    from: usize,
-    dest: usize,
-    len: usize,
-    op: BitOp,
-)
-    requires window { HasWindow T.BITS (map T.value elements.old) window }
-    requires fits { FitsWithin from (from + len) dest window.len }
-    requires many { HELD ≤ length elements.old }
-    requires held { (window.start + from) % T.BITS + len ≤ T.BITS * HELD }
-    ensures writes { Edits T.BITS O.at (map T.value elements.old) (map T.value elements.new) window
-        (combined_within (operator op) from (from + len) dest) }
-{
-    let bits = T::BITS as usize;
-    let source = window.start + from;
-    let first = (source / bits).min(elements.len() - HELD);
     // an array as large as a part of the memory takes no more bytes than there are
     T::fits_in_memory();
     let mut held = [T::ZERO; HELD];
-    held.copy_from_slice(&elements[first..first + HELD]);
-    let aside = Window {
-        start: source - first * bits,
-        len,
-    };
-    let target = window.range(dest, dest + len);
-    combine_block_in::<T, O>(elements, target, &held, aside, op);
+    match op {
+        BitOp::And => combine_held::<T, O>(elements, &mut held, ranges, BitOp::And),
+        BitOp::Or => combine_held::<T, O>(elements, &mut held, ranges, BitOp::Or),
+        BitOp::Xor => combine_held::<T, O>(elements, &mut held, ranges, BitOp::Xor),
+    }
+}
+
+/// Combines ranges, of which the elements that are read are held aside in another memory. Conditions: they are no more
+/// than it has, and it has no more than the memory.
+#[inline(always)]
+fn combine_held<T: BitStore, O: SliceOrder>(
+    elements: &mut [T],
+    held: &mut [T],
+    ranges: Ranges,
+    op: BitOp,
+)
+    requires ranges { HasRanges T.BITS (map T.value elements.old) ranges }
+    requires many { length held.old ≤ length elements.old }
+    requires held { ranges.from % T.BITS + ranges.len ≤ T.BITS * length held.old }
+    ensures combines { Combines T.BITS O.at (map T.value elements.old) (map T.value elements.new) ranges op }
+{
+    let bits = T::BITS as usize;
+    let Ranges { from, to, len } = ranges;
+    let first = (from / bits).min(elements.len() - held.len());
+    held.copy_from_slice(&elements[first..first + held.len()]);
+    let start = from - first * bits;
+    let target = Window { start: to, len };
+    combine_block_in::<T, O>(elements, target, &*held, Window { start, len }, op);
 }

@@ -1,0 +1,11 @@
+use Rattle.std.proofs.Common.{arith}
+use Rattle.bitvec_within.proofs.Combining.{parts-combined, rest-apart}
+use Rattle.bitvec_within.proofs.combining_within.combine_parts.Goals as goal
+
+pub combine_cut-requires-clause-apart : goal.combine_cut-requires-clause-apart
+combine_cut-requires-clause-apart g c = rw c.split_at.ensures (rest-apart _ c.args.ranges c.min.result (omega arith) c.requires.apart)
+
+pub returns-then-rest-gt0 : goal.returns-then-rest-gt0
+returns-then-rest-gt0 g c = record {
+  combines = parts-combined _ g.O.BitOrder.at _ _ _ c.args.ranges c.args.op c.min.result _ c.requires.ranges (omega arith) c.requires.apart (rw c.split_at.ensures at c.combine_few.ensures.combines) (rw c.split_at.ensures at c.combine_cut.ensures.combines);
+}
