@@ -9,8 +9,7 @@ use Rattle.bitvec_base.specs.declared.order.BitOrder.{Ghosts as Order}
 use Rattle.bitvec_base.specs.declared.window.Window.{Window}
 use Rattle.bitvec_slice.specs.SeenLaws.{length_bits, length-memory, within_memory}
 use Rattle.bitvec_store.specs.declared.store.BitStore.{Ghosts as Store}
-use Rattle.bitvec_owned.specs.Arrays.{elements_of, in_array}
-use Rattle.bitvec_owned.specs.ArrayWrites.{WritesArray}
+use Rattle.bitvec_owned.specs.Arrays.{WritesArray, elements_of, in_array}
 use Rattle.bitvec_owned.specs.Copies.{Holds}
 use Rattle.bitvec_owned.specs.Owned.{owned}
 use Rattle.bitvec_owned.specs.Writes.{WritesOwned}

@@ -66,11 +66,8 @@ pub use Rattle.bitvec_query.specs.Indices as OnesLeft
 pub use Rattle.bitvec_query.specs.Loads
 pub use Rattle.bitvec_query.specs.Places
 pub use Rattle.bitvec_query.specs.Turns
-pub use Rattle.bitvec_owned.specs.ArrayWrites
-pub use Rattle.bitvec_owned.specs.Around
 pub use Rattle.bitvec_owned.specs.AroundLaws
 pub use Rattle.bitvec_owned.specs.Arrays as BitArrays
-pub use Rattle.bitvec_owned.specs.Capacity
 pub use Rattle.bitvec_owned.specs.Copies
 pub use Rattle.bitvec_owned.specs.KeptBy
 pub use Rattle.bitvec_owned.specs.Owned

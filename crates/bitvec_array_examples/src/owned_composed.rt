@@ -1,7 +1,6 @@
 //! What a caller knows of several edits of one sequence, and of one array of bits.
 ghost use Rattle.std.specs.Prelude.{◌≡◌, ◌<◌, map, not, slice_set, true};
-ghost use Rattle.bitvec.specs.ArrayWrites.{WritesArray};
-ghost use Rattle.bitvec.specs.BitArrays.{in_array};
+ghost use Rattle.bitvec.specs.BitArrays.{WritesArray, in_array};
 ghost use Rattle.bitvec.specs.Owned.{owned};
 ghost use Rattle.bitvec.specs.OwnedWrites.{WritesOwned};
 

@@ -1,8 +1,7 @@
 //! What a caller knows of the bits that a predicate kept, and of memory for more.
 ghost use Rattle.std.specs.Prelude.{◌≡◌, ◌+◌, ◌%◌, ◌≤◌, ◌==◌, OnOk, filter};
-ghost use Rattle.bitvec.specs.Capacity.{bit_capacity};
 ghost use Rattle.bitvec.specs.KeptBy.{kept_by};
-ghost use Rattle.bitvec.specs.Owned.{owned};
+ghost use Rattle.bitvec.specs.Owned.{bit_capacity, owned};
 
 use bitvec::prelude::*;
 use std::alloc::{AllocError, Global};

@@ -72,7 +72,7 @@ module _ {T : Type 0} (b : ℕ) (at : ℕ → ℕ → ℕ) (value : T → ℕ) (
   abbrev bits_of : List T → List Bool
   bits_of elements = memory_bits b at (map value elements)
 
-  one : (v : ℕ) → memory_bits b at (v ∷ []) ≡ element_bits b at v
+  pub one : (v : ℕ) → memory_bits b at (v ∷ []) ≡ element_bits b at v
   one v =
       let whole = length-memory_bits b at (v ∷ []) in
       let first : 0 * b ≡ 0 = omega arith in

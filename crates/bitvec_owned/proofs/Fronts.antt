@@ -13,8 +13,7 @@ use Rattle.bitvec_base.specs.SliceLaws.{range-all, range-join, range-rest, range
 use Rattle.bitvec_base.specs.Window.{window_of, write_at}
 use Rattle.bitvec_slice.specs.Seen.{shown}
 use Rattle.bitvec_slice.specs.SeenLaws.{length-memory, length_bits}
-use Rattle.bitvec_owned.specs.Around.{KeepsAround}
-use Rattle.bitvec_owned.specs.Copies.{Holds}
+use Rattle.bitvec_owned.specs.Copies.{Holds, KeepsAround}
 use Rattle.bitvec_owned.specs.Fronts.{LeavesFront}
 use Rattle.bitvec_owned.proofs.FrontLists.{cut-front, cut-zeros, grown-front, grown-zeros, taken-front, taken-zeros, write_around, zeros_before, zeros_behind}
 

@@ -1,3 +1,4 @@
+mod Added
 mod Fillings
 mod FrontLists
 mod Fronts

@@ -1,13 +1,11 @@
 -- What stands around the bits of a sequence through several calls.
-use Rattle.std.specs.Prelude.{◌≡◌, ℕ, Bool, List, [], ◌++◌, refl}
-use Rattle.std.proofs.Common.{◌∙◌, ap, append_assoc, subst, sym}
-use Rattle.std.proofs.lemmas.List.{append-nil}
+use Rattle.std.specs.Prelude.{◌≡◌, ℕ, Bool, List}
+use Rattle.std.proofs.Common.{◌∙◌, ap, subst, sym}
 use Rattle.bitvec_base.specs.declared.order.BitOrder.{Ghosts as Order}
 use Rattle.bitvec_base.specs.declared.window.Window.{Window}
 use Rattle.bitvec_slice.specs.Seen.{Seen}
 use Rattle.bitvec_store.specs.declared.store.BitStore.{Ghosts as Store}
-use Rattle.bitvec_owned.specs.Around.{Adds, KeepsAround}
-use Rattle.bitvec_owned.specs.Copies.{Holds}
+use Rattle.bitvec_owned.specs.Copies.{Holds, KeepsAround}
 use Rattle.bitvec_owned.specs.Owned.{owned}
 use Rattle.bitvec_owned.specs.Writes.{WritesOwned}
 use Rattle.bitvec_owned.specs.declared.bit_vec.BitVec.{BitVec}
@@ -33,17 +31,6 @@ module _ {T : Type 0} (b : ℕ) where
   pub holds-then : (before after : Seen T) (list new : List Bool) (from : ℕ) → Holds b list from before → KeepsAround b before after → after.bits ≡ new → Holds b new from after
   holds-then before after list new from held around is =
       own-holds after new from is (around.start ∙ held.start) (around.zeros (holds-own before list from held))
-
-  -- nothing was added; a list, and then another; a list, and then a call that was refused
-  pub adds-none : (sequence : Seen T) → Adds b sequence [] sequence
-  adds-none sequence = record { bits = sym (append-nil sequence.bits); around = record { start = refl; zeros = λ was. was } }
-
-  pub adds-then : (first second last : Seen T) (list more : List Bool) → Adds b first list second → last.bits ≡ second.bits ++ more → KeepsAround b second last → Adds b first (list ++ more) last
-  adds-then first second last list more one two around =
-      record { bits = two ∙ ap (λ (l : List Bool). l ++ more) one.bits ∙ append_assoc first.bits list more; around = around-then first second last one.around around }
-
-  pub adds-kept : (first second last : Seen T) (list : List Bool) → Adds b first list second → last.bits ≡ second.bits → KeepsAround b second last → Adds b first list last
-  adds-kept first second last list one two around = record { bits = two ∙ one.bits; around = around-then first second last one.around around }
 
 -- an edit keeps what stands around the bits
 pub around-written : {T O A : Type 0} {t : Store T} {o : Order O} (before after : BitVec T O A t o) (new : List Bool) → WritesOwned before after new → KeepsAround t.BITS (owned before) (owned after)

@@ -13,8 +13,7 @@ use Rattle.bitvec_slice.specs.SeenLaws.{length-memory}
 use Rattle.bitvec_slice.specs.Showing.{ShowsElements, shows_elements}
 use Rattle.bitvec_store.specs.declared.store.BitStore.{Ghosts as Store}
 use Rattle.bitvec_owned.specs.ArrayLending.{with_elements}
-use Rattle.bitvec_owned.specs.ArrayWrites.{WritesArray}
-use Rattle.bitvec_owned.specs.Arrays.{elements_of, in_array}
+use Rattle.bitvec_owned.specs.Arrays.{WritesArray, elements_of, in_array}
 use Rattle.bitvec_owned.specs.WritesLaws.{bits-written, many}
 use Rattle.bitvec_owned.specs.declared.array.BitArray.{BitArray}
 

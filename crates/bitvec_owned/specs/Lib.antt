@@ -1,10 +1,7 @@
-pub mod Around
 pub mod AroundLaws
 pub mod ArrayLaws
 pub mod ArrayLending
-pub mod ArrayWrites
 pub mod Arrays
-pub mod Capacity
 pub mod Copies
 pub mod Fronts
 pub mod KeptBy

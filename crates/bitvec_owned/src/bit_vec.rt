@@ -30,9 +30,8 @@ impl<T: BitStore, O: BitOrder, A: Allocator> BitVec<T, O, A> {
     ghost use Rattle.bitvec_base.specs.Memory.{HasWindow};
     ghost use Rattle.bitvec_slice.specs.Seen.{shown};
     ghost use Rattle.bitvec_slice.specs.Views.{name_of, seen, seen_mut};
-    ghost use Rattle.bitvec_owned.specs.Capacity.{bit_capacity, usable_bits};
     ghost use Rattle.bitvec_owned.specs.Lending.{lends};
-    ghost use Rattle.bitvec_owned.specs.Owned.{owned};
+    ghost use Rattle.bitvec_owned.specs.Owned.{bit_capacity, owned, usable_bits};
 
     pub(crate) fn from_parts(elements: Vec<T, A>, head: usize, len: usize) -> Self
         requires begins { head < T.BITS }

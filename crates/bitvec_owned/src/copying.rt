@@ -1,11 +1,10 @@
 //! Copies of views.
-ghost use Rattle.std.specs.Prelude.{◌≡◌, IfOk, IsOk};
+ghost use Rattle.std.specs.Prelude.{◌≡◌, IfOk, IsOk, replicate, vec_len};
 ghost use Rattle.bitvec_owned.specs.Copies.{Holds, copy_start};
 ghost use Rattle.bitvec_owned.specs.Owned.{owned};
 ghost use Rattle.bitvec_slice.specs.Views.{seen};
 
 use crate::BitVec;
-use crate::zeros::zeros;
 use bitvec_base::Window;
 use bitvec_elements::copy_from_block_in;
 use bitvec_engine::SliceOrder;
@@ -42,4 +41,18 @@ fn start_of_copy<T: BitStore>(window: Window) -> usize
     } else {
         window.start % (T::BITS as usize)
     }
+}
+
+/// So many elements whose bits are all 0; the memory for them is asked for once.
+pub(crate) fn zeros<T: BitStore, A: Allocator>(
+    alloc: A,
+    count: usize,
+) -> Result<Vec<T, A>, AllocError>
+    ensures items { IfOk result (λ elements. elements.items ≡ replicate count T.ZERO) }
+    ensures len { IfOk result (λ elements. vec_len elements ≡ count) }
+    ensures none { count ≡ 0 → IsOk result }
+{
+    let mut elements = Vec::new(alloc);
+    elements.resize(count, T::ZERO)?;
+    Ok(elements)
 }

@@ -1,6 +1,8 @@
 //! Walks over the bits of owned sequences.
 ghost use Rattle.std.specs.Prelude.{◌≡◌, ◌≤◌, length};
 ghost use Rattle.bitvec_base.specs.Window.{max_bits};
+ghost use Rattle.bitvec_slice.specs.Walks.{Walks, YieldsBits, remaining_bits};
+ghost use Rattle.bitvec_owned.specs.Owned.{owned};
 
 use crate::BitVec;
 use bitvec_base::BitOrder;
@@ -10,9 +12,6 @@ use bitvec_store::BitStore;
 use std::alloc::Allocator;
 
 impl<T: BitStore, O: BitOrder, A: Allocator> BitVec<T, O, A> {
-    ghost use Rattle.bitvec_slice.specs.Walks.{Walks, YieldsBits, remaining_bits};
-    ghost use Rattle.bitvec_owned.specs.Owned.{owned};
-
     /// The bits, one by one.
     pub fn iter(&self) -> Iter<'_, T, O>
         ensures bits { remaining_bits result ≡ (owned self.now).bits }
@@ -25,9 +24,6 @@ impl<T: BitStore, O: BitOrder, A: Allocator> BitVec<T, O, A> {
 }
 
 impl<'a, T: BitStore, O: BitOrder, A: Allocator> IntoIterator for &'a BitVec<T, O, A> {
-    ghost use Rattle.bitvec_slice.specs.Walks.{YieldsBits, remaining_bits};
-    ghost use Rattle.bitvec_owned.specs.Owned.{owned};
-
     type Item = BitRef<'a, T, O>;
 
     type IntoIter = Iter<'a, T, O>;

@@ -13,7 +13,6 @@ mod repeating;
 mod texts;
 mod to_bitvec;
 mod views;
-mod zeros;
 
 pub use array::BitArray;
 pub use bit_vec::BitVec;

@@ -1,6 +1,8 @@
 //! Walks over the bits of arrays of bits.
 ghost use Rattle.std.specs.Prelude.{◌≡◌, ◌≤◌, length};
 ghost use Rattle.bitvec_base.specs.Window.{max_bits};
+ghost use Rattle.bitvec_slice.specs.Walks.{YieldsBits, remaining_bits, walked};
+ghost use Rattle.bitvec_owned.specs.Arrays.{in_array};
 
 use crate::BitArray;
 use bitvec_base::BitOrder;
@@ -9,9 +11,6 @@ use bitvec_slice::Iter;
 use bitvec_store::BitStore;
 
 impl<T: BitStore, O: BitOrder, const N: usize> BitArray<T, O, N> {
-    ghost use Rattle.bitvec_slice.specs.Walks.{YieldsBits, remaining_bits, walked};
-    ghost use Rattle.bitvec_owned.specs.Arrays.{in_array};
-
     /// The bits, one by one.
     pub fn iter(&self) -> Iter<'_, T, O>
         ensures bits { remaining_bits result ≡ (in_array self.now).bits }
@@ -24,9 +23,6 @@ impl<T: BitStore, O: BitOrder, const N: usize> BitArray<T, O, N> {
 }
 
 impl<'a, T: BitStore, O: BitOrder, const N: usize> IntoIterator for &'a BitArray<T, O, N> {
-    ghost use Rattle.bitvec_slice.specs.Walks.{YieldsBits, remaining_bits};
-    ghost use Rattle.bitvec_owned.specs.Arrays.{in_array};
-
     type Item = BitRef<'a, T, O>;
 
     type IntoIter = Iter<'a, T, O>;

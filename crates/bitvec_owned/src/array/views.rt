@@ -1,8 +1,7 @@
 //! Arrays of bits show bits, answer questions and are edited, as views are.
 ghost use Rattle.bitvec_owned.specs.ArrayLending.{with_elements};
 ghost use Rattle.bitvec_owned.specs.ArrayLaws.{array_elements, array_written, has_written};
-ghost use Rattle.bitvec_owned.specs.ArrayWrites.{WritesArray};
-ghost use Rattle.bitvec_owned.specs.Arrays.{in_array};
+ghost use Rattle.bitvec_owned.specs.Arrays.{WritesArray, in_array};
 
 use crate::BitArray;
 use bitvec_base::BitOrder;

@@ -1,7 +1,8 @@
 //! Bits added to a sequence by blocks.
-ghost use Rattle.std.specs.Prelude.{◌≡◌, ◌-◌, [], ◌++◌, if◌then◌else◌, is_ok, length, replicate, take};
-ghost use Rattle.bitvec_owned.specs.Around.{KeepsAround};
+ghost use Rattle.std.specs.Prelude.{◌≡◌, ◌+◌, ◌-◌, ◌<◌, [], ◌++◌, OnErr, if◌then◌else◌, is_ok, length, replicate, take};
+ghost use Rattle.bitvec_owned.specs.Copies.{KeepsAround};
 ghost use Rattle.bitvec_slice.specs.Views.{seen};
+ghost use Rattle.bitvec_owned.specs.Owned.{bit_capacity, owned};
 
 use super::elements::{put_bits, put_block, put_same};
 use crate::BitVec;
@@ -12,8 +13,6 @@ use bitvec_store::BitStore;
 use std::alloc::{AllocError, Allocator};
 
 impl<T: BitStore, O: BitOrder, A: Allocator> BitVec<T, O, A> {
-    ghost use Rattle.bitvec_owned.specs.Owned.{owned};
-
     /// Keeps the first `len` bits, or adds as many of `bit` as there are `len` with them. An error where memory is refused,
     /// and the bits are as before then.
     pub fn resize(&mut self, len: usize, bit: bool) -> Result<(), AllocError>
@@ -39,6 +38,7 @@ impl<T: BitStore, O: BitOrder, A: Allocator> BitVec<T, O, A> {
     ) -> Result<(), AllocError>
         ensures bits { (owned self.new).bits ≡ (if is_ok result then (owned self.old).bits ++ (seen bits.entry).bits else (owned self.old).bits) }
         ensures around { KeepsAround T.BITS (owned self.old) (owned self.new) }
+        ensures full { OnErr result (bit_capacity self.old < (owned self.old).window.len + (seen bits.entry).window.len) }
     {
         let more = bits.len();
         put_bits::<T, O, U, P, A>(&mut self.elements, self.head + self.len, bits)?;
@@ -48,8 +48,6 @@ impl<T: BitStore, O: BitOrder, A: Allocator> BitVec<T, O, A> {
 }
 
 impl<T: BitStore, O: SliceOrder, A: Allocator> BitVec<T, O, A> {
-    ghost use Rattle.bitvec_owned.specs.Owned.{owned};
-
     /// Adds the bits of a view of the sequence's own element type and order: [`BitVec::extend_from_bitslice`] by the
     /// order's own blocks.
     pub(crate) fn extend_from_block(&mut self, bits: BitSlice<'_, T, O>) -> Result<(), AllocError>

@@ -2,8 +2,8 @@
 ghost use Rattle.std.specs.Prelude.{◌≡◌, ◌+◌, ◌*◌, ◌/◌, ◌<◌, ◌≤◌, [], IfOk, IsOk, OnErr, OnOk, length};
 ghost use Rattle.std.specs.Int.{div_ceil};
 ghost use Rattle.bitvec_base.specs.Window.{max_bits};
-ghost use Rattle.bitvec_owned.specs.Capacity.{bit_capacity};
 ghost use Rattle.bitvec_owned.specs.Copies.{Holds};
+ghost use Rattle.bitvec_owned.specs.Owned.{bit_capacity, owned};
 
 use crate::BitVec;
 use bitvec_base::{BitOrder, MAX_BITS};
@@ -18,8 +18,6 @@ fn most_elements<T: BitStore>() -> usize
 }
 
 impl<T: BitStore, O: BitOrder, A: Allocator> BitVec<T, O, A> {
-    ghost use Rattle.bitvec_owned.specs.Owned.{owned};
-
     /// A sequence of no bit, which asks for no memory: `new` of `bitvec`.
     ///
     /// ```

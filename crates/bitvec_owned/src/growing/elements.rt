@@ -1,9 +1,10 @@
 //! The elements of a sequence get more bits at their end, or lose the last ones.
-ghost use Rattle.std.specs.Prelude.{◌≡◌, ℕ, ◌+◌, ◌-◌, ◌*◌, ◌<◌, ◌≤◌, [], ◌∷◌, ◌++◌, OnErr, OnOk, false, if◌then◌else◌, is_ok, length, map, replicate, slice_index_or, take, vec_len};
+ghost use Rattle.std.specs.Prelude.{◌≡◌, ℕ, ◌+◌, ◌-◌, ◌*◌, ◌<◌, ◌≤◌, [], ◌∷◌, ◌++◌, OnErr, OnOk, false, if◌then◌else◌, is_ok, length, map, replicate, slice_index_or, take, vec_capacity, vec_len};
 ghost use Rattle.std.specs.Int.{div_ceil};
 ghost use Rattle.bitvec_base.specs.Memory.{HasWindow, memory_bits};
 ghost use Rattle.bitvec_base.specs.Window.{max_bits, write_at};
 ghost use Rattle.bitvec_owned.specs.Fronts.{LeavesFront};
+ghost use Rattle.bitvec_owned.specs.Owned.{usable_bits};
 ghost use Rattle.bitvec_slice.specs.Views.{seen};
 
 use bitvec_base::{BitOrder, MAX_BITS, Window};
@@ -16,7 +17,7 @@ use std::alloc::{AllocError, Allocator};
 
 /// Adds the elements that the bits up to `end` touch and that aren't there, with each bit `bit`. An error where memory is
 /// refused or they would have more than `MAX_BITS` bits; they are as before then.
-fn make_filled_room<T: BitStore, A: Allocator>(
+fn make_room<T: BitStore, A: Allocator>(
     elements: &mut Vec<T, A>,
     end: usize,
     bit: bool,
@@ -25,6 +26,7 @@ fn make_filled_room<T: BitStore, A: Allocator>(
     ensures items { elements.new.items ≡ (if is_ok result then elements.old.items ++ replicate (div_ceil end T.BITS - vec_len elements.old) (if bit then T.ALL else T.ZERO) else elements.old.items) }
     ensures len { vec_len elements.new ≡ (if is_ok result then div_ceil end T.BITS else vec_len elements.old) }
     ensures fits { OnOk result (T.BITS * vec_len elements.new ≤ max_bits) }
+    ensures full { OnErr result (usable_bits T.BITS (vec_capacity elements.old) < end) }
 {
     let width = T::BITS as usize;
     let count = end.div_ceil(width);
@@ -39,20 +41,7 @@ fn make_filled_room<T: BitStore, A: Allocator>(
     }
 }
 
-/// [`make_filled_room`] of elements that are 0.
-fn make_room<T: BitStore, A: Allocator>(
-    elements: &mut Vec<T, A>,
-    end: usize,
-) -> Result<(), AllocError>
-    requires { vec_len elements.old ≤ div_ceil end T.BITS }
-    ensures items { elements.new.items ≡ (if is_ok result then elements.old.items ++ replicate (div_ceil end T.BITS - vec_len elements.old) T.ZERO else elements.old.items) }
-    ensures len { vec_len elements.new ≡ (if is_ok result then div_ceil end T.BITS else vec_len elements.old) }
-    ensures fits { OnOk result (T.BITS * vec_len elements.new ≤ max_bits) }
-{
-    make_filled_room(elements, end, false)
-}
-
-/// [`make_room`] for one bit behind the first `end`.
+/// [`make_room`] for one bit behind the first `end`, with elements that are 0.
 fn make_room_for_bit<T: BitStore, A: Allocator>(
     elements: &mut Vec<T, A>,
     end: usize,
@@ -62,6 +51,7 @@ fn make_room_for_bit<T: BitStore, A: Allocator>(
     ensures items { elements.new.items ≡ (if is_ok result then elements.old.items ++ replicate (div_ceil (end + 1) T.BITS - vec_len elements.old) T.ZERO else elements.old.items) }
     ensures len { vec_len elements.new ≡ (if is_ok result then div_ceil (end + 1) T.BITS else vec_len elements.old) }
     ensures fits { OnOk result (T.BITS * vec_len elements.new ≤ max_bits) }
+    ensures full { OnErr result (usable_bits T.BITS (vec_capacity elements.old) ≤ end) }
 {
     let width = T::BITS as usize;
     if end % width != 0 {
@@ -83,7 +73,7 @@ pub(crate) fn put_bit<T: BitStore, O: BitOrder, A: Allocator>(
     requires touched { vec_len elements.old ≡ div_ceil end T.BITS }
     requires bounded { T.BITS * vec_len elements.old ≤ max_bits }
     ensures left { OnOk result (LeavesFront T.BITS O.at T.value elements.old.items elements.new.items end (take end (memory_bits T.BITS O.at (map T.value elements.old.items)) ++ bit ∷ [])) }
-    ensures kept { OnErr result (elements.new.items ≡ elements.old.items) }
+    ensures kept { OnErr result ((elements.new.items ≡ elements.old.items) × (usable_bits T.BITS (vec_capacity elements.old) ≤ end)) }
     ensures len { vec_len elements.new ≡ (if is_ok result then div_ceil (end + 1) T.BITS else vec_len elements.old) }
     ensures fits { T.BITS * vec_len elements.new ≤ max_bits }
 {
@@ -102,12 +92,12 @@ pub(crate) fn put_bits<T: BitStore, O: BitOrder, U: BitStore, P: BitOrder, A: Al
     requires touched { vec_len elements.old ≡ div_ceil end T.BITS }
     requires bounded { T.BITS * vec_len elements.old ≤ max_bits }
     ensures left { OnOk result (LeavesFront T.BITS O.at T.value elements.old.items elements.new.items end (take end (memory_bits T.BITS O.at (map T.value elements.old.items)) ++ (seen bits.entry).bits)) }
-    ensures kept { OnErr result (elements.new.items ≡ elements.old.items) }
+    ensures kept { OnErr result ((elements.new.items ≡ elements.old.items) × (usable_bits T.BITS (vec_capacity elements.old) < end + (seen bits.entry).window.len)) }
     ensures len { vec_len elements.new ≡ (if is_ok result then div_ceil (end + (seen bits.entry).window.len) T.BITS else vec_len elements.old) }
     ensures fits { T.BITS * vec_len elements.new ≤ max_bits }
 {
     let from = bits.window();
-    make_room(elements, end + from.len)?;
+    make_room(elements, end + from.len, false)?;
     let to = Window {
         start: end,
         len: from.len,
@@ -130,7 +120,7 @@ pub(crate) fn put_block<T: BitStore, O: SliceOrder, A: Allocator>(
     ensures fits { T.BITS * vec_len elements.new ≤ max_bits }
 {
     let from = bits.window();
-    make_room(elements, end + from.len)?;
+    make_room(elements, end + from.len, false)?;
     let to = Window {
         start: end,
         len: from.len,
@@ -180,7 +170,7 @@ pub(crate) fn put_same<T: BitStore, O: BitOrder, A: Allocator>(
         start: end,
         len: elements.len() * width - end,
     };
-    make_filled_room(elements, end + count, bit)?;
+    make_room(elements, end + count, bit)?;
     fill_up_to::<T, O>(elements.as_mut_slice(), last, end + count, bit);
     Ok(())
 }

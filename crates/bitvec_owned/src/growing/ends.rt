@@ -1,7 +1,8 @@
 //! Bits added and taken at the end of a sequence.
-ghost use Rattle.std.specs.Prelude.{◌≡◌, ◌<◌, ◌↔◌, [], ◌∷◌, ◌++◌, IsSome, if◌then◌else◌, is_ok, length, take};
+ghost use Rattle.std.specs.Prelude.{◌≡◌, ◌<◌, ◌≤◌, ◌↔◌, [], ◌∷◌, ◌++◌, IsSome, OnErr, if◌then◌else◌, is_ok, length, take};
 ghost use Rattle.std.specs.Option.{option_to_list};
-ghost use Rattle.bitvec_owned.specs.Around.{KeepsAround};
+ghost use Rattle.bitvec_owned.specs.Copies.{KeepsAround};
+ghost use Rattle.bitvec_owned.specs.Owned.{bit_capacity, owned};
 
 use super::elements::{cut_off, put_bit, take_bit};
 use crate::BitVec;
@@ -10,8 +11,6 @@ use bitvec_store::BitStore;
 use std::alloc::{AllocError, Allocator};
 
 impl<T: BitStore, O: BitOrder, A: Allocator> BitVec<T, O, A> {
-    ghost use Rattle.bitvec_owned.specs.Owned.{owned};
-
     /// Adds a bit at the end. The elements grow as those of a `Vec`: an error where their memory is refused, and the bits
     /// are as before then.
     ///
@@ -21,6 +20,7 @@ impl<T: BitStore, O: BitOrder, A: Allocator> BitVec<T, O, A> {
     pub fn push(&mut self, bit: bool) -> Result<(), AllocError>
         ensures bits { (owned self.new).bits ≡ (if is_ok result then (owned self.old).bits ++ bit ∷ [] else (owned self.old).bits) }
         ensures around { KeepsAround T.BITS (owned self.old) (owned self.new) }
+        ensures full { OnErr result (bit_capacity self.old ≤ (owned self.old).window.len) }
     {
         put_bit::<T, O, A>(&mut self.elements, self.head + self.len, bit)?;
         self.len += 1;

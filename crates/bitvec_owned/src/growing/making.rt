@@ -1,35 +1,17 @@
 //! Sequences made of bits, of truth values, and of elements.
-ghost use Rattle.std.specs.Prelude.{◌≡◌, ◌+◌, ◌-◌, ◌*◌, ◌<◌, ◌≤◌, IfOk, IsOk, length, take, vec_capacity, vec_len};
+ghost use Rattle.std.specs.Prelude.{◌≡◌, ◌+◌, ◌-◌, ◌*◌, ◌<◌, ◌≤◌, IfOk, take, vec_capacity, vec_len};
 ghost use Rattle.std.specs.Int.{div_ceil};
 ghost use Rattle.bitvec_base.specs.Window.{max_bits};
-ghost use Rattle.bitvec_owned.specs.Capacity.{bit_capacity, usable_bits};
 ghost use Rattle.bitvec_owned.specs.Copies.{Holds};
-ghost use Rattle.bitvec_owned.specs.Owned.{owned};
+ghost use Rattle.bitvec_owned.specs.Owned.{bit_capacity, owned, usable_bits};
 ghost use Rattle.bitvec_slice.specs.Seen.{shown};
 ghost use Rattle.bitvec_slice.specs.Views.{seen};
 
 use crate::BitVec;
-use bitvec_base::{BitOrder, Lsb0, Window};
-use bitvec_domain::set_in;
+use bitvec_base::BitOrder;
 use bitvec_slice::BitSlice;
 use bitvec_store::BitStore;
 use std::alloc::{AllocError, Allocator};
-
-/// Up to 64 truth values as the first bits of a word under `Lsb0`.
-fn word_of(bools: &[bool]) -> [u64; 1]
-    requires { length bools.now ≤ 64 }
-    ensures { (shown 64 (λ b i. i) (λ word. word) result 0 (length bools.now)).bits ≡ bools.now }
-{
-    let mut word = [0u64];
-    let window = Window {
-        start: 0,
-        len: bools.len(),
-    };
-    for index in 0..bools.len() {
-        set_in::<u64, Lsb0>(&mut word, window, index, bools[index]);
-    }
-    word
-}
 
 impl<T: BitStore, O: BitOrder, A: Allocator> BitVec<T, O, A> {
     /// A copy of the bits of a view of any element type and order, from the first place on. An error where memory was
@@ -45,18 +27,12 @@ impl<T: BitStore, O: BitOrder, A: Allocator> BitVec<T, O, A> {
         Ok(made)
     }
 
-    /// The truth values of a slice as bits, from the first place on, 64 at a time. An error where memory was refused.
+    /// The truth values of a slice as bits, from the first place on, up to 64 at a time. An error where memory was refused.
     pub fn from_bools(alloc: A, bools: &[bool]) -> Result<Self, AllocError>
         ensures { IfOk result (λ made. Holds T.BITS bools.now 0 (owned made)) }
     {
         let mut made = BitVec::with_capacity_in(alloc, bools.len())?;
-        let mut rest = bools;
-        while !rest.is_empty() {
-            let (front, behind) = rest.split_at(rest.len().min(64));
-            let word = word_of(front);
-            made.extend_from_bitslice(BitSlice::<u64, Lsb0>::from_parts(&word, 0, front.len()))?;
-            rest = behind;
-        }
+        made.extend(bools.iter().copied())?;
         Ok(made)
     }
 

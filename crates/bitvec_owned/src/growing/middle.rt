@@ -1,7 +1,8 @@
 //! Bits added and taken within a sequence.
 ghost use Rattle.std.specs.Prelude.{◌≡◌, ◌<◌, ◌≤◌, false, if◌then◌else◌, is_ok, slice_index_or};
 ghost use Rattle.std.specs.List.{insert, remove, swap_remove};
-ghost use Rattle.bitvec_owned.specs.Around.{KeepsAround};
+ghost use Rattle.bitvec_owned.specs.Copies.{KeepsAround};
+ghost use Rattle.bitvec_owned.specs.Owned.{owned};
 
 use crate::BitVec;
 use bitvec_edit::BitEdits;
@@ -10,8 +11,6 @@ use bitvec_store::BitStore;
 use std::alloc::{AllocError, Allocator};
 
 impl<T: BitStore, O: SliceOrder, A: Allocator> BitVec<T, O, A> {
-    ghost use Rattle.bitvec_owned.specs.Owned.{owned};
-
     /// Adds a bit before the one at an index, or at the end. Those behind it move by one place, by words. An error where
     /// memory is refused, and the bits are as before then. Condition: the index is at most `len`.
     pub fn insert(&mut self, index: usize, bit: bool) -> Result<(), AllocError>

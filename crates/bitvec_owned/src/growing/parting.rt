@@ -1,9 +1,9 @@
 //! Parts of a sequence taken out of it.
 ghost use Rattle.std.specs.Prelude.{◌≡◌, ◌≤◌, IfOk, drop, if◌then◌else◌, is_ok, slice_range, take};
 ghost use Rattle.std.specs.List.{remove_range};
-ghost use Rattle.bitvec_owned.specs.Around.{KeepsAround};
-ghost use Rattle.bitvec_owned.specs.Copies.{Holds};
+ghost use Rattle.bitvec_owned.specs.Copies.{Holds, KeepsAround};
 ghost use Rattle.bitvec_slice.specs.Indices.{HasRange};
+ghost use Rattle.bitvec_owned.specs.Owned.{owned};
 
 use crate::BitVec;
 use bitvec_edit::BitEdits;
@@ -13,8 +13,6 @@ use std::alloc::{AllocError, Allocator};
 use std::ops::Range;
 
 impl<T: BitStore, O: SliceOrder, A: Allocator + Clone> BitVec<T, O, A> {
-    ghost use Rattle.bitvec_owned.specs.Owned.{owned};
-
     /// A copy of a range of the bits, from the first place on.
     fn copy_of_range(&self, range: Range<usize>) -> Result<Self, AllocError>
         requires { HasRange range (owned self.now).window.len }

@@ -2,9 +2,10 @@
 ghost use Rattle.std.specs.Prelude.{◌≡◌, ◌≤◌, ◌⊎◌, Bool, List, map, take};
 ghost use Rattle.std.specs.Fn.{always_mut};
 ghost use Rattle.bitvec_base.specs.Memory.{HasWindow, Writes, list_in};
-ghost use Rattle.bitvec_owned.specs.Around.{KeepsAround};
+ghost use Rattle.bitvec_owned.specs.Copies.{KeepsAround};
 ghost use Rattle.bitvec_owned.specs.Retained.{Retains};
 ghost use Rattle.bitvec_split.specs.Asked.{MayAsk};
+ghost use Rattle.bitvec_owned.specs.Owned.{owned};
 
 use crate::BitVec;
 use bitvec_base::{BitOrder, Window};
@@ -38,8 +39,6 @@ fn move_kept<T: BitStore, O: BitOrder, P: FnMut(usize, &bool) -> bool>(
 }
 
 impl<T: BitStore, O: BitOrder, A: Allocator> BitVec<T, O, A> {
-    ghost use Rattle.bitvec_owned.specs.Owned.{owned};
-
     /// Keeps the bits for which `pred` answers true, and drops the others. It is asked about each index and the bit there
     /// once, in ascending order. Nothing is asked of the allocator, and the capacity stays. Condition: `pred` may always be
     /// called, or at least asked about indices below `len`, so many times.
