@@ -1,3 +1,4 @@
+pub mod CostSums
 pub mod MoveLemmas
 pub mod SwapLaws
 pub mod WaitingLaws

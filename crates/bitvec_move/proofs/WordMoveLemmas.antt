@@ -1,5 +1,5 @@
 -- Bytes moved by words: what a word of a memory has, and words written side by side or over one another.
-use Rattle.std.specs.Prelude.{◌≡◌, ℕ, ◌+◌, ◌-◌, ◌*◌, ◌<◌, ◌≤◌, Bool, true, false, if◌then◌else◌, nat_eq, List, ◌++◌, length, take, drop, replicate, slice_index, slice_range, refl}
+use Rattle.std.specs.Prelude.{◌≡◌, ℕ, ◌+◌, ◌-◌, ◌*◌, ◌^◌, ◌<◌, ◌≤◌, Bool, true, false, if◌then◌else◌, nat_eq, List, ◌++◌, length, take, drop, replicate, slice_index, slice_range, refl}
 use Rattle.std.proofs.Common.{arith, rules, not, sym, ◌∙◌, ap}
 use Rattle.std.proofs.lemmas.List.{same_lists, places}
 use Rattle.std.proofs.lemmas.Bool.Decides.{nat_tests}
@@ -7,9 +7,12 @@ use Rattle.bitvec_base.specs.Memory.{HasWindow, Writes, element_bits, list_in, m
 use Rattle.bitvec_base.specs.MemoryLaws.{element-range, length-element_bits, length-memory_bits}
 use Rattle.bitvec_base.specs.Window.{window_of, write_at}
 use Rattle.bitvec_base.specs.WritesLaws.{length-list, list-behind, list-range}
+use Rattle.bitvec_store.specs.Width.{IsWidth}
 use Rattle.bitvec_words.specs.Elements.{elements_window, elements_window_from}
 use Rattle.bitvec_words.specs.FieldLaws.{list-whole}
+use Rattle.bitvec_words.specs.MovedPlaceLaws.{from-inside}
 use Rattle.bitvec_words.specs.WholeLaws.{HasWindow-part}
+use Rattle.bitvec_words.specs.WordLaws.{fits-word}
 use Rattle.bitvec_words.specs.Moves.{CopiesElements, CopiesSome, HasSkippedElements, IsToward, moved_place, nth_place, waiting_place}
 use Rattle.bitvec_move.proofs.WithinLaws.{list-ahead}
 
@@ -87,6 +90,21 @@ word-window old first source skip count e has low high =
     let end = has.span.beside.within.len in
     let some = has.inside in
     record { fits = has.span.window.fits; within = record { start = omega arith; len = omega arith } }
+
+-- the 64 bits from an index of the byte e of the stretch on do; the word that is stored there; and the one that is read then
+pub skipped-window : (old : List ℕ) (first source skip count e : ℕ) → HasSkippedElements 8 old old first source skip count → e + 8 ≤ count → HasWindow 8 old (elements_window_from 8 (source + e) skip 8)
+skipped-window old first source skip count e has fits = HasWindow-part 8 old _ _ has.span.beside (omega arith) (omega arith)
+
+pub word-stored_window : (old : List ℕ) (first source skip count e : ℕ) → HasSkippedElements 8 old old first source skip count → e + 8 ≤ count → HasWindow 8 old (elements_window 8 (first + e) 8)
+word-stored_window old first source skip count e has fits = HasWindow-part 8 old _ _ has.span.window (omega arith) (omega arith)
+
+pub word-next_window : (old : List ℕ) (first source skip count e ahead : ℕ) → HasSkippedElements 8 old old first source skip count → e + 8 ≤ count → ahead ≤ 1 → HasWindow 8 old (elements_window 8 (source + e + ahead) 8)
+word-next_window old first source skip count e ahead has fits one = word-window old first source skip count (source + e + ahead) has (omega arith) (omega arith)
+
+pub ahead-word : (b : ℕ) (xs : List ℕ) (first skip count e ahead : ℕ) → IsWidth b → HasWindow b xs (elements_window_from b first skip count) → 0 < skip → e + 8 ≤ count → ahead ≤ 1 → first + e + ahead < 2 ^ 64
+ahead-word b xs first skip count e ahead width has some fits one =
+    let here = from-inside b xs xs first skip count (e + ahead) has some (omega arith) refl in
+    fits-word b (first + e + ahead) xs (elements_window_from b first skip count) width has (omega arith)
 
 -- a constant of the code says which
 pub is_later : (n : ℕ) → (n ≡ 0 → ⊥) → not (nat_eq n 0) ≡ true
@@ -207,3 +225,7 @@ nth-inside true k n more = omega arith
 pub waiting-below : (later : Bool) (k n : ℕ) → k ≤ n → waiting_place later k n ≤ n
 waiting-below false k n most = most
 waiting-below true k n most = omega arith
+
+-- elements from an element's first bit on are whole ones
+pub source-whole : (b : ℕ) (xs : List ℕ) (source count : ℕ) → HasWindow b xs (elements_window_from b source 0 count) → HasWindow b xs (elements_window b source count)
+source-whole b xs source count has = HasWindow-part b xs _ _ has (omega arith) (omega arith)

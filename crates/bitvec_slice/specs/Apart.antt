@@ -1,7 +1,6 @@
 -- A side of a view that shares no element with the other.
 use Rattle.std.specs.Prelude.{◌≡◌, ℕ, ◌-◌, ◌<◌, slice_range}
 use Rattle.bitvec_slice.specs.Seen.{IsRangeOf, Seen}
-use Rattle.bitvec_base.specs.Apart.{ComesApart}
 
 -- the side has the view's bits from the index `from` up to, without, `to`, and if there are any the elements that
 -- they touch

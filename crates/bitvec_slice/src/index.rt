@@ -78,7 +78,7 @@ pub trait BitSliceIndex<V: Viewed>: Sized + Drop {
         ensures { gives_mut self (V.Writable.sees bits) result };
 
     /// What stands at the index: `None` exactly where the view does not have it.
-    fn get(self, bits: V) -> Option<Self::Immut>
+    final fn get(self, bits: V) -> Option<Self::Immut>
         ensures { IsGiven (fits self (V.sees bits).window.len) (gives self (V.sees bits)) result }
     {
         if self.fits(bits.bit_len()) {
@@ -89,7 +89,7 @@ pub trait BitSliceIndex<V: Viewed>: Sized + Drop {
     }
 
     /// What stands at the index, for writing: `None` exactly where the view does not have it.
-    fn get_mut(self, bits: V::Writable) -> Option<Self::Mut>
+    final fn get_mut(self, bits: V::Writable) -> Option<Self::Mut>
         ensures { IsGiven (fits self (V.Writable.sees bits).window.len) (gives_mut self (V.Writable.sees bits)) result }
     {
         if self.fits(bits.bit_len()) {
@@ -100,7 +100,7 @@ pub trait BitSliceIndex<V: Viewed>: Sized + Drop {
     }
 
     /// What stands at the index. Condition: the view has it.
-    fn get_unchecked(self, bits: V) -> Self::Immut
+    final fn get_unchecked(self, bits: V) -> Self::Immut
         requires { fits self (V.sees bits).window.len }
         ensures { gives self (V.sees bits) result }
     {
@@ -108,7 +108,7 @@ pub trait BitSliceIndex<V: Viewed>: Sized + Drop {
     }
 
     /// What stands at the index, for writing. Condition: the view has it.
-    fn get_unchecked_mut(self, bits: V::Writable) -> Self::Mut
+    final fn get_unchecked_mut(self, bits: V::Writable) -> Self::Mut
         requires { fits self (V.Writable.sees bits).window.len }
         ensures { gives_mut self (V.Writable.sees bits) result }
     {

@@ -55,12 +55,12 @@ impl<'a, T: BitStore + 'a, O: BitOrder> BitSliceIndex<BitSlice<'a, T, O>> for Ra
 
     fn index(self, bits: BitSlice<'a, T, O>) -> BitSlice<'a, T, O> {
         let end = bits.len();
-        (self.start..end).index(bits)
+        bits.into_part(self.start..end)
     }
 
     fn index_mut(self, bits: BitSliceMut<'a, T, O>) -> BitSliceMut<'a, T, O> {
         let end = bits.len();
-        (self.start..end).index_mut(bits)
+        bits.into_part(self.start..end)
     }
 }
 
@@ -83,11 +83,11 @@ impl<'a, T: BitStore + 'a, O: BitOrder> BitSliceIndex<BitSlice<'a, T, O>> for Ra
     }
 
     fn index(self, bits: BitSlice<'a, T, O>) -> BitSlice<'a, T, O> {
-        (0..self.end).index(bits)
+        bits.into_part(0..self.end)
     }
 
     fn index_mut(self, bits: BitSliceMut<'a, T, O>) -> BitSliceMut<'a, T, O> {
-        (0..self.end).index_mut(bits)
+        bits.into_part(0..self.end)
     }
 }
 
@@ -111,12 +111,12 @@ impl<'a, T: BitStore + 'a, O: BitOrder> BitSliceIndex<BitSlice<'a, T, O>> for Ra
 
     fn index(self, bits: BitSlice<'a, T, O>) -> BitSlice<'a, T, O> {
         let end = bits.len();
-        (0..end).index(bits)
+        bits.into_part(0..end)
     }
 
     fn index_mut(self, bits: BitSliceMut<'a, T, O>) -> BitSliceMut<'a, T, O> {
         let end = bits.len();
-        (0..end).index_mut(bits)
+        bits.into_part(0..end)
     }
 }
 
@@ -142,12 +142,12 @@ impl<'a, T: BitStore + 'a, O: BitOrder> BitSliceIndex<BitSlice<'a, T, O>>
 
     fn index(self, bits: BitSlice<'a, T, O>) -> BitSlice<'a, T, O> {
         let (first, last) = self.into_inner();
-        (first..last + 1).index(bits)
+        bits.into_part(first..last + 1)
     }
 
     fn index_mut(self, bits: BitSliceMut<'a, T, O>) -> BitSliceMut<'a, T, O> {
         let (first, last) = self.into_inner();
-        (first..last + 1).index_mut(bits)
+        bits.into_part(first..last + 1)
     }
 }
 
@@ -171,10 +171,10 @@ impl<'a, T: BitStore + 'a, O: BitOrder> BitSliceIndex<BitSlice<'a, T, O>>
     }
 
     fn index(self, bits: BitSlice<'a, T, O>) -> BitSlice<'a, T, O> {
-        (0..self.end + 1).index(bits)
+        bits.into_part(0..self.end + 1)
     }
 
     fn index_mut(self, bits: BitSliceMut<'a, T, O>) -> BitSliceMut<'a, T, O> {
-        (0..self.end + 1).index_mut(bits)
+        bits.into_part(0..self.end + 1)
     }
 }

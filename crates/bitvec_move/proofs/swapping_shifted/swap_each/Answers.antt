@@ -1,4 +1,4 @@
-use Rattle.std.proofs.Common.{◌∙◌, ◌+◌, arith, rules, ap, slice_index, ◌≡◌}
+use Rattle.std.proofs.Common.{ℕ, ◌∙◌, ◌+◌, ◌<◌, arith, ap, slice_index, ◌≡◌}
 use Rattle.bitvec_store.specs.WidthLaws.{width_some}
 use Rattle.bitvec_base.specs.Memory.{element_bits}
 use Rattle.bitvec_base.specs.MemoryLaws.{length-element_bits}
@@ -7,33 +7,32 @@ use Rattle.bitvec_words.specs.FieldLaws.{Writes-no_element}
 use Rattle.bitvec_move.proofs.SwapLaws.{next_element}
 use Rattle.bitvec_move.proofs.WaitingLaws.{across-bits, across-element, across-next, across-none, ends-joined, ends-next, ends-start, range-carried}
 use Rattle.bitvec_words.specs.WordLaws.{inside, inside-word}
-use Rattle.bitvec_words.specs.MovedPlaceLaws.{next-word}
+use Rattle.bitvec_words.specs.MovedPlaceLaws.{from-word, next-word}
+use Rattle.bitvec_move.proofs.CostSums.{Costs-next, Costs-none}
 use Rattle.bitvec_move.proofs.swapping_shifted.swap_each.Goals as goal
+
+before-next : (e n : ℕ) → e + 1 < n → e < n
+before-next e n next = omega arith
 
 pub overflow_add-first : goal.overflow_add-first
 overflow_add-first g c =
-    let below = inside-word _ _ _ _ _ g.met.C.Elem.BitStore.width_law c.requires.span.window c.loop-step-test.true in
-    omega arith
+    record { fits = inside-word _ _ _ _ _ g.met.C.Elem.BitStore.width_law c.requires.span.window c.loop-step-test.true }
 
 pub overflow_add-first-in-loop-step : goal.overflow_add-first-in-loop-step
 overflow_add-first-in-loop-step g c =
-    let below = inside-word _ _ _ _ _ g.met.C.Elem.BitStore.width_law c.requires.span.window c.loop-step-test.true in
-    omega arith
+    record { fits = inside-word _ _ _ _ _ g.met.C.Elem.BitStore.width_law c.requires.span.window c.loop-step-test.true }
 
 pub overflow_add-source : goal.overflow_add-source
 overflow_add-source g c =
-    let below = next-word _ _ _ _ _ _ g.met.C.Elem.BitStore.width_law c.requires.span.beside c.requires.inside c.loop-step-test.true in
-    omega arith
+    record { fits = from-word _ _ _ _ _ _ g.met.C.Elem.BitStore.width_law c.requires.span.beside c.requires.inside c.loop-step.auto.step-end }
 
 pub overflow_add-source-in-loop-step : goal.overflow_add-source-in-loop-step
 overflow_add-source-in-loop-step g c =
-    let below = next-word _ _ _ _ _ _ g.met.C.Elem.BitStore.width_law c.requires.span.beside c.requires.inside c.loop-step-test.true in
-    omega arith
+    record { fits = next-word _ _ _ _ _ _ g.met.C.Elem.BitStore.width_law c.requires.span.beside c.requires.inside c.loop-step-test.true }
 
 pub overflow_add-source-in-loop-step-2 : goal.overflow_add-source-in-loop-step-2
 overflow_add-source-in-loop-step-2 g c =
-    let below = next-word _ _ _ _ _ _ g.met.C.Elem.BitStore.width_law c.requires.span.beside c.requires.inside c.loop-step-test.true in
-    omega arith
+    record { fits = from-word _ _ _ _ _ _ g.met.C.Elem.BitStore.width_law c.requires.span.beside c.requires.inside c.loop-step.auto.step-end }
 
 pub store-requires : goal.store-requires
 store-requires g c = rw c.load-element.ensures.numbers (inside _ _ _ _ _ _ g.met.C.Elem.BitStore.width_law c.requires.span.window c.loop-step-test.true c.loop-step.invariant.swaps.writes.elements)
@@ -41,7 +40,7 @@ store-requires g c = rw c.load-element.ensures.numbers (inside _ _ _ _ _ _ g.met
 pub store-requires-in-loop-step : goal.store-requires-in-loop-step
 store-requires-in-loop-step g c =
     let next = across-next _ _ _ _ _ _ _ _ _ _ _ c.requires.inside c.requires.span.beside c.loop-step-test.true c.loop-step.invariant.swaps.right_writes in
-    rw c.load-next.ensures.numbers (omega arith)
+    rw c.load-next.ensures.numbers (before-next _ _ next)
 
 pub returns : goal.returns
 returns g c =
@@ -55,8 +54,8 @@ loop-step-init g c = record {
     writes = Writes-no_element _ _ _ _ _ _ _ c.requires.span.window (omega arith);
     right_writes = across-none _ _ _ _ _ _ _ _ _ c.requires.span.beside;
   };
-  cost = search rules;
-  right_cost = search rules;
+  cost = Costs-none g.C.CellsRead _;
+  right_cost = Costs-none g.D.CellsRead _;
   ends = ends-start _ _ _ _ (length-element_bits _ _ _) c.requires.bound (rw c.BITS.ensures at c.toward_end-before.ensures);
 }
 
@@ -92,7 +91,7 @@ loop-step-preserved g c =
             (across-bits _ _ _ _ _ _ _ _ _ _ _ _ _ _ _ some c.requires.inside below c.requires.span.window c.requires.span.beside more
             (met ∙ ends-joined b c.args.skip _ _ _ element (length-element_bits _ _ _) long below inv.ends) waits inv.swaps.writes inv.swaps.right_writes);
       };
-      cost = search rules;
-      right_cost = search rules;
+      cost = Costs-next g.C.CellsRead _ _ _ _ _ _ inv.cost c.load-element.ensures.borrow c.load-element.ensures.loads c.load-element.ensures.stores c.store.ensures.borrow c.store.ensures.loads c.store.ensures.stores;
+      right_cost = Costs-next g.D.CellsRead _ _ _ _ _ _ inv.right_cost c.load-next.ensures.borrow c.load-next.ensures.loads c.load-next.ensures.stores c.store-in-loop-step.ensures.borrow c.store-in-loop-step.ensures.loads c.store-in-loop-step.ensures.stores;
       ends = rw (c.load-element.ensures.value, c.load-next.ensures.value) (ends-next b c.args.skip _ element next long next_long below waits);
     }

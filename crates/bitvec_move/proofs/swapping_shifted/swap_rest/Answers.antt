@@ -1,8 +1,10 @@
-use Rattle.std.proofs.Common.{◌≡◌, ◌-◌, ◌*◌, ◌/◌, ◌%◌, ◌≤◌, arith, rules, refl, ℕ}
+use Rattle.std.proofs.Common.{◌≡◌, ◌-◌, ◌*◌, ◌/◌, ◌%◌, ◌≤◌, arith, refl, ℕ}
+use Rattle.std.proofs.Math.Nat.{le_refl}
 use Rattle.std.proofs.lemmas.List.{length-set}
 use Rattle.std.proofs.lemmas.Nat.{div-add-mod', mod_below}
 use Rattle.bitvec_store.specs.WidthLaws.{width_some}
 use Rattle.bitvec_base.specs.WritesLaws.{HasWindow-kept}
+use Rattle.bitvec_move.proofs.CostSums.{Costs-stored, Costs-sum}
 use Rattle.bitvec_move.proofs.SwapLaws.{Swaps-joined, beside-after, beside-tail}
 use Rattle.bitvec_words.specs.TouchedLaws.{touched-first, touched-from_full, touched-from_more, touched-full, touched-more}
 use Rattle.bitvec_move.proofs.WaitingLaws.{HasWindow-set, behind-element}
@@ -11,6 +13,9 @@ use Rattle.bitvec_words.specs.WordLaws.{width-some}
 use Rattle.bitvec_move.proofs.MoveLemmas.{Swaps-same, place-element}
 use Rattle.bitvec_words.specs.WholeLaws.{whole_fits, window-end}
 use Rattle.bitvec_move.proofs.swapping_shifted.swap_rest.Goals as goal
+
+same-most : (m n : ℕ) → m ≡ n → m ≤ n
+same-most m n same = omega arith
 
 pub nonzero_div-behind : goal.nonzero_div-behind
 nonzero_div-behind g c = let some = width-some _ _ g.met.C.Elem.BitStore.width_law c.BITS-bits.ensures in omega arith
@@ -28,14 +33,14 @@ swap_across-last-requires g c =
 
 pub overflow_add-stretch : goal.overflow_add-stretch
 overflow_add-stretch g c =
-    let has = whole-window_from _ _ _ c.args.right_window c.args.left_window.len g.met.C.Elem.BitStore.width_law c.BITS-bits.ensures c.requires.skipped.span.beside (let lengths = c.requires.skipped.span.lengths in omega arith) in
-    let below = from-word _ _ _ _ _ (c.args.left_window.len / c.BITS-bits.result) g.met.C.Elem.BitStore.width_law has (rw c.BITS-bits.ensures c.requires.skipped.inside) (omega arith) in
+    let has = whole-window_from _ _ _ c.args.right_window c.args.left_window.len g.met.C.Elem.BitStore.width_law c.BITS-bits.ensures c.requires.skipped.span.beside (same-most _ _ c.requires.skipped.span.lengths) in
+    let below = from-word _ _ _ _ _ (c.args.left_window.len / c.BITS-bits.result) g.met.C.Elem.BitStore.width_law has (rw c.BITS-bits.ensures c.requires.skipped.inside) (le_refl _) in
     rw c.of-stretch.ensures (omega arith)
 
 pub store-requires : goal.store-requires
 store-requires g c =
-    let has = whole-window_from _ _ _ c.args.right_window c.args.left_window.len g.met.C.Elem.BitStore.width_law c.BITS-bits.ensures c.requires.skipped.span.beside (let lengths = c.requires.skipped.span.lengths in omega arith) in
-    let here = from-inside _ _ _ _ _ _ (c.args.left_window.len / c.BITS-bits.result) has (rw c.BITS-bits.ensures c.requires.skipped.inside) (omega arith) refl in
+    let has = whole-window_from _ _ _ c.args.right_window c.args.left_window.len g.met.C.Elem.BitStore.width_law c.BITS-bits.ensures c.requires.skipped.span.beside (same-most _ _ c.requires.skipped.span.lengths) in
+    let here = from-inside _ _ _ _ _ _ (c.args.left_window.len / c.BITS-bits.result) has (rw c.BITS-bits.ensures c.requires.skipped.inside) (le_refl _) refl in
     let kept = c.swap_across-last.ensures.swaps.right_writes.elements in
     rw c.of-stretch.ensures (omega (arith, length-set {A = ℕ}))
 
@@ -67,7 +72,7 @@ returns-then-tail-eq0-clause-right_cost g c =
     let some = c.requires.some in let lengths = c.requires.skipped.span.lengths in
     let more = touched-first b c.args.right_window.start c.args.right_window.len (omega arith) in
     let cost = rw (c.of-stretch.ensures, c.BITS-bits.ensures, c.requires.skipped.span.lengths) at c.swap_across-last.ensures.right_cost in
-    record { borrow = search rules; loads = omega arith; stores = omega arith }
+    Costs-stored g.D.CellsRead _ _ _ _ _ cost c.store.ensures.borrow c.store.ensures.loads c.store.ensures.stores all more
 
 pub returns-clause-swaps : goal.returns-clause-swaps
 returns-clause-swaps g c =
@@ -91,7 +96,7 @@ returns-clause-cost g c =
     let left = rw (c.tail_part-tail.ensures, c.BITS-bits.ensures) at c.if-tail-eq0.false in
     let all = touched-more g.C.Elem.BitStore.BITS c.args.left_window.start c.args.left_window.len (width_some _ g.met.C.Elem.BitStore.width_law) c.requires.skipped.edge (omega arith) in
     let cost = rw (c.of-stretch.ensures, c.BITS-bits.ensures) at c.swap_across-last.ensures.cost in
-    record { borrow = search rules; loads = omega arith; stores = omega arith }
+    Costs-sum g.C.CellsRead _ _ _ _ _ _ _ _ _ cost c.swap_waiting-end.ensures.cost all all
 
 pub returns-clause-right_cost : goal.returns-clause-right_cost
 returns-clause-right_cost g c =
@@ -104,7 +109,7 @@ returns-clause-right_cost g c =
     let rest : c.args.right_window.len - c.args.right_window.len / b * b ≡ c.args.right_window.len % b = omega arith in
     let whole = rw (c.of-stretch.ensures, c.BITS-bits.ensures, lengths) at c.swap_across-last.ensures.right_cost in
     let part = rw (c.after-behind.ensures, c.of-stretch.ensures, c.BITS-bits.ensures, lengths, rest) at c.swap_waiting-end.ensures.right_cost in
-    record { borrow = search rules; loads = omega arith; stores = omega arith }
+    Costs-stored g.D.CellsRead _ _ _ _ _ (Costs-sum g.D.CellsRead _ _ _ _ _ _ _ _ _ whole part all all) c.store-2.ensures.borrow c.store-2.ensures.loads c.store-2.ensures.stores refl more
 
 pub of-stretch-requires : goal.of-stretch-requires
 of-stretch-requires g c = width-some _ _ g.met.C.Elem.BitStore.width_law c.BITS-bits.ensures
@@ -129,13 +134,13 @@ returns-then-tail-eq0-clause-swaps g c =
 
 pub overflow_mul-stretch : goal.overflow_mul-stretch
 overflow_mul-stretch g c =
-    let fits = whole_fits g.C.Elem.BitStore.BITS c.args.left_window.len (c.args.left_window.len / g.C.Elem.BitStore.BITS) (omega arith) in
+    let fits = whole_fits g.C.Elem.BitStore.BITS c.args.left_window.len (c.args.left_window.len / g.C.Elem.BitStore.BITS) (le_refl _) in
     rw (c.of-stretch.ensures, c.BITS-bits.ensures) (omega arith)
 
 pub after-behind-requires-clause-bound : goal.after-behind-requires-clause-bound
 after-behind-requires-clause-bound g c =
     let lengths = c.requires.skipped.span.lengths in
-    let fits = whole_fits g.C.Elem.BitStore.BITS c.args.left_window.len (c.args.left_window.len / g.C.Elem.BitStore.BITS) (omega arith) in
+    let fits = whole_fits g.C.Elem.BitStore.BITS c.args.left_window.len (c.args.left_window.len / g.C.Elem.BitStore.BITS) (le_refl _) in
     rw (c.of-stretch.ensures, c.BITS-bits.ensures) (omega arith)
 
 pub after-behind-requires-clause-end : goal.after-behind-requires-clause-end
@@ -145,7 +150,7 @@ pub overflow_add-behind : goal.overflow_add-behind
 overflow_add-behind g c =
     let end = window-end _ _ c.args.right_window c.requires.skipped.span.beside in
     let lengths = c.requires.skipped.span.lengths in
-    let fits = whole_fits g.C.Elem.BitStore.BITS c.args.left_window.len (c.args.left_window.len / g.C.Elem.BitStore.BITS) (omega arith) in
+    let fits = whole_fits g.C.Elem.BitStore.BITS c.args.left_window.len (c.args.left_window.len / g.C.Elem.BitStore.BITS) (le_refl _) in
     rw (c.after-behind.ensures, c.of-stretch.ensures, c.BITS-bits.ensures) (omega arith)
 
 pub overflow_sub-behind : goal.overflow_sub-behind

@@ -6,6 +6,7 @@ use Rattle.bitvec_base.specs.Parts.{first_part_of}
 use Rattle.bitvec_store.specs.WidthLaws.{width_some}
 use Rattle.bitvec_cells.specs.Cost.{touched_count}
 use Rattle.bitvec_words.specs.FieldLaws.{first_part-long}
+use Rattle.bitvec_move.proofs.CostSums.{Costs-around, Costs-sum, Costs-waiting}
 use Rattle.bitvec_move.proofs.SwapLaws.{Swaps-joined, beside-head, beside-parted}
 use Rattle.bitvec_words.specs.TouchedLaws.{apart_edge, inside_element, touched-first, touched-head, touched-inside, touched-rest}
 use Rattle.bitvec_words.specs.WholeLaws.{window-end}
@@ -57,7 +58,7 @@ returns-then-passed-left_window-clause-cost g c =
     let step = first_part-long c.len-passed.result b c.BITS-bits.result c.args.left_window c.first_part-head.result c.len-passed.ensures c.first_part-head.ensures c.BITS-bits.ensures in
     let one = touched-head b c.args.left_window.start c.len-passed.result c.args.left_window.len some c.requires.some step in
     let all = ap (touched_count b c.args.left_window.start) c.if-passed-left_window.true in
-    record { borrow = search rules; loads = omega arith; stores = omega arith }
+    rw (← all, one) c.swap_waiting-last.ensures.cost
 
 pub returns-then-passed-left_window-clause-right_cost : goal.returns-then-passed-left_window-clause-right_cost
 returns-then-passed-left_window-clause-right_cost g c =
@@ -67,7 +68,7 @@ returns-then-passed-left_window-clause-right_cost g c =
     let some = c.requires.some in
     let more = touched-first b c.args.right_window.start c.args.right_window.len (omega arith) in
     let head = rw (c.until-met.ensures, long) at c.swap_waiting-last.ensures.right_cost in
-    record { borrow = search rules; loads = omega arith; stores = omega arith }
+    Costs-around g.D.CellsRead _ _ _ _ _ _ c.load-waiting.ensures.borrow c.load-waiting.ensures.loads c.load-waiting.ensures.stores head c.store.ensures.borrow c.store.ensures.loads c.store.ensures.stores more
 
 pub returns-clause-swaps : goal.returns-clause-swaps
 returns-clause-swaps g c =
@@ -95,7 +96,7 @@ returns-clause-cost g c =
     let step = first_part-long c.len-passed.result b c.BITS-bits.result c.args.left_window c.first_part-head.result c.len-passed.ensures c.first_part-head.ensures c.BITS-bits.ensures in
     let all = touched-rest b c.args.left_window.start c.len-passed.result c.args.left_window.len some c.requires.some step c.if-passed-left_window.false in
     let rest = rw c.after-rest.ensures at c.swap_rest.ensures.cost in
-    record { borrow = search rules; loads = omega arith; stores = omega arith }
+    Costs-sum g.C.CellsRead _ _ _ _ _ _ _ _ _ c.swap_waiting-last.ensures.cost rest all all
 
 pub returns-clause-right_cost : goal.returns-clause-right_cost
 returns-clause-right_cost g c =
@@ -112,7 +113,7 @@ returns-clause-right_cost g c =
     let behind = touched-first b (c.args.right_window.start + c.len-passed.result) (c.args.right_window.len - c.len-passed.result) (omega arith) in
     let first = rw (c.until-met.ensures, met) at c.swap_waiting-last.ensures.right_cost in
     let rest = rw c.after-behind.ensures at c.swap_rest.ensures.right_cost in
-    record { borrow = search rules; loads = omega arith; stores = omega arith }
+    Costs-waiting g.D.CellsRead _ _ _ _ _ _ _ c.load-waiting.ensures.borrow c.load-waiting.ensures.loads c.load-waiting.ensures.stores first rest all front behind
 
 pub returns-then-passed-left_window-clause-swaps : goal.returns-then-passed-left_window-clause-swaps
 returns-then-passed-left_window-clause-swaps g c =

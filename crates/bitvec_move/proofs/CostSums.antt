@@ -1,0 +1,50 @@
+-- What calls cost that follow one another.
+use Rattle.std.specs.Prelude.{◌≡◌, ℕ, ◌+◌, ◌-◌, ◌*◌, ◌≤◌}
+use Rattle.std.proofs.Common.{arith, refl, ◌∙◌}
+use Rattle.bitvec_cells.specs.declared.cells.CellsRead.{Ghosts as Access}
+use Rattle.bitvec_cells.specs.Access.{Costs, CostsAtMost, OnlyReads}
+
+module _ {E C : Type 0} (access : Access C E) where
+  -- none
+  pub Costs-none : (a : C) → Costs access a a 0 0
+  Costs-none a = record { borrow = refl; loads = omega arith; stores = omega arith }
+
+  -- a load and a store more
+  pub Costs-next : (a b c d : C) (m n : ℕ) → Costs access a b m n → access.borrow c ≡ access.borrow b → access.loads c ≡ access.loads b + 1 → access.stores c ≡ access.stores b
+      → access.borrow d ≡ access.borrow c → access.loads d ≡ access.loads c → access.stores d ≡ access.stores c + 1 → Costs access a d (m + 1) (n + 1)
+  Costs-next a b c d m n before borrow load none again same store = record { borrow = again ∙ borrow ∙ before.borrow; loads = omega arith; stores = omega arith }
+
+  -- one behind the other
+  pub Costs-sum : (a b c : C) (m n p q k l : ℕ) → Costs access a b m n → Costs access b c p q → k ≡ m + p → l ≡ n + q → Costs access a c k l
+  Costs-sum a b c m n p q k l first second loads stores = record { borrow = second.borrow ∙ first.borrow; loads = omega arith; stores = omega arith }
+
+  -- an element that waits is loaded before, or stored behind
+  pub Costs-around : (a b c d : C) (m k : ℕ) → access.borrow b ≡ access.borrow a → access.loads b ≡ access.loads a + 1 → access.stores b ≡ access.stores a → Costs access b c m m
+      → access.borrow d ≡ access.borrow c → access.loads d ≡ access.loads c → access.stores d ≡ access.stores c + 1 → k ≡ 1 + m → Costs access a d k k
+  Costs-around a b c d m k borrow load none cost again same store all = record { borrow = again ∙ cost.borrow ∙ borrow; loads = omega arith; stores = omega arith }
+
+  pub Costs-waiting : (a b c d : C) (m n k : ℕ) → access.borrow b ≡ access.borrow a → access.loads b ≡ access.loads a + 1 → access.stores b ≡ access.stores a → Costs access b c (m - 1) (m - 1) → Costs access c d (n - 1) n
+      → k ≡ m + (n - 1) → m ≡ 1 + (m - 1) → n ≡ 1 + (n - 1) → Costs access a d k k
+  Costs-waiting a b c d m n k borrow load none first second all some more = record { borrow = second.borrow ∙ first.borrow ∙ borrow; loads = omega arith; stores = omega arith }
+
+  pub Costs-stored : (a b c : C) (m k : ℕ) → Costs access a b m m → access.borrow c ≡ access.borrow b → access.loads c ≡ access.loads b → access.stores c ≡ access.stores b + 1 → k - 1 ≡ m → k ≡ 1 + (k - 1) → Costs access a c (k - 1) k
+  Costs-stored a b c m k cost again same store all more = record { borrow = again ∙ cost.borrow; loads = omega arith; stores = omega arith }
+
+  -- what may cost more
+  pub Costs-late : (a b : C) (n late : ℕ) → Costs access a b n n → CostsAtMost access a b (n + 1 + late) (n + late)
+  Costs-late a b n late cost = record { borrow = cost.borrow; loads = omega arith; stores = omega arith }
+
+  -- words of eight bytes: what is loaded before the first one, each of them, and one more
+  pub Costs-held : (a b c : C) → OnlyReads access a b 9 → access.borrow c ≡ access.borrow b → access.loads c ≡ access.loads b + 1 → access.stores c ≡ access.stores b → Costs access a c (0 * 8 + 10) (0 * 8)
+  Costs-held a b c before borrow load none = record { borrow = borrow ∙ before.borrow; loads = omega arith; stores = omega arith }
+
+  pub Costs-word : (a b c d : C) (step : ℕ) → Costs access a b (step * 8 + 10) (step * 8) → OnlyReads access b c 8 → Costs access c d 0 8 → Costs access a d ((step + 1) * 8 + 10) ((step + 1) * 8)
+  Costs-word a b c d step before read stored = record { borrow = stored.borrow ∙ read.borrow ∙ before.borrow; loads = omega arith; stores = omega arith }
+
+  pub Costs-last_word : (a b c : C) (m n : ℕ) → Costs access a b (m + 10) m → Costs access b c 0 8 → m ≤ n → CostsAtMost access a c (n + 10) (n + 8)
+  Costs-last_word a b c m n before stored most = record { borrow = stored.borrow ∙ before.borrow; loads = omega arith; stores = omega arith }
+
+  -- bits at two edges, which are loaded first and stored last, and whole elements
+  pub Costs-edges : (a b c d e f : C) (m n k late h j loads stores : ℕ) → OnlyReads access a b m → OnlyReads access b c n → CostsAtMost access c d (k + 1 + late) (k + late) → CostsAtMost access d e 1 h → CostsAtMost access e f 1 j
+      → m + n + (k + 1 + late) + 2 ≤ loads → k + late + h + j ≤ stores → CostsAtMost access a f loads stores
+  Costs-edges a b c d e f m n k late h j loads stores front back whole head tail read written = record { borrow = tail.borrow ∙ head.borrow ∙ whole.borrow ∙ back.borrow ∙ front.borrow; loads = omega arith; stores = omega arith }

@@ -1,0 +1,4 @@
+use Rattle.bitvec_split.proofs.splitting.SplitsDoubleEndedIterator.next_back.Goals as goal
+
+pub returns-clause-steps : goal.returns-clause-steps
+returns-clause-steps g c = rw c.REVERSED.ensures at c.next_from.ensures.piece
