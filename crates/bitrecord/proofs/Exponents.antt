@@ -4,7 +4,6 @@ use Rattle.std.proofs.Common.{arith, sym, ◌∙◌, ap, subst}
 use Rattle.std.proofs.lemmas.Nat.{and_mask, div-add-mod', mod_below, pow_pos, shl_below, shr_below}
 use Rattle.std.proofs.Math.Nat.{mod-eq_of_lt}
 use Rattle.std.proofs.Math.Pow.{pow_mono}
-use Rattle.bitvec.specs.LoadLaws.{joined_below}
 use Rattle.bitrecord.specs.Runs.{SplitsOff}
 
 below-more : (a m n : ℕ) → a < m → m ≤ n → a < n

@@ -1,8 +1,8 @@
 -- One code: it is written and read, it stays where an edit doesn't touch it, and no other stands at its place.
-use Rattle.std.specs.Prelude.{◌≡◌, ℕ, zero, suc, ◌+◌, ◌-◌, ◌*◌, ◌^◌, ◌<◌, ◌≤◌, ◌⊎◌, ◌≢◌, if◌then◌else◌, IfNone, IfSome, Bool, true, false, List, Option, Some, None, length, refl, slice_index_or}
+use Rattle.std.specs.Prelude.{◌≡◌, ℕ, zero, suc, ◌+◌, ◌-◌, ◌*◌, ◌^◌, ◌<◌, ◌≤◌, ◌⊎◌, Bool, true, List, None, length, refl}
 use Rattle.std.specs.Int.{leading_zeros, w64}
 use Rattle.std.specs.Int.Count.{leading_unique}
-use Rattle.std.proofs.Common.{arith, sym, ◌∙◌, ap, subst, inl, inr}
+use Rattle.std.proofs.Common.{arith, sym, ◌∙◌, subst, inl, inr}
 use Rattle.std.proofs.lemmas.Bool.{cases_lt}
 use Rattle.std.proofs.lemmas.Nat.{leading_top, pow-add, pow_pos}
 use Rattle.bitvec.specs.ChangesLaws.{number-unchanged}

@@ -1,7 +1,7 @@
 -- By which number a call says whether it was carried out, or why it was not.
 --
 -- `order` is the number of an order; `xs` is the memory of b-bit elements that a call is about, and `ys` the right one.
-use Rattle.std.specs.Prelude.{ℕ, zero, suc, ◌*◌, Bool, false, ◌&&◌, nat_le, if◌then◌else◌, Option, Some, None, List, [], length, replicate}
+use Rattle.std.specs.Prelude.{ℕ, zero, suc, ◌*◌, false, ◌&&◌, nat_le, if◌then◌else◌, Option, Some, None, List, [], length, replicate}
 use Rattle.bitvec_base.specs.declared.window.Window.{Window}
 use Rattle.bitvec_base.specs.Window.{max_bits}
 use Rattle.bitvec_run.specs.declared.command.Op.{Op}

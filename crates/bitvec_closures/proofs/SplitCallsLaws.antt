@@ -5,7 +5,7 @@ use Rattle.std.specs.Borrow.{Bor, GName, MutBor}
 use Rattle.std.specs.Fn.{Mut}
 use Rattle.std.specs.List.{FoldsTo}
 use Rattle.std.specs.declared.ops.Range.{Range}
-use Rattle.std.proofs.Common.{arith, sym, subst, ◌∙◌, ap, ⊎_elim}
+use Rattle.std.proofs.Common.{arith, subst, ◌∙◌, ap, ⊎_elim}
 use Rattle.bitvec_base.specs.Window.{write_at}
 use Rattle.bitvec_base.specs.WriteLaws.{range-range, range-write_at_after, range-write_at_before}
 use Rattle.bitvec_base.specs.declared.window.Window.{Window}

@@ -11,7 +11,7 @@ use Rattle.bitvec_in_place.specs.RangesLaws.{get-filled_inside, get-filled_outsi
 use Rattle.bitvec_in_place.specs.MovedLaws.{length-bits_of, get-copied_inside, get-copied_outside, get-flip, get-rotated_left_early, get-rotated_left_late, get-rotated_right_early, get-rotated_right_late, get-shifted_end_kept, get-shifted_end_zero, get-shifted_start_kept, get-shifted_start_zero, get-swap_first, get-swap_other, get-swap_second, get-swapped_back, get-swapped_front, get-swapped_outside, get-zero, get-zeros, length-swapped}
 use Rattle.bitvec_in_place.specs.NumberPartsLaws.{get-numbered_inside, number-cleared, number-combined, number-copied_to, number-filled_up, number-other_end, number-part, number-swapped, number-swapped_from, number-swapped_to}
 use Rattle.bitvec_in_place.specs.RangeBitsLaws.{all-in_filled, any-in_cleared, bits-combined, bits-copied, bits-filled, bits-flipped, bits-joined, bits-moved_end, bits-moved_start, bits-numbered, bits-reversed, bits-rotated_left, bits-rotated_right, bits-set, bits-swap, bits-swapped, bits-written, first-in_filled, first-in_other, get-bits_in, last-in_other, length-bits_in, ones-in_cleared, ones-in_filled, zeros-in_cleared, zeros-in_filled}
-use Rattle.bitvec_in_place.specs.NumbersLaws.{length-part, loaded-part_below, number-below, number-copied, number-numbered, number-set, number-stored, number-swap, number-written}
+use Rattle.bitvec_in_place.specs.NumbersLaws.{loaded-part_below, number-below, number-copied, number-numbered, number-set, number-stored, number-swap, number-written}
 
 -- edits keep lengths, those of whole lists and those of ranges; and the length of a memory's bits
 pub ruleset lengths = (length-memory_bits, length-bits_of, length-set, length-swap, length-write_at, length-map, length-reverse, length-replicate, length-combined, lasting.length-rotated_left, lasting.length-rotated_right, lasting.length-shifted_start, lasting.length-shifted_end, lasting.length-copied_within, length-swapped, length-combined_within, length-filled, length-flipped, length-reversed, length-rotated_left, length-rotated_right, length-moved_start, length-moved_end, length-joined, length-numbered)

@@ -1,11 +1,11 @@
 -- What stands at an index of a list whose values moved or changed, and that the list is as long.
-use Rattle.std.specs.Prelude.{◌≡◌, ◌≢◌, ℕ, ◌+◌, ◌-◌, ◌*◌, ◌<◌, ◌≤◌, ◌⊎◌, Bool, false, not, List, drop, length, map, replicate, slice_index_or, slice_range, take}
+use Rattle.std.specs.Prelude.{◌≡◌, ◌≢◌, ℕ, ◌+◌, ◌-◌, ◌*◌, ◌<◌, ◌≤◌, ◌⊎◌, Bool, false, not, List, length, map, replicate, slice_index_or, slice_range}
 use Rattle.std.specs.List.{swap}
-use Rattle.std.proofs.Common.{arith, sym, ◌∙◌, ap, ⊎_elim, inl, inr, length-append, length-drop}
+use Rattle.std.proofs.Common.{arith, sym, ◌∙◌, ap, ⊎_elim, inl, inr}
 use Rattle.std.proofs.Math.ListN.{get_or-eq_default}
 use Rattle.std.proofs.lemmas.Bool.{cases_lt}
 use Rattle.std.proofs.lemmas.Grind.{get_or-set_at}
-use Rattle.std.proofs.lemmas.List.{get_or-map, get_or-replicate, get_or-set_other, length-map, length-replicate, length-set, length-take, places}
+use Rattle.std.proofs.lemmas.List.{get_or-map, get_or-replicate, get_or-set_other, length-map, length-set, places}
 use Rattle.std.proofs.lemmas.List.Edits.{swap_is}
 use Rattle.bitvec_base.specs.FilledLaws.{bits-zeros}
 use Rattle.bitvec_base.specs.Lists.{copied_within, rotated_left, rotated_right, shifted_end, shifted_start}

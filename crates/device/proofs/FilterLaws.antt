@@ -1,6 +1,6 @@
 -- A filter of the keys of words, one after the other.
 use Rattle.std.proofs.Common.{◌≡◌, ℕ, zero, suc, ◌+◌, ◌<◌, map, take, List, [], ◌∷◌, ◌++◌, fold, get_or, length, Option, Some, None, refl, sym, ap, subst, ◌∙◌, arith}
-use Rattle.std.specs.Prelude.{All, IsSomeAnd, ◌≢◌}
+use Rattle.std.specs.Prelude.{IsSomeAnd, ◌≢◌}
 use Rattle.std.proofs.lemmas.List.Elements.{All-pop, All-push, All-weaker}
 use Rattle.device.specs.Filter.{Has, Inserts, place_of}
 use Rattle.device.specs.Numbers.{◌>>=◌, number_of, numbers_of, with_number}

@@ -1,5 +1,5 @@
 -- What is printed where a part is made.
-use Rattle.std.proofs.Common.{◌≡◌, ℕ, List, Option, Some, None, arith}
+use Rattle.std.proofs.Common.{ℕ, List, Option, Some, None, arith}
 use Rattle.std.specs.Prelude.{IsSomeAnd}
 use Rattle.device.specs.Parts.{Asked, Makes}
 use Rattle.device.specs.Program.{PrintsAsked, PrintsPart, Works}

@@ -1,5 +1,5 @@
 -- The part of the device that the words ask for.
-use Rattle.std.specs.Prelude.{◌≡◌, ◌≢◌, ℕ, ◌-◌, ◌*◌, ◌<◌, ◌&&◌, ◌==◌, All, IsSomeAnd, if◌then◌else◌, nat_lt, List, [], ◌++◌, drop, length, replicate, slice_index_or, true, false, Option, Some, None, codes}
+use Rattle.std.specs.Prelude.{◌≡◌, ◌≢◌, ℕ, ◌-◌, ◌*◌, ◌<◌, ◌==◌, All, IsSomeAnd, if◌then◌else◌, nat_lt, List, [], ◌++◌, drop, length, replicate, slice_index_or, true, false, Option, Some, None, codes}
 use Rattle.std.specs.Str.{bytes_eq}
 use Rattle.bitvec.specs.Arrays.{lsb0_bits}
 use Rattle.device.specs.Chunks.{HaveNumbers}

@@ -1,4 +1,4 @@
-use Rattle.std.proofs.Common.{true, false}
+use Rattle.std.proofs.Common.{true}
 use Rattle.bitvec_checked.proofs.NumberLemmas.{loaded-fits}
 use Rattle.bitvec_checked.proofs.numbers.load_be_in.Goals as goal
 

@@ -1,5 +1,4 @@
-use Rattle.std.proofs.Common.{◌≡◌, List, ℕ, ◌∙◌}
-use Rattle.bitrecord.specs.Records.{record_in}
+use Rattle.std.proofs.Common.{◌∙◌}
 use Rattle.bitrecord.specs.RecordLaws.{encodable-accepted, encodable-back, encoded-back, is-layout, seen-record}
 use Rattle.bitrecord.specs.Views.{fields_of}
 use Rattle.bitvec.specs.Views.{seen, seen_mut}
