@@ -1,5 +1,5 @@
 -- The words after the program's name.
-use Rattle.std.specs.Prelude.{◌≡◌, ℕ, ◌+◌, ◌*◌, ◌^◌, ◌<◌, ◌&&◌, ◌==◌, nat_eq, nat_lt, if◌then◌else◌, List, [], length, drop, slice_index_or, Option, Some, None, codes}
+use Rattle.std.specs.Prelude.{◌≡◌, ℕ, ◌+◌, ◌*◌, ◌^◌, ◌<◌, true, ◌&&◌, ◌==◌, nat_eq, nat_lt, if◌then◌else◌, List, [], length, drop, slice_index_or, Option, Some, None, codes}
 use Rattle.std.specs.Char.{is_digit}
 use Rattle.std.specs.List.{after_first, before_first, list_all, position_or_len, starts_with}
 use Rattle.std.specs.Option.{option_map}

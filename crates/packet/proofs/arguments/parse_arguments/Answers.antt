@@ -1,10 +1,10 @@
-use Rattle.std.proofs.Common.{◌≡◌, ℕ, ◌+◌, ◌*◌, List, [], ◌∷◌, ◌++◌, get_or, map, Some, inr, refl, sym, ap, ◌∙◌, arith, below_more}
+use Rattle.std.proofs.Common.{◌≡◌, ℕ, ◌+◌, ◌*◌, List, [], ◌∷◌, ◌++◌, get_or, map, Some, true, false, inr, refl, sym, ap, ◌∙◌, arith, below_more}
 use Rattle.std.proofs.lemmas.Grind.{common_steps}
 use Rattle.std.proofs.lemmas.List.{length-map, map_push}
 use Rattle.std.specs.Prelude.{codes, string_bytes}
 use Rattle.std.specs.Str.{bytes_eq}
 use Rattle.packet.specs.Arguments.{Named, assignment_of, named}
-use Rattle.packet.proofs.AssignmentLaws.{each-more, no-assignment, no-flag, text-at}
+use Rattle.packet.proofs.AssignmentLaws.{each-more, no-assignment, no-flag, not-false, not-true, text-at}
 use Rattle.packet.proofs.arguments.parse_arguments.Goals as goal
 
 pub returns-then-ne-clause-fault : goal.returns-then-ne-clause-fault
