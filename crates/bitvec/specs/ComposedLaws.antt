@@ -57,6 +57,7 @@ module _ {T O A : Type 0} {t : Store T} {o : Order O} (some : 0 < t.BITS) where
     memory = sym (window-kept (owned v).memory (owned v).window (within v));
     window = refl;
     length = refl;
+    capacity = refl;
     holds = λ list from held. subst (λ (l : List Bool). Holds t.BITS l from (owned v)) (sym held.bits) held;
   }
 
@@ -73,6 +74,7 @@ module _ {T O A : Type 0} {t : Store T} {o : Order O} (some : 0 < t.BITS) where
             ∙ ap (λ (v : Window). write_window (write_window m w x) v y) one.window ∙ window-rewritten m w x y (within first) size also;
         window = two.window ∙ one.window;
         length = two.length ∙ one.length;
+        capacity = two.capacity ∙ one.capacity;
         holds = λ list from held. two.holds x from (one.holds list from held);
       }
 

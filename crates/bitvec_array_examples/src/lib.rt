@@ -23,6 +23,8 @@ mod owned_composed;
 #[cfg(test)]
 mod ranges_known;
 #[cfg(test)]
+mod reserved;
+#[cfg(test)]
 mod retained;
 #[cfg(test)]
 mod run_halves;

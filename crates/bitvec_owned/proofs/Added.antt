@@ -18,7 +18,7 @@ Adds b before list after = (after.bits ≡ before.bits ++ list) × KeepsAround b
 module _ {T : Type 0} (b : ℕ) where
   -- none; and one list, then another
   pub adds-none : (sequence : Seen T) → Adds b sequence [] sequence
-  adds-none sequence = (sym (append-nil sequence.bits), record { start = refl; zeros = λ was. was })
+  adds-none sequence = (sym (append-nil sequence.bits), record { start = refl; front = refl; zeros = λ was. was })
 
   pub adds-then : (first second last : Seen T) (list more : List Bool) → Adds b first list second → last.bits ≡ second.bits ++ more → KeepsAround b second last → Adds b first (list ++ more) last
   adds-then first second last list more one two around =

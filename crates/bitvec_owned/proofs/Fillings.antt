@@ -1,9 +1,10 @@
 -- What is left of a sequence whose elements got more of them at their end, in which all bits are the same.
-use Rattle.std.specs.Prelude.{◌≡◌, ℕ, zero, suc, ◌+◌, ◌-◌, ◌*◌, ◌^◌, ◌<◌, ◌≤◌, Bool, true, false, List, [], ◌∷◌, ◌++◌, drop, if◌then◌else◌, length, map, replicate, slice_range, take, refl}
+use Rattle.std.specs.Prelude.{◌≡◌, ℕ, zero, suc, ◌+◌, ◌-◌, ◌*◌, ◌/◌, ◌%◌, ◌^◌, ◌<◌, ◌≤◌, Bool, true, false, List, [], ◌∷◌, ◌++◌, drop, if◌then◌else◌, length, map, replicate, slice_range, take, refl}
 use Rattle.std.specs.Int.{div_ceil}
 use Rattle.std.proofs.Common.{◌∙◌, ap, append_assoc, arith, length-append, sym}
 use Rattle.std.proofs.lemmas.Grind.{div_ceil_times}
 use Rattle.std.proofs.lemmas.List.{drop_at, length-replicate, length-take-le, map-append, replicate-append-replicate, take-append-le, take_all, take_at}
+use Rattle.std.proofs.lemmas.Nat.{div-add-mod'}
 use Rattle.bitvec_base.specs.Memory.{element_bits, memory_bits}
 use Rattle.bitvec_base.specs.MemoryLaws.{element-range, length-memory_bits}
 use Rattle.bitvec_base.specs.Order.{Permutes}
@@ -12,6 +13,7 @@ use Rattle.bitvec_base.specs.SliceLaws.{range-all}
 use Rattle.bitvec_base.specs.Window.{write_at}
 use Rattle.bitvec_slice.specs.SeenLaws.{length-memory}
 use Rattle.bitvec_owned.specs.Fronts.{LeavesFront}
+use Rattle.bitvec_owned.specs.Owned.{rest_bits}
 use Rattle.bitvec_owned.proofs.FrontLists.{cut-front, cut-zeros}
 use Rattle.bitvec_owned.proofs.Fronts.{append, fewest, times}
 
@@ -62,6 +64,13 @@ module _ (old first new : List Bool) (end count r : ℕ) (bit : Bool) (inside : 
   pub filled-zeros : drop (end + count) new ≡ replicate (length old + r - (end + count)) false
   filled-zeros = let size = long in cut-zeros first new (end + count) (length old + r) fits (omega arith) all
 
+-- where an element begins, no bit of one is left
+pub rest-none : (b n : ℕ) → n % b ≡ 0 → rest_bits b n ≡ 0
+rest-none b n whole =
+    let sum = div-add-mod' n b in
+    let product : b * (n / b + 0) ≡ n / b * b = omega arith in
+    rw whole (omega arith)
+
 -- the bits of an element that are all the same
 pub filling : {T : Type 0} (b : ℕ) (at : ℕ → ℕ → ℕ) (value : T → ℕ) (full none : T) → Permutes b (at b) → value full ≡ 2 ^ b - 1 → value none ≡ 0
     → (bit : Bool) → element_bits b at (value (if bit then full else none)) ≡ replicate b bit
@@ -100,11 +109,11 @@ module _ {T : Type 0} (b : ℕ) (at : ℕ → ℕ → ℕ) (value : T → ℕ) (
         ∙ ap (λ (l : List Bool). bits_of elements ++ l) (same n)
 
     -- such elements were added, the last of the others were filled, and the bits behind those that were asked for are 0
-    pub filled : (old between new : List T) (end count n width : ℕ) → width ≡ b → n ≡ length old → n ≡ div_ceil end b
+    pub filled : (old between new : List T) (end count n : ℕ) → n ≡ length old → n ≡ div_ceil end b
         → between ≡ old ++ replicate (div_ceil (end + count) b - n) x → length new ≡ length between
-        → bits_of new ≡ write_at (write_at (bits_of between) end (replicate (n * width - end) bit)) (end + count) (replicate (b * length between - (end + count)) false)
+        → bits_of new ≡ write_at (write_at (bits_of between) end (replicate (rest_bits b end) bit)) (end + count) (replicate (rest_bits b (end + count)) false)
         → LeavesFront b at value old new end (take end (bits_of old) ++ replicate count bit)
-    filled old between new end count n width wide size touched added many wrote =
+    filled old between new end count n size touched added many wrote =
         let total = div_ceil (end + count) b in
         let d = total - length old in
         let below = div_ceil_times end b some in
@@ -119,17 +128,17 @@ module _ {T : Type 0} (b : ℕ) (at : ℕ → ℕ → ℕ) (value : T → ℕ) (
         let whole : length (bits_of old) + b * d ≡ b * total = ap (λ (k : ℕ). k + b * d) places ∙ sum in
         let inside_old : end ≤ b * length old = rw (← size, touched) (omega arith) in
         let inside : end ≤ length (bits_of old) = omega arith in
-        let tail : n * width - end ≡ length (bits_of old) - end =
-        ap (λ (k : ℕ). k - end) ((let swap : n * b ≡ b * n = omega arith in rw wide swap) ∙ ap (λ (k : ℕ). b * k) size ∙ sym places) in
-        let behind : b * length between - (end + count) ≡ length (bits_of old) + b * d - (end + count) =
-        ap (λ (k : ℕ). k - (end + count)) (ap (λ (k : ℕ). b * k) both ∙ sym whole) in
+        let tail : rest_bits b end ≡ length (bits_of old) - end =
+        ap (λ (k : ℕ). k - end) (ap (λ (k : ℕ). b * k) (sym touched ∙ size) ∙ sym places) in
+        let behind : rest_bits b (end + count) ≡ length (bits_of old) + b * d - (end + count) =
+        ap (λ (k : ℕ). k - (end + count)) (sym whole) in
         let grew : bits_of between ≡ bits_of old ++ replicate (b * d) bit =
         ap bits_of (added ∙ ap (λ (k : ℕ). old ++ replicate k x) rest) ∙ more old d in
         let first : List Bool = write_at (bits_of old ++ replicate (b * d) bit) end (replicate (length (bits_of old) - end) bit) in
         let written : bits_of new ≡ write_at first (end + count) (replicate (length (bits_of old) + b * d - (end + count)) false) =
         wrote
-        ∙ ap (λ (l : List Bool). write_at (write_at l end (replicate (n * width - end) bit)) (end + count) (replicate (b * length between - (end + count)) false)) grew
-        ∙ ap (λ (k : ℕ). write_at (write_at (bits_of old ++ replicate (b * d) bit) end (replicate k bit)) (end + count) (replicate (b * length between - (end + count)) false)) tail
+        ∙ ap (λ (l : List Bool). write_at (write_at l end (replicate (rest_bits b end) bit)) (end + count) (replicate (rest_bits b (end + count)) false)) grew
+        ∙ ap (λ (k : ℕ). write_at (write_at (bits_of old ++ replicate (b * d) bit) end (replicate k bit)) (end + count) (replicate (rest_bits b (end + count)) false)) tail
         ∙ ap (λ (k : ℕ). write_at first (end + count) (replicate k false)) behind in
         let fits : end + count ≤ length (bits_of old) + b * d = omega arith in
         let front : length (take end (bits_of old)) ≡ end = length-take-le end (bits_of old) inside in

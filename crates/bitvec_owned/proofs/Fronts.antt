@@ -106,11 +106,15 @@ module _ {T : Type 0} (b : ℕ) (at : ℕ → ℕ → ℕ) (value : T → ℕ) (
         }
 
     pub around-left : KeepsAround b (shown b at value old start len) (shown b at value new start n)
-    around-left = record { start = refl; zeros = holds }
+    around-left = record {
+      start = refl;
+      front = sym (take-take start (length front) (bits_of new) (omega arith)) ∙ ap (take start) left.bits ∙ kept;
+      zeros = holds;
+    }
 
   -- elements that stayed
   pub same-around : (old new : List T) (start len : ℕ) → new ≡ old → KeepsAround b (shown b at value old start len) (shown b at value new start len)
-  same-around old new start len is = rw is (record { start = refl; zeros = λ was. was })
+  same-around old new start len is = rw is (record { start = refl; front = refl; zeros = λ was. was })
 
   -- ---- bits added at the end
 
@@ -218,13 +222,6 @@ module _ {T : Type 0} (b : ℕ) (at : ℕ → ℕ → ℕ) (value : T → ℕ) (
         count = total ∙ ap (λ (k : ℕ). div_ceil k b) (sym front);
         zeros = λ behind. rw (front, product) (cut-zeros (bits_of old) (bits_of new) end (b * count) (omega arith) (omega arith) written);
       }
-
-  pub cut_by : (old between new : List T) (last end width count : ℕ) → width ≡ b → count ≡ div_ceil end width → between ≡ take count old → end ≤ b * length old → length new ≡ length between
-      → bits_of new ≡ write_at (bits_of between) end (replicate (count * width - end) false) → LeavesFront b at value old new last (take end (bits_of old))
-  cut_by old between new last end width count wide many_are fewer inside many wrote =
-      let rounded : count ≡ div_ceil end b = rw wide at many_are in
-      let product : count * width ≡ b * div_ceil end b = rw (wide, rounded) (omega arith) in
-      cut old between new last end (rw rounded at fewer) inside many (rw product at wrote)
 
   -- a bit became 0, and the last elements were taken
   pub taken : (old between new : List T) (last : ℕ) → last < b * length old → new ≡ take (div_ceil last b) between → length between ≡ length old

@@ -1,9 +1,9 @@
 -- What stands around the bits of a sequence through several calls.
-use Rattle.std.specs.Prelude.{◌≡◌, ℕ, Bool, List}
+use Rattle.std.specs.Prelude.{◌≡◌, ℕ, Bool, List, take}
 use Rattle.std.proofs.Common.{◌∙◌, ap, subst, sym}
 use Rattle.bitvec_base.specs.declared.order.BitOrder.{Ghosts as Order}
 use Rattle.bitvec_base.specs.declared.window.Window.{Window}
-use Rattle.bitvec_slice.specs.Seen.{Seen}
+use Rattle.bitvec_slice.specs.Seen.{Seen, outside_of}
 use Rattle.bitvec_store.specs.declared.store.BitStore.{Ghosts as Store}
 use Rattle.bitvec_owned.specs.Copies.{Holds, KeepsAround}
 use Rattle.bitvec_owned.specs.Owned.{owned}
@@ -25,7 +25,11 @@ module _ {T : Type 0} (b : ℕ) where
 
   -- two calls, one after the other
   pub around-then : (first second last : Seen T) → KeepsAround b first second → KeepsAround b second last → KeepsAround b first last
-  around-then first second last one two = record { start = two.start ∙ one.start; zeros = λ was. two.zeros (one.zeros was) }
+  around-then first second last one two = record {
+    start = two.start ∙ one.start;
+    front = subst (λ (n : ℕ). take n last.memory ≡ take n second.memory) one.start two.front ∙ one.front;
+    zeros = λ was. two.zeros (one.zeros was);
+  }
 
   -- what held a list holds the new bits
   pub holds-then : (before after : Seen T) (list new : List Bool) (from : ℕ) → Holds b list from before → KeepsAround b before after → after.bits ≡ new → Holds b new from after
@@ -34,9 +38,11 @@ module _ {T : Type 0} (b : ℕ) where
 
 -- an edit keeps what stands around the bits
 pub around-written : {T O A : Type 0} {t : Store T} {o : Order O} (before after : BitVec T O A t o) (new : List Bool) → WritesOwned before after new → KeepsAround t.BITS (owned before) (owned after)
+unfolding outside_of
 around-written {t = t} before after new wrote =
     let start = ap (λ (w : Window). w.start) wrote.window in
     record {
       start = start;
+      front = ap (λ (n : ℕ). take n (owned after).memory) (sym start) ∙ ap (λ (p : List Bool × List Bool). p.0) wrote.outside;
       zeros = λ was. holds-own t.BITS (owned after) new (owned before).window.start (wrote.holds (owned before).bits (owned before).window.start was);
     }

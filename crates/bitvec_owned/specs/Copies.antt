@@ -1,5 +1,5 @@
 -- What an owned sequence holds, and what a call that adds or takes bits leaves around them.
-use Rattle.std.specs.Prelude.{◌≡◌, ℕ, ◌+◌, ◌*◌, ◌%◌, ◌==◌, Bool, false, if◌then◌else◌, List, length, replicate}
+use Rattle.std.specs.Prelude.{◌≡◌, ℕ, ◌+◌, ◌*◌, ◌%◌, ◌==◌, Bool, false, if◌then◌else◌, List, length, replicate, take}
 use Rattle.std.specs.Int.{div_ceil}
 use Rattle.bitvec_base.specs.Window.{write_at}
 use Rattle.bitvec_base.specs.declared.window.Window.{Window}
@@ -13,9 +13,11 @@ pub record Holds {T : Type 0} (b : ℕ) (list : List Bool) (from : ℕ) (sequenc
   pub count : length sequence.elements ≡ div_ceil (from + length list) b
   pub memory : sequence.memory ≡ write_at (replicate (b * length sequence.elements) false) from list
 
--- the sequence begins where it did in its first element of b bits; and if it held its bits with zeros around them, it does so afterwards
+-- the sequence begins where it did in its first element of b bits, and the places before its first bit stay; and if it held its bits with zeros around them,
+-- it does so afterwards
 pub record KeepsAround {T : Type 0} (b : ℕ) (before after : Seen T) : Type 0 where
   pub start : after.window.start ≡ before.window.start
+  pub front : take before.window.start after.memory ≡ take before.window.start before.memory
   pub zeros : Holds b before.bits before.window.start before → Holds b after.bits after.window.start after
 
 -- where a copy of a view begins: where the view does in its first element, and at 0 if it is empty

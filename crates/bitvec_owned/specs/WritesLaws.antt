@@ -96,6 +96,7 @@ module _ {T O A : Type 0} {t : Store T} {o : Order O} (some : 0 < t.BITS) (v : B
         memory = ap (λ (s : Seen T). s.memory) left ∙ wrote.bits;
         window = refl;
         length = ap (λ (s : Seen T). length s.elements) left ∙ count;
+        capacity = refl;
         holds = λ list from held. subst (Holds t.BITS new from) (sym left) (holds-then t.BITS o.at t.value old now v.head v.len new inside wrote list from held);
       }
 

@@ -1,6 +1,6 @@
 //! `==` of owned sequences of the same type.
-ghost use Rattle.std.proofs.Common.{rules};
-ghost use Rattle.std.specs.Cmp.Rules.{comparing};
+ghost use Rattle.std.specs.Cmp.{bool_eq_equiv, on_equiv, partial_equiv_from_equiv};
+ghost use Rattle.std.specs.Cmp.Lexicographic.{lists_equiv};
 ghost use Rattle.bitvec_base.specs.Lists.{same_bits};
 ghost use Rattle.bitvec_owned.specs.Owned.{owned};
 
@@ -12,7 +12,7 @@ use std::alloc::Allocator;
 impl<T: BitStore, O: SliceOrder, A: Allocator> PartialEq for BitVec<T, O, A> {
     ghost eq = { λ bits other. same_bits (owned bits).bits (owned other).bits };
 
-    ghost laws = { Prim.search (comparing, rules) };
+    ghost laws = { partial_equiv_from_equiv (on_equiv (λ bits. (owned bits).bits) (lists_equiv bool_eq_equiv)) };
 
     /// Whether the other sequence has the same bits, wherever both begin.
     fn eq(&self, other: &Self) -> bool {
@@ -21,5 +21,5 @@ impl<T: BitStore, O: SliceOrder, A: Allocator> PartialEq for BitVec<T, O, A> {
 }
 
 impl<T: BitStore, O: SliceOrder, A: Allocator> Eq for BitVec<T, O, A> {
-    ghost laws = { Prim.search (comparing, rules) };
+    ghost laws = { on_equiv (λ bits. (owned bits).bits) (lists_equiv bool_eq_equiv) };
 }

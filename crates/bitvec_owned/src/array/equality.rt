@@ -1,6 +1,6 @@
 //! `==` of arrays of bits of the same type.
-ghost use Rattle.std.proofs.Common.{rules};
-ghost use Rattle.std.specs.Cmp.Rules.{comparing};
+ghost use Rattle.std.specs.Cmp.{bool_eq_equiv, on_equiv, partial_equiv_from_equiv};
+ghost use Rattle.std.specs.Cmp.Lexicographic.{lists_equiv};
 ghost use Rattle.bitvec_base.specs.Lists.{same_bits};
 ghost use Rattle.bitvec_owned.specs.Arrays.{in_array};
 
@@ -11,7 +11,7 @@ use bitvec_store::BitStore;
 impl<T: BitStore, O: SliceOrder, const N: usize> PartialEq for BitArray<T, O, N> {
     ghost eq = { λ bits other. same_bits (in_array bits).bits (in_array other).bits };
 
-    ghost laws = { Prim.search (comparing, rules) };
+    ghost laws = { partial_equiv_from_equiv (on_equiv (λ bits. (in_array bits).bits) (lists_equiv bool_eq_equiv)) };
 
     /// Whether the other array has the same bits.
     fn eq(&self, other: &Self) -> bool {
@@ -20,5 +20,5 @@ impl<T: BitStore, O: SliceOrder, const N: usize> PartialEq for BitArray<T, O, N>
 }
 
 impl<T: BitStore, O: SliceOrder, const N: usize> Eq for BitArray<T, O, N> {
-    ghost laws = { Prim.search (comparing, rules) };
+    ghost laws = { on_equiv (λ bits. (in_array bits).bits) (lists_equiv bool_eq_equiv) };
 }

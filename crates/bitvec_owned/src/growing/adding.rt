@@ -1,5 +1,5 @@
 //! Bits added to a sequence by blocks.
-ghost use Rattle.std.specs.Prelude.{◌≡◌, ◌+◌, ◌-◌, ◌<◌, [], ◌++◌, OnErr, if◌then◌else◌, is_ok, length, replicate, take};
+ghost use Rattle.std.specs.Prelude.{◌≡◌, ◌+◌, ◌-◌, ◌<◌, ◌≤◌, [], ◌++◌, OnErr, if◌then◌else◌, is_ok, length, replicate, take};
 ghost use Rattle.bitvec_owned.specs.Copies.{KeepsAround};
 ghost use Rattle.bitvec_slice.specs.Views.{seen};
 ghost use Rattle.bitvec_owned.specs.Owned.{bit_capacity, owned};
@@ -19,6 +19,8 @@ impl<T: BitStore, O: BitOrder, A: Allocator> BitVec<T, O, A> {
         ensures bits { (owned self.new).bits ≡ (if is_ok result
             then take len (owned self.old).bits ++ replicate (len - length (owned self.old).bits) bit else (owned self.old).bits) }
         ensures around { KeepsAround T.BITS (owned self.old) (owned self.new) }
+        ensures full { OnErr result (bit_capacity self.old < len) }
+        ensures capacity { bit_capacity self.old ≤ bit_capacity self.new }
     {
         if len <= self.len {
             self.truncate(len);
@@ -39,6 +41,7 @@ impl<T: BitStore, O: BitOrder, A: Allocator> BitVec<T, O, A> {
         ensures bits { (owned self.new).bits ≡ (if is_ok result then (owned self.old).bits ++ (seen bits.entry).bits else (owned self.old).bits) }
         ensures around { KeepsAround T.BITS (owned self.old) (owned self.new) }
         ensures full { OnErr result (bit_capacity self.old < (owned self.old).window.len + (seen bits.entry).window.len) }
+        ensures capacity { bit_capacity self.old ≤ bit_capacity self.new }
     {
         let more = bits.len();
         put_bits::<T, O, U, P, A>(&mut self.elements, self.head + self.len, bits)?;
@@ -53,6 +56,8 @@ impl<T: BitStore, O: SliceOrder, A: Allocator> BitVec<T, O, A> {
     pub(crate) fn extend_from_block(&mut self, bits: BitSlice<'_, T, O>) -> Result<(), AllocError>
         ensures bits { (owned self.new).bits ≡ (if is_ok result then (owned self.old).bits ++ (seen bits.entry).bits else (owned self.old).bits) }
         ensures around { KeepsAround T.BITS (owned self.old) (owned self.new) }
+        ensures full { OnErr result (bit_capacity self.old < (owned self.old).window.len + (seen bits.entry).window.len) }
+        ensures capacity { bit_capacity self.old ≤ bit_capacity self.new }
     {
         let more = bits.len();
         put_block::<T, O, A>(&mut self.elements, self.head + self.len, bits)?;
@@ -66,6 +71,8 @@ impl<T: BitStore, O: SliceOrder, A: Allocator> BitVec<T, O, A> {
         ensures bits { (owned self.new).bits ≡ (if is_ok result then (owned self.old).bits ++ (owned other.old).bits else (owned self.old).bits) }
         ensures other { (owned other.new).bits ≡ (if is_ok result then [] else (owned other.old).bits) }
         ensures around { KeepsAround T.BITS (owned self.old) (owned self.new) × KeepsAround T.BITS (owned other.old) (owned other.new) }
+        ensures full { OnErr result (bit_capacity self.old < (owned self.old).window.len + (owned other.old).window.len) }
+        ensures capacity { (bit_capacity self.old ≤ bit_capacity self.new) × (bit_capacity other.new ≡ bit_capacity other.old) }
     {
         self.extend_from_block(other.as_bitslice())?;
         other.clear();

@@ -1,15 +1,16 @@
 //! The elements of a sequence get more bits at their end, or lose the last ones.
 ghost use Rattle.std.specs.Prelude.{◌≡◌, ℕ, ◌+◌, ◌-◌, ◌*◌, ◌<◌, ◌≤◌, [], ◌∷◌, ◌++◌, OnErr, OnOk, false, if◌then◌else◌, is_ok, length, map, replicate, slice_index_or, take, vec_capacity, vec_len};
 ghost use Rattle.std.specs.Int.{div_ceil};
-ghost use Rattle.bitvec_base.specs.Memory.{HasWindow, memory_bits};
+ghost use Rattle.bitvec_base.specs.Memory.{memory_bits};
 ghost use Rattle.bitvec_base.specs.Window.{max_bits, write_at};
 ghost use Rattle.bitvec_owned.specs.Fronts.{LeavesFront};
-ghost use Rattle.bitvec_owned.specs.Owned.{usable_bits};
+ghost use Rattle.bitvec_owned.specs.Owned.{rest_bits, usable_bits};
 ghost use Rattle.bitvec_slice.specs.Views.{seen};
 
-use bitvec_base::{BitOrder, MAX_BITS, Window};
+use bitvec_base::{BitOrder, MAX_BITS, Part, Window};
+use bitvec_cells::{Exclusive, fill_part};
 use bitvec_domain::{replace_in, set_in};
-use bitvec_elements::{copy_from_block_in, copy_from_in, fill_in};
+use bitvec_elements::{copy_from_block_in, copy_from_in};
 use bitvec_engine::SliceOrder;
 use bitvec_slice::BitSlice;
 use bitvec_store::BitStore;
@@ -27,6 +28,7 @@ fn make_room<T: BitStore, A: Allocator>(
     ensures len { vec_len elements.new ≡ (if is_ok result then div_ceil end T.BITS else vec_len elements.old) }
     ensures fits { OnOk result (T.BITS * vec_len elements.new ≤ max_bits) }
     ensures full { OnErr result (usable_bits T.BITS (vec_capacity elements.old) < end) }
+    ensures capacity { vec_capacity elements.old ≤ vec_capacity elements.new }
 {
     let width = T::BITS as usize;
     let count = end.div_ceil(width);
@@ -52,6 +54,7 @@ fn make_room_for_bit<T: BitStore, A: Allocator>(
     ensures len { vec_len elements.new ≡ (if is_ok result then div_ceil (end + 1) T.BITS else vec_len elements.old) }
     ensures fits { OnOk result (T.BITS * vec_len elements.new ≤ max_bits) }
     ensures full { OnErr result (usable_bits T.BITS (vec_capacity elements.old) ≤ end) }
+    ensures capacity { vec_capacity elements.old ≤ vec_capacity elements.new }
 {
     let width = T::BITS as usize;
     if end % width != 0 {
@@ -76,6 +79,7 @@ pub(crate) fn put_bit<T: BitStore, O: BitOrder, A: Allocator>(
     ensures kept { OnErr result ((elements.new.items ≡ elements.old.items) × (usable_bits T.BITS (vec_capacity elements.old) ≤ end)) }
     ensures len { vec_len elements.new ≡ (if is_ok result then div_ceil (end + 1) T.BITS else vec_len elements.old) }
     ensures fits { T.BITS * vec_len elements.new ≤ max_bits }
+    ensures capacity { vec_capacity elements.old ≤ vec_capacity elements.new }
 {
     make_room_for_bit(elements, end)?;
     let window = Window { start: end, len: 1 };
@@ -95,6 +99,7 @@ pub(crate) fn put_bits<T: BitStore, O: BitOrder, U: BitStore, P: BitOrder, A: Al
     ensures kept { OnErr result ((elements.new.items ≡ elements.old.items) × (usable_bits T.BITS (vec_capacity elements.old) < end + (seen bits.entry).window.len)) }
     ensures len { vec_len elements.new ≡ (if is_ok result then div_ceil (end + (seen bits.entry).window.len) T.BITS else vec_len elements.old) }
     ensures fits { T.BITS * vec_len elements.new ≤ max_bits }
+    ensures capacity { vec_capacity elements.old ≤ vec_capacity elements.new }
 {
     let from = bits.window();
     make_room(elements, end + from.len, false)?;
@@ -115,9 +120,10 @@ pub(crate) fn put_block<T: BitStore, O: SliceOrder, A: Allocator>(
     requires touched { vec_len elements.old ≡ div_ceil end T.BITS }
     requires bounded { T.BITS * vec_len elements.old ≤ max_bits }
     ensures left { OnOk result (LeavesFront T.BITS O.at T.value elements.old.items elements.new.items end (take end (memory_bits T.BITS O.at (map T.value elements.old.items)) ++ (seen bits.entry).bits)) }
-    ensures kept { OnErr result (elements.new.items ≡ elements.old.items) }
+    ensures kept { OnErr result ((elements.new.items ≡ elements.old.items) × (usable_bits T.BITS (vec_capacity elements.old) < end + (seen bits.entry).window.len)) }
     ensures len { vec_len elements.new ≡ (if is_ok result then div_ceil (end + (seen bits.entry).window.len) T.BITS else vec_len elements.old) }
     ensures fits { T.BITS * vec_len elements.new ≤ max_bits }
+    ensures capacity { vec_capacity elements.old ≤ vec_capacity elements.new }
 {
     let from = bits.window();
     make_room(elements, end + from.len, false)?;
@@ -129,22 +135,41 @@ pub(crate) fn put_block<T: BitStore, O: SliceOrder, A: Allocator>(
     Ok(())
 }
 
-/// Makes each bit of a window `bit`, and then all from the place `end` on 0. Condition: the window and the place lie in the
-/// memory, which has at most `MAX_BITS` bits.
-fn fill_up_to<T: BitStore, O: BitOrder>(elements: &mut [T], window: Window, end: usize, bit: bool)
-    requires window { HasWindow T.BITS (map T.value elements.old) window }
-    requires inside { end ≤ T.BITS * length elements.old }
+/// Makes the bits of an element from a place in it on `bit`: none where an element begins there. It stores at most one
+/// element. Condition: the place lies in the memory or at its end, which has at most `MAX_BITS` bits.
+fn fill_rest<T: BitStore, O: BitOrder>(elements: &mut [T], place: usize, bit: bool)
+    requires inside { place ≤ T.BITS * length elements.old }
+    requires bounded { T.BITS * length elements.old ≤ max_bits }
     ensures bits { memory_bits T.BITS O.at (map T.value elements.new)
-        ≡ write_at (write_at (memory_bits T.BITS O.at (map T.value elements.old)) window.start (replicate window.len bit)) end
-        (replicate (T.BITS * length elements.old - end) false) }
+        ≡ write_at (memory_bits T.BITS O.at (map T.value elements.old)) place (replicate (rest_bits T.BITS place) bit) }
     ensures len { length elements.new ≡ length elements.old }
 {
-    fill_in::<T, O>(elements, window, bit);
-    let behind = Window {
-        start: end,
-        len: elements.len() * T::BITS as usize - end,
+    let width = T::BITS as usize;
+    let from = place % width;
+    if from == 0 {
+        return;
+    }
+    let part = Part {
+        element: place / width,
+        from,
+        to: width,
     };
-    fill_in::<T, O>(elements, behind, false);
+    fill_part::<O, Exclusive<T>>(&mut Exclusive::new(elements), part, bit);
+}
+
+/// Makes the bits of an element from the place `start` on `bit`, and then those of an element from the place `end` on 0.
+/// Condition: as for [`fill_rest`], of both places.
+fn fill_up_to<T: BitStore, O: BitOrder>(elements: &mut [T], start: usize, end: usize, bit: bool)
+    requires inside { start ≤ T.BITS * length elements.old }
+    requires end_inside { end ≤ T.BITS * length elements.old }
+    requires bounded { T.BITS * length elements.old ≤ max_bits }
+    ensures bits { memory_bits T.BITS O.at (map T.value elements.new)
+        ≡ write_at (write_at (memory_bits T.BITS O.at (map T.value elements.old)) start (replicate (rest_bits T.BITS start) bit))
+        end (replicate (rest_bits T.BITS end) false) }
+    ensures len { length elements.new ≡ length elements.old }
+{
+    fill_rest::<T, O>(elements, start, bit);
+    fill_rest::<T, O>(elements, end, false);
 }
 
 /// Adds so many of one bit behind the first `end`. An error where memory is refused and for more than `MAX_BITS` bits; the
@@ -158,20 +183,16 @@ pub(crate) fn put_same<T: BitStore, O: BitOrder, A: Allocator>(
     requires touched { vec_len elements.old ≡ div_ceil end T.BITS }
     requires bounded { T.BITS * vec_len elements.old ≤ max_bits }
     ensures left { OnOk result (LeavesFront T.BITS O.at T.value elements.old.items elements.new.items end (take end (memory_bits T.BITS O.at (map T.value elements.old.items)) ++ replicate count bit)) }
-    ensures kept { OnErr result (elements.new.items ≡ elements.old.items) }
+    ensures kept { OnErr result ((elements.new.items ≡ elements.old.items) × (usable_bits T.BITS (vec_capacity elements.old) < end + count)) }
     ensures len { vec_len elements.new ≡ (if is_ok result then div_ceil (end + count) T.BITS else vec_len elements.old) }
     ensures fits { T.BITS * vec_len elements.new ≤ max_bits }
+    ensures capacity { vec_capacity elements.old ≤ vec_capacity elements.new }
 {
     if count > MAX_BITS {
         return Err(AllocError);
     }
-    let width = T::BITS as usize;
-    let last = Window {
-        start: end,
-        len: elements.len() * width - end,
-    };
     make_room(elements, end + count, bit)?;
-    fill_up_to::<T, O>(elements.as_mut_slice(), last, end + count, bit);
+    fill_up_to::<T, O>(elements.as_mut_slice(), end, end + count, bit);
     Ok(())
 }
 
@@ -186,6 +207,7 @@ pub(crate) fn take_bit<T: BitStore, O: BitOrder, A: Allocator>(
     ensures left { LeavesFront T.BITS O.at T.value elements.old.items elements.new.items (last + 1) (take last (memory_bits T.BITS O.at (map T.value elements.old.items))) }
     ensures len { vec_len elements.new ≡ div_ceil last T.BITS }
     ensures fits { T.BITS * vec_len elements.new ≤ max_bits }
+    ensures capacity { vec_capacity elements.new ≡ vec_capacity elements.old }
 {
     let width = T::BITS as usize;
     let window = Window {
@@ -204,13 +226,9 @@ pub(crate) fn cut_off<T: BitStore, O: BitOrder, A: Allocator>(elements: &mut Vec
     ensures left { (last : ℕ) → LeavesFront T.BITS O.at T.value elements.old.items elements.new.items last (take end (memory_bits T.BITS O.at (map T.value elements.old.items))) }
     ensures len { vec_len elements.new ≡ div_ceil end T.BITS }
     ensures fits { T.BITS * vec_len elements.new ≤ max_bits }
+    ensures capacity { vec_capacity elements.new ≡ vec_capacity elements.old }
 {
     let width = T::BITS as usize;
-    let count = end.div_ceil(width);
-    elements.truncate(count);
-    let window = Window {
-        start: end,
-        len: count * width - end,
-    };
-    fill_in::<T, O>(elements.as_mut_slice(), window, false);
+    elements.truncate(end.div_ceil(width));
+    fill_rest::<T, O>(elements.as_mut_slice(), end, false);
 }

@@ -1,5 +1,5 @@
 //! Bits added and taken at the end of a sequence.
-ghost use Rattle.std.specs.Prelude.{◌≡◌, ◌<◌, ◌≤◌, ◌↔◌, [], ◌∷◌, ◌++◌, IsSome, OnErr, if◌then◌else◌, is_ok, length, take};
+ghost use Rattle.std.specs.Prelude.{◌≡◌, ◌+◌, ◌<◌, ◌≤◌, ◌↔◌, [], ◌∷◌, ◌++◌, IsSome, OnErr, if◌then◌else◌, is_ok, length, take};
 ghost use Rattle.std.specs.Option.{option_to_list};
 ghost use Rattle.bitvec_owned.specs.Copies.{KeepsAround};
 ghost use Rattle.bitvec_owned.specs.Owned.{bit_capacity, owned};
@@ -20,10 +20,13 @@ impl<T: BitStore, O: BitOrder, A: Allocator> BitVec<T, O, A> {
     pub fn push(&mut self, bit: bool) -> Result<(), AllocError>
         ensures bits { (owned self.new).bits ≡ (if is_ok result then (owned self.old).bits ++ bit ∷ [] else (owned self.old).bits) }
         ensures around { KeepsAround T.BITS (owned self.old) (owned self.new) }
+        ensures len { (owned self.new).window.len ≡ (if is_ok result then (owned self.old).window.len + 1 else (owned self.old).window.len) }
         ensures full { OnErr result (bit_capacity self.old ≤ (owned self.old).window.len) }
+        ensures capacity { bit_capacity self.old ≤ bit_capacity self.new }
     {
-        put_bit::<T, O, A>(&mut self.elements, self.head + self.len, bit)?;
-        self.len += 1;
+        let len = self.len;
+        put_bit::<T, O, A>(&mut self.elements, self.head + len, bit)?;
+        self.len = len + 1;
         Ok(())
     }
 
@@ -31,7 +34,9 @@ impl<T: BitStore, O: BitOrder, A: Allocator> BitVec<T, O, A> {
     pub fn pop(&mut self) -> Option<bool>
         ensures bits { (owned self.old).bits ≡ (owned self.new).bits ++ option_to_list result }
         ensures some { IsSome result ↔ (0 < length (owned self.old).bits) }
+        ensures len { (owned self.new).window.len + length (option_to_list result) ≡ (owned self.old).window.len }
         ensures around { KeepsAround T.BITS (owned self.old) (owned self.new) }
+        ensures capacity { bit_capacity self.new ≡ bit_capacity self.old }
     {
         if self.len == 0 {
             return None;
@@ -46,6 +51,7 @@ impl<T: BitStore, O: BitOrder, A: Allocator> BitVec<T, O, A> {
     pub fn truncate(&mut self, len: usize)
         ensures bits { (owned self.new).bits ≡ take len (owned self.old).bits }
         ensures around { KeepsAround T.BITS (owned self.old) (owned self.new) }
+        ensures capacity { bit_capacity self.new ≡ bit_capacity self.old }
     {
         if len < self.len {
             cut_off::<T, O, A>(&mut self.elements, self.head + len);
@@ -57,6 +63,7 @@ impl<T: BitStore, O: BitOrder, A: Allocator> BitVec<T, O, A> {
     pub fn clear(&mut self)
         ensures bits { (owned self.new).bits ≡ [] }
         ensures around { KeepsAround T.BITS (owned self.old) (owned self.new) }
+        ensures capacity { bit_capacity self.new ≡ bit_capacity self.old }
     {
         self.truncate(0);
     }

@@ -1,5 +1,5 @@
 //! Sequences made of bits, of truth values, and of elements.
-ghost use Rattle.std.specs.Prelude.{◌≡◌, ◌+◌, ◌-◌, ◌*◌, ◌<◌, ◌≤◌, IfOk, take, vec_capacity, vec_len};
+ghost use Rattle.std.specs.Prelude.{◌≡◌, ◌+◌, ◌-◌, ◌*◌, ◌<◌, ◌≤◌, IfOk, IsOk, take, vec_capacity, vec_len};
 ghost use Rattle.std.specs.Int.{div_ceil};
 ghost use Rattle.bitvec_base.specs.Window.{max_bits};
 ghost use Rattle.bitvec_owned.specs.Copies.{Holds};
@@ -20,7 +20,8 @@ impl<T: BitStore, O: BitOrder, A: Allocator> BitVec<T, O, A> {
         alloc: A,
         bits: BitSlice<'_, U, P>,
     ) -> Result<Self, AllocError>
-        ensures { IfOk result (λ made. Holds T.BITS (seen bits.entry).bits 0 (owned made)) }
+        ensures copy { IfOk result (λ made. Holds T.BITS (seen bits.entry).bits 0 (owned made)) }
+        ensures none { (seen bits.entry).window.len ≡ 0 → IsOk result }
     {
         let mut made = BitVec::new_in(alloc);
         made.extend_from_bitslice(bits)?;

@@ -1,8 +1,8 @@
 //! Bits added and taken within a sequence.
-ghost use Rattle.std.specs.Prelude.{◌≡◌, ◌<◌, ◌≤◌, false, if◌then◌else◌, is_ok, slice_index_or};
+ghost use Rattle.std.specs.Prelude.{◌≡◌, ◌+◌, ◌<◌, ◌≤◌, OnErr, false, if◌then◌else◌, is_ok, slice_index_or};
 ghost use Rattle.std.specs.List.{insert, remove, swap_remove};
 ghost use Rattle.bitvec_owned.specs.Copies.{KeepsAround};
-ghost use Rattle.bitvec_owned.specs.Owned.{owned};
+ghost use Rattle.bitvec_owned.specs.Owned.{bit_capacity, owned};
 
 use crate::BitVec;
 use bitvec_edit::BitEdits;
@@ -17,6 +17,9 @@ impl<T: BitStore, O: SliceOrder, A: Allocator> BitVec<T, O, A> {
         requires { index ≤ (owned self.old).window.len }
         ensures bits { (owned self.new).bits ≡ (if is_ok result then insert (owned self.old).bits index bit else (owned self.old).bits) }
         ensures around { KeepsAround T.BITS (owned self.old) (owned self.new) }
+        ensures len { (owned self.new).window.len ≡ (if is_ok result then (owned self.old).window.len + 1 else (owned self.old).window.len) }
+        ensures full { OnErr result (bit_capacity self.old ≤ (owned self.old).window.len) }
+        ensures capacity { bit_capacity self.old ≤ bit_capacity self.new }
     {
         let len = self.len();
         self.push(bit)?;
@@ -31,6 +34,7 @@ impl<T: BitStore, O: SliceOrder, A: Allocator> BitVec<T, O, A> {
         ensures value { result ≡ slice_index_or (owned self.old).bits index false }
         ensures bits { (owned self.new).bits ≡ remove (owned self.old).bits index }
         ensures around { KeepsAround T.BITS (owned self.old) (owned self.new) }
+        ensures capacity { bit_capacity self.new ≡ bit_capacity self.old }
     {
         let len = self.len();
         let bit = self.as_bitslice()[index];
@@ -45,6 +49,7 @@ impl<T: BitStore, O: SliceOrder, A: Allocator> BitVec<T, O, A> {
         ensures value { result ≡ slice_index_or (owned self.old).bits index false }
         ensures bits { (owned self.new).bits ≡ swap_remove (owned self.old).bits index result }
         ensures around { KeepsAround T.BITS (owned self.old) (owned self.new) }
+        ensures capacity { bit_capacity self.new ≡ bit_capacity self.old }
     {
         let last = self.len() - 1;
         let bit = self.as_bitslice()[index];

@@ -3,7 +3,7 @@ ghost use Rattle.std.specs.Prelude.{◌≡◌, ◌≤◌, IfOk, drop, if◌then�
 ghost use Rattle.std.specs.List.{remove_range};
 ghost use Rattle.bitvec_owned.specs.Copies.{Holds, KeepsAround};
 ghost use Rattle.bitvec_slice.specs.Indices.{HasRange};
-ghost use Rattle.bitvec_owned.specs.Owned.{owned};
+ghost use Rattle.bitvec_owned.specs.Owned.{bit_capacity, owned};
 
 use crate::BitVec;
 use bitvec_edit::BitEdits;
@@ -31,6 +31,7 @@ impl<T: BitStore, O: SliceOrder, A: Allocator + Clone> BitVec<T, O, A> {
         ensures rest { IfOk result (λ rest. Holds T.BITS (drop at (owned self.old).bits) 0 (owned rest)) }
         ensures bits { (owned self.new).bits ≡ (if is_ok result then take at (owned self.old).bits else (owned self.old).bits) }
         ensures around { KeepsAround T.BITS (owned self.old) (owned self.new) }
+        ensures capacity { bit_capacity self.new ≡ bit_capacity self.old }
     {
         let rest = self.copy_of_range(at..self.len())?;
         self.truncate(at);
@@ -45,6 +46,7 @@ impl<T: BitStore, O: SliceOrder, A: Allocator + Clone> BitVec<T, O, A> {
         ensures part { IfOk result (λ part. Holds T.BITS (slice_range (owned self.old).bits range.start range.end) 0 (owned part)) }
         ensures bits { (owned self.new).bits ≡ (if is_ok result then remove_range (owned self.old).bits range.start range.end else (owned self.old).bits) }
         ensures around { KeepsAround T.BITS (owned self.old) (owned self.new) }
+        ensures capacity { bit_capacity self.new ≡ bit_capacity self.old }
     {
         let len = self.len();
         let start = range.start;

@@ -5,7 +5,7 @@ ghost use Rattle.bitvec_base.specs.Memory.{HasWindow, Writes, list_in};
 ghost use Rattle.bitvec_owned.specs.Copies.{KeepsAround};
 ghost use Rattle.bitvec_owned.specs.Retained.{Retains};
 ghost use Rattle.bitvec_split.specs.Asked.{MayAsk};
-ghost use Rattle.bitvec_owned.specs.Owned.{owned};
+ghost use Rattle.bitvec_owned.specs.Owned.{bit_capacity, owned};
 
 use crate::BitVec;
 use bitvec_base::{BitOrder, Window};
@@ -51,6 +51,7 @@ impl<T: BitStore, O: BitOrder, A: Allocator> BitVec<T, O, A> {
         ensures bits { Retains P.FnMut pred (owned self.old).bits (owned self.new).bits }
         ensures bound { (owned self.new).window.len ≤ (owned self.old).window.len }
         ensures around { KeepsAround T.BITS (owned self.old) (owned self.new) }
+        ensures capacity { bit_capacity self.new ≡ bit_capacity self.old }
     {
         let window = Window {
             start: self.head,

@@ -27,6 +27,7 @@ impl<T: BitStore, O: BitOrder, A: Allocator> BitVec<T, O, A> {
         requires room { (owned self.old).window.len + len ≤ bit_capacity self.old }
         ensures bits { (owned self.new).bits ≡ (owned self.old).bits ++ drop (64 - len) (element_bits 64 (λ b i. i) word) }
         ensures around { KeepsAround T.BITS (owned self.old) (owned self.new) }
+        ensures capacity { bit_capacity self.old ≤ bit_capacity self.new }
     {
         let word = [word];
         let _ = self.extend_from_bitslice(BitSlice::<u64, Lsb0>::from_parts(&word, 64 - len, len));
@@ -34,7 +35,7 @@ impl<T: BitStore, O: BitOrder, A: Allocator> BitVec<T, O, A> {
 }
 
 impl<T: BitStore, O: BitOrder, A: Allocator> Extend<bool> for BitVec<T, O, A> {
-    ghost extend_gives = { λ before list after. ((owned after).bits ≡ (owned before).bits ++ list) × KeepsAround T.BITS (owned before) (owned after) };
+    ghost extend_gives = { λ before list after. ((owned after).bits ≡ (owned before).bits ++ list) × KeepsAround T.BITS (owned before) (owned after) × (bit_capacity before ≤ bit_capacity after) };
 
     /// Adds the truth values that an iterator gives, as bits, up to 64 at a time. Memory is asked for as by
     /// [`BitVec::push`], before the bit that needs it is held: an error where it is refused, and the bits before are added.

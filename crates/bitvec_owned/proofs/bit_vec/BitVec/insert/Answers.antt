@@ -6,6 +6,7 @@ use Rattle.bitvec_store.specs.WidthLaws.{width_some}
 use Rattle.bitvec_owned.proofs.Middles.{opened}
 use Rattle.bitvec_owned.specs.Owned.{owned}
 use Rattle.bitvec_owned.specs.WritesLaws.{length-owned}
+use Rattle.bitvec_owned.specs.AroundLaws.{around-then, around-written}
 use Rattle.bitvec_owned.proofs.bit_vec.BitVec.insert.Goals as goal
 
 pub copy_within-requires : goal.copy_within-requires
@@ -34,3 +35,11 @@ returns-clause-bits g c =
     c.set.ensures.bits
     ∙ ap (λ (l : List Bool). slice_set l c.args.index c.args.bit) (c.copy_within.ensures.bits ∙ ap (copied_within c.args.index c.len-len.result (c.args.index + 1)) c.in_ok-push.ensures.bits)
     ∙ opened old c.args.bit c.args.bit c.args.index c.len-len.result long (omega arith)
+
+pub returns-clause-around : goal.returns-clause-around
+returns-clause-around g c =
+    let pushed = c.push.new.self in
+    let moved = c.copy_within.new.self in
+    let last = c.set.new.self in
+    around-then _ (owned c.args.self.now) (owned pushed) (owned last) c.in_ok-push.ensures.around
+    (around-then _ (owned pushed) (owned moved) (owned last) (around-written pushed moved _ c.copy_within.ensures) (around-written moved last _ c.set.ensures))

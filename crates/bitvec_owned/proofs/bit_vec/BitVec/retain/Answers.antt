@@ -26,4 +26,5 @@ returns g c =
       bits = subst (Retains g.P.FnMut c.args.pred (owned old).bits) (sym left) (rw c.as_raw_mut_slice.ensures.elements at wrote.2);
       bound = omega arith;
       around = around-then _ (owned old) (owned moved) (owned c.truncate.new.self) (around-written old moved wrote.0 written) c.truncate.ensures.around;
+      capacity = c.truncate.ensures.capacity;
     }

@@ -12,6 +12,6 @@ returns-clause-left g c =
     let size : length c.fill_up_to.new.elements ≡ room.len = c.fill_up_to.ensures.len ∙ c.as_mut_slice.ensures.len in
     let bits = filling _ _ g.T.BitStore.value g.T.BitStore.ALL g.T.BitStore.ZERO (g.met.O.BitOrder.permutes _ width) g.met.T.BitStore.all_law g.met.T.BitStore.zero_law c.args.bit in
     rw (refilled c.fill_up_to.new.elements room.items room.len size)
-    (filled _ _ _ (width_some _ width) _ c.args.bit bits old.items room.items c.fill_up_to.new.elements c.args.end c.args.count old.len c.BITS-width.result
-    c.BITS-width.ensures old.ok.0 c.requires.touched c.in_ok-make_room.ensures.items (size ∙ room.ok.0)
-    (rw (c.as_mut_slice.ensures.value, c.len.ensures) at c.fill_up_to.ensures.bits))
+    (filled _ _ _ (width_some _ width) _ c.args.bit bits old.items room.items c.fill_up_to.new.elements c.args.end c.args.count old.len
+    old.ok.0 c.requires.touched c.in_ok-make_room.ensures.items (size ∙ room.ok.0)
+    (rw c.as_mut_slice.ensures.value at c.fill_up_to.ensures.bits))

@@ -9,5 +9,6 @@ invariant-loop-bit g l = record {
   few : l.held ≤ l.room;
   bound : l.room ≤ 64;
   there : (owned l.self).window.len + l.room ≤ bit_capacity l.self;
+  capacity : bit_capacity l.fn.self ≤ bit_capacity l.self;
   held : Held g.T.BitStore.BITS (owned l.fn.self) (owned l.self) l.yielded l.word l.held;
 }
