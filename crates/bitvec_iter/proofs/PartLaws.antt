@@ -1,18 +1,29 @@
 -- A part of a view shows what the view shows at its indices.
-use Rattle.std.specs.Prelude.{◌≡◌, ℕ, ◌+◌, ◌<◌, Bool, List, length, map}
-use Rattle.std.proofs.Common.{arith, ◌∙◌, ap}
+use Rattle.std.specs.Prelude.{◌≡◌, ℕ, ◌+◌, ◌-◌, ◌*◌, ◌%◌, ◌<◌, ◌≤◌, ◌↔◌, Bool, IfSome, IsSome, IsTrue, List, None, Option, Some, length, map, nat_lt, slice_range, refl, true}
+use Rattle.std.proofs.Common.{arith, ◌∙◌, ap, sym}
+use Rattle.std.proofs.lemmas.Bool.Decides.{nat_tests}
 use Rattle.std.specs.declared.ops.Range.{Range}
 use Rattle.bitvec_base.specs.Memory.{memory_bits}
 use Rattle.bitvec_base.specs.SliceLaws.{range-map}
-use Rattle.bitvec_cutting.specs.Cutting.{LiesIn}
+use Rattle.bitvec_cutting.specs.Cutting.{LiesIn, cut}
 use Rattle.bitvec_base.specs.MemoryLaws.{memory-range}
+use Rattle.bitvec_domain.specs.Refill.{with_range}
+use Rattle.bitvec_store.specs.Width.{IsWidth}
+use Rattle.bitvec_store.specs.WidthLaws.{width_some}
 use Rattle.bitvec_store.specs.declared.store.BitStore.{Ghosts as Store}
 use Rattle.bitvec_base.specs.declared.order.BitOrder.{Ghosts as Order}
-use Rattle.bitvec_slice.specs.Seen.{IsRangeOf, Seen}
+use Rattle.bitvec_domain.specs.declared.reference_mut.BitRefMut.{BitRefMut}
+use Rattle.bitvec_slice.specs.Indices.{WritesBitOf}
+use Rattle.bitvec_slice.specs.LentLaws.{bit-of_part}
+use Rattle.bitvec_slice.specs.MayLend.{IsBitOfView}
+use Rattle.bitvec_slice.specs.Seen.{IsGiven, IsRangeOf, Seen, shown}
+use Rattle.bitvec_slice.specs.SeenLaws.{part_view}
 use Rattle.bitvec_slice.specs.ShowingLaws.{shows-seen}
-use Rattle.bitvec_slice.specs.TouchedLaws.{touches}
-use Rattle.bitvec_slice.specs.Views.{seen}
+use Rattle.bitvec_slice.specs.Touched.{end_touched, first_touched}
+use Rattle.bitvec_slice.specs.TouchedLaws.{touched_end, touched_few, touched_holds, touches}
+use Rattle.bitvec_slice.specs.Views.{seen, seen_mut}
 use Rattle.bitvec_slice.specs.declared.view.BitSlice.{BitSlice}
+use Rattle.bitvec_slice.specs.declared.view_mut.BitSliceMut.{BitSliceMut}
 use Rattle.bitvec_iter.specs.Parts.{subview}
 
 abbrev shows : {T : Type 0} → List Bool → List T → List Bool → ℕ → ℕ → Seen T
@@ -36,3 +47,35 @@ module _ {T O : Type 0} {t : Store T} {o : Order O} (view part : BitSlice T O t 
       ∙ ap (memory_bits t.BITS o.at) (range-map t.value elements _ _)
       ∙ memory-range t.BITS o.at xs _ _ some are.order are.bound)
       is.start is.len
+
+-- the elements from `start` up to `end` are those that the bits from the index `from` up to `to` touch
+module _ {X : Type 0} {b : ℕ} (xs : List X) (head len from to start end : ℕ) (width : IsWidth b) (inside : head + len ≤ b * length xs) (order : from ≤ to) (bound : to ≤ len) (first : start ≡ first_touched b (head + from)) (last : end ≡ end_touched b (head + to)) where
+  pub part-end : end ≤ length xs
+  part-end = rw last (touched_end b xs head len from to (width_some b width) inside order bound)
+
+  -- what is left there is left in their lender
+  pub part-left : {Y : Type 0} (end_as : List X → Y) (ws : List X) → end_as (with_range xs start end ws) ≡ end_as (with_range xs (first_touched b (head + from)) (end_touched b (head + to)) ws)
+  part-left end_as ws = rw (first, last) refl
+
+  module _ (w : ℕ) (ys : List X) (are : ys ≡ slice_range xs start end) (is : w ≡ b) where
+    pub part-holds : (head + from) % w + (to - from) ≤ b * length ys
+    part-holds = rw (is, are, first, last) (touched_holds b xs head len from to (width_some b width) inside order bound)
+
+    pub part-few : (most : ℕ) → b * length xs ≤ most → b * length ys ≤ most
+    part-few most few = rw (are, first, last) (touched_few b xs head len from to (width_some b width) inside order bound most few)
+
+    pub part-shown : (at : ℕ → ℕ → ℕ) (value : X → ℕ) (part : Seen X) → part ≡ shown b at value ys ((head + from) % w) (to - from) → IsRangeOf b (shown b at value xs head len) from to part
+    part-shown at value part view = part_view b at value xs head len inside part from to width order bound (rw (are, first, last, is) at view)
+
+-- the bits of a part of a view of which it is known what it shows
+pub shown-bits : {T : Type 0} (bits : List Bool) (view whole : Seen T) (range place : Range ℕ) → bits ≡ slice_range view.bits range.start range.end → view ≡ whole → range ≡ place → bits ≡ cut whole.bits place
+shown-bits bits view whole range place is shows there = rw (← there, ← shows) is
+
+tested : (m n : ℕ) → (nat_lt m n ≡ true) ↔ (m < n)
+tested m n = ((λ is. grind (arith, nat_tests)), λ is. grind (arith, nat_tests))
+
+-- a reference to a bit, which is given exactly where one was lent
+module _ {T O : Type 0} {t : Store T} {o : Order O} (view : Seen T) (index m n : ℕ) (has : Bool) (part : BitSliceMut T O t o) where
+  pub bit-given : (r : Option (BitRefMut T O t o)) → has ≡ nat_lt m n → (IsTrue has → IsRangeOf t.BITS view index (index + 1) (seen_mut part)) → (IsSome r ↔ IsTrue has) → IfSome r (λ bit. IsBitOfView part bit) → IsGiven (m < n) (WritesBitOf view index) r
+  bit-given None left is some bit = record { some = ((λ s. (tested m n).0 (sym left ∙ some.0 s)), λ l. some.1 (left ∙ (tested m n).1 l)); gives = tt }
+  bit-given (Some r) left is some bit = record { some = ((λ s. (tested m n).0 (sym left ∙ some.0 s)), λ l. some.1 (left ∙ (tested m n).1 l)); gives = bit-of_part view index part r (is (some.0 refl)) bit }

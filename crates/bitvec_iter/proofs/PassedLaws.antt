@@ -2,7 +2,6 @@
 use Rattle.std.specs.Prelude.{◌≡◌, ℕ, ◌+◌, ◌-◌, min, nat_lt, true}
 use Rattle.std.proofs.Common.{arith}
 use Rattle.std.proofs.lemmas.Bool.Decides.{nat_tests}
-use Rattle.bitvec_slice.specs.LentLaws.{bit-of_part}
 
 pub left-behind : (front back count : ℕ) → nat_lt (front + min count (back - front)) back ≡ nat_lt count (back - front)
 left-behind front back count = grind (arith, nat_tests)
@@ -12,6 +11,3 @@ left-before front back count = grind (arith, nat_tests)
 
 pub passed-all : (count left : ℕ) → nat_lt count left ≡ true → min count left ≡ count
 passed-all count left below = grind (arith, nat_tests)
-
--- that the one bit of a part is the view's, for `using`
-pub ruleset one_bit = (bit-of_part)

@@ -190,7 +190,6 @@ impl<'a, T: BitStore, O: BitOrder> IterMut<'a, T, O> {
     }
 
     /// The first bit that is left: `None` exactly where none is.
-    #[tactic(auto, using(crate::proofs::PassedLaws::one_bit))]
     pub fn next_mut(&mut self) -> Option<BitRefMut<'_, T, O>>
         ensures { IsGiven ((bit_walk_of self.old).front < (bit_walk_of self.old).back)
             (WritesBitOf (bit_walk_of self.old).view (bit_walk_of self.old).front) result }
@@ -199,7 +198,6 @@ impl<'a, T: BitStore, O: BitOrder> IterMut<'a, T, O> {
     }
 
     /// The last bit that is left: `None` exactly where none is.
-    #[tactic(auto, using(crate::proofs::PassedLaws::one_bit))]
     pub fn next_back_mut(&mut self) -> Option<BitRefMut<'_, T, O>>
         ensures { IsGiven ((bit_walk_of self.old).front < (bit_walk_of self.old).back)
             (WritesBitOf (bit_walk_of self.old).view ((bit_walk_of self.old).back - 1)) result }
@@ -209,7 +207,6 @@ impl<'a, T: BitStore, O: BitOrder> IterMut<'a, T, O> {
 
     /// The bit behind the first `skipped` that are left: `None` exactly where there are no more than
     /// `skipped`.
-    #[tactic(auto, using(crate::proofs::PassedLaws::one_bit))]
     pub fn nth_mut(&mut self, skipped: usize) -> Option<BitRefMut<'_, T, O>>
         ensures { IsGiven (skipped < (bit_walk_of self.old).back - (bit_walk_of self.old).front)
             (WritesBitOf (bit_walk_of self.old).view ((bit_walk_of self.old).front + skipped)) result }
@@ -219,7 +216,6 @@ impl<'a, T: BitStore, O: BitOrder> IterMut<'a, T, O> {
 
     /// The bit before the last `skipped` that are left: `None` exactly where there are no more than
     /// `skipped`.
-    #[tactic(auto, using(crate::proofs::PassedLaws::one_bit))]
     pub fn nth_back_mut(&mut self, skipped: usize) -> Option<BitRefMut<'_, T, O>>
         ensures { IsGiven (skipped < (bit_walk_of self.old).back - (bit_walk_of self.old).front)
             (WritesBitOf (bit_walk_of self.old).view ((bit_walk_of self.old).back - 1 - skipped)) result }

@@ -5,6 +5,7 @@ ghost use Rattle.std.specs.List.{join_by};
 ghost use Rattle.bitvec_domain.specs.Listing.{bits_text, comma, listed};
 ghost use Rattle.bitvec_iter.specs.LentWalk.{lists_left};
 
+use crate::texts::{close_list, open_list};
 use crate::{HalvesMut, IterMut, PiecesMut};
 use bitvec_base::BitOrder;
 use bitvec_cutting::Cutting;
@@ -59,12 +60,9 @@ impl<'a, T: BitStore, O: BitOrder, C: Cutting> fmt::Debug for PiecesMut<'a, T, O
 
     #[tactic(auto, unfolding(bitvec_domain::specs::Listing::listed))]
     fn fmt<W: fmt::Write>(&self, f: &mut fmt::Formatter<W>) -> fmt::Result {
-        f.write_str("PiecesMut")?;
-        f.write_str("(")?;
-        f.write_str("[")?;
+        open_list("PiecesMut", f)?;
         self.write_pieces(f)?;
-        f.write_str("]")?;
-        f.write_str(")")
+        close_list(f)
     }
 }
 

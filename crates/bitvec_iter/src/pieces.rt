@@ -51,7 +51,6 @@ impl<'a, T: BitStore, O: BitOrder, C: Cutting> Pieces<'a, T, O, C> {
     ghost use Rattle.bitvec_iter.specs.Parts.{parts_of};
 
     /// All pieces of a view. `bitvec` has no such call: it has one for each way to cut.
-    #[tactic(auto, using(crate::proofs::LeftLaws::stepping))]
     pub fn new(view: BitSlice<'a, T, O>, cutting: C) -> Self
         ensures pieces { pieces_left result ≡ parts_of T.BITS (seen view.entry) (C.pieces cutting) (C.place cutting) }
         ensures view { walked result ≡ seen view.entry }
@@ -67,7 +66,6 @@ impl<'a, T: BitStore, O: BitOrder, C: Cutting> Pieces<'a, T, O, C> {
         }
     }
 
-    #[tactic(auto, using(crate::proofs::LeftLaws::stepping))]
     pub(crate) fn piece(&self, number: usize) -> BitSlice<'a, T, O>
         requires { number < C.pieces (cut_by self.now) (walked self.now).window.len }
         ensures { seen result ≡ piece_at self.now number }
@@ -126,10 +124,11 @@ impl<'a, T: BitStore, O: BitOrder, C: Cutting> Iterator for Pieces<'a, T, O, C> 
     ghost remaining = { item_count (λ it. pieces_left it) };
 
     /// The first of the pieces that are still to come.
-    #[tactic(auto, using(crate::proofs::LeftLaws::stepping))]
     fn next(&mut self) -> Option<BitSlice<'a, T, O>> {
-        let number = self.numbers.next()?;
-        Some(self.piece(number))
+        match self.numbers.next() {
+            Some(number) => Some(self.piece(number)),
+            None => None,
+        }
     }
 
     #[tactic(auto, using(crate::proofs::LeftLaws::stepping))]
@@ -149,16 +148,16 @@ impl<'a, T: BitStore, O: BitOrder, C: Cutting> DoubleEndedIterator for Pieces<'a
     ghost next_back_gives = { λ before piece after. TakesLast before piece after };
 
     /// The last of the pieces that are still to come.
-    #[tactic(auto, using(crate::proofs::LeftLaws::stepping))]
     fn next_back(&mut self) -> Option<BitSlice<'a, T, O>> {
-        let number = self.numbers.next_back()?;
-        Some(self.piece(number))
+        match self.numbers.next_back() {
+            Some(number) => Some(self.piece(number)),
+            None => None,
+        }
     }
 }
 
 impl<'a, T: BitStore, O: BitOrder, C: Cutting> ExactSizeIterator for Pieces<'a, T, O, C> {
     /// How many pieces are still to come.
-    #[tactic(auto, using(crate::proofs::LeftLaws::stepping))]
     fn len(&self) -> usize {
         self.numbers.len()
     }

@@ -1,15 +1,15 @@
-use Rattle.std.proofs.Common.{◌≡◌, ◌∙◌, ◌+◌, ◌-◌, ℕ, List, Bool, ap, arith, length, rules, slice_index_or, sym}
-use Rattle.std.specs.Fmt.{HasWritten}
+use Rattle.std.proofs.Common.{◌≡◌, ◌∙◌, ◌+◌, ◌-◌, ℕ, List, Bool, ap, arith, length, refl, slice_index_or, sym}
 use Rattle.std.specs.List.{join_by}
 use Rattle.std.proofs.Output.{has_written_append, has_written_of_eq}
 use Rattle.std.proofs.lemmas.List.{take_all}
 use Rattle.bitvec_cutting.specs.Cutting.{cut}
 use Rattle.bitvec_cutting.specs.WalkLaws.{walk_at, walk_length}
 use Rattle.bitvec_domain.specs.ListingLaws.{join_by-more}
-use Rattle.bitvec_domain.specs.Listing.{bits_text, comma, separator}
+use Rattle.bitvec_domain.specs.Listing.{bits_text, comma}
 use Rattle.bitvec_slice.specs.Views.{seen}
 use Rattle.bitvec_iter.specs.LentPieces.{walk_of}
 use Rattle.bitvec_iter.specs.LentWalk.{lists_left}
+use Rattle.bitvec_iter.proofs.PartLaws.{shown-bits}
 use Rattle.bitvec_iter.proofs.lent_pieces.PiecesMut.write_pieces.Goals as goal
 
 pub loop-index-preserved : goal.loop-index-preserved
@@ -22,9 +22,9 @@ loop-index-preserved g c = λ plain.
     let here = piece (w.front + index) in
     let is : slice_index_or all index here ≡ here = walk_at piece w.front w.back index (w.front + index) here (omega arith) (omega arith) in
     let so_far = c.loop-index.invariant plain in
-    let lead : HasWritten g.W.Write.write_str_gives c.loop-index.f (separator index) c.write_str.new.self = search rules in
-    let wrote : HasWritten g.W.Write.write_str_gives c.write_str.new.self (bits_text (seen c.into_part.result).bits) c.fmt.new.f = search rules in
-    let bits : (seen c.into_part.result).bits ≡ here = search rules in
+    let lead = has_written_of_eq _ _ _ _ _ c.separator_before.ensures (c.in_ok-write_str.ensures.writes so_far.plain refl) in
+    let wrote = c.in_ok-fmt.ensures.writes lead.plain refl in
+    let bits = shown-bits _ _ _ _ _ c.into_part.ensures.bits c.from_parts-view.ensures c.piece-places.ensures in
     let text : bits_text (seen c.into_part.result).bits ≡ bits_text (slice_index_or all index here) = ap bits_text (bits ∙ sym is) in
     has_written_of_eq _ _ _ _ _ (join_by-more bits_text all index here (omega arith))
     (has_written_append _ _ _ _ _ _ so_far (has_written_append _ _ _ _ _ _ lead (has_written_of_eq _ _ _ _ _ text wrote)))
