@@ -1,3 +1,4 @@
 pub mod Cursors
+pub mod Ends
 pub mod Refilled
 pub mod Windows

@@ -1,8 +1,8 @@
 -- What is written into a window of a memory's bits, by the words on ranges and on whole lists.
 use Rattle.std.specs.Prelude.{◌≡◌, ℕ, ◌+◌, ◌-◌, ◌*◌, ◌≤◌, Bool, false, List, length, slice_index_or, slice_range, slice_set, map, not}
 use Rattle.std.specs.List.{swap}
-use Rattle.std.proofs.Common.{arith, sym, ◌∙◌, ap}
-use Rattle.std.proofs.lemmas.List.{length-set}
+use Rattle.std.proofs.Common.{arith, refl, sym, ◌∙◌, ap}
+use Rattle.std.proofs.lemmas.List.{length-map, length-set}
 use Rattle.std.proofs.lemmas.List.Edits.{length-swap}
 use Rattle.bitvec_base.specs.LengthLaws as lasting
 use Rattle.bitvec_within.specs.Combined.{combined_within}
@@ -10,16 +10,16 @@ use Rattle.bitvec_within.specs.CombinedLaws.{length-combined_within}
 use Rattle.bitvec_base.specs.Lists.{combined, copied_within}
 use Rattle.bitvec_base.specs.CountLaws.{ones_and_zeros}
 use Rattle.bitvec_base.specs.LeadingLaws.{first_run, last_run}
-use Rattle.bitvec_base.specs.Memory.{Writes, memory_bits}
+use Rattle.bitvec_base.specs.Memory.{HasWindow, Writes, memory_bits}
 use Rattle.bitvec_base.specs.SliceLaws.{range-all}
-use Rattle.bitvec_base.specs.Window.{window_of, write_at}
+use Rattle.bitvec_base.specs.Window.{max_bits, window_of, write_at}
 use Rattle.bitvec_base.specs.WriteLaws.{length-slice_range, range-write_at, write_at-all}
 use Rattle.bitvec_base.specs.declared.window.Window.{Window}
 use Rattle.bitvec_segments.specs.Segments.{loaded, stored}
 use Rattle.bitvec_within.specs.Swaps.{swapped_within}
 use Rattle.bitvec_in_place.specs.MovedLaws.{get-put_outside, length-bits_of, length-put, length-swapped}
 use Rattle.bitvec_in_place.specs.RangeBitsLaws.{length-bits_in}
-use Rattle.bitvec_in_place.specs.Ranges.{ChangesOnly, bits_in, edited, flipped, joined, number_in, numbered}
+use Rattle.bitvec_in_place.specs.Ranges.{ChangesOnly, HasBits, bits_in, edited, flipped, joined, number_in, numbered}
 use Rattle.bitvec_in_place.specs.RangesLaws.{filled-write}
 
 -- ---- the window of a range
@@ -32,58 +32,64 @@ pub bits-is : (bits : List Bool) (from to : ℕ) → from ≤ to → bits_in bit
 unfolding bits_in
 bits-is bits from to order = sym (window_range bits from to order)
 
-pub flipped-is : (list : List Bool) (from to : ℕ) → from ≤ to → flipped list from to ≡ write_at list from (map not (window_of list (record { start = from; len = to - from })))
-unfolding flipped
-flipped-is list from to order = ap (λ (part : List Bool). write_at list from (map not part)) (sym (window_range list from to order))
+pub window_has : {T : Type 0} (b : ℕ) (value : T → ℕ) (elements : List T) (from to : ℕ) → HasBits b (length elements) from to → HasWindow b (map value elements) (record { start = from; len = to - from })
+window_has b value elements from to has =
+    let room = ap (λ (n : ℕ). b * n) (length-map elements value) in
+    record { fits = omega arith; within = record { start = omega arith; len = omega arith } }
 
-pub edited-is : (edit : List Bool → List Bool) (list : List Bool) (from to : ℕ) → from ≤ to → edited edit list from to ≡ write_at list from (edit (window_of list (record { start = from; len = to - from })))
-unfolding edited
-edited-is edit list from to order = ap (λ (part : List Bool). write_at list from (edit part)) (sym (window_range list from to order))
+-- each word by the range's bits
 
-pub joined-is : (f : Bool → Bool → Bool) (list : List Bool) (from to : ℕ) (other : List Bool) → from ≤ to → joined f list from to other ≡ write_at list from (combined f (window_of list (record { start = from; len = to - from })) other)
-unfolding joined
-joined-is f list from to other order = ap (λ (part : List Bool). write_at list from (combined f part other)) (sym (window_range list from to order))
+pub flipped-is : (list : List Bool) (from to : ℕ) → flipped list from to ≡ write_at list from (map not (bits_in list from to))
+unfolding flipped bits_in
+flipped-is list from to = refl
 
-pub number-is : (big high : Bool) (b : ℕ) (list : List Bool) (from to : ℕ) → from ≤ to → number_in big high b list from to ≡ loaded big high b from (window_of list (record { start = from; len = to - from }))
-unfolding number_in
-number-is big high b list from to order = ap (loaded big high b from) (sym (window_range list from to order))
+pub edited-is : (edit : List Bool → List Bool) (list : List Bool) (from to : ℕ) → edited edit list from to ≡ write_at list from (edit (bits_in list from to))
+unfolding edited bits_in
+edited-is edit list from to = refl
 
-pub numbered-is : (big high : Bool) (b : ℕ) (list : List Bool) (from to v : ℕ) → from ≤ to → numbered big high b list from to v ≡ write_at list from (stored big high b from v (window_of list (record { start = from; len = to - from })))
-unfolding numbered
-numbered-is big high b list from to v order = ap (λ (part : List Bool). write_at list from (stored big high b from v part)) (sym (window_range list from to order))
+pub joined-is : (f : Bool → Bool → Bool) (list : List Bool) (from to : ℕ) (other : List Bool) → joined f list from to other ≡ write_at list from (combined f (bits_in list from to) other)
+unfolding joined bits_in
+joined-is f list from to other = refl
+
+pub number-is : (big high : Bool) (b : ℕ) (list : List Bool) (from to : ℕ) → number_in big high b list from to ≡ loaded big high b from (bits_in list from to)
+unfolding number_in bits_in
+number-is big high b list from to = refl
+
+pub numbered-is : (big high : Bool) (b : ℕ) (list : List Bool) (from to v : ℕ) → numbered big high b list from to v ≡ write_at list from (stored big high b from v (bits_in list from to))
+unfolding numbered bits_in
+numbered-is big high b list from to v = refl
 
 -- ---- the window of all
 
-module _ (bits : List Bool) (n : ℕ) (all : n ≡ length bits) where
-  pub window_all : window_of bits (record { start = 0; len = n }) ≡ bits
-  unfolding window_of
-  window_all = range-all bits (0 + n) (omega arith)
+pub all_has : {T : Type 0} (b : ℕ) (value : T → ℕ) (elements : List T) → b * length elements ≤ max_bits → HasWindow b (map value elements) (record { start = 0; len = b * length elements })
+all_has b value elements fits =
+    let room = ap (λ (n : ℕ). b * n) (length-map elements value) in
+    record { fits = omega arith; within = record { start = omega arith; len = omega arith } }
 
-  pub whole-set : (i : ℕ) (bit : Bool) → write_at bits 0 (slice_set (window_of bits (record { start = 0; len = n })) i bit) ≡ slice_set bits i bit
-  whole-set i bit = ap (λ (list : List Bool). write_at bits 0 (slice_set list i bit)) window_all ∙ write_at-all bits (slice_set bits i bit) (length-set bits i bit)
+pub window_all : (bits : List Bool) (n : ℕ) → n ≡ length bits → window_of bits (record { start = 0; len = n }) ≡ bits
+unfolding window_of
+window_all bits n all = range-all bits (0 + n) (omega arith)
 
-  pub whole-get : (i : ℕ) (d : Bool) → slice_index_or (window_of bits (record { start = 0; len = n })) i d ≡ slice_index_or bits i d
-  whole-get i d = ap (λ (list : List Bool). slice_index_or list i d) window_all
+module _ (bits : List Bool) where
+  pub whole-set : (i : ℕ) (bit : Bool) → write_at bits 0 (slice_set bits i bit) ≡ slice_set bits i bit
+  whole-set i bit = write_at-all bits (slice_set bits i bit) (length-set bits i bit)
 
-  pub whole-swap : (i j : ℕ) → write_at bits 0 (swap (window_of bits (record { start = 0; len = n })) i j) ≡ swap bits i j
-  whole-swap i j = ap (λ (list : List Bool). write_at bits 0 (swap list i j)) window_all ∙ write_at-all bits (swap bits i j) (length-swap bits i j)
+  pub whole-swap : (i j : ℕ) → write_at bits 0 (swap bits i j) ≡ swap bits i j
+  whole-swap i j = write_at-all bits (swap bits i j) (length-swap bits i j)
 
-  pub whole-copy : (from to dest : ℕ) → to ≤ n → dest + (to - from) ≤ n → write_at bits 0 (copied_within from to dest (window_of bits (record { start = 0; len = n }))) ≡ copied_within from to dest bits
-  whole-copy from to dest source room = ap (λ (list : List Bool). write_at bits 0 (copied_within from to dest list)) window_all ∙ write_at-all bits (copied_within from to dest bits) (lasting.length-copied_within from to dest bits (omega arith) (omega arith))
+  pub whole-copy : (from to dest : ℕ) → to ≤ length bits → dest + (to - from) ≤ length bits → write_at bits 0 (copied_within from to dest bits) ≡ copied_within from to dest bits
+  whole-copy from to dest source room = write_at-all bits (copied_within from to dest bits) (lasting.length-copied_within from to dest bits source room)
 
-  pub whole-exchange : (from to dest : ℕ) → from ≤ to → to ≤ n → dest + (to - from) ≤ n → write_at bits 0 (swapped_within from to dest (window_of bits (record { start = 0; len = n }))) ≡ swapped_within from to dest bits
-  whole-exchange from to dest order source room = ap (λ (list : List Bool). write_at bits 0 (swapped_within from to dest list)) window_all ∙ write_at-all bits (swapped_within from to dest bits) (length-swapped from to dest bits order (omega arith) (omega arith))
+  pub whole-exchange : (from to dest : ℕ) → from ≤ to → to ≤ length bits → dest + (to - from) ≤ length bits → write_at bits 0 (swapped_within from to dest bits) ≡ swapped_within from to dest bits
+  whole-exchange from to dest order source room = write_at-all bits (swapped_within from to dest bits) (length-swapped from to dest bits order source room)
 
-  pub whole-combine : (f : Bool → Bool → Bool) (from to dest : ℕ) → from ≤ to → to ≤ n → dest + (to - from) ≤ n → write_at bits 0 (combined_within f from to dest (window_of bits (record { start = 0; len = n }))) ≡ combined_within f from to dest bits
-  whole-combine f from to dest order source room = ap (λ (list : List Bool). write_at bits 0 (combined_within f from to dest list)) window_all ∙ write_at-all bits (combined_within f from to dest bits) (length-combined_within f from to dest bits order (omega arith))
+  pub whole-combine : (f : Bool → Bool → Bool) (from to dest : ℕ) → from ≤ to → dest + (to - from) ≤ length bits → write_at bits 0 (combined_within f from to dest bits) ≡ combined_within f from to dest bits
+  whole-combine f from to dest order room = write_at-all bits (combined_within f from to dest bits) (length-combined_within f from to dest bits order room)
 
 -- ---- a window that is a range
 
 pub window_is : (bits : List Bool) (window : Window) (from to : ℕ) → window ≡ record { start = from; len = to - from } → from ≤ to → window_of bits window ≡ bits_in bits from to
 window_is bits window from to is order = ap (λ (w : Window). window_of bits w) is ∙ sym (bits-is bits from to order)
-
-pub length-window_range : (bits : List Bool) (from to : ℕ) → from ≤ to → to ≤ length bits → length (window_of bits (record { start = from; len = to - from })) ≡ to - from
-length-window_range bits from to order inside = ap (λ (l : List Bool). length l) (window_range bits from to order) ∙ length-slice_range bits from to inside
 
 module _ {T : Type 0} (b : ℕ) (at : ℕ → ℕ → ℕ) (value : T → ℕ) (old new : List T) (window : Window) (from to : ℕ) (list : List Bool)
     (is : window ≡ record { start = from; len = to - from }) (order : from ≤ to) (inside : to ≤ b * length old) (wrote : Writes b at (map value old) (map value new) window list) where
@@ -115,10 +121,10 @@ module _ {T : Type 0} (b : ℕ) (at : ℕ → ℕ → ℕ) (value : T → ℕ) (
         bits = λ k apart. ap (λ (m : List Bool). slice_index_or m k false) now ∙ get-put_outside was from to list order (omega arith) size k false apart;
       }
 
-pub ruleset ranges = (arith, bits-is, filled-write, flipped-is, edited-is, joined-is, number-is, numbered-is)
+pub ruleset ranges = (arith, filled-write, flipped-is, edited-is, joined-is, number-is, numbered-is)
 
-pub ruleset wholes = (arith, length-bits_of, whole-set, whole-get, whole-swap, whole-copy, whole-exchange, whole-combine)
+pub ruleset wholes = (arith, length-bits_of, whole-set, whole-swap, whole-copy, whole-exchange, whole-combine)
 
 pub ruleset counts = (arith, ones_and_zeros, length-bits_in, length-bits_of)
 
-pub ruleset ends = (arith, bits-is, length-window_range, length-bits_of, first_run, last_run)
+pub ruleset spans = (arith, bits-is, window_all, length-bits_of)

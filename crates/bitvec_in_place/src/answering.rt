@@ -4,7 +4,7 @@ ghost use Rattle.bitvec_base.specs.Memory.{memory_bits};
 ghost use Rattle.bitvec_domain.specs.Asked.{CallableBelow, CallableOnBits, FillsWith, RefillsWith};
 ghost use Rattle.bitvec_in_place.specs.Ranges.{ChangesOnly, HasBits, bits_in};
 
-use crate::spans::span;
+use crate::spans::span_in;
 use bitvec_domain::{fill_with_in, for_each_in};
 use bitvec_engine::SliceOrder;
 use bitvec_store::BitStore;
@@ -23,7 +23,8 @@ pub fn fill_with<T: BitStore, O: SliceOrder, F: FnMut(usize) -> bool>(
     ensures outside { ChangesOnly range.start range.end (memory_bits T.BITS O.at (map T.value elements.old)) (memory_bits T.BITS O.at (map T.value elements.new)) }
     ensures len { length elements.new ≡ length elements.old }
 {
-    fill_with_in::<T, O, F>(elements, span(range), f);
+    let window = span_in::<T, O>(&*elements, range);
+    fill_with_in::<T, O, F>(elements, window, f);
 }
 
 /// Makes each bit of a range what `f` answers for its index in the range and the bit that stands there, in ascending
@@ -40,5 +41,6 @@ pub fn for_each<T: BitStore, O: SliceOrder, F: FnMut(usize, bool) -> bool>(
     ensures outside { ChangesOnly range.start range.end (memory_bits T.BITS O.at (map T.value elements.old)) (memory_bits T.BITS O.at (map T.value elements.new)) }
     ensures len { length elements.new ≡ length elements.old }
 {
-    for_each_in::<T, O, F>(elements, span(range), f);
+    let window = span_in::<T, O>(&*elements, range);
+    for_each_in::<T, O, F>(elements, window, f);
 }

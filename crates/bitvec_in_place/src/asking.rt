@@ -6,7 +6,7 @@ ghost use Rattle.std.specs.List.{list_all, list_any};
 ghost use Rattle.bitvec_base.specs.Memory.{memory_bits};
 ghost use Rattle.bitvec_in_place.specs.Ranges.{HasBits, bits_in};
 
-use crate::spans::span;
+use crate::spans::span_in;
 use bitvec_elements::{all_in, any_in};
 use bitvec_engine::SliceOrder;
 use bitvec_store::BitStore;
@@ -18,7 +18,7 @@ pub fn any<T: BitStore, O: SliceOrder>(elements: &[T], range: Range<usize>) -> b
     requires range { HasBits T.BITS (length elements.now) range.start range.end }
     ensures { result ≡ list_any (λ bit. bit) (bits_in (memory_bits T.BITS O.at (map T.value elements.now)) range.start range.end) }
 {
-    any_in::<T, O>(elements, span(range))
+    any_in::<T, O>(elements, span_in::<T, O>(elements, range))
 }
 
 /// Whether every bit of a range is 1, as in an empty range. Condition: as for [`any`].
@@ -26,7 +26,7 @@ pub fn all<T: BitStore, O: SliceOrder>(elements: &[T], range: Range<usize>) -> b
     requires range { HasBits T.BITS (length elements.now) range.start range.end }
     ensures { result ≡ list_all (λ bit. bit) (bits_in (memory_bits T.BITS O.at (map T.value elements.now)) range.start range.end) }
 {
-    all_in::<T, O>(elements, span(range))
+    all_in::<T, O>(elements, span_in::<T, O>(elements, range))
 }
 
 /// Whether no bit of a range is 1, as in an empty range. Condition: as for [`any`].
@@ -51,6 +51,6 @@ pub fn some<T: BitStore, O: SliceOrder>(elements: &[T], range: Range<usize>) -> 
     ensures { result ≡ (list_any (λ bit. bit) (bits_in (memory_bits T.BITS O.at (map T.value elements.now)) range.start range.end)
         && not (list_all (λ bit. bit) (bits_in (memory_bits T.BITS O.at (map T.value elements.now)) range.start range.end))) }
 {
-    let window = span(range);
+    let window = span_in::<T, O>(elements, range);
     any_in::<T, O>(elements, window) && !all_in::<T, O>(elements, window)
 }

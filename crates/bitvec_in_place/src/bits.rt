@@ -6,7 +6,7 @@ ghost use Rattle.std.specs.List.{swap as swapped};
 ghost use Rattle.bitvec_base.specs.Memory.{memory_bits};
 ghost use Rattle.bitvec_in_place.specs.Ranges.{HasBits};
 
-use crate::spans::whole;
+use crate::spans::whole_in;
 use bitvec_domain::{replace_in, set_in, swap_in};
 use bitvec_engine::SliceOrder;
 use bitvec_slice::BitSlice;
@@ -36,7 +36,7 @@ pub fn set<T: BitStore, O: SliceOrder>(elements: &mut [T], index: usize, bit: bo
     ensures bits { memory_bits T.BITS O.at (map T.value elements.new) ≡ slice_set (memory_bits T.BITS O.at (map T.value elements.old)) index bit }
     ensures len { length elements.new ≡ length elements.old }
 {
-    let window = whole(&*elements);
+    let window = whole_in::<T, O>(&*elements);
     set_in::<T, O>(elements, window, index, bit);
 }
 
@@ -47,7 +47,7 @@ pub fn replace<T: BitStore, O: SliceOrder>(elements: &mut [T], index: usize, bit
     ensures bits { memory_bits T.BITS O.at (map T.value elements.new) ≡ slice_set (memory_bits T.BITS O.at (map T.value elements.old)) index bit }
     ensures len { length elements.new ≡ length elements.old }
 {
-    let window = whole(&*elements);
+    let window = whole_in::<T, O>(&*elements);
     replace_in::<T, O>(elements, window, index, bit)
 }
 
@@ -58,6 +58,6 @@ pub fn swap<T: BitStore, O: SliceOrder>(elements: &mut [T], first: usize, second
     ensures bits { memory_bits T.BITS O.at (map T.value elements.new) ≡ swapped (memory_bits T.BITS O.at (map T.value elements.old)) first second }
     ensures len { length elements.new ≡ length elements.old }
 {
-    let window = whole(&*elements);
+    let window = whole_in::<T, O>(&*elements);
     swap_in::<T, O>(elements, window, first, second);
 }

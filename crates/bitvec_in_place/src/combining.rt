@@ -9,7 +9,7 @@ ghost use Rattle.bitvec_words.specs.Operator.{operator};
 ghost use Rattle.bitvec_words.specs.declared.operator.BitOp.TheVariants.{And, Or, Xor};
 ghost use Rattle.bitvec_in_place.specs.Ranges.{HasBits, joined};
 
-use crate::spans::span;
+use crate::spans::span_in;
 use bitvec_base::BitOrder;
 use bitvec_elements::{combine_in, copy_from_in};
 use bitvec_engine::SliceOrder;
@@ -31,7 +31,8 @@ pub fn copy_from<T: BitStore, O: SliceOrder, U: BitStore, P: BitOrder>(
     ensures len { length elements.new ≡ length elements.old }
 {
     let from = source.window();
-    copy_from_in::<T, O, U, P>(elements, span(range), source.elements(), from);
+    let window = span_in::<T, O>(&*elements, range);
+    copy_from_in::<T, O, U, P>(elements, window, source.elements(), from);
 }
 
 /// Combines each bit of a range with the one at its index in a view, by "and". The view counts as 0 past its end.
@@ -45,8 +46,7 @@ pub fn and_bits<T: BitStore, O: SliceOrder, U: BitStore, P: BitOrder>(
     ensures bits { memory_bits T.BITS O.at (map T.value elements.new) ≡ joined (operator And) (memory_bits T.BITS O.at (map T.value elements.old)) range.start range.end (seen source.entry).bits }
     ensures len { length elements.new ≡ length elements.old }
 {
-    let from = source.window();
-    combine_in::<T, O, U, P>(elements, span(range), source.elements(), from, BitOp::And);
+    combine::<T, O, U, P>(elements, range, source, BitOp::And);
 }
 
 /// Combines each bit of a range with the one at its index in a view, by "or". The view counts as 0 past its end.
@@ -60,8 +60,7 @@ pub fn or_bits<T: BitStore, O: SliceOrder, U: BitStore, P: BitOrder>(
     ensures bits { memory_bits T.BITS O.at (map T.value elements.new) ≡ joined (operator Or) (memory_bits T.BITS O.at (map T.value elements.old)) range.start range.end (seen source.entry).bits }
     ensures len { length elements.new ≡ length elements.old }
 {
-    let from = source.window();
-    combine_in::<T, O, U, P>(elements, span(range), source.elements(), from, BitOp::Or);
+    combine::<T, O, U, P>(elements, range, source, BitOp::Or);
 }
 
 /// Combines each bit of a range with the one at its index in a view, by "xor". The view counts as 0 past its end.
@@ -75,6 +74,22 @@ pub fn xor_bits<T: BitStore, O: SliceOrder, U: BitStore, P: BitOrder>(
     ensures bits { memory_bits T.BITS O.at (map T.value elements.new) ≡ joined (operator Xor) (memory_bits T.BITS O.at (map T.value elements.old)) range.start range.end (seen source.entry).bits }
     ensures len { length elements.new ≡ length elements.old }
 {
+    combine::<T, O, U, P>(elements, range, source, BitOp::Xor);
+}
+
+/// Combines each bit of a range with the one at its index in a view, which counts as 0 past its end. Condition: as for
+/// [`and_bits`].
+fn combine<T: BitStore, O: SliceOrder, U: BitStore, P: BitOrder>(
+    elements: &mut [T],
+    range: Range<usize>,
+    source: BitSlice<'_, U, P>,
+    op: BitOp,
+)
+    requires range { HasBits T.BITS (length elements.old) range.start range.end }
+    ensures bits { memory_bits T.BITS O.at (map T.value elements.new) ≡ joined (operator op) (memory_bits T.BITS O.at (map T.value elements.old)) range.start range.end (seen source.entry).bits }
+    ensures len { length elements.new ≡ length elements.old }
+{
     let from = source.window();
-    combine_in::<T, O, U, P>(elements, span(range), source.elements(), from, BitOp::Xor);
+    let window = span_in::<T, O>(&*elements, range);
+    combine_in::<T, O, U, P>(elements, window, source.elements(), from, op);
 }

@@ -9,7 +9,7 @@ ghost use Rattle.bitvec_base.specs.Memory.{memory_bits};
 ghost use Rattle.bitvec_slice.specs.Views.{seen};
 ghost use Rattle.bitvec_in_place.specs.Ranges.{HasBits, bits_in};
 
-use crate::spans::span;
+use crate::spans::span_in;
 use bitvec_base::BitOrder;
 use bitvec_elements::{compare_in, ends_with_in, eq_in, starts_with_in};
 use bitvec_engine::SliceOrder;
@@ -28,7 +28,8 @@ pub fn eq_bits<T: BitStore, O: SliceOrder, U: BitStore, P: BitOrder>(
     requires range { HasBits T.BITS (length elements.now) range.start range.end }
     ensures { result ≡ same_bits (bits_in (memory_bits T.BITS O.at (map T.value elements.now)) range.start range.end) (seen other.entry).bits }
 {
-    eq_in::<T, O, U, P>(elements, span(range), other.elements(), other.window())
+    let window = span_in::<T, O>(elements, range);
+    eq_in::<T, O, U, P>(elements, window, other.elements(), other.window())
 }
 
 /// How the bits of a range compare with those of a view, in the order of lists of truth values. Condition: as for
@@ -41,7 +42,8 @@ pub fn cmp_bits<T: BitStore, O: SliceOrder, U: BitStore, P: BitOrder>(
     requires range { HasBits T.BITS (length elements.now) range.start range.end }
     ensures { result ≡ slice_cmp bool_cmp (bits_in (memory_bits T.BITS O.at (map T.value elements.now)) range.start range.end) (seen other.entry).bits }
 {
-    compare_in::<T, O, U, P>(elements, span(range), other.elements(), other.window())
+    let window = span_in::<T, O>(elements, range);
+    compare_in::<T, O, U, P>(elements, window, other.elements(), other.window())
 }
 
 /// Whether the bits of a range begin with the needle's. They always begin with an empty one. Condition: as for
@@ -54,7 +56,8 @@ pub fn starts_with<T: BitStore, O: SliceOrder, U: BitStore, P: BitOrder>(
     requires range { HasBits T.BITS (length elements.now) range.start range.end }
     ensures { result ≡ is_prefix (seen needle.entry).bits (bits_in (memory_bits T.BITS O.at (map T.value elements.now)) range.start range.end) }
 {
-    starts_with_in::<T, O, U, P>(elements, span(range), needle.elements(), needle.window())
+    let window = span_in::<T, O>(elements, range);
+    starts_with_in::<T, O, U, P>(elements, window, needle.elements(), needle.window())
 }
 
 /// Whether the bits of a range end with the needle's. They always end with an empty one. Condition: as for [`eq_bits`].
@@ -66,7 +69,8 @@ pub fn ends_with<T: BitStore, O: SliceOrder, U: BitStore, P: BitOrder>(
     requires range { HasBits T.BITS (length elements.now) range.start range.end }
     ensures { result ≡ is_suffix (seen needle.entry).bits (bits_in (memory_bits T.BITS O.at (map T.value elements.now)) range.start range.end) }
 {
-    ends_with_in::<T, O, U, P>(elements, span(range), needle.elements(), needle.window())
+    let window = span_in::<T, O>(elements, range);
+    ends_with_in::<T, O, U, P>(elements, window, needle.elements(), needle.window())
 }
 
 /// Whether the needle's bits occur in a range, from some index on; those of an empty needle always do. Condition: as for
@@ -79,5 +83,6 @@ pub fn contains<T: BitStore, O: SliceOrder, U: BitStore, P: BitOrder>(
     requires range { HasBits T.BITS (length elements.now) range.start range.end }
     ensures { result ≡ stands_in (seen needle.entry).bits (bits_in (memory_bits T.BITS O.at (map T.value elements.now)) range.start range.end) }
 {
-    contains_in::<T, O, U, P>(elements, span(range), needle.elements(), needle.window())
+    let window = span_in::<T, O>(elements, range);
+    contains_in::<T, O, U, P>(elements, window, needle.elements(), needle.window())
 }

@@ -8,7 +8,7 @@ ghost use Rattle.bitvec_slice.specs.Views.{seen_mut};
 ghost use Rattle.bitvec_slice.specs.Writes.{WritesBits};
 ghost use Rattle.bitvec_in_place.specs.Ranges.{HasBits, bits_in};
 
-use crate::spans::span;
+use crate::spans::span_in;
 use bitvec_base::BitOrder;
 use bitvec_elements::swap_with_in;
 use bitvec_engine::SliceOrder;
@@ -30,5 +30,6 @@ pub fn swap_with<T: BitStore, O: SliceOrder, U: BitStore, P: BitOrder>(
     ensures other_bits { WritesBits other.old other.new (bits_in (memory_bits T.BITS O.at (map T.value elements.old)) range.start range.end) }
 {
     let window = other.window();
-    swap_with_in::<T, O, U, P>(elements, span(range), other.elements_mut(Sealed), window);
+    let part = span_in::<T, O>(&*elements, range);
+    swap_with_in::<T, O, U, P>(elements, part, other.elements_mut(Sealed), window);
 }

@@ -5,7 +5,7 @@ ghost use Rattle.std.specs.Prelude.{◌≡◌, length, map};
 ghost use Rattle.bitvec_base.specs.Memory.{memory_bits};
 ghost use Rattle.bitvec_in_place.specs.Ranges.{HasBits, filled, flipped};
 
-use crate::spans::span;
+use crate::spans::span_in;
 use bitvec_elements::{fill_in, invert_in};
 use bitvec_engine::SliceOrder;
 use bitvec_store::BitStore;
@@ -22,7 +22,8 @@ pub fn fill<T: BitStore, O: SliceOrder>(elements: &mut [T], range: Range<usize>,
     ensures bits { memory_bits T.BITS O.at (map T.value elements.new) ≡ filled (memory_bits T.BITS O.at (map T.value elements.old)) range.start range.end bit }
     ensures len { length elements.new ≡ length elements.old }
 {
-    fill_in::<T, O>(elements, span(range), bit);
+    let window = span_in::<T, O>(&*elements, range);
+    fill_in::<T, O>(elements, window, bit);
 }
 
 /// Flips each bit of a range: `invert` of that part as a view. Condition: as for [`fill`].
@@ -35,5 +36,6 @@ pub fn invert<T: BitStore, O: SliceOrder>(elements: &mut [T], range: Range<usize
     ensures bits { memory_bits T.BITS O.at (map T.value elements.new) ≡ flipped (memory_bits T.BITS O.at (map T.value elements.old)) range.start range.end }
     ensures len { length elements.new ≡ length elements.old }
 {
-    invert_in::<T, O>(elements, span(range));
+    let window = span_in::<T, O>(&*elements, range);
+    invert_in::<T, O>(elements, window);
 }

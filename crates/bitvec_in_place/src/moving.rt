@@ -8,7 +8,7 @@ ghost use Rattle.bitvec_in_place.specs.Ranges.{HasBits, edited};
 ghost use Rattle.bitvec_in_place.specs.Rooms.{HasRoom};
 ghost use Rattle.bitvec_within.specs.Swaps.{LieApart, swapped_within};
 
-use crate::spans::{span, whole};
+use crate::spans::{span_in, whole_in};
 use bitvec_engine::SliceOrder;
 use bitvec_store::BitStore;
 use bitvec_within::{
@@ -24,7 +24,8 @@ pub fn reverse<T: BitStore, O: SliceOrder>(elements: &mut [T], range: Range<usiz
     ensures bits { memory_bits T.BITS O.at (map T.value elements.new) ≡ edited reversal (memory_bits T.BITS O.at (map T.value elements.old)) range.start range.end }
     ensures len { length elements.new ≡ length elements.old }
 {
-    reverse_in::<T, O>(elements, span(range));
+    let window = span_in::<T, O>(&*elements, range);
+    reverse_in::<T, O>(elements, window);
 }
 
 /// Rotates the bits of a range so that the one at its index `by` comes first. Condition: as for [`reverse`], and `by` is
@@ -39,7 +40,8 @@ pub fn rotate_left<T: BitStore, O: SliceOrder>(elements: &mut [T], range: Range<
     ensures bits { memory_bits T.BITS O.at (map T.value elements.new) ≡ edited (rotated_left by) (memory_bits T.BITS O.at (map T.value elements.old)) range.start range.end }
     ensures len { length elements.new ≡ length elements.old }
 {
-    rotate_left_in::<T, O>(elements, span(range), by);
+    let window = span_in::<T, O>(&*elements, range);
+    rotate_left_in::<T, O>(elements, window, by);
 }
 
 /// Rotates the bits of a range so that its last `by` come first. Condition: as for [`rotate_left`].
@@ -49,7 +51,8 @@ pub fn rotate_right<T: BitStore, O: SliceOrder>(elements: &mut [T], range: Range
     ensures bits { memory_bits T.BITS O.at (map T.value elements.new) ≡ edited (rotated_right by) (memory_bits T.BITS O.at (map T.value elements.old)) range.start range.end }
     ensures len { length elements.new ≡ length elements.old }
 {
-    rotate_right_in::<T, O>(elements, span(range), by);
+    let window = span_in::<T, O>(&*elements, range);
+    rotate_right_in::<T, O>(elements, window, by);
 }
 
 /// Shifts the bits of a range by `by` places towards its start: the first `by` are lost, and as many zeros follow the
@@ -60,7 +63,8 @@ pub fn shift_start<T: BitStore, O: SliceOrder>(elements: &mut [T], range: Range<
     ensures bits { memory_bits T.BITS O.at (map T.value elements.new) ≡ edited (shifted_start by) (memory_bits T.BITS O.at (map T.value elements.old)) range.start range.end }
     ensures len { length elements.new ≡ length elements.old }
 {
-    shift_start_in::<T, O>(elements, span(range), by);
+    let window = span_in::<T, O>(&*elements, range);
+    shift_start_in::<T, O>(elements, window, by);
 }
 
 /// Shifts the bits of a range by `by` places towards its end: the last `by` are lost, and as many zeros stand before the
@@ -71,7 +75,8 @@ pub fn shift_end<T: BitStore, O: SliceOrder>(elements: &mut [T], range: Range<us
     ensures bits { memory_bits T.BITS O.at (map T.value elements.new) ≡ edited (shifted_end by) (memory_bits T.BITS O.at (map T.value elements.old)) range.start range.end }
     ensures len { length elements.new ≡ length elements.old }
 {
-    shift_end_in::<T, O>(elements, span(range), by);
+    let window = span_in::<T, O>(&*elements, range);
+    shift_end_in::<T, O>(elements, window, by);
 }
 
 /// Copies the bits of a range to `dest` on, also where they overlap. Condition: the slice has at most `MAX_BITS` bits,
@@ -82,7 +87,7 @@ pub fn copy_within<T: BitStore, O: SliceOrder>(elements: &mut [T], src: Range<us
     ensures bits { memory_bits T.BITS O.at (map T.value elements.new) ≡ copied_within src.start src.end dest (memory_bits T.BITS O.at (map T.value elements.old)) }
     ensures len { length elements.new ≡ length elements.old }
 {
-    let window = whole(&*elements);
+    let window = whole_in::<T, O>(&*elements);
     copy_within_in::<T, O>(elements, window, src, dest);
 }
 
@@ -95,6 +100,6 @@ pub fn swap_within<T: BitStore, O: SliceOrder>(elements: &mut [T], src: Range<us
     ensures bits { memory_bits T.BITS O.at (map T.value elements.new) ≡ swapped_within src.start src.end dest (memory_bits T.BITS O.at (map T.value elements.old)) }
     ensures len { length elements.new ≡ length elements.old }
 {
-    let window = whole(&*elements);
+    let window = whole_in::<T, O>(&*elements);
     swap_within_in::<T, O>(elements, window, src, dest);
 }

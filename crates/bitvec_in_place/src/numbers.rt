@@ -6,7 +6,7 @@ ghost use Rattle.bitvec_segments.specs.Integers.{integer_of, remainder_of};
 ghost use Rattle.bitvec_base.specs.Memory.{memory_bits};
 ghost use Rattle.bitvec_in_place.specs.Ranges.{HasBits, number_in, numbered};
 
-use crate::spans::span;
+use crate::spans::span_in;
 use bitvec_field::{Integral, load_be_in, load_le_in, store_be_in, store_le_in};
 use bitvec_segments::FieldOrder;
 use bitvec_store::BitStore;
@@ -21,7 +21,7 @@ pub fn load_le<T: BitStore, O: FieldOrder, I: Integral>(elements: &[T], range: R
     ensures { I.value result ≡ integer_of I.SIGNED (range.end - range.start)
         (number_in false O.HIGH T.BITS (memory_bits T.BITS O.at (map T.value elements.now)) range.start range.end) }
 {
-    load_le_in::<T, O, I>(elements, span(range))
+    load_le_in::<T, O, I>(elements, span_in::<T, O>(elements, range))
 }
 
 /// The integer of a range's bits, the first segment highest. Condition: as for [`load_le`].
@@ -32,7 +32,7 @@ pub fn load_be<T: BitStore, O: FieldOrder, I: Integral>(elements: &[T], range: R
     ensures { I.value result ≡ integer_of I.SIGNED (range.end - range.start)
         (number_in true O.HIGH T.BITS (memory_bits T.BITS O.at (map T.value elements.now)) range.start range.end) }
 {
-    load_be_in::<T, O, I>(elements, span(range))
+    load_be_in::<T, O, I>(elements, span_in::<T, O>(elements, range))
 }
 
 /// Stores an integer in a range, the first segment lowest. If it has more bits than the range, its lowest are
@@ -51,7 +51,8 @@ pub fn store_le<T: BitStore, O: FieldOrder, I: Integral>(
     ensures bits { memory_bits T.BITS O.at (map T.value elements.new) ≡ numbered false O.HIGH T.BITS (memory_bits T.BITS O.at (map T.value elements.old)) range.start range.end (remainder_of I.BITS (I.value value)) }
     ensures len { length elements.new ≡ length elements.old }
 {
-    store_le_in::<T, O, I>(elements, span(range), value);
+    let window = span_in::<T, O>(&*elements, range);
+    store_le_in::<T, O, I>(elements, window, value);
 }
 
 /// Stores an integer in a range, the first segment highest. Condition: as for [`store_le`].
@@ -69,7 +70,8 @@ pub fn store_be<T: BitStore, O: FieldOrder, I: Integral>(
     ensures bits { memory_bits T.BITS O.at (map T.value elements.new) ≡ numbered true O.HIGH T.BITS (memory_bits T.BITS O.at (map T.value elements.old)) range.start range.end (remainder_of I.BITS (I.value value)) }
     ensures len { length elements.new ≡ length elements.old }
 {
-    store_be_in::<T, O, I>(elements, span(range), value);
+    let window = span_in::<T, O>(&*elements, range);
+    store_be_in::<T, O, I>(elements, window, value);
 }
 
 /// The integer of a range's bits, the first of them lowest under an order that begins with the lowest bit, else highest.

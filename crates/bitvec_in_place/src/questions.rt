@@ -6,7 +6,7 @@ ghost use Rattle.bitvec_base.specs.Lists.{first_place, last_place};
 ghost use Rattle.bitvec_base.specs.Memory.{memory_bits};
 ghost use Rattle.bitvec_in_place.specs.Ranges.{HasBits, bits_in};
 
-use crate::spans::span;
+use crate::spans::span_in;
 use bitvec_elements::{count_in, find_first_in, find_last_in};
 use bitvec_engine::SliceOrder;
 use bitvec_store::BitStore;
@@ -17,7 +17,7 @@ pub fn count_ones<T: BitStore, O: SliceOrder>(elements: &[T], range: Range<usize
     requires range { HasBits T.BITS (length elements.now) range.start range.end }
     ensures { result ≡ count_by (λ bit. bit) (bits_in (memory_bits T.BITS O.at (map T.value elements.now)) range.start range.end) }
 {
-    count_in::<T, O>(elements, span(range))
+    count_in::<T, O>(elements, span_in::<T, O>(elements, range))
 }
 
 /// How many bits of a range are 0. Condition: as for [`count_ones`].
@@ -35,7 +35,7 @@ pub fn first_one<T: BitStore, O: SliceOrder>(elements: &[T], range: Range<usize>
     requires range { HasBits T.BITS (length elements.now) range.start range.end }
     ensures { result ≡ first_place true (bits_in (memory_bits T.BITS O.at (map T.value elements.now)) range.start range.end) }
 {
-    find_first_in::<T, O>(elements, span(range), true)
+    find_first_in::<T, O>(elements, span_in::<T, O>(elements, range), true)
 }
 
 /// The index in a range of its last 1, if it has one. Condition: as for [`count_ones`].
@@ -43,7 +43,7 @@ pub fn last_one<T: BitStore, O: SliceOrder>(elements: &[T], range: Range<usize>)
     requires range { HasBits T.BITS (length elements.now) range.start range.end }
     ensures { result ≡ last_place true (bits_in (memory_bits T.BITS O.at (map T.value elements.now)) range.start range.end) }
 {
-    find_last_in::<T, O>(elements, span(range), true)
+    find_last_in::<T, O>(elements, span_in::<T, O>(elements, range), true)
 }
 
 /// The index in a range of its first 0, if it has one. Condition: as for [`count_ones`].
@@ -51,7 +51,7 @@ pub fn first_zero<T: BitStore, O: SliceOrder>(elements: &[T], range: Range<usize
     requires range { HasBits T.BITS (length elements.now) range.start range.end }
     ensures { result ≡ first_place false (bits_in (memory_bits T.BITS O.at (map T.value elements.now)) range.start range.end) }
 {
-    find_first_in::<T, O>(elements, span(range), false)
+    find_first_in::<T, O>(elements, span_in::<T, O>(elements, range), false)
 }
 
 /// The index in a range of its last 0, if it has one. Condition: as for [`count_ones`].
@@ -59,5 +59,5 @@ pub fn last_zero<T: BitStore, O: SliceOrder>(elements: &[T], range: Range<usize>
     requires range { HasBits T.BITS (length elements.now) range.start range.end }
     ensures { result ≡ last_place false (bits_in (memory_bits T.BITS O.at (map T.value elements.now)) range.start range.end) }
 {
-    find_last_in::<T, O>(elements, span(range), false)
+    find_last_in::<T, O>(elements, span_in::<T, O>(elements, range), false)
 }

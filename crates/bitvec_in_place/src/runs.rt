@@ -7,7 +7,7 @@ ghost use Rattle.bitvec_base.specs.LeadingLaws.{is_other};
 ghost use Rattle.bitvec_base.specs.Memory.{memory_bits};
 ghost use Rattle.bitvec_in_place.specs.Ranges.{HasBits, bits_in};
 
-use crate::spans::span;
+use crate::spans::span_in;
 use bitvec_elements::{find_first_in, find_last_in};
 use bitvec_engine::SliceOrder;
 use bitvec_store::BitStore;
@@ -47,12 +47,11 @@ pub fn trailing_zeros<T: BitStore, O: SliceOrder>(elements: &[T], range: Range<u
 }
 
 /// How many bits of a range come before the first that is `end`: all of them, if none is.
-#[tactic(auto, using(crate::proofs::Windows::ends))]
 fn before_first<T: BitStore, O: SliceOrder>(elements: &[T], range: Range<usize>, end: bool) -> usize
     requires range { HasBits T.BITS (length elements.now) range.start range.end }
     ensures { result ≡ prefix_len (is_other end) (bits_in (memory_bits T.BITS O.at (map T.value elements.now)) range.start range.end) }
 {
-    let window = span(range);
+    let window = span_in::<T, O>(elements, range);
     find_first_in::<T, O>(elements, window, end).unwrap_or(window.len)
 }
 
@@ -61,7 +60,7 @@ fn behind_last<T: BitStore, O: SliceOrder>(elements: &[T], range: Range<usize>, 
     requires range { HasBits T.BITS (length elements.now) range.start range.end }
     ensures { result ≡ suffix_len (is_other end) (bits_in (memory_bits T.BITS O.at (map T.value elements.now)) range.start range.end) }
 {
-    let window = span(range);
+    let window = span_in::<T, O>(elements, range);
     match find_last_in::<T, O>(elements, window, end) {
         Some(index) => window.len - index - 1,
         None => window.len,

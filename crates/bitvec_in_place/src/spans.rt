@@ -1,15 +1,20 @@
 //! Windows of all bits of a slice, and of a range of them.
-ghost use Rattle.std.specs.Prelude.{◌≡◌, ◌-◌, ◌*◌, ◌≤◌, length};
+ghost use Rattle.std.specs.Prelude.{◌≡◌, ◌-◌, ◌*◌, ◌≤◌, length, map};
+ghost use Rattle.bitvec_base.specs.Memory.{HasWindow, list_in, memory_bits};
 ghost use Rattle.bitvec_base.specs.Window.{max_bits};
+ghost use Rattle.bitvec_in_place.specs.Ranges.{HasBits, bits_in};
 
-use bitvec_base::Window;
+use bitvec_base::{BitOrder, Window};
 use bitvec_store::BitStore;
 use std::ops::Range;
 
-/// The window of a range of bits. Condition: `start <= end`.
-pub(crate) fn span(range: Range<usize>) -> Window
-    requires { range.start ≤ range.end }
-    ensures { result ≡ record { start = range.start; len = range.end - range.start } }
+/// The window of a range of the elements' bits. Condition: they are at most `MAX_BITS`, and the range lies in them.
+#[tactic(auto, using(crate::proofs::Windows::spans))]
+pub(crate) fn span_in<T: BitStore, O: BitOrder>(elements: &[T], range: Range<usize>) -> Window
+    requires range { HasBits T.BITS (length elements.now) range.start range.end }
+    ensures window { HasWindow T.BITS (map T.value elements.now) result }
+    ensures is { result ≡ record { start = range.start; len = range.end - range.start } }
+    ensures bits { list_in T.BITS O.at (map T.value elements.now) result ≡ bits_in (memory_bits T.BITS O.at (map T.value elements.now)) range.start range.end }
 {
     Window {
         start: range.start,
@@ -18,9 +23,12 @@ pub(crate) fn span(range: Range<usize>) -> Window
 }
 
 /// The window of all bits of the elements. Condition: they are at most `MAX_BITS`.
-pub(crate) fn whole<T: BitStore>(elements: &[T]) -> Window
+#[tactic(auto, using(crate::proofs::Windows::spans))]
+pub(crate) fn whole_in<T: BitStore, O: BitOrder>(elements: &[T]) -> Window
     requires { T.BITS * length elements.now ≤ max_bits }
-    ensures { result ≡ record { start = 0; len = T.BITS * length elements.now } }
+    ensures window { HasWindow T.BITS (map T.value elements.now) result }
+    ensures is { result ≡ record { start = 0; len = T.BITS * length elements.now } }
+    ensures bits { list_in T.BITS O.at (map T.value elements.now) result ≡ memory_bits T.BITS O.at (map T.value elements.now) }
 {
     Window {
         start: 0,

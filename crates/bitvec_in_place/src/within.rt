@@ -8,7 +8,7 @@ ghost use Rattle.bitvec_words.specs.Operator.{operator};
 ghost use Rattle.bitvec_words.specs.declared.operator.BitOp.TheVariants.{And, Or, Xor};
 ghost use Rattle.bitvec_within.specs.Combined.{combined_within};
 
-use crate::spans::whole;
+use crate::spans::whole_in;
 use bitvec_engine::SliceOrder;
 use bitvec_store::BitStore;
 use bitvec_within::combine_within_in;
@@ -23,7 +23,7 @@ pub fn and_within<T: BitStore, O: SliceOrder>(elements: &mut [T], src: Range<usi
     ensures bits { memory_bits T.BITS O.at (map T.value elements.new) ≡ combined_within (operator And) src.start src.end dest (memory_bits T.BITS O.at (map T.value elements.old)) }
     ensures len { length elements.new ≡ length elements.old }
 {
-    let window = whole(&*elements);
+    let window = whole_in::<T, O>(&*elements);
     combine_within_in::<T, O>(elements, window, src, dest, BitOp::And);
 }
 
@@ -34,7 +34,7 @@ pub fn or_within<T: BitStore, O: SliceOrder>(elements: &mut [T], src: Range<usiz
     ensures bits { memory_bits T.BITS O.at (map T.value elements.new) ≡ combined_within (operator Or) src.start src.end dest (memory_bits T.BITS O.at (map T.value elements.old)) }
     ensures len { length elements.new ≡ length elements.old }
 {
-    let window = whole(&*elements);
+    let window = whole_in::<T, O>(&*elements);
     combine_within_in::<T, O>(elements, window, src, dest, BitOp::Or);
 }
 
@@ -45,6 +45,6 @@ pub fn xor_within<T: BitStore, O: SliceOrder>(elements: &mut [T], src: Range<usi
     ensures bits { memory_bits T.BITS O.at (map T.value elements.new) ≡ combined_within (operator Xor) src.start src.end dest (memory_bits T.BITS O.at (map T.value elements.old)) }
     ensures len { length elements.new ≡ length elements.old }
 {
-    let window = whole(&*elements);
+    let window = whole_in::<T, O>(&*elements);
     combine_within_in::<T, O>(elements, window, src, dest, BitOp::Xor);
 }

@@ -1,5 +1,0 @@
-use Rattle.bitvec_in_place.proofs.Windows.{ranges}
-use Rattle.bitvec_in_place.proofs.combining.and_bits.Goals as goal
-
-pub returns-clause-bits : goal.returns-clause-bits
-returns-clause-bits g c = grind ranges

@@ -1,5 +1,0 @@
-use Rattle.bitvec_in_place.proofs.Windows.{wholes}
-use Rattle.bitvec_in_place.proofs.moving.copy_within.Goals as goal
-
-pub returns-clause-bits : goal.returns-clause-bits
-returns-clause-bits g c = grind wholes
