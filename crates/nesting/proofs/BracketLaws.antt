@@ -1,15 +1,14 @@
 -- Texts and what is open behind them.
-use Rattle.std.specs.Prelude.{◌≡◌, ◌≢◌, ℕ, zero, suc, ◌+◌, ◌<◌, ◌≤◌, ◌==◌, ◌||◌, Bool, true, false, not, IfNone, Option, Some, None, List, [], ◌∷◌, ◌++◌, drop, length, map, refl, replicate, slice_index, take}
-use Rattle.std.specs.List.{fold}
+use Rattle.std.specs.Prelude.{◌≡◌, ◌≢◌, ℕ, zero, suc, ◌+◌, ◌<◌, ◌≤◌, ◌==◌, ◌||◌, All, Bool, true, false, not, IfNone, Option, Some, None, List, [], ◌∷◌, ◌++◌, drop, length, map, refl, replicate, slice_index, take}
 use Rattle.std.proofs.Common.{arith, sym, ◌∙◌, ap, inl, inr}
-use Rattle.std.proofs.lemmas.Bool.{cases_lt}
+use Rattle.std.proofs.lemmas.Bool.{cases_eq, cases_lt}
 use Rattle.std.proofs.Math.Seq.{take-suc}
 use Rattle.std.proofs.lemmas.Bool.Decides.{nat_tests}
-use Rattle.std.proofs.lemmas.List.{append-nil, append_assoc, drop_all, length-append, length-take, length-take-le, take-append-drop, take-append-le, take-take, take_all, take_at}
-use Rattle.std.proofs.lemmas.List.Elements.{filter-append}
-use Rattle.std.proofs.lemmas.List.Folds.{fold_stays}
+use Rattle.std.proofs.lemmas.List.{append-nil, append_assoc, drop_all, length-append, length-take, length-take-le, take-append-le, take-take, take_all, take_at}
+use Rattle.std.proofs.lemmas.List.Elements.{All-head, All-tail, filter-append}
+use Rattle.std.proofs.lemmas.List.Folds.{fold_along, fold_stuck}
 use Rattle.std.proofs.lemmas.List.Sums.{fold-append}
-use Rattle.nesting.specs.Brackets.{IsNested, KeepsFront, closer, next, open_after, without_closers}
+use Rattle.nesting.specs.Brackets.{IsNested, KeepsFront, backed_up, closer, next, next_mended, open_after, open_mended, without_closers}
 
 -- ---- one byte
 
@@ -44,12 +43,6 @@ next-no_group [] none = refl
 next-no_group (true ∷ marks) none = refl
 next-no_group (false ∷ marks) none = absurd (none marks refl)
 
-pub next-no_block : (marks : List Bool) → ((outer : List Bool) → marks ≢ true ∷ outer) → next (Some marks) 125 ≡ None
-unfolding next
-next-no_block [] none = refl
-next-no_block (false ∷ marks) none = refl
-next-no_block (true ∷ marks) none = absurd (none marks refl)
-
 -- so many groups, and then a block
 groups-first : (k : ℕ) (after : List Bool) → (take k (replicate k false ++ true ∷ after) ≡ replicate k false) × (drop k (replicate k false ++ true ∷ after) ≡ true ∷ after)
 groups-first zero after = (refl, refl)
@@ -67,11 +60,67 @@ unfolding next
 block-least zero before after is some = refl
 block-least (suc k) before after is some = absurd (rw is at some refl)
 
+-- ---- one byte, where a } also closes the groups that are open in its block
+
+next_mended-none : (byte : ℕ) → next_mended None byte ≡ None
+unfolding next_mended
+next_mended-none byte = refl
+
+pub next_mended-other : (byte : ℕ) (marks : List Bool) → byte ≢ 125 → next_mended (Some marks) byte ≡ next (Some marks) byte
+unfolding next_mended
+next_mended-other byte marks other = grind (arith, nat_tests)
+
+backed_up-block : (k : ℕ) (after : List Bool) → backed_up (replicate k false ++ true ∷ after) ≡ Some after
+backed_up-block zero after = refl
+backed_up-block (suc k) after = backed_up-block k after
+
+pub next_mended-block : (k : ℕ) (before after : List Bool) → before ≡ replicate k false ++ true ∷ after → next_mended (Some before) 125 ≡ Some after
+unfolding next_mended
+next_mended-block k before after is = ap backed_up is ∙ backed_up-block k after
+
+backed_up-groups : (marks : List Bool) → All (λ (mark : Bool). mark ≡ false) marks → backed_up marks ≡ None
+backed_up-groups [] groups = refl
+backed_up-groups (false ∷ marks) groups = backed_up-groups marks (All-tail (λ (mark : Bool). mark ≡ false) false marks groups)
+backed_up-groups (true ∷ marks) groups = let is : true ≡ false = All-head (λ (mark : Bool). mark ≡ false) true marks groups in cc
+
+pub next_mended-groups : (marks : List Bool) → All (λ (mark : Bool). mark ≡ false) marks → next_mended (Some marks) 125 ≡ None
+unfolding next_mended
+next_mended-groups marks groups = backed_up-groups marks groups
+
+-- where a byte closes the innermost bracket, that is all that it closes
+next_mended-block_innermost : (marks : List Bool) → next (Some marks) 125 ≢ None → next_mended (Some marks) 125 ≡ next (Some marks) 125
+unfolding next next_mended
+next_mended-block_innermost [] some = refl
+next_mended-block_innermost (true ∷ marks) some = refl
+next_mended-block_innermost (false ∷ marks) some = absurd (some refl)
+
+next_mended-innermost : (byte : ℕ) (marks : List Bool) → next (Some marks) byte ≢ None → next_mended (Some marks) byte ≡ next (Some marks) byte
+next_mended-innermost byte marks some =
+    elim (cases_eq byte 125) [
+      | inl block ↦ rw block (next_mended-block_innermost marks (rw block at some))
+      | inr other ↦ next_mended-other byte marks other
+    ]
+
+-- a text in which each bracket closes the innermost is read as it stands, and so isn't refused
+pub open_mended-innermost : (text : List ℕ) → open_after text ≢ None → open_mended text ≡ open_after text
+unfolding open_after open_mended
+open_mended-innermost text =
+    fold_along next next_mended (λ (a b : Option (List Bool)). a ≢ None → b ≡ a) one (Some []) (Some []) text (λ some. refl)
+  where
+    one : (a b : Option (List Bool)) (byte : ℕ) → (a ≢ None → b ≡ a) → next a byte ≢ None → next_mended b byte ≡ next a byte
+    one None b byte same some = absurd (some (next-none byte))
+    one (Some marks) b byte same some =
+        ap (λ (o : Option (List Bool)). next_mended o byte) (same (λ none. cc)) ∙ next_mended-innermost byte marks some
+
 -- ---- one byte more
 
 open_after-more : (text : List ℕ) (byte : ℕ) → open_after (text ++ byte ∷ []) ≡ next (open_after text) byte
 unfolding open_after
 open_after-more text byte = fold-append next (Some []) text (byte ∷ [])
+
+open_mended-more : (text : List ℕ) (byte : ℕ) → open_mended (text ++ byte ∷ []) ≡ next_mended (open_mended text) byte
+unfolding open_mended
+open_mended-more text byte = fold-append next_mended (Some []) text (byte ∷ [])
 
 -- the innermost brackets closed
 open_after-closed : (k : ℕ) (text : List ℕ) (marks : List Bool) → open_after text ≡ Some marks → open_after (text ++ map closer (take k marks)) ≡ Some (drop k marks)
@@ -143,13 +192,14 @@ closed-end text start old (Some m) is none other = absurd (other m refl)
 -- what was mended of a text
 pub record IsMended (text : List ℕ) (marks : List Bool) (mended : List ℕ) : Type 0 where
   pub nested : open_after mended ≡ Some marks
+  pub followed : open_mended text ≡ Some marks
   pub kept : without_closers mended ≡ without_closers text
   pub same : open_after text ≢ None → mended ≡ text
   pub front : KeepsFront text mended
 
 pub mended-none : IsMended [] [] []
-unfolding open_after
-mended-none = record { nested = refl; kept = refl; same = λ _. refl; front = record { front = λ n inside some. refl } }
+unfolding open_after open_mended
+mended-none = record { nested = refl; followed = refl; kept = refl; same = λ _. refl; front = record { front = λ n inside some. refl } }
 
 -- what begins as a text does is at least as long
 front-fits : (n : ℕ) (text mended : List ℕ) → n ≤ length text → take n mended ≡ take n text → n ≤ length mended
@@ -184,14 +234,15 @@ front-more text byte old new was first whole n inside some =
     ]
 
 mended-more : (text : List ℕ) (before after : List Bool) (byte : ℕ) (old new : List ℕ) → IsMended text before old
-    → (open_after old ≡ Some before → open_after new ≡ Some after) → take (length old) new ≡ old → without_closers new ≡ without_closers (old ++ byte ∷ [])
-    → (next (Some before) byte ≢ None → new ≡ old ++ byte ∷ []) → IsMended (text ++ byte ∷ []) after new
-mended-more text before after byte old new was nested first kept same =
+    → (open_after old ≡ Some before → open_after new ≡ Some after) → next_mended (Some before) byte ≡ Some after → take (length old) new ≡ old
+    → without_closers new ≡ without_closers (old ++ byte ∷ []) → (next (Some before) byte ≢ None → new ≡ old ++ byte ∷ []) → IsMended (text ++ byte ∷ []) after new
+mended-more text before after byte old new was nested followed first kept same =
     let more : List ℕ = text ++ byte ∷ [] in
     let whole : open_after more ≢ None → new ≡ more =
     λ some. same (some-next text before byte old was some) ∙ ap (λ (l : List ℕ). l ++ byte ∷ []) (was.same (some-before text byte some)) in
     record {
       nested = nested was.nested;
+      followed = open_mended-more text byte ∙ ap (λ (o : Option (List Bool)). next_mended o byte) was.followed ∙ followed;
       kept = kept ∙ without-append old (byte ∷ []) ∙ ap (λ (l : List ℕ). l ++ without_closers (byte ∷ [])) was.kept ∙ sym (without-append text (byte ∷ []));
       same = whole;
       front = record { front = λ n inside some. front-more text byte old new was.front first whole n inside some };
@@ -201,23 +252,24 @@ module _ (text : List ℕ) (i : ℕ) (before : List Bool) (old : List ℕ) (was 
   next-take : take (i + 1) text ≡ take i text ++ slice_index text i ∷ []
   next-take = let next : i + 1 ≡ suc i = omega arith in rw next (take-suc text i 0 inside)
 
-  pub mended-next : (after : List Bool) (new : List ℕ) → (open_after old ≡ Some before → open_after new ≡ Some after) → take (length old) new ≡ old
+  pub mended-next : (after : List Bool) (new : List ℕ) → (open_after old ≡ Some before → open_after new ≡ Some after)
+      → next_mended (Some before) (slice_index text i) ≡ Some after → take (length old) new ≡ old
       → without_closers new ≡ without_closers (old ++ slice_index text i ∷ [])
       → (next (Some before) (slice_index text i) ≢ None → new ≡ old ++ slice_index text i ∷ []) → IsMended (take (i + 1) text) after new
-  mended-next after new nested first kept same = rw next-take (mended-more (take i text) before after (slice_index text i) old new was nested first kept same)
+  mended-next after new nested followed first kept same = rw next-take (mended-more (take i text) before after (slice_index text i) old new was nested followed first kept same)
 
-  -- where a byte closes no bracket, the text isn't nested
-  pub mended-stray : next (Some before) (slice_index text i) ≡ None → IsNested text → ⊥
-  unfolding open_after
-  mended-stray stray nested =
-      let byte : ℕ = slice_index text i in
-      let front : List ℕ = take (i + 1) text in
-      let some : open_after front ≢ None =
-      λ none. let all : open_after text ≡ fold next (open_after front) (drop (i + 1) text) =
-      ap open_after (sym (take-append-drop (i + 1) text)) ∙ fold-append next (Some []) front (drop (i + 1) text) in
-      let stays : fold next None (drop (i + 1) text) ≡ None = fold_stays next None next-none (drop (i + 1) text) in
-      let is : Some [] ≡ None = sym nested ∙ all ∙ ap (λ (o : Option (List Bool)). fold next o (drop (i + 1) text)) none ∙ stays in cc in
-      some-next (take i text) before byte old was (rw next-take at some) stray
+  -- where a byte closes no bracket, the text can't be mended
+  pub mended-stray : next_mended (Some before) (slice_index text i) ≡ None → open_mended text ≡ None
+  unfolding open_mended
+  mended-stray stray =
+      let none : next_mended (open_mended (take i text)) (slice_index text i) ≡ None =
+      ap (λ (o : Option (List Bool)). next_mended o (slice_index text i)) was.followed ∙ stray in
+      sym (fold_stuck next_mended None next_mended-none (Some []) text i 0 inside none)
+
+-- what was read to its end can be mended
+pub mended-mendable : (text : List ℕ) (i : ℕ) (marks : List Bool) (mended : List ℕ) → IsMended (take i text) marks mended → length text ≤ i → open_mended text ≢ None
+mended-mendable text i marks mended was all none =
+    let is : Some marks ≡ None = sym was.followed ∙ ap open_mended (take_all i text all) ∙ none in cc
 
 module _ (text : List ℕ) (i : ℕ) (marks : List Bool) (mended new : List ℕ) (was : IsMended (take i text) marks mended) (all : length text ≤ i) (made : new ≡ mended ++ map closer marks) where
   whole : IsMended text marks mended
@@ -246,10 +298,10 @@ module _ (text : List ℕ) (i : ℕ) (marks : List Bool) (mended new : List ℕ)
       made ∙ ap (λ (l : List Bool). mended ++ map closer l) is ∙ append-nil mended ∙ same
 
 -- for `using`
-pub ruleset following = (next-opens_group, next-opens_block, next-other, next-group, next-no_group, next-no_block, block-groups, block-closed, block-least)
+pub ruleset following = (next-opens_group, next-opens_block, next-other, next-group, next-no_group, block-groups, block-closed, block-least, next_mended-other, next_mended-block, next_mended-groups)
 
 pub ruleset reading = (read-nested, read-front, read-kept, read-same)
 
 pub ruleset closing = (closed-more, closed-none, closed-end)
 
-pub ruleset mending = (mended-none, mended-next, mended-stray, mended-nested, mended-kept, mended-front, mended-same)
+pub ruleset mending = (mended-none, mended-next, mended-stray, mended-mendable, mended-nested, mended-kept, mended-front, mended-same)

@@ -1,10 +1,9 @@
 -- Lists of marks from their end.
-use Rattle.std.specs.Prelude.{◌≡◌, ◌≢◌, ℕ, zero, suc, ◌+◌, ◌-◌, ◌<◌, Bool, true, false, if◌then◌else◌, IfNone, Option, Some, None, List, [], ◌∷◌, ◌++◌, length, refl, replicate, reverse, slice_index_or, take}
+use Rattle.std.specs.Prelude.{◌≡◌, ◌≢◌, ℕ, zero, suc, ◌+◌, ◌-◌, ◌<◌, All, Bool, true, false, if◌then◌else◌, IfNone, Option, Some, None, List, [], ◌∷◌, ◌++◌, length, refl, replicate, reverse, slice_index_or, take}
 use Rattle.std.specs.Option.{option_to_list}
 use Rattle.std.proofs.Common.{arith, sym, ◌∙◌, ap}
 use Rattle.std.proofs.lemmas.List.{append-nil, append_assoc, length-reverse, replicate-append-replicate, reverse-append}
-use Rattle.bitvec.specs.Lists.{last_place}
-use Rattle.bitvec.specs.PlacesLaws.{last_place-absent, last_place-after, last_place-below, last_place-bit}
+use Rattle.std.proofs.lemmas.List.Elements.{All-replicate, All-same}
 
 reverse-cons : (x : Bool) (xs : List Bool) → reverse (x ∷ xs) ≡ reverse xs ++ x ∷ []
 reverse-cons x xs = reverse-append (x ∷ []) xs
@@ -37,10 +36,6 @@ reverse-cut (x ∷ marks) (suc place) mark below is none =
     let rest = reverse-cut marks place mark (omega arith) is (λ k behind inside. none (suc k) (omega arith) (omega arith)) in
     let long : length (x ∷ marks) - suc place - 1 ≡ length marks - place - 1 = omega arith in
     rw (reverse-cons x marks, rest, long, reverse-cons x (take place marks)) (append_assoc (replicate (length marks - place - 1) false) (mark ∷ reverse (take place marks)) (x ∷ []))
-
-no-block : (n : ℕ) (outer : List Bool) → replicate n false ≢ true ∷ outer
-no-block zero outer is = cc
-no-block (suc n) outer is = cc
 
 -- what is so anyway
 pub none-always : (value : Option ℕ) (P : Type 0) → P → IfNone value P
@@ -85,16 +80,17 @@ module _ (marks view : List Bool) (is : reverse marks ≡ view) where
       cc
 
   -- the innermost block, or none
-  pub view-block : (new : List Bool) (place : ℕ) → last_place true marks ≡ Some place → new ≡ take place marks → view ≡ replicate (length marks - place - 1) false ++ true ∷ reverse new
-  view-block new place found made =
-      let cut = reverse-cut marks place true (last_place-below true marks place found) (last_place-bit true marks place found) (λ k behind inside. last_place-after true marks place k found behind inside) in
-      sym is ∙ cut ∙ ap (λ (l : List Bool). replicate (length marks - place - 1) false ++ true ∷ reverse l) (sym made)
+  pub view-block : (new : List Bool) (place : ℕ) → place < length marks → slice_index_or marks place false ≡ true → ((k : ℕ) → place < k → k < length marks → slice_index_or marks k false ≢ true)
+      → new ≡ take place marks → view ≡ replicate (length marks - place - 1) false ++ true ∷ reverse new
+  view-block new place below bit none made =
+      sym is ∙ reverse-cut marks place true below bit none ∙ ap (λ (l : List Bool). replicate (length marks - place - 1) false ++ true ∷ reverse l) (sym made)
 
-  pub view-no_block : (outer : List Bool) → last_place true marks ≡ None → view ≢ true ∷ outer
-  view-no_block outer none same =
-      let groups : reverse marks ≡ replicate (length marks) false =
-      ap (λ (l : List Bool). reverse l) (groups-alone marks (λ k below. last_place-absent true marks none k below)) ∙ reverse-groups (length marks) in
-      no-block (length marks) outer (sym groups ∙ is ∙ same)
+  pub view-no_block : ((k : ℕ) → k < length marks → slice_index_or marks k false ≢ true) → All (λ (mark : Bool). mark ≡ false) view
+  view-no_block none =
+      let groups : view ≡ replicate (length marks) false =
+      sym is ∙ ap (λ (l : List Bool). reverse l) (groups-alone marks none) ∙ reverse-groups (length marks) in
+      All-same (λ (mark : Bool). mark ≡ false) view (replicate (length marks) false) groups
+      (All-replicate (λ (mark : Bool). mark ≡ false) (length marks) false refl)
 
 -- for `using`
-pub ruleset marking = (view-empty, view-no_group, view-no_block)
+pub ruleset marking = (view-empty, view-no_group)

@@ -27,6 +27,21 @@ next (Some marks) byte =
 unfoldable pub open_after : List ℕ → Option (List Bool)
 open_after text = fold next (Some []) text
 
+-- what stays open where the innermost block is closed, and the groups in it with it; none where no block is open
+abbrev pub backed_up : List Bool → Option (List Bool)
+backed_up [] = None
+backed_up (true ∷ marks) = Some marks
+backed_up (false ∷ marks) = backed_up marks
+
+-- what is open behind one more byte, where a } also closes the groups that are open in its block
+unfoldable pub next_mended : Option (List Bool) → ℕ → Option (List Bool)
+next_mended None byte = None
+next_mended (Some marks) byte = if byte == 125 then backed_up marks else next (Some marks) byte
+
+-- what is open behind a text that is read so, the innermost first; none where a bracket in it closes another one, or none
+unfoldable pub open_mended : List ℕ → Option (List Bool)
+open_mended text = fold next_mended (Some []) text
+
 -- each bracket closes the innermost that is open, and none stays open
 abbrev pub IsNested : List ℕ → Type 0
 IsNested text = open_after text ≡ Some []

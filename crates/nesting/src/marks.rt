@@ -1,5 +1,5 @@
 //! The brackets that are open, a bit each.
-ghost use Rattle.std.specs.Prelude.{◌≡◌, ◌≢◌, [], ◌∷◌, ◌++◌, Bool, IfNone, IfSome, List, false, if◌then◌else◌, is_ok, replicate, true};
+ghost use Rattle.std.specs.Prelude.{◌≡◌, ◌≢◌, [], ◌∷◌, ◌++◌, All, Bool, IfNone, IfSome, List, false, if◌then◌else◌, is_ok, replicate, true};
 ghost use Rattle.std.specs.Bool.{OnFalse, OnTrue};
 ghost use Rattle.std.specs.Option.{option_to_list};
 
@@ -68,10 +68,10 @@ impl Marks {
 
     /// Backs up to where the innermost block was opened, and gives how many groups were open in it. None, and nothing is
     /// closed, where no block is open.
-    #[tactic(auto, using(bitvec::specs::Laws::found, crate::proofs::MarkLaws::marking))]
+    #[tactic(auto, using(bitvec::specs::Laws::found))]
     pub fn close_block(&mut self) -> Option<usize>
         ensures block { IfSome result (λ groups. self.old ≡ replicate groups false ++ true ∷ self.new) }
-        ensures none { IfNone result ((outer : List Bool) → self.old ≢ true ∷ outer) }
+        ensures none { IfNone result (All (λ mark. mark ≡ false) self.old) }
         ensures kept { IfNone result (self.new ≡ self.old) }
     {
         let block = self.bits.last_one()?;

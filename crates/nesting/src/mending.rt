@@ -1,6 +1,6 @@
 //! Texts with the brackets that they lack.
 ghost use Rattle.std.specs.Prelude.{◌≡◌, ◌≢◌, [], ◌∷◌, ◌++◌, IfOk, IsErrOf, None, OnOk, Some, drop, false, length, map, replicate, take};
-ghost use Rattle.nesting.specs.Brackets.{IsNested, KeepsFront, closer, next, open_after, without_closers};
+ghost use Rattle.nesting.specs.Brackets.{IsNested, KeepsFront, closer, next, next_mended, open_after, open_mended, without_closers};
 ghost use Rattle.nesting.specs.declared.fault.Fault.TheVariants.{Stray};
 
 use crate::fault::Fault;
@@ -22,7 +22,8 @@ fn follow(marks: &mut Marks, byte: u8) -> Result<usize, Fault>
     ensures groups { IfOk result (λ groups. take groups marks.old ≡ replicate groups false) }
     ensures followed { IfOk result (λ groups. next (Some (drop groups marks.old)) byte ≡ Some marks.new) }
     ensures least { IfOk result (λ groups. next (Some marks.old) byte ≢ None → groups ≡ 0) }
-    ensures stray { IsErrOf result Stray → next (Some marks.old) byte ≡ None }
+    ensures mended { OnOk result (next_mended (Some marks.old) byte ≡ Some marks.new) }
+    ensures stray { IsErrOf result Stray → next_mended (Some marks.old) byte ≡ None }
 {
     match byte {
         b'(' => {
@@ -52,7 +53,8 @@ fn read(byte: u8, marks: &mut Marks, text: &mut Vec<u8>) -> Result<(), Fault>
     ensures front { OnOk result (take (length text.old.items) text.new.items ≡ text.old.items) }
     ensures kept { OnOk result (without_closers text.new.items ≡ without_closers (text.old.items ++ byte ∷ [])) }
     ensures same { OnOk result (next (Some marks.old) byte ≢ None → text.new.items ≡ text.old.items ++ byte ∷ []) }
-    ensures stray { IsErrOf result Stray → next (Some marks.old) byte ≡ None }
+    ensures mended { OnOk result (next_mended (Some marks.old) byte ≡ Some marks.new) }
+    ensures stray { IsErrOf result Stray → next_mended (Some marks.old) byte ≡ None }
 {
     let groups = follow(marks, byte)?;
     add(text, b')', groups)?;
@@ -86,7 +88,8 @@ pub fn mended(alloc: Global, text: &[u8]) -> Result<Vec<u8>, Fault>
     ensures kept { IfOk result (λ mended. without_closers mended.items ≡ without_closers text.now) }
     ensures front { IfOk result (λ mended. KeepsFront text.now mended.items) }
     ensures same { IfOk result (λ mended. IsNested text.now → mended.items ≡ text.now) }
-    ensures stray { IsErrOf result Stray → IsNested text.now → ⊥ }
+    ensures mendable { OnOk result (open_mended text.now ≢ None) }
+    ensures stray { IsErrOf result Stray → open_mended text.now ≡ None }
 {
     let mut marks = Marks::new(alloc);
     let mut mended = Vec::new(alloc);

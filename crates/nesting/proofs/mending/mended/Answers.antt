@@ -5,4 +5,4 @@ use Rattle.nesting.proofs.mending.mended.Goals as goal
 pub loop-byte-preserved : goal.loop-byte-preserved
 loop-byte-preserved c =
     let told = c.in_ok-read.ensures in
-    mended-next c.args.text.now c.loop-byte.byte-index c.loop-byte.marks c.loop-byte.mended.items c.loop-byte.invariant (omega arith) c.read.new.marks c.read.new.text.items told.nested told.front told.kept told.same
+    mended-next c.args.text.now c.loop-byte.byte-index c.loop-byte.marks c.loop-byte.mended.items c.loop-byte.invariant (omega arith) c.read.new.marks c.read.new.text.items told.nested told.mended told.front told.kept told.same
