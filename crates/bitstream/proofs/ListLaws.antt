@@ -6,7 +6,7 @@ use Rattle.std.proofs.lemmas.List.{length-take, take_all}
 use Rattle.std.proofs.lemmas.List.Sums.{sum_by-cons, sum_by_more_le}
 use Rattle.bitvec.specs.ChangesLaws.{changes-none}
 use Rattle.bitvec.specs.Ranges.{ChangesOnly}
-use Rattle.bitstream.specs.Codes.{AreCodes, IsCode, LacksCode, LacksCodes, code_len, codes_len}
+use Rattle.bitstream.specs.Codes.{AreCodes, AreFirstCodes, IsCode, LacksCode, LacksCodes, code_len, codes_len}
 use Rattle.bitstream.proofs.CodeLaws.{code-kept, code-same}
 
 pub codes-end : (bits : List Bool) (from to : ℕ) (numbers : List ℕ) → AreCodes bits from to numbers → to ≡ from + codes_len numbers
@@ -74,6 +74,10 @@ codes-refused bits from m i room numbers codes inside short =
     let more = sum_by_more_le code_len numbers i 0 inside in
     omega arith
 
+pub codes-first : (bits : List Bool) (from to i : ℕ) (numbers : List ℕ) → AreCodes bits from to (take i numbers) → i < length numbers → AreFirstCodes bits from to numbers
+unfolding AreFirstCodes
+codes-first bits from to i numbers codes inside = (i, inside, codes)
+
 pub codes-read : (bits : List Bool) (from m e i v : ℕ) (numbers : List ℕ) → AreCodes bits from m (take i numbers) → IsCode bits m v → e ≡ m + code_len v → i < length numbers → AreCodes bits from e (take (i + 1) (slice_set numbers i v))
 codes-read bits from m e i v numbers codes code end inside =
     let next : i + 1 ≡ suc i = omega arith in
@@ -96,7 +100,7 @@ unfolding LacksCodes
 codes-there bits from to count numbers lacks codes long = lacks numbers to long codes
 
 -- for `using`
-pub ruleset putting = (codes-none, codes-more, codes-all, codes-moved, codes-refused)
+pub ruleset putting = (codes-none, codes-more, codes-all, codes-moved, codes-refused, codes-first)
 
 pub ruleset taking = (codes-none, codes-read, codes-all, codes-lacked)
 

@@ -1,5 +1,5 @@
 -- Elias gamma codes in a list of bits: the bits of a number, the highest first, behind as many zeros less one.
-use Rattle.std.specs.Prelude.{◌≡◌, ℕ, ◌+◌, ◌-◌, ◌*◌, ◌^◌, ◌<◌, ◌≤◌, Bool, true, List, [], ◌∷◌, length}
+use Rattle.std.specs.Prelude.{◌≡◌, ℕ, ◌+◌, ◌-◌, ◌*◌, ◌^◌, ◌<◌, ◌≤◌, Bool, true, List, [], ◌∷◌, length, take}
 use Rattle.std.specs.Int.{leading_zeros, w64}
 use Rattle.std.specs.List.{sum_by}
 use Rattle.bitvec.specs.Ranges.{number_in}
@@ -34,6 +34,10 @@ LacksCode bits from = (n : ℕ) → IsCode bits from n → ⊥
 unfoldable pub AreCodes : List Bool → ℕ → ℕ → List ℕ → Type 0
 AreCodes bits from to [] = from ≡ to
 AreCodes bits from to (n ∷ rest) = IsCode bits from n × AreCodes bits (from + code_len n) to rest
+
+-- the codes of the first of the numbers, and not of all, stand one after the other, from `from` up to `to`
+unfoldable pub AreFirstCodes : List Bool → ℕ → ℕ → List ℕ → Type 0
+AreFirstCodes bits from to numbers = (count : ℕ) × (count < length numbers) × AreCodes bits from to (take count numbers)
 
 -- so many codes don't
 unfoldable pub LacksCodes : List Bool → ℕ → ℕ → Type 0

@@ -3,14 +3,15 @@ ghost use Rattle.std.specs.Prelude.{◌≡◌, ◌+◌, ◌*◌, ◌<◌, ◌≤
 ghost use Rattle.std.specs.List.{All};
 ghost use Rattle.bitvec.specs.Cursors.{elements_of, lender_of, reading, writing};
 ghost use Rattle.bitvec.specs.Ranges.{ChangesOnly};
-ghost use Rattle.bitstream.specs.Codes.{AreCodes, IsAhead, IsCode, LacksCode, LacksCodes, code_len, code_zeros, codes_len};
+ghost use Rattle.bitstream.specs.Codes.{AreCodes, AreFirstCodes, IsAhead, IsCode, LacksCode, LacksCodes, code_len, code_zeros, codes_len};
 
 use bitvec::in_place::{BitReader, BitWriter, CursorError};
 use bitvec::prelude::*;
 
-/// A writer of bits to bytes, and a reader.
+/// A writer of bits to bytes.
 pub type Writer<'a> = BitWriter<'a, u8, Msb0>;
 
+/// A reader of bits from bytes.
 pub type Reader<'a> = BitReader<'a, u8, Msb0>;
 
 /// How many zeros the code of a number begins with: the number's bits, less one. Condition: the number is not 0.
@@ -54,6 +55,7 @@ pub fn put_codes(writer: &mut Writer<'_>, numbers: &[u64]) -> Result<(), CursorE
     ensures codes { OnOk result (AreCodes (writing writer.new).bits (writing writer.old).position (writing writer.new).position numbers.now) }
     ensures position { OnOk result ((writing writer.new).position ≡ (writing writer.old).position + codes_len numbers.now) }
     ensures refused { OnErr result (length (writing writer.old).bits < (writing writer.old).position + codes_len numbers.now) }
+    ensures first { OnErr result (AreFirstCodes (writing writer.new).bits (writing writer.old).position (writing writer.new).position numbers.now) }
     ensures outside { ChangesOnly (writing writer.old).position (writing writer.new).position (writing writer.old).bits (writing writer.new).bits }
     ensures len { length (elements_of writer.new) ≡ length (elements_of writer.old) }
     ensures name { lender_of writer.new ≡ lender_of writer.old }

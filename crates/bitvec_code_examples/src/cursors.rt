@@ -6,6 +6,7 @@ ghost use Rattle.bitvec.specs.Window.{max_bits};
 
 use bitvec::in_place::{BitReader, BitWriter, CursorError};
 use bitvec::prelude::*;
+use std::alloc::Global;
 
 /// Writes two numbers, one behind the other. The caller knows its array.
 #[tactic(auto, using(bitvec::specs::Laws::fields))]
@@ -23,9 +24,11 @@ pub fn put_both(bytes: &mut [u8], first: u64, width: u32, second: u16) -> Result
 }
 
 /// Reads a number behind one that is passed.
+#[tactic(auto, using(bitvec::specs::Laws::sized))]
 pub fn take_second(bytes: &[u8], width: usize) -> Result<u16, CursorError>
     requires fits { 8 * length bytes.now ≤ max_bits }
     ensures number { IfOk result (λ number. number ≡ number_in true true 8 (msb0_bits 8 bytes.now) width (width + 16)) }
+    ensures refused { OnErr result (8 * length bytes.now < width + 16) }
 {
     let mut reader = BitReader::<u8, Msb0>::new(bytes);
     reader.skip(width)?;
@@ -58,4 +61,22 @@ fn numbers_come_back(rt: HostRuntime) {
     let mut writer = BitWriter::<u16, Lsb0>::new(&mut words);
     assert!(rt; writer.put(0x3FFu16, 10) == Ok(()) && writer.put(0u8, 0) == Ok(()));
     assert!(rt; writer.position() == 10 && writer.remaining() == 22);
+}
+
+/// Whether an error prints so.
+fn prints(alloc: Global, error: CursorError, text: &str) -> bool {
+    match format!(in alloc; "{error}") {
+        Ok(printed) => printed.as_str() == text,
+        Err(_) => false,
+    }
+}
+
+#[test]
+fn an_error_prints_its_text(rt: HostRuntime) {
+    for (error, text) in [
+        (CursorError::Full, "too few bits are left to write"),
+        (CursorError::Ended, "too few bits are left to read"),
+    ] {
+        assert!(rt; prints(rt.alloc(), error, text));
+    }
 }

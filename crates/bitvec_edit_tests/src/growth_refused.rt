@@ -71,6 +71,20 @@ fn refused_growth_leaves_the_bits(rt: HostRuntime) {
     }
 }
 
+/// Whether `extend` by 20 ones behind a 0 is refused where there is memory for 16 bits, and has added the first 15.
+fn fills_its_memory(alloc: Global) -> Result<bool, AllocError> {
+    let refusing = Refusing::new(alloc, 1);
+    let mut bits = Refused::with_capacity_in(&refusing, 16)?;
+    bits.push(false)?;
+    let is_refused = bits.extend([true; 20]) == Err(AllocError);
+    Ok(is_refused && bits.len() == 16 && bits.as_raw_slice() == [0xFE, 0xFF].as_slice())
+}
+
+#[test]
+fn a_refused_extend_has_added_the_first_bits(rt: HostRuntime) {
+    assert!(rt; fills_its_memory(rt.alloc()) == Ok(true));
+}
+
 /// Whether nothing is made where memory is refused.
 fn makes_nothing(none: &Refusing<Global>) -> [bool; 3] {
     [

@@ -1,7 +1,9 @@
-//! Edits of views, by calls, by closures and of the numbers in them, and sequences and copies of bits: callers, what the
-//! user's elements are afterwards, and what no clause says. The calls of `limits` just keep their conditions.
+//! Edits of views, by calls, by closures and of the numbers in them, and sequences, arrays and copies of bits: callers,
+//! what the user's elements are afterwards, and what no clause says. The calls of `limits` just keep their conditions.
 #![tactic(auto)]
 
+#[cfg(test)]
+mod arrays;
 #[cfg(test)]
 mod copies;
 #[cfg(test)]

@@ -1,7 +1,7 @@
 //! A struct that owns a sequence of bits which grows: marks of levels, of which it keeps how many there are.
 #![tactic(auto, using(bitvec::specs::Laws::grown))]
 
-ghost use Rattle.std.specs.Prelude.{◌≡◌, ◌≤◌, [], ◌∷◌, ◌++◌, if◌then◌else◌, is_ok, length};
+ghost use Rattle.std.specs.Prelude.{◌≡◌, ◌<◌, ◌≤◌, ◌↔◌, [], ◌∷◌, ◌++◌, IsSome, if◌then◌else◌, is_ok, length};
 ghost use Rattle.std.specs.List.{insert};
 ghost use Rattle.std.specs.Option.{option_to_list};
 
@@ -54,9 +54,10 @@ impl Marks {
         Ok(())
     }
 
-    /// Closes the innermost level, and gives its mark.
+    /// Closes the innermost level, if there is one, and gives its mark.
     pub fn close(&mut self) -> Option<bool>
-        ensures { self.old ≡ self.new ++ option_to_list result }
+        ensures marks { self.old ≡ self.new ++ option_to_list result }
+        ensures some { IsSome result ↔ (0 < length self.old) }
     {
         let mark = self.bits.pop();
         self.depth = self.bits.len();
@@ -73,4 +74,19 @@ impl Marks {
         self.depth = self.bits.len();
         Ok(())
     }
+}
+
+/// Whether two levels are closed from the innermost on, and then none is left.
+fn are_closed_in_turn(alloc: Global) -> Result<bool, AllocError> {
+    let mut marks = Marks::new(alloc);
+    marks.open(true)?;
+    marks.put_in(0, false)?;
+    let depth = marks.depth();
+    let closed = [marks.close(), marks.close(), marks.close()];
+    Ok(depth == 2 && closed == [Some(true), Some(false), None] && marks.depth() == 0)
+}
+
+#[test]
+fn levels_are_closed_in_turn(rt: HostRuntime) {
+    assert!(rt; are_closed_in_turn(rt.alloc()) == Ok(true));
 }

@@ -1,5 +1,5 @@
-//! Walks that lend past their ends: nothing comes from there, nor from the other end. No clause says what a walk is
-//! once it was asked for what it lends, so a test alone shows that it stays ended.
+//! Walks that lend past their ends: nothing comes from there, nor from the other end. No clause of `next_mut` and its
+//! kin says what a walk is once it was asked for what it lends, so a test alone shows that it stays ended.
 
 use bitvec_base::Lsb0;
 use bitvec_cutting::Cutting;

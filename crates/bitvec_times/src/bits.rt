@@ -1,5 +1,7 @@
 //! The bits that the operations are timed on.
-use bitrecord::bits::{BitEdits, BitQueries, BitSlice, BitStore, BitVec, SliceOrder, ToBitVec};
+use bitrecord::bits::{
+    BitEdits, BitQueries, BitSlice, BitStore, BitVec, Lsb0, SliceOrder, ToBitVec,
+};
 use std::alloc::Allocator;
 
 /// How many bits an operation goes over, if no other number is given.
@@ -27,6 +29,24 @@ pub(crate) fn zeros_and_one<T: BitStore, O: SliceOrder, A: Allocator>(
     let end = bits.len();
     if end > 0 {
         bits.set(end - 1, true);
+    }
+    Some(bits)
+}
+
+/// 2^20 bits, of which one in `every` is 1. None where memory was refused, or `every` is 0.
+#[inline(always)]
+pub(crate) fn one_in<T: BitStore, A: Allocator>(
+    alloc: A,
+    every: usize,
+) -> Option<BitVec<T, Lsb0, A>> {
+    if every == 0 {
+        return None;
+    }
+    let mut bits = zeros_and_one::<T, Lsb0, A>(alloc, BITS)?;
+    for index in 0..BITS {
+        if index < bits.len() {
+            bits.set(index, index % every == 0);
+        }
     }
     Some(bits)
 }

@@ -1,5 +1,5 @@
 //! The walk over the ones of a view, which is timed.
-use crate::bits::{BITS, zeros_and_one};
+use crate::bits::one_in;
 use bitrecord::bits::{BitEdits, BitSlice, BitStore, Lsb0, OnesCalls};
 use std::alloc::Allocator;
 
@@ -19,15 +19,7 @@ pub(crate) fn walk_times<T: BitStore, A: Allocator + Copy>(
     every: usize,
     times: usize,
 ) -> Option<usize> {
-    if every == 0 {
-        return None;
-    }
-    let mut bits = zeros_and_one::<T, Lsb0, A>(alloc, BITS)?;
-    for index in 0..BITS {
-        if index < bits.len() {
-            bits.set(index, index % every == 0);
-        }
-    }
+    let mut bits = one_in::<T, A>(alloc, every)?;
     let mut sum = 0usize;
     for round in 0..times {
         let index = round % 64;

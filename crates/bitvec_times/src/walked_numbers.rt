@@ -1,5 +1,5 @@
 //! Numbers of 12 bits that follow one another, which are added up in a walk.
-use crate::bits::{BITS, zeros_and_one};
+use crate::bits::one_in;
 use bitrecord::bits::{BitEdits, BitQueries, BitSlice, BitStore, Lsb0};
 use bitvec::prelude::{BitField, IterCalls};
 use std::alloc::Allocator;
@@ -38,12 +38,7 @@ pub(crate) fn numbers_times<T: BitStore, A: Allocator>(
     whole: bool,
     times: usize,
 ) -> Option<usize> {
-    let mut bits = zeros_and_one::<T, Lsb0, A>(alloc, BITS)?;
-    for index in 0..BITS {
-        if index < bits.len() {
-            bits.set(index, index % 3 == 0);
-        }
-    }
+    let mut bits = one_in::<T, A>(alloc, 3)?;
     let mut sum = 0u64;
     for round in 0..times {
         let index = round % 64;
